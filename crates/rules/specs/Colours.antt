@@ -1,0 +1,63 @@
+-- The colours that the groups show in a state.
+use Prim.Native.Nat.{ℕ}
+use mathlib.Core.Bool.{Bool, not, _&&_}
+use mathlib.Core.List.{List}
+use lib.Dec.{eqb}
+use Rattle.rules.specs.declared.site.Group.{Group}
+use Rattle.rules.specs.declared.site.Site.{Site}
+use Rattle.rules.specs.declared.state.Held.{Held}
+use Rattle.rules.specs.declared.state.Interval.{Interval}
+use Rattle.rules.specs.declared.state.Interval.the-variants.{StartRed, LateStart, MinimumGreen, Running, Yellow, AllRed}
+use Rattle.rules.specs.declared.state.Stage.{Stage}
+use Rattle.rules.specs.declared.state.Stage.the-variants.{Idle, Walk, ClearanceOne, ClearanceTwo}
+use Rattle.rules.specs.declared.state.State.{State}
+use Rattle.rules.specs.Rows.{if_then_else_, listOf}
+use Rattle.rules.specs.Site.{groupOf, inPhase, isPedestrian, movementOf}
+use Rattle.rules.specs.Intervals.{heldIn}
+use Rattle.rules.specs.State.{movement}
+
+-- ── Codes ──
+
+abbrev pub red : ℕ
+red = 0
+
+abbrev pub yellow : ℕ
+yellow = 1
+
+abbrev pub green : ℕ
+green = 2
+
+abbrev pub flashing : ℕ
+flashing = 3
+
+-- ── Groups ──
+
+-- A vehicle group of the phase. In late start mark 1 waits in red unless came-from is in its set; in yellow and all-red the
+-- group stays green if its set has the target also.
+unfoldable pub vehicleColour : Interval → Held → Held → Group → ℕ
+vehicleColour StartRed came target group = red
+vehicleColour LateStart came target group =
+    if eqb (group .mark) 1 && not (heldIn came (group .phases)) then red else green
+vehicleColour MinimumGreen came target group = green
+vehicleColour Running came target group = green
+vehicleColour Yellow came target group = if heldIn target (group .phases) then green else yellow
+vehicleColour AllRed came target group = if heldIn target (group .phases) then green else red
+
+unfoldable pub movementColour : Stage → ℕ
+movementColour Idle = red
+movementColour Walk = green
+movementColour ClearanceOne = flashing
+movementColour ClearanceTwo = flashing
+
+-- what group g shows in a state; a vehicle group that is not of the phase is red
+unfoldable pub colourOf : Site → State → ℕ → ℕ
+colourOf site s g =
+    if isPedestrian site g
+    then movementColour (movement s (movementOf site g) .stage)
+    else
+    if inPhase site g (s .position .phase)
+    then vehicleColour (s .position .interval) (s .position .came) (s .position .target) (groupOf site g)
+    else red
+
+unfoldable pub coloursOf : Site → State → List ℕ
+coloursOf site s = listOf (colourOf site s) (site .size .groups)

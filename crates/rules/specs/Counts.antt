@@ -1,0 +1,22 @@
+-- Part 3 of a step: the gap count and the maximum count, in minimum green and running.
+use Prim.Native.Nat.{ℕ, _+_, _-_, min}
+use mathlib.Core.Bool.{Bool, _&&_, _||_}
+use lib.Dec.{ltb}
+use Rattle.rules.specs.declared.site.PhaseTimes.{PhaseTimes}
+use Rattle.rules.specs.declared.state.Counts.{Counts}
+use Rattle.rules.specs.declared.state.Interval.{Interval}
+use Rattle.rules.specs.Rows.{if_then_else_}
+use Rattle.rules.specs.Intervals.{isGreen, isRunning}
+
+-- an occupied extending detector of the phase sets the gap count to G, else it falls by one, not below 0
+unfoldable pub gapAfter : Interval → PhaseTimes → Bool → ℕ → ℕ
+gapAfter interval times extended gap = if isGreen interval then (if extended then times .gap else gap - 1) else gap
+
+-- in running only, the maximum count rises by one, up to X, if another phase is demanded or it is already above 0
+unfoldable pub maximumAfter : Interval → PhaseTimes → Bool → ℕ → ℕ
+maximumAfter interval times another maximum =
+    if isRunning interval && (another || ltb 0 maximum) then min (maximum + 1) (times .maximum) else maximum
+
+unfoldable pub countsAfter : Interval → PhaseTimes → Bool → Bool → Counts → Counts
+countsAfter interval times extended another counts =
+    record { gap = gapAfter interval times extended (counts .gap); maximum = maximumAfter interval times another (counts .maximum) }

@@ -1,0 +1,95 @@
+-- Part 1 of a step: demands.
+use Prim.Native.Nat.{ℕ, _+_, _%_}
+use mathlib.Core.Bool.{Bool, false, not, _&&_, _||_}
+use mathlib.Core.List.{List, [], _∷_, _++_}
+use lib.Dec.{leb, eqb}
+use lib.ListN.{getD}
+use Rattle.rules.specs.declared.site.Site.{Site}
+use Rattle.rules.specs.declared.state.Demands.{Demands}
+use Rattle.rules.specs.declared.state.Held.{Held}
+use Rattle.rules.specs.declared.state.Held.the-variants.{Nothing, Phase}
+use Rattle.rules.specs.declared.state.State.{State}
+use Rattle.rules.specs.Rows.{if_then_else_, anyOf, listOf}
+use Rattle.rules.specs.Bytes.{bit}
+use Rattle.rules.specs.Site.{detectorOf, crosses, ring}
+use Rattle.rules.specs.Intervals.{isWalk, isGreen}
+use Rattle.rules.specs.State.{locked, asked, movement}
+
+-- ── Inputs: bits 0 to 47 are the detectors, 48 to 55 the buttons ──
+
+unfoldable pub occupied : ℕ → ℕ → Bool
+occupied inputs d = bit d inputs
+
+unfoldable pub pressed : ℕ → ℕ → Bool
+pressed inputs k = bit (48 + k) inputs
+
+-- ── Modes: 1 calling without lock, 2 calling with lock; plus 4 where it extends ──
+
+unfoldable pub calling : ℕ → Bool
+calling mode = eqb (mode % 4) 1
+
+unfoldable pub locking : ℕ → Bool
+locking mode = eqb (mode % 4) 2
+
+unfoldable pub extending : ℕ → Bool
+extending mode = leb 4 mode
+
+-- a detector of the phase that has such a mode is occupied
+unfoldable pub detected : (ℕ → Bool) → Site → ℕ → ℕ → Bool
+detected kind site inputs p =
+    anyOf (λ d. occupied inputs d && eqb (detectorOf site d .phase) p && kind (detectorOf site d .mode)) (site .size .detectors)
+
+-- ── What the inputs demand ──
+
+-- the phase is in minimum green or running
+unfoldable pub inGreen : State → ℕ → Bool
+inGreen s p = eqb p (s .position .phase) && isGreen (s .position .interval)
+
+-- an occupied locking detector locks its phase's demand, unless that phase is in minimum green or running
+unfoldable pub registersLock : Site → State → ℕ → ℕ → Bool
+registersLock site s inputs p = detected locking site inputs p && not (inGreen s p)
+
+-- a pressed button demands its movement unless that movement is in walk
+unfoldable pub registersButton : State → ℕ → ℕ → Bool
+registersButton s inputs k = pressed inputs k && not (isWalk (movement s k .stage))
+
+-- a non-locking detector demands its phase in this step only, under the same exception
+unfoldable pub calls : Site → State → ℕ → ℕ → Bool
+calls site s inputs p = detected calling site inputs p && not (inGreen s p)
+
+-- the demands that stand after part 1
+unfoldable pub demandsAfter : Site → State → ℕ → Demands
+demandsAfter site s inputs =
+    record {
+      locks = listOf (λ p. locked s p || registersLock site s inputs p) 7;
+      buttons = listOf (λ k. asked s k || registersButton s inputs k) 8;
+    }
+
+-- ── The phases demanded ──
+
+-- demanded by its lock or by a demanded movement
+unfoldable pub stands : Site → Demands → ℕ → Bool
+stands site demands p =
+    getD (demands .locks) p false || anyOf (λ k. getD (demands .buttons) k false && crosses site k p) (site .size .movements)
+
+unfoldable pub demanded : Site → State → ℕ → ℕ → Bool
+demanded site s inputs p = stands site (demandsAfter site s inputs) p || calls site s inputs p
+
+-- the phases of a ring that come after p, and those that come before it
+unfoldable pub after : ℕ → List ℕ → List ℕ
+after p [] = []
+after p (q ∷ rest) = if eqb q p then rest else after p rest
+
+unfoldable pub before : ℕ → List ℕ → List ℕ
+before p [] = []
+before p (q ∷ rest) = if eqb q p then [] else q ∷ before p rest
+
+unfoldable pub firstIn : (ℕ → Bool) → List ℕ → Held
+firstIn test [] = Nothing
+firstIn test (p ∷ rest) = if test p then Phase p else firstIn test rest
+
+-- the first demanded phase after this one in cyclic order, or nothing where no other phase is demanded
+unfoldable pub nextDemanded : Site → State → ℕ → Held
+nextDemanded site s inputs =
+    let p = s .position .phase in
+    firstIn (demanded site s inputs) (after p (ring site) ++ before p (ring site))

@@ -1,0 +1,112 @@
+-- Part 4 of a step: the interval, judged by its age, at most one change a step.
+use Prim.Native.Nat.{ℕ}
+use mathlib.Core.Bool.{Bool, true, false, not, _&&_, _||_}
+use mathlib.Core.List.{List}
+use lib.Dec.{leb, eqb}
+use lib.ListN.{getD}
+use Rattle.rules.specs.declared.site.PhaseTimes.{PhaseTimes}
+use Rattle.rules.specs.declared.site.Times.{Times}
+use Rattle.rules.specs.declared.state.Counts.{Counts}
+use Rattle.rules.specs.declared.state.Held.{Held}
+use Rattle.rules.specs.declared.state.Held.the-variants.{Nothing, Phase}
+use Rattle.rules.specs.declared.state.Interval.{Interval}
+use Rattle.rules.specs.declared.state.Interval.the-variants.{StartRed, LateStart, MinimumGreen, Running, Yellow, AllRed}
+use Rattle.rules.specs.declared.state.Movement.{Movement}
+use Rattle.rules.specs.declared.state.Position.{Position}
+use Rattle.rules.specs.declared.state.Stage.{Stage}
+use Rattle.rules.specs.Rows.{if_then_else_, anyOf}
+use Rattle.rules.specs.Site.{phaseTimes}
+use Rattle.rules.specs.Intervals.{isWalkOrFirst, isSecond, isBeforeStart, isMinimumGreen, phaseHeld}
+use Rattle.rules.specs.State.{idle}
+use Rattle.rules.specs.Movements.{older}
+
+-- some movement is in such a stage
+unfoldable pub someMovement : (Stage → Bool) → List Movement → Bool
+someMovement test movements = anyOf (λ k. test (getD movements k idle .stage)) 8
+
+-- ── When the interval ends ──
+
+-- Start red, late start, minimum green and yellow end once the age is at least the setting. Running ends if another phase is
+-- demanded, no movement is in walk or C1, and the gap count is 0 or the maximum count is X. All-red ends when its age is at
+-- least R and no movement is in C2.
+unfoldable pub ends : Interval → ℕ → PhaseTimes → ℕ → Bool → List Movement → Counts → Bool
+ends StartRed start times age another movements counts = leb start age
+ends LateStart start times age another movements counts = leb (times .late) age
+ends MinimumGreen start times age another movements counts = leb (times .minimum) age
+ends Running start times age another movements counts =
+    another && not (someMovement isWalkOrFirst movements) && (eqb (counts .gap) 0 || eqb (counts .maximum) (times .maximum))
+ends Yellow start times age another movements counts = leb (times .yellow) age
+ends AllRed start times age another movements counts = leb (times .red) age && not (someMovement isSecond movements)
+
+-- ── What follows it ──
+
+-- the next interval of the same phase, at age 1
+unfoldable pub entering : Interval → Held → Position → Position
+entering interval target position =
+    record { phase = position .phase; interval = interval; age = 1; came = position .came; target = target }
+
+-- a phase starts with late start, or minimum green if L is 0
+unfoldable pub starting : Times → ℕ → Held → Position
+starting times p came =
+    record {
+      phase = p;
+      interval = if eqb (phaseTimes times p .late) 0 then MinimumGreen else LateStart;
+      age = 1;
+      came = came;
+      target = Nothing;
+    }
+
+unfoldable pub following : Interval → Times → Held → Position → Position
+following StartRed times next position = starting times (position .phase) (position .came)
+following LateStart times next position = entering MinimumGreen Nothing position
+following MinimumGreen times next position = entering Running Nothing position
+following Running times next position = entering Yellow next position
+following Yellow times next position = entering AllRed (position .target) position
+following AllRed times next position = starting times (phaseHeld (position .target)) (Phase (position .phase))
+
+-- the same interval, a step older
+unfoldable pub staying : Position → Position
+staying position =
+    record {
+      phase = position .phase;
+      interval = position .interval;
+      age = older (position .age);
+      came = position .came;
+      target = position .target;
+    }
+
+unfoldable pub positionAfter : Bool → Times → Held → Position → Position
+positionAfter ended times next position =
+    if ended then following (position .interval) times next position else staying position
+
+-- ── What a change does to the counts and the lock ──
+
+-- both counts are 0 when all-red ends
+unfoldable pub countsLeaving : Interval → Counts → Counts
+countsLeaving StartRed counts = counts
+countsLeaving LateStart counts = counts
+countsLeaving MinimumGreen counts = counts
+countsLeaving Running counts = counts
+countsLeaving Yellow counts = counts
+countsLeaving AllRed counts = record { gap = 0; maximum = 0 }
+
+-- entering minimum green sets the gap count to G; entering running sets the maximum count to 0
+unfoldable pub countsEntering : Interval → PhaseTimes → Counts → Counts
+countsEntering StartRed times counts = counts
+countsEntering LateStart times counts = counts
+countsEntering MinimumGreen times counts = record { gap = times .gap; maximum = counts .maximum }
+countsEntering Running times counts = record { gap = counts .gap; maximum = 0 }
+countsEntering Yellow times counts = counts
+countsEntering AllRed times counts = counts
+
+unfoldable pub countsChanged : Bool → Times → Position → Position → Counts → Counts
+countsChanged ended times old new counts =
+    if ended then countsEntering (new .interval) (phaseTimes times (new .phase)) (countsLeaving (old .interval) counts) else counts
+
+-- entering minimum green clears the lock of the phase
+unfoldable pub clearsLock : Bool → Position → ℕ → Bool
+clearsLock ended new p = ended && isMinimumGreen (new .interval) && eqb p (new .phase)
+
+-- start red or all-red has ended: a phase starts
+unfoldable pub starts : Bool → Position → Bool
+starts ended old = ended && isBeforeStart (old .interval)

@@ -1,0 +1,47 @@
+-- Personalities that the worked cases are about, written out section by section.
+use Prim.Native.Nat.{ℕ, _+_, _*_, _/_, _%_}
+use mathlib.Core.List.{List, [], _∷_, _++_, flatten}
+use lib.ListN.{length, set}
+
+-- ── Writing bytes ──
+
+unfoldable pub two : ℕ → List ℕ
+two n = n % 256 ∷ n / 256 ∷ []
+
+unfoldable pub four : ℕ → List ℕ
+four n = two (n % 65536) ++ two (n / 65536)
+
+unfoldable pub twos : List ℕ → List ℕ
+twos [] = []
+twos (n ∷ rest) = two n ++ twos rest
+
+unfoldable pub fours : List ℕ → List ℕ
+fours [] = []
+fours (n ∷ rest) = four n ++ fours rest
+
+unfoldable pub section : ℕ → List ℕ → List ℕ
+section kind body = two (length body) ++ two kind ++ body
+
+unfoldable pub sections : List ℕ → List ℕ → List ℕ → List ℕ → List ℕ → List ℕ → List ℕ
+sections site phases groups conflicts detectors pedestrians =
+    section 1 site ++ section 2 phases ++ section 3 groups ++ section 4 conflicts ++ section 5 detectors ++ section 6 pedestrians
+
+-- the bytes with a two-byte number put at a place
+unfoldable pub putTwo : List ℕ → ℕ → ℕ → List ℕ
+putTwo b at n = set (set b at (n % 256)) (at + 1) (n / 256)
+
+-- ── The junction of two phases of document 01 ──
+
+-- L 0, M 20, X 30, G 5, Y 30, R 10
+unfoldable pub shortPhase : List ℕ
+shortPhase = twos (0 ∷ 20 ∷ 30 ∷ 5 ∷ 30 ∷ 10 ∷ [])
+
+unfoldable pub junction : List ℕ
+junction =
+    sections
+    (2 ∷ 2 ∷ two 10)
+    (shortPhase ++ shortPhase)
+    (1 ∷ 0 ∷ 2 ∷ 0 ∷ [])
+    (fours (2 ∷ 1 ∷ []))
+    (0 ∷ 6 ∷ 1 ∷ 6 ∷ [])
+    []

@@ -1,0 +1,37 @@
+-- The section lookup: the section's own bytes, body only, and the number and place of the call beside it.
+use Prim.Native.Nat.{ℕ, _-_}
+use mathlib.Core.Bool.{Bool, not, _&&_}
+use mathlib.Core.List.{List, [], _∷_}
+use lib.Dec.{leb}
+use lib.ListN.{getD, take, drop}
+use Rattle.rules.specs.declared.answer.Verdict.{Verdict}
+use Rattle.rules.specs.declared.answer.Verdict.the-variants.{Accepted, Refused}
+use Rattle.rules.specs.declared.answer.Report.{Report}
+use Rattle.rules.specs.Verdicts.{_orElse_, refuseIf, reportOf}
+use Rattle.rules.specs.Personality.{verdictOf, bodyAt, bodyLength, siteHead, phasesHead, groupsHead, conflictsHead, detectorsHead, pedestriansHead}
+
+unfoldable pub heldKind : ℕ → Bool
+heldKind kind = leb 1 kind && leb kind 6
+
+-- the head of the section of a kind that is held
+unfoldable pub headOf : List ℕ → ℕ → ℕ
+headOf b kind =
+    getD (siteHead ∷ phasesHead ∷ groupsHead b ∷ conflictsHead b ∷ detectorsHead b ∷ pedestriansHead b ∷ []) (kind - 1) 0
+
+-- The personality's own refusal, and then 2 at 0 for a kind that is not held.
+unfoldable pub lookupVerdict : List ℕ → ℕ → Verdict
+lookupVerdict b kind = verdictOf b orElse refuseIf (not (heldKind kind)) 2 0
+
+unfoldable pub lookupReport : List ℕ → ℕ → Report
+lookupReport b kind = reportOf (lookupVerdict b kind)
+
+-- The part of the bytes that is handed out: it starts behind the head and is as long as the head says.
+unfoldable pub sectionPart : List ℕ → ℕ → List ℕ
+sectionPart b kind = take (bodyLength b (headOf b kind)) (drop (bodyAt (headOf b kind)) b)
+
+unfoldable pub partFor : Verdict → List ℕ → List ℕ
+partFor Accepted part = part
+partFor (Refused number place) part = []
+
+unfoldable pub sectionOf : List ℕ → ℕ → List ℕ
+sectionOf b kind = partFor (lookupVerdict b kind) (sectionPart b kind)

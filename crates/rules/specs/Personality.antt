@@ -1,0 +1,194 @@
+-- The personality's sections and the order of checks: numbers 1 to 12, each with its place. Places count from the first byte.
+use Prim.Native.Nat.{ℕ, _+_, _*_, _/_, _%_, _^_}
+use mathlib.Core.Bool.{Bool, not, _&&_, _||_}
+use mathlib.Core.List.{List, [], _∷_}
+use lib.Dec.{leb, ltb, eqb}
+use lib.ListN.{length}
+use Rattle.rules.specs.declared.answer.Verdict.{Verdict}
+use Rattle.rules.specs.Rows.{anyOf, allOf, countOf}
+use Rattle.rules.specs.Bytes.{byteAt, twoAt, fourAt, bit}
+use Rattle.rules.specs.Limits.{within, startRedSetting, phaseSettings, walkSettings}
+use Rattle.rules.specs.Verdicts.{_orElse_, refuseIf, firstOf}
+
+-- ── Sections: a two-byte body length, a two-byte kind, then the body ──
+
+unfoldable pub bodyLength : List ℕ → ℕ → ℕ
+bodyLength b head = twoAt b head
+
+unfoldable pub kindAt : List ℕ → ℕ → ℕ
+kindAt b head = twoAt b (head + 2)
+
+unfoldable pub bodyAt : ℕ → ℕ
+bodyAt head = head + 4
+
+-- the place of record i of a section whose records are width bytes
+unfoldable pub recordAt : ℕ → ℕ → ℕ → ℕ
+recordAt head width i = bodyAt head + i * width
+
+-- ── Counts, and where each section's head is ──
+
+unfoldable pub phaseCount : List ℕ → ℕ
+phaseCount b = byteAt b 4
+
+unfoldable pub groupCount : List ℕ → ℕ
+groupCount b = byteAt b 5
+
+abbrev pub siteHead : ℕ
+siteHead = 0
+
+abbrev pub phasesHead : ℕ
+phasesHead = 8
+
+unfoldable pub groupsHead : List ℕ → ℕ
+groupsHead b = bodyAt phasesHead + phaseCount b * 12
+
+unfoldable pub conflictsHead : List ℕ → ℕ
+conflictsHead b = bodyAt (groupsHead b) + groupCount b * 2
+
+unfoldable pub detectorsHead : List ℕ → ℕ
+detectorsHead b = bodyAt (conflictsHead b) + groupCount b * 4
+
+unfoldable pub pedestriansHead : List ℕ → ℕ
+pedestriansHead b = bodyAt (detectorsHead b) + bodyLength b (detectorsHead b)
+
+-- ── Records ──
+
+unfoldable pub groupSet : List ℕ → ℕ → ℕ
+groupSet b g = byteAt b (recordAt (groupsHead b) 2 g)
+
+unfoldable pub groupMark : List ℕ → ℕ → ℕ
+groupMark b g = byteAt b (recordAt (groupsHead b) 2 g + 1)
+
+unfoldable pub pedestrian : List ℕ → ℕ → Bool
+pedestrian b g = eqb (groupMark b g) 2
+
+-- how many pedestrian groups stand before group g
+unfoldable pub pedestriansBefore : List ℕ → ℕ → ℕ
+pedestriansBefore b g = countOf (pedestrian b) g
+
+unfoldable pub movementCount : List ℕ → ℕ
+movementCount b = pedestriansBefore b (groupCount b)
+
+unfoldable pub conflictSet : List ℕ → ℕ → ℕ
+conflictSet b g = fourAt b (recordAt (conflictsHead b) 4 g)
+
+unfoldable pub detectorCount : List ℕ → ℕ
+detectorCount b = bodyLength b (detectorsHead b) / 2
+
+unfoldable pub detectorPhase : List ℕ → ℕ → ℕ
+detectorPhase b d = byteAt b (recordAt (detectorsHead b) 2 d)
+
+unfoldable pub detectorMode : List ℕ → ℕ → ℕ
+detectorMode b d = byteAt b (recordAt (detectorsHead b) 2 d + 1)
+
+-- just past kind 6
+unfoldable pub endOf : List ℕ → ℕ
+endOf b = bodyAt (pedestriansHead b) + movementCount b * 6
+
+-- ── Checks, from top to bottom ──
+
+-- A section's head, and that its body is there: 1, 2, 3, 1, all at the head.
+unfoldable pub sectionAt : List ℕ → ℕ → ℕ → Bool → Verdict
+sectionAt b head kind lengthRight =
+    refuseIf (ltb (length b) (head + 4)) 1 head
+    orElse refuseIf (not (eqb (kindAt b head) kind)) 2 head
+    orElse refuseIf (not lengthRight) 3 head
+    orElse refuseIf (ltb (length b) (bodyAt head + bodyLength b head)) 1 head
+
+-- 5: a time outside its range
+unfoldable pub timeAt : List ℕ → ℕ → ℕ → Verdict
+timeAt b place setting = refuseIf (not (within setting (twoAt b place))) 5 place
+
+-- A record of two-byte times, field by field, where the first is that of the setting given.
+unfoldable pub timesAt : List ℕ → ℕ → ℕ → ℕ → Verdict
+timesAt b place setting fields = firstOf (λ f. timeAt b (place + f * 2) (setting + f)) fields
+
+unfoldable pub siteSection : List ℕ → Verdict
+siteSection b =
+    sectionAt b siteHead 1 (eqb (bodyLength b siteHead) 4)
+    orElse refuseIf (not (leb 2 (phaseCount b) && leb (phaseCount b) 7)) 4 4
+    orElse refuseIf (not (leb 1 (groupCount b) && leb (groupCount b) 32)) 4 5
+    orElse timeAt b 6 startRedSetting
+
+unfoldable pub phasesSection : List ℕ → Verdict
+phasesSection b =
+    sectionAt b phasesHead 2 (eqb (bodyLength b phasesHead) (phaseCount b * 12))
+    orElse firstOf (λ p. timesAt b (recordAt phasesHead 12 p) phaseSettings 6) (phaseCount b)
+
+-- 6: a phase bit at or above P, a mark above 2, or pedestrian without exactly one phase
+unfoldable pub badGroup : List ℕ → ℕ → Bool
+badGroup b g =
+    leb (2 ^ phaseCount b) (groupSet b g)
+    || ltb 2 (groupMark b g)
+    || (pedestrian b g && not (eqb (countOf (λ p. bit p (groupSet b g)) (phaseCount b)) 1))
+
+-- 7: the ninth pedestrian group
+unfoldable pub ninthPedestrian : List ℕ → ℕ → Bool
+ninthPedestrian b g = pedestrian b g && eqb (pedestriansBefore b g) 8
+
+unfoldable pub groupRecord : List ℕ → ℕ → Verdict
+groupRecord b g =
+    refuseIf (badGroup b g) 6 (recordAt (groupsHead b) 2 g)
+    orElse refuseIf (ninthPedestrian b g) 7 (recordAt (groupsHead b) 2 g)
+
+-- 8: a phase in no group's set
+unfoldable pub phaseWithoutGroup : List ℕ → Bool
+phaseWithoutGroup b = anyOf (λ p. not (anyOf (λ g. bit p (groupSet b g)) (groupCount b))) (phaseCount b)
+
+unfoldable pub groupsSection : List ℕ → Verdict
+groupsSection b =
+    sectionAt b (groupsHead b) 3 (eqb (bodyLength b (groupsHead b)) (groupCount b * 2))
+    orElse firstOf (groupRecord b) (groupCount b)
+    orElse refuseIf (phaseWithoutGroup b) 8 (groupsHead b)
+
+-- 9: own bit set, a bit at or above N set, or a set bit j whose record j lacks the bit back
+unfoldable pub badConflict : List ℕ → ℕ → Bool
+badConflict b g =
+    bit g (conflictSet b g)
+    || leb (2 ^ groupCount b) (conflictSet b g)
+    || anyOf (λ j. bit j (conflictSet b g) && not (bit g (conflictSet b j))) (groupCount b)
+
+unfoldable pub sharePhase : List ℕ → ℕ → ℕ → Bool
+sharePhase b g j = anyOf (λ p. bit p (groupSet b g) && bit p (groupSet b j)) (phaseCount b)
+
+-- 10: the group conflicts with one that it shares a phase with
+unfoldable pub conflictInPhase : List ℕ → ℕ → Bool
+conflictInPhase b g = anyOf (λ j. bit j (conflictSet b g) && sharePhase b g j) (groupCount b)
+
+unfoldable pub conflictsSection : List ℕ → Verdict
+conflictsSection b =
+    sectionAt b (conflictsHead b) 4 (eqb (bodyLength b (conflictsHead b)) (groupCount b * 4))
+    orElse firstOf (λ g. refuseIf (badConflict b g) 9 (recordAt (conflictsHead b) 4 g)) (groupCount b)
+    orElse firstOf (λ g. refuseIf (conflictInPhase b g) 10 (recordAt (conflictsHead b) 4 g)) (groupCount b)
+
+-- 0 no call, 1 calling without lock, 2 calling with lock; plus 4 where it extends
+unfoldable pub knownMode : ℕ → Bool
+knownMode mode = ltb (mode % 4) 3 && ltb (mode / 4) 2
+
+-- 11: a phase at or above P, or a mode not 0, 1, 2, 4, 5, 6
+unfoldable pub badDetector : List ℕ → ℕ → Bool
+badDetector b d = leb (phaseCount b) (detectorPhase b d) || not (knownMode (detectorMode b d))
+
+unfoldable pub detectorsSection : List ℕ → Verdict
+detectorsSection b =
+    sectionAt b (detectorsHead b) 5 (eqb (bodyLength b (detectorsHead b) % 2) 0 && leb (bodyLength b (detectorsHead b)) 96)
+    orElse firstOf (λ d. refuseIf (badDetector b d) 11 (recordAt (detectorsHead b) 2 d)) (detectorCount b)
+
+unfoldable pub pedestriansSection : List ℕ → Verdict
+pedestriansSection b =
+    sectionAt b (pedestriansHead b) 6 (eqb (bodyLength b (pedestriansHead b)) (movementCount b * 6))
+    orElse firstOf (λ k. timesAt b (recordAt (pedestriansHead b) 6 k) walkSettings 3) (movementCount b)
+
+-- 12: bytes left over after kind 6
+unfoldable pub afterPedestrians : List ℕ → Verdict
+afterPedestrians b = refuseIf (ltb (endOf b) (length b)) 12 (endOf b)
+
+unfoldable pub verdictOf : List ℕ → Verdict
+verdictOf b =
+    siteSection b
+    orElse phasesSection b
+    orElse groupsSection b
+    orElse conflictsSection b
+    orElse detectorsSection b
+    orElse pedestriansSection b
+    orElse afterPedestrians b

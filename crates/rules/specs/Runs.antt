@@ -1,0 +1,164 @@
+-- Demand 3, stated: one claim about the whole list of step calls on one accepted personality, refused calls among them.
+use Prim.Native.Nat.{ℕ, _+_, _≤_, _<_}
+use mathlib.Core.Bool.{Bool, true, false, not, _&&_, _||_}
+use mathlib.Core.Path.{_≡_}
+use mathlib.Core.List.{List, [], _∷_, _++_, map}
+use lib.Dec.{eqb}
+use lib.ListN.{length, getD, take, replicate}
+use Rattle.rules.specs.declared.answer.Outcome.{Outcome}
+use Rattle.rules.specs.declared.answer.Outcome.the-variants.{Stepped, Declined}
+use Rattle.rules.specs.declared.answer.Verdict.the-variants.{Accepted}
+use Rattle.rules.specs.declared.site.Site.{Site}
+use Rattle.rules.specs.declared.state.State.{State}
+use Rattle.rules.specs.Rows.{if_then_else_}
+use Rattle.rules.specs.Personality.{verdictOf}
+use Rattle.rules.specs.Site.{siteOf, phaseTimes, walkTimes, isPedestrian, movementOf, conflict}
+use Rattle.rules.specs.Intervals.{isMinimumGreen, isWalk}
+use Rattle.rules.specs.State.{fresh, movement}
+use Rattle.rules.specs.Demands.{registersLock, registersButton}
+use Rattle.rules.specs.Colours.{red, yellow, green, flashing}
+use Rattle.rules.specs.WaitBound.{waitBound}
+use Rattle.rules.specs.Call.{answerOf, bufferOf}
+
+-- ── The list of calls ──
+
+-- One call: any 64 input bits, and a colour buffer of any length and content.
+pub record Call : Type 0 where
+  pub inputs : ℕ
+  pub buffer : List ℕ
+
+-- One accepted step: the state handed in, the input bits, the state handed back, and the buffer as the call returns.
+pub record Taken : Type 0 where
+  pub before : State
+  pub inputs : ℕ
+  pub after : State
+  pub shown : List ℕ
+
+-- a refused call hands its state on; it shows and registers nothing and isn't counted
+unfoldable pub ifStepped : Outcome → Taken → List Taken → List Taken
+ifStepped (Stepped wait) step later = step ∷ later
+ifStepped (Declined number place) step later = later
+
+-- The accepted steps of a list of calls, in order. Each call gets the same bytes and the state that the call before handed back.
+unfoldable pub stepsFrom : List ℕ → State → List Call → List Taken
+stepsFrom b s [] = []
+stepsFrom b s (c ∷ calls) =
+    let answer = answerOf b s (c .inputs) (length (c .buffer)) in
+    let shown = bufferOf b s (c .inputs) (c .buffer) in
+    let step : Taken = record { before = s; inputs = c .inputs; after = answer .state; shown = shown } in
+    ifStepped (answer .outcome) step (stepsFrom b (answer .state) calls)
+
+-- ── Colours ──
+
+-- what a group shows after a step: its byte in that call's buffer as the call returns
+unfoldable pub shows : Taken → ℕ → ℕ
+shows step g = getD (step .shown) g 0
+
+unfoldable pub shownBy : ℕ → List Taken → List ℕ
+shownBy g steps = map (λ (step : Taken). shows step g) steps
+
+-- the group shows green after none of the steps
+abbrev pub NeverGreen : ℕ → List Taken → Type 0
+NeverGreen g [] = Unit {0}
+NeverGreen g (step ∷ later) = (shows step g ≡ green → ⊥) × NeverGreen g later
+
+-- the group shows green after the last of the steps, or has the value given where there is none
+unfoldable pub lastGreen : Bool → ℕ → List Taken → Bool
+lastGreen none g [] = none
+lastGreen none g (step ∷ later) = lastGreen (eqb (shows step g) green) g later
+
+-- A group starts a green at a step after which it shows green, if that is the first step or it showed another colour after the
+-- step before.
+unfoldable pub StartsGreen : ℕ → List Taken → Taken → Type 0
+StartsGreen g earlier step = (shows step g ≡ green) × (lastGreen false g earlier ≡ false)
+
+-- ── Part a: after no accepted step do conflicting groups show green together ──
+
+unfoldable pub NoConflictingGreens : Site → List Taken → Type 0
+NoConflictingGreens site steps =
+    (earlier later : List Taken) (step : Taken) →
+    steps ≡ earlier ++ step ∷ later →
+    (g j : ℕ) →
+    conflict site g j ≡ true →
+    shows step g ≡ green →
+    shows step j ≡ green →
+    ⊥
+
+-- ── Part b: no group starts a green before every conflicting group that was green has been cleared ──
+
+-- A vehicle group shows first yellow for Y steps in a row, then red for at least R in a row, Y and R being those of the phase in
+-- the state after its last green step; nothing else follows.
+unfoldable pub VehicleCleared : Site → ℕ → Taken → List Taken → Type 0
+VehicleCleared site g last since =
+    let times = phaseTimes (site .times) (last .after .position .phase) in
+    (n : ℕ) × (times .red ≤ n) × (shownBy g since ≡ replicate (times .yellow) yellow ++ replicate n red)
+
+-- A pedestrian group shows first flashing red for C1 + C2 steps in a row; only red follows.
+unfoldable pub PedestrianCleared : Site → ℕ → List Taken → Type 0
+PedestrianCleared site g since =
+    let times = walkTimes (site .times) (movementOf site g) in
+    (n : ℕ) × (shownBy g since ≡ replicate (times .first + times .second) flashing ++ replicate n red)
+
+unfoldable pub Cleared : Site → ℕ → Taken → List Taken → Type 0
+Cleared site g last since = if isPedestrian site g then PedestrianCleared site g since else VehicleCleared site g last since
+
+-- Group g starts a green at `start`, and the conflicting group j was green for the last time after `last`.
+unfoldable pub FullClearances : Site → List Taken → Type 0
+FullClearances site steps =
+    (earlier since later : List Taken) (last start : Taken) →
+    steps ≡ (earlier ++ last ∷ since) ++ start ∷ later →
+    (g j : ℕ) →
+    conflict site g j ≡ true →
+    StartsGreen g (earlier ++ last ∷ since) start →
+    shows last j ≡ green →
+    NeverGreen j since →
+    Cleared site j last since
+
+-- ── Part c: every demand that a step registers is met within the wait bound ──
+
+unfoldable pub inMinimumGreen : State → ℕ → Bool
+inMinimumGreen s p = eqb (s .position .phase) p && isMinimumGreen (s .position .interval)
+
+unfoldable pub inWalk : State → ℕ → Bool
+inWalk s k = isWalk (movement s k .stage)
+
+-- minimum green of phase p begins in the step; an interval that begins was another one before
+unfoldable pub minimumGreenBegins : ℕ → Taken → Bool
+minimumGreenBegins p step = inMinimumGreen (step .after) p && not (inMinimumGreen (step .before) p)
+
+-- the walk of movement k begins in the step
+unfoldable pub walkBegins : ℕ → Taken → Bool
+walkBegins k step = inWalk (step .after) k && not (inWalk (step .before) k)
+
+unfoldable pub someStep : (Taken → Bool) → List Taken → Bool
+someStep event [] = false
+someStep event (step ∷ later) = event step || someStep event later
+
+-- the event comes in the step or within n of the later ones
+unfoldable pub comesWithin : ℕ → (Taken → Bool) → Taken → List Taken → Bool
+comesWithin n event step later = someStep event (step ∷ take n later)
+
+-- For each locked demand that a step registers its phase's minimum green, and for each button demand its walk, begins in that
+-- step or within as many further steps as the wait bound says, if the list goes on so long.
+unfoldable pub DemandsMet : Site → List Taken → Type 0
+DemandsMet site steps =
+    (earlier later : List Taken) (step : Taken) →
+    steps ≡ earlier ++ step ∷ later →
+    waitBound site ≤ length later →
+    ((p : ℕ) →
+    registersLock site (step .before) (step .inputs) p ≡ true →
+    comesWithin (waitBound site) (minimumGreenBegins p) step later ≡ true)
+    × ((k : ℕ) →
+    k < site .size .movements →
+    registersButton (step .before) (step .inputs) k ≡ true →
+    comesWithin (waitBound site) (walkBegins k) step later ≡ true)
+
+-- ── The demand ──
+
+pub record SafeRun (site : Site) (steps : List Taken) : Type 0 where
+  pub noConflictingGreens : NoConflictingGreens site steps
+  pub fullClearances : FullClearances site steps
+  pub demandsMet : DemandsMet site steps
+
+unfoldable pub DemandThree : Type 0
+DemandThree = (b : List ℕ) → verdictOf b ≡ Accepted → (calls : List Call) → SafeRun (siteOf b) (stepsFrom b fresh calls)

@@ -1,0 +1,102 @@
+-- The site that accepted bytes hold.
+use Prim.Native.Nat.{ℕ, _+_, _-_}
+use mathlib.Core.Bool.{Bool}
+use mathlib.Core.List.{List, _++_}
+use lib.Dec.{eqb}
+use lib.ListN.{getD, replicate}
+use Rattle.rules.specs.declared.site.Detector.{Detector}
+use Rattle.rules.specs.declared.site.Group.{Group}
+use Rattle.rules.specs.declared.site.PhaseTimes.{PhaseTimes}
+use Rattle.rules.specs.declared.site.Site.{Site}
+use Rattle.rules.specs.declared.site.Times.{Times}
+use Rattle.rules.specs.declared.site.WalkTimes.{WalkTimes}
+use Rattle.rules.specs.Rows.{listOf, countOf, indicesOf}
+use Rattle.rules.specs.Bytes.{twoAt, bit}
+use Rattle.rules.specs.Personality.{phaseCount, groupCount, detectorCount, movementCount, groupSet, groupMark, conflictSet, detectorPhase, detectorMode, pedestrian, phasesHead, pedestriansHead, recordAt}
+
+-- f 0 .. f (n - 1), and blanks up to the room
+unfoldable pub rowOf {ℓ} : {A : Type ℓ} → (ℕ → A) → ℕ → ℕ → A → List A
+rowOf f n room blank = listOf f n ++ replicate (room - n) blank
+
+abbrev pub noPhaseTimes : PhaseTimes
+noPhaseTimes = record { late = 0; minimum = 0; maximum = 0; gap = 0; yellow = 0; red = 0 }
+
+abbrev pub noWalkTimes : WalkTimes
+noWalkTimes = record { walk = 0; first = 0; second = 0 }
+
+abbrev pub noGroup : Group
+noGroup = record { phases = 0; mark = 0 }
+
+abbrev pub noDetector : Detector
+noDetector = record { phase = 0; mode = 0 }
+
+unfoldable pub phaseTimesAt : List ℕ → ℕ → PhaseTimes
+phaseTimesAt b p =
+    let at = recordAt phasesHead 12 p in
+    record
+    { late = twoAt b at; minimum = twoAt b (at + 2); maximum = twoAt b (at + 4); gap = twoAt b (at + 6); yellow = twoAt b (at + 8); red = twoAt b (at + 10) }
+
+unfoldable pub walkTimesAt : List ℕ → ℕ → WalkTimes
+walkTimesAt b k =
+    let at = recordAt (pedestriansHead b) 6 k in
+    record { walk = twoAt b at; first = twoAt b (at + 2); second = twoAt b (at + 4) }
+
+unfoldable pub timesIn : List ℕ → Times
+timesIn b =
+    record {
+      start = twoAt b 6;
+      phases = rowOf (phaseTimesAt b) (phaseCount b) 7 noPhaseTimes;
+      walks = rowOf (walkTimesAt b) (movementCount b) 8 noWalkTimes;
+    }
+
+-- the set of the k-th pedestrian group, counted from 0
+unfoldable pub crossingAt : List ℕ → ℕ → ℕ
+crossingAt b k = groupSet b (getD (indicesOf (pedestrian b) (groupCount b)) k 0)
+
+unfoldable pub siteOf : List ℕ → Site
+siteOf b =
+    record {
+      size = record { phases = phaseCount b; groups = groupCount b; detectors = detectorCount b; movements = movementCount b };
+      groups = rowOf (λ g. record { phases = groupSet b g; mark = groupMark b g }) (groupCount b) 32 noGroup;
+      conflicts = rowOf (conflictSet b) (groupCount b) 32 0;
+      detectors = rowOf (λ d. record { phase = detectorPhase b d; mode = detectorMode b d }) (detectorCount b) 48 noDetector;
+      crossings = rowOf (crossingAt b) (movementCount b) 8 0;
+      times = timesIn b;
+    }
+
+-- ── What the other rules ask of a site ──
+
+unfoldable pub groupOf : Site → ℕ → Group
+groupOf site g = getD (site .groups) g noGroup
+
+unfoldable pub detectorOf : Site → ℕ → Detector
+detectorOf site d = getD (site .detectors) d noDetector
+
+unfoldable pub phaseTimes : Times → ℕ → PhaseTimes
+phaseTimes times p = getD (times .phases) p noPhaseTimes
+
+unfoldable pub walkTimes : Times → ℕ → WalkTimes
+walkTimes times k = getD (times .walks) k noWalkTimes
+
+-- group g has phase p in its set
+unfoldable pub inPhase : Site → ℕ → ℕ → Bool
+inPhase site g p = bit p (groupOf site g .phases)
+
+-- movement k is one of phase p
+unfoldable pub crosses : Site → ℕ → ℕ → Bool
+crosses site k p = bit p (getD (site .crossings) k 0)
+
+unfoldable pub isPedestrian : Site → ℕ → Bool
+isPedestrian site g = eqb (groupOf site g .mark) 2
+
+-- the movement of a pedestrian group: as many as there are pedestrian groups before it
+unfoldable pub movementOf : Site → ℕ → ℕ
+movementOf site g = countOf (isPedestrian site) g
+
+-- section 4 has the bits of the two groups set
+unfoldable pub conflict : Site → ℕ → ℕ → Bool
+conflict site g j = bit j (getD (site .conflicts) g 0)
+
+-- the phases in running order: letter order
+unfoldable pub ring : Site → List ℕ
+ring site = listOf (λ p. p) (site .size .phases)

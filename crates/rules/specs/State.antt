@@ -1,0 +1,89 @@
+-- The fresh state, and the valid states of a site, clause by clause.
+use Prim.Native.Nat.{ℕ}
+use mathlib.Core.Bool.{Bool, true, false, not, _&&_, _||_}
+use mathlib.Core.List.{List, [], _∷_}
+use lib.Dec.{leb, ltb, eqb}
+use lib.ListN.{getD, replicate}
+use Rattle.rules.specs.declared.site.Site.{Site}
+use Rattle.rules.specs.declared.state.Held.{Held}
+use Rattle.rules.specs.declared.state.Held.the-variants.{Nothing, Phase}
+use Rattle.rules.specs.declared.state.Interval.the-variants.{StartRed}
+use Rattle.rules.specs.declared.state.Movement.{Movement}
+use Rattle.rules.specs.declared.state.Position.{Position}
+use Rattle.rules.specs.declared.state.Stage.the-variants.{Idle}
+use Rattle.rules.specs.declared.state.State.{State}
+use Rattle.rules.specs.Rows.{allOf}
+use Rattle.rules.specs.Intervals.{isIdle, isWalkOrFirst, isStartRed, isLeaving}
+use Rattle.rules.specs.Site.{phaseTimes, crosses}
+
+abbrev pub idle : Movement
+idle = record { stage = Idle; age = 1 }
+
+-- Phase A in start red, age 1, came-from none, counts 0, no demands, movements idle.
+unfoldable pub fresh : State
+fresh =
+    record {
+      position = record { phase = 0; interval = StartRed; age = 1; came = Nothing; target = Nothing };
+      counts = record { gap = 0; maximum = 0 };
+      demands = record { locks = replicate 7 false; buttons = replicate 8 false };
+      movements = replicate 8 idle;
+    }
+
+-- ── What the rules ask of a state ──
+
+abbrev pub highestAge : ℕ
+highestAge = 2000
+
+unfoldable pub locked : State → ℕ → Bool
+locked s p = getD (s .demands .locks) p false
+
+unfoldable pub asked : State → ℕ → Bool
+asked s k = getD (s .demands .buttons) k false
+
+unfoldable pub movement : State → ℕ → Movement
+movement s k = getD (s .movements) k idle
+
+-- ── The valid state ──
+
+-- a target unlike the phase, held in yellow and all-red only
+unfoldable pub targetValid : ℕ → ℕ → Bool → Held → Bool
+targetValid count phase leaving Nothing = not leaving
+targetValid count phase leaving (Phase t) = leaving && ltb t count && not (eqb t phase)
+
+-- came-from a phase or none
+unfoldable pub cameValid : ℕ → Held → Bool
+cameValid count Nothing = true
+cameValid count (Phase q) = ltb q count
+
+unfoldable pub ageValid : ℕ → Bool
+ageValid age = leb 1 age && leb age highestAge
+
+unfoldable pub every : List Bool → Bool
+every [] = true
+every (test ∷ tests) = test && every tests
+
+-- One movement record: of another phase, or one that the site doesn't have, idle; none in walk or C1 in yellow and all-red;
+-- idle in start red; idle ones at age 1.
+unfoldable pub movementValid : Site → Position → ℕ → Movement → Bool
+movementValid site position k m =
+    every
+    (ageValid (m .age)
+    ∷ ((ltb k (site .size .movements) && crosses site k (position .phase)) || isIdle (m .stage))
+    ∷ not (isLeaving (position .interval) && isWalkOrFirst (m .stage))
+    ∷ (not (isStartRed (position .interval)) || isIdle (m .stage))
+    ∷ (not (isIdle (m .stage)) || eqb (m .age) 1)
+    ∷ [])
+
+unfoldable pub valid : Site → State → Bool
+valid site s =
+    every
+    (ltb (s .position .phase) (site .size .phases)
+    ∷ targetValid (site .size .phases) (s .position .phase) (isLeaving (s .position .interval)) (s .position .target)
+    ∷ cameValid (site .size .phases) (s .position .came)
+    ∷ ageValid (s .position .age)
+    ∷ leb (s .counts .gap) (phaseTimes (site .times) (s .position .phase) .gap)
+    ∷ leb (s .counts .maximum) (phaseTimes (site .times) (s .position .phase) .maximum)
+    ∷ allOf (λ p. not (locked s p) || ltb p (site .size .phases)) 7
+    ∷ allOf (λ k. not (asked s k) || ltb k (site .size .movements)) 8
+    ∷ allOf (λ k. movementValid site (s .position) k (movement s k)) 8
+    ∷ [])

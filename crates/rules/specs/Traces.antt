@@ -1,0 +1,71 @@
+-- What a run of step calls shows, line by line: the calls are made one after the other from the fresh state, each with the
+-- state that the one before handed back, until one is refused.
+use Prim.Native.Nat.{ℕ, zero, suc, _+_}
+use mathlib.Core.Bool.{Bool, true, false, _&&_}
+use mathlib.Core.List.{List, [], _∷_}
+use lib.Dec.{eqb}
+use lib.ListN.{replicate}
+use Rattle.rules.specs.declared.answer.Outcome.{Outcome}
+use Rattle.rules.specs.declared.answer.Outcome.the-variants.{Stepped, Declined}
+use Rattle.rules.specs.declared.state.Interval.{Interval}
+use Rattle.rules.specs.declared.state.State.{State}
+use Rattle.rules.specs.Rows.{if_then_else_}
+use Rattle.rules.specs.Personality.{groupCount}
+use Rattle.rules.specs.Intervals.{letterOf}
+use Rattle.rules.specs.State.{fresh}
+use Rattle.rules.specs.Call.{answerOf, bufferOf}
+
+-- One line of a trace: the step, counted from 1, its phase and interval, and the colours.
+pub record Line : Type 0 where
+  pub step : ℕ
+  pub phase : ℕ
+  pub interval : Interval
+  pub colours : List ℕ
+
+-- a refused call ends the trace
+unfoldable pub unlessDeclined : Outcome → List Line → List Line
+unlessDeclined (Stepped wait) lines = lines
+unlessDeclined (Declined number place) lines = []
+
+-- The lines of n calls from a state, where the input bits of each step are given by its number.
+unfoldable pub linesFrom : List ℕ → (ℕ → ℕ) → ℕ → State → ℕ → List Line
+linesFrom b inputs step s zero = []
+linesFrom b inputs step s (suc n) =
+    let answer = answerOf b s (inputs step) (groupCount b) in
+    let shown = bufferOf b s (inputs step) (replicate (groupCount b) 0) in
+    let line : Line =
+    record {
+      step = step;
+      phase = answer .state .position .phase;
+      interval = answer .state .position .interval;
+      colours = shown;
+    } in
+    unlessDeclined (answer .outcome) (line ∷ linesFrom b inputs (step + 1) (answer .state) n)
+
+unfoldable pub sameColours : List ℕ → List ℕ → Bool
+sameColours [] [] = true
+sameColours [] (y ∷ ys) = false
+sameColours (x ∷ xs) [] = false
+sameColours (x ∷ xs) (y ∷ ys) = eqb x y && sameColours xs ys
+
+-- the two lines differ in their step alone
+unfoldable pub sameButStep : Line → Line → Bool
+sameButStep one two =
+    eqb (one .phase) (two .phase)
+    && eqb (letterOf (one .interval)) (letterOf (two .interval))
+    && sameColours (one .colours) (two .colours)
+
+-- the lines that differ from the one before
+unfoldable pub changesAfter : Line → List Line → List Line
+changesAfter last [] = []
+changesAfter last (line ∷ lines) =
+    let more = changesAfter line lines in
+    if sameButStep last line then more else line ∷ more
+
+unfoldable pub changesIn : List Line → List Line
+changesIn [] = []
+changesIn (line ∷ lines) = line ∷ changesAfter line lines
+
+-- the first line of n calls from the fresh state, and each line that differs from the one before
+unfoldable pub changes : List ℕ → (ℕ → ℕ) → ℕ → List Line
+changes b inputs n = changesIn (linesFrom b inputs 1 fresh n)

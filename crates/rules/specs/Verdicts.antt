@@ -1,0 +1,36 @@
+-- A verdict is acceptance, or a number with its place. Checks go in order, and the first refusal wins.
+use Prim.Native.Nat.{ℕ, zero, suc}
+use mathlib.Core.Bool.{Bool, true, false}
+use Rattle.rules.specs.declared.answer.Verdict.{Verdict}
+use Rattle.rules.specs.declared.answer.Verdict.the-variants.{Accepted, Refused}
+use Rattle.rules.specs.declared.answer.Outcome.{Outcome}
+use Rattle.rules.specs.declared.answer.Outcome.the-variants.{Stepped, Declined}
+use Rattle.rules.specs.declared.answer.Report.{Report}
+use Rattle.rules.specs.Rows.{if_then_else_}
+
+infixr 5 _orElse_
+unfoldable pub _orElse_ : Verdict → Verdict → Verdict
+Accepted orElse later = later
+Refused number place orElse later = Refused number place
+
+unfoldable pub refuseIf : Bool → ℕ → ℕ → Verdict
+refuseIf test number place = if test then Refused number place else Accepted
+
+-- the first refusal of f 0 .. f (n - 1)
+unfoldable pub firstOf : (ℕ → Verdict) → ℕ → Verdict
+firstOf f zero = Accepted
+firstOf f (suc n) = firstOf f n orElse f n
+
+-- The paper's number and place for each verdict.
+unfoldable pub reportOf : Verdict → Report
+reportOf Accepted = record { number = 0; place = 0 }
+reportOf (Refused number place) = record { number = number; place = place }
+
+-- The paper's number and place for each outcome of a step call, and the wait bound that an accepted step gives.
+unfoldable pub stepReportOf : Outcome → Report
+stepReportOf (Stepped wait) = record { number = 0; place = 0 }
+stepReportOf (Declined number place) = record { number = number; place = place }
+
+unfoldable pub waitOf : Outcome → ℕ
+waitOf (Stepped wait) = wait
+waitOf (Declined number place) = 0

@@ -1,0 +1,58 @@
+// The state that a step takes and hands back.
+
+// The interval of the phase in the state.
+pub enum Interval {
+    StartRed,
+    LateStart,
+    MinimumGreen,
+    Running,
+    Yellow,
+    AllRed,
+}
+
+// The stage of a pedestrian movement; the clearances are C1 and C2.
+pub enum Stage {
+    Idle,
+    Walk,
+    ClearanceOne,
+    ClearanceTwo,
+}
+
+// A phase that the state holds, or none.
+pub enum Held {
+    Nothing,
+    Phase { phase: u8 },
+}
+
+// Where the controller stands: the phase, its interval and the interval's age, came-from and the target.
+pub struct Position {
+    pub phase: u8,
+    pub interval: Interval,
+    pub age: u16,
+    pub came: Held,
+    pub target: Held,
+}
+
+// The gap count and the maximum count.
+pub struct Counts {
+    pub gap: u16,
+    pub maximum: u16,
+}
+
+// The locked demands by phase, and the button demands by movement.
+pub struct Demands {
+    pub locks: [bool; 7],
+    pub buttons: [bool; 8],
+}
+
+pub struct Movement {
+    pub stage: Stage,
+    pub age: u16,
+}
+
+pub struct State {
+    pub position: Position,
+    pub counts: Counts,
+    pub demands: Demands,
+    pub movements: [Movement; 8],
+}
