@@ -1,1 +1,4 @@
 pub mod Cases
+pub mod Tests
+pub mod Rows
+pub mod Verdicts

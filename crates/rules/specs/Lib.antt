@@ -17,6 +17,7 @@ pub mod Colours
 pub mod WaitBound
 pub mod Call
 pub mod Runs
+pub mod Laws
 pub mod Traces
 pub mod Junctions
 pub mod Cases

@@ -1,0 +1,2 @@
+pub mod ValidStates
+pub mod Chains
