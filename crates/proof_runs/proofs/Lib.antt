@@ -1,2 +1,3 @@
 pub mod ValidStates
+pub mod Steps
 pub mod Chains

@@ -1,20 +1,18 @@
 -- A valid state, read clause by clause: each field is what one clause of the definition tells, and the fields together give it back.
 use Prim.Native.Nat.{ℕ, _≤_, _<_}
-use mathlib.Core.Bool.{Bool, true, false, not, _&&_, _||_}
+use mathlib.Core.Bool.{Bool, true, false, not, _&&_, _||_, true≢false}
 use mathlib.Core.List.{List, [], _∷_}
-use mathlib.Core.Logic.{_⊎_, inl, inr, ⊎-elim}
-use mathlib.Core.Path.{_≡_, refl, sym}
+use mathlib.Core.Path.{_≡_, refl, sym, ap, _∙_}
 use lib.Dec.{leb, ltb, eqb}
 use borrow.Author.Tests.{ltb-true, leb-true, eqb-true, lt-ltb, le-leb, eq-eqb}
 use Rattle.rules.specs.declared.site.Site.{Site}
 use Rattle.rules.specs.declared.state.Movement.{Movement}
 use Rattle.rules.specs.declared.state.Position.{Position}
 use Rattle.rules.specs.declared.state.State.{State}
-use Rattle.rules.specs.Rows.{allOf}
 use Rattle.rules.specs.Site.{phaseTimes, crosses}
 use Rattle.rules.specs.Intervals.{isIdle, isWalkOrFirst, isStartRed, isLeaving}
 use Rattle.rules.specs.State.{highestAge, locked, asked, movement, targetValid, cameValid, ageValid, every, movementValid, valid}
-use Rattle.rules.proofs.Tests.{and-left, and-right, and-both, or-cases, or-left, or-right, decided}
+use Rattle.rules.proofs.Tests.{and-left, and-right, and-both, or-left, or-right}
 use Rattle.rules.proofs.Rows.{all-at, all-each}
 
 abbrev pub Aged : ℕ → Type 0
@@ -42,17 +40,133 @@ pub record ValidState (site : Site) (s : State) : Type 0 where
 -- ── Tests as implications ──
 
 -- a clause "not a, or b" tells b where a holds
-pub implied : {a b : Bool} → (not a || b) ≡ true → a ≡ true → b ≡ true
-implied {a} {b} h p = ⊎-elim (λ (q : not a ≡ true). absurd (clash a p q)) (λ (q : b ≡ true). q) (or-cases (not a) b h)
-  where
-    clash : (t : Bool) → t ≡ true → not t ≡ true → ⊥
-    clash true p q = mathlib.Core.Bool.true≢false (sym q)
-    clash false p q = mathlib.Core.Bool.true≢false (sym p)
+pub implied : (a b : Bool) → (not a || b) ≡ true → a ≡ true → b ≡ true
+implied true b h p = h
+implied false b h p = absurd (true≢false (sym p))
 
 pub implies : (a b : Bool) → (a ≡ true → b ≡ true) → (not a || b) ≡ true
 implies true b h = h refl
 implies false b h = refl
 
 -- a clause "a, or b" tells a where b fails
-otherwise : (a b : Bool) → (a || b) ≡ true → b ≡ false → a ≡ true
-otherwise a b h q = ⊎-elim (λ (p : a ≡ true). p) (λ (p : b ≡ true). absurd (mathlib.Core.Bool.true≢false (sym p mathlib.Core.Path.∙ q))) (or-cases a b h)
+pub otherwise : (a b : Bool) → (a || b) ≡ true → b ≡ false → a ≡ true
+otherwise true b h q = refl
+otherwise false b h q = absurd (true≢false (sym h ∙ q))
+
+pub else-holds : (a b : Bool) → (b ≡ false → a ≡ true) → (a || b) ≡ true
+else-holds a true h = or-right a refl
+else-holds a false h = or-left false (h refl)
+
+-- a clause "not both" tells that b fails where a holds
+pub not-both : (a b : Bool) → not (a && b) ≡ true → a ≡ true → b ≡ false
+not-both true true h p = absurd (true≢false (sym h))
+not-both true false h p = refl
+not-both false b h p = absurd (true≢false (sym p))
+
+pub excludes : (a b : Bool) → (a ≡ true → b ≡ false) → not (a && b) ≡ true
+excludes true b h = ap not (h refl)
+excludes false b h = refl
+
+-- ── The definition and the facts ──
+
+pub age-told : (age : ℕ) → ageValid age ≡ true → Aged age
+unfolding ageValid
+age-told age h = (leb-true 1 age (and-left (leb 1 age) (leb age highestAge) h), leb-true age highestAge (and-right (leb 1 age) (leb age highestAge) h))
+
+pub age-holds : (age : ℕ) → Aged age → ageValid age ≡ true
+unfolding ageValid
+age-holds age h = and-both (le-leb 1 age (h .0)) (le-leb age highestAge (h .1))
+
+-- the tests of a list, one after the other
+every-head : (test : Bool) (tests : List Bool) → every (test ∷ tests) ≡ true → test ≡ true
+unfolding every
+every-head test tests h = and-left test (every tests) h
+
+every-tail : (test : Bool) (tests : List Bool) → every (test ∷ tests) ≡ true → every tests ≡ true
+unfolding every
+every-tail test tests h = and-right test (every tests) h
+
+pub movement-told :
+    (site : Site) (position : Position) (k : ℕ) (m : Movement) → movementValid site position k m ≡ true → ValidMovement site position k m
+unfolding movementValid
+movement-told site position k m h =
+    let h1 = every-tail _ _ h in
+    let h2 = every-tail _ _ h1 in
+    let h3 = every-tail _ _ h2 in
+    let h4 = every-tail _ _ h3 in
+    record {
+      age = age-told (m .age) (every-head _ _ h);
+      ofPhase = λ q.
+          let both = otherwise (ltb k (site .size .movements) && crosses site k (position .phase)) (isIdle (m .stage)) (every-head _ _ h1) q in (
+            ltb-true k (site .size .movements) (and-left (ltb k (site .size .movements)) (crosses site k (position .phase)) both),
+            and-right (ltb k (site .size .movements)) (crosses site k (position .phase)) both,
+          );
+      leaving = not-both (isLeaving (position .interval)) (isWalkOrFirst (m .stage)) (every-head _ _ h2);
+      startRed = implied (isStartRed (position .interval)) (isIdle (m .stage)) (every-head _ _ h3);
+      idleAge = λ q. eqb-true (m .age) 1 (implied (isIdle (m .stage)) (eqb (m .age) 1) (every-head _ _ h4) q);
+    }
+
+pub movement-holds :
+    (site : Site) (position : Position) (k : ℕ) (m : Movement) → ValidMovement site position k m → movementValid site position k m ≡ true
+unfolding movementValid every
+movement-holds site position k m v =
+    and-both (age-holds (m .age) (v .age))
+    (and-both
+    (else-holds (ltb k (site .size .movements) && crosses site k (position .phase)) (isIdle (m .stage))
+    (λ q. and-both (lt-ltb k (site .size .movements) (v .ofPhase q .0)) (v .ofPhase q .1)))
+    (and-both (excludes (isLeaving (position .interval)) (isWalkOrFirst (m .stage)) (v .leaving))
+    (and-both (implies (isStartRed (position .interval)) (isIdle (m .stage)) (v .startRed))
+    (and-both (implies (isIdle (m .stage)) (eqb (m .age) 1) (λ q. eq-eqb (m .age) 1 (v .idleAge q))) refl))))
+
+pub state-told : (site : Site) (s : State) → valid site s ≡ true → ValidState site s
+unfolding valid
+state-told site s h =
+    let h1 = every-tail _ _ h in
+    let h2 = every-tail _ _ h1 in
+    let h3 = every-tail _ _ h2 in
+    let h4 = every-tail _ _ h3 in
+    let h5 = every-tail _ _ h4 in
+    let h6 = every-tail _ _ h5 in
+    let h7 = every-tail _ _ h6 in
+    let h8 = every-tail _ _ h7 in
+    record {
+      phase = ltb-true _ _ (every-head _ _ h);
+      target = every-head _ _ h1;
+      came = every-head _ _ h2;
+      age = age-told (s .position .age) (every-head _ _ h3);
+      gap = leb-true _ _ (every-head _ _ h4);
+      maximum = leb-true _ _ (every-head _ _ h5);
+      locks = λ p l q.
+          ltb-true p (site .size .phases)
+          (implied (locked s p) (ltb p (site .size .phases))
+          (all-at (λ (p : ℕ). not (locked s p) || ltb p (site .size .phases)) 7 p (every-head _ _ h6) l)
+          q);
+      buttons = λ k l q.
+          ltb-true k (site .size .movements)
+          (implied (asked s k) (ltb k (site .size .movements))
+          (all-at (λ (k : ℕ). not (asked s k) || ltb k (site .size .movements)) 8 k (every-head _ _ h7) l)
+          q);
+      movements = λ k l.
+          movement-told site (s .position) k (movement s k)
+          (all-at (λ (k : ℕ). movementValid site (s .position) k (movement s k)) 8 k (every-head _ _ h8) l);
+    }
+
+pub state-holds : (site : Site) (s : State) → ValidState site s → valid site s ≡ true
+unfolding valid every
+state-holds site s v =
+    and-both (lt-ltb (s .position .phase) (site .size .phases) (v .phase))
+    (and-both (v .target)
+    (and-both (v .came)
+    (and-both (age-holds (s .position .age) (v .age))
+    (and-both (le-leb (s .counts .gap) (phaseTimes (site .times) (s .position .phase) .gap) (v .gap))
+    (and-both (le-leb (s .counts .maximum) (phaseTimes (site .times) (s .position .phase) .maximum) (v .maximum))
+    (and-both
+    (all-each (λ (p : ℕ). not (locked s p) || ltb p (site .size .phases)) 7
+    (λ p l. implies (locked s p) (ltb p (site .size .phases)) (λ q. lt-ltb p (site .size .phases) (v .locks p l q))))
+    (and-both
+    (all-each (λ (k : ℕ). not (asked s k) || ltb k (site .size .movements)) 8
+    (λ k l. implies (asked s k) (ltb k (site .size .movements)) (λ q. lt-ltb k (site .size .movements) (v .buttons k l q))))
+    (and-both
+    (all-each (λ (k : ℕ). movementValid site (s .position) k (movement s k)) 8
+    (λ k l. movement-holds site (s .position) k (movement s k) (v .movements k l)))
+    refl))))))))

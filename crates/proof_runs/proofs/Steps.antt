@@ -1,0 +1,118 @@
+-- One step, taken apart: names for what each of its parts finds, and each field of the next state in terms of them. Lists of the
+-- next state are rows by index, so each entry is read off by its index.
+use Prim.Native.Nat.{ℕ, _<_}
+use mathlib.Core.Bool.{Bool, false, not, _&&_, _||_}
+use mathlib.Core.List.{List}
+use mathlib.Core.Path.{_≡_, refl, ap, _∙_}
+use lib.ListN.{getD}
+use Rattle.rules.specs.declared.site.PhaseTimes.{PhaseTimes}
+use Rattle.rules.specs.declared.site.Site.{Site}
+use Rattle.rules.specs.declared.state.Counts.{Counts}
+use Rattle.rules.specs.declared.state.Movement.{Movement}
+use Rattle.rules.specs.declared.state.Position.{Position}
+use Rattle.rules.specs.declared.state.Stage.the-variants.{Walk}
+use Rattle.rules.specs.declared.state.State.{State}
+use Rattle.rules.specs.Rows.{if_then_else_, listOf}
+use Rattle.rules.specs.Site.{phaseTimes, walkTimes, crosses}
+use Rattle.rules.specs.Intervals.{isHeld, isIdle, isRunning}
+use Rattle.rules.specs.State.{idle, locked, asked, movement}
+use Rattle.rules.specs.Demands.{demandsAfter, nextDemanded, detected, extending, registersLock, registersButton}
+use Rattle.rules.specs.Movements.{advanced, movementsAfter}
+use Rattle.rules.specs.Counts.{countsAfter}
+use Rattle.rules.specs.Interval.{ends, positionAfter, countsChanged, clearsLock, starts}
+use Rattle.rules.specs.Walks.{begins, walksBegun, buttonsLeft}
+use Rattle.rules.specs.Step.{stepped}
+use Rattle.rules.proofs.Rows.{list-at}
+
+module _ (site : Site) (s : State) (inputs : ℕ) where
+  -- the times of the phase that the state handed in has
+  unfoldable pub timesNow : PhaseTimes
+  timesNow = phaseTimes (site .times) (s .position .phase)
+
+  -- another phase is demanded
+  unfoldable pub another : Bool
+  another = isHeld (nextDemanded site s inputs)
+
+  -- the counts after part 3
+  unfoldable pub counted : Counts
+  counted =
+      countsAfter (s .position .interval) timesNow (detected extending site inputs (s .position .phase)) another (s .counts)
+
+  -- the interval ends in this step
+  unfoldable pub ended : Bool
+  ended =
+      ends (s .position .interval) (site .times .start) timesNow (s .position .age) another (movementsAfter (site .times) s) counted
+
+  -- the position after part 4
+  unfoldable pub now : Position
+  now = positionAfter ended (site .times) (nextDemanded site s inputs) (s .position)
+
+  -- a phase starts in this step
+  unfoldable pub started : Bool
+  started = starts ended (s .position)
+
+  -- movement k after part 2, and its demand after part 1
+  unfoldable pub moved : ℕ → Movement
+  moved k = advanced (movement s k .stage) (walkTimes (site .times) k) (movement s k .age)
+
+  unfoldable pub askedNow : ℕ → Bool
+  askedNow k = asked s k || registersButton s inputs k
+
+  unfoldable pub lockedNow : ℕ → Bool
+  lockedNow p = locked s p || registersLock site s inputs p
+
+  -- the walk of movement k begins in this step
+  unfoldable pub begun : ℕ → Bool
+  begun k =
+      askedNow k && crosses site k (now .phase) && (started || (isRunning (now .interval) && not another && isIdle (moved k .stage)))
+
+  pub position-of : stepped site s inputs .position ≡ now
+  unfolding stepped timesNow another counted ended now
+  position-of = refl
+
+  pub counts-of : stepped site s inputs .counts ≡ countsChanged ended (site .times) (s .position) now counted
+  unfolding stepped timesNow another counted ended now
+  counts-of = refl
+
+  moved-at : (k : ℕ) → k < 8 → getD (movementsAfter (site .times) s) k idle ≡ moved k
+  unfolding movementsAfter moved
+  moved-at k h = list-at (λ (k : ℕ). advanced (movement s k .stage) (walkTimes (site .times) k) (movement s k .age)) 8 k idle h
+
+  asked-at : (k : ℕ) → k < 8 → getD (demandsAfter site s inputs .buttons) k false ≡ askedNow k
+  unfolding demandsAfter askedNow
+  asked-at k h = list-at (λ (k : ℕ). asked s k || registersButton s inputs k) 8 k false h
+
+  locked-at : (p : ℕ) → p < 7 → getD (demandsAfter site s inputs .locks) p false ≡ lockedNow p
+  unfolding demandsAfter lockedNow
+  locked-at p h = list-at (λ (p : ℕ). locked s p || registersLock site s inputs p) 7 p false h
+
+  -- what part 5 asks of index k
+  begins-at : ℕ → Bool
+  begins-at k = begins site started another now (demandsAfter site s inputs .buttons) (movementsAfter (site .times) s) k
+
+  begun-at : (k : ℕ) → k < 8 → begins-at k ≡ begun k
+  unfolding begins begins-at begun
+  begun-at k h = rw (asked-at k h, moved-at k h)
+
+  pub locked-of : (p : ℕ) → p < 7 → locked (stepped site s inputs) p ≡ (lockedNow p && not (clearsLock ended now p))
+  unfolding stepped timesNow another counted ended now locked
+  locked-of p h =
+      list-at (λ (p : ℕ). getD (demandsAfter site s inputs .locks) p false && not (clearsLock ended now p)) 7 p false h
+      ∙ ap (λ (t : Bool). t && not (clearsLock ended now p)) (locked-at p h)
+
+  pub asked-of : (k : ℕ) → k < 8 → asked (stepped site s inputs) k ≡ (askedNow k && not (begun k))
+  unfolding stepped timesNow another counted ended now started asked buttonsLeft begins-at
+  asked-of k h =
+      list-at (λ (k : ℕ). getD (demandsAfter site s inputs .buttons) k false && not (begins-at k)) 8 k false h
+      ∙ rw (asked-at k h, begun-at k h)
+
+  pub movement-of : (k : ℕ) → k < 8 → movement (stepped site s inputs) k ≡ (if begun k then record { stage = Walk; age = 1 } else moved k)
+  unfolding stepped timesNow another counted ended now started movement walksBegun begins-at
+  movement-of k h =
+      list-at
+      (λ (k : ℕ). if begins-at k then record { stage = Walk; age = 1 } else getD (movementsAfter (site .times) s) k idle)
+      8
+      k
+      idle
+      h
+      ∙ rw (moved-at k h, begun-at k h)
