@@ -1,10 +1,10 @@
--- The worked cases: document 01's starred ones, and our own below them, in a single list. Each has what the rules compute beside
--- what it must be, and one statement says that the two columns are equal.
+-- The worked cases: document 01's starred ones, and our own below them, in a single list with
+-- one statement: each of them holds.
 use Prim.Native.Nat.{ℕ, _+_, _^_}
-use mathlib.Core.Bool.{Bool}
+use mathlib.Core.Bool.{Bool, _&&_, _||_}
 use mathlib.Core.Path.{_≡_}
-use mathlib.Core.List.{List, [], _∷_, _++_, map}
-use lib.Dec.{eqb}
+use mathlib.Core.List.{List, [], _∷_, _++_}
+use lib.Dec.{leb, eqb}
 use lib.ListN.{set}
 use Rattle.rules.specs.declared.answer.Verdict.{Verdict}
 use Rattle.rules.specs.declared.answer.Verdict.the-variants.{Accepted, Refused}
@@ -13,32 +13,21 @@ use Rattle.rules.specs.declared.state.Interval.the-variants.{StartRed, L
 use Rattle.rules.specs.Rows.{if_then_else_}
 use Rattle.rules.specs.Personality.{verdictOf}
 use Rattle.rules.specs.Site.{siteOf}
-use Rattle.rules.specs.Colours.{red, yellow, green}
+use Rattle.rules.specs.Colours.{red, yellow, green, flashing}
 use Rattle.rules.specs.WaitBound.{waitBound}
-use Rattle.rules.specs.Traces.{Line, changes}
-use Rattle.rules.specs.Junctions.{junction, putTwo}
+use Rattle.rules.specs.Traces.{Line, line, changes}
+use Rattle.rules.specs.Junctions.{junction, putTwo, crossing, threePhases, callingB, overlap}
 
--- What a case finds out: a verdict on bytes, a wait bound, or the changes of a run.
-pub data Finding : Type 0 where
-  verdict : Verdict → Finding
-  bound : ℕ → Finding
-  shows : List Line → Finding
+-- What a case says of a personality: its verdict, its wait bound, or the changes of n calls whose input bits are given by step.
+pub data Case : Type 0 where
+  reading : List ℕ → Verdict → Case
+  waiting : List ℕ → ℕ → Case
+  running : List ℕ → (ℕ → ℕ) → ℕ → List Line → Case
 
-pub record Case : Type 0 where
-  pub found : Finding
-  pub right : Finding
-
-unfoldable pub reading : List ℕ → Verdict → Case
-reading b v = record { found = verdict (verdictOf b); right = verdict v }
-
-unfoldable pub waiting : List ℕ → ℕ → Case
-waiting b n = record { found = bound (waitBound (siteOf b)); right = bound n }
-
-unfoldable pub running : List ℕ → (ℕ → ℕ) → ℕ → List Line → Case
-running b inputs n lines = record { found = shows (changes b inputs n); right = shows lines }
-
-unfoldable pub line : ℕ → ℕ → Interval → List ℕ → Line
-line step phase interval colours = record { step = step; phase = phase; interval = interval; colours = colours }
+abbrev pub Holds : Case → Type 0
+Holds (reading b verdict) = verdictOf b ≡ verdict
+Holds (waiting b wait) = waitBound (siteOf b) ≡ wait
+Holds (running b inputs n lines) = changes b inputs n ≡ lines
 
 -- ── Document 01, the junction of two phases ──
 
@@ -82,10 +71,76 @@ starred =
     ∷ reading (set junction 60 2) (Refused 11 60)
     ∷ []
 
--- Each case of a list finds what is right.
-abbrev pub Hold : List Case → Type 0
-Hold [] = Unit {0}
-Hold (c ∷ cases) = (c .found ≡ c .right) × Hold cases
+-- ── Our own ──
+
+-- the button of the crossing in step 12 and, in its first clearance, in step 45; detector 1 in step 31
+unfoldable pub walkTwice : ℕ → ℕ
+walkTwice step = if eqb step 12 || eqb step 45 then 2 ^ 48 else if eqb step 31 then 2 else 0
+
+-- detector 2 in step 12, and detector 1 in step 40, when A is in yellow for C
+unfoldable pub laterB : ℕ → ℕ
+laterB step = if eqb step 12 then 4 else if eqb step 40 then 2 else 0
+
+-- detector 0 always; detector 1 in steps 31 to 35 and from 62 on
+unfoldable pub pausing : ℕ → ℕ
+pausing step = if (leb 31 step && leb step 35) || leb 62 step then 3 else 1
+
+unfoldable pub ours : List Case
+ours =
+    -- the second clearance holds all-red past R, and the press in the first clearance brings A back with a walk
+    running crossing walkTwice 162
+    (line 1 0 StartRed (red ∷ red ∷ red ∷ [])
+    ∷ line 10 0 MinimumGreen (green ∷ red ∷ red ∷ [])
+    ∷ line 30 0 Running (green ∷ red ∷ green ∷ [])
+    ∷ line 40 0 Running (green ∷ red ∷ flashing ∷ [])
+    ∷ line 50 0 Yellow (yellow ∷ red ∷ flashing ∷ [])
+    ∷ line 80 0 AllRed (red ∷ red ∷ flashing ∷ [])
+    ∷ line 100 1 MinimumGreen (red ∷ green ∷ red ∷ [])
+    ∷ line 120 1 Running (red ∷ green ∷ red ∷ [])
+    ∷ line 121 1 Yellow (red ∷ yellow ∷ red ∷ [])
+    ∷ line 151 1 AllRed (red ∷ red ∷ red ∷ [])
+    ∷ line 161 0 MinimumGreen (green ∷ red ∷ green ∷ [])
+    ∷ [])
+    -- the target stays the one chosen when running ended
+    ∷ running threePhases laterB 72
+    (line 1 0 StartRed (red ∷ red ∷ red ∷ [])
+    ∷ line 10 0 MinimumGreen (green ∷ red ∷ red ∷ [])
+    ∷ line 30 0 Running (green ∷ red ∷ red ∷ [])
+    ∷ line 31 0 Yellow (yellow ∷ red ∷ red ∷ [])
+    ∷ line 61 0 AllRed (red ∷ red ∷ red ∷ [])
+    ∷ line 71 2 MinimumGreen (red ∷ red ∷ green ∷ [])
+    ∷ [])
+    -- the maximum count goes on rising while the non-locking call is away
+    ∷ running callingB pausing 63
+    (line 1 0 StartRed (red ∷ red ∷ [])
+    ∷ line 10 0 MinimumGreen (green ∷ red ∷ [])
+    ∷ line 30 0 Running (green ∷ red ∷ [])
+    ∷ line 62 0 Yellow (yellow ∷ red ∷ [])
+    ∷ [])
+    -- a group of both phases stays green from A to B; one with late start waits where it was not green in A
+    ∷ running overlap onceB 92
+    (line 1 0 StartRed (red ∷ red ∷ red ∷ red ∷ [])
+    ∷ line 10 0 MinimumGreen (green ∷ red ∷ green ∷ red ∷ [])
+    ∷ line 30 0 Running (green ∷ red ∷ green ∷ red ∷ [])
+    ∷ line 31 0 Yellow (yellow ∷ red ∷ green ∷ red ∷ [])
+    ∷ line 61 0 AllRed (red ∷ red ∷ green ∷ red ∷ [])
+    ∷ line 71 1 LateStart (red ∷ green ∷ green ∷ red ∷ [])
+    ∷ line 91 1 MinimumGreen (red ∷ green ∷ green ∷ green ∷ [])
+    ∷ [])
+    -- all of number 9 is checked before any of number 10
+    ∷ reading (set (set junction 42 3) 52 0) (Refused 9 48)
+    -- a movement's walk and clearances count twice in its phase's share: 10 + 2 × 50 + 2 × 2 × 40 + 2 × (20 + 50)
+    ∷ waiting crossing 410
+    ∷ []
+
+-- ── The list and its statement ──
+
+unfoldable pub cases : List Case
+cases = starred ++ ours
+
+abbrev pub AllHold : List Case → Type 0
+AllHold [] = Unit {0}
+AllHold (c ∷ cases) = Holds c × AllHold cases
 
 unfoldable pub CasesHold : Type 0
-CasesHold = Hold starred
+CasesHold = AllHold cases

@@ -1,6 +1,6 @@
 -- Personalities that the worked cases are about, written out section by section.
-use Prim.Native.Nat.{ℕ, _+_, _*_, _/_, _%_}
-use mathlib.Core.List.{List, [], _∷_, _++_, flatten}
+use Prim.Native.Nat.{ℕ, _+_, _/_, _%_}
+use mathlib.Core.List.{List, [], _∷_, _++_}
 use lib.ListN.{length, set}
 
 -- ── Writing bytes ──
@@ -43,5 +43,44 @@ junction =
     (shortPhase ++ shortPhase)
     (1 ∷ 0 ∷ 2 ∷ 0 ∷ [])
     (fours (2 ∷ 1 ∷ []))
+    (0 ∷ 6 ∷ 1 ∷ 6 ∷ [])
+    []
+
+-- ── Sites of our own worked cases ──
+
+-- A and B with a crossing beside A: W 10, C1 10, C2 50. Group 2 is the pedestrian group; both it and group 0 conflict with group 1.
+unfoldable pub crossing : List ℕ
+crossing =
+    sections
+    (2 ∷ 3 ∷ two 10)
+    (shortPhase ++ shortPhase)
+    (1 ∷ 0 ∷ 2 ∷ 0 ∷ 1 ∷ 2 ∷ [])
+    (fours (2 ∷ 5 ∷ 2 ∷ []))
+    (0 ∷ 6 ∷ 1 ∷ 6 ∷ [])
+    (twos (10 ∷ 10 ∷ 50 ∷ []))
+
+-- three phases with a group and a locking detector each, all in conflict
+unfoldable pub threePhases : List ℕ
+threePhases =
+    sections
+    (3 ∷ 3 ∷ two 10)
+    (shortPhase ++ shortPhase ++ shortPhase)
+    (1 ∷ 0 ∷ 2 ∷ 0 ∷ 4 ∷ 0 ∷ [])
+    (fours (6 ∷ 5 ∷ 3 ∷ []))
+    (0 ∷ 6 ∷ 1 ∷ 6 ∷ 2 ∷ 6 ∷ [])
+    []
+
+-- the junction of two phases with a detector of B that calls without lock
+unfoldable pub callingB : List ℕ
+callingB = set junction 63 1
+
+-- A and B, where B has a late start of 20; group 2 is of both phases, group 3 is of B with late start
+unfoldable pub overlap : List ℕ
+overlap =
+    sections
+    (2 ∷ 4 ∷ two 10)
+    (shortPhase ++ twos (20 ∷ 20 ∷ 30 ∷ 5 ∷ 30 ∷ 10 ∷ []))
+    (1 ∷ 0 ∷ 2 ∷ 0 ∷ 3 ∷ 0 ∷ 2 ∷ 1 ∷ [])
+    (fours (10 ∷ 1 ∷ 0 ∷ 1 ∷ []))
     (0 ∷ 6 ∷ 1 ∷ 6 ∷ [])
     []

@@ -16,11 +16,8 @@ use Rattle.rules.specs.State.{fresh}
 use Rattle.rules.specs.Call.{answerOf, bufferOf}
 
 -- One line of a trace: the step, counted from 1, its phase and interval, and the colours.
-pub record Line : Type 0 where
-  pub step : ℕ
-  pub phase : ℕ
-  pub interval : Interval
-  pub colours : List ℕ
+pub data Line : Type 0 where
+  line : ℕ → ℕ → Interval → List ℕ → Line
 
 -- a refused call ends the trace
 unfoldable pub unlessDeclined : Outcome → List Line → List Line
@@ -33,14 +30,9 @@ linesFrom b inputs step s zero = []
 linesFrom b inputs step s (suc n) =
     let answer = answerOf b s (inputs step) (groupCount b) in
     let shown = bufferOf b s (inputs step) (replicate (groupCount b) 0) in
-    let line : Line =
-    record {
-      step = step;
-      phase = answer .state .position .phase;
-      interval = answer .state .position .interval;
-      colours = shown;
-    } in
-    unlessDeclined (answer .outcome) (line ∷ linesFrom b inputs (step + 1) (answer .state) n)
+    let now = answer .state .position in
+    unlessDeclined (answer .outcome)
+    (line step (now .phase) (now .interval) shown ∷ linesFrom b inputs (step + 1) (answer .state) n)
 
 unfoldable pub sameColours : List ℕ → List ℕ → Bool
 sameColours [] [] = true
@@ -50,21 +42,19 @@ sameColours (x ∷ xs) (y ∷ ys) = eqb x y && sameColours xs ys
 
 -- the two lines differ in their step alone
 unfoldable pub sameButStep : Line → Line → Bool
-sameButStep one two =
-    eqb (one .phase) (two .phase)
-    && eqb (letterOf (one .interval)) (letterOf (two .interval))
-    && sameColours (one .colours) (two .colours)
+sameButStep (line step phase interval colours) (line step′ phase′ interval′ colours′) =
+    eqb phase phase′ && eqb (letterOf interval) (letterOf interval′) && sameColours colours colours′
 
 -- the lines that differ from the one before
 unfoldable pub changesAfter : Line → List Line → List Line
 changesAfter last [] = []
-changesAfter last (line ∷ lines) =
-    let more = changesAfter line lines in
-    if sameButStep last line then more else line ∷ more
+changesAfter last (next ∷ lines) =
+    let more = changesAfter next lines in
+    if sameButStep last next then more else next ∷ more
 
 unfoldable pub changesIn : List Line → List Line
 changesIn [] = []
-changesIn (line ∷ lines) = line ∷ changesAfter line lines
+changesIn (first ∷ lines) = first ∷ changesAfter first lines
 
 -- the first line of n calls from the fresh state, and each line that differs from the one before
 unfoldable pub changes : List ℕ → (ℕ → ℕ) → ℕ → List Line

@@ -1,0 +1,33 @@
+// The one table of lowest and highest values of the time settings, in steps of 0.1 s. The reader asks it for every time.
+ghost use mathlib.Core.Path.{_≡_};
+ghost use Rattle.rules.specs.Limits.{within};
+use rules::site::Range;
+
+// By setting: start red; L, M, X, G, Y, R of a phase; W, C1, C2 of a movement.
+pub const LIMITS: [Range; 10] = [
+    Range { low: 10, high: 150 },
+    Range { low: 0, high: 200 },
+    Range { low: 10, high: 400 },
+    Range {
+        low: 10,
+        high: 1500,
+    },
+    Range { low: 0, high: 100 },
+    Range { low: 30, high: 100 },
+    Range { low: 10, high: 150 },
+    Range { low: 10, high: 400 },
+    Range { low: 1, high: 400 },
+    Range { low: 1, high: 400 },
+];
+
+// Whether the table admits the value for the setting. A setting that it has not admits 0 alone.
+pub fn admits(setting: usize, value: u16) -> bool
+    ensures { λ r. ⌜ r ≡ within setting value ⌝ }
+{
+    if setting < LIMITS.len() {
+        let range = LIMITS[setting];
+        (range.low <= value) & (value <= range.high)
+    } else {
+        value == 0
+    }
+}
