@@ -2,3 +2,5 @@ pub mod Cases
 pub mod Tests
 pub mod Rows
 pub mod Verdicts
+pub mod Counts
+pub mod Bits

@@ -93,19 +93,21 @@ RefusalIsWritten =
 unfoldable pub highest : ℕ → ℕ
 highest setting = limitOf setting .high
 
--- the wait bound of seven phases where every setting that it counts is the highest
-unfoldable pub greatestWait : ℕ
-greatestWait =
-    highest startRedSetting
-    + 7
-    * (highest phaseSettings
+-- the share of a phase where every setting that it counts is the highest
+unfoldable pub greatestShare : ℕ
+greatestShare =
+    highest phaseSettings
     + highest (phaseSettings + 1)
     + highest (phaseSettings + 2)
     + 2
     * ((highest walkSettings + highest (walkSettings + 1))
     + highest (phaseSettings + 4)
     + highest (phaseSettings + 5)
-    + highest (walkSettings + 2)))
+    + highest (walkSettings + 2))
+
+-- the wait bound of seven such phases
+unfoldable pub greatestWait : ℕ
+greatestWait = highest startRedSetting + 7 * greatestShare
 
 unfoldable pub WaitIsInTable : Type 0
 WaitIsInTable = (b : List ℕ) → verdictOf b ≡ Accepted → waitBound (siteOf b) ≤ greatestWait

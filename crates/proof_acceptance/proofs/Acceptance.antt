@@ -1,0 +1,190 @@
+-- Every accepted personality holds a sound site: each fact that acceptance tells of the bytes is carried to the site's entries, and
+-- past the counts the entries are blank. The one phase of a movement is the one bit that its group's set is counted to have.
+use Prim.Native.Nat.{ℕ, _+_, _≤_, _<_}
+use mathlib.Core.Bool.{true}
+use mathlib.Core.List.{List}
+use mathlib.Core.Logic.{⊎-elim}
+use mathlib.Core.Path.{_≡_, sym, subst, ap, _∙_}
+use lib.ListN.{getD}
+use native.Mathlib.Nat.{add-zero}
+use native.Mathlib.Omega.{arith}
+use Rattle.rules.specs.declared.site.Detector.{Detector}
+use Rattle.rules.specs.declared.site.Group.{Group}
+use Rattle.rules.specs.Rows.{indicesOf}
+use Rattle.rules.specs.Bytes.{twoAt, bit}
+use Rattle.rules.specs.Limits.{phaseSettings, walkSettings}
+use Rattle.rules.specs.Personality.{recordAt, phasesHead, pedestriansHead, phaseCount, groupCount, movementCount, groupSet, groupMark, conflictSet, detectorPhase, pedestrian, pedestriansBefore}
+use Rattle.rules.specs.Site.{phaseTimesAt, walkTimesAt, timesIn, crossingAt, siteOf, groupOf, inPhase, crosses, isPedestrian, movementOf, conflict}
+use Rattle.rules.specs.Laws.{InTable, SoundPhaseTimes, SoundWalkTimes, OnePhase, Sound, AcceptedIsSound}
+use Rattle.rules.proofs.Tests.{never-both}
+use Rattle.rules.proofs.Rows.{IthPassing, indices-at}
+use Rattle.rules.proofs.Counts.{below-or-past, passes-below, count-before, count-apart, count-one}
+use Rattle.rules.proofs.Bits.{bit-below}
+use Rattle.proof_acceptance.proofs.Sections.{PhasesAccepted, GroupsAccepted, ConflictsAccepted, PedestriansAccepted, SectionsAccepted, sections-accepted}
+use Rattle.proof_acceptance.proofs.Entries.{phase-times-at, walk-times-at, group-at, group-past, in-phase-at, in-phase-past, pedestrian-at, conflict-at, conflict-past, detector-at, crosses-at, crosses-past, movement-at}
+
+-- ── Times ──
+
+-- the first field of a record stands at the record's own place
+first-field : (b : List ℕ) (place setting : ℕ) → InTable setting (twoAt b (place + 0)) → InTable setting (twoAt b place)
+first-field b place setting h = rw add-zero at h
+
+sound-phase-times : (b : List ℕ) → PhasesAccepted b → (p : ℕ) → p < phaseCount b → SoundPhaseTimes (phaseTimesAt b p)
+unfolding phaseTimesAt
+sound-phase-times b s p l =
+    record {
+      late = first-field b (recordAt phasesHead 12 p) phaseSettings (s .time p l 0 (omega arith));
+      minimum = s .time p l 1 (omega arith);
+      maximum = s .time p l 2 (omega arith);
+      gap = s .time p l 3 (omega arith);
+      yellow = s .time p l 4 (omega arith);
+      red = s .time p l 5 (omega arith);
+    }
+
+sound-walk-times : (b : List ℕ) → PedestriansAccepted b → (k : ℕ) → k < movementCount b → SoundWalkTimes (walkTimesAt b k)
+unfolding walkTimesAt
+sound-walk-times b s k l =
+    record {
+      walk = first-field b (recordAt (pedestriansHead b) 6 k) walkSettings (s .time k l 0 (omega arith));
+      first = s .time k l 1 (omega arith);
+      second = s .time k l 2 (omega arith);
+    }
+
+-- ── Groups ──
+
+group-phase : (b : List ℕ) → GroupsAccepted b → (g p : ℕ) → inPhase (siteOf b) g p ≡ true → (g < groupCount b) × (p < phaseCount b)
+group-phase b s g p e =
+    let l = passes-below (inPhase (siteOf b) g p) g (groupCount b) (in-phase-past b g p) e in
+    (l, bit-below (groupSet b g) (phaseCount b) p (s .set g l) (sym (in-phase-at b g p l) ∙ e))
+
+group-mark : (b : List ℕ) → GroupsAccepted b → (g : ℕ) → groupOf (siteOf b) g .mark ≤ 2
+group-mark b s g =
+    ⊎-elim
+    (λ (l : g < groupCount b). subst (λ (x : Group). x .mark ≤ 2) (sym (group-at b g l)) (s .mark g l))
+    (λ (l : groupCount b ≤ g). subst (λ (x : Group). x .mark ≤ 2) (sym (group-past b g l)) (omega arith))
+    (below-or-past g (groupCount b))
+
+phase-group : (b : List ℕ) → GroupsAccepted b → (p : ℕ) → p < phaseCount b → (g : ℕ) × (g < groupCount b) × (inPhase (siteOf b) g p ≡ true)
+phase-group b s p l =
+    let w = s .served p l in
+    (w .0, w .1, in-phase-at b (w .0) p (w .1) ∙ w .2)
+
+-- ── Movements ──
+
+-- the group of movement k
+abbrev groupOfMovement : List ℕ → ℕ → ℕ
+groupOfMovement b k = getD (indicesOf (pedestrian b) (groupCount b)) k 0
+
+movement-group : (b : List ℕ) (k : ℕ) → k < movementCount b → IthPassing (pedestrian b) (groupCount b) k (groupOfMovement b k)
+unfolding movementCount pedestriansBefore
+movement-group b k l = indices-at (pedestrian b) (groupCount b) k l
+
+one-phase : (b : List ℕ) → GroupsAccepted b → (k : ℕ) → k < movementCount b → OnePhase (siteOf b) k
+unfolding crossingAt siteOf
+one-phase b s k l =
+    let g = groupOfMovement b k in
+    let found = movement-group b k l in
+    let only = count-one (λ p. bit p (groupSet b g)) (phaseCount b) (s .onePhase g (found .0) (found .1)) in (
+      only .0,
+      only .1,
+      crosses-at b k (only .0) l ∙ only .2,
+      λ q e.
+          let set = sym (crosses-at b k q l) ∙ e in
+          only .3 q (bit-below (groupSet b g) (phaseCount b) q (s .set g (found .0)) set) set,
+    )
+
+movement-of-group :
+    (b : List ℕ) (g : ℕ) →
+    g < groupCount b →
+    isPedestrian (siteOf b) g ≡ true →
+    movementOf (siteOf b) g < movementCount b
+unfolding movementCount pedestriansBefore
+movement-of-group b g l e =
+    omega (arith, movement-at b g l, count-before (pedestrian b) g (groupCount b) l (sym (pedestrian-at b g l) ∙ e))
+
+crossing-of-group :
+    (b : List ℕ) (g : ℕ) →
+    g < groupCount b →
+    isPedestrian (siteOf b) g ≡ true →
+    (p : ℕ) →
+    crosses (siteOf b) (movementOf (siteOf b) g) p ≡ inPhase (siteOf b) g p
+unfolding crossingAt pedestriansBefore
+crossing-of-group b g l e p =
+    let k = movementOf (siteOf b) g in
+    let m = movement-of-group b g l e in
+    let found = movement-group b k m in
+    let same =
+    count-apart (pedestrian b) (groupOfMovement b k) g (found .1) (sym (pedestrian-at b g l) ∙ e) (found .2 ∙ movement-at b g l)
+    in
+    crosses-at b k p m ∙ ap (λ (x : ℕ). bit p (groupSet b x)) same ∙ sym (in-phase-at b g p l)
+
+-- ── Conflicts ──
+
+conflict-groups :
+    (b : List ℕ) → ConflictsAccepted b → (g j : ℕ) → conflict (siteOf b) g j ≡ true → (g < groupCount b) × (j < groupCount b)
+conflict-groups b s g j e =
+    let l = passes-below (conflict (siteOf b) g j) g (groupCount b) (conflict-past b g j) e in
+    (l, bit-below (conflictSet b g) (groupCount b) j (s .set g l) (sym (conflict-at b g j l) ∙ e))
+
+-- the bit of a conflict, in the bytes
+conflict-bit : (b : List ℕ) → ConflictsAccepted b → (g j : ℕ) → conflict (siteOf b) g j ≡ true → bit j (conflictSet b g) ≡ true
+conflict-bit b s g j e = sym (conflict-at b g j (conflict-groups b s g j e .0)) ∙ e
+
+conflict-other : (b : List ℕ) → ConflictsAccepted b → (g j : ℕ) → conflict (siteOf b) g j ≡ true → g ≡ j → ⊥
+conflict-other b s g j e same =
+    never-both
+    (subst (λ (x : ℕ). bit x (conflictSet b g) ≡ true) (sym same) (conflict-bit b s g j e))
+    (s .other g (conflict-groups b s g j e .0))
+
+conflict-back : (b : List ℕ) → ConflictsAccepted b → (g j : ℕ) → conflict (siteOf b) g j ≡ true → conflict (siteOf b) j g ≡ true
+conflict-back b s g j e =
+    let w = conflict-groups b s g j e in
+    conflict-at b j g (w .1) ∙ s .back g j (w .0) (w .1) (conflict-bit b s g j e)
+
+conflict-phase :
+    (b : List ℕ) →
+    GroupsAccepted b →
+    ConflictsAccepted b →
+    (g j : ℕ) →
+    conflict (siteOf b) g j ≡ true →
+    (p : ℕ) →
+    inPhase (siteOf b) g p ≡ true →
+    inPhase (siteOf b) j p ≡ true →
+    ⊥
+conflict-phase b t s g j e p q r =
+    let w = conflict-groups b s g j e in
+    never-both
+    (sym (in-phase-at b j p (w .1)) ∙ r)
+    (s .apart g j p (w .0) (w .1) (group-phase b t g p q .1) (conflict-bit b s g j e) (sym (in-phase-at b g p (w .0)) ∙ q))
+
+-- ── The site ──
+
+sound : (b : List ℕ) → SectionsAccepted b → Sound (siteOf b)
+unfolding siteOf timesIn
+sound b s =
+    record {
+      phases = s .site .phases;
+      groups = s .site .groups;
+      detectors = s .detectors .count;
+      movements = s .groups .movements;
+      startTime = s .site .start;
+      phaseTime = λ p l. subst SoundPhaseTimes (sym (phase-times-at b p l)) (sound-phase-times b (s .phases) p l);
+      walkTime = λ k l. subst SoundWalkTimes (sym (walk-times-at b k l)) (sound-walk-times b (s .pedestrians) k l);
+      groupPhase = group-phase b (s .groups);
+      groupMark = group-mark b (s .groups);
+      phaseGroup = phase-group b (s .groups);
+      detectorPhase =
+          λ d l. subst (λ (x : Detector). x .phase < phaseCount b) (sym (detector-at b d l)) (s .detectors .phase d l);
+      crossing = one-phase b (s .groups);
+      noCrossing = crosses-past b;
+      movementOfGroup = movement-of-group b;
+      crossingOfGroup = crossing-of-group b;
+      conflictGroups = conflict-groups b (s .conflicts);
+      conflictOther = conflict-other b (s .conflicts);
+      conflictBack = conflict-back b (s .conflicts);
+      conflictPhase = conflict-phase b (s .groups) (s .conflicts);
+    }
+
+pub accepted-is-sound : AcceptedIsSound
+unfolding AcceptedIsSound
+accepted-is-sound b h = sound b (sections-accepted b h)

@@ -1,0 +1,5 @@
+pub mod Sections
+pub mod Entries
+pub mod Acceptance
+pub mod Refusals
+pub mod WaitBound

@@ -1,0 +1,1 @@
+// Proof only: what acceptance of a personality tells of its site, which refusals there are, and how large a wait bound can be. See proofs/.
