@@ -1,0 +1,36 @@
+-- The fresh state of a sound site is valid: its phase is A, which every site has, its counts are 0, nothing is demanded, and every
+-- movement is idle at age 1.
+use mathlib.Core.Bool.{false}
+use mathlib.Core.Path.{refl, sym, subst}
+use native.Mathlib.Omega.{arith}
+use lib.ListN.{getD-replicate}
+use Rattle.rules.specs.declared.site.Site.{Site}
+use Rattle.rules.specs.declared.state.Movement.{Movement}
+use Rattle.rules.specs.Intervals.{isIdle, isLeaving}
+use Rattle.rules.specs.State.{idle, fresh, locked, asked, movement, targetValid, cameValid}
+use Rattle.rules.specs.Laws.{Sound, FreshIsValid}
+use Rattle.rules.proofs.Tests.{never-both}
+use Rattle.proof_runs.proofs.ValidStates.{ValidState, ValidMovement, state-holds}
+use Rattle.proof_validity.proofs.Positions.{new-aged}
+use Rattle.proof_validity.proofs.Stages.{idle-valid}
+
+fresh-state : (site : Site) → Sound site → ValidState site fresh
+unfolding fresh locked asked movement targetValid cameValid isLeaving isIdle
+fresh-state site sound =
+    record {
+      phase = omega (arith, sound .phases .0);
+      target = refl;
+      came = refl;
+      age = new-aged;
+      gap = omega arith;
+      maximum = omega arith;
+      locks = λ p l h. absurd (never-both h (getD-replicate 7 p false false l));
+      buttons = λ k l h. absurd (never-both h (getD-replicate 8 k false false l));
+      movements = λ k l.
+          subst (λ (m : Movement). ValidMovement site (fresh .position) k m) (sym (getD-replicate 8 k idle idle l))
+          (idle-valid site (fresh .position) k idle refl refl);
+    }
+
+pub fresh-is-valid : FreshIsValid
+unfolding FreshIsValid
+fresh-is-valid site sound = state-holds site fresh (fresh-state site sound)

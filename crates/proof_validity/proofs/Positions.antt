@@ -1,0 +1,167 @@
+-- The position after a step is valid. Where the interval ends, the phase stays and its next interval begins, or the target starts;
+-- the target is chosen when running ends, among the other phases of the ring. Where it does not end, only the age rises.
+use Prim.Native.Nat.{ℕ, _<_}
+use mathlib.Core.Bool.{Bool, true, false, not, false≢true}
+use mathlib.Core.List.{List, _++_}
+use mathlib.Core.Path.{_≡_, refl}
+use native.Mathlib.Omega.{arith}
+use lib.Dec.{ltb, eqb}
+use borrow.Author.Tests.{ltb-true, lt-ltb, ne-eqb}
+use Rattle.rules.specs.declared.site.PhaseTimes.{PhaseTimes}
+use Rattle.rules.specs.declared.site.Site.{Site}
+use Rattle.rules.specs.declared.site.Times.{Times}
+use Rattle.rules.specs.declared.state.Counts.{Counts}
+use Rattle.rules.specs.declared.state.Held.{Held}
+use Rattle.rules.specs.declared.state.Held.the-variants.{Nothing, Phase}
+use Rattle.rules.specs.declared.state.Interval.{Interval}
+use Rattle.rules.specs.declared.state.Interval.the-variants.{StartRed, LateStart, MinimumGreen, Running, Yellow, AllRed}
+use Rattle.rules.specs.declared.state.Movement.{Movement}
+use Rattle.rules.specs.declared.state.Position.{Position}
+use Rattle.rules.specs.declared.state.State.{State}
+use Rattle.rules.specs.Rows.{if_then_else_}
+use Rattle.rules.specs.Site.{phaseTimes, ring}
+use Rattle.rules.specs.Intervals.{isStartRed, isRunning, isLeaving, isHeld, phaseHeld}
+use Rattle.rules.specs.State.{targetValid, cameValid}
+use Rattle.rules.specs.Demands.{demanded, after, before, firstIn, nextDemanded}
+use Rattle.rules.specs.Movements.{older}
+use Rattle.rules.specs.Interval.{ends, entering, starting, following, staying, positionAfter}
+use Rattle.rules.proofs.Tests.{and-left, and-both}
+use Rattle.proof_runs.proofs.ValidStates.{Aged, ValidState}
+use Rattle.proof_runs.proofs.Steps.{another, ended, now}
+use Rattle.proof_validity.proofs.Ring.{Unlike, ring-below, ring-once, found-in-ring, found-unlike}
+
+-- what the clauses of a valid state tell of its position
+pub record ValidPosition (count : ℕ) (position : Position) : Type 0 where
+  pub phase : position .phase < count
+  pub target : targetValid count (position .phase) (isLeaving (position .interval)) (position .target) ≡ true
+  pub came : cameValid count (position .came) ≡ true
+  pub age : Aged (position .age)
+
+position-told : (site : Site) (s : State) → ValidState site s → ValidPosition (site .size .phases) (s .position)
+position-told site s v = record { phase = v .phase; target = v .target; came = v .came; age = v .age }
+
+-- ── Ages ──
+
+pub older-aged : (age : ℕ) → Aged age → Aged (older age)
+unfolding older
+older-aged age h = (omega arith, omega arith)
+
+pub new-aged : Aged 1
+new-aged = (omega arith, omega arith)
+
+-- ── The phase held as a target ──
+
+module _ (count phase : ℕ) where
+  -- a phase may be held as the target: it exists, and is unlike the phase that is left
+  held-valid : (t : ℕ) → t < count → Unlike phase t → targetValid count phase true (Phase t) ≡ true
+  unfolding targetValid
+  held-valid t h u = and-both (lt-ltb t count h) (rw (ne-eqb t phase u))
+
+  -- the target of a phase that is being left exists
+  target-below : (target : Held) → targetValid count phase true target ≡ true → phaseHeld target < count
+  unfolding targetValid phaseHeld
+  target-below Nothing h = absurd (false≢true h)
+  target-below (Phase t) h = ltb-true t count (and-left (ltb t count) (not (eqb t phase)) h)
+
+-- the next demanded phase, if another phase is demanded, may be held as the target
+next-valid :
+    (site : Site) (s : State) (inputs : ℕ) →
+    targetValid (site .size .phases) (s .position .phase) (another site s inputs) (nextDemanded site s inputs) ≡ true
+unfolding nextDemanded another isHeld targetValid
+next-valid site s inputs = step (firstIn (demanded site s inputs) others) refl
+  where
+    p : ℕ
+    p = s .position .phase
+
+    others : List ℕ
+    others = after p (ring site) ++ before p (ring site)
+
+    step :
+        (next : Held) →
+        firstIn (demanded site s inputs) others ≡ next →
+        targetValid (site .size .phases) p (isHeld next) next ≡ true
+    step Nothing e = refl
+    step (Phase t) e =
+        held-valid (site .size .phases) p t
+        (found-in-ring p (ring site) (demanded site s inputs) t e (λ q. q < site .size .phases) (ring-below site))
+        (found-unlike p (ring site) (demanded site s inputs) t e (ring-once site))
+
+-- ── The interval ends, or it stays ──
+
+-- neither start red, nor yellow or all-red: movements of the phase may walk
+abbrev pub Open : Interval → Type 0
+Open interval = (isStartRed interval ≡ false) × (isLeaving interval ≡ false)
+
+-- the interval with which a phase starts is open
+pub start-open : (times : Times) (p : ℕ) (came : Held) → Open (starting times p came .interval)
+unfolding starting isStartRed isLeaving
+start-open times p came = step (eqb (phaseTimes times p .late) 0)
+  where
+    step : (t : Bool) → Open (if t then MinimumGreen else LateStart)
+    step true = (refl, refl)
+    step false = (refl, refl)
+
+module _ (count : ℕ) (times : Times) (next : Held) (position : Position) (valid : ValidPosition count position) where
+  -- another interval of the same phase, with a target that fits it
+  entering-valid :
+      (interval : Interval) (target : Held) →
+      targetValid count (position .phase) (isLeaving interval) target ≡ true →
+      ValidPosition count (entering interval target position)
+  unfolding entering
+  entering-valid interval target h = record { phase = valid .phase; target = h; came = valid .came; age = new-aged }
+
+  -- a phase that exists starts
+  starting-valid : (p : ℕ) (came : Held) → p < count → cameValid count came ≡ true → ValidPosition count (starting times p came)
+  unfolding starting targetValid
+  starting-valid p came h c = record { phase = h; target = rw (start-open times p came .1); came = c; age = new-aged }
+
+  following-valid :
+      (interval : Interval) →
+      position .interval ≡ interval →
+      (isRunning interval ≡ true → targetValid count (position .phase) true next ≡ true) →
+      ValidPosition count (following interval times next position)
+  unfolding following targetValid cameValid isRunning isLeaving
+  following-valid StartRed e h = starting-valid (position .phase) (position .came) (valid .phase) (valid .came)
+  following-valid LateStart e h = entering-valid MinimumGreen Nothing refl
+  following-valid MinimumGreen e h = entering-valid Running Nothing refl
+  following-valid Running e h = entering-valid Yellow next (h refl)
+  following-valid Yellow e h = entering-valid AllRed (position .target) (rw e at (valid .target))
+  following-valid AllRed e h =
+      starting-valid
+      (phaseHeld (position .target))
+      (Phase (position .phase))
+      (target-below count (position .phase) (position .target) (rw e at (valid .target)))
+      (lt-ltb (position .phase) count (valid .phase))
+
+  staying-valid : ValidPosition count (staying position)
+  unfolding staying
+  staying-valid =
+      record { phase = valid .phase; target = valid .target; came = valid .came; age = older-aged (position .age) (valid .age) }
+
+  after-valid :
+      (ended : Bool) →
+      (ended ≡ true → isRunning (position .interval) ≡ true → targetValid count (position .phase) true next ≡ true) →
+      ValidPosition count (positionAfter ended times next position)
+  unfolding positionAfter
+  after-valid true h = following-valid (position .interval) refl (h refl)
+  after-valid false h = staying-valid
+
+-- running ends only where another phase is demanded
+running-ends :
+    (interval : Interval) (start : ℕ) (times : PhaseTimes) (age : ℕ) (another : Bool) (movements : List Movement) (counts : Counts) →
+    isRunning interval ≡ true →
+    ends interval start times age another movements counts ≡ true →
+    another ≡ true
+unfolding isRunning ends
+running-ends Running start times age another movements counts r h = and-left another _ (and-left _ _ h)
+running-ends StartRed start times age another movements counts r h = absurd (false≢true r)
+running-ends LateStart start times age another movements counts r h = absurd (false≢true r)
+running-ends MinimumGreen start times age another movements counts r h = absurd (false≢true r)
+running-ends Yellow start times age another movements counts r h = absurd (false≢true r)
+running-ends AllRed start times age another movements counts r h = absurd (false≢true r)
+
+pub next-position : (site : Site) (s : State) (inputs : ℕ) → ValidState site s → ValidPosition (site .size .phases) (now site s inputs)
+unfolding now ended
+next-position site s inputs v =
+    after-valid (site .size .phases) (site .times) (nextDemanded site s inputs) (s .position) (position-told site s v) (ended site s inputs)
+    (λ e r. rw (running-ends _ _ _ _ (another site s inputs) _ _ r e) at (next-valid site s inputs))

@@ -1,0 +1,108 @@
+-- A movement record by its stage: an idle one at age 1 is valid at every position, and part 2, which lets a stage run on or gives
+-- way to the next, keeps a record valid at the position that the state has.
+use Prim.Native.Nat.{ℕ}
+use mathlib.Core.Bool.{Bool, true, false}
+use mathlib.Core.Path.{_≡_, refl, sym, subst}
+use lib.Dec.{leb}
+use Rattle.rules.specs.declared.site.Site.{Site}
+use Rattle.rules.specs.declared.site.WalkTimes.{WalkTimes}
+use Rattle.rules.specs.declared.state.Movement.{Movement}
+use Rattle.rules.specs.declared.state.Position.{Position}
+use Rattle.rules.specs.declared.state.Stage.{Stage}
+use Rattle.rules.specs.declared.state.Stage.the-variants.{Idle, Walk, ClearanceOne, ClearanceTwo}
+use Rattle.rules.specs.Rows.{if_then_else_}
+use Rattle.rules.specs.Intervals.{isIdle, isWalkOrFirst, isSecond}
+use Rattle.rules.specs.Movements.{older, lasting, advanced}
+use Rattle.rules.proofs.Tests.{never-both}
+use Rattle.proof_runs.proofs.ValidStates.{Aged, ValidMovement}
+use Rattle.proof_validity.proofs.Positions.{older-aged, new-aged}
+
+-- ── Stages ──
+
+idle-not-walking : (stage : Stage) → isIdle stage ≡ true → isWalkOrFirst stage ≡ false
+unfolding isIdle isWalkOrFirst
+idle-not-walking Idle h = refl
+idle-not-walking Walk h = sym h
+idle-not-walking ClearanceOne h = sym h
+idle-not-walking ClearanceTwo h = refl
+
+-- a movement in no walk and no clearance is idle
+pub cleared-idle : (stage : Stage) → isWalkOrFirst stage ≡ false → isSecond stage ≡ false → isIdle stage ≡ true
+unfolding isIdle isWalkOrFirst isSecond
+cleared-idle Idle w c = refl
+cleared-idle Walk w c = sym w
+cleared-idle ClearanceOne w c = sym w
+cleared-idle ClearanceTwo w c = sym c
+
+-- a movement that is idle at age 1 is valid at every position
+pub idle-valid :
+    (site : Site) (position : Position) (k : ℕ) (m : Movement) → isIdle (m .stage) ≡ true → m .age ≡ 1 → ValidMovement site position k m
+idle-valid site position k m i e =
+    record {
+      age = subst (λ (age : ℕ). Aged age) (sym e) new-aged;
+      ofPhase = λ q. absurd (never-both i q);
+      leaving = λ q. idle-not-walking (m .stage) i;
+      startRed = λ q. i;
+      idleAge = λ q. e;
+    }
+
+-- ── Part 2 of a step ──
+
+module _ (site : Site) (position : Position) (k : ℕ) where
+  -- a stage that is not idle runs on
+  on-valid :
+      (stage : Stage) (age : ℕ) →
+      isIdle stage ≡ false →
+      ValidMovement site position k (record { stage = stage; age = age }) →
+      ValidMovement site position k (record { stage = stage; age = older age })
+  on-valid stage age busy v =
+      record {
+        age = older-aged age (v .age);
+        ofPhase = v .ofPhase;
+        leaving = v .leaving;
+        startRed = v .startRed;
+        idleAge = λ q. absurd (never-both q busy);
+      }
+
+  -- a stage that is not idle gives way to the next
+  way-valid :
+      (stage next : Stage) (age : ℕ) →
+      isIdle stage ≡ false →
+      (isWalkOrFirst stage ≡ false → isWalkOrFirst next ≡ false) →
+      ValidMovement site position k (record { stage = stage; age = age }) →
+      ValidMovement site position k (record { stage = next; age = 1 })
+  way-valid stage next age busy out v =
+      record {
+        age = new-aged;
+        ofPhase = λ q. v .ofPhase busy;
+        leaving = λ q. out (v .leaving q);
+        startRed = λ q. absurd (never-both (v .startRed q) busy);
+        idleAge = λ q. refl;
+      }
+
+  -- one or the other, by its age
+  lasting-valid :
+      (setting : ℕ) (stage next : Stage) (age : ℕ) →
+      isIdle stage ≡ false →
+      (isWalkOrFirst stage ≡ false → isWalkOrFirst next ≡ false) →
+      ValidMovement site position k (record { stage = stage; age = age }) →
+      ValidMovement site position k (lasting setting stage next age)
+  unfolding lasting
+  lasting-valid setting stage next age busy out v = step (leb setting age)
+    where
+      step :
+          (t : Bool) →
+          ValidMovement site position k (if t then record { stage = next; age = 1 } else record { stage = stage; age = older age })
+      step true = way-valid stage next age busy out v
+      step false = on-valid stage age busy v
+
+  -- part 2 keeps a movement valid at the position that the state has
+  pub advanced-valid :
+      (stage : Stage) (times : WalkTimes) (age : ℕ) →
+      ValidMovement site position k (record { stage = stage; age = age }) →
+      ValidMovement site position k (advanced stage times age)
+  unfolding advanced isIdle isWalkOrFirst
+  advanced-valid Idle times age v = v
+  advanced-valid Walk times age v = lasting-valid (times .walk) Walk ClearanceOne age refl (λ h. h) v
+  advanced-valid ClearanceOne times age v = lasting-valid (times .first) ClearanceOne ClearanceTwo age refl (λ h. refl) v
+  advanced-valid ClearanceTwo times age v = lasting-valid (times .second) ClearanceTwo Idle age refl (λ h. h) v
