@@ -1,0 +1,7 @@
+pub mod Shown
+pub mod Greens
+pub mod VehicleColours
+pub mod Vehicles
+pub mod Pedestrians
+pub mod Countdowns
+pub mod Clearances
