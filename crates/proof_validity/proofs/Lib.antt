@@ -1,4 +1,3 @@
-pub mod Ring
 pub mod Positions
 pub mod Counts
 pub mod Demands

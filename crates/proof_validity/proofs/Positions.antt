@@ -2,7 +2,7 @@
 -- the target is chosen when running ends, among the other phases of the ring. Where it does not end, only the age rises.
 use Prim.Native.Nat.{ℕ, _<_}
 use mathlib.Core.Bool.{Bool, true, false, not, false≢true}
-use mathlib.Core.List.{List, _++_}
+use mathlib.Core.List.{List}
 use mathlib.Core.Path.{_≡_, refl}
 use native.Mathlib.Omega.{arith}
 use lib.Dec.{ltb, eqb}
@@ -22,13 +22,14 @@ use Rattle.rules.specs.Rows.{if_then_else_}
 use Rattle.rules.specs.Site.{phaseTimes, ring}
 use Rattle.rules.specs.Intervals.{isStartRed, isRunning, isLeaving, isHeld, phaseHeld}
 use Rattle.rules.specs.State.{targetValid, cameValid}
-use Rattle.rules.specs.Demands.{demanded, after, before, firstIn, nextDemanded}
+use Rattle.rules.specs.Demands.{demanded, firstIn, nextDemanded}
 use Rattle.rules.specs.Movements.{older}
 use Rattle.rules.specs.Interval.{ends, entering, starting, following, staying, positionAfter}
 use Rattle.rules.proofs.Tests.{and-left, and-both}
 use Rattle.proof_runs.proofs.ValidStates.{Aged, ValidState}
 use Rattle.proof_runs.proofs.Steps.{another, ended, now}
-use Rattle.proof_validity.proofs.Ring.{Unlike, ring-below, ring-once, found-in-ring, found-unlike}
+use Rattle.proof_ring.proofs.Letters.{letters-below, letters-once}
+use Rattle.proof_ring.proofs.Ring.{turn, found-in, in-turn}
 
 -- what the clauses of a valid state tell of its position
 pub record ValidPosition (count : ℕ) (position : Position) : Type 0 where
@@ -53,7 +54,7 @@ new-aged = (omega arith, omega arith)
 
 module _ (count phase : ℕ) where
   -- a phase may be held as the target: it exists, and is unlike the phase that is left
-  held-valid : (t : ℕ) → t < count → Unlike phase t → targetValid count phase true (Phase t) ≡ true
+  held-valid : (t : ℕ) → t < count → (t ≡ phase → ⊥) → targetValid count phase true (Phase t) ≡ true
   unfolding targetValid
   held-valid t h u = and-both (lt-ltb t count h) (rw (ne-eqb t phase u))
 
@@ -67,24 +68,21 @@ module _ (count phase : ℕ) where
 next-valid :
     (site : Site) (s : State) (inputs : ℕ) →
     targetValid (site .size .phases) (s .position .phase) (another site s inputs) (nextDemanded site s inputs) ≡ true
-unfolding nextDemanded another isHeld targetValid
-next-valid site s inputs = step (firstIn (demanded site s inputs) others) refl
+unfolding nextDemanded another isHeld targetValid turn ring
+next-valid site s inputs = step (firstIn (demanded site s inputs) (turn (ring site) p)) refl
   where
     p : ℕ
     p = s .position .phase
 
-    others : List ℕ
-    others = after p (ring site) ++ before p (ring site)
-
     step :
         (next : Held) →
-        firstIn (demanded site s inputs) others ≡ next →
+        firstIn (demanded site s inputs) (turn (ring site) p) ≡ next →
         targetValid (site .size .phases) p (isHeld next) next ≡ true
     step Nothing e = refl
     step (Phase t) e =
-        held-valid (site .size .phases) p t
-        (found-in-ring p (ring site) (demanded site s inputs) t e (λ q. q < site .size .phases) (ring-below site))
-        (found-unlike p (ring site) (demanded site s inputs) t e (ring-once site))
+        let found = found-in (demanded site s inputs) (turn (ring site) p) e in
+        let other = in-turn p (letters-once (site .size .phases)) (found .0) in
+        held-valid (site .size .phases) p t (letters-below (site .size .phases) t (other .0)) (other .1)
 
 -- ── The interval ends, or it stays ──
 
