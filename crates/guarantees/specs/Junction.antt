@@ -1,0 +1,30 @@
+-- Demand 3 read at the junction of two phases of document 01: what it says of a real site, in numbers.
+use Prim.Native.Nat.{ℕ, _≤_}
+use mathlib.Core.Bool.{true}
+use mathlib.Core.List.{List, _∷_, _++_}
+use mathlib.Core.Path.{_≡_}
+use lib.ListN.{length}
+use Rattle.rules.specs.Site.{siteOf}
+use Rattle.rules.specs.State.{fresh}
+use Rattle.rules.specs.Demands.{registersLock}
+use Rattle.rules.specs.Colours.{green}
+use Rattle.rules.specs.Runs.{Call, Taken, stepsFrom, shows, comesWithin, minimumGreenBegins}
+use Rattle.rules.specs.Junctions.{junction}
+
+-- Whatever the calls: the two groups are never green together.
+unfoldable pub NeverTogether : Type 0
+NeverTogether =
+    (calls : List Call) (earlier later : List Taken) (step : Taken) →
+    stepsFrom junction fresh calls ≡ earlier ++ step ∷ later →
+    shows step 0 ≡ green →
+    shows step 1 ≡ green →
+    ⊥
+
+-- Whatever the calls: where a step registers a locked demand of B, B's minimum green begins in it or within 270 further steps, 27 s.
+unfoldable pub MetIn270 : Type 0
+MetIn270 =
+    (calls : List Call) (earlier later : List Taken) (step : Taken) →
+    stepsFrom junction fresh calls ≡ earlier ++ step ∷ later →
+    270 ≤ length later →
+    registersLock (siteOf junction) (step .before) (step .inputs) 1 ≡ true →
+    comesWithin 270 (minimumGreenBegins 1) step later ≡ true
