@@ -18,8 +18,8 @@ demand-three b accepted calls =
     let sound = accepted-is-sound b accepted in
     let steps = stepsFrom b fresh calls in
     let chain = chained b fresh calls in
-    record
-    { noConflictingGreens = no-conflicting-greens step-keeps-valid site sound steps chain
-    ; fullClearances = full-clearances step-keeps-valid site sound steps chain
-    ; demandsMet = demands-met step-keeps-valid site sound steps chain
+    record {
+      noConflictingGreens = no-conflicting-greens step-keeps-valid site sound steps chain;
+      fullClearances = full-clearances step-keeps-valid site sound steps chain;
+      demandsMet = demands-met step-keeps-valid site sound steps chain;
     }

@@ -41,6 +41,6 @@ pub met-in-270 : MetIn270
 unfolding MetIn270 DemandThree DemandsMet
 met-in-270 calls earlier later step e long registered =
     let met =
-            demand-three junction junction-accepted calls .demandsMet earlier later step e
-            (subst (λ (n : ℕ). n ≤ length later) (sym junction-bound) long) in
+    demand-three junction junction-accepted calls .demandsMet earlier later step e
+    (subst (λ (n : ℕ). n ≤ length later) (sym junction-bound) long) in
     subst (λ (n : ℕ). comesWithin n (minimumGreenBegins 1) step later ≡ true) junction-bound (met .0 1 registered)

@@ -18,6 +18,7 @@ pub mod WaitBound
 pub mod Call
 pub mod Runs
 pub mod Laws
+pub mod TraceText
 pub mod Traces
 pub mod Junctions
 pub mod Cases

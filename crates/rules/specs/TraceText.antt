@@ -1,0 +1,19 @@
+-- What the trace program prints, in ASCII: the header, and of each line what follows the step's number.
+use Prim.Native.Nat.{ℕ, _+_}
+use mathlib.Core.List.{List, [], _∷_, _++_, map}
+use lib.ListN.{getD}
+use Rattle.rules.specs.declared.state.Position.{Position}
+use Rattle.rules.specs.Intervals.{letterOf}
+
+-- A to G
+unfoldable pub phaseLetter : ℕ → ℕ
+phaseLetter p = 65 + p
+
+-- R, Y, G, F by colour code; any other code, which no step writes, as R
+unfoldable pub colourLetter : ℕ → ℕ
+colourLetter code = getD (82 ∷ 89 ∷ 71 ∷ 70 ∷ []) code 82
+
+-- a space, the phase, a space, the interval, a space, one letter a group, and the line's end
+unfoldable pub lineTail : Position → List ℕ → List ℕ
+lineTail position colours =
+    (32 ∷ phaseLetter (position .phase) ∷ 32 ∷ letterOf (position .interval) ∷ 32 ∷ []) ++ map colourLetter colours ++ (10 ∷ [])

@@ -1,0 +1,189 @@
+"""Document 01's reader, written from the paper in Python and independent of the proved code: it only makes vectors."""
+
+RANGES = {
+    "start": (10, 150),
+    "L": (0, 200), "M": (10, 400), "X": (10, 1500), "G": (0, 100), "Y": (30, 100), "R": (10, 150),
+    "W": (10, 400), "C1": (1, 400), "C2": (1, 400),
+}
+PHASE_FIELDS = ("L", "M", "X", "G", "Y", "R")
+WALK_FIELDS = ("W", "C1", "C2")
+
+
+class Refusal(Exception):
+    def __init__(self, number, place):
+        super().__init__(number, place)
+        self.number, self.place = number, place
+
+
+def number(data, at, size):
+    return int.from_bytes(data[at:at + size], "little")
+
+
+class Reader:
+    """Goes through the bytes from top to bottom and raises the first refusal."""
+
+    def __init__(self, data):
+        self.data, self.at = data, 0
+
+    def head(self, kind, length_fits):
+        """Checks a section head and that the body is there; answers the head's place and the body's length."""
+        head = self.at
+        if len(self.data) - head < 4:
+            raise Refusal(1, head)
+        length, found = number(self.data, head, 2), number(self.data, head + 2, 2)
+        if found != kind:
+            raise Refusal(2, head)
+        if not length_fits(length):
+            raise Refusal(3, head)
+        if len(self.data) - head - 4 < length:
+            raise Refusal(1, head)
+        self.at = head + 4 + length
+        return head, length
+
+    def time(self, at, name):
+        value = number(self.data, at, 2)
+        low, high = RANGES[name]
+        if not low <= value <= high:
+            raise Refusal(5, at)
+
+    def site(self):
+        head, _ = self.head(1, lambda n: n == 4)
+        self.phases, self.groups = self.data[head + 4], self.data[head + 5]
+        if not 2 <= self.phases <= 7:
+            raise Refusal(4, head + 4)
+        if not 1 <= self.groups <= 32:
+            raise Refusal(4, head + 5)
+        self.time(head + 6, "start")
+
+    def phase_records(self):
+        head, _ = self.head(2, lambda n: n == 12 * self.phases)
+        for p in range(self.phases):
+            for i, name in enumerate(PHASE_FIELDS):
+                self.time(head + 4 + 12 * p + 2 * i, name)
+
+    def group_records(self):
+        head, _ = self.head(3, lambda n: n == 2 * self.groups)
+        self.sets, pedestrians = [], 0
+        for g in range(self.groups):
+            at = head + 4 + 2 * g
+            members, mark = self.data[at], self.data[at + 1]
+            if members >> self.phases or mark > 2 or (mark == 2 and bin(members).count("1") != 1):
+                raise Refusal(6, at)
+            if mark == 2:
+                pedestrians += 1
+                if pedestrians == 9:
+                    raise Refusal(7, at)
+            self.sets.append(members)
+        self.pedestrians = pedestrians
+        union = 0
+        for members in self.sets:
+            union |= members
+        if union != (1 << self.phases) - 1:
+            raise Refusal(8, head)
+
+    def conflict_records(self):
+        head, _ = self.head(4, lambda n: n == 4 * self.groups)
+        rows = [number(self.data, head + 4 + 4 * g, 4) for g in range(self.groups)]
+        for g, row in enumerate(rows):
+            others = [j for j in range(32) if row >> j & 1]
+            if any(j == g or j >= self.groups or not rows[j] >> g & 1 for j in others):
+                raise Refusal(9, head + 4 + 4 * g)
+        for g, row in enumerate(rows):
+            if any(row >> j & 1 and self.sets[g] & self.sets[j] for j in range(self.groups)):
+                raise Refusal(10, head + 4 + 4 * g)
+
+    def detector_records(self):
+        head, length = self.head(5, lambda n: n % 2 == 0 and n <= 96)
+        for at in range(head + 4, head + 4 + length, 2):
+            if self.data[at] >= self.phases or self.data[at + 1] not in (0, 1, 2, 4, 5, 6):
+                raise Refusal(11, at)
+
+    def pedestrian_records(self):
+        head, _ = self.head(6, lambda n: n == 6 * self.pedestrians)
+        for k in range(self.pedestrians):
+            for i, name in enumerate(WALK_FIELDS):
+                self.time(head + 4 + 6 * k + 2 * i, name)
+
+    def leftover(self):
+        if self.at < len(self.data):
+            raise Refusal(12, self.at)
+
+
+def verdict(data):
+    """Number and place; 0 at 0 where the bytes are accepted."""
+    reader = Reader(data)
+    try:
+        for part in (reader.site, reader.phase_records, reader.group_records, reader.conflict_records,
+                     reader.detector_records, reader.pedestrian_records, reader.leftover):
+            part()
+    except Refusal as refusal:
+        return refusal.number, refusal.place
+    return 0, 0
+
+
+# ── Building personalities ──
+
+def section(kind, body):
+    return len(body).to_bytes(2, "little") + kind.to_bytes(2, "little") + body
+
+
+def twos(values):
+    return b"".join(v.to_bytes(2, "little") for v in values)
+
+
+def build(start, phases, groups, conflicts, detectors, walks):
+    """phases: rows of six times; groups, detectors: pairs; conflicts: a set of pairs of groups; walks: rows of three times."""
+    rows = [0] * len(groups)
+    for g, j in conflicts:
+        rows[g] |= 1 << j
+        rows[j] |= 1 << g
+    return (section(1, bytes([len(phases), len(groups)]) + twos([start]))
+            + section(2, b"".join(twos(row) for row in phases))
+            + section(3, bytes(v for pair in groups for v in pair))
+            + section(4, b"".join(row.to_bytes(4, "little") for row in rows))
+            + section(5, bytes(v for pair in detectors for v in pair))
+            + section(6, b"".join(twos(row) for row in walks)))
+
+
+def junction():
+    """The junction of two phases of document 01."""
+    row = (0, 20, 30, 5, 30, 10)
+    return build(10, [row, row], [(1, 0), (2, 0)], {(0, 1)}, [(0, 6), (1, 6)], [])
+
+
+def conflicts_of(groups):
+    """Every pair of groups that shares no phase."""
+    return {(g, j) for g in range(len(groups)) for j in range(g) if not groups[g][0] & groups[j][0]}
+
+
+def largest():
+    """7 phases, 32 groups, 48 detectors, 8 movements, every setting the highest."""
+    groups = [(1 << g % 7, 2 if g < 8 else g % 2) for g in range(32)]
+    return build(150, [(200, 400, 1500, 100, 100, 150)] * 7, groups, conflicts_of(groups),
+                 [(d % 7, (0, 1, 2, 4, 5, 6)[d % 6]) for d in range(48)], [(400, 400, 400)] * 8)
+
+
+def random_site(rng):
+    """An accepted personality of any size, its settings drawn from the whole of each range."""
+    phases = rng.randint(2, 7)
+    count = rng.randint(max(1, phases // 2), 32)
+    groups, pedestrians = [], 0
+    for g in range(count):
+        if pedestrians < 8 and rng.random() < 0.25:
+            groups.append((1 << rng.randrange(phases), 2))
+            pedestrians += 1
+        else:
+            groups.append((rng.randrange(1 << phases), rng.randrange(2)))
+    missing = (1 << phases) - 1
+    for members, _ in groups:
+        missing &= ~members
+    if missing:
+        vehicle = next((g for g in range(count) if groups[g][1] != 2), None)
+        if vehicle is None:
+            return random_site(rng)
+        groups[vehicle] = (groups[vehicle][0] | missing, groups[vehicle][1])
+    conflicts = {pair for pair in conflicts_of(groups) if rng.random() < 0.6}
+    draw = lambda name: rng.choice((RANGES[name][0], RANGES[name][1], rng.randint(*RANGES[name])))
+    return build(draw("start"), [tuple(draw(n) for n in PHASE_FIELDS) for _ in range(phases)], groups, conflicts,
+                 [(rng.randrange(phases), rng.choice((0, 1, 2, 4, 5, 6))) for _ in range(rng.randint(0, 48))],
+                 [tuple(draw(n) for n in WALK_FIELDS) for _ in range(pedestrians)])
