@@ -1,13 +1,13 @@
 -- What the trace program prints, in ASCII: the header, and of each line what follows the step's number.
-use Prim.Native.Nat.{ℕ, _+_}
+use Prim.Native.Nat.{ℕ}
 use mathlib.Core.List.{List, [], _∷_, _++_, map}
 use lib.ListN.{getD}
 use Rattle.rules.specs.declared.state.Position.{Position}
 use Rattle.rules.specs.Intervals.{letterOf}
 
--- A to G
+-- A to G; a phase that no site has, and so no step gives, as a question mark
 unfoldable pub phaseLetter : ℕ → ℕ
-phaseLetter p = 65 + p
+phaseLetter p = getD (65 ∷ 66 ∷ 67 ∷ 68 ∷ 69 ∷ 70 ∷ 71 ∷ []) p 63
 
 -- R, Y, G, F by colour code; any other code, which no step writes, as R
 unfoldable pub colourLetter : ℕ → ℕ
