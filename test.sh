@@ -1,5 +1,6 @@
 #!/usr/bin/env bash
-# Passes everything: layout, then every crate proved from nothing, every must-fail edit refused and every program run.
+# Passes everything: layout; every crate proved from nothing, every must-fail edit refused and every program run; the edits of the
+# rules that a theorem must refuse.
 # The last line is `N passed, M failed`; the exit status is 0 only where M is 0.
 set -u
 cd "$(dirname "$0")" || exit 2
@@ -34,6 +35,10 @@ else
     failed=$((failed + 1))
 fi
 if [ "$status" -ne 0 ] && [ "$failed" -eq 0 ]; then failed=1; fi
+
+for edit in edits/*.edit; do
+    check "$edit" edits/run.sh "$(basename "$edit" .edit)"
+done
 
 echo "$passed passed, $failed failed"
 [ "$failed" -eq 0 ]

@@ -6,9 +6,8 @@ use mathlib.Core.Path.{_≡_}
 use lib.ListN.{length}
 use Rattle.rules.specs.Site.{siteOf}
 use Rattle.rules.specs.State.{fresh}
-use Rattle.rules.specs.Demands.{registersLock}
 use Rattle.rules.specs.Colours.{green}
-use Rattle.rules.specs.Runs.{Call, Taken, stepsFrom, shows, comesWithin, minimumGreenBegins}
+use Rattle.rules.specs.Runs.{Call, Taken, stepsFrom, shows, comesWithin, minimumGreenBegins, registersLocked}
 use Rattle.rules.specs.Junctions.{junction}
 
 -- Whatever the calls: the two groups are never green together.
@@ -26,5 +25,5 @@ MetIn270 =
     (calls : List Call) (earlier later : List Taken) (step : Taken) →
     stepsFrom junction fresh calls ≡ earlier ++ step ∷ later →
     270 ≤ length later →
-    registersLock (siteOf junction) (step .before) (step .inputs) 1 ≡ true →
+    registersLocked (siteOf junction) step 1 ≡ true →
     comesWithin 270 (minimumGreenBegins 1) step later ≡ true

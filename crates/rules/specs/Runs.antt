@@ -13,9 +13,9 @@ use Rattle.rules.specs.declared.state.State.{State}
 use Rattle.rules.specs.Rows.{if_then_else_}
 use Rattle.rules.specs.Personality.{verdictOf}
 use Rattle.rules.specs.Site.{siteOf, phaseTimes, walkTimes, isPedestrian, movementOf, conflict}
-use Rattle.rules.specs.Intervals.{isMinimumGreen, isWalk}
+use Rattle.rules.specs.Intervals.{isMinimumGreen, isRunning, isWalk}
 use Rattle.rules.specs.State.{fresh, movement}
-use Rattle.rules.specs.Demands.{registersLock, registersButton}
+use Rattle.rules.specs.Demands.{pressed, locking, detected}
 use Rattle.rules.specs.Colours.{red, yellow, green, flashing}
 use Rattle.rules.specs.WaitBound.{waitBound}
 use Rattle.rules.specs.Call.{answerOf, bufferOf}
@@ -122,6 +122,19 @@ inMinimumGreen s p = eqb (s .position .phase) p && isMinimumGreen (s .position .
 unfoldable pub inWalk : State → ℕ → Bool
 inWalk s k = isWalk (movement s k .stage)
 
+unfoldable pub inRunning : State → ℕ → Bool
+inRunning s p = eqb (s .position .phase) p && isRunning (s .position .interval)
+
+-- A step registers a locked demand of a phase where a locking detector of it is occupied, unless the state handed in has that
+-- phase in minimum green or running.
+unfoldable pub registersLocked : Site → Taken → ℕ → Bool
+registersLocked site step p =
+    detected locking site (step .inputs) p && not (inMinimumGreen (step .before) p || inRunning (step .before) p)
+
+-- A step registers a button demand where the button is pressed, unless the state handed in has its movement in walk.
+unfoldable pub registersPressed : Taken → ℕ → Bool
+registersPressed step k = pressed (step .inputs) k && not (inWalk (step .before) k)
+
 -- minimum green of phase p begins in the step; an interval that begins was another one before
 unfoldable pub minimumGreenBegins : ℕ → Taken → Bool
 minimumGreenBegins p step = inMinimumGreen (step .after) p && not (inMinimumGreen (step .before) p)
@@ -146,11 +159,11 @@ DemandsMet site steps =
     steps ≡ earlier ++ step ∷ later →
     waitBound site ≤ length later →
     ((p : ℕ) →
-    registersLock site (step .before) (step .inputs) p ≡ true →
+    registersLocked site step p ≡ true →
     comesWithin (waitBound site) (minimumGreenBegins p) step later ≡ true)
     × ((k : ℕ) →
     k < site .size .movements →
-    registersButton (step .before) (step .inputs) k ≡ true →
+    registersPressed step k ≡ true →
     comesWithin (waitBound site) (walkBegins k) step later ≡ true)
 
 -- ── The demand ──

@@ -1,0 +1,12 @@
+pub mod Settings
+pub mod Stages
+pub mod Left
+pub mod Falls
+pub mod Moves
+pub mod Progress
+pub mod Bound
+pub mod Paths
+pub mod Locks
+pub mod Buttons
+pub mod Registers
+pub mod Waits
