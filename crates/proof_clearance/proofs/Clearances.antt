@@ -20,9 +20,9 @@ use Rattle.rules.specs.Colours.{red, yellow, green, flashing, movementColour}
 use Rattle.rules.specs.Runs.{Taken, shows, shownBy, StartsGreen, VehicleCleared, PedestrianCleared, Cleared, FullClearances}
 use Rattle.rules.specs.Laws.{Sound, SoundPhaseTimes, StepKeepsValid}
 use Rattle.proof_runs.proofs.ValidStates.{state-told}
-use Rattle.proof_runs.proofs.Chains.{Link, Chain, always}
+use Rattle.proof_runs.proofs.Chains.{Link, Chain, always, valid-after}
 use Rattle.proof_clearance.proofs.Shown.{vehicleAt, vehicle-shows, pedestrian-shows, green-walks}
-use Rattle.proof_clearance.proofs.Greens.{busy-has-phase, valid-after}
+use Rattle.proof_clearance.proofs.Greens.{busy-has-phase}
 use Rattle.proof_clearance.proofs.VehicleColours.{Leaving, leaving-member, leaving-all-red}
 use Rattle.proof_clearance.proofs.Vehicles.{YellowsLeft, in-green, yellows-member, yellows-fall, yellows-over, all-red-goes-on, red-stays}
 use Rattle.proof_clearance.proofs.Pedestrians.{next, FlashesLeft, in-walk, flashes-busy, flashes-fall, flashes-over, idle-stays, movement-after}

@@ -12,8 +12,8 @@ use Rattle.rules.specs.State.{valid}
 use Rattle.rules.specs.Colours.{red, green}
 use Rattle.rules.specs.Runs.{Taken, shows, shownBy, NeverGreen}
 use Rattle.rules.specs.Laws.{Sound, StepKeepsValid}
-use Rattle.proof_runs.proofs.Chains.{Link, Chain}
-use Rattle.proof_clearance.proofs.Greens.{valid-after, shown-has-phase, never-both-green}
+use Rattle.proof_runs.proofs.Chains.{Link, Chain, valid-after}
+use Rattle.proof_clearance.proofs.Greens.{shown-has-phase, never-both-green}
 
 -- From state s the steps lead up to `start`, and group j shows green after none of them.
 pub record Since (site : Site) (j : ℕ) (start : Taken) (later : List Taken) (s : State) (steps : List Taken) : Type 0 where

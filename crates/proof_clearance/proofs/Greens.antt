@@ -14,7 +14,7 @@ use Rattle.rules.specs.Colours.{green, colourOf}
 use Rattle.rules.specs.Runs.{Taken, shows, NoConflictingGreens}
 use Rattle.rules.specs.Laws.{Sound, StepKeepsValid}
 use Rattle.proof_runs.proofs.ValidStates.{state-told}
-use Rattle.proof_runs.proofs.Chains.{Link, Chain, always}
+use Rattle.proof_runs.proofs.Chains.{Link, Chain, always, valid-after}
 use Rattle.proof_clearance.proofs.Shown.{vehicle-colour, pedestrian-colour, green-of-phase, green-walks}
 
 -- ── Valid states ──
@@ -43,10 +43,6 @@ module _ (site : Site) (sound : Sound site) (s : State) (sane : valid site s ≡
 
 module _ (keeps : StepKeepsValid) (site : Site) (sound : Sound site) where
   -- the state after an accepted step is valid
-  pub valid-after : (s : State) (step : Taken) → Link site s step → valid site (step .after) ≡ true
-  unfolding StepKeepsValid
-  valid-after s step link = rw (link .after) (keeps site sound s (step .inputs) (link .valid) (link .wired))
-
   -- a group that shows green after an accepted step is of the phase then reached
   pub shown-has-phase :
       (s : State) (step : Taken) →
@@ -56,7 +52,7 @@ module _ (keeps : StepKeepsValid) (site : Site) (sound : Sound site) where
       shows step g ≡ green →
       inPhase site g (step .after .position .phase) ≡ true
   shown-has-phase s step link g within e =
-      green-has-phase site sound (step .after) (valid-after s step link) g within (sym (link .shown g within) ∙ e)
+      green-has-phase site sound (step .after) (valid-after keeps site sound s step link) g within (sym (link .shown g within) ∙ e)
 
   -- after an accepted step no two conflicting groups show green
   pub never-both-green :

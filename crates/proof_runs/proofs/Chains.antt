@@ -19,6 +19,7 @@ use Rattle.rules.specs.State.{valid}
 use Rattle.rules.specs.Step.{stepped}
 use Rattle.rules.specs.Colours.{colourOf, coloursOf}
 use Rattle.rules.specs.Call.{strayInput, stepVerdict, callVerdict, answerFor, bufferFor, answerOf, bufferOf}
+use Rattle.rules.specs.Laws.{Sound, StepKeepsValid}
 use Rattle.rules.specs.Runs.{Call, Taken, ifStepped, stepsFrom, shows, someStep}
 use Rattle.rules.proofs.Tests.{or-left, or-right}
 use Rattle.rules.proofs.Rows.{list-length, list-at}
@@ -37,6 +38,12 @@ pub record Link (site : Site) (s : State) (step : Taken) : Type 0 where
 abbrev pub Chain : Site → State → List Taken → Type 0
 Chain site s [] = Unit {0}
 Chain site s (step ∷ later) = Link site s step × Chain site (step .after) later
+
+-- a step that keeps valid states leads to one
+pub valid-after :
+    StepKeepsValid → (site : Site) → Sound site → (s : State) (step : Taken) → Link site s step → valid site (step .after) ≡ true
+unfolding StepKeepsValid
+valid-after keeps site sound s step link = rw (link .after) (keeps site sound s (step .inputs) (link .valid) (link .wired))
 
 -- the colours stand before the bytes that are left untouched
 front-shown :

@@ -74,15 +74,15 @@ module _ (site : Site) (s : State) (inputs : ℕ) where
   unfolding stepped timesNow another counted ended now
   counts-of = refl
 
-  moved-at : (k : ℕ) → k < 8 → getD (movementsAfter (site .times) s) k idle ≡ moved k
+  pub moved-at : (k : ℕ) → k < 8 → getD (movementsAfter (site .times) s) k idle ≡ moved k
   unfolding movementsAfter moved
   moved-at k h = list-at (λ (k : ℕ). advanced (movement s k .stage) (walkTimes (site .times) k) (movement s k .age)) 8 k idle h
 
-  asked-at : (k : ℕ) → k < 8 → getD (demandsAfter site s inputs .buttons) k false ≡ askedNow k
+  pub asked-at : (k : ℕ) → k < 8 → getD (demandsAfter site s inputs .buttons) k false ≡ askedNow k
   unfolding demandsAfter askedNow
   asked-at k h = list-at (λ (k : ℕ). asked s k || registersButton s inputs k) 8 k false h
 
-  locked-at : (p : ℕ) → p < 7 → getD (demandsAfter site s inputs .locks) p false ≡ lockedNow p
+  pub locked-at : (p : ℕ) → p < 7 → getD (demandsAfter site s inputs .locks) p false ≡ lockedNow p
   unfolding demandsAfter lockedNow
   locked-at p h = list-at (λ (p : ℕ). locked s p || registersLock site s inputs p) 7 p false h
 
