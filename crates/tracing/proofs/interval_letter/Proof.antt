@@ -47,4 +47,18 @@ unfolding letterOf
 returns-6 c = rw (c .enum-told6 .given .1)
 
 pub interval-letter-spec : {M : Type 1} → statement M
-interval-letter-spec = tie.close (tie.spec enum-told enum-told-2 enum-told-3 enum-told-4 enum-told-5 enum-told-6 returns returns-2 returns-3 returns-4 returns-5 returns-6)
+interval-letter-spec =
+    tie.close
+    (tie.spec
+    enum-told
+    enum-told-2
+    enum-told-3
+    enum-told-4
+    enum-told-5
+    enum-told-6
+    returns
+    returns-2
+    returns-3
+    returns-4
+    returns-5
+    returns-6)

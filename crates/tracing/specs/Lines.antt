@@ -1,0 +1,35 @@
+-- What goes into a trace and comes out of it: the input bits of a step record, and a buffer with a line's text at its start.
+use Prim.Native.Nat.{ℕ, _+_, _*_, _≤_}
+use mathlib.Core.List.{List, [], _∷_, _++_, map}
+use mathlib.Core.Path.{_≡_}
+use lib.Dec.{leb}
+use lib.ListN.{length, take, drop}
+use Rattle.rules.specs.declared.state.Position.{Position}
+use Rattle.rules.specs.Bytes.{fourAt}
+use Rattle.rules.specs.Intervals.{letterOf}
+use Rattle.rules.specs.Rows.{if_then_else_}
+use Rattle.rules.specs.TraceText.{phaseLetter, colourLetter, lineTail}
+
+-- the 64 input bits in the 8 bytes of a step record
+unfoldable pub inputsOf : List ℕ → ℕ
+inputsOf b = fourAt b 0 + 4294967296 * fourAt b 4
+
+-- the two parts of a line's tail: up to the groups' letters, and from there on
+unfoldable pub leading : Position → List ℕ
+leading position = 32 ∷ phaseLetter (position .phase) ∷ 32 ∷ letterOf (position .interval) ∷ 32 ∷ []
+
+unfoldable pub shown : List ℕ → List ℕ
+shown colours = map colourLetter colours ++ (10 ∷ [])
+
+-- the tail's length, or 0 where a buffer has no room for it
+unfoldable pub tailLength : ℕ → ℕ → ℕ
+tailLength groups room = if leb (groups + 6) room then groups + 6 else 0
+
+-- the buffer with the tail at its start and its other bytes as they were; as it was where it has no room
+unfoldable pub tailOf : Position → List ℕ → List ℕ → List ℕ
+tailOf position colours out =
+    if leb (length colours + 6) (length out) then lineTail position colours ++ drop (length colours + 6) out else out
+
+-- n counts bytes at the start of a buffer, said in both ways that lending them asks for
+abbrev pub Counted : ℕ → List ℕ → Type 0
+Counted n buffer = (n ≤ length buffer) × (n ≡ length (take n buffer))
