@@ -1,0 +1,4 @@
+pub mod Firsts
+pub mod GroupChecks
+pub mod Records
+pub mod Sets

@@ -1,0 +1,54 @@
+use Rattle.personality.proofs.Firsts.{or-next, or-stop}
+use Rattle.rules.specs.Personality.{bodyLength, detectorsHead, sectionAt, detectorsSection}
+use lib.Dec.{eqb, leb}
+use mathlib.Core.Path.{_≡_}
+use mathlib.Core.Bool.{_&&_}
+use Prim.Native.Nat.{_%_}
+use borrow.Author.Needs.{needs}
+use Rattle.personality.proofs.detectors.detectors_section.Statement.{statement}
+use Rattle.personality.proofs.detectors.detectors_section.Tie as tie
+
+detectors-head-requires : tie.Need-detectors-head-requires
+detectors-head-requires c κs = search needs
+
+two-requires : tie.Need-two-requires
+two-requires c κs = search needs
+
+section-requires : tie.Need-section-requires
+section-requires c κs = search needs
+
+enum-told : tie.Need-enum-told
+enum-told c = search needs
+
+returns : tie.Need-returns
+unfolding detectorsSection bodyLength
+returns c =
+    let b = c .before .before .before .before .before .before .args .s .now in
+    let checked : c .before .before .section .result ≡ sectionAt b (detectorsHead b) 5 (eqb (bodyLength b (detectorsHead b) % 2) 0 && leb (bodyLength b (detectorsHead b)) 96) = cc in
+    or-stop _ checked (c .enum-told .given .1)
+
+enum-told-2 : tie.Need-enum-told-2
+enum-told-2 c = search needs
+
+detector-records-requires : tie.Need-detector-records-requires
+detector-records-requires c κs = search needs
+
+returns-2 : tie.Need-returns-2
+unfolding detectorsSection bodyLength
+returns-2 c =
+    let b = c .before .before .before .before .before .before .before .args .s .now in
+    let checked : c .before .before .before .section .result ≡ sectionAt b (detectorsHead b) 5 (eqb (bodyLength b (detectorsHead b) % 2) 0 && leb (bodyLength b (detectorsHead b)) 96) = cc in
+    or-next checked (c .before .enum-told2 .given .1) (c .detector-records .ensures)
+
+pub detectors-section-spec : {M : Type 1} → statement M
+detectors-section-spec =
+    tie.close
+    (tie.spec
+    detectors-head-requires
+    two-requires
+    section-requires
+    enum-told
+    returns
+    enum-told-2
+    detector-records-requires
+    returns-2)

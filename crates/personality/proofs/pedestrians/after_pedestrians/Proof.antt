@@ -1,0 +1,52 @@
+use lib.ListN.{length}
+use Rattle.personality.proofs.Firsts.{refuse-yes, refuse-no}
+use Rattle.rules.specs.Personality.{bodyAt, endOf, afterPedestrians}
+use Rattle.rules.specs.declared.answer.Verdict.the-variants.{Refused}
+use borrow.Author.Tests.{lt-ltb, le-ltb}
+use native.Mathlib.Omega.{arith}
+use mathlib.Core.Path.{_≡_, ap, sym, _∙_}
+use Prim.Native.Nat.{_+_, _*_}
+use borrow.Author.Needs.{needs}
+use Rattle.personality.proofs.pedestrians.after_pedestrians.Statement.{statement}
+use Rattle.personality.proofs.pedestrians.after_pedestrians.Tie as tie
+
+pedestrians-head-requires : tie.Need-pedestrians-head-requires
+pedestrians-head-requires c κs = search needs
+
+add-end : tie.Need-add-end
+add-end c = search needs
+
+movement-count-requires : tie.Need-movement-count-requires
+movement-count-requires c κs = search needs
+
+mul-end : tie.Need-mul-end
+mul-end c = search needs
+
+add-end-2 : tie.Need-add-end-2
+add-end-2 c = search needs
+
+returns : tie.Need-returns
+unfolding afterPedestrians endOf bodyAt
+returns c =
+    let b = c .before .before .before .before .args .s .now in
+    let at : c .before .before .pedestrians-head .result + 4 + c .before .movement-count .result * 6 ≡ endOf b = omega arith in
+    ap (Refused 12) at ∙ refuse-yes 12 _ (lt-ltb (endOf b) (length b) (omega arith))
+
+returns-2 : tie.Need-returns-2
+unfolding afterPedestrians endOf bodyAt
+returns-2 c =
+    let b = c .before .before .before .before .args .s .now in
+    let at : c .before .before .pedestrians-head .result + 4 + c .before .movement-count .result * 6 ≡ endOf b = omega arith in
+    sym (refuse-no 12 _ (le-ltb (endOf b) (length b) (omega arith)))
+
+pub after-pedestrians-spec : {M : Type 1} → statement M
+after-pedestrians-spec =
+    tie.close
+    (tie.spec
+    pedestrians-head-requires
+    add-end
+    movement-count-requires
+    mul-end
+    add-end-2
+    returns
+    returns-2)

@@ -1,0 +1,50 @@
+// Unit one: reading a personality. The checks go from top to bottom, section by section, and the first refusal is the answer.
+ghost use mathlib.Core.Path.{_≡_};
+ghost use Rattle.rules.specs.Personality.{verdictOf};
+
+pub mod conflicts;
+pub mod detectors;
+pub mod groups;
+pub mod heads;
+pub mod pedestrians;
+pub mod sections;
+pub mod site;
+
+use conflicts::conflicts_section;
+use detectors::detectors_section;
+use groups::groups_section;
+use pedestrians::after_pedestrians;
+use pedestrians::pedestrians_section;
+use rules::answer::Verdict;
+use site::phases_section;
+use site::site_section;
+
+pub fn read(personality: &[u8]) -> Verdict
+    ensures { λ r. ⌜ r ≡ verdictOf (now (personality .entry)) ⌝ }
+{
+    let site = site_section(personality);
+    if let Verdict::Refused { .. } = site {
+        return site;
+    }
+    let phases = phases_section(personality);
+    if let Verdict::Refused { .. } = phases {
+        return phases;
+    }
+    let groups = groups_section(personality);
+    if let Verdict::Refused { .. } = groups {
+        return groups;
+    }
+    let conflicts = conflicts_section(personality);
+    if let Verdict::Refused { .. } = conflicts {
+        return conflicts;
+    }
+    let detectors = detectors_section(personality);
+    if let Verdict::Refused { .. } = detectors {
+        return detectors;
+    }
+    let pedestrians = pedestrians_section(personality);
+    if let Verdict::Refused { .. } = pedestrians {
+        return pedestrians;
+    }
+    after_pedestrians(personality)
+}
