@@ -1,0 +1,6 @@
+pub mod Passing
+pub mod Records
+pub mod States
+pub mod Fields
+pub mod Inputs
+pub mod Sizes

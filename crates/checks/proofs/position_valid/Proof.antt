@@ -1,0 +1,33 @@
+-- `checks::position_valid` meets its contract: its three tests are the rule's.
+use borrow.Author.Needs.{needs}
+use Rattle.checks.specs.Parts.{positionValid}
+use Rattle.checks.proofs.position_valid.Statement.{statement}
+use Rattle.checks.proofs.position_valid.Tie as tie
+
+is-leaving-requires : tie.Need-is-leaving-requires
+is-leaving-requires c κs = search needs
+
+target-valid-requires : tie.Need-target-valid-requires
+target-valid-requires c κs = search needs
+
+came-valid-requires : tie.Need-came-valid-requires
+came-valid-requires c κs = search needs
+
+age-valid-requires : tie.Need-age-valid-requires
+age-valid-requires c κs = search needs
+
+returns : tie.Need-returns
+unfolding positionValid
+returns c =
+    let called = c .before .before in
+    rw (called .target-valid .ensures, called .before .is-leaving .ensures, c .before .came-valid .ensures, c .age-valid .ensures)
+
+pub position-valid-spec : {M : Type 1} → statement M
+position-valid-spec =
+    tie.close
+    (tie.spec
+    is-leaving-requires
+    target-valid-requires
+    came-valid-requires
+    age-valid-requires
+    returns)

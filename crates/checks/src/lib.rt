@@ -1,0 +1,220 @@
+// The checks of a step call on its state and on its input bits.
+ghost use mathlib.Core.Path.{_≡_};
+ghost use Rattle.rules.specs.Call.{strayInput};
+ghost use Rattle.rules.specs.Intervals.{isIdle, isWalkOrFirst, isStartRed, isLeaving};
+ghost use Rattle.rules.specs.Rows.{allOf};
+ghost use Rattle.rules.specs.State.{ageValid, cameValid, targetValid, valid};
+ghost use Rattle.checks.specs.Parts.{positionValid, countsValid, demandExists, recordValid, movementAt, Phased, Wired};
+use rules::site::PhaseTimes;
+use rules::site::Site;
+use rules::state::Counts;
+use rules::state::Held;
+use rules::state::Interval;
+use rules::state::Movement;
+use rules::state::Position;
+use rules::state::Stage;
+use rules::state::State;
+
+// Ages are from 1 to 2,000 steps.
+const HIGHEST_AGE: u16 = 2000;
+
+// 2 ^ 48: input bits 0 to 47 are the detectors', those from 48 on the buttons'.
+const BUTTON_BITS: u64 = 281474976710656;
+
+fn is_idle(stage: Stage) -> bool
+    ensures { λ r. ⌜ r ≡ isIdle stage ⌝ }
+{
+    match stage {
+        Stage::Idle => true,
+        Stage::Walk => false,
+        Stage::ClearanceOne => false,
+        Stage::ClearanceTwo => false,
+    }
+}
+
+fn is_walk_or_first(stage: Stage) -> bool
+    ensures { λ r. ⌜ r ≡ isWalkOrFirst stage ⌝ }
+{
+    match stage {
+        Stage::Idle => false,
+        Stage::Walk => true,
+        Stage::ClearanceOne => true,
+        Stage::ClearanceTwo => false,
+    }
+}
+
+fn is_start_red(interval: Interval) -> bool
+    ensures { λ r. ⌜ r ≡ isStartRed interval ⌝ }
+{
+    match interval {
+        Interval::StartRed => true,
+        Interval::LateStart => false,
+        Interval::MinimumGreen => false,
+        Interval::Running => false,
+        Interval::Yellow => false,
+        Interval::AllRed => false,
+    }
+}
+
+// Yellow or all-red: the phase is being left.
+fn is_leaving(interval: Interval) -> bool
+    ensures { λ r. ⌜ r ≡ isLeaving interval ⌝ }
+{
+    match interval {
+        Interval::StartRed => false,
+        Interval::LateStart => false,
+        Interval::MinimumGreen => false,
+        Interval::Running => false,
+        Interval::Yellow => true,
+        Interval::AllRed => true,
+    }
+}
+
+fn age_valid(age: u16) -> bool
+    ensures { λ r. ⌜ r ≡ ageValid age ⌝ }
+{
+    (1 <= age) & (age <= HIGHEST_AGE)
+}
+
+// Came-from is a phase or none.
+fn came_valid(phases: u8, came: Held) -> bool
+    ensures { λ r. ⌜ r ≡ cameValid phases came ⌝ }
+{
+    match came {
+        Held::Nothing => true,
+        Held::Phase { phase } => phase < phases,
+    }
+}
+
+// A target unlike the phase, held in yellow and all-red only.
+fn target_valid(phases: u8, phase: u8, leaving: bool, target: Held) -> bool
+    ensures { λ r. ⌜ r ≡ targetValid phases phase leaving target ⌝ }
+{
+    match target {
+        Held::Nothing => !leaving,
+        Held::Phase { phase: next } => leaving & (next < phases) & (next != phase),
+    }
+}
+
+// Target, came-from and age.
+fn position_valid(phases: u8, position: Position) -> bool
+    ensures { λ r. ⌜ r ≡ positionValid phases position ⌝ }
+{
+    let interval = position.interval;
+    let target = position.target;
+    let came = position.came;
+    let age = position.age;
+    target_valid(phases, position.phase, is_leaving(interval), target)
+        & came_valid(phases, came)
+        & age_valid(age)
+}
+
+// The gap count is at most G, and the maximum count at most X of the phase.
+fn counts_valid(times: PhaseTimes, counts: Counts) -> bool
+    ensures { λ r. ⌜ r ≡ countsValid times counts ⌝ }
+{
+    (counts.gap <= times.gap) & (counts.maximum <= times.maximum)
+}
+
+// Locked demands only of phases that exist.
+fn locks_valid(locks: [bool; 7], phases: u8) -> bool
+    ensures { λ r. ⌜ r ≡ allOf (demandExists locks phases) 7 ⌝ }
+{
+    let mut all = true;
+    let mut p: u8 = 0;
+    while p < 7 {
+        let lock = locks[p as usize];
+        all = all & (!lock | (p < phases));
+        p += 1;
+    }
+    all
+}
+
+// Button demands only of movements that exist.
+fn buttons_valid(buttons: [bool; 8], movements: u8) -> bool
+    ensures { λ r. ⌜ r ≡ allOf (demandExists buttons movements) 8 ⌝ }
+{
+    let mut all = true;
+    let mut k: u8 = 0;
+    while k < 8 {
+        let button = buttons[k as usize];
+        all = all & (!button | (k < movements));
+        k += 1;
+    }
+    all
+}
+
+// One movement record: a valid age; idle unless it is of the phase; not in walk or C1 in yellow and all-red; idle in start red; at age 1
+// where it is idle.
+fn record_valid(of_phase: bool, leaving: bool, start_red: bool, movement: Movement) -> bool
+    ensures { λ r. ⌜ r ≡ recordValid «of_phase» leaving «start_red» movement ⌝ }
+{
+    let stage = movement.stage;
+    let age = movement.age;
+    let idle = is_idle(stage);
+    age_valid(age)
+        & (of_phase | idle)
+        & !(leaving & is_walk_or_first(stage))
+        & (!start_red | idle)
+        & (!idle | (age == 1))
+}
+
+// All movement records; those that the site doesn't have are of no phase.
+fn movements_valid(site: Site, state: State) -> bool
+    ensures { λ r. ⌜ r ≡ allOf (movementAt site state) 8 ⌝ }
+{
+    let count = site.size.movements;
+    let position = state.position;
+    let phase = position.phase;
+    let interval = position.interval;
+    let leaving = is_leaving(interval);
+    let start_red = is_start_red(interval);
+    let mut all = true;
+    let mut k: u8 = 0;
+    while k < 8 {
+        let i = k as usize;
+        let set = site.crossings[i];
+        let own = state.movements[i];
+        let of_phase = (k < count) & reads::bit8(phase, set);
+        all = all & record_valid(of_phase, leaving, start_red, own);
+        k += 1;
+    }
+    all
+}
+
+// Whether the state is valid for the site.
+pub fn valid_state(site: Site, state: State) -> bool
+    requires { ⌜ Phased site ⌝ }
+    ensures { λ r. ⌜ r ≡ valid site state ⌝ }
+{
+    let phases = site.size.phases;
+    let movements = site.size.movements;
+    let position = state.position;
+    let phase = position.phase;
+    if phase >= phases {
+        return false;
+    }
+    let counts = state.counts;
+    let demands = state.demands;
+    let locks = demands.locks;
+    let buttons = demands.buttons;
+    let times = site.times;
+    let own = times.phases[phase as usize];
+    position_valid(phases, position)
+        & counts_valid(own, counts)
+        & locks_valid(locks, phases)
+        & buttons_valid(buttons, movements)
+        & movements_valid(site, state)
+}
+
+// Whether an input bit is set without a detector or button there.
+pub fn stray(site: Site, inputs: u64) -> bool
+    requires { ⌜ Wired site ⌝ }
+    ensures { λ r. ⌜ r ≡ strayInput site inputs ⌝ }
+{
+    let detectors = site.size.detectors;
+    let buttons = site.size.movements;
+    let low = inputs % BUTTON_BITS;
+    let high = inputs / BUTTON_BITS;
+    (low >> detectors != 0) | (high >> buttons != 0)
+}

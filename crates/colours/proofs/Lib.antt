@@ -1,0 +1,4 @@
+pub mod Choices
+pub mod Filling
+pub mod Shown
+pub mod Sizes

@@ -1,0 +1,3 @@
+pub mod Greatest
+pub mod Sums
+pub mod Sizes

@@ -1,0 +1,40 @@
+-- `waits::walk_in` meets its contract: the two ways are those of the choice by the bit, and each setting is below 2 ^ 16.
+use Prim.Native.Nat.{_+_}
+use mathlib.Core.Bool.{Bool}
+use mathlib.Core.Path.{sym, ap, _∙_}
+use native.Mathlib.Omega.{arith}
+use borrow.Author.Needs.{needs}
+use Rattle.rules.specs.Rows.{if_then_else_}
+use Rattle.waits.specs.Shares.{walkIn}
+use Rattle.waits.proofs.walk_in.Statement.{statement}
+use Rattle.waits.proofs.walk_in.Tie as tie
+
+bit8-requires : tie.Need-bit8-requires
+bit8-requires c κs = search needs
+
+cast-result : tie.Need-cast-result
+cast-result c = search needs
+
+cast-result-2 : tie.Need-cast-result-2
+cast-result-2 c = search needs
+
+add-result : tie.Need-add-result
+add-result c = search needs
+
+returns : tie.Need-returns
+unfolding walkIn
+returns c =
+    let times = c .before .before .before .before .args .times in
+    let test = sym (c .before .before .before .bit8 .ensures) ∙ c .before .before .if1 .taken in
+    (sym (ap (λ (t : Bool). if t then times .walk + times .first else 0) test), search needs)
+
+returns-2 : tie.Need-returns-2
+unfolding walkIn
+returns-2 c =
+    let times = c .before .before .args .times in
+    let test = sym (c .before .bit8 .ensures) ∙ c .if1 .left in
+    (sym (ap (λ (t : Bool). if t then times .walk + times .first else 0) test), omega arith)
+
+pub walk-in-spec : {M : Type 1} → statement M
+walk-in-spec =
+    tie.close (tie.spec bit8-requires cast-result cast-result-2 add-result returns returns-2)
