@@ -1,14 +1,14 @@
 // Kind 5: the detectors, each with its phase and its mode.
-ghost use Prim.Native.Nat.{ℕ, _≤_};
+ghost use Prim.Native.Nat.{_≤_};
 ghost use mathlib.Core.Path.{_≡_};
 ghost use Rattle.rules.specs.Verdicts.{refuseIf, firstOf};
 ghost use Rattle.rules.specs.Personality.{recordAt, detectorsHead, detectorCount, badDetector, detectorsSection};
-use crate::heads::detectors_head;
-use crate::heads::phase_count;
-use crate::sections::section;
 use reads::byte;
 use reads::two;
 use rules::answer::Verdict;
+use sections::heads::detectors_head;
+use sections::heads::phase_count;
+use sections::section;
 
 // A phase at or above P, or a mode not 0, 1, 2, 4, 5, 6.
 fn bad_detector(s: &[u8], d: usize) -> bool
@@ -23,7 +23,9 @@ fn bad_detector(s: &[u8], d: usize) -> bool
 
 // 11: the first bad detector record.
 fn detector_records(s: &[u8]) -> Verdict
-    ensures { λ r. ⌜ r ≡ firstOf (λ d. refuseIf (badDetector (now (s .entry)) d) 11 (recordAt (detectorsHead (now (s .entry))) 2 d)) (detectorCount (now (s .entry))) ⌝ }
+    ensures { λ r. ⌜ r ≡ firstOf
+        (λ d. refuseIf (badDetector (now (s .entry)) d) 11 (recordAt (detectorsHead (now (s .entry))) 2 d))
+        (detectorCount (now (s .entry))) ⌝ }
 {
     let head = detectors_head(s);
     let count = (two(s, head) / 2) as usize;

@@ -2,17 +2,13 @@
 ghost use mathlib.Core.Path.{_≡_};
 ghost use Rattle.rules.specs.Personality.{verdictOf};
 
-pub mod conflicts;
 pub mod detectors;
-pub mod groups;
-pub mod heads;
 pub mod pedestrians;
-pub mod sections;
 pub mod site;
 
-use conflicts::conflicts_section;
 use detectors::detectors_section;
-use groups::groups_section;
+use groups::conflicts::conflicts_section;
+use groups::records::groups_section;
 use pedestrians::after_pedestrians;
 use pedestrians::pedestrians_section;
 use rules::answer::Verdict;

@@ -1,14 +1,14 @@
 // Kind 6: the times of the pedestrian movements, and what may follow them.
-ghost use Prim.Native.Nat.{ℕ, _≤_};
+ghost use Prim.Native.Nat.{_≤_};
 ghost use mathlib.Core.Path.{_≡_};
 ghost use Rattle.rules.specs.Personality.{movementCount, pedestriansSection, afterPedestrians};
-use crate::groups::group_mark;
-use crate::heads::group_count;
-use crate::heads::pedestrians_head;
-use crate::sections::section;
-use crate::sections::time_records;
+use groups::sets::group_mark;
 use reads::two;
 use rules::answer::Verdict;
+use sections::heads::group_count;
+use sections::heads::pedestrians_head;
+use sections::section;
+use sections::times::time_records;
 
 // How many pedestrian movements the site has: one for each pedestrian group.
 pub fn movement_count(s: &[u8]) -> usize

@@ -1,13 +1,13 @@
 // Kinds 1 and 2: the site's counts and start red, and the times of the phases.
 ghost use mathlib.Core.Path.{_≡_};
 ghost use Rattle.rules.specs.Personality.{siteSection, phasesSection};
-use crate::heads::group_count;
-use crate::heads::phase_count;
-use crate::sections::section;
-use crate::sections::time;
-use crate::sections::time_records;
 use reads::two;
 use rules::answer::Verdict;
+use sections::heads::group_count;
+use sections::heads::phase_count;
+use sections::section;
+use sections::times::time;
+use sections::times::time_records;
 
 // Kind 1. 4: P not 2 to 7 or N not 1 to 32. 5: start red outside its range.
 pub fn site_section(s: &[u8]) -> Verdict

@@ -1,9 +1,33 @@
-use Rattle.personality.proofs.Firsts.{or-next, or-stop}
-use Rattle.rules.specs.Personality.{verdictOf}
-use mathlib.Core.Path.{sym, _∙_}
+-- `personality::read` meets its contract: the six sections and what follows them in order, the first refusal being the answer.
+use Prim.Native.Nat.{ℕ}
+use mathlib.Core.List.{List}
+use mathlib.Core.Path.{_≡_, sym, _∙_}
 use borrow.Author.Needs.{needs}
+use Rattle.rules.specs.Personality.{phasesSection, groupsSection, conflictsSection, detectorsSection, pedestriansSection, afterPedestrians, verdictOf}
+use Rattle.rules.specs.Verdicts.{_orElse_}
+use Rattle.rules.specs.declared.answer.Verdict.{Verdict}
+use Rattle.sections.proofs.Firsts.{or-next, or-stop}
 use Rattle.personality.proofs.read.Statement.{statement}
 use Rattle.personality.proofs.read.Tie as tie
+
+-- ── What is left to check from each section on ──
+
+abbrev fromPedestrians : List ℕ → Verdict
+fromPedestrians b = pedestriansSection b orElse afterPedestrians b
+
+abbrev fromDetectors : List ℕ → Verdict
+fromDetectors b = detectorsSection b orElse fromPedestrians b
+
+abbrev fromConflicts : List ℕ → Verdict
+fromConflicts b = conflictsSection b orElse fromDetectors b
+
+abbrev fromGroups : List ℕ → Verdict
+fromGroups b = groupsSection b orElse fromConflicts b
+
+abbrev fromPhases : List ℕ → Verdict
+fromPhases b = phasesSection b orElse fromGroups b
+
+-- ── The calls ──
 
 site-section-requires : tie.Need-site-section-requires
 site-section-requires c κs = search needs
@@ -24,11 +48,17 @@ phases-section-requires c κs = search needs
 enum-told-3 : tie.Need-enum-told-3
 enum-told-3 c = search needs
 
-returns-2 : tie.Need-returns-2
+-- kind 1 has passed: the answer is that of what follows
+afterSite :
+    (c : tie.After-enum-told2) {v : Verdict} →
+    let b = c .before .before .before .before .args .personality .now in
+    v ≡ fromPhases b →
+    v ≡ verdictOf b
 unfolding verdictOf
-returns-2 c =
-    or-next (c .before .before .before .before .before .site-section .ensures) (c .before .before .before .enum-told2 .given .1)
-    (or-stop _ (c .before .before .phases-section .ensures) (c .enum-told3 .given .1))
+afterSite c e = or-next (c .before .before .site-section .ensures) (c .enum-told2 .given .1) e
+
+returns-2 : tie.Need-returns-2
+returns-2 c = afterSite (c .before .before .before) (or-stop _ (c .before .before .phases-section .ensures) (c .enum-told3 .given .1))
 
 enum-told-4 : tie.Need-enum-told-4
 enum-told-4 c = search needs
@@ -39,12 +69,16 @@ groups-section-requires c κs = search needs
 enum-told-5 : tie.Need-enum-told-5
 enum-told-5 c = search needs
 
+-- kind 2 has passed: the answer is that of what follows
+afterPhases :
+    (c : tie.After-enum-told4) {v : Verdict} →
+    let b = c .before .before .before .before .before .before .before .args .personality .now in
+    v ≡ fromGroups b →
+    v ≡ verdictOf b
+afterPhases c e = afterSite (c .before .before .before) (or-next (c .before .before .phases-section .ensures) (c .enum-told4 .given .1) e)
+
 returns-3 : tie.Need-returns-3
-unfolding verdictOf
-returns-3 c =
-    or-next (c .before .before .before .before .before .before .before .before .site-section .ensures) (c .before .before .before .before .before .before .enum-told2 .given .1)
-    (or-next (c .before .before .before .before .before .phases-section .ensures) (c .before .before .before .enum-told4 .given .1)
-    (or-stop _ (c .before .before .groups-section .ensures) (c .enum-told5 .given .1)))
+returns-3 c = afterPhases (c .before .before .before) (or-stop _ (c .before .before .groups-section .ensures) (c .enum-told5 .given .1))
 
 enum-told-6 : tie.Need-enum-told-6
 enum-told-6 c = search needs
@@ -55,13 +89,16 @@ conflicts-section-requires c κs = sym (c .before .before .groups-section .ensur
 enum-told-7 : tie.Need-enum-told-7
 enum-told-7 c = search needs
 
+-- kind 3 has passed: the answer is that of what follows
+afterGroups :
+    (c : tie.After-enum-told6) {v : Verdict} →
+    let b = c .before .before .before .before .before .before .before .before .before .before .args .personality .now in
+    v ≡ fromConflicts b →
+    v ≡ verdictOf b
+afterGroups c e = afterPhases (c .before .before .before) (or-next (c .before .before .groups-section .ensures) (c .enum-told6 .given .1) e)
+
 returns-4 : tie.Need-returns-4
-unfolding verdictOf
-returns-4 c =
-    or-next (c .before .before .before .before .before .before .before .before .before .before .before .site-section .ensures) (c .before .before .before .before .before .before .before .before .before .enum-told2 .given .1)
-    (or-next (c .before .before .before .before .before .before .before .before .phases-section .ensures) (c .before .before .before .before .before .before .enum-told4 .given .1)
-    (or-next (c .before .before .before .before .before .groups-section .ensures) (c .before .before .before .enum-told6 .given .1)
-    (or-stop _ (c .before .before .conflicts-section .ensures) (c .enum-told7 .given .1))))
+returns-4 c = afterGroups (c .before .before .before) (or-stop _ (c .before .before .conflicts-section .ensures) (c .enum-told7 .given .1))
 
 enum-told-8 : tie.Need-enum-told-8
 enum-told-8 c = search needs
@@ -72,14 +109,16 @@ detectors-section-requires c κs = search needs
 enum-told-9 : tie.Need-enum-told-9
 enum-told-9 c = search needs
 
+-- kind 4 has passed: the answer is that of what follows
+afterConflicts :
+    (c : tie.After-enum-told8) {v : Verdict} →
+    let b = c .before .before .before .before .before .before .before .before .before .before .before .before .before .args .personality .now in
+    v ≡ fromDetectors b →
+    v ≡ verdictOf b
+afterConflicts c e = afterGroups (c .before .before .before) (or-next (c .before .before .conflicts-section .ensures) (c .enum-told8 .given .1) e)
+
 returns-5 : tie.Need-returns-5
-unfolding verdictOf
-returns-5 c =
-    or-next (c .before .before .before .before .before .before .before .before .before .before .before .before .before .before .site-section .ensures) (c .before .before .before .before .before .before .before .before .before .before .before .before .enum-told2 .given .1)
-    (or-next (c .before .before .before .before .before .before .before .before .before .before .before .phases-section .ensures) (c .before .before .before .before .before .before .before .before .before .enum-told4 .given .1)
-    (or-next (c .before .before .before .before .before .before .before .before .groups-section .ensures) (c .before .before .before .before .before .before .enum-told6 .given .1)
-    (or-next (c .before .before .before .before .before .conflicts-section .ensures) (c .before .before .before .enum-told8 .given .1)
-    (or-stop _ (c .before .before .detectors-section .ensures) (c .enum-told9 .given .1)))))
+returns-5 c = afterConflicts (c .before .before .before) (or-stop _ (c .before .before .detectors-section .ensures) (c .enum-told9 .given .1))
 
 enum-told-10 : tie.Need-enum-told-10
 enum-told-10 c = search needs
@@ -90,15 +129,16 @@ pedestrians-section-requires c κs = search needs
 enum-told-11 : tie.Need-enum-told-11
 enum-told-11 c = search needs
 
+-- kind 5 has passed: the answer is that of what follows
+afterDetectors :
+    (c : tie.After-enum-told10) {v : Verdict} →
+    let b = c .before .before .before .before .before .before .before .before .before .before .before .before .before .before .before .before .args .personality .now in
+    v ≡ fromPedestrians b →
+    v ≡ verdictOf b
+afterDetectors c e = afterConflicts (c .before .before .before) (or-next (c .before .before .detectors-section .ensures) (c .enum-told10 .given .1) e)
+
 returns-6 : tie.Need-returns-6
-unfolding verdictOf
-returns-6 c =
-    or-next (c .before .before .before .before .before .before .before .before .before .before .before .before .before .before .before .before .before .site-section .ensures) (c .before .before .before .before .before .before .before .before .before .before .before .before .before .before .before .enum-told2 .given .1)
-    (or-next (c .before .before .before .before .before .before .before .before .before .before .before .before .before .before .phases-section .ensures) (c .before .before .before .before .before .before .before .before .before .before .before .before .enum-told4 .given .1)
-    (or-next (c .before .before .before .before .before .before .before .before .before .before .before .groups-section .ensures) (c .before .before .before .before .before .before .before .before .before .enum-told6 .given .1)
-    (or-next (c .before .before .before .before .before .before .before .before .conflicts-section .ensures) (c .before .before .before .before .before .before .enum-told8 .given .1)
-    (or-next (c .before .before .before .before .before .detectors-section .ensures) (c .before .before .before .enum-told10 .given .1)
-    (or-stop _ (c .before .before .pedestrians-section .ensures) (c .enum-told11 .given .1))))))
+returns-6 c = afterDetectors (c .before .before .before) (or-stop _ (c .before .before .pedestrians-section .ensures) (c .enum-told11 .given .1))
 
 enum-told-12 : tie.Need-enum-told-12
 enum-told-12 c = search needs
@@ -106,16 +146,16 @@ enum-told-12 c = search needs
 after-pedestrians-requires : tie.Need-after-pedestrians-requires
 after-pedestrians-requires c κs = search needs
 
+-- kind 6 has passed: the answer is that of what follows
+afterKind6 :
+    (c : tie.After-enum-told12) {v : Verdict} →
+    let b = c .before .before .before .before .before .before .before .before .before .before .before .before .before .before .before .before .before .before .before .args .personality .now in
+    v ≡ afterPedestrians b →
+    v ≡ verdictOf b
+afterKind6 c e = afterDetectors (c .before .before .before) (or-next (c .before .before .pedestrians-section .ensures) (c .enum-told12 .given .1) e)
+
 returns-7 : tie.Need-returns-7
-unfolding verdictOf
-returns-7 c =
-    or-next (c .before .before .before .before .before .before .before .before .before .before .before .before .before .before .before .before .before .before .site-section .ensures) (c .before .before .before .before .before .before .before .before .before .before .before .before .before .before .before .before .enum-told2 .given .1)
-    (or-next (c .before .before .before .before .before .before .before .before .before .before .before .before .before .before .before .phases-section .ensures) (c .before .before .before .before .before .before .before .before .before .before .before .before .before .enum-told4 .given .1)
-    (or-next (c .before .before .before .before .before .before .before .before .before .before .before .before .groups-section .ensures) (c .before .before .before .before .before .before .before .before .before .before .enum-told6 .given .1)
-    (or-next (c .before .before .before .before .before .before .before .before .before .conflicts-section .ensures) (c .before .before .before .before .before .before .before .enum-told8 .given .1)
-    (or-next (c .before .before .before .before .before .before .detectors-section .ensures) (c .before .before .before .before .enum-told10 .given .1)
-    (or-next (c .before .before .before .pedestrians-section .ensures) (c .before .enum-told12 .given .1)
-    (c .after-pedestrians .ensures))))))
+returns-7 c = afterKind6 (c .before) (c .after-pedestrians .ensures)
 
 pub read-spec : {M : Type 1} → statement M
 read-spec =

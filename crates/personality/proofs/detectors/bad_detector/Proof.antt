@@ -1,6 +1,7 @@
-use Rattle.rules.specs.Personality.{bodyAt, recordAt, detectorPhase, detectorMode, knownMode, badDetector}
+-- `detectors::bad_detector` meets its contract: the two bytes are those of the record, and the test is the definition's.
 use mathlib.Core.Path.{_≡_}
 use borrow.Author.Needs.{needs}
+use Rattle.rules.specs.Personality.{bodyAt, recordAt, detectorPhase, detectorMode, knownMode, badDetector}
 use Rattle.personality.proofs.detectors.bad_detector.Statement.{statement}
 use Rattle.personality.proofs.detectors.bad_detector.Tie as tie
 
@@ -31,8 +32,9 @@ phase-count-requires c κs = search needs
 returns : tie.Need-returns
 unfolding badDetector knownMode detectorPhase detectorMode recordAt bodyAt
 returns c =
-    let phase : c .before .before .byte .result ≡ detectorPhase (c .before .before .before .before .before .args .s .now) (c .before .before .before .before .before .args .d) = cc in
-    let mode : c .before .byte2 .result ≡ detectorMode (c .before .before .before .before .before .args .s .now) (c .before .before .before .before .before .args .d) = cc in
+    let atStart = c .before .before .before .before .before in
+    let phase : c .before .before .byte .result ≡ detectorPhase (atStart .args .s .now) (atStart .args .d) = cc in
+    let mode : c .before .byte2 .result ≡ detectorMode (atStart .args .s .now) (atStart .args .d) = cc in
     rw (← c .phase-count .ensures, ← phase, ← mode)
 
 pub bad-detector-spec : {M : Type 1} → statement M

@@ -1,11 +1,12 @@
-use Rattle.personality.proofs.Firsts.{recordCheck, good-more, bad-stop, first-done}
+-- `detectors::detector_records` meets its contract. The invariant: no record before d is bad.
+use Prim.Native.Nat.{_-_, _/_, _≤_}
+use mathlib.Core.Path.{_≡_, refl}
+use native.Mathlib.Omega.{arith}
+use borrow.Author.Needs.{needs}
 use Rattle.rules.specs.Personality.{bodyAt, bodyLength, recordAt, detectorsHead, detectorCount, badDetector}
 use Rattle.rules.specs.Verdicts.{firstOf}
 use Rattle.rules.specs.declared.answer.Verdict.the-variants.{Accepted}
-use mathlib.Core.Path.{_≡_, refl}
-use Prim.Native.Nat.{ℕ, _-_, _/_, _≤_}
-use borrow.Author.Needs.{needs}
-use native.Mathlib.Omega.{arith}
+use Rattle.sections.proofs.Firsts.{recordCheck, good-more, bad-stop, first-done}
 use Rattle.personality.proofs.detectors.detector_records.Statement.{statement}
 use Rattle.personality.proofs.detectors.detector_records.Tie as tie
 
@@ -43,8 +44,11 @@ add-t11 c = search needs
 returns : tie.Need-returns Inv-loop μ-loop
 unfolding recordAt bodyAt bodyLength detectorCount
 returns c =
-    let counted : c .before .before .before .before .two .result / 2 ≡ detectorCount (c .before .before .before .before .before .before .before .args .s .now) = cc in
-    bad-stop _ _ _ _ (c .before .before .before .loop .d) (omega arith) (c .before .before .before .loop .inv .1) (cc) (omega arith)
+    let atLoop = c .before .before .before in
+    let atTwo = atLoop .before in
+    let atStart = atTwo .before .before .before in
+    let counted : atTwo .two .result / 2 ≡ detectorCount (atStart .args .s .now) = cc in
+    bad-stop _ _ _ _ (atLoop .loop .d) (omega arith) (atLoop .loop .inv .1) (cc) (omega arith)
 
 add-d : tie.Need-add-d Inv-loop μ-loop
 add-d c = search needs
@@ -58,7 +62,8 @@ loop-again c = (omega arith, good-more _ _ _ _ (c .before .before .before .loop 
 returns-2 : tie.Need-returns-2 Inv-loop μ-loop
 unfolding bodyLength detectorCount
 returns-2 c =
-    let counted : c .before .before .two .result / 2 ≡ detectorCount (c .before .before .before .before .before .args .s .now) = cc in
+    let atStart = c .before .before .before .before .before in
+    let counted : c .before .before .two .result / 2 ≡ detectorCount (atStart .args .s .now) = cc in
     first-done _ _ _ (c .before .loop .inv .1) (omega arith)
 
 pub detector-records-spec : {M : Type 1} → statement M

@@ -1,10 +1,11 @@
-use Rattle.personality.proofs.Firsts.{or-next, or-stop}
-use Rattle.rules.specs.Personality.{bodyLength, detectorsHead, sectionAt, detectorsSection}
-use lib.Dec.{eqb, leb}
-use mathlib.Core.Path.{_≡_}
-use mathlib.Core.Bool.{_&&_}
+-- `detectors::detectors_section` meets its contract: head, then the records.
 use Prim.Native.Nat.{_%_}
+use mathlib.Core.Bool.{_&&_}
+use mathlib.Core.Path.{_≡_}
+use lib.Dec.{eqb, leb}
 use borrow.Author.Needs.{needs}
+use Rattle.rules.specs.Personality.{bodyLength, detectorsHead, sectionAt, detectorsSection}
+use Rattle.sections.proofs.Firsts.{or-next, or-stop}
 use Rattle.personality.proofs.detectors.detectors_section.Statement.{statement}
 use Rattle.personality.proofs.detectors.detectors_section.Tie as tie
 
@@ -20,12 +21,18 @@ section-requires c κs = search needs
 enum-told : tie.Need-enum-told
 enum-told c = search needs
 
+-- the head is held to an even length of at most 96
+checked :
+    (c : tie.After-section) →
+    let b = c .before .before .before .before .args .s .now in
+    let bytes = bodyLength b (detectorsHead b) in
+    c .section .result ≡ sectionAt b (detectorsHead b) 5 (eqb (bytes % 2) 0 && leb bytes 96)
+unfolding bodyLength
+checked c = cc
+
 returns : tie.Need-returns
-unfolding detectorsSection bodyLength
-returns c =
-    let b = c .before .before .before .before .before .before .args .s .now in
-    let checked : c .before .before .section .result ≡ sectionAt b (detectorsHead b) 5 (eqb (bodyLength b (detectorsHead b) % 2) 0 && leb (bodyLength b (detectorsHead b)) 96) = cc in
-    or-stop _ checked (c .enum-told .given .1)
+unfolding detectorsSection
+returns c = or-stop _ (checked (c .before .before)) (c .enum-told .given .1)
 
 enum-told-2 : tie.Need-enum-told-2
 enum-told-2 c = search needs
@@ -34,11 +41,10 @@ detector-records-requires : tie.Need-detector-records-requires
 detector-records-requires c κs = search needs
 
 returns-2 : tie.Need-returns-2
-unfolding detectorsSection bodyLength
+unfolding detectorsSection
 returns-2 c =
-    let b = c .before .before .before .before .before .before .before .args .s .now in
-    let checked : c .before .before .before .section .result ≡ sectionAt b (detectorsHead b) 5 (eqb (bodyLength b (detectorsHead b) % 2) 0 && leb (bodyLength b (detectorsHead b)) 96) = cc in
-    or-next checked (c .before .enum-told2 .given .1) (c .detector-records .ensures)
+    let headPassed = c .before in
+    or-next (checked (headPassed .before .before)) (headPassed .enum-told2 .given .1) (c .detector-records .ensures)
 
 pub detectors-section-spec : {M : Type 1} → statement M
 detectors-section-spec =

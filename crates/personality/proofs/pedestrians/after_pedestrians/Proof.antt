@@ -1,12 +1,13 @@
+-- `pedestrians::after_pedestrians` meets its contract: the end is the definition's, and the test asks for bytes past it.
+use Prim.Native.Nat.{_+_, _*_}
+use mathlib.Core.Path.{_≡_, ap, sym, _∙_}
+use native.Mathlib.Omega.{arith}
 use lib.ListN.{length}
-use Rattle.personality.proofs.Firsts.{refuse-yes, refuse-no}
+use borrow.Author.Needs.{needs}
+use borrow.Author.Tests.{lt-ltb, le-ltb}
 use Rattle.rules.specs.Personality.{bodyAt, endOf, afterPedestrians}
 use Rattle.rules.specs.declared.answer.Verdict.the-variants.{Refused}
-use borrow.Author.Tests.{lt-ltb, le-ltb}
-use native.Mathlib.Omega.{arith}
-use mathlib.Core.Path.{_≡_, ap, sym, _∙_}
-use Prim.Native.Nat.{_+_, _*_}
-use borrow.Author.Needs.{needs}
+use Rattle.sections.proofs.Firsts.{refuse-yes, refuse-no}
 use Rattle.personality.proofs.pedestrians.after_pedestrians.Statement.{statement}
 use Rattle.personality.proofs.pedestrians.after_pedestrians.Tie as tie
 
@@ -28,14 +29,16 @@ add-end-2 c = search needs
 returns : tie.Need-returns
 unfolding afterPedestrians endOf bodyAt
 returns c =
-    let b = c .before .before .before .before .args .s .now in
+    let atStart = c .before .before .before .before in
+    let b = atStart .args .s .now in
     let at : c .before .before .pedestrians-head .result + 4 + c .before .movement-count .result * 6 ≡ endOf b = omega arith in
     ap (Refused 12) at ∙ refuse-yes 12 _ (lt-ltb (endOf b) (length b) (omega arith))
 
 returns-2 : tie.Need-returns-2
 unfolding afterPedestrians endOf bodyAt
 returns-2 c =
-    let b = c .before .before .before .before .args .s .now in
+    let atStart = c .before .before .before .before in
+    let b = atStart .args .s .now in
     let at : c .before .before .pedestrians-head .result + 4 + c .before .movement-count .result * 6 ≡ endOf b = omega arith in
     sym (refuse-no 12 _ (le-ltb (endOf b) (length b) (omega arith)))
 

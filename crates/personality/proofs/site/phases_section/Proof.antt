@@ -1,9 +1,10 @@
-use Rattle.personality.proofs.Firsts.{or-next, or-stop}
-use Rattle.rules.specs.Personality.{bodyLength, phasesHead, phaseCount, sectionAt, phasesSection}
-use lib.Dec.{eqb}
-use mathlib.Core.Path.{_≡_}
+-- `site::phases_section` meets its contract: head, then the records of times.
 use Prim.Native.Nat.{_*_}
+use mathlib.Core.Path.{_≡_}
+use lib.Dec.{eqb}
 use borrow.Author.Needs.{needs}
+use Rattle.rules.specs.Personality.{bodyLength, phasesHead, phaseCount, sectionAt, phasesSection}
+use Rattle.sections.proofs.Firsts.{or-next, or-stop}
 use Rattle.personality.proofs.site.phases_section.Statement.{statement}
 use Rattle.personality.proofs.site.phases_section.Tie as tie
 
@@ -28,12 +29,17 @@ section-requires c κs = search needs
 enum-told : tie.Need-enum-told
 enum-told c = search needs
 
+-- the head is held to the length that P needs
+checked :
+    (c : tie.After-section) →
+    let b = c .before .before .before .before .args .s .now in
+    c .section .result ≡ sectionAt b phasesHead 2 (eqb (bodyLength b phasesHead) (phaseCount b * 12))
+unfolding bodyLength
+checked c = cc
+
 returns : tie.Need-returns
-unfolding phasesSection bodyLength
-returns c =
-    let b = c .before .before .before .before .before .before .args .s .now in
-    let checked : c .before .before .section .result ≡ sectionAt b phasesHead 2 (eqb (bodyLength b phasesHead) (phaseCount b * 12)) = cc in
-    or-stop _ checked (c .enum-told .given .1)
+unfolding phasesSection
+returns c = or-stop _ (checked (c .before .before)) (c .enum-told .given .1)
 
 enum-told-2 : tie.Need-enum-told-2
 enum-told-2 c = search needs
@@ -42,11 +48,12 @@ time-records-requires : tie.Need-time-records-requires
 time-records-requires c κs = search needs
 
 returns-2 : tie.Need-returns-2
-unfolding phasesSection bodyLength
+unfolding phasesSection
 returns-2 c =
-    let b = c .before .before .before .before .before .before .before .args .s .now in
-    let checked : c .before .before .before .section .result ≡ sectionAt b phasesHead 2 (eqb (bodyLength b phasesHead) (phaseCount b * 12)) = cc in
-    or-next checked (c .before .enum-told2 .given .1) (rw (c .before .before .before .before .before .phase-count .ensures) at (c .time-records .ensures))
+    let headPassed = c .before in
+    let atCount = headPassed .before .before .before .before in
+    or-next (checked (headPassed .before .before)) (headPassed .enum-told2 .given .1)
+    (rw (atCount .phase-count .ensures) at (c .time-records .ensures))
 
 pub phases-section-spec : {M : Type 1} → statement M
 phases-section-spec =

@@ -1,9 +1,10 @@
-use Rattle.personality.proofs.Firsts.{refuse-yes, refuse-no, or-next, or-stop}
-use Rattle.rules.specs.Personality.{bodyLength, siteHead, phaseCount, groupCount, sectionAt, siteSection}
-use lib.Dec.{eqb, leb}
+-- `site::site_section` meets its contract: head, the two counts and start red in order, the first refusal being the answer.
+use mathlib.Core.Bool.{Bool, not, _&&_}
 use mathlib.Core.Path.{_≡_, refl}
-use mathlib.Core.Bool.{true, false, not, _&&_}
+use lib.Dec.{eqb, leb}
 use borrow.Author.Needs.{needs}
+use Rattle.rules.specs.Personality.{bodyLength, siteHead, phaseCount, groupCount, sectionAt, siteSection}
+use Rattle.sections.proofs.Firsts.{refuse-yes, refuse-no, or-next, or-stop}
 use Rattle.personality.proofs.site.site_section.Statement.{statement}
 use Rattle.personality.proofs.site.site_section.Tie as tie
 
@@ -16,12 +17,17 @@ section-requires c κs = search needs
 enum-told : tie.Need-enum-told
 enum-told c = search needs
 
+-- the head is held to a length of 4
+checked :
+    (c : tie.After-section) →
+    let b = c .before .before .before .args .s .now in
+    c .section .result ≡ sectionAt b siteHead 1 (eqb (bodyLength b siteHead) 4)
+unfolding bodyLength
+checked c = cc
+
 returns : tie.Need-returns
-unfolding siteSection bodyLength
-returns c =
-    let b = c .before .before .before .before .before .args .s .now in
-    let checked : c .before .before .section .result ≡ sectionAt b siteHead 1 (eqb (bodyLength b siteHead) 4) = cc in
-    or-stop _ checked (c .enum-told .given .1)
+unfolding siteSection
+returns c = or-stop _ (checked (c .before .before)) (c .enum-told .given .1)
 
 enum-told-2 : tie.Need-enum-told-2
 enum-told-2 c = search needs
@@ -29,38 +35,52 @@ enum-told-2 c = search needs
 phase-count-requires : tie.Need-phase-count-requires
 phase-count-requires c κs = search needs
 
+-- what the test of a count tells
+phases :
+    (c : tie.After-phase-count) {t : Bool} →
+    let p = phaseCount (c .before .before .before .before .before .before .args .s .now) in
+    not (leb 2 (c .phase-count .result) && leb (c .phase-count .result) 7) ≡ t →
+    not (leb 2 p && leb p 7) ≡ t
+phases c e = rw (← c .phase-count .ensures) e
+
 returns-2 : tie.Need-returns-2
-unfolding siteSection bodyLength
+unfolding siteSection
 returns-2 c =
-    let b = c .before .before .before .before .before .before .before .args .s .now in
-    let checked : c .before .before .before .before .section .result ≡ sectionAt b siteHead 1 (eqb (bodyLength b siteHead) 4) = cc in
-    let phases : not (leb 2 (phaseCount b) && leb (phaseCount b) 7) ≡ true = cc in
-    or-next checked (c .before .before .enum-told2 .given .1) (or-stop _ (refuse-yes 4 4 phases) refl)
+    let headPassed = c .before .before in
+    or-next (checked (headPassed .before .before)) (headPassed .enum-told2 .given .1)
+    (or-stop _ (refuse-yes 4 4 (phases (c .before) (c .if1 .taken))) refl)
 
 group-count-requires : tie.Need-group-count-requires
 group-count-requires c κs = search needs
 
+groups :
+    (c : tie.After-group-count) {t : Bool} →
+    let n = groupCount (c .before .before .before .before .before .before .before .before .args .s .now) in
+    not (leb 1 (c .group-count .result) && leb (c .group-count .result) 32) ≡ t →
+    not (leb 1 n && leb n 32) ≡ t
+groups c e = rw (← c .group-count .ensures) e
+
 returns-3 : tie.Need-returns-3
-unfolding siteSection bodyLength
+unfolding siteSection
 returns-3 c =
-    let b = c .before .before .before .before .before .before .before .before .before .args .s .now in
-    let checked : c .before .before .before .before .before .before .section .result ≡ sectionAt b siteHead 1 (eqb (bodyLength b siteHead) 4) = cc in
-    let phases : not (leb 2 (phaseCount b) && leb (phaseCount b) 7) ≡ false = cc in
-    let groups : not (leb 1 (groupCount b) && leb (groupCount b) 32) ≡ true = cc in
-    or-next checked (c .before .before .before .before .enum-told2 .given .1) (or-next refl (refuse-no 4 4 phases) (or-stop _ (refuse-yes 4 5 groups) refl))
+    let phasesPassed = c .before .before in
+    let headPassed = phasesPassed .before .before in
+    or-next (checked (headPassed .before .before)) (headPassed .enum-told2 .given .1)
+    (or-next refl (refuse-no 4 4 (phases (phasesPassed .before) (phasesPassed .if1 .left)))
+    (or-stop _ (refuse-yes 4 5 (groups (c .before) (c .if2 .taken))) refl))
 
 time-requires : tie.Need-time-requires
 time-requires c κs = search needs
 
 returns-4 : tie.Need-returns-4
-unfolding siteSection bodyLength
+unfolding siteSection
 returns-4 c =
-    let b = c .before .before .before .before .before .before .before .before .before .before .args .s .now in
-    let checked : c .before .before .before .before .before .before .before .section .result ≡ sectionAt b siteHead 1 (eqb (bodyLength b siteHead) 4) = cc in
-    let phases : not (leb 2 (phaseCount b) && leb (phaseCount b) 7) ≡ false = cc in
-    let groups : not (leb 1 (groupCount b) && leb (groupCount b) 32) ≡ false = cc in
-    or-next checked (c .before .before .before .before .before .enum-told2 .given .1)
-    (or-next refl (refuse-no 4 4 phases) (or-next refl (refuse-no 4 5 groups) (c .time .ensures)))
+    let groupsPassed = c .before in
+    let phasesPassed = groupsPassed .before .before in
+    let headPassed = phasesPassed .before .before in
+    or-next (checked (headPassed .before .before)) (headPassed .enum-told2 .given .1)
+    (or-next refl (refuse-no 4 4 (phases (phasesPassed .before) (phasesPassed .if1 .left)))
+    (or-next refl (refuse-no 4 5 (groups (groupsPassed .before) (groupsPassed .if2 .left))) (c .time .ensures)))
 
 pub site-section-spec : {M : Type 1} → statement M
 site-section-spec =

@@ -1,0 +1,108 @@
+-- `decoding::crossings` meets its contract: the pass over the groups, at its end, has found every movement.
+use Prim.Native.Nat.{_-_, _≤_}
+use mathlib.Core.Logic.{⊎-elim}
+use mathlib.Core.Path.{_≡_}
+use Rattle.rules.specs.Personality.{bodyAt, recordAt, groupSet, groupMark}
+use Rattle.decoding.proofs.Pedestrians.{Passed, passed-none, passed-vehicle, passed-pedestrian, room-left, passed-whole}
+use borrow.Author.Needs.{needs}
+use native.Mathlib.Omega.{arith}
+use Rattle.decoding.proofs.crossings.Statement.{statement}
+use Rattle.decoding.proofs.crossings.Tie as tie
+
+abbrev Inv-loop : tie.InvT-loop
+Inv-loop s groups head sets₀ count₀ g₀ sets count g = (g ≤ groups) × Passed s g count sets
+
+abbrev μ-loop : tie.MeasureT-loop
+μ-loop s groups head sets₀ count₀ g₀ sets count g = groups - g
+
+group-count-requires : tie.Need-group-count-requires Inv-loop μ-loop
+group-count-requires c κs = search needs
+
+cast-groups : tie.Need-cast-groups Inv-loop μ-loop
+cast-groups c = search needs
+
+groups-head-requires : tie.Need-groups-head-requires Inv-loop μ-loop
+groups-head-requires c κs = search needs
+
+loop-holds : tie.Need-loop-holds Inv-loop μ-loop
+loop-holds c = (omega arith, passed-none _)
+
+add-place : tie.Need-add-place Inv-loop μ-loop
+add-place c = search needs
+
+mul-place : tie.Need-mul-place Inv-loop μ-loop
+mul-place c = search needs
+
+add-place-2 : tie.Need-add-place-2 Inv-loop μ-loop
+add-place-2 c = search needs
+
+add-byte : tie.Need-add-byte Inv-loop μ-loop
+add-byte c = search needs
+
+byte-requires : tie.Need-byte-requires Inv-loop μ-loop
+byte-requires c κs = search needs
+
+byte-requires-2 : tie.Need-byte-requires-2 Inv-loop μ-loop
+byte-requires-2 c κs = search needs
+
+-- the test reads the group's mark
+mark-read :
+    (c : tie.After-byte Inv-loop μ-loop) →
+    c .byte .result ≡ groupMark (c .before .before .before .before .before .before .args .s .now) (c .before .before .loop .g)
+unfolding groupMark recordAt bodyAt
+mark-read c = simp (c .byte .ensures, c .before .before .before .groups-head .ensures .0)
+
+array-write-sets : tie.Need-array-write-sets Inv-loop μ-loop
+array-write-sets c =
+    let passed = c .before .before .before .before .loop .inv .1 in
+    room-left _ passed (mark-read (c .before .before)) (c .before .if1 .taken) (omega arith) (omega arith)
+
+add-count : tie.Need-add-count Inv-loop μ-loop
+add-count c = search needs
+
+add-g : tie.Need-add-g Inv-loop μ-loop
+add-g c = search needs
+
+loop-less : tie.Need-loop-less Inv-loop μ-loop
+loop-less c = search needs
+
+loop-again : tie.Need-loop-again Inv-loop μ-loop
+unfolding groupSet recordAt bodyAt
+loop-again c =
+    let passed = c .before .before .before .loop .inv .1 in (
+      omega arith,
+      ⊎-elim
+          (λ w.
+          rw (w .2, w .3)
+          (passed-pedestrian _ passed (mark-read (c .before)) (w .0 .taken)
+          (simp (w .1 .ensures, c .before .before .before .before .groups-head .ensures .0))
+          (room-left _ passed (mark-read (c .before)) (w .0 .taken) (omega arith) (omega arith))))
+          (λ w. rw (w .1, w .2) (passed-vehicle _ passed (mark-read (c .before)) (w .0 .left)))
+          (c .if1 .came),
+    )
+
+returns : tie.Need-returns Inv-loop μ-loop
+returns c = passed-whole _ (c .before .loop .inv .1) (omega arith)
+
+pub crossings-spec : {M : Type 1} → statement M
+crossings-spec =
+    tie.close
+    (tie.spec
+    Inv-loop
+    μ-loop
+    group-count-requires
+    cast-groups
+    groups-head-requires
+    loop-holds
+    add-place
+    mul-place
+    add-place-2
+    add-byte
+    byte-requires
+    byte-requires-2
+    array-write-sets
+    add-count
+    add-g
+    loop-less
+    loop-again
+    returns)

@@ -1,0 +1,94 @@
+-- `decoding::detectors` meets its contract: before detector d the records of the detectors below d are in place, the rest is blank.
+use Prim.Native.Nat.{_-_}
+use Rattle.rules.specs.Personality.{bodyAt, recordAt, detectorCount, detectorPhase, detectorMode}
+use Rattle.rules.specs.Site.{noDetector, siteOf}
+use Rattle.decoding.proofs.Filling.{Filled, filled-none, filled-more, filled-whole}
+use borrow.Author.Needs.{needs}
+use native.Mathlib.Omega.{arith}
+use Rattle.decoding.proofs.detectors.Statement.{statement}
+use Rattle.decoding.proofs.detectors.Tie as tie
+
+abbrev Inv-loop : tie.InvT-loop
+Inv-loop s head count rows₀ d₀ rows d =
+    Filled (λ i. record { phase = detectorPhase s i; mode = detectorMode s i }) (detectorCount s) 48 noDetector d rows
+
+abbrev μ-loop : tie.MeasureT-loop
+μ-loop s head count rows₀ d₀ rows d = count - d
+
+detectors-head-requires : tie.Need-detectors-head-requires Inv-loop μ-loop
+detectors-head-requires c κs = search needs
+
+detector-count-requires : tie.Need-detector-count-requires Inv-loop μ-loop
+detector-count-requires c κs = search needs
+
+cast-count : tie.Need-cast-count Inv-loop μ-loop
+cast-count c = search needs
+
+loop-holds : tie.Need-loop-holds Inv-loop μ-loop
+loop-holds c = filled-none
+
+add-at : tie.Need-add-at Inv-loop μ-loop
+add-at c = search needs
+
+mul-at : tie.Need-mul-at Inv-loop μ-loop
+mul-at c = search needs
+
+add-at-2 : tie.Need-add-at-2 Inv-loop μ-loop
+add-at-2 c = search needs
+
+byte-requires : tie.Need-byte-requires Inv-loop μ-loop
+byte-requires c κs = search needs
+
+add-byte : tie.Need-add-byte Inv-loop μ-loop
+add-byte c = search needs
+
+byte-requires-2 : tie.Need-byte-requires-2 Inv-loop μ-loop
+byte-requires-2 c κs = search needs
+
+mul-rows : tie.Need-mul-rows Inv-loop μ-loop
+mul-rows c = search needs
+
+array-set-from-rows : tie.Need-array-set-from-rows Inv-loop μ-loop
+array-set-from-rows c = search needs
+
+add-d : tie.Need-add-d Inv-loop μ-loop
+add-d c = search needs
+
+loop-less : tie.Need-loop-less Inv-loop μ-loop
+loop-less c = search needs
+
+loop-again : tie.Need-loop-again Inv-loop μ-loop
+unfolding detectorPhase detectorMode recordAt bodyAt
+loop-again c =
+    filled-more
+    (c .before .before .before .loop .inv)
+    (simp (c .byte2 .ensures, c .before .byte .ensures, c .before .before .before .before .before .detectors-head .ensures .0))
+    (omega arith)
+    (omega arith)
+
+returns : tie.Need-returns Inv-loop μ-loop
+unfolding siteOf
+returns c = filled-whole (c .before .loop .inv) (omega arith)
+
+pub detectors-spec : {M : Type 1} → statement M
+detectors-spec =
+    tie.close
+    (tie.spec
+    Inv-loop
+    μ-loop
+    detectors-head-requires
+    detector-count-requires
+    cast-count
+    loop-holds
+    add-at
+    mul-at
+    add-at-2
+    byte-requires
+    add-byte
+    byte-requires-2
+    mul-rows
+    array-set-from-rows
+    add-d
+    loop-less
+    loop-again
+    returns)

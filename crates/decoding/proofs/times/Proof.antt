@@ -1,0 +1,21 @@
+-- `decoding::times` meets its contract: start red, and the rows of both kinds of records.
+use Rattle.rules.specs.Site.{timesIn}
+use borrow.Author.Needs.{needs}
+use Rattle.decoding.proofs.times.Statement.{statement}
+use Rattle.decoding.proofs.times.Tie as tie
+
+two-requires : tie.Need-two-requires
+two-requires c κs = search needs
+
+phase-times-requires : tie.Need-phase-times-requires
+phase-times-requires c κs = search needs
+
+walk-times-requires : tie.Need-walk-times-requires
+walk-times-requires c κs = search needs
+
+returns : tie.Need-returns
+unfolding timesIn
+returns c = simp (c .walk-times .ensures, c .before .phase-times .ensures, c .before .before .two .ensures)
+
+pub times-spec : {M : Type 1} → statement M
+times-spec = tie.close (tie.spec two-requires phase-times-requires walk-times-requires returns)

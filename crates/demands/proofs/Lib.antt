@@ -1,0 +1,6 @@
+pub mod Marks
+pub mod Letters
+pub mod Crossed
+pub mod Scan
+pub mod PartOne
+pub mod Sizes

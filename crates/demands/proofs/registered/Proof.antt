@@ -1,0 +1,39 @@
+-- `demands::registered` meets its contract: each part is what the calls for it ensure.
+use borrow.Author.Needs.{needs}
+use mathlib.Core.Bool.{Bool, false, _||_}
+use Rattle.rules.specs.Demands.{registersButton}
+use Rattle.rules.specs.State.{locked, asked, movement}
+use Rattle.demands.specs.Asked.{outsideGreen, demandsWith}
+use Rattle.proof_arrays.proofs.Fill.{row-of-row}
+use Rattle.demands.proofs.registered.Statement.{statement}
+use Rattle.demands.proofs.registered.Tie as tie
+
+green-requires : tie.Need-green-requires
+green-requires c κs = search needs
+
+cleared-requires : tie.Need-cleared-requires
+cleared-requires c κs = search needs
+
+either-requires : tie.Need-either-requires
+either-requires c κs = search needs
+
+press-requires : tie.Need-press-requires
+press-requires c κs = search needs
+
+returns : tie.Need-returns
+unfolding demandsWith outsideGreen locked asked registersButton movement
+returns c =
+    let at = c .before .before .before in
+    let args = at .before .before .before .before .before .before .args in
+    let s = args .state in
+    rw (
+      c .press .ensures,
+      c .before .either .ensures,
+      c .before .before .cleared .ensures,
+      at .green .ensures,
+      row-of-row (λ p (t : Bool). locked s p || t) (outsideGreen (s .position) (args .seen)) 7 false,
+    )
+
+pub registered-spec : {M : Type 1} → statement M
+registered-spec =
+    tie.close (tie.spec green-requires cleared-requires either-requires press-requires returns)

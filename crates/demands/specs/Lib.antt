@@ -1,0 +1,4 @@
+pub mod Seen
+pub mod Asked
+pub mod Sized
+pub mod Letters

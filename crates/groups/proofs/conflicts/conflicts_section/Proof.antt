@@ -1,0 +1,96 @@
+-- `conflicts::conflicts_section` meets its contract: head, number 9, then number 10, the first refusal being the answer.
+use Prim.Native.Nat.{_*_}
+use mathlib.Core.Path.{_≡_}
+use lib.Dec.{eqb}
+use borrow.Author.Needs.{needs}
+use Rattle.rules.specs.Personality.{bodyLength, groupCount, conflictsHead, sectionAt, conflictsSection}
+use Rattle.sections.proofs.Firsts.{or-next, or-stop}
+use Rattle.groups.proofs.conflicts.conflicts_section.Statement.{statement}
+use Rattle.groups.proofs.conflicts.conflicts_section.Tie as tie
+
+conflicts-head-requires : tie.Need-conflicts-head-requires
+conflicts-head-requires c κs = search needs
+
+two-requires : tie.Need-two-requires
+two-requires c κs = search needs
+
+cast-section : tie.Need-cast-section
+cast-section c = search needs
+
+group-count-requires : tie.Need-group-count-requires
+group-count-requires c κs = search needs
+
+cast-section-2 : tie.Need-cast-section-2
+cast-section-2 c = search needs
+
+mul-section : tie.Need-mul-section
+mul-section c = search needs
+
+section-requires : tie.Need-section-requires
+section-requires c κs = search needs
+
+enum-told : tie.Need-enum-told
+enum-told c = search needs
+
+-- the head is held to the length that N needs
+checked :
+    (c : tie.After-section) →
+    let b = c .before .before .before .before .before .args .s .now in
+    c .section .result ≡ sectionAt b (conflictsHead b) 4 (eqb (bodyLength b (conflictsHead b)) (groupCount b * 4))
+unfolding bodyLength
+checked c = cc
+
+returns : tie.Need-returns
+unfolding conflictsSection
+returns c = or-stop _ (checked (c .before .before)) (c .enum-told .given .1)
+
+enum-told-2 : tie.Need-enum-told-2
+enum-told-2 c = search needs
+
+conflict-records-requires : tie.Need-conflict-records-requires
+conflict-records-requires c κs = search needs
+
+enum-told-3 : tie.Need-enum-told-3
+enum-told-3 c = search needs
+
+returns-2 : tie.Need-returns-2
+unfolding conflictsSection
+returns-2 c =
+    let headPassed = c .before .before .before in
+    or-next (checked (headPassed .before .before)) (headPassed .enum-told2 .given .1)
+    (or-stop _ (cc) (c .enum-told3 .given .1))
+
+enum-told-4 : tie.Need-enum-told-4
+enum-told-4 c = search needs
+
+phase-conflicts-requires : tie.Need-phase-conflicts-requires
+phase-conflicts-requires c κs = search needs
+
+returns-3 : tie.Need-returns-3
+unfolding conflictsSection
+returns-3 c =
+    let recordsPassed = c .before in
+    let headPassed = recordsPassed .before .before .before in
+    or-next (checked (headPassed .before .before)) (headPassed .enum-told2 .given .1)
+    (or-next (recordsPassed .before .before .conflict-records .ensures) (recordsPassed .enum-told4 .given .1) (c .phase-conflicts .ensures))
+
+pub conflicts-section-spec : {M : Type 1} → statement M
+conflicts-section-spec =
+    tie.close
+    (tie.spec
+    conflicts-head-requires
+    two-requires
+    cast-section
+    group-count-requires
+    cast-section-2
+    mul-section
+    section-requires
+    enum-told
+    returns
+    enum-told-2
+    conflict-records-requires
+    enum-told-3
+    returns-2
+    enum-told-4
+    phase-conflicts-requires
+    returns-3)

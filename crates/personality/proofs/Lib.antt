@@ -1,4 +1,0 @@
-pub mod Firsts
-pub mod GroupChecks
-pub mod Records
-pub mod Sets

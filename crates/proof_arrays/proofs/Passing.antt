@@ -1,0 +1,14 @@
+-- Whether some entry passes, asked one entry at a time.
+use Prim.Native.Nat.{ℕ, _+_}
+use mathlib.Core.Bool.{Bool, false, _||_}
+use mathlib.Core.Path.{_≡_, refl}
+use native.Mathlib.Numerals.{add-one}
+use Rattle.rules.specs.Rows.{anyOf}
+
+pub any-none : (f : ℕ → Bool) → false ≡ anyOf f 0
+unfolding anyOf
+any-none f = refl
+
+pub any-more : (f : ℕ → Bool) (k : ℕ) {t u : Bool} → t ≡ anyOf f k → u ≡ f k → (t || u) ≡ anyOf f (k + 1)
+unfolding anyOf
+any-more f k e same = rw (e, same, add-one k)

@@ -1,0 +1,90 @@
+-- `stepping::movements::moved` meets its contract. The loop's invariant: the movements passed are a step on, the others as they were.
+use borrow.Author.Needs.{needs}
+use native.Mathlib.Omega.{arith}
+use Prim.Native.Nat.{ℕ, _-_, _≤_, _<_}
+use mathlib.Core.List.{List}
+use mathlib.Core.Path.{ap, _∙_}
+use lib.ListN.{length, getD}
+use Rattle.rules.specs.declared.site.WalkTimes.{WalkTimes}
+use Rattle.rules.specs.declared.state.Movement.{Movement}
+use Rattle.rules.specs.declared.state.Stage.the-variants.{Idle}
+use Rattle.rules.specs.Site.{noWalkTimes}
+use Rattle.rules.specs.State.{idle}
+use Rattle.rules.specs.Movements.{advanced}
+use Rattle.proof_arrays.proofs.Fill.{Filled, fill-none, fill-step, fill-done, entry-same}
+use Rattle.stepping.proofs.movements.moved.Statement.{statement}
+use Rattle.stepping.proofs.movements.moved.Tie as tie
+
+abbrev after : List WalkTimes → List Movement → ℕ → Movement
+after settings stages k = advanced (getD stages k idle .stage) (getD settings k noWalkTimes) (getD stages k idle .age)
+
+abbrev Inv-loop : tie.InvT-loop
+Inv-loop settings stages out₀ k₀ out k = (k ≤ 8) × Filled (after settings stages) stages out k
+
+abbrev μ-loop : tie.MeasureT-loop
+μ-loop settings stages out₀ k₀ out k = 8 - k
+
+loop-holds : tie.Need-loop-holds Inv-loop μ-loop
+loop-holds c = (search needs, fill-none _ _)
+
+mul-movement : tie.Need-mul-movement Inv-loop μ-loop
+mul-movement c = search needs
+
+array-copy-out-movement : tie.Need-array-copy-out-movement Inv-loop μ-loop
+array-copy-out-movement c = search needs
+
+mul-times : tie.Need-mul-times Inv-loop μ-loop
+mul-times c = search needs
+
+array-copy-out-times : tie.Need-array-copy-out-times Inv-loop μ-loop
+array-copy-out-times c = search needs
+
+one-moved-requires : tie.Need-one-moved-requires Inv-loop μ-loop
+one-moved-requires c κs = search needs
+
+mul-out : tie.Need-mul-out Inv-loop μ-loop
+mul-out c = search needs
+
+array-set-from-out : tie.Need-array-set-from-out Inv-loop μ-loop
+array-set-from-out c = search needs
+
+add-k : tie.Need-add-k Inv-loop μ-loop
+add-k c = search needs
+
+loop-less : tie.Need-loop-less Inv-loop μ-loop
+loop-less c = search needs
+
+loop-again : tie.Need-loop-again Inv-loop μ-loop
+loop-again c =
+    let at = c .before .before .before .before in
+    let args = at .before .args in
+    let k = at .loop .k in
+    let inside : k < length (args .t2) = omega (arith, at .before .good .1 .0 .1 .0 .1) in (
+      search needs,
+      fill-step (at .loop .inv .1) inside
+          (c .one-moved .ensures
+          ∙ ap (λ (m : Movement). advanced (m .stage) (getD (args .t1) k noWalkTimes) (m .age))
+          (entry-same (args .t2) k (record { stage = Idle; age = 0 }) idle inside)),
+    )
+
+returns : tie.Need-returns Inv-loop μ-loop
+returns c = fill-done (c .before .loop .inv .1) (c .before .before .good .1 .0 .1 .0 .1) (c .before .loop .inv .0) (c .loop-test .left)
+
+pub moved-spec : {M : Type 1} → statement M
+moved-spec =
+    tie.close
+    (tie.spec
+    Inv-loop
+    μ-loop
+    loop-holds
+    mul-movement
+    array-copy-out-movement
+    mul-times
+    array-copy-out-times
+    one-moved-requires
+    mul-out
+    array-set-from-out
+    add-k
+    loop-less
+    loop-again
+    returns)

@@ -1,0 +1,62 @@
+// Part 5 of a step: walks. When a phase starts, its demanded movements begin walk. When the interval is now running and no other
+// phase is demanded, idle demanded movements of the phase begin walk. Beginning clears the demand; the age is 1.
+ghost use mathlib.Core.Path.{_≡_};
+ghost use Rattle.stepping.specs.Begun.{mayBegin, walkIf, begunOf};
+use rules::state::Movement;
+use rules::state::Position;
+use rules::state::Stage;
+
+// The button demands that are left, and the movements.
+pub struct Walks {
+    pub buttons: [bool; 8],
+    pub movements: [Movement; 8],
+}
+
+// Whether a movement begins walk: it is demanded, is of the phase, and the phase starts, or it is idle and walks may begin.
+fn may_begin(asked: bool, crossing: u8, phase: u8, starts: bool, free: bool, stage: Stage) -> bool
+    ensures { λ r. ⌜ r ≡ mayBegin asked crossing phase starts free stage ⌝ }
+{
+    asked & reads::bit8(phase, crossing) & (starts | (free & intervals::idle(stage)))
+}
+
+fn walk_if(begins: bool, movement: Movement) -> Movement
+    ensures { λ r. ⌜ r ≡ walkIf begins movement ⌝ }
+{
+    if begins {
+        return Movement {
+            stage: Stage::Walk,
+            age: 1,
+        };
+    }
+    movement
+}
+
+pub fn begin(
+    crossings: [u8; 8],
+    starts: bool,
+    another: bool,
+    now: Position,
+    buttons: [bool; 8],
+    stages: [Movement; 8],
+) -> Walks
+    ensures { λ r. ⌜ r ≡ begunOf crossings starts another now buttons stages ⌝ }
+{
+    let interval = now.interval;
+    let phase = now.phase;
+    let free = intervals::running(interval) & !another;
+    let mut left = buttons;
+    let mut out = stages;
+    let mut k: usize = 0;
+    while k < 8 {
+        let movement = stages[k];
+        let stage = movement.stage;
+        let begins = may_begin(buttons[k], crossings[k], phase, starts, free, stage);
+        left[k] = buttons[k] & !begins;
+        out[k] = walk_if(begins, movement);
+        k += 1;
+    }
+    Walks {
+        buttons: left,
+        movements: out,
+    }
+}

@@ -1,0 +1,354 @@
+#!/usr/bin/env python3
+"""Builds the example sites.
+
+    build.py NAME ..    reads NAME/site.txt and its input scripts and writes the .bin files beside them
+    build.py --check    builds every site in memory and compares it with the files that are kept
+
+README.md describes both text forms. A mistake is told with its file and line, and that site is not written."""
+import sys
+from pathlib import Path
+from typing import NamedTuple
+
+HERE = Path(__file__).resolve().parent
+sys.dont_write_bytecode = True
+sys.path.insert(0, str(HERE.parent / "vectors"))
+from model import PHASE_FIELDS, RANGES, WALK_FIELDS, verdict
+
+SECTIONS = ("site", "phases", "groups", "conflicts", "detectors", "pedestrians")
+LETTERS = tuple("ABCDEFG")
+MARKS = {"vehicle": 0, "late-start": 1, "pedestrian": 2}
+CALLS = {"no-call": 0, "non-locking": 1, "locking": 2}
+EXTENDS = 4
+FIRST_BUTTON = 48
+MOST = {"groups": 32, "detectors": 48, "pedestrian groups": 8, "steps": 36000}
+
+
+class Mistake(Exception):
+    """What is wrong with a text, and where."""
+
+
+class Line(NamedTuple):
+    place: str
+    words: list
+
+
+class Group(NamedTuple):
+    name: str
+    phases: int
+    mark: int
+
+
+class Site(NamedTuple):
+    start_red: int
+    phases: list
+    groups: list
+    conflicts: list
+    detectors: list
+    walks: list
+
+
+def need(truth, place, what):
+    if not truth:
+        raise Mistake(f"{place}: {what}")
+
+
+# ── Reading lines ──
+
+def lines_of(path):
+    """The lines that hold words, without comments."""
+    found = []
+    for number, text in enumerate(path.read_text(encoding="utf-8").splitlines(), 1):
+        words = text.split("#")[0].split()
+        if words:
+            found.append(Line(f"{path.parent.name}/{path.name}:{number}", words))
+    return found
+
+
+def whole(line, word):
+    need(word.isdecimal(), line.place, f"{word} is not a whole number")
+    return int(word)
+
+
+def time(line, name, word):
+    value = whole(line, word)
+    low, high = RANGES[name]
+    need(low <= value <= high, line.place, f"{name} is {value}, not {low} to {high}")
+    return value
+
+
+def times(line, names, words):
+    need(len(words) == len(names), line.place, f"needs the times {' '.join(names)}")
+    return tuple(time(line, name, word) for name, word in zip(names, words))
+
+
+# ── Reading a site ──
+
+def sections_of(path):
+    """The lines of each section; the six headings stand in their order, each once."""
+    sections = {}
+    for line in lines_of(path):
+        if len(line.words) == 1 and line.words[0] in SECTIONS:
+            name = line.words[0]
+            need(SECTIONS[len(sections):][:1] == (name,), line.place, f"{name} is not the section expected here")
+            sections[name] = []
+        else:
+            need(sections, line.place, "stands before the first section")
+            sections[name].append(line)
+    need(len(sections) == len(SECTIONS), path.parent.name, "a section is missing")
+    return sections
+
+
+def site_settings(lines, place):
+    """Start red, and the wait bound that was worked out by hand."""
+    found = {" ".join(line.words[:-1]): line for line in lines}
+    need(set(found) == {"start red", "wait bound"}, place, "section site needs `start red` and `wait bound`")
+    start, bound = found["start red"], found["wait bound"]
+    return time(start, "start", start.words[-1]), whole(bound, bound.words[-1])
+
+
+def phase_rows(lines, place):
+    need(2 <= len(lines) <= 7, place, f"{len(lines)} phases, not 2 to 7")
+    for letter, line in zip(LETTERS, lines):
+        need(line.words[0] == letter, line.place, f"phase {letter} belongs here")
+    return [times(line, PHASE_FIELDS, line.words[1:]) for line in lines]
+
+
+def phase_set(line, letters, count):
+    """The set as a number; `-` is the empty set."""
+    phases = 0
+    for letter in letters.replace("-", ""):
+        need(letter in LETTERS[:count], line.place, f"there is no phase {letter}")
+        phases |= 1 << LETTERS.index(letter)
+    return phases
+
+
+def group_row(line, count):
+    need(len(line.words) == 3, line.place, "a group is a name, its phases and its mark")
+    name, letters, mark = line.words
+    need(mark in MARKS, line.place, f"{mark} is not one of {' '.join(MARKS)}")
+    group = Group(name, phase_set(line, letters, count), MARKS[mark])
+    single = bin(group.phases).count("1") == 1
+    need(single or mark != "pedestrian", line.place, "a pedestrian group has exactly one phase")
+    return group
+
+
+def group_rows(lines, count, place):
+    need(1 <= len(lines) <= MOST["groups"], place, f"{len(lines)} groups, not 1 to {MOST['groups']}")
+    groups = [group_row(line, count) for line in lines]
+    need(len({group.name for group in groups}) == len(groups), place, "two groups have the same name")
+    need(len(pedestrians_of(groups)) <= MOST["pedestrian groups"], place, "a ninth pedestrian group")
+    for p in range(count):
+        need(any(group.phases >> p & 1 for group in groups), place, f"phase {LETTERS[p]} is in no group")
+    return groups
+
+
+def pedestrians_of(groups):
+    return [group for group in groups if group.mark == MARKS["pedestrian"]]
+
+
+def conflict_row(line, groups):
+    names = [group.name for group in groups]
+    row = 0
+    for name in line.words[1:]:
+        need(name in names, line.place, f"there is no group {name}")
+        row |= 1 << names.index(name)
+    return row
+
+
+def conflict_rows(lines, groups, place):
+    """One row for each group, in the order of the groups."""
+    need(len(lines) == len(groups), place, "conflicts need one row for each group")
+    for line, group in zip(lines, groups):
+        need(line.words[0] == group.name + ":", line.place, f"the row of {group.name} belongs here")
+    rows = [conflict_row(line, groups) for line in lines]
+    for g, line in enumerate(lines):
+        for j in range(len(groups)):
+            if rows[g] >> j & 1:
+                check_conflict(line, groups, rows, g, j)
+    return rows
+
+
+def check_conflict(line, groups, rows, g, j):
+    other = groups[j].name
+    need(g != j, line.place, "a group is in conflict with itself")
+    need(rows[j] >> g & 1, line.place, f"the row of {other} lacks {groups[g].name}")
+    need(not groups[g].phases & groups[j].phases, line.place, f"shares a phase with {other}")
+
+
+def detector_row(line, number, count):
+    need(len(line.words) in (3, 4), line.place, "a detector is a number, its phase and its mode")
+    need(line.words[0] == str(number), line.place, f"detector {number} belongs here")
+    letter, call = line.words[1:3]
+    extending = line.words[3:]
+    need(letter in LETTERS[:count], line.place, f"there is no phase {letter}")
+    need(call in CALLS, line.place, f"{call} is not one of {' '.join(CALLS)}")
+    need(extending in ([], ["extending"]), line.place, "only extending may follow the call")
+    return LETTERS.index(letter), CALLS[call] + (EXTENDS if extending else 0)
+
+
+def detector_rows(lines, count, place):
+    need(len(lines) <= MOST["detectors"], place, f"more than {MOST['detectors']} detectors")
+    return [detector_row(line, number, count) for number, line in enumerate(lines)]
+
+
+def walk_rows(lines, groups, place):
+    names = [group.name for group in pedestrians_of(groups)]
+    need([line.words[0] for line in lines] == names, place, f"section pedestrians needs the rows {' '.join(names)}")
+    return [times(line, WALK_FIELDS, line.words[1:]) for line in lines]
+
+
+def site_of(path):
+    """The site, and the wait bound that its text states."""
+    place = path.parent.name
+    text = sections_of(path)
+    start_red, bound = site_settings(text["site"], place)
+    phases = phase_rows(text["phases"], place)
+    groups = group_rows(text["groups"], len(phases), place)
+    conflicts = conflict_rows(text["conflicts"], groups, place)
+    detectors = detector_rows(text["detectors"], len(phases), place)
+    walks = walk_rows(text["pedestrians"], groups, place)
+    return Site(start_red, phases, groups, conflicts, detectors, walks), bound
+
+
+# ── The wait bound ──
+
+def walks_in(site, phase):
+    return [walk for group, walk in zip(pedestrians_of(site.groups), site.walks) if group.phases >> phase & 1]
+
+
+def phase_share(site, phase):
+    """What one phase adds: L + M + X + 2 × (A + Y + R + C)."""
+    late, minimum, maximum, _, yellow, red = site.phases[phase]
+    walks = walks_in(site, phase)
+    walking = max((walk + first for walk, first, _ in walks), default=0)
+    clearing = max((second for _, _, second in walks), default=0)
+    return late + minimum + maximum + 2 * (walking + yellow + red + clearing)
+
+
+def wait_bound(site):
+    return site.start_red + sum(phase_share(site, phase) for phase in range(len(site.phases)))
+
+
+# ── Bytes ──
+
+def little(value, size):
+    return value.to_bytes(size, "little")
+
+
+def section(kind, body):
+    return little(len(body), 2) + little(kind, 2) + body
+
+
+def packed(rows, size):
+    """Every number of the rows in `size` bytes."""
+    return b"".join(little(value, size) for row in rows for value in row)
+
+
+def personality_of(site):
+    bodies = (bytes([len(site.phases), len(site.groups)]) + little(site.start_red, 2),
+              packed(site.phases, 2),
+              packed([(group.phases, group.mark) for group in site.groups], 1),
+              packed([site.conflicts], 4),
+              packed(site.detectors, 1),
+              packed(site.walks, 2))
+    return b"".join(section(kind, body) for kind, body in enumerate(bodies, 1))
+
+
+# ── Input scripts ──
+
+FORM = "needs steps, then a detector or a button"
+
+
+def steps_in(line, last):
+    """The steps that a line names: `always`, `12`, `40..45`, `40..400 every 20`."""
+    when = line.words[:-2]
+    if when == ["always"]:
+        return range(1, last + 1)
+    need(len(when) == 1 or len(when) == 3 and when[1] == "every", line.place, FORM)
+    ends = [whole(line, word) for word in when[0].split("..")]
+    every = whole(line, when[2]) if len(when) == 3 else 1
+    need(len(ends) <= 2 and every > 0, line.place, f"{' '.join(when)} names no steps")
+    need(1 <= ends[0] <= ends[-1] <= last, line.place, f"{when[0]} is not within steps 1 to {last}")
+    return range(ends[0], ends[-1] + 1, every)
+
+
+def bit_of(line, site):
+    need(len(line.words) >= 3 and line.words[-2] in ("detector", "button"), line.place, FORM)
+    kind, word = line.words[-2:]
+    first, count = (0, len(site.detectors)) if kind == "detector" else (FIRST_BUTTON, len(site.walks))
+    number = whole(line, word)
+    need(number < count, line.place, f"the site has no {kind} {number}")
+    return first + number
+
+
+def inputs_of(path, site):
+    """The 64 input bits of each step."""
+    lines = lines_of(path)
+    need(lines and lines[0].words[0] == "steps" and len(lines[0].words) == 2, f"{path.parent.name}/{path.name}",
+         "its first line is `steps` with their number")
+    last = whole(lines[0], lines[0].words[1])
+    need(last <= MOST["steps"], lines[0].place, f"more than {MOST['steps']} steps")
+    inputs = [0] * last
+    for line in lines[1:]:
+        bit = 1 << bit_of(line, site)
+        for step in steps_in(line, last):
+            inputs[step - 1] |= bit
+    return inputs
+
+
+def stdin_of(personality, inputs):
+    return little(len(personality), 2) + personality + packed([inputs], 8)
+
+
+# ── Commands ──
+
+def built(name):
+    """The .bin files of a site, by file name, and a line about it."""
+    folder = HERE / name
+    need((folder / "site.txt").is_file(), name, "there is no such site")
+    site, stated = site_of(folder / "site.txt")
+    personality = personality_of(site)
+    need(verdict(personality) == (0, 0), name, f"the model refuses it with {verdict(personality)}")
+    need(wait_bound(site) == stated, name, f"the wait bound is {wait_bound(site)}, not {stated}")
+    files = {"personality.bin": personality}
+    told = [f"{name}: {len(personality)} bytes, wait bound {stated}"]
+    for path in sorted(folder.glob("inputs*.txt")):
+        inputs = inputs_of(path, site)
+        files[path.stem.replace("inputs", "stdin") + ".bin"] = stdin_of(personality, inputs)
+        told.append(f"{path.name} {len(inputs)} steps")
+    return files, ", ".join(told)
+
+
+def write(name):
+    files, told = built(name)
+    for file, data in files.items():
+        (HERE / name / file).write_bytes(data)
+    print(told)
+
+
+def check(name):
+    """Whether the files kept are those that would be written, and no others."""
+    files, told = built(name)
+    kept = {path.name: path.read_bytes() for path in (HERE / name).glob("*.bin")}
+    for file in sorted(set(files) | set(kept)):
+        need(files.get(file) == kept.get(file), f"{name}/{file}", "not as built")
+    print(told)
+
+
+def main(arguments):
+    names = sorted(path.parent.name for path in HERE.glob("*/site.txt"))
+    work, names = (check, names) if arguments == ["--check"] else (write, arguments)
+    if not names or any(name.startswith("-") for name in names):
+        print(__doc__)
+        return 2
+    try:
+        for name in names:
+            work(name)
+    except Mistake as mistake:
+        print(mistake)
+        return 1
+    return 0
+
+
+if __name__ == "__main__":
+    sys.exit(main(sys.argv[1:]))
