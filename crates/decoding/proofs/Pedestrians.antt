@@ -1,7 +1,6 @@
 -- One pass over the groups with a running count: before group g the array has the sets of the pedestrian groups below g, in group
 -- order, and the count is how many they are. A pedestrian group adds its set at the count; at the end every movement has its own.
 use Prim.Native.Nat.{ℕ, suc, _+_, _-_, _≤_, _<_}
-use mathlib.Core.Bool.{true, false}
 use mathlib.Core.List.{List, [], _∷_, _++_, map, map-append, append-nil}
 use mathlib.Core.Path.{_≡_, refl, sym, ap, _∙_}
 use native.Mathlib.Numerals.{add-one}

@@ -13,7 +13,7 @@ use Rattle.rules.specs.declared.state.Held.the-variants.{Nothing, Phase}
 use Rattle.rules.specs.Rows.{listOf}
 use Rattle.rules.specs.Demands.{after, before, firstIn}
 use Rattle.rules.proofs.Tests.{decided}
-use Rattle.demands.specs.Letters.{run}
+use Rattle.demands.specs.Letters.{run, others}
 
 -- ── A search of a run, phase by phase ──
 
@@ -106,7 +106,7 @@ pub next-later :
     (f : ℕ → Bool) (p n : ℕ) {q : ℕ} →
     p < n →
     firstIn f (run (p + 1) (n - (p + 1))) ≡ Phase q →
-    firstIn f (after p (listOf (λ p. p) n) ++ before p (listOf (λ p. p) n)) ≡ Phase q
+    firstIn f (others p n) ≡ Phase q
 next-later f p n h e =
     rw (letters-after p n h, letters-before p n h) (first-found f (run (p + 1) (n - (p + 1))) (run 0 (p - 0)) e)
 
@@ -114,7 +114,7 @@ pub next-earlier :
     (f : ℕ → Bool) (p n : ℕ) →
     p < n →
     firstIn f (run (p + 1) (n - (p + 1))) ≡ Nothing →
-    firstIn f (after p (listOf (λ p. p) n) ++ before p (listOf (λ p. p) n)) ≡ firstIn f (run 0 (p - 0))
+    firstIn f (others p n) ≡ firstIn f (run 0 (p - 0))
 next-earlier f p n h e =
     rw (letters-after p n h, letters-before p n h) (first-none f (run (p + 1) (n - (p + 1))) (run 0 (p - 0)) e)
 
@@ -143,8 +143,8 @@ pub next-same :
     p < n →
     n ≤ m →
     ((q : ℕ) → q < m → f q ≡ g q) →
-    firstIn f (after p (listOf (λ p. p) n) ++ before p (listOf (λ p. p) n))
-    ≡ firstIn g (after p (listOf (λ p. p) n) ++ before p (listOf (λ p. p) n))
+    firstIn f (others p n)
+    ≡ firstIn g (others p n)
 next-same f g p n m h k same =
     rw (letters-after p n h, letters-before p n h)
     (runs-same f g (p + 1) (n - (p + 1)) 0 (p - 0) m (omega arith) (omega arith) same)

@@ -2,7 +2,7 @@
 -- by phase.
 use Prim.Native.Nat.{ℕ, _≤_, _<_}
 use mathlib.Core.Bool.{Bool, false, not, _&&_, _||_}
-use mathlib.Core.List.{List, _++_}
+use mathlib.Core.List.{List}
 use mathlib.Core.Path.{_≡_, ap, _∙_}
 use lib.ListN.{getD}
 use Rattle.rules.specs.declared.site.Site.{Site}
@@ -13,16 +13,33 @@ use Rattle.rules.specs.declared.state.State.{State}
 use Rattle.rules.specs.Bytes.{bit}
 use Rattle.rules.specs.Rows.{anyOf, listOf}
 use Rattle.rules.specs.Site.{detectorOf, crosses, ring}
-use Rattle.rules.specs.State.{locked}
-use Rattle.rules.specs.Demands.{calling, locking, extending, detected, inGreen, registersLock, calls, demandsAfter, stands, demanded, after, before, firstIn, nextDemanded}
+use Rattle.rules.specs.State.{locked, asked}
+use Rattle.rules.specs.Demands.{calling, locking, extending, detected, inGreen, registersLock, registersButton, calls, demandsAfter, stands, demanded, firstIn, nextDemanded}
 use Rattle.rules.proofs.Rows.{list-at}
 use Rattle.demands.specs.declared.Asked.{Asked}
 use Rattle.demands.specs.declared.detectors.Sensed.{Sensed}
+use Rattle.demands.specs.Letters.{others}
 use Rattle.demands.specs.Sized.{Sized}
 use Rattle.demands.specs.Seen.{seen, sensedIn}
 use Rattle.demands.specs.Asked.{outsideGreen, demandsWith, demandedWith, askedOf}
-use Rattle.proof_arrays.proofs.Fill.{list-same}
+use Rattle.proof_arrays.proofs.Fill.{list-same, row-of-row}
 use Rattle.demands.proofs.Letters.{next-same}
+
+-- the demands that stand from the rows that are joined
+pub demands-rows :
+    (s : State) (inputs : ℕ) (row locks locking buttons : List Bool) →
+    locks ≡ listOf (λ p. getD (s .demands .locks) p false || getD locking p false) 7 →
+    locking ≡ listOf (outsideGreen (s .position) row) 7 →
+    buttons ≡ listOf (λ k. asked s k || registersButton s inputs k) 8 →
+    _≡_ {A = Demands} (record { locks = locks; buttons = buttons }) (demandsWith s inputs row)
+unfolding demandsWith locked
+demands-rows s inputs row locks locking buttons first second third =
+    rw (
+      first,
+      second,
+      third,
+      row-of-row (λ p (t : Bool). getD (s .demands .locks) p false || t) (outsideGreen (s .position) row) 7 false,
+    )
 
 -- the row of the demanded phases from the rows that are joined
 pub demanded-rows :
@@ -76,7 +93,7 @@ module _ (site : Site) (s : State) (inputs : ℕ) where
       s .position .phase < site .size .phases →
       site .size .phases ≤ 7 →
       firstIn (λ p. getD (listOf (demanded site s inputs) 7) p false)
-      (after (s .position .phase) (listOf (λ p. p) (site .size .phases)) ++ before (s .position .phase) (listOf (λ p. p) (site .size .phases)))
+      (others (s .position .phase) (site .size .phases))
       ≡ nextDemanded site s inputs
   unfolding nextDemanded ring
   next-told h k =
@@ -92,7 +109,7 @@ module _ (site : Site) (s : State) (inputs : ℕ) where
       (searched :
       next
       ≡ firstIn (λ p. getD row p false)
-      (after (s .position .phase) (listOf (λ p. p) (site .size .phases)) ++ before (s .position .phase) (listOf (λ p. p) (site .size .phases))))
+      (others (s .position .phase) (site .size .phases)))
       (sized : Sized site (s .position .phase))
     where
       stand : demands ≡ demandsAfter site s inputs

@@ -1,12 +1,10 @@
 // The search along the ring of phases.
 ghost use mathlib.Core.Bool.{false};
-ghost use mathlib.Core.List.{_++_};
 ghost use mathlib.Core.Path.{_≡_};
 ghost use Prim.Native.Nat.{_-_, _≤_, _<_};
 ghost use lib.ListN.{getD};
-ghost use Rattle.rules.specs.Rows.{listOf};
-ghost use Rattle.rules.specs.Demands.{after, before, firstIn};
-ghost use Rattle.demands.specs.Letters.{run};
+ghost use Rattle.rules.specs.Demands.{firstIn};
+ghost use Rattle.demands.specs.Letters.{run, others};
 use rules::state::Held;
 
 // The first demanded phase from a letter on, up to and without another.
@@ -27,7 +25,7 @@ fn search(demanded: [bool; 7], from: usize, to: usize) -> Held
 // The first demanded phase after this one in cyclic letter order: the phases after it, then those before it.
 pub fn next(demanded: [bool; 7], phase: u8, phases: u8) -> Held
     requires { ⌜ (phase < phases) × (phases ≤ 7) ⌝ }
-    ensures { λ r. ⌜ r ≡ firstIn (λ p. getD demanded p false) (after phase (listOf (λ p. p) phases) ++ before phase (listOf (λ p. p) phases)) ⌝ }
+    ensures { λ r. ⌜ r ≡ firstIn (λ p. getD demanded p false) (others phase phases) ⌝ }
 {
     let p = phase as usize;
     let n = phases as usize;

@@ -5,10 +5,10 @@ use mathlib.Core.Path.{_≡_, refl}
 use native.Mathlib.Numerals.{add-one}
 use Rattle.rules.specs.Rows.{anyOf}
 
-pub any-none : (f : ℕ → Bool) → false ≡ anyOf f 0
+pub none-passes : (f : ℕ → Bool) → false ≡ anyOf f 0
 unfolding anyOf
-any-none f = refl
+none-passes f = refl
 
-pub any-more : (f : ℕ → Bool) (k : ℕ) {t u : Bool} → t ≡ anyOf f k → u ≡ f k → (t || u) ≡ anyOf f (k + 1)
+pub one-more : (f : ℕ → Bool) (k : ℕ) {t u : Bool} → t ≡ anyOf f k → u ≡ f k → (t || u) ≡ anyOf f (k + 1)
 unfolding anyOf
-any-more f k e same = rw (e, same, add-one k)
+one-more f k e same = rw (e, same, add-one k)

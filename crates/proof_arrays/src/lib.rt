@@ -1,1 +1,1 @@
-// Laws of arrays that loops read and write by index. This crate has no function.
+// Proof only: laws of arrays that loops read and write by index. See proofs/.

@@ -5,6 +5,7 @@ use mathlib.Core.List.{List, _++_}
 use lib.Dec.{leb, ltb}
 use lib.ListN.{length, drop}
 use Rattle.rules.specs.declared.answer.Answer.{Answer}
+use Rattle.rules.specs.declared.answer.Outcome.{Outcome}
 use Rattle.rules.specs.declared.answer.Outcome.the-variants.{Stepped, Declined}
 use Rattle.rules.specs.declared.answer.Verdict.{Verdict}
 use Rattle.rules.specs.declared.answer.Verdict.the-variants.{Accepted, Refused}
@@ -55,3 +56,12 @@ answerOf b s inputs room = answerFor (callVerdict b s inputs room) (siteOf b) s 
 
 unfoldable pub bufferOf : List ℕ → State → ℕ → List ℕ → List ℕ
 bufferOf b s inputs buffer = bufferFor (callVerdict b s inputs (length buffer)) (siteOf b) s inputs buffer
+
+-- ── Unit three: the wait bound of a personality, or its refusal ──
+
+unfoldable pub boundFor : Verdict → Site → Outcome
+boundFor Accepted site = Stepped (waitBound site)
+boundFor (Refused number place) site = Declined number place
+
+unfoldable pub boundOf : List ℕ → Outcome
+boundOf b = boundFor (verdictOf b) (siteOf b)

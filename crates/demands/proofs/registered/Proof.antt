@@ -1,10 +1,10 @@
 -- `demands::registered` meets its contract: each part is what the calls for it ensure.
 use borrow.Author.Needs.{needs}
-use mathlib.Core.Bool.{Bool, false, _||_}
+use mathlib.Core.Path.{_∙_}
 use Rattle.rules.specs.Demands.{registersButton}
-use Rattle.rules.specs.State.{locked, asked, movement}
-use Rattle.demands.specs.Asked.{outsideGreen, demandsWith}
-use Rattle.proof_arrays.proofs.Fill.{row-of-row}
+use Rattle.rules.specs.State.{asked, movement}
+use Rattle.demands.specs.Asked.{outsideGreen}
+use Rattle.demands.proofs.PartOne.{demands-rows}
 use Rattle.demands.proofs.registered.Statement.{statement}
 use Rattle.demands.proofs.registered.Tie as tie
 
@@ -21,18 +21,15 @@ press-requires : tie.Need-press-requires
 press-requires c κs = search needs
 
 returns : tie.Need-returns
-unfolding demandsWith outsideGreen locked asked registersButton movement
+unfolding outsideGreen asked registersButton movement
 returns c =
     let at = c .before .before .before in
     let args = at .before .before .before .before .before .before .args in
-    let s = args .state in
-    rw (
-      c .press .ensures,
-      c .before .either .ensures,
-      c .before .before .cleared .ensures,
-      at .green .ensures,
-      row-of-row (λ p (t : Bool). locked s p || t) (outsideGreen (s .position) (args .seen)) 7 false,
-    )
+    demands-rows (args .state) (args .inputs) (args .seen)
+    (c .before .either .result) (c .before .before .cleared .result) (c .press .result)
+    (c .before .either .ensures)
+    (c .before .before .cleared .ensures ∙ rw (at .green .ensures))
+    (c .press .ensures)
 
 pub registered-spec : {M : Type 1} → statement M
 registered-spec =

@@ -42,7 +42,7 @@ returns-3 c = rw (c .before .enum-told3 .given .1)
 
 returns-4 : tie.Need-returns-4
 unfolding ends
-returns-4 c = let at = c .before .before .before .before in rw (at .under-way .ensures .0, at .before .enum-told4 .given .1)
+returns-4 c = let at = c .before .before .before .before in simp (at .under-way .ensures .0, at .before .enum-told4 .given .1)
 
 returns-5 : tie.Need-returns-5
 unfolding ends
@@ -50,7 +50,7 @@ returns-5 c = rw (c .before .enum-told5 .given .1)
 
 returns-6 : tie.Need-returns-6
 unfolding ends
-returns-6 c = rw (c .before .before .under-way2 .ensures .1, c .before .before .before .enum-told6 .given .1)
+returns-6 c = let at = c .before .before in simp (at .under-way2 .ensures .1, at .before .enum-told6 .given .1)
 
 pub over-spec : {M : Type 1} → statement M
 over-spec =

@@ -14,7 +14,7 @@ use Rattle.rules.specs.Intervals.{isWalkOrFirst, isSecond}
 use Rattle.rules.specs.State.{idle}
 use Rattle.rules.specs.Interval.{someMovement}
 use Rattle.proof_arrays.proofs.Fill.{entry-same}
-use Rattle.proof_arrays.proofs.Passing.{any-none, any-more}
+use Rattle.proof_arrays.proofs.Passing.{none-passes, one-more}
 use Rattle.changes.proofs.ending.under_way.Statement.{statement}
 use Rattle.changes.proofs.ending.under_way.Tie as tie
 
@@ -28,7 +28,7 @@ abbrev μ-loop : tie.MeasureT-loop
 μ-loop movements walking₀ clearing₀ k₀ walking clearing k = 8 - k
 
 loop-holds : tie.Need-loop-holds Inv-loop μ-loop
-loop-holds c = (search needs, any-none _, any-none _)
+loop-holds c = (search needs, none-passes _, none-passes _)
 
 mul-movement : tie.Need-mul-movement Inv-loop μ-loop
 mul-movement c = search needs
@@ -56,8 +56,8 @@ loop-again c =
     let inside : k < length list = omega (arith, here .before .good .0 .1 .0 .1) in
     let entry = ap (λ (m : Movement). m .stage) (entry-same list k (record { stage = Idle; age = 0 }) idle inside) in (
       search needs,
-      any-more (at isWalkOrFirst list) k (here .loop .inv .1) (c .before .walk-or-first .ensures ∙ ap isWalkOrFirst entry),
-      any-more (at isSecond list) k (here .loop .inv .2) (c .second .ensures ∙ ap isSecond entry),
+      one-more (at isWalkOrFirst list) k (here .loop .inv .1) (c .before .walk-or-first .ensures ∙ ap isWalkOrFirst entry),
+      one-more (at isSecond list) k (here .loop .inv .2) (c .second .ensures ∙ ap isSecond entry),
     )
 
 returns : tie.Need-returns Inv-loop μ-loop

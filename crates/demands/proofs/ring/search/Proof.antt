@@ -30,7 +30,10 @@ cast-t10 : tie.Need-cast-t10 Inv-loop μ-loop
 cast-t10 c = search needs
 
 returns : tie.Need-returns Inv-loop μ-loop
-returns c = sym (c .before .before .loop .inv .1 ∙ search-found (at (c .before .before .before .args .t1)) (c .before .before .loop .p) (c .before .before .before .args .to) (c .before .loop-test .taken) (c .if1 .taken))
+returns c =
+    let here = c .before .before in
+    let args = here .before .args in
+    sym (here .loop .inv .1 ∙ search-found (at (args .t1)) (here .loop .p) (args .to) (c .before .loop-test .taken) (c .if1 .taken))
 
 add-p : tie.Need-add-p Inv-loop μ-loop
 add-p c = search needs
@@ -39,10 +42,16 @@ loop-less : tie.Need-loop-less Inv-loop μ-loop
 loop-less c = search needs
 
 loop-again : tie.Need-loop-again Inv-loop μ-loop
-loop-again c = (search needs, c .before .before .loop .inv .1 ∙ search-on (at (c .before .before .before .args .t1)) (c .before .before .loop .p) (c .before .before .before .args .to) (c .before .loop-test .taken) (c .if1 .left))
+loop-again c =
+    let here = c .before .before in
+    let args = here .before .args in
+    (search needs, here .loop .inv .1 ∙ search-on (at (args .t1)) (here .loop .p) (args .to) (c .before .loop-test .taken) (c .if1 .left))
 
 returns-2 : tie.Need-returns-2 Inv-loop μ-loop
-returns-2 c = sym (c .before .loop .inv .1 ∙ search-none (at (c .before .before .args .t1)) (c .before .loop .p) (c .before .before .args .to) (c .loop-test .left))
+returns-2 c =
+    let here = c .before in
+    let args = here .before .args in
+    sym (here .loop .inv .1 ∙ search-none (at (args .t1)) (here .loop .p) (args .to) (c .loop-test .left))
 
 pub search-spec : {M : Type 1} → statement M
 search-spec =

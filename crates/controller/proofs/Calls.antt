@@ -1,0 +1,125 @@
+-- A step call, check by check: each of 13, 15 and 14 decides the verdict once the checks before it have passed, and the verdict
+-- decides the answer and the buffer.
+use Prim.Native.Nat.{ℕ, _≤_, _<_}
+use mathlib.Core.Bool.{Bool, true, false, not}
+use mathlib.Core.List.{List, _++_}
+use mathlib.Core.Path.{_≡_, refl, sym, ap, subst, subst⁻¹, _∙_}
+use lib.Dec.{ltb}
+use lib.ListN.{length, drop}
+use borrow.Author.Tests.{lt-ltb, le-ltb}
+use Rattle.rules.specs.declared.answer.Answer.{Answer}
+use Rattle.rules.specs.declared.answer.Outcome.the-variants.{Stepped, Declined}
+use Rattle.rules.specs.declared.answer.Verdict.{Verdict}
+use Rattle.rules.specs.declared.answer.Verdict.the-variants.{Accepted, Refused}
+use Rattle.rules.specs.declared.site.Site.{Site}
+use Rattle.rules.specs.declared.state.State.{State}
+use Rattle.rules.specs.Verdicts.{_orElse_, refuseIf}
+use Rattle.rules.specs.Personality.{verdictOf}
+use Rattle.rules.specs.Site.{siteOf}
+use Rattle.rules.specs.State.{valid}
+use Rattle.rules.specs.Step.{stepped}
+use Rattle.rules.specs.Colours.{coloursOf}
+use Rattle.rules.specs.WaitBound.{waitBound}
+use Rattle.rules.specs.Call.{strayInput, stepVerdict, callVerdict, answerFor, bufferFor, boundFor, boundOf}
+use Rattle.rules.specs.Laws.{Sound, AcceptedIsSound}
+use Rattle.loading.specs.declared.Loaded.{Loaded}
+use Rattle.loading.specs.Loading.{loadedFor, loadedOf}
+use Rattle.proof_acceptance.proofs.Acceptance.{accepted-is-sound}
+
+module _ (site : Site) (s : State) (inputs room : ℕ) where
+  pub invalid : valid site s ≡ false → stepVerdict site s inputs room ≡ Refused 13 0
+  unfolding stepVerdict _orElse_ refuseIf
+  invalid e = rw e
+
+  pub strays : valid site s ≡ true → strayInput site inputs ≡ true → stepVerdict site s inputs room ≡ Refused 15 0
+  unfolding stepVerdict _orElse_ refuseIf
+  strays e f = rw (e, f)
+
+  pub short :
+      valid site s ≡ true →
+      strayInput site inputs ≡ false →
+      room < site .size .groups →
+      stepVerdict site s inputs room ≡ Refused 14 0
+  unfolding stepVerdict _orElse_ refuseIf
+  short e f l = rw (e, f, lt-ltb room (site .size .groups) l)
+
+  pub passes :
+      valid site s ≡ true →
+      strayInput site inputs ≡ false →
+      site .size .groups ≤ room →
+      stepVerdict site s inputs room ≡ Accepted
+  unfolding stepVerdict _orElse_ refuseIf
+  passes e f l = rw (e, f, le-ltb room (site .size .groups) l)
+
+-- what a call answers, and the buffer as it returns
+abbrev pub Answers : Verdict → Site → State → ℕ → List ℕ → Answer → List ℕ → Type 0
+Answers v site s inputs buffer answer out = (answer ≡ answerFor v site s inputs) × (out ≡ bufferFor v site s inputs buffer)
+
+pub declines :
+    (v : Verdict) (site : Site) (s : State) (inputs : ℕ) (buffer : List ℕ) (answer : Answer) (number place : ℕ) →
+    v ≡ Refused number place →
+    answer ≡ record { outcome = Declined number place; state = s } →
+    Answers v site s inputs buffer answer buffer
+unfolding answerFor bufferFor
+declines v site s inputs buffer answer number place e r = (rw (e, r), rw e)
+
+pub goes-on :
+    (v : Verdict) (site : Site) (s next : State) (inputs wait : ℕ) (buffer out : List ℕ) →
+    v ≡ Accepted →
+    wait ≡ waitBound site →
+    next ≡ stepped site s inputs →
+    out ≡ coloursOf site next ++ drop (site .size .groups) buffer →
+    Answers v site s inputs buffer (record { outcome = Stepped wait; state = next }) out
+unfolding answerFor bufferFor
+goes-on v site s next inputs wait buffer out e w n o = (rw (e, w, n), rw (e, o, n))
+
+-- ── The personality first ──
+
+loaded-by : (v : Verdict) (site : Site) → loadedFor v site .verdict ≡ v
+unfolding loadedFor
+loaded-by Accepted site = refl
+loaded-by (Refused number place) site = refl
+
+-- the verdict of what is loaded is that of the bytes
+pub verdict-read : (b : List ℕ) (l : Loaded) (v : Verdict) → l ≡ loadedOf b → l .verdict ≡ v → verdictOf b ≡ v
+unfolding loadedOf
+verdict-read b l v e f = sym (ap (λ (x : Loaded). x .verdict) e ∙ loaded-by (verdictOf b) (siteOf b)) ∙ f
+
+-- and its site, where they are accepted, theirs
+pub site-read : (b : List ℕ) (l : Loaded) → l ≡ loadedOf b → verdictOf b ≡ Accepted → l .site ≡ siteOf b
+unfolding loadedOf loadedFor
+site-read b l e f = ap (λ (x : Loaded). x .site) e ∙ rw f
+
+pub sound-read : (b : List ℕ) (l : Loaded) → l ≡ loadedOf b → verdictOf b ≡ Accepted → Sound (l .site)
+unfolding AcceptedIsSound
+sound-read b l e f = subst⁻¹ Sound (site-read b l e f) (accepted-is-sound b f)
+
+pub call-refused :
+    (b : List ℕ) (s : State) (inputs room number place : ℕ) →
+    verdictOf b ≡ Refused number place →
+    callVerdict b s inputs room ≡ Refused number place
+unfolding callVerdict _orElse_
+call-refused b s inputs room number place e = rw e
+
+-- a step on the site that is loaded is the call's
+pub stepped-call :
+    (b : List ℕ) (site : Site) (s : State) (inputs : ℕ) (buffer : List ℕ) (answer : Answer) (out : List ℕ) →
+    verdictOf b ≡ Accepted →
+    site ≡ siteOf b →
+    Answers (stepVerdict site s inputs (length buffer)) site s inputs buffer answer out →
+    Answers (callVerdict b s inputs (length buffer)) (siteOf b) s inputs buffer answer out
+unfolding callVerdict _orElse_
+stepped-call b site s inputs buffer answer out e f w =
+    rw e
+    (subst (λ (x : Site). Answers (stepVerdict x s inputs (length buffer)) x s inputs buffer answer out) f w)
+
+-- ── Unit three ──
+
+pub bound-refused :
+    (b : List ℕ) (number place : ℕ) → verdictOf b ≡ Refused number place → Declined number place ≡ boundOf b
+unfolding boundOf boundFor
+bound-refused b number place e = rw e
+
+pub bound-given : (b : List ℕ) (site : Site) (wait : ℕ) → verdictOf b ≡ Accepted → site ≡ siteOf b → wait ≡ waitBound site → Stepped wait ≡ boundOf b
+unfolding boundOf boundFor
+bound-given b site wait e f w = rw (e, w, f)

@@ -1,0 +1,140 @@
+// The trace program. From standard input it reads a two-byte length, a personality of that length, and 8 bytes a step. It prints a
+// header once the personality is accepted, then a line a step. A refusal prints its line and ends the trace; the end of the input and
+// the last step end it without one.
+use libc::STDIN_FILENO;
+use libc::STDOUT_FILENO;
+use rules::answer::Outcome;
+use rules::answer::Verdict;
+use rules::state::Position;
+use rules::state::State;
+
+// An hour of steps. What the input holds past them is not read.
+const STEPS: u64 = 36000;
+
+// Where a step record is next: the end of the input, a part of a record, or the input bits of a whole one.
+enum Record {
+    Ended,
+    Cut,
+    Inputs { bits: u64 },
+}
+
+// How a turn left the trace: whether it goes on, and the state to go on from.
+struct Turn {
+    goes: bool,
+    state: State,
+}
+
+// The line of a refusal.
+fn refuse(number: u8, place: usize) {
+    io::write_all(STDOUT_FILENO, b"refused ");
+    io::print_decimal(STDOUT_FILENO, number as u64);
+    io::write_all(STDOUT_FILENO, b" ");
+    io::print_decimal(STDOUT_FILENO, place as u64);
+    io::write_all(STDOUT_FILENO, b"\n");
+}
+
+fn read_record() -> Record {
+    let mut bytes = [0u8; 8];
+    let got = io::read_full(STDIN_FILENO, &mut bytes);
+    if got == 0 {
+        return Record::Ended;
+    }
+    if got < 8 {
+        return Record::Cut;
+    }
+    Record::Inputs {
+        bits: tracing::inputs(&bytes),
+    }
+}
+
+// A line of the trace, of at most 32 groups. Their number is byte 5 of an accepted personality.
+fn show(step: u64, position: Position, colours: &[u8], personality: &[u8]) {
+    let groups = io::count(reads::byte(personality, 5) as isize, colours);
+    let mut text = [0u8; 38];
+    let end = tracing::tail(position, &colours[..groups], &mut text);
+    io::print_decimal(STDOUT_FILENO, step);
+    io::write_all(STDOUT_FILENO, &text[..end]);
+}
+
+// One step call, and what it prints.
+fn advance(personality: &[u8], state: State, bits: u64, step: u64) -> Turn {
+    let mut colours = [0u8; 32];
+    let answer = controller::step(personality, state, bits, &mut colours);
+    let outcome = answer.outcome;
+    let after = answer.state;
+    if let Outcome::Declined { number, place } = outcome {
+        refuse(number, place);
+        return Turn {
+            goes: false,
+            state: after,
+        };
+    }
+    let position = after.position;
+    show(step, position, &colours, personality);
+    Turn {
+        goes: true,
+        state: after,
+    }
+}
+
+// The turn of the step record that is next in the input.
+fn take_turn(personality: &[u8], state: State, step: u64) -> Turn {
+    let record = read_record();
+    match record {
+        Record::Inputs { bits } => advance(personality, state, bits, step),
+        Record::Cut => {
+            refuse(16, 0);
+            Turn {
+                goes: false,
+                state: state,
+            }
+        }
+        Record::Ended => Turn {
+            goes: false,
+            state: state,
+        },
+    }
+}
+
+// The steps of an accepted personality, from the fresh state.
+fn run(personality: &[u8]) {
+    let mut state = controller::fresh();
+    let mut step: u64 = 1;
+    while step <= STEPS {
+        let next = take_turn(personality, state, step);
+        if !next.goes {
+            return;
+        }
+        let after = next.state;
+        state = after;
+        step += 1;
+    }
+}
+
+// The trace of the personality that is as long as the buffer. One that is cut short is refused before its own checks.
+fn trace(personality: &mut [u8]) {
+    let got = io::read_full(STDIN_FILENO, personality);
+    if got < personality.len() {
+        refuse(16, 0);
+        return;
+    }
+    let verdict = personality::read(personality);
+    if let Verdict::Refused { number, place } = verdict {
+        refuse(number, place);
+        return;
+    }
+    io::write_all(STDOUT_FILENO, b"step phase interval groups\n");
+    run(personality);
+}
+
+fn main() {
+    let mut head = [0u8; 2];
+    let got = io::read_full(STDIN_FILENO, &mut head);
+    if got < 2 {
+        refuse(16, 0);
+        return;
+    }
+    let mut space = io::large_buffer();
+    let length = io::count(reads::two(&head, 0) as isize, &space);
+    trace(&mut space[..length]);
+}

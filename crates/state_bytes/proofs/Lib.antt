@@ -1,0 +1,9 @@
+pub mod BytesFirst
+pub mod Lists
+pub mod Meanings
+pub mod Movements
+pub mod Passing
+pub mod RoundTrips
+pub mod StateFirst
+pub mod Stores
+pub mod Written

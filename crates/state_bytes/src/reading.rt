@@ -1,0 +1,124 @@
+// What the bytes of a state hold, part by part. A byte past the end reads as 0.
+ghost use Prim.Native.Nat.{_+_, _≤_};
+ghost use mathlib.Core.Path.{_≡_};
+ghost use lib.ListN.{length};
+ghost use Rattle.rules.specs.Rows.{allOf, listOf};
+ghost use Rattle.state_bytes.specs.Layout.{stateBytes, isState, decoded, positionIn, flagsAt, movementAt, flagKnown, stageKnown};
+use crate::codes::held_known;
+use crate::codes::held_of;
+use crate::codes::interval_of;
+use crate::codes::stage_of;
+use rules::state::Counts;
+use rules::state::Demands;
+use rules::state::Movement;
+use rules::state::Position;
+use rules::state::Stage;
+use rules::state::State;
+
+// Flags are 0 or 1.
+fn flags_known(bytes: &[u8]) -> bool
+    ensures { λ r. ⌜ r ≡ allOf (flagKnown (now (bytes .entry))) 15 ⌝ }
+{
+    let mut all = true;
+    let mut i: usize = 0;
+    while i < 15 {
+        all = all & (reads::byte(bytes, 12 + i) <= 1);
+        i += 1;
+    }
+    all
+}
+
+// Stages are 0 to 3.
+fn stages_known(bytes: &[u8]) -> bool
+    ensures { λ r. ⌜ r ≡ allOf (stageKnown (now (bytes .entry))) 8 ⌝ }
+{
+    let mut all = true;
+    let mut k: usize = 0;
+    while k < 8 {
+        all = all & (reads::byte(bytes, 27 + 3 * k) < 4);
+        k += 1;
+    }
+    all
+}
+
+// Whether the bytes are a state.
+pub fn is_state(bytes: &[u8]) -> bool
+    ensures { λ r. ⌜ r ≡ isState (now (bytes .entry)) ⌝ }
+{
+    (bytes.len() == crate::STATE_BYTES)
+        & (reads::byte(bytes, 1) < 6)
+        & held_known(reads::byte(bytes, 4), reads::byte(bytes, 5))
+        & held_known(reads::byte(bytes, 6), reads::byte(bytes, 7))
+        & flags_known(bytes)
+        & stages_known(bytes)
+}
+
+fn position(bytes: &[u8]) -> Position
+    ensures { λ r. ⌜ r ≡ positionIn (now (bytes .entry)) ⌝ }
+{
+    Position {
+        phase: reads::byte(bytes, 0),
+        interval: interval_of(reads::byte(bytes, 1)),
+        age: reads::two(bytes, 2),
+        came: held_of(reads::byte(bytes, 4), reads::byte(bytes, 5)),
+        target: held_of(reads::byte(bytes, 6), reads::byte(bytes, 7)),
+    }
+}
+
+// The flags from a place on, as many as there is room for.
+fn flags(bytes: &[u8], at: usize, out: &mut [bool])
+    requires { ⌜ at + length (now out) ≤ stateBytes ⌝ }
+    ensures { λ _. ⌜ now (out .exit) ≡ flagsAt (now (bytes .entry)) at (length (now (out .entry))) ⌝ }
+{
+    let mut i: usize = 0;
+    while i < out.len() {
+        out[i] = reads::byte(bytes, at + i) == 1;
+        i += 1;
+    }
+}
+
+fn demands(bytes: &[u8]) -> Demands
+    ensures { λ r. ⌜ r ≡ decoded (now (bytes .entry)) .demands ⌝ }
+{
+    let mut locks = [false; 7];
+    let mut buttons = [false; 8];
+    flags(bytes, 12, &mut locks);
+    flags(bytes, 19, &mut buttons);
+    Demands { locks, buttons }
+}
+
+// The movement records, three bytes each, from byte 27 on.
+fn movements(bytes: &[u8]) -> [Movement; 8]
+    ensures { λ r. ⌜ r ≡ listOf (movementAt (now (bytes .entry))) 8 ⌝ }
+{
+    let idle = Movement {
+        stage: Stage::Idle,
+        age: 1,
+    };
+    let mut records = [idle; 8];
+    let mut k: usize = 0;
+    while k < 8 {
+        let at = 3 * k;
+        records[k] = Movement {
+            stage: stage_of(reads::byte(bytes, 27 + at)),
+            age: reads::two(bytes, 28 + at),
+        };
+        k += 1;
+    }
+    records
+}
+
+// The state that the bytes hold.
+pub fn state(bytes: &[u8]) -> State
+    ensures { λ r. ⌜ r ≡ decoded (now (bytes .entry)) ⌝ }
+{
+    State {
+        position: position(bytes),
+        counts: Counts {
+            gap: reads::two(bytes, 8),
+            maximum: reads::two(bytes, 10),
+        },
+        demands: demands(bytes),
+        movements: movements(bytes),
+    }
+}

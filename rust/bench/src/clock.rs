@@ -1,0 +1,80 @@
+//! Taking times.
+
+use std::time::Instant;
+
+/// Calls timed together in one round: few enough that most rounds run without
+/// an interruption.
+const CALLS: usize = 1_000;
+
+/// Something timed: done once a call, with the number of the call.
+pub type Work<'a> = Box<dyn FnMut(usize) + 'a>;
+
+/// The time of one call over several rounds, in ns.
+#[derive(Clone, Copy)]
+pub struct Time {
+    pub median: f64,
+    pub best: f64,
+}
+
+/// The times of several works. Each round times all of them, one after the
+/// other, so that they share what else the machine does.
+pub fn times_of<const WORKS: usize>(rounds: usize, mut works: [Work; WORKS]) -> [Time; WORKS] {
+    let mut times = [const { Vec::new() }; WORKS];
+    for round in 0..=rounds {
+        for (work, times) in works.iter_mut().zip(&mut times) {
+            let time = round_ns(round * CALLS, work);
+            // The first round only warms up.
+            if round > 0 {
+                times.push(time);
+            }
+        }
+    }
+    times.map(Time::of)
+}
+
+fn round_ns(first: usize, work: &mut Work) -> f64 {
+    let start = Instant::now();
+    (first..first + CALLS).for_each(work);
+    start.elapsed().as_nanos() as f64 / CALLS as f64
+}
+
+impl Time {
+    fn of(mut times: Vec<f64>) -> Time {
+        times.sort_by(f64::total_cmp);
+        Time {
+            median: times[times.len() / 2],
+            best: times[0],
+        }
+    }
+}
+
+/// The longest single calls seen, in ns, the clock's own time in them.
+#[derive(Clone, Copy)]
+pub struct Longest {
+    /// Of all calls, interruptions by the machine in them.
+    pub seen: u64,
+    /// Of the calls at the best of their passes, which leaves interruptions out.
+    pub repeated: u64,
+}
+
+/// Passes over the same calls.
+const PASSES: usize = 9;
+
+/// The longest of so many calls. Every pass starts its work anew, so that a call
+/// of one number does the same in each.
+pub fn longest_ns<'a>(calls: usize, work: impl Fn() -> Work<'a>) -> Longest {
+    let mut best = vec![u64::MAX; calls];
+    let mut seen = 0;
+    for _ in 0..PASSES {
+        let mut work = work();
+        for (call, best) in best.iter_mut().enumerate() {
+            let start = Instant::now();
+            work(call);
+            let time = start.elapsed().as_nanos() as u64;
+            seen = seen.max(time);
+            *best = time.min(*best);
+        }
+    }
+    let repeated = best.into_iter().max().unwrap_or(0);
+    Longest { seen, repeated }
+}

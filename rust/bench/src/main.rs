@@ -1,0 +1,36 @@
+//! Times of the model, and of the board library beside it where it is linked.
+//!
+//! `bench [seed] [rounds]`. A full step call reads and checks the personality,
+//! then steps; an inner step starts from a site already read. Each time is the
+//! median of the rounds, with the best round behind it.
+
+#![forbid(unsafe_code)]
+
+mod clock;
+mod site;
+
+use site::Bench;
+use std::process::ExitCode;
+
+const ROUNDS: usize = 101;
+const SEED: u64 = 1;
+
+fn main() -> ExitCode {
+    let mut arguments = std::env::args().skip(1).map(|word| word.parse::<u64>());
+    let (Ok(seed), Ok(rounds)) = (
+        arguments.next().unwrap_or(Ok(SEED)),
+        arguments.next().unwrap_or(Ok(ROUNDS as u64)),
+    ) else {
+        eprintln!("usage: bench [seed] [rounds]");
+        return ExitCode::FAILURE;
+    };
+    let rounds = rounds.max(1) as usize;
+    println!("seed {seed}, median of {rounds} rounds, times in ns a call");
+    if cfg!(not(feature = "linked")) {
+        println!("the board library is not linked: the model alone");
+    }
+    for bench in Bench::all(seed) {
+        bench.print(rounds);
+    }
+    ExitCode::SUCCESS
+}

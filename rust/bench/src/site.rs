@@ -1,0 +1,171 @@
+//! One site, timed.
+
+use crate::clock::{longest_ns, times_of, Longest, Time, Work};
+use generate::{known_inputs, Plan, Rng};
+use model::{packed, step_on, Site, MAX_GROUPS, STATE_LEN};
+use std::hint::black_box;
+
+/// Steps before the inputs repeat.
+const INPUTS: usize = 1 << 14;
+
+/// A site with the inputs of its steps.
+pub struct Bench {
+    name: &'static str,
+    personality: Vec<u8>,
+    inputs: Vec<u64>,
+}
+
+/// The functions that are timed, of the model or of the library.
+struct Calls {
+    name: &'static str,
+    read: fn(&[u8]) -> u64,
+    fresh: fn(&mut [u8]) -> u64,
+    step: fn(&[u8], &mut [u8], u64, &mut [u8]) -> u64,
+}
+
+const MODEL: Calls = Calls {
+    name: "model",
+    read: packed::read,
+    fresh: packed::fresh,
+    step: packed::step,
+};
+
+#[cfg(feature = "linked")]
+const LIBRARY: Option<Calls> = Some(Calls {
+    name: "library",
+    read: willowera::packed::read,
+    fresh: willowera::packed::fresh,
+    step: willowera::packed::step,
+});
+
+#[cfg(not(feature = "linked"))]
+const LIBRARY: Option<Calls> = None;
+
+/// The times of one set of functions.
+struct Times {
+    name: &'static str,
+    read: Time,
+    full_step: Time,
+    longest_step: Longest,
+}
+
+impl Bench {
+    /// The smallest site, the junction of two phases and the largest site.
+    pub fn all(seed: u64) -> [Bench; 3] {
+        [
+            Bench::new("smallest site", Plan::smallest(), seed),
+            Bench::new("junction of two phases", Plan::junction(), seed),
+            Bench::new("largest site", Plan::largest(), seed),
+        ]
+    }
+
+    /// Each input word lasts a few steps, as vehicles do.
+    fn new(name: &'static str, plan: Plan, seed: u64) -> Bench {
+        let personality = plan.bytes();
+        let site = Site::read(&personality).expect("an accepted plan");
+        let mut rng = Rng::new(seed);
+        let mut inputs = Vec::with_capacity(INPUTS);
+        while inputs.len() < INPUTS {
+            let word = known_inputs(&mut rng, &site);
+            let lasts = rng.range(1, 30).min(INPUTS - inputs.len());
+            inputs.extend(std::iter::repeat_n(word, lasts));
+        }
+        Bench {
+            name,
+            personality,
+            inputs,
+        }
+    }
+
+    /// Times the site and prints what was seen.
+    pub fn print(&self, rounds: usize) {
+        println!();
+        println!("{}: {} bytes", self.name, self.personality.len());
+        println!(
+            "{:8} {:>16} {:>18} {:>24}",
+            "", "read (best)", "full step (best)", "longest step (repeated)"
+        );
+        match LIBRARY {
+            None => {
+                let [model] = self.time(rounds, [&MODEL]);
+                model.print();
+            }
+            Some(library) => {
+                let [model, library] = self.time(rounds, [&MODEL, &library]);
+                model.print();
+                library.print();
+                library.print_ratio(&model);
+            }
+        }
+        let [inner] = times_of(rounds, [self.inner_stepper()]);
+        println!("inner step of the model: {}", shown(inner));
+    }
+
+    fn time<const SETS: usize>(&self, rounds: usize, sets: [&Calls; SETS]) -> [Times; SETS] {
+        let reads = times_of(rounds, sets.map(|calls| self.reader(calls)));
+        let steps = times_of(rounds, sets.map(|calls| self.stepper(calls)));
+        std::array::from_fn(|set| Times {
+            name: sets[set].name,
+            read: reads[set],
+            full_step: steps[set],
+            longest_step: longest_ns(INPUTS, || self.stepper(sets[set])),
+        })
+    }
+
+    fn reader<'a>(&'a self, calls: &'a Calls) -> Work<'a> {
+        Box::new(move |_| {
+            black_box((calls.read)(black_box(&self.personality)));
+        })
+    }
+
+    /// Runs the controller on from call to call.
+    fn stepper<'a>(&'a self, calls: &'a Calls) -> Work<'a> {
+        let mut state = [0; STATE_LEN];
+        let mut colours = [0; MAX_GROUPS];
+        (calls.fresh)(&mut state);
+        Box::new(move |call| {
+            let inputs = self.inputs[call % INPUTS];
+            let personality = black_box(self.personality.as_slice());
+            let answer = (calls.step)(personality, &mut state, inputs, &mut colours);
+            assert_eq!(packed::number(black_box(answer)), 0);
+            black_box(&colours);
+        })
+    }
+
+    /// The same from a site already read.
+    fn inner_stepper(&self) -> Work<'_> {
+        let site = Site::read(&self.personality).expect("an accepted plan");
+        let mut state = model::fresh();
+        let mut colours = [0; MAX_GROUPS];
+        Box::new(move |call| {
+            let inputs = self.inputs[call % INPUTS];
+            let stepped = step_on(black_box(&site), &state, inputs, &mut colours);
+            state = stepped.expect("an accepted step");
+            black_box(&colours);
+        })
+    }
+}
+
+impl Times {
+    fn print(&self) {
+        let (read, step) = (shown(self.read), shown(self.full_step));
+        let Longest { seen, repeated } = self.longest_step;
+        let longest = format!("{seen} ({repeated})");
+        println!("{:8} {read:>16} {step:>18} {longest:>24}", self.name);
+    }
+
+    /// How many times as long as the other one.
+    fn print_ratio(&self, other: &Times) {
+        let ratio = |one: Time, other: Time| {
+            let (median, best) = (one.median / other.median, one.best / other.best);
+            format!("{median:.2} ({best:.2})")
+        };
+        let read = ratio(self.read, other.read);
+        let step = ratio(self.full_step, other.full_step);
+        println!("{:8} {read:>16} {step:>18}", "ratio");
+    }
+}
+
+fn shown(time: Time) -> String {
+    format!("{:.1} ({:.1})", time.median, time.best)
+}

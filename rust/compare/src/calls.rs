@@ -1,0 +1,180 @@
+//! One call to a board beside the same call to the model. Buffers lie between
+//! canary bytes, at any alignment.
+
+use crate::difference::{Difference, Handed};
+use crate::tally::Tally;
+use generate::Rng;
+use model::packed::{Board, Model};
+
+/// A board, the tally of its answers, and where randomness comes from.
+pub struct Comparison<'a> {
+    pub board: &'a dyn Board,
+    pub rng: Rng,
+    pub tally: &'a mut Tally,
+}
+
+/// Kinds that are looked up besides 0 to 10.
+const FAR_KINDS: [u16; 4] = [255, 256, 257, u16::MAX];
+
+impl Comparison<'_> {
+    /// Reads a personality, asks for its wait bound and looks up every kind;
+    /// gives the answer of reading.
+    pub fn reading(&mut self, personality: &[u8]) -> Result<u64, Box<Difference>> {
+        let handed = Handed {
+            personality: personality.to_vec(),
+            ..Handed::default()
+        };
+        let guarded = Guarded::new(&mut self.rng, personality);
+        let read = Model.read(personality);
+        let found = self.board.read(guarded.inner());
+        same("read: the answer", read, found, &handed)?;
+        let expected = Model.wait_bound(personality);
+        let found = self.board.wait_bound(guarded.inner());
+        same("wait bound: the answer", expected, found, &handed)?;
+        for kind in (0..=10).chain(FAR_KINDS) {
+            let handed = Handed {
+                kind,
+                ..handed.clone()
+            };
+            let expected = Model.section(personality, kind);
+            let found = self.board.section(guarded.inner(), kind);
+            same("section: the answer", expected, found, &handed)?;
+        }
+        guarded.untouched("read: the personality", &handed)?;
+        self.tally.count_answer(read);
+        Ok(read)
+    }
+
+    /// Makes a fresh state in a buffer of a length.
+    pub fn fresh(&mut self, length: usize) -> Result<(), Box<Difference>> {
+        let handed = Handed {
+            state: self.rng.bytes(length),
+            ..Handed::default()
+        };
+        let mut expected_state = handed.state.clone();
+        let mut state = Guarded::new(&mut self.rng, &handed.state);
+        let expected = Model.fresh(&mut expected_state);
+        let found = self.board.fresh(state.inner_mut());
+        same("fresh: the answer", expected, found, &handed)?;
+        state.holds("fresh: the state", &expected_state, &handed)?;
+        self.tally.count_answer(expected);
+        Ok(())
+    }
+
+    /// Steps once; gives the answer, and the state in the buffer handed in.
+    pub fn step(
+        &mut self,
+        personality: &[u8],
+        state: &mut [u8],
+        inputs: u64,
+        colours_len: usize,
+    ) -> Result<u64, Box<Difference>> {
+        let handed = Handed {
+            personality: personality.to_vec(),
+            state: state.to_vec(),
+            inputs,
+            colours: self.rng.bytes(colours_len),
+            kind: 0,
+        };
+        let guarded = Guarded::new(&mut self.rng, personality);
+        let mut found_state = Guarded::new(&mut self.rng, state);
+        let mut found_colours = Guarded::new(&mut self.rng, &handed.colours);
+        let mut colours = handed.colours.clone();
+        let expected = Model.step(personality, state, inputs, &mut colours);
+        let found = self.board.step(
+            guarded.inner(),
+            found_state.inner_mut(),
+            inputs,
+            found_colours.inner_mut(),
+        );
+        same("step: the answer", expected, found, &handed)?;
+        found_state.holds("step: the state", state, &handed)?;
+        found_colours.holds("step: the colours", &colours, &handed)?;
+        guarded.untouched("step: the personality", &handed)?;
+        self.tally.count_answer(expected);
+        Ok(expected)
+    }
+}
+
+fn same(
+    what: &'static str,
+    expected: u64,
+    found: u64,
+    handed: &Handed,
+) -> Result<(), Box<Difference>> {
+    // Shown highest byte first, so that the number stands at the end.
+    let bytes = |answer: u64| answer.to_be_bytes().to_vec();
+    same_bytes(what, &bytes(expected), &bytes(found), handed)
+}
+
+fn same_bytes(
+    what: &'static str,
+    expected: &[u8],
+    found: &[u8],
+    handed: &Handed,
+) -> Result<(), Box<Difference>> {
+    if expected == found {
+        return Ok(());
+    }
+    Err(Box::new(Difference::Call {
+        what,
+        expected: expected.to_vec(),
+        found: found.to_vec(),
+        handed: handed.clone(),
+    }))
+}
+
+/// A buffer between canary bytes.
+struct Guarded {
+    bytes: Vec<u8>,
+    before: usize,
+    original: Vec<u8>,
+}
+
+const CANARY: u8 = 0xC5;
+const GUARD: usize = 24;
+
+impl Guarded {
+    fn new(rng: &mut Rng, inner: &[u8]) -> Guarded {
+        let before = GUARD + rng.below(8);
+        let mut bytes = vec![CANARY; before];
+        bytes.extend(inner);
+        bytes.extend([CANARY; GUARD]);
+        Guarded {
+            bytes,
+            before,
+            original: inner.to_vec(),
+        }
+    }
+
+    fn inner(&self) -> &[u8] {
+        &self.bytes[self.before..self.before + self.original.len()]
+    }
+
+    fn inner_mut(&mut self) -> &mut [u8] {
+        &mut self.bytes[self.before..self.before + self.original.len()]
+    }
+
+    /// The buffer holds these bytes, and the canaries are whole.
+    fn holds(
+        &self,
+        what: &'static str,
+        expected: &[u8],
+        handed: &Handed,
+    ) -> Result<(), Box<Difference>> {
+        let mut whole = vec![CANARY; self.before];
+        whole.extend(expected);
+        whole.extend([CANARY; GUARD]);
+        if self.bytes == whole {
+            return Ok(());
+        }
+        if self.inner() != expected {
+            return same_bytes(what, expected, self.inner(), handed);
+        }
+        same_bytes("bytes beside a buffer", &whole, &self.bytes, handed)
+    }
+
+    fn untouched(&self, what: &'static str, handed: &Handed) -> Result<(), Box<Difference>> {
+        self.holds(what, &self.original, handed)
+    }
+}

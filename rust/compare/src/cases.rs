@@ -1,0 +1,341 @@
+//! The cases: each follows from a seed and an index.
+
+use crate::calls::Comparison;
+use crate::difference::{Difference, Failure};
+use crate::tally::Tally;
+use generate::{
+    any_inputs, broken_state_bytes, damaged, invalid_state, known_inputs, scrambled, twice_damaged,
+    unknown_inputs, valid_state, Breakage, Plan, Rng,
+};
+use model::packed::Board;
+use model::{fresh, Site, STATE_LEN};
+use monitor::{watch, Driver, Strategy};
+use std::fmt;
+
+/// What a case is about.
+#[derive(Clone, Copy, Debug, PartialEq, Eq, PartialOrd, Ord)]
+pub enum Kind {
+    Accepted,
+    /// Damaged so that this number refuses it.
+    Damaged(u8),
+    TwiceDamaged,
+    Scrambled,
+    Run,
+    SingleSteps,
+    InvalidState,
+    NoState,
+    StateLength,
+    UnknownInputs,
+    BufferLength,
+    ManyWrongs,
+    Watched,
+}
+
+/// The kinds take turns, those that matter most more often.
+const TURNS: [Kind; 26] = [
+    Kind::Accepted,
+    Kind::Damaged(1),
+    Kind::Run,
+    Kind::Damaged(2),
+    Kind::SingleSteps,
+    Kind::Damaged(3),
+    Kind::InvalidState,
+    Kind::Damaged(4),
+    Kind::NoState,
+    Kind::Damaged(5),
+    Kind::StateLength,
+    Kind::Damaged(6),
+    Kind::UnknownInputs,
+    Kind::Damaged(7),
+    Kind::BufferLength,
+    Kind::Damaged(8),
+    Kind::ManyWrongs,
+    Kind::Damaged(9),
+    Kind::SingleSteps,
+    Kind::Damaged(10),
+    Kind::TwiceDamaged,
+    Kind::Damaged(11),
+    Kind::Scrambled,
+    Kind::Damaged(12),
+    Kind::Run,
+    Kind::Watched,
+];
+
+impl Kind {
+    /// The kind of a case.
+    pub fn of(index: u64) -> Kind {
+        TURNS[(index % TURNS.len() as u64) as usize]
+    }
+
+    /// Every kind.
+    pub fn all() -> Vec<Kind> {
+        let mut kinds = TURNS.to_vec();
+        kinds.sort();
+        kinds.dedup();
+        kinds
+    }
+}
+
+impl fmt::Display for Kind {
+    fn fmt(&self, f: &mut fmt::Formatter<'_>) -> fmt::Result {
+        let words = match self {
+            Kind::Accepted => "accepted personality",
+            Kind::Damaged(number) => {
+                return write!(f, "personality damaged to be refused with {number}");
+            }
+            Kind::TwiceDamaged => "personality damaged twice",
+            Kind::Scrambled => "personality scrambled",
+            Kind::Run => "run of steps, refused calls among them",
+            Kind::SingleSteps => "single steps from random valid states",
+            Kind::InvalidState => "invalid states",
+            Kind::NoState => "bytes that are no state",
+            Kind::StateLength => "states of other lengths",
+            Kind::UnknownInputs => "inputs without a detector or button",
+            Kind::BufferLength => "colour buffers short and long",
+            Kind::ManyWrongs => "several wrongs in one call",
+            Kind::Watched => "run watched for demand 3",
+        };
+        f.write_str(words)
+    }
+}
+
+/// Runs one case, against the model or under the monitor.
+pub fn run_case(
+    board: &dyn Board,
+    seed: u64,
+    index: u64,
+    tally: &mut Tally,
+) -> Result<(), Box<Failure>> {
+    let kind = Kind::of(index);
+    tally.count_case(kind);
+    let mut comparison = Comparison {
+        board,
+        rng: Rng::of_case(seed, index),
+        tally,
+    };
+    comparison.case(kind).map_err(|difference| {
+        Box::new(Failure {
+            seed,
+            index,
+            kind,
+            difference: *difference,
+        })
+    })
+}
+
+type Outcome = Result<(), Box<Difference>>;
+
+impl Comparison<'_> {
+    fn case(&mut self, kind: Kind) -> Outcome {
+        match kind {
+            Kind::Accepted => self.accepted(),
+            Kind::Damaged(number) => {
+                let personality = damaged(&mut self.rng, number);
+                self.refused(&personality)
+            }
+            Kind::TwiceDamaged => {
+                let personality = twice_damaged(&mut self.rng);
+                self.refused(&personality)
+            }
+            Kind::Scrambled => {
+                let personality = scrambled(&mut self.rng);
+                self.refused(&personality)
+            }
+            Kind::Run => self.run(),
+            Kind::SingleSteps => self.single_steps(),
+            Kind::InvalidState => self.invalid_states(),
+            Kind::NoState => self.no_states(),
+            Kind::StateLength => self.state_lengths(),
+            Kind::UnknownInputs => self.unknown_inputs(),
+            Kind::BufferLength => self.buffer_lengths(),
+            Kind::ManyWrongs => self.many_wrongs(),
+            Kind::Watched => self.watched(),
+        }
+    }
+
+    fn accepted(&mut self) -> Outcome {
+        let personality = Plan::random(&mut self.rng).bytes();
+        self.reading(&personality)?;
+        self.fresh(STATE_LEN)?;
+        let mut state = fresh().to_bytes().to_vec();
+        self.step(&personality, &mut state, 0, 32)?;
+        Ok(())
+    }
+
+    /// A personality most likely refused: read, and stepped with anything.
+    fn refused(&mut self, personality: &[u8]) -> Outcome {
+        self.reading(personality)?;
+        let mut state = fresh().to_bytes().to_vec();
+        let inputs = self.rng.draw();
+        self.step(personality, &mut state, inputs, 32)?;
+        let length = self.rng.below(60);
+        let mut state = self.rng.bytes(length);
+        let colours_len = self.rng.below(40);
+        self.step(personality, &mut state, inputs, colours_len)?;
+        Ok(())
+    }
+
+    /// Steps one after the other, some of them refused.
+    fn run(&mut self) -> Outcome {
+        let personality = Plan::random(&mut self.rng).bytes();
+        let site = read_site(&personality);
+        let strategy = self.rng.pick(&Strategy::ALL);
+        let mut driver = Driver::new(strategy, &site, self.rng.clone());
+        let mut state = fresh().to_bytes().to_vec();
+        for _ in 0..400 {
+            let before = model::State::from_bytes(&state).expect("states of the model");
+            let (inputs, length) = match self.rng.below(50) {
+                0 => (any_inputs(&mut self.rng, &site), 32),
+                1 => (0, self.rng.below(site.group_count())),
+                _ => (driver.inputs(&site, &before), site.group_count()),
+            };
+            self.step(&personality, &mut state, inputs, length)?;
+        }
+        Ok(())
+    }
+
+    fn single_steps(&mut self) -> Outcome {
+        self.on_site(30, |comparison, personality, site| {
+            let mut state = valid_state(&mut comparison.rng, site).to_bytes().to_vec();
+            let inputs = known_inputs(&mut comparison.rng, site);
+            comparison.step(personality, &mut state, inputs, site.group_count())
+        })
+    }
+
+    fn invalid_states(&mut self) -> Outcome {
+        self.on_site(30, |comparison, personality, site| {
+            let breakage = comparison.rng.pick(&Breakage::ALL);
+            let Some(state) = invalid_state(&mut comparison.rng, site, breakage) else {
+                return Ok(0);
+            };
+            let inputs = known_inputs(&mut comparison.rng, site);
+            let mut state = state.to_bytes().to_vec();
+            comparison.step(personality, &mut state, inputs, site.group_count())
+        })
+    }
+
+    /// Bytes broken on purpose, one random byte put in, or all random.
+    fn no_states(&mut self) -> Outcome {
+        self.on_site(30, |comparison, personality, site| {
+            let mut state = match comparison.rng.below(4) {
+                0 => broken_state_bytes(&mut comparison.rng, site),
+                1 => comparison.rng.bytes(STATE_LEN),
+                _ => {
+                    let mut bytes = valid_state(&mut comparison.rng, site).to_bytes().to_vec();
+                    bytes[comparison.rng.below(STATE_LEN)] =
+                        comparison.rng.byte() & comparison.rng.byte();
+                    bytes
+                }
+            };
+            let inputs = known_inputs(&mut comparison.rng, site);
+            comparison.step(personality, &mut state, inputs, 32)
+        })
+    }
+
+    fn state_lengths(&mut self) -> Outcome {
+        for _ in 0..10 {
+            let length = self.rng.below(120);
+            self.fresh(length)?;
+        }
+        self.on_site(10, |comparison, personality, site| {
+            let mut state = valid_state(&mut comparison.rng, site).to_bytes().to_vec();
+            let length = match comparison.rng.below(3) {
+                0 => comparison.rng.pick(&[0, STATE_LEN - 1, STATE_LEN + 1]),
+                _ => comparison.rng.below(120),
+            };
+            state.resize(length, 0);
+            comparison.step(personality, &mut state, 0, 32)
+        })
+    }
+
+    fn unknown_inputs(&mut self) -> Outcome {
+        self.on_site(30, |comparison, personality, site| {
+            let mut state = valid_state(&mut comparison.rng, site).to_bytes().to_vec();
+            let inputs = unknown_inputs(&mut comparison.rng, site);
+            comparison.step(personality, &mut state, inputs, site.group_count())
+        })
+    }
+
+    fn buffer_lengths(&mut self) -> Outcome {
+        self.on_site(30, |comparison, personality, site| {
+            let mut state = valid_state(&mut comparison.rng, site).to_bytes().to_vec();
+            let inputs = known_inputs(&mut comparison.rng, site);
+            let groups = site.group_count();
+            let anywhere = comparison.rng.below(80);
+            let length = comparison
+                .rng
+                .pick(&[0, groups - 1, groups, groups + 1, anywhere]);
+            comparison.step(personality, &mut state, inputs, length)
+        })
+    }
+
+    /// A state that may be wrong, inputs that may be wrong, a buffer that may be
+    /// short, on a personality that may be refused.
+    fn many_wrongs(&mut self) -> Outcome {
+        let twice = twice_damaged(&mut self.rng);
+        self.on_site(30, |comparison, personality, site| {
+            let rng = &mut comparison.rng;
+            let breakage = rng.pick(&Breakage::ALL);
+            let state = match invalid_state(rng, site, breakage) {
+                Some(state) if rng.percent(40) => state,
+                _ => valid_state(rng, site),
+            };
+            let mut state = state.to_bytes().to_vec();
+            if rng.percent(10) {
+                state.pop();
+            }
+            let inputs = any_inputs(rng, site);
+            let length = rng.below(2 * site.group_count());
+            let refused = rng.percent(20);
+            let personality = if refused { &twice } else { personality };
+            comparison.step(personality, &mut state, inputs, length)
+        })
+    }
+
+    /// The board alone under the monitor.
+    fn watched(&mut self) -> Outcome {
+        let personality = Plan::random(&mut self.rng).bytes();
+        let site = read_site(&personality);
+        let strategy = self.rng.pick(&Strategy::ALL);
+        let mut driver = Driver::new(strategy, &site, self.rng.clone());
+        let watched = watch(self.board, &personality, &mut driver, &mut self.rng, 1_000);
+        match watched.expect("an accepted plan") {
+            Ok(_) => Ok(()),
+            Err(breach) => Err(Box::new(Difference::Breach {
+                personality,
+                breach,
+            })),
+        }
+    }
+
+    /// Some calls on one random accepted site.
+    fn on_site(
+        &mut self,
+        calls: usize,
+        call: impl Fn(&mut Self, &[u8], &Site) -> Result<u64, Box<Difference>>,
+    ) -> Outcome {
+        let personality = Plan::random(&mut self.rng).bytes();
+        let site = read_site(&personality);
+        for _ in 0..calls {
+            call(self, &personality, &site)?;
+        }
+        Ok(())
+    }
+}
+
+fn read_site(personality: &[u8]) -> Site<'_> {
+    Site::read(personality).expect("an accepted plan")
+}
+
+#[cfg(test)]
+mod tests {
+    use super::*;
+    use generate::AIMED;
+
+    #[test]
+    fn every_refusal_of_a_personality_has_its_cases() {
+        for number in AIMED {
+            assert!(TURNS.contains(&Kind::Damaged(number)));
+        }
+    }
+}

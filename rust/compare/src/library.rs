@@ -1,0 +1,30 @@
+//! The board library as a board.
+
+use model::packed::Board;
+use willowera::packed;
+
+/// The linked library.
+#[derive(Clone, Copy, Debug, Default)]
+pub struct Library;
+
+impl Board for Library {
+    fn read(&self, personality: &[u8]) -> u64 {
+        packed::read(personality)
+    }
+
+    fn wait_bound(&self, personality: &[u8]) -> u64 {
+        packed::wait_bound(personality)
+    }
+
+    fn fresh(&self, state: &mut [u8]) -> u64 {
+        packed::fresh(state)
+    }
+
+    fn step(&self, personality: &[u8], state: &mut [u8], inputs: u64, colours: &mut [u8]) -> u64 {
+        packed::step(personality, state, inputs, colours)
+    }
+
+    fn section(&self, personality: &[u8], kind: u16) -> u64 {
+        packed::section(personality, kind)
+    }
+}

@@ -1,0 +1,108 @@
+//! Watched runs under every strategy, and what they show.
+
+use generate::{Plan, Rng};
+use model::packed::Board;
+use model::Site;
+use monitor::{watch, Breach, Driver, Report, Strategy};
+use std::fmt;
+
+/// What the runs of one strategy have shown together.
+#[derive(Clone, Debug)]
+pub struct Watched {
+    pub strategy: Strategy,
+    pub runs: u64,
+    pub accepted: u64,
+    pub refused: u64,
+    pub green_starts: u64,
+    pub demands_met: u64,
+    /// The longest wait as a part of its site's bound.
+    pub nearest: f64,
+}
+
+/// Steps of one run before the next site.
+const RUN: u64 = 4_000;
+
+/// Watches a board for about so many steps, shared among the strategies. The
+/// first runs are on the junction of two phases and the largest site.
+pub fn run_watches(
+    board: &dyn Board,
+    seed: u64,
+    steps: u64,
+) -> Result<Vec<Watched>, (Vec<u8>, Breach)> {
+    let share = (steps / Strategy::ALL.len() as u64).max(1);
+    let mut all = Vec::new();
+    for (index, strategy) in Strategy::ALL.into_iter().enumerate() {
+        let rng = Rng::of_case(seed, index as u64);
+        all.push(run_strategy(board, strategy, rng, share)?);
+    }
+    Ok(all)
+}
+
+fn run_strategy(
+    board: &dyn Board,
+    strategy: Strategy,
+    mut rng: Rng,
+    steps: u64,
+) -> Result<Watched, (Vec<u8>, Breach)> {
+    let mut watched = Watched::new(strategy);
+    let mut left = steps;
+    while left > 0 {
+        let calls = left.min(RUN);
+        let plan = match watched.runs {
+            0 => Plan::junction(),
+            1 => Plan::largest(),
+            _ => Plan::random(&mut rng),
+        };
+        let personality = plan.bytes();
+        let site = Site::read(&personality).expect("an accepted plan");
+        let mut driver = Driver::new(strategy, &site, rng.clone());
+        let report = watch(board, &personality, &mut driver, &mut rng, calls);
+        match report.expect("an accepted plan") {
+            Ok(report) => watched.add(&report),
+            Err(breach) => return Err((personality, breach)),
+        }
+        left -= calls;
+    }
+    Ok(watched)
+}
+
+impl Watched {
+    fn new(strategy: Strategy) -> Watched {
+        Watched {
+            strategy,
+            runs: 0,
+            accepted: 0,
+            refused: 0,
+            green_starts: 0,
+            demands_met: 0,
+            nearest: 0.0,
+        }
+    }
+
+    fn add(&mut self, report: &Report) {
+        self.runs += 1;
+        self.accepted += report.accepted;
+        self.refused += report.refused;
+        self.green_starts += report.green_starts;
+        self.demands_met += report.demands_met;
+        let part = report.longest_wait as f64 / report.bound as f64;
+        self.nearest = self.nearest.max(part);
+    }
+}
+
+impl fmt::Display for Watched {
+    fn fmt(&self, f: &mut fmt::Formatter<'_>) -> fmt::Result {
+        let strategy = format!("{:?}", self.strategy);
+        write!(
+            f,
+            "{strategy:8} {:>5} runs, {:>9} steps, {:>7} refused calls, {:>7} greens begun, \
+             {:>7} demands met, longest wait {:.2} of its bound",
+            self.runs,
+            self.accepted,
+            self.refused,
+            self.green_starts,
+            self.demands_met,
+            self.nearest
+        )
+    }
+}

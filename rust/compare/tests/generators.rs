@@ -1,0 +1,237 @@
+//! The generators reach what they are meant to reach.
+
+use generate::{
+    broken_state_bytes, damaged, invalid_state, known_inputs, scrambled, twice_damaged,
+    unknown_inputs, valid_state, Breakage, Plan, Rng, AIMED, MODES,
+};
+use model::packed::{self, number, rest};
+use model::{read, valid, Interval, Mark, Site, Stage, State};
+use std::collections::{BTreeMap, BTreeSet};
+
+const SEED: u64 = 1_993;
+
+fn plans(count: usize) -> impl Iterator<Item = Plan> {
+    let mut rng = Rng::new(SEED);
+    (0..count).map(move |_| Plan::random(&mut rng))
+}
+
+#[test]
+fn equal_seeds_give_equal_draws() {
+    let draws = |seed, index| {
+        let mut rng = Rng::of_case(seed, index);
+        (0..5).map(|_| rng.draw()).collect::<Vec<_>>()
+    };
+    assert_eq!(draws(1, 2), draws(1, 2));
+    assert_ne!(draws(1, 2), draws(1, 3));
+    assert_ne!(draws(1, 2), draws(2, 2));
+}
+
+#[test]
+fn random_plans_are_accepted() {
+    for plan in plans(3_000) {
+        assert_eq!(read(&plan.bytes()), Ok(()), "{plan:?}");
+    }
+}
+
+#[test]
+fn accepted_plans_have_every_size() {
+    let mut phases = BTreeSet::new();
+    let mut groups = BTreeSet::new();
+    let mut movements = BTreeSet::new();
+    let mut detectors = BTreeSet::new();
+    for plan in plans(3_000) {
+        phases.insert(plan.phases.len());
+        groups.insert(plan.groups.len());
+        movements.insert(plan.movements.len());
+        detectors.insert(plan.detectors.len());
+    }
+    assert!(phases.into_iter().eq(2..=7));
+    assert!(groups.into_iter().eq(1..=32));
+    assert!(movements.into_iter().eq(0..=8));
+    assert!(detectors.into_iter().eq(0..=48));
+}
+
+#[test]
+fn accepted_plans_have_every_trait() {
+    let mut seen: BTreeMap<&str, usize> = BTreeMap::new();
+    let mut modes = BTreeSet::new();
+    for plan in plans(3_000) {
+        let pedestrian = Mark::Pedestrian as u8;
+        let vehicles = || plan.groups.iter().filter(|group| group[1] != pedestrian);
+        let mut count = |name, holds| *seen.entry(name).or_default() += usize::from(holds);
+        count("late start", plan.phases.iter().any(|times| times[0] > 0));
+        count(
+            "no late start",
+            plan.phases.iter().any(|times| times[0] == 0),
+        );
+        count("overlap", vehicles().any(|group| group[0].count_ones() > 1));
+        count("empty set", vehicles().any(|group| group[0] == 0));
+        count("late mark", vehicles().any(|group| group[1] == 1));
+        count("pedestrians only", vehicles().count() == 0);
+        count("conflicts", plan.conflicts.iter().any(|&row| row != 0));
+        count("no conflicts", plan.conflicts.iter().all(|&row| row == 0));
+        let phases = plan.groups.iter().filter(|group| group[1] == pedestrian);
+        let phases: Vec<u8> = phases.map(|group| group[0]).collect();
+        let twice = |set: &u8| phases.iter().filter(|other| *other == set).count() > 1;
+        count("two movements of a phase", phases.iter().any(twice));
+        modes.extend(plan.detectors.iter().map(|detector| detector[1]));
+    }
+    for (name, count) in seen {
+        assert!(count >= 20, "{name}: {count}");
+    }
+    assert!(modes.into_iter().eq(MODES));
+}
+
+#[test]
+fn every_time_reaches_both_limits() {
+    let mut phase_times = [const { BTreeSet::new() }; 6];
+    let mut movement_times = [const { BTreeSet::new() }; 3];
+    let mut start_reds = BTreeSet::new();
+    for plan in plans(3_000) {
+        start_reds.insert(plan.start_red);
+        for times in &plan.phases {
+            times
+                .iter()
+                .zip(&mut phase_times)
+                .for_each(|(&time, seen)| {
+                    seen.insert(time);
+                });
+        }
+        for times in &plan.movements {
+            times
+                .iter()
+                .zip(&mut movement_times)
+                .for_each(|(&time, seen)| {
+                    seen.insert(time);
+                });
+        }
+    }
+    let ends = |seen: &BTreeSet<u16>| (*seen.first().unwrap(), *seen.last().unwrap());
+    let phase_ends = [
+        (0, 200),
+        (10, 400),
+        (10, 1500),
+        (0, 100),
+        (30, 100),
+        (10, 150),
+    ];
+    assert_eq!(phase_times.each_ref().map(ends), phase_ends);
+    let movement_ends = [(10, 400), (1, 400), (1, 400)];
+    assert_eq!(movement_times.each_ref().map(ends), movement_ends);
+    assert_eq!(ends(&start_reds), (10, 150));
+}
+
+#[test]
+fn aimed_damage_hits() {
+    let mut rng = Rng::new(SEED);
+    for aim in AIMED {
+        for _ in 0..400 {
+            let bytes = damaged(&mut rng, aim);
+            let refusal = read(&bytes).expect_err("damaged");
+            assert_eq!(refusal.number as u8, aim, "at {}: {bytes:?}", refusal.place);
+        }
+    }
+}
+
+#[test]
+fn aimed_damage_hits_many_places() {
+    let mut rng = Rng::new(SEED);
+    for aim in AIMED {
+        let places: BTreeSet<u64> = (0..1_000)
+            .map(|_| rest(packed::read(&damaged(&mut rng, aim))))
+            .collect();
+        let expected = if aim == 4 { 2 } else { 6 };
+        assert!(places.len() >= expected, "{aim}: {places:?}");
+    }
+}
+
+#[test]
+fn damage_without_an_aim_hits_many_numbers() {
+    let mut rng = Rng::new(SEED);
+    let mut twice = BTreeSet::new();
+    let mut scrambles = BTreeSet::new();
+    for _ in 0..3_000 {
+        twice.insert(number(packed::read(&twice_damaged(&mut rng))));
+        scrambles.insert(number(packed::read(&scrambled(&mut rng))));
+    }
+    // Bytes left over are only noticed where nothing else is wrong.
+    assert!((1..=11).all(|number| twice.contains(&number)), "{twice:?}");
+    assert!(scrambles.len() >= 12, "{scrambles:?}");
+}
+
+#[test]
+fn valid_states_are_valid_and_of_every_kind() {
+    let mut rng = Rng::new(SEED);
+    let mut seen = BTreeSet::new();
+    for plan in plans(300) {
+        let bytes = plan.bytes();
+        let site = Site::read(&bytes).unwrap();
+        for _ in 0..50 {
+            let state = valid_state(&mut rng, &site);
+            assert!(valid(&site, &state), "{state:?}");
+            assert_eq!(State::from_bytes(&state.to_bytes()), Some(state));
+            for movement in state.movements {
+                seen.insert((state.interval as u8, movement.stage as u8));
+            }
+        }
+    }
+    // Start red has idle movements only; yellow and all-red idle and C2 only.
+    let count_of = |interval: Interval| {
+        let code = interval as u8;
+        seen.iter().filter(|(seen, _)| *seen == code).count()
+    };
+    assert_eq!(Interval::ALL.map(count_of), [1, 4, 4, 4, 2, 2]);
+    assert!(seen.contains(&(Interval::AllRed as u8, Stage::ClearanceTwo as u8)));
+}
+
+#[test]
+fn every_breakage_makes_a_state_invalid() {
+    let mut rng = Rng::new(SEED);
+    for breakage in Breakage::ALL {
+        let mut found = 0;
+        for plan in plans(60) {
+            let bytes = plan.bytes();
+            let site = Site::read(&bytes).unwrap();
+            if let Some(state) = invalid_state(&mut rng, &site, breakage) {
+                assert!(!valid(&site, &state), "{breakage:?}: {state:?}");
+                found += 1;
+            }
+        }
+        assert!(found >= 10, "{breakage:?}: {found}");
+    }
+}
+
+#[test]
+fn broken_state_bytes_are_no_state() {
+    let mut rng = Rng::new(SEED);
+    let bytes = Plan::largest().bytes();
+    let site = Site::read(&bytes).unwrap();
+    for _ in 0..2_000 {
+        let broken = broken_state_bytes(&mut rng, &site);
+        assert_eq!(State::from_bytes(&broken), None, "{broken:?}");
+    }
+}
+
+#[test]
+fn inputs_known_and_unknown() {
+    let mut rng = Rng::new(SEED);
+    for plan in plans(200) {
+        let bytes = plan.bytes();
+        let site = Site::read(&bytes).unwrap();
+        for _ in 0..20 {
+            assert_eq!(known_inputs(&mut rng, &site) & !site.known_inputs(), 0);
+            assert_ne!(unknown_inputs(&mut rng, &site) & !site.known_inputs(), 0);
+        }
+    }
+}
+
+#[test]
+fn every_refusal_number_occurs_in_the_cases() {
+    let tally = compare::run_cases(&model::packed::Model, SEED, 0..2_000).unwrap();
+    for number in 0..=15 {
+        assert!(tally.answers(number) >= 20, "{number}\n{tally}");
+    }
+    for kind in compare::Kind::all() {
+        assert!(tally.cases(kind) >= 20, "{kind}\n{tally}");
+    }
+}

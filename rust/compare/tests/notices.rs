@@ -1,0 +1,179 @@
+//! Boards that are wrong in one small thing: the comparison notices.
+
+use compare::{run_case, run_cases, Difference, Failure};
+use model::packed::{number, Board, Model};
+
+/// Spoils an answer, and the state and colours that go with it.
+type SpoilStep = fn(u64, &mut [u8], &mut [u8]) -> u64;
+
+/// The model with its answers and buffers spoilt.
+#[derive(Default)]
+struct Wrong {
+    read: Option<fn(u64) -> u64>,
+    wait_bound: Option<fn(u64) -> u64>,
+    fresh: Option<fn(u64, &mut [u8]) -> u64>,
+    step: Option<SpoilStep>,
+    section: Option<fn(u64, u16) -> u64>,
+}
+
+impl Board for Wrong {
+    fn read(&self, personality: &[u8]) -> u64 {
+        let answer = Model.read(personality);
+        self.read.map_or(answer, |spoil| spoil(answer))
+    }
+
+    fn wait_bound(&self, personality: &[u8]) -> u64 {
+        let answer = Model.wait_bound(personality);
+        self.wait_bound.map_or(answer, |spoil| spoil(answer))
+    }
+
+    fn fresh(&self, state: &mut [u8]) -> u64 {
+        let answer = Model.fresh(state);
+        self.fresh.map_or(answer, |spoil| spoil(answer, state))
+    }
+
+    fn step(&self, personality: &[u8], state: &mut [u8], inputs: u64, colours: &mut [u8]) -> u64 {
+        let answer = Model.step(personality, state, inputs, colours);
+        self.step
+            .map_or(answer, |spoil| spoil(answer, state, colours))
+    }
+
+    fn section(&self, personality: &[u8], kind: u16) -> u64 {
+        let answer = Model.section(personality, kind);
+        self.section.map_or(answer, |spoil| spoil(answer, kind))
+    }
+}
+
+/// The failure that the comparison must find.
+fn failure(board: &dyn Board) -> Failure {
+    *run_cases(board, 5, 0..600).expect_err("the comparison notices nothing")
+}
+
+/// What differs.
+fn what(board: &dyn Board) -> String {
+    match failure(board).difference {
+        Difference::Call { what, .. } => what.to_string(),
+        Difference::Breach { breach, .. } => breach.to_string(),
+    }
+}
+
+#[test]
+fn a_right_board_differs_nowhere() {
+    assert!(run_cases(&Wrong::default(), 5, 0..600).is_ok());
+}
+
+#[test]
+fn a_wrong_place() {
+    let board = Wrong {
+        read: Some(|answer| {
+            if number(answer) == 10 {
+                answer + 0x400
+            } else {
+                answer
+            }
+        }),
+        ..Wrong::default()
+    };
+    assert_eq!(what(&board), "read: the answer");
+}
+
+#[test]
+fn a_personality_accepted_too_many() {
+    let board = Wrong {
+        read: Some(|answer| if number(answer) == 7 { 0 } else { answer }),
+        ..Wrong::default()
+    };
+    assert_eq!(what(&board), "read: the answer");
+}
+
+#[test]
+fn a_wait_bound_one_too_long() {
+    let board = Wrong {
+        wait_bound: Some(|answer| {
+            if number(answer) == 0 {
+                answer + 0x100
+            } else {
+                answer
+            }
+        }),
+        ..Wrong::default()
+    };
+    assert_eq!(what(&board), "wait bound: the answer");
+}
+
+#[test]
+fn a_section_for_a_kind_not_held() {
+    let board = Wrong {
+        section: Some(|answer, kind| if kind == 257 { 0 } else { answer }),
+        ..Wrong::default()
+    };
+    assert_eq!(what(&board), "section: the answer");
+}
+
+#[test]
+fn a_fresh_state_in_a_longer_buffer() {
+    let board = Wrong {
+        fresh: Some(|answer, state| {
+            if state.len() > 51 {
+                state[0] = !state[0];
+            }
+            answer
+        }),
+        ..Wrong::default()
+    };
+    assert_eq!(what(&board), "fresh: the state");
+}
+
+#[test]
+fn a_state_changed_by_a_refusal() {
+    let board = Wrong {
+        step: Some(|answer, state, _| {
+            if number(answer) == 14 {
+                state[2] ^= 1;
+            }
+            answer
+        }),
+        ..Wrong::default()
+    };
+    assert_eq!(what(&board), "step: the state");
+}
+
+#[test]
+fn colours_past_the_groups() {
+    let board = Wrong {
+        step: Some(|answer, _, colours| {
+            if number(answer) == 0 && colours.len() > 32 {
+                colours[32] ^= 1;
+            }
+            answer
+        }),
+        ..Wrong::default()
+    };
+    assert_eq!(what(&board), "step: the colours");
+}
+
+#[test]
+fn unknown_inputs_before_an_invalid_state() {
+    let board = Wrong {
+        step: Some(|answer, _, _| if number(answer) == 13 { 15 } else { answer }),
+        ..Wrong::default()
+    };
+    assert_eq!(what(&board), "step: the answer");
+}
+
+#[test]
+fn a_failing_case_fails_again_alone_and_says_how() {
+    let board = Wrong {
+        read: Some(|answer| if number(answer) == 9 { 0 } else { answer }),
+        ..Wrong::default()
+    };
+    let first = failure(&board);
+    let again = run_case(&board, first.seed, first.index, &mut Default::default());
+    assert_eq!(*again.unwrap_err(), first);
+    let text = first.to_string();
+    assert!(
+        text.contains(&format!("compare 5 case {}", first.index)),
+        "{text}"
+    );
+    assert!(text.contains("personality 04000100"), "{text}");
+}

@@ -1,0 +1,301 @@
+//! Personalities that are refused: each refusal aimed at, in every way its
+//! number names, and damage without an aim.
+
+use crate::plan::Plan;
+use crate::rng::Rng;
+use model::{Limits, Mark, Setting, MAX_GROUPS, MAX_MOVEMENTS};
+
+/// The refusals that a personality can be aimed at.
+pub const AIMED: std::ops::RangeInclusive<u8> = 1..=12;
+
+const PEDESTRIAN: u8 = Mark::Pedestrian as u8;
+
+/// A personality that is refused with this number, one of [`AIMED`].
+pub fn damaged(rng: &mut Rng, number: u8) -> Vec<u8> {
+    loop {
+        let plan = Plan::random(rng);
+        if let Some(bytes) = damage(rng, plan, number) {
+            return bytes;
+        }
+    }
+}
+
+/// A personality damaged in two ways, refused for whichever is checked first.
+pub fn twice_damaged(rng: &mut Rng) -> Vec<u8> {
+    loop {
+        let mut plan = Plan::random(rng);
+        let one = rng.range(5, 11) as u8;
+        let other = rng.range(1, 12) as u8;
+        if damage_plan(rng, &mut plan, one).is_some() {
+            if let Some(bytes) = damage(rng, plan, other) {
+                return bytes;
+            }
+        }
+    }
+}
+
+/// A personality damaged without an aim; a few are still accepted.
+pub fn scrambled(rng: &mut Rng) -> Vec<u8> {
+    if rng.percent(5) {
+        let length = rng.below(500);
+        return rng.bytes(length);
+    }
+    let mut bytes = Plan::random(rng).bytes();
+    for _ in 0..rng.range(1, 3) {
+        scramble(rng, &mut bytes);
+    }
+    bytes
+}
+
+/// Damages a plan or its bytes; none where the plan has nothing to damage so.
+fn damage(rng: &mut Rng, mut plan: Plan, number: u8) -> Option<Vec<u8>> {
+    if (5..=11).contains(&number) {
+        damage_plan(rng, &mut plan, number)?;
+        return Some(plan.bytes());
+    }
+    let mut bytes = plan.bytes();
+    match number {
+        1 => cut(rng, &mut bytes),
+        2 => change_kind(rng, &mut bytes),
+        3 => change_length(rng, &mut bytes),
+        4 => change_count(rng, &mut bytes),
+        12 => {
+            let count = rng.range(1, 8);
+            bytes.extend(rng.bytes(count));
+        }
+        _ => return None,
+    }
+    Some(bytes)
+}
+
+fn damage_plan(rng: &mut Rng, plan: &mut Plan, number: u8) -> Option<()> {
+    match number {
+        5 => change_time(rng, plan),
+        6 => change_group(rng, plan),
+        7 => add_ninth_pedestrian(rng, plan)?,
+        8 => leave_phase_unserved(rng, plan),
+        9 => change_conflict(rng, plan)?,
+        10 => share_phase(rng, plan)?,
+        11 => change_detector(rng, plan)?,
+        _ => return None,
+    }
+    Some(())
+}
+
+/// The heads of the sections, as far as they go.
+fn heads(bytes: &[u8]) -> Vec<usize> {
+    let mut heads = Vec::new();
+    let mut at = 0;
+    while let Some(&[low, high, _, _]) = bytes.get(at..).and_then(<[u8]>::first_chunk) {
+        heads.push(at);
+        at += 4 + usize::from(u16::from_le_bytes([low, high]));
+    }
+    heads
+}
+
+/// The head of one section of a whole personality.
+fn random_head(rng: &mut Rng, bytes: &[u8]) -> usize {
+    rng.pick(&heads(bytes))
+}
+
+fn put(bytes: &mut [u8], at: usize, number: u16) {
+    bytes[at..at + 2].copy_from_slice(&number.to_le_bytes());
+}
+
+/// Cuts anywhere, often at a section's head or just after it.
+fn cut(rng: &mut Rng, bytes: &mut Vec<u8>) {
+    let length = match rng.below(3) {
+        0 => rng.below(bytes.len()),
+        1 => random_head(rng, bytes),
+        _ => random_head(rng, bytes) + rng.below(4),
+    };
+    bytes.truncate(length);
+}
+
+fn change_kind(rng: &mut Rng, bytes: &mut [u8]) {
+    let section = rng.below(6);
+    let right = section as u16 + 1;
+    let random = rng.draw() as u16;
+    let near = rng.range(0, 9) as u16;
+    let kind = rng.pick(&[near, near, random, right + 256, right.swap_bytes()]);
+    let kind = if kind == right { right + 1 } else { kind };
+    put(bytes, heads(bytes)[section] + 2, kind);
+}
+
+/// A length that the counts do not allow; for kind 5 one that is odd or above 96.
+fn change_length(rng: &mut Rng, bytes: &mut [u8]) {
+    let section = rng.below(6);
+    let head = heads(bytes)[section];
+    let right = u16::from_le_bytes([bytes[head], bytes[head + 1]]);
+    let odd = 2 * rng.below(50) as u16 + 1;
+    let wrong = [
+        right ^ 1,
+        right + 97,
+        right | 0x8000,
+        u16::MAX,
+        odd,
+        right ^ 256,
+    ];
+    let wrong = if section == 4 && rng.percent(30) {
+        98
+    } else {
+        rng.pick(&wrong)
+    };
+    put(bytes, head, if wrong == right { right + 1 } else { wrong });
+}
+
+fn change_count(rng: &mut Rng, bytes: &mut [u8]) {
+    if rng.percent(50) {
+        bytes[4] = rng.pick(&[0, 1, 8, 9, 16, 255]);
+    } else {
+        bytes[5] = rng.pick(&[0, 33, 34, 64, 255]);
+    }
+}
+
+/// A time just outside its limits, or far outside.
+fn wrong_time(rng: &mut Rng, limits: Limits) -> u16 {
+    let above = [limits.high + 1, limits.high | 0x8000, u16::MAX];
+    if limits.low > 0 && rng.percent(50) {
+        rng.pick(&[0, limits.low - 1])
+    } else {
+        rng.pick(&above)
+    }
+}
+
+fn change_time(rng: &mut Rng, plan: &mut Plan) {
+    let phase_fields = 6 * plan.phases.len();
+    let movement_fields = 3 * plan.movements.len();
+    let mut field = rng.below(1 + phase_fields + movement_fields);
+    if field == 0 {
+        plan.start_red = wrong_time(rng, Setting::StartRed.limits());
+        return;
+    }
+    field -= 1;
+    if field < phase_fields {
+        let limits = Setting::OF_PHASE[field % 6].limits();
+        plan.phases[field / 6][field % 6] = wrong_time(rng, limits);
+        return;
+    }
+    field -= phase_fields;
+    let limits = Setting::OF_MOVEMENT[field % 3].limits();
+    plan.movements[field / 3][field % 3] = wrong_time(rng, limits);
+}
+
+/// A phase the site lacks, an unknown mark, or a pedestrian group without
+/// exactly one phase.
+fn change_group(rng: &mut Rng, plan: &mut Plan) {
+    let phases = plan.phases.len();
+    let group = rng.below(plan.groups.len());
+    let two_phases = 0b11 << rng.below(phases - 1);
+    plan.groups[group] = match rng.below(4) {
+        0 => [
+            plan.groups[group][0] | 1 << rng.range(phases, 7),
+            plan.groups[group][1],
+        ],
+        1 => [plan.groups[group][0], rng.pick(&[3, 4, 130, 255])],
+        2 => [0, PEDESTRIAN],
+        _ => [two_phases, PEDESTRIAN],
+    };
+}
+
+fn add_ninth_pedestrian(rng: &mut Rng, plan: &mut Plan) -> Option<()> {
+    if plan.groups.len() <= MAX_MOVEMENTS {
+        return None;
+    }
+    let mut order: Vec<usize> = (0..plan.groups.len()).collect();
+    rng.shuffle(&mut order);
+    let count = rng.range(MAX_MOVEMENTS + 1, plan.groups.len());
+    for &group in &order[..count] {
+        if plan.groups[group][1] != PEDESTRIAN {
+            plan.groups[group] = [1 << rng.below(plan.phases.len()), PEDESTRIAN];
+        }
+    }
+    Some(())
+}
+
+fn leave_phase_unserved(rng: &mut Rng, plan: &mut Plan) {
+    let phases = plan.phases.len();
+    let left = rng.below(phases);
+    let other = (left + rng.range(1, phases - 1)) % phases;
+    for group in &mut plan.groups {
+        if group[0] == 1 << left && group[1] == PEDESTRIAN {
+            group[0] = 1 << other;
+        }
+        group[0] &= !(1 << left);
+    }
+}
+
+/// A conflict with itself, with a group the site lacks, or one way only.
+fn change_conflict(rng: &mut Rng, plan: &mut Plan) -> Option<()> {
+    let groups = plan.groups.len();
+    let group = rng.below(groups);
+    let other = rng.below(groups);
+    match rng.below(3) {
+        0 => plan.conflicts[group] |= 1 << group,
+        1 if groups < MAX_GROUPS => plan.conflicts[group] |= 1 << rng.range(groups, 31),
+        2 if other != group => plan.conflicts[group] ^= 1 << other,
+        _ => return None,
+    }
+    Some(())
+}
+
+/// Two conflicting groups with a phase in common.
+fn share_phase(rng: &mut Rng, plan: &mut Plan) -> Option<()> {
+    let groups = plan.groups.len();
+    let one = rng.below(groups);
+    let other = rng.below(groups);
+    let shared = plan.groups[one][0] & plan.groups[other][0];
+    if one == other || (shared == 0 && plan.groups[one][1] == PEDESTRIAN) {
+        return None;
+    }
+    if shared == 0 {
+        plan.groups[one][0] |= plan.groups[other][0];
+    }
+    plan.conflicts[one] |= 1 << other;
+    plan.conflicts[other] |= 1 << one;
+    (plan.groups[one][0] & plan.groups[other][0] != 0).then_some(())
+}
+
+fn change_detector(rng: &mut Rng, plan: &mut Plan) -> Option<()> {
+    let phases = plan.phases.len() as u8;
+    if plan.detectors.is_empty() {
+        return None;
+    }
+    let detector = rng.below(plan.detectors.len());
+    if rng.percent(50) {
+        plan.detectors[detector][0] = rng.pick(&[phases, phases + 1, 8, 255]);
+    } else {
+        plan.detectors[detector][1] = rng.pick(&[3, 7, 8, 10, 128, 255]);
+    }
+    Some(())
+}
+
+/// One change without an aim.
+fn scramble(rng: &mut Rng, bytes: &mut Vec<u8>) {
+    if bytes.is_empty() {
+        return;
+    }
+    let at = rng.below(bytes.len());
+    match rng.below(8) {
+        0 => bytes[at] ^= 1 << rng.below(8),
+        1 => bytes[at] = rng.byte(),
+        2 => bytes[at] = bytes[at].wrapping_add(rng.pick(&[1, 255])),
+        3 => bytes.insert(at, rng.byte()),
+        4 => {
+            bytes.remove(at);
+        }
+        5 => {
+            let end = rng.range(at, bytes.len());
+            let piece = bytes[at..end].to_vec();
+            bytes.splice(at..at, piece);
+        }
+        6 => {
+            let end = rng.range(at, bytes.len());
+            bytes.drain(at..end);
+        }
+        _ => {
+            let end = rng.range(at, bytes.len());
+            bytes[at..end].reverse();
+        }
+    }
+}

@@ -1,0 +1,268 @@
+//! The plan of a site, from which a personality is written. A plan may hold
+//! what no accepted personality may.
+
+use crate::rng::Rng;
+use model::{Limits, Mark, Setting, MAX_DETECTORS, MAX_GROUPS, MAX_MOVEMENTS, MAX_PHASES};
+
+/// The modes a detector may have.
+pub const MODES: [u8; 6] = [0, 1, 2, 4, 5, 6];
+
+const VEHICLE: u8 = Mark::Vehicle as u8;
+const LATE_START: u8 = Mark::LateStart as u8;
+const PEDESTRIAN: u8 = Mark::Pedestrian as u8;
+
+/// The plan of a site.
+#[derive(Clone, Debug, PartialEq, Eq)]
+pub struct Plan {
+    pub start_red: u16,
+    /// Late start, minimum green, maximum green, gap, yellow, all-red.
+    pub phases: Vec<[u16; 6]>,
+    /// Phase set and mark.
+    pub groups: Vec<[u8; 2]>,
+    pub conflicts: Vec<u32>,
+    /// Phase and mode.
+    pub detectors: Vec<[u8; 2]>,
+    /// Walk, clearance one, clearance two.
+    pub movements: Vec<[u16; 3]>,
+}
+
+/// How a random plan chooses its times.
+#[derive(Clone, Copy, Debug, PartialEq, Eq)]
+pub enum Pace {
+    /// Near the lowest value, so that a run sees many changes.
+    Short,
+    /// The lowest or highest value, or one beside it.
+    Edges,
+    /// Anywhere within the limits.
+    Anywhere,
+}
+
+/// The sizes of a random plan.
+#[derive(Clone, Copy, Debug, PartialEq, Eq)]
+pub struct Shape {
+    pub phases: usize,
+    pub groups: usize,
+    pub pedestrians: usize,
+    pub detectors: usize,
+    pub pace: Pace,
+}
+
+impl Shape {
+    /// A random shape; the edges of every size are as likely as all between.
+    pub fn random(rng: &mut Rng) -> Shape {
+        let groups = edged(rng, 1, MAX_GROUPS);
+        Shape {
+            phases: rng.range(2, MAX_PHASES),
+            groups,
+            pedestrians: edged(rng, 0, MAX_MOVEMENTS.min(groups)),
+            detectors: edged(rng, 0, MAX_DETECTORS),
+            pace: rng.pick(&[Pace::Short, Pace::Short, Pace::Edges, Pace::Anywhere]),
+        }
+    }
+}
+
+/// A size: often the lowest or the highest.
+fn edged(rng: &mut Rng, low: usize, high: usize) -> usize {
+    match rng.below(8) {
+        0 => low,
+        1 => high,
+        _ => rng.range(low, high),
+    }
+}
+
+impl Plan {
+    /// The personality of the plan.
+    pub fn bytes(&self) -> Vec<u8> {
+        let mut bytes = Vec::new();
+        let mut site = vec![self.phases.len() as u8, self.groups.len() as u8];
+        site.extend(self.start_red.to_le_bytes());
+        section(&mut bytes, 1, site);
+        section(&mut bytes, 2, times(self.phases.as_flattened()));
+        section(&mut bytes, 3, self.groups.concat());
+        let conflicts = self.conflicts.iter().flat_map(|row| row.to_le_bytes());
+        section(&mut bytes, 4, conflicts.collect());
+        section(&mut bytes, 5, self.detectors.concat());
+        section(&mut bytes, 6, times(self.movements.as_flattened()));
+        bytes
+    }
+
+    /// The junction of two phases of document 01.
+    pub fn junction() -> Plan {
+        Plan {
+            start_red: 10,
+            phases: vec![[0, 20, 30, 5, 30, 10]; 2],
+            groups: vec![[1, VEHICLE], [2, VEHICLE]],
+            conflicts: vec![2, 1],
+            detectors: vec![[0, 6], [1, 6]],
+            movements: vec![],
+        }
+    }
+
+    /// The smallest site there is: two phases that share the only group.
+    pub fn smallest() -> Plan {
+        Plan {
+            start_red: 10,
+            phases: vec![[0, 20, 30, 5, 30, 10]; 2],
+            groups: vec![[3, VEHICLE]],
+            conflicts: vec![0],
+            detectors: vec![],
+            movements: vec![],
+        }
+    }
+
+    /// A site as large as they come: 7 phases, 32 groups, 48 detectors and 8
+    /// movements, with overlaps, late starts and every possible conflict.
+    pub fn largest() -> Plan {
+        let vehicle = |group: usize| {
+            let overlap = if group % 4 == 3 {
+                1 << ((group + 1) % 7)
+            } else {
+                0
+            };
+            let mark = if group % 5 == 2 { LATE_START } else { VEHICLE };
+            [1 << (group % 7) | overlap, mark]
+        };
+        let pedestrian = |movement: usize| [1 << (movement % 7), PEDESTRIAN];
+        let mut plan = Plan {
+            start_red: 60,
+            phases: (0..7).map(|p| [5 * (p % 2), 50, 300, 25, 35, 20]).collect(),
+            groups: (0..24).map(vehicle).chain((0..8).map(pedestrian)).collect(),
+            conflicts: vec![0; MAX_GROUPS],
+            detectors: (0..MAX_DETECTORS)
+                .map(|d| [(d % 7) as u8, [6, 6, 5, 4, 2, 1][d % 6]])
+                .collect(),
+            movements: vec![[60, 50, 40]; MAX_MOVEMENTS],
+        };
+        plan.make_conflicts(|| true);
+        plan
+    }
+
+    /// A random plan that is accepted.
+    pub fn random(rng: &mut Rng) -> Plan {
+        let shape = Shape::random(rng);
+        Plan::of_shape(rng, shape)
+    }
+
+    /// A random accepted plan of a shape. Where pedestrian groups alone cannot
+    /// serve every phase, one of them becomes a vehicle group.
+    pub fn of_shape(rng: &mut Rng, shape: Shape) -> Plan {
+        let groups = random_groups(rng, &shape);
+        let pedestrians = groups.iter().filter(|group| group[1] == PEDESTRIAN);
+        let movements = pedestrians
+            .map(|_| random_times(rng, Setting::OF_MOVEMENT, shape.pace))
+            .collect();
+        let mut plan = Plan {
+            start_red: random_time(rng, Setting::StartRed.limits(), shape.pace),
+            phases: (0..shape.phases)
+                .map(|_| random_phase(rng, shape.pace))
+                .collect(),
+            conflicts: vec![0; groups.len()],
+            groups,
+            detectors: (0..shape.detectors)
+                .map(|_| [rng.below(shape.phases) as u8, rng.pick(&MODES)])
+                .collect(),
+            movements,
+        };
+        let density = rng.pick(&[0, 30, 70, 100, 100]);
+        plan.make_conflicts(|| rng.percent(density));
+        plan
+    }
+
+    /// Lets two groups conflict where they share no phase and the choice says so.
+    fn make_conflicts(&mut self, mut choose: impl FnMut() -> bool) {
+        for one in 0..self.groups.len() {
+            for other in 0..one {
+                if self.groups[one][0] & self.groups[other][0] == 0 && choose() {
+                    self.conflicts[one] |= 1 << other;
+                    self.conflicts[other] |= 1 << one;
+                }
+            }
+        }
+    }
+}
+
+fn section(bytes: &mut Vec<u8>, kind: u16, body: Vec<u8>) {
+    bytes.extend((body.len() as u16).to_le_bytes());
+    bytes.extend(kind.to_le_bytes());
+    bytes.extend(body);
+}
+
+fn times(times: &[u16]) -> Vec<u8> {
+    times.iter().flat_map(|time| time.to_le_bytes()).collect()
+}
+
+fn random_time(rng: &mut Rng, limits: Limits, pace: Pace) -> u16 {
+    let Limits { low, high } = limits;
+    match pace {
+        Pace::Short => rng.time(low, high.min(low + 12)),
+        Pace::Edges => rng.pick(&[low, low, low + 1, high - 1, high]),
+        Pace::Anywhere => rng.time(low, high),
+    }
+}
+
+fn random_times<const FIELDS: usize>(
+    rng: &mut Rng,
+    settings: [Setting; FIELDS],
+    pace: Pace,
+) -> [u16; FIELDS] {
+    settings.map(|setting| random_time(rng, setting.limits(), pace))
+}
+
+/// The times of a phase; half of the phases have no late start.
+fn random_phase(rng: &mut Rng, pace: Pace) -> [u16; 6] {
+    let mut times = random_times(rng, Setting::OF_PHASE, pace);
+    if rng.percent(50) {
+        times[0] = 0;
+    }
+    times
+}
+
+/// Groups in which every phase is served.
+fn random_groups(rng: &mut Rng, shape: &Shape) -> Vec<[u8; 2]> {
+    let mut groups: Vec<[u8; 2]> = (0..shape.groups)
+        .map(|index| {
+            if index < shape.pedestrians {
+                [1 << rng.below(shape.phases), PEDESTRIAN]
+            } else {
+                random_vehicle_group(rng, shape.phases)
+            }
+        })
+        .collect();
+    serve_every_phase(rng, &mut groups, shape);
+    rng.shuffle(&mut groups);
+    groups
+}
+
+/// A vehicle group: most have one phase, some overlap, a few have none.
+fn random_vehicle_group(rng: &mut Rng, phases: usize) -> [u8; 2] {
+    let any = || (1_u16 << phases) - 1;
+    let set = match rng.below(10) {
+        0 => 0,
+        1..=5 => 1 << rng.below(phases),
+        6..=8 => 1 << rng.below(phases) | 1 << rng.below(phases),
+        _ => (rng.draw() as u16 & any()) as u8,
+    };
+    [set, rng.pick(&[VEHICLE, VEHICLE, LATE_START])]
+}
+
+/// Adds the phases that no group has. Pedestrian groups come first.
+fn serve_every_phase(rng: &mut Rng, groups: &mut [[u8; 2]], shape: &Shape) {
+    if shape.pedestrians == shape.groups {
+        if shape.groups < shape.phases {
+            groups[shape.groups - 1][1] = VEHICLE;
+        } else {
+            for (phase, group) in groups.iter_mut().take(shape.phases).enumerate() {
+                group[0] = 1 << phase;
+            }
+        }
+    }
+    let served = groups.iter().fold(0, |served, group| served | group[0]);
+    for phase in 0..shape.phases {
+        if served >> phase & 1 == 0 {
+            let first_vehicle = groups.iter().position(|group| group[1] != PEDESTRIAN);
+            let first = first_vehicle.expect("pedestrian groups alone serve every phase");
+            let chosen = rng.range(first, groups.len() - 1);
+            groups[chosen][0] |= 1 << phase;
+        }
+    }
+}

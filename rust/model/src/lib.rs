@@ -1,0 +1,51 @@
+//! An isolated traffic signal controller after document 01, written from the
+//! paper and from nothing else.
+//!
+//! One step is 0.1 s and every time is counted in steps. The model reads a
+//! personality, steps the controller, gives the colours of the signal groups,
+//! the wait bound and the sections of a personality. It needs no heap and nothing
+//! of the standard library but its core.
+//!
+//! [`packed`] holds the same functions in the shape of the board library: states
+//! as 51 bytes and answers as one number.
+
+#![no_std]
+#![forbid(unsafe_code)]
+
+#[cfg(test)]
+extern crate std;
+
+mod bits;
+mod colours;
+mod limits;
+mod lookup;
+pub mod packed;
+mod reader;
+mod refusal;
+mod site;
+mod state;
+mod step;
+mod valid;
+mod wait;
+
+pub use colours::Colour;
+pub use limits::{Limits, Setting};
+pub use lookup::{section, Part};
+pub use reader::read;
+pub use refusal::{Number, Refusal, Verdict};
+pub use site::{Detector, Group, Mark, Movement, PhaseTimes, Site};
+pub use state::{fresh, Interval, MovementState, Stage, State, MAX_AGE, STATE_LEN};
+pub use step::{step, step_on, Answer};
+pub use valid::valid;
+pub use wait::wait_bound;
+
+/// Most phases of a site.
+pub const MAX_PHASES: usize = 7;
+/// Most signal groups of a site, pedestrian groups included.
+pub const MAX_GROUPS: usize = 32;
+/// Most detectors of a site.
+pub const MAX_DETECTORS: usize = 48;
+/// Most pedestrian movements of a site, each with one push button.
+pub const MAX_MOVEMENTS: usize = 8;
+/// The input bit of the first push button; the bits below are the detectors.
+pub const FIRST_BUTTON: u32 = 48;

@@ -1,0 +1,111 @@
+//! The model in the shape of the board library: a state is 51 bytes that a step
+//! replaces, and an answer is one number. Its low 8 bits are 0 where the call is
+//! accepted, else the number of the refusal; the rest is the wait bound or the
+//! place.
+
+use crate::refusal::{Number, Refusal};
+use crate::site::Site;
+use crate::state::State;
+use crate::step::step_on;
+
+/// A board: the calls of the library, over buffers of any content and length.
+pub trait Board {
+    fn read(&self, personality: &[u8]) -> u64;
+    fn wait_bound(&self, personality: &[u8]) -> u64;
+    fn fresh(&self, state: &mut [u8]) -> u64;
+    fn step(&self, personality: &[u8], state: &mut [u8], inputs: u64, colours: &mut [u8]) -> u64;
+    fn section(&self, personality: &[u8], kind: u16) -> u64;
+}
+
+/// The model as a board.
+#[derive(Clone, Copy, Debug, Default)]
+pub struct Model;
+
+impl Board for Model {
+    fn read(&self, personality: &[u8]) -> u64 {
+        read(personality)
+    }
+
+    fn wait_bound(&self, personality: &[u8]) -> u64 {
+        wait_bound(personality)
+    }
+
+    fn fresh(&self, state: &mut [u8]) -> u64 {
+        fresh(state)
+    }
+
+    fn step(&self, personality: &[u8], state: &mut [u8], inputs: u64, colours: &mut [u8]) -> u64 {
+        step(personality, state, inputs, colours)
+    }
+
+    fn section(&self, personality: &[u8], kind: u16) -> u64 {
+        section(personality, kind)
+    }
+}
+
+/// The number of an answer, 0 where the call is accepted.
+pub fn number(answer: u64) -> u8 {
+    answer as u8
+}
+
+/// The wait bound or the place in an answer.
+pub fn rest(answer: u64) -> u64 {
+    answer >> 8
+}
+
+/// Reads a personality: 0 where it is accepted.
+pub fn read(personality: &[u8]) -> u64 {
+    crate::read(personality).map_or_else(refuse, |()| 0)
+}
+
+/// The wait bound of a personality.
+pub fn wait_bound(personality: &[u8]) -> u64 {
+    crate::wait_bound(personality).map_or_else(refuse, accept)
+}
+
+/// Writes the fresh state: 13 where the buffer is not as long as a state.
+pub fn fresh(state: &mut [u8]) -> u64 {
+    let bytes = crate::fresh().to_bytes();
+    if state.len() != bytes.len() {
+        return Number::InvalidState as u64;
+    }
+    state.copy_from_slice(&bytes);
+    0
+}
+
+/// A full step call.
+pub fn step(personality: &[u8], state: &mut [u8], inputs: u64, colours: &mut [u8]) -> u64 {
+    let stepped = Site::read(personality).and_then(|site| {
+        let before = State::from_bytes(state).ok_or(NO_STATE)?;
+        let next = step_on(&site, &before, inputs, colours)?;
+        Ok((next, site.wait_bound()))
+    });
+    match stepped {
+        Ok((next, bound)) => {
+            state.copy_from_slice(&next.to_bytes());
+            accept(bound)
+        }
+        Err(refusal) => refuse(refusal),
+    }
+}
+
+/// The section of a kind: the offset in bits 8 to 39 and the length in bits 40
+/// to 63.
+pub fn section(personality: &[u8], kind: u16) -> u64 {
+    crate::section(personality, kind).map_or_else(refuse, |part| {
+        u64::from(part.offset) << 8 | u64::from(part.length) << 40
+    })
+}
+
+const NO_STATE: Refusal = Refusal {
+    number: Number::InvalidState,
+    place: 0,
+};
+
+fn accept(bound: u32) -> u64 {
+    u64::from(bound) << 8
+}
+
+fn refuse(refusal: Refusal) -> u64 {
+    u64::from(refusal.place) << 8 | refusal.number as u64
+}

@@ -1,0 +1,65 @@
+//! The refusals of document 01.
+
+/// What is wrong, by the number the paper gives it.
+#[derive(Clone, Copy, Debug, PartialEq, Eq, PartialOrd, Ord, Hash)]
+#[repr(u8)]
+pub enum Number {
+    /// Fewer than four bytes left for a section head, or a body past the end.
+    CutShort = 1,
+    /// Not the section kind expected.
+    UnexpectedKind = 2,
+    /// A section length that the counts do not allow.
+    WrongLength = 3,
+    /// Phase or group count out of range.
+    WrongCount = 4,
+    /// A time setting outside its limits.
+    WrongTime = 5,
+    /// A signal group with a phase the site lacks, an unknown mark, or a
+    /// pedestrian group without exactly one phase.
+    WrongGroup = 6,
+    /// A ninth pedestrian group.
+    NinthPedestrian = 7,
+    /// A phase in no group's set.
+    UnservedPhase = 8,
+    /// A conflict with itself, with a group the site lacks, or one way only.
+    WrongConflict = 9,
+    /// Two conflicting groups share a phase.
+    SharedPhase = 10,
+    /// A detector with a phase the site lacks or an unknown mode.
+    WrongDetector = 11,
+    /// Bytes after the last section.
+    LeftOver = 12,
+    /// The state is not valid.
+    InvalidState = 13,
+    /// The colour buffer is shorter than the group count.
+    ShortBuffer = 14,
+    /// An input bit is set without a detector or button there.
+    UnknownInput = 15,
+}
+
+/// A refusal: its number, and the byte of the personality it is about (0 where
+/// the number names no place).
+#[derive(Clone, Copy, Debug, PartialEq, Eq)]
+pub struct Refusal {
+    pub number: Number,
+    pub place: u32,
+}
+
+impl Refusal {
+    /// A refusal at a byte of the personality.
+    pub(crate) fn at(number: Number, place: usize) -> Refusal {
+        Refusal {
+            number,
+            // Everything accepted before a refusal is shorter than 500 bytes.
+            place: place as u32,
+        }
+    }
+
+    /// A refusal that names no place.
+    pub(crate) fn without_place(number: Number) -> Refusal {
+        Refusal { number, place: 0 }
+    }
+}
+
+/// Accepted, or refused with a number and a place.
+pub type Verdict = Result<(), Refusal>;

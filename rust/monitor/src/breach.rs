@@ -1,0 +1,87 @@
+//! What a watched run can be found guilty of.
+
+use std::fmt;
+
+/// A breach, at an accepted step counted from 1.
+#[derive(Clone, Debug, PartialEq, Eq)]
+pub enum Breach {
+    /// Two conflicting groups show green together.
+    GreenTogether {
+        step: u64,
+        group: usize,
+        other: usize,
+    },
+    /// A group starts a green though a conflicting group has not shown its full
+    /// clearance: the colours it has shown since its last green, each with the
+    /// number of steps.
+    Uncleared {
+        step: u64,
+        starting: usize,
+        conflicting: usize,
+        shown: Vec<(u8, u64)>,
+    },
+    /// The locked demand of a phase is not met within the wait bound.
+    LockUnmet {
+        step: u64,
+        phase: usize,
+        registered: u64,
+    },
+    /// The button demand of a movement is not met within the wait bound.
+    PressUnmet {
+        step: u64,
+        movement: usize,
+        registered: u64,
+    },
+    /// A call that is right is refused, or one that is wrong is accepted.
+    WrongAnswer { step: u64, answer: u64 },
+    /// A refused call changes the state or the colour buffer.
+    RefusalWrites { step: u64 },
+    /// The bytes handed back are no state.
+    NoState { step: u64 },
+}
+
+impl fmt::Display for Breach {
+    fn fmt(&self, f: &mut fmt::Formatter<'_>) -> fmt::Result {
+        match self {
+            Breach::GreenTogether { step, group, other } => {
+                write!(
+                    f,
+                    "step {step}: groups {group} and {other} are green together"
+                )
+            }
+            Breach::Uncleared {
+                step,
+                starting,
+                conflicting,
+                shown,
+            } => write!(
+                f,
+                "step {step}: group {starting} starts a green, group {conflicting} has shown \
+                 only {shown:?} since its own"
+            ),
+            Breach::LockUnmet {
+                step,
+                phase,
+                registered,
+            } => write!(
+                f,
+                "step {step}: the lock of phase {phase} of step {registered} is not met"
+            ),
+            Breach::PressUnmet {
+                step,
+                movement,
+                registered,
+            } => write!(
+                f,
+                "step {step}: the press for movement {movement} of step {registered} is not met"
+            ),
+            Breach::WrongAnswer { step, answer } => {
+                write!(f, "after step {step}: a call is answered with {answer:#x}")
+            }
+            Breach::RefusalWrites { step } => write!(f, "after step {step}: a refusal writes"),
+            Breach::NoState { step } => write!(f, "step {step}: no state is handed back"),
+        }
+    }
+}
+
+impl std::error::Error for Breach {}

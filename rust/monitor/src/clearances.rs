@@ -1,0 +1,134 @@
+//! Greens and clearances.
+
+use crate::{Breach, Seen};
+use model::{Colour, Mark, Site};
+
+const RED: u8 = Colour::Red as u8;
+const YELLOW: u8 = Colour::Yellow as u8;
+const GREEN: u8 = Colour::Green as u8;
+const FLASHING_RED: u8 = Colour::FlashingRed as u8;
+
+/// What every group has shown so far, as far as it matters.
+#[derive(Clone, Debug)]
+pub struct Clearances {
+    groups: Vec<Shown>,
+    pub green_starts: u64,
+}
+
+/// What one group has shown.
+#[derive(Clone, Debug, Default)]
+struct Shown {
+    /// The colour after the last accepted step.
+    colour: Option<u8>,
+    /// What follows its last green, if it was ever green.
+    since_green: Option<SinceGreen>,
+}
+
+/// The colours of a group since its last green.
+#[derive(Clone, Debug)]
+struct SinceGreen {
+    /// The phase in the state after the last green step.
+    phase: u8,
+    /// Colours, each with the number of steps it was shown in a row.
+    runs: Vec<(u8, u64)>,
+}
+
+impl Clearances {
+    pub fn new(site: &Site) -> Clearances {
+        Clearances {
+            groups: vec![Shown::default(); site.group_count()],
+            green_starts: 0,
+        }
+    }
+
+    pub fn step(&mut self, site: &Site, seen: &Seen, step: u64) -> Result<(), Breach> {
+        for group in 0..site.group_count() {
+            if seen.colours[group] == GREEN {
+                no_green_beside(site, seen, step, group)?;
+                if self.groups[group].colour != Some(GREEN) {
+                    self.green_starts += 1;
+                    self.all_cleared(site, step, group)?;
+                }
+            }
+        }
+        for (shown, &colour) in self.groups.iter_mut().zip(seen.colours) {
+            shown.take(colour, seen.after.phase);
+        }
+        Ok(())
+    }
+
+    /// Every group that conflicts with one that starts a green is cleared.
+    fn all_cleared(&self, site: &Site, step: u64, starting: usize) -> Result<(), Breach> {
+        for conflicting in conflicting_groups(site, starting) {
+            match &self.groups[conflicting].since_green {
+                Some(since) if !since.is_cleared(site, conflicting) => {
+                    return Err(Breach::Uncleared {
+                        step,
+                        starting,
+                        conflicting,
+                        shown: since.runs.clone(),
+                    });
+                }
+                _ => {}
+            }
+        }
+        Ok(())
+    }
+}
+
+fn conflicting_groups<'a>(site: &'a Site, group: usize) -> impl Iterator<Item = usize> + 'a {
+    let conflicts = site.conflicts(group);
+    (0..site.group_count()).filter(move |other| conflicts >> other & 1 != 0)
+}
+
+fn no_green_beside(site: &Site, seen: &Seen, step: u64, group: usize) -> Result<(), Breach> {
+    match conflicting_groups(site, group).find(|&other| seen.colours[other] == GREEN) {
+        Some(other) => Err(Breach::GreenTogether { step, group, other }),
+        None => Ok(()),
+    }
+}
+
+impl Shown {
+    fn take(&mut self, colour: u8, phase: u8) {
+        self.colour = Some(colour);
+        if colour == GREEN {
+            self.since_green = Some(SinceGreen {
+                phase,
+                runs: Vec::new(),
+            });
+        } else if let Some(since) = &mut self.since_green {
+            match since.runs.last_mut() {
+                Some((last, steps)) if *last == colour => *steps += 1,
+                _ => since.runs.push((colour, 1)),
+            }
+        }
+    }
+}
+
+impl SinceGreen {
+    /// A vehicle group: yellow for Y steps, then red for at least R. A
+    /// pedestrian group: flashing red for C1 + C2 steps, then at most red.
+    fn is_cleared(&self, site: &Site, group: usize) -> bool {
+        let times = site.phase(self.phase);
+        match (site.group(group).mark, self.runs.as_slice()) {
+            (Mark::Pedestrian, [(FLASHING_RED, flashing), rest @ ..]) => {
+                let red_after = matches!(rest, [] | [(RED, _)]);
+                *flashing == pedestrian_clearance(site, group) && red_after
+            }
+            (Mark::Vehicle | Mark::LateStart, [(YELLOW, yellow), (RED, red)]) => {
+                *yellow == u64::from(times.yellow) && *red >= u64::from(times.all_red)
+            }
+            _ => false,
+        }
+    }
+}
+
+/// C1 + C2 of the movement of a pedestrian group.
+fn pedestrian_clearance(site: &Site, group: usize) -> u64 {
+    (0..site.movement_count())
+        .map(|index| site.movement(index))
+        .find(|movement| usize::from(movement.group) == group)
+        .map_or(0, |movement| {
+            u64::from(movement.clearance_one) + u64::from(movement.clearance_two)
+        })
+}

@@ -1,0 +1,342 @@
+//! Controllers broken on purpose: the monitor notices each.
+
+use generate::{Pace, Plan, Rng, Shape};
+use model::packed::{self, number, Board, Model};
+use model::{Interval, MovementState, Site, Stage, State, MAX_AGE};
+use monitor::{watch, Breach, Driver, Strategy};
+
+/// The model with its accepted steps spoilt.
+struct Broken<F>(F);
+
+/// What a spoiler may look at and change after an accepted step.
+struct Outcome<'a> {
+    site: Site<'a>,
+    state: State,
+    colours: &'a mut [u8],
+}
+
+impl<F: Fn(&mut Outcome)> Board for Broken<F> {
+    fn read(&self, personality: &[u8]) -> u64 {
+        packed::read(personality)
+    }
+
+    fn wait_bound(&self, personality: &[u8]) -> u64 {
+        packed::wait_bound(personality)
+    }
+
+    fn fresh(&self, state: &mut [u8]) -> u64 {
+        packed::fresh(state)
+    }
+
+    fn step(&self, personality: &[u8], state: &mut [u8], inputs: u64, colours: &mut [u8]) -> u64 {
+        let answer = packed::step(personality, state, inputs, colours);
+        if number(answer) == 0 {
+            let mut outcome = Outcome {
+                site: Site::read(personality).unwrap(),
+                state: State::from_bytes(state).unwrap(),
+                colours,
+            };
+            (self.0)(&mut outcome);
+            state.copy_from_slice(&outcome.state.to_bytes());
+        }
+        answer
+    }
+
+    fn section(&self, personality: &[u8], kind: u16) -> u64 {
+        packed::section(personality, kind)
+    }
+}
+
+/// The phases with a standing demand.
+fn demanded_phases(site: &Site, state: &State) -> u8 {
+    (0..site.movement_count())
+        .filter(|index| state.demands >> index & 1 != 0)
+        .fold(state.locks, |set, index| {
+            set | 1 << site.movement(index).phase
+        })
+}
+
+/// The breach of one run, if there is one.
+fn breach_of(board: &dyn Board, plan: &Plan, strategy: Strategy, seed: u64) -> Option<Breach> {
+    let personality = plan.bytes();
+    let site = Site::read(&personality).unwrap();
+    let mut driver = Driver::new(strategy, &site, Rng::new(seed));
+    let mut rng = Rng::new(!seed);
+    watch(board, &personality, &mut driver, &mut rng, 3_000)
+        .unwrap()
+        .err()
+}
+
+/// A site with overlaps, and with second clearances that may outlast the yellow.
+fn busy_site(rng: &mut Rng) -> Plan {
+    let shape = Shape {
+        phases: rng.range(3, 7),
+        groups: rng.range(8, 20),
+        pedestrians: rng.range(1, 8),
+        detectors: 30,
+        pace: Pace::Short,
+    };
+    let mut plan = Plan::of_shape(rng, shape);
+    for movement in &mut plan.movements {
+        movement[2] = rng.time(1, 80);
+    }
+    plan
+}
+
+/// The first breach on some site under some strategy.
+fn first_breach(board: &dyn Board) -> Breach {
+    let mut rng = Rng::new(7);
+    for seed in 0..30 {
+        let plan = busy_site(&mut rng);
+        for strategy in Strategy::ALL {
+            if let Some(breach) = breach_of(board, &plan, strategy, seed) {
+                return breach;
+            }
+        }
+    }
+    panic!("the monitor notices nothing");
+}
+
+macro_rules! assert_breach {
+    ($spoil:expr, $breach:pat) => {
+        let spoil: fn(&mut Outcome) = $spoil;
+        let breach = first_breach(&Broken(spoil));
+        assert!(matches!(breach, $breach), "{breach}");
+    };
+}
+
+#[test]
+fn nothing_is_noticed_where_nothing_is_broken() {
+    let mut rng = Rng::new(7);
+    for seed in 0..5 {
+        let plan = busy_site(&mut rng);
+        for strategy in Strategy::ALL {
+            let untouched = Broken(|_: &mut Outcome| {});
+            assert_eq!(breach_of(&untouched, &plan, strategy, seed), None);
+        }
+    }
+}
+
+#[test]
+fn all_red_cut_short() {
+    assert_breach!(
+        |outcome| {
+            if outcome.state.interval == Interval::AllRed {
+                outcome.state.age = MAX_AGE;
+            }
+        },
+        Breach::Uncleared { .. }
+    );
+}
+
+#[test]
+fn all_red_one_step_short() {
+    assert_breach!(
+        |outcome| {
+            let all_red = outcome.site.phase(outcome.state.phase).all_red;
+            if outcome.state.interval == Interval::AllRed && outcome.state.age == all_red - 1 {
+                outcome.state.age += 1;
+            }
+        },
+        Breach::Uncleared { .. }
+    );
+}
+
+#[test]
+fn yellow_one_step_short() {
+    assert_breach!(
+        |outcome| {
+            if outcome.state.interval == Interval::Yellow && outcome.state.age == 1 {
+                outcome.state.age = 2;
+            }
+        },
+        Breach::Uncleared { .. }
+    );
+}
+
+#[test]
+fn yellow_shown_as_red() {
+    assert_breach!(
+        |outcome| {
+            for colour in outcome.colours.iter_mut().filter(|colour| **colour == 1) {
+                *colour = 0;
+            }
+        },
+        Breach::Uncleared { .. }
+    );
+}
+
+#[test]
+fn all_red_ended_while_the_second_clearance_runs() {
+    assert_breach!(
+        |outcome| {
+            let all_red = outcome.site.phase(outcome.state.phase).all_red;
+            if outcome.state.interval == Interval::AllRed && outcome.state.age >= all_red {
+                outcome.state.movements = [MovementState::IDLE; 8];
+            }
+        },
+        Breach::Uncleared { .. }
+    );
+}
+
+#[test]
+fn the_first_clearance_left_out() {
+    assert_breach!(
+        |outcome| {
+            for movement in &mut outcome.state.movements {
+                if movement.stage == Stage::ClearanceOne {
+                    movement.stage = Stage::ClearanceTwo;
+                }
+            }
+        },
+        Breach::Uncleared { .. }
+    );
+}
+
+#[test]
+fn the_target_chosen_again_after_yellow() {
+    assert_breach!(
+        |outcome| {
+            let state = &mut outcome.state;
+            if state.interval == Interval::AllRed && state.age == 1 {
+                let phases = outcome.site.phase_count() as u8;
+                let demanded = demanded_phases(&outcome.site, state);
+                let after = (1..phases).map(|step| (state.phase + step) % phases);
+                let next = after.into_iter().find(|phase| demanded >> phase & 1 != 0);
+                state.target = next.or(state.target);
+            }
+        },
+        Breach::Uncleared { .. } | Breach::GreenTogether { .. }
+    );
+}
+
+#[test]
+fn the_lowest_demanded_phase_always_next() {
+    assert_breach!(
+        |outcome| {
+            let state = &mut outcome.state;
+            let others = demanded_phases(&outcome.site, state) & !(1 << state.phase);
+            if state.interval == Interval::Yellow && state.age == 1 && others != 0 {
+                state.target = Some(others.trailing_zeros() as u8);
+            }
+        },
+        Breach::LockUnmet { .. } | Breach::PressUnmet { .. }
+    );
+}
+
+#[test]
+fn locks_dropped() {
+    assert_breach!(
+        |outcome| {
+            if outcome.state.interval == Interval::Yellow {
+                outcome.state.locks = 0;
+            }
+        },
+        Breach::LockUnmet { .. }
+    );
+}
+
+#[test]
+fn a_press_during_clearance_dropped() {
+    assert_breach!(
+        |outcome| {
+            let state = &mut outcome.state;
+            for (index, movement) in state.movements.iter().enumerate() {
+                if matches!(movement.stage, Stage::ClearanceOne | Stage::ClearanceTwo) {
+                    state.demands &= !(1 << index);
+                }
+            }
+        },
+        Breach::PressUnmet { .. }
+    );
+}
+
+#[test]
+fn running_that_never_ends() {
+    assert_breach!(
+        |outcome| outcome.state.maximum_count = 0,
+        Breach::LockUnmet { .. } | Breach::PressUnmet { .. }
+    );
+}
+
+#[test]
+fn lights_that_never_alter() {
+    assert_breach!(
+        |outcome| outcome.state = model::fresh(),
+        Breach::LockUnmet { .. } | Breach::PressUnmet { .. }
+    );
+}
+
+#[test]
+fn every_group_green() {
+    assert_breach!(
+        |outcome| outcome.colours.fill(2),
+        Breach::GreenTogether { .. }
+    );
+}
+
+/// A board that answers steps in its own way.
+struct Odd(fn(&[u8], &mut [u8], u64, &mut [u8]) -> u64);
+
+impl Board for Odd {
+    fn read(&self, personality: &[u8]) -> u64 {
+        packed::read(personality)
+    }
+
+    fn wait_bound(&self, personality: &[u8]) -> u64 {
+        packed::wait_bound(personality)
+    }
+
+    fn fresh(&self, state: &mut [u8]) -> u64 {
+        packed::fresh(state)
+    }
+
+    fn step(&self, personality: &[u8], state: &mut [u8], inputs: u64, colours: &mut [u8]) -> u64 {
+        (self.0)(personality, state, inputs, colours)
+    }
+
+    fn section(&self, personality: &[u8], kind: u16) -> u64 {
+        packed::section(personality, kind)
+    }
+}
+
+#[test]
+fn blind_to_detectors() {
+    let blind = Odd(|personality, state, inputs, colours| {
+        let site = Site::read(personality).unwrap();
+        packed::step(personality, state, inputs & !site.known_inputs(), colours)
+    });
+    let breach = first_breach(&blind);
+    assert!(matches!(
+        breach,
+        Breach::LockUnmet { .. } | Breach::PressUnmet { .. }
+    ));
+}
+
+#[test]
+fn every_step_refused() {
+    let breach = first_breach(&Odd(|_, _, _, _| 13));
+    assert!(matches!(breach, Breach::WrongAnswer { .. }));
+}
+
+#[test]
+fn a_refusal_that_writes() {
+    let breach = first_breach(&Odd(|personality, state, inputs, colours| {
+        let answer = packed::step(personality, state, inputs, colours);
+        if number(answer) == 15 {
+            colours[0] = 0;
+        }
+        answer
+    }));
+    assert!(matches!(breach, Breach::RefusalWrites { .. }));
+}
+
+#[test]
+fn a_state_that_is_none() {
+    let breach = first_breach(&Odd(|personality, state, inputs, colours| {
+        let answer = Model.step(personality, state, inputs, colours);
+        state[1] = 9;
+        answer
+    }));
+    assert!(matches!(breach, Breach::NoState { .. }));
+}

@@ -1,0 +1,54 @@
+//! The calls of the library with their answers taken apart.
+
+use crate::answer::{part, wait_bound_or_refusal, Refusal};
+use crate::{packed, STATE_LEN};
+
+/// Accepts or refuses a personality.
+pub fn read(personality: &[u8]) -> Result<(), Refusal> {
+    wait_bound_or_refusal(packed::read(personality)).map(|_| ())
+}
+
+/// The longest wait of a demand in steps.
+pub fn wait_bound(personality: &[u8]) -> Result<u64, Refusal> {
+    wait_bound_or_refusal(packed::wait_bound(personality))
+}
+
+/// The body of the section of a kind, a part of the personality itself.
+pub fn section(personality: &[u8], kind: u16) -> Result<&[u8], Refusal> {
+    let part = part(packed::section(personality, kind))?;
+    Ok(&personality[part.offset..part.offset + part.length])
+}
+
+/// The version of the library.
+pub fn version() -> u32 {
+    packed::version()
+}
+
+/// A controller running on one personality.
+#[derive(Clone, Debug)]
+pub struct Controller<'a> {
+    personality: &'a [u8],
+    state: [u8; STATE_LEN],
+}
+
+impl<'a> Controller<'a> {
+    /// A controller in the fresh state, on a personality that is accepted.
+    pub fn new(personality: &'a [u8]) -> Result<Controller<'a>, Refusal> {
+        read(personality)?;
+        let mut state = [0; STATE_LEN];
+        wait_bound_or_refusal(packed::fresh(&mut state))?;
+        Ok(Controller { personality, state })
+    }
+
+    /// One step of 0.1 s: the colours of the groups are written, and the wait
+    /// bound is the answer. A refused step changes nothing.
+    pub fn step(&mut self, inputs: u64, colours: &mut [u8]) -> Result<u64, Refusal> {
+        let answer = packed::step(self.personality, &mut self.state, inputs, colours);
+        wait_bound_or_refusal(answer)
+    }
+
+    /// The bytes of the state.
+    pub fn state(&self) -> &[u8; STATE_LEN] {
+        &self.state
+    }
+}

@@ -1,0 +1,18 @@
+//! The board library of Willowera from Rust.
+//!
+//! The library is proved; these wrappers only carry slices to its C functions
+//! and take its packed answers apart. The functions are there with the feature
+//! `linked`, which links `libboard.a`.
+
+mod answer;
+#[cfg(feature = "linked")]
+mod board;
+#[cfg(feature = "linked")]
+pub mod packed;
+
+pub use answer::{part, wait_bound_or_refusal, Part, Refusal};
+#[cfg(feature = "linked")]
+pub use board::{read, section, version, wait_bound, Controller};
+
+/// The length of a state in bytes.
+pub const STATE_LEN: usize = 51;

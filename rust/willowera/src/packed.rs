@@ -1,0 +1,70 @@
+//! The calls of the library over slices of any length, with its packed answers:
+//! the low 8 bits are 0 where a call is accepted, else the number of the
+//! refusal; the rest is the wait bound or the place.
+
+mod ffi {
+    unsafe extern "C" {
+        pub fn willowera_read(personality: *const u8, personality_len: usize) -> u64;
+        pub fn willowera_wait_bound(personality: *const u8, personality_len: usize) -> u64;
+        pub fn willowera_fresh(state: *mut u8, state_len: usize) -> u64;
+        pub fn willowera_step(
+            personality: *const u8,
+            personality_len: usize,
+            state: *mut u8,
+            state_len: usize,
+            inputs: u64,
+            colours: *mut u8,
+            colours_len: usize,
+        ) -> u64;
+        pub fn willowera_section(personality: *const u8, personality_len: usize, kind: u16) -> u64;
+        pub fn willowera_version() -> u32;
+    }
+}
+
+/// Reads a personality.
+pub fn read(personality: &[u8]) -> u64 {
+    // SAFETY: the pointer and the length are those of one slice, only read.
+    unsafe { ffi::willowera_read(personality.as_ptr(), personality.len()) }
+}
+
+/// The wait bound of a personality.
+pub fn wait_bound(personality: &[u8]) -> u64 {
+    // SAFETY: the pointer and the length are those of one slice, only read.
+    unsafe { ffi::willowera_wait_bound(personality.as_ptr(), personality.len()) }
+}
+
+/// Writes the fresh state into a buffer of 51 bytes.
+pub fn fresh(state: &mut [u8]) -> u64 {
+    // SAFETY: the pointer and the length are those of one slice, lent for writing.
+    unsafe { ffi::willowera_fresh(state.as_mut_ptr(), state.len()) }
+}
+
+/// One step: replaces the state and writes the colours, unless it is refused.
+pub fn step(personality: &[u8], state: &mut [u8], inputs: u64, colours: &mut [u8]) -> u64 {
+    // SAFETY: each pointer and length are those of one slice; the two lent for
+    // writing overlap neither each other nor the personality.
+    unsafe {
+        ffi::willowera_step(
+            personality.as_ptr(),
+            personality.len(),
+            state.as_mut_ptr(),
+            state.len(),
+            inputs,
+            colours.as_mut_ptr(),
+            colours.len(),
+        )
+    }
+}
+
+/// Where the section of a kind is: the offset in bits 8 to 39, the length in
+/// bits 40 to 63.
+pub fn section(personality: &[u8], kind: u16) -> u64 {
+    // SAFETY: the pointer and the length are those of one slice, only read.
+    unsafe { ffi::willowera_section(personality.as_ptr(), personality.len(), kind) }
+}
+
+/// The version of the library.
+pub fn version() -> u32 {
+    // SAFETY: takes nothing and touches no memory of ours.
+    unsafe { ffi::willowera_version() }
+}

@@ -1,0 +1,69 @@
+//! The wrappers over the linked library, on the junction of two phases.
+
+#![cfg(feature = "linked")]
+
+use willowera::{packed, read, section, version, wait_bound, Controller, Refusal, STATE_LEN};
+
+/// The junction of two phases of document 01.
+const JUNCTION: [u8; 68] = [
+    4, 0, 1, 0, 2, 2, 10, 0, //
+    24, 0, 2, 0, 0, 0, 20, 0, 30, 0, 5, 0, 30, 0, 10, 0, //
+    0, 0, 20, 0, 30, 0, 5, 0, 30, 0, 10, 0, //
+    4, 0, 3, 0, 1, 0, 2, 0, //
+    8, 0, 4, 0, 2, 0, 0, 0, 1, 0, 0, 0, //
+    4, 0, 5, 0, 0, 6, 1, 6, //
+    0, 0, 6, 0,
+];
+
+#[test]
+fn reads_and_waits() {
+    assert_eq!(read(&JUNCTION), Ok(()));
+    assert_eq!(wait_bound(&JUNCTION), Ok(270));
+    let cut = Refusal {
+        number: 1,
+        place: 64,
+    };
+    assert_eq!(read(&JUNCTION[..66]), Err(cut));
+    assert_eq!(wait_bound(&JUNCTION[..66]), Err(cut));
+    assert!(version() > 0);
+}
+
+#[test]
+fn sections_are_parts_of_the_personality() {
+    assert_eq!(section(&JUNCTION, 5), Ok([0, 6, 1, 6].as_slice()));
+    assert_eq!(section(&JUNCTION, 6), Ok([].as_slice()));
+    assert_eq!(section(&JUNCTION, 7).unwrap_err().number, 2);
+}
+
+#[test]
+fn steps_to_the_first_green() {
+    let mut controller = Controller::new(&JUNCTION).unwrap();
+    let mut colours = [9; 3];
+    for _ in 1..10 {
+        assert_eq!(controller.step(0, &mut colours), Ok(270));
+        assert_eq!(colours, [0, 0, 9]);
+    }
+    assert_eq!(controller.step(0, &mut colours), Ok(270));
+    assert_eq!(colours, [2, 0, 9]);
+    assert_eq!(controller.state()[..2], [0, 2]);
+    assert_eq!(controller.step(4, &mut colours).unwrap_err().number, 15);
+    assert_eq!(
+        controller.step(0, &mut colours[..1]).unwrap_err().number,
+        14
+    );
+}
+
+#[test]
+fn buffers_of_no_length() {
+    assert_eq!(
+        read(&[]).unwrap_err(),
+        Refusal {
+            number: 1,
+            place: 0
+        }
+    );
+    assert_eq!(packed::fresh(&mut []), 13);
+    assert_eq!(packed::fresh(&mut [0; STATE_LEN + 1]), 13);
+    assert_eq!(packed::step(&JUNCTION, &mut [], 0, &mut []), 13);
+    assert_eq!(packed::step(&[], &mut [], 0, &mut []), 1);
+}
