@@ -43,12 +43,9 @@ pub fn pedestrians_section(s: &[u8]) -> Verdict
 pub fn after_pedestrians(s: &[u8]) -> Verdict
     ensures { λ r. ⌜ r ≡ afterPedestrians (now (s .entry)) ⌝ }
 {
-    let end = pedestrians_head(s) + 4 + movement_count(s) * 6;
-    if end < s.len() {
-        return Verdict::Refused {
-            number: 12,
-            place: end,
-        };
+    let place = pedestrians_head(s) + 4 + movement_count(s) * 6;
+    if place < s.len() {
+        return Verdict::Refused { number: 12, place };
     }
     Verdict::Accepted
 }

@@ -3,7 +3,8 @@ use Prim.Native.Nat.{ℕ}
 use mathlib.Core.List.{List}
 use mathlib.Core.Path.{_≡_, sym, _∙_}
 use borrow.Author.Needs.{needs}
-use Rattle.rules.specs.Personality.{phasesSection, groupsSection, conflictsSection, detectorsSection, pedestriansSection, afterPedestrians, verdictOf}
+use Rattle.rules.specs.Personality.{phasesSection, groupsSection, conflictsSection}
+use Rattle.rules.specs.Personality.{detectorsSection, pedestriansSection, afterPedestrians, verdictOf}
 use Rattle.rules.specs.Verdicts.{_orElse_}
 use Rattle.rules.specs.declared.answer.Verdict.{Verdict}
 use Rattle.sections.proofs.Firsts.{or-next, or-stop}
@@ -95,10 +96,14 @@ afterGroups :
     let b = c .before .before .before .before .before .before .before .before .before .before .args .personality .now in
     v ≡ fromConflicts b →
     v ≡ verdictOf b
-afterGroups c e = afterPhases (c .before .before .before) (or-next (c .before .before .groups-section .ensures) (c .enum-told6 .given .1) e)
+afterGroups c e =
+    afterPhases (c .before .before .before)
+    (or-next (c .before .before .groups-section .ensures) (c .enum-told6 .given .1) e)
 
 returns-4 : tie.Need-returns-4
-returns-4 c = afterGroups (c .before .before .before) (or-stop _ (c .before .before .conflicts-section .ensures) (c .enum-told7 .given .1))
+returns-4 c =
+    afterGroups (c .before .before .before)
+    (or-stop _ (c .before .before .conflicts-section .ensures) (c .enum-told7 .given .1))
 
 enum-told-8 : tie.Need-enum-told-8
 enum-told-8 c = search needs
@@ -115,10 +120,14 @@ afterConflicts :
     let b = c .before .before .before .before .before .before .before .before .before .before .before .before .before .args .personality .now in
     v ≡ fromDetectors b →
     v ≡ verdictOf b
-afterConflicts c e = afterGroups (c .before .before .before) (or-next (c .before .before .conflicts-section .ensures) (c .enum-told8 .given .1) e)
+afterConflicts c e =
+    afterGroups (c .before .before .before)
+    (or-next (c .before .before .conflicts-section .ensures) (c .enum-told8 .given .1) e)
 
 returns-5 : tie.Need-returns-5
-returns-5 c = afterConflicts (c .before .before .before) (or-stop _ (c .before .before .detectors-section .ensures) (c .enum-told9 .given .1))
+returns-5 c =
+    afterConflicts (c .before .before .before)
+    (or-stop _ (c .before .before .detectors-section .ensures) (c .enum-told9 .given .1))
 
 enum-told-10 : tie.Need-enum-told-10
 enum-told-10 c = search needs
@@ -135,10 +144,14 @@ afterDetectors :
     let b = c .before .before .before .before .before .before .before .before .before .before .before .before .before .before .before .before .args .personality .now in
     v ≡ fromPedestrians b →
     v ≡ verdictOf b
-afterDetectors c e = afterConflicts (c .before .before .before) (or-next (c .before .before .detectors-section .ensures) (c .enum-told10 .given .1) e)
+afterDetectors c e =
+    afterConflicts (c .before .before .before)
+    (or-next (c .before .before .detectors-section .ensures) (c .enum-told10 .given .1) e)
 
 returns-6 : tie.Need-returns-6
-returns-6 c = afterDetectors (c .before .before .before) (or-stop _ (c .before .before .pedestrians-section .ensures) (c .enum-told11 .given .1))
+returns-6 c =
+    afterDetectors (c .before .before .before)
+    (or-stop _ (c .before .before .pedestrians-section .ensures) (c .enum-told11 .given .1))
 
 enum-told-12 : tie.Need-enum-told-12
 enum-told-12 c = search needs
@@ -152,7 +165,9 @@ afterKind6 :
     let b = c .before .before .before .before .before .before .before .before .before .before .before .before .before .before .before .before .before .before .before .args .personality .now in
     v ≡ afterPedestrians b →
     v ≡ verdictOf b
-afterKind6 c e = afterDetectors (c .before .before .before) (or-next (c .before .before .pedestrians-section .ensures) (c .enum-told12 .given .1) e)
+afterKind6 c e =
+    afterDetectors (c .before .before .before)
+    (or-next (c .before .before .pedestrians-section .ensures) (c .enum-told12 .given .1) e)
 
 returns-7 : tie.Need-returns-7
 returns-7 c = afterKind6 (c .before) (c .after-pedestrians .ensures)

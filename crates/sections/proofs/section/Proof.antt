@@ -1,4 +1,9 @@
 -- `sections::section` meets its contract: each test of the code is that of one check, and the checks before it have passed.
+use Prim.Native.Nat.{_+_}
+use mathlib.Core.Bool.{true, false}
+use mathlib.Core.Path.{_≡_}
+use lib.Dec.{ltb, eqb}
+use lib.ListN.{length}
 use borrow.Author.Needs.{needs}
 use borrow.Author.Tests.{lt-ltb, le-ltb, ne-eqb, eq-eqb}
 use Rattle.rules.specs.Personality.{bodyAt, bodyLength, kindAt, sectionAt}
@@ -9,9 +14,41 @@ use Rattle.sections.proofs.section.Tie as tie
 add-if1 : tie.Need-add-if1
 add-if1 c = search needs
 
+-- ── The tests, each at the place where the code has made it ──
+
+short : (c : tie.Then1) → let at = c .before .before .args in ltb (length (at .s .now)) (at .head + 4) ≡ true
+short c = lt-ltb _ _ (c .if1 .taken)
+
+notShort : (c : tie.Else1) → let at = c .before .before .args in ltb (length (at .s .now)) (at .head + 4) ≡ false
+notShort c = le-ltb _ _ (c .if1 .left)
+
+otherKind : (c : tie.Then2) → let at = c .before .before .before .before .args in eqb (kindAt (at .s .now) (at .head)) (at .kind) ≡ false
+unfolding kindAt
+otherKind c = let e = c .before .two .ensures in rw (← e) (ne-eqb _ _ (c .if2 .taken))
+
+rightKind : (c : tie.Else2) → let at = c .before .before .before .before .args in eqb (kindAt (at .s .now) (at .head)) (at .kind) ≡ true
+unfolding kindAt
+rightKind c = let e = c .before .two .ensures in rw (← e) (eq-eqb _ _ (c .if2 .left))
+
+cutBody :
+    (c : tie.Then4) →
+    let at = c .before .before .before .before .before .before .before .args in
+    ltb (length (at .s .now)) (bodyAt (at .head) + bodyLength (at .s .now) (at .head)) ≡ true
+unfolding bodyAt bodyLength
+cutBody c = let e = c .before .two2 .ensures in rw (← e) (lt-ltb _ _ (c .if4 .taken))
+
+wholeBody :
+    (c : tie.Else4) →
+    let at = c .before .before .before .before .before .before .before .args in
+    ltb (length (at .s .now)) (bodyAt (at .head) + bodyLength (at .s .now) (at .head)) ≡ false
+unfolding bodyAt bodyLength
+wholeBody c = let e = c .before .two2 .ensures in rw (← e) (le-ltb _ _ (c .if4 .left))
+
+-- ── The returns ──
+
 returns : tie.Need-returns
 unfolding sectionAt refuseIf _orElse_
-returns c = rw (lt-ltb _ _ (c .if1 .taken))
+returns c = rw (short c)
 
 add-two : tie.Need-add-two
 add-two c = search needs
@@ -20,14 +57,12 @@ two-requires : tie.Need-two-requires
 two-requires c κs = search needs
 
 returns-2 : tie.Need-returns-2
-unfolding sectionAt refuseIf _orElse_ kindAt
-returns-2 c = let e = c .before .two .ensures in rw (le-ltb _ _ (c .before .before .if1 .left), ← e, ne-eqb _ _ (c .if2 .taken))
+unfolding sectionAt refuseIf _orElse_
+returns-2 c = rw (notShort (c .before .before), otherKind c)
 
 returns-3 : tie.Need-returns-3
-unfolding sectionAt refuseIf _orElse_ kindAt
-returns-3 c =
-    let e = c .before .before .two .ensures in
-    rw (le-ltb _ _ (c .before .before .before .if1 .left), ← e, eq-eqb _ _ (c .before .if2 .left), c .if3 .taken)
+unfolding sectionAt refuseIf _orElse_
+returns-3 c = let named = c .before in rw (notShort (named .before .before), rightKind named, c .if3 .taken)
 
 add-if4 : tie.Need-add-if4
 add-if4 c = search needs
@@ -42,38 +77,18 @@ add-if4-2 : tie.Need-add-if4-2
 add-if4-2 c = search needs
 
 returns-4 : tie.Need-returns-4
-unfolding sectionAt refuseIf _orElse_ kindAt bodyLength bodyAt
+unfolding sectionAt refuseIf _orElse_
 returns-4 c =
-    let atIf2 = c .before .before .before in
-    let atTwo = atIf2 .before in
-    let atIf1 = atTwo .before in
-    let e = atTwo .two .ensures in
-    let l = c .before .two2 .ensures in
-    rw (
-      le-ltb _ _ (atIf1 .if1 .left),
-      ← e,
-      eq-eqb _ _ (atIf2 .if2 .left),
-      c .before .before .if3 .left,
-      ← l,
-      lt-ltb _ _ (c .if4 .taken),
-    )
+    let lengthRight = c .before .before in
+    let named = lengthRight .before in
+    rw (notShort (named .before .before), rightKind named, lengthRight .if3 .left, cutBody c)
 
 returns-5 : tie.Need-returns-5
-unfolding sectionAt refuseIf _orElse_ kindAt bodyLength bodyAt
+unfolding sectionAt refuseIf _orElse_
 returns-5 c =
-    let atIf2 = c .before .before .before in
-    let atTwo = atIf2 .before in
-    let atIf1 = atTwo .before in
-    let e = atTwo .two .ensures in
-    let l = c .before .two2 .ensures in
-    rw (
-      le-ltb _ _ (atIf1 .if1 .left),
-      ← e,
-      eq-eqb _ _ (atIf2 .if2 .left),
-      c .before .before .if3 .left,
-      ← l,
-      le-ltb _ _ (c .if4 .left),
-    )
+    let lengthRight = c .before .before in
+    let named = lengthRight .before in
+    rw (notShort (named .before .before), rightKind named, lengthRight .if3 .left, wholeBody c)
 
 pub section-spec : {M : Type 1} → statement M
 section-spec =

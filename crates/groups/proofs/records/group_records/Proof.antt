@@ -13,7 +13,8 @@ use Rattle.rules.specs.Verdicts.{firstOf}
 use Rattle.rules.specs.declared.answer.Verdict.the-variants.{Accepted, Refused}
 use Rattle.rules.proofs.Rows.{count-most}
 use Rattle.rules.proofs.Tests.{and-both, and-false-left, and-false-right}
-use Rattle.sections.proofs.Firsts.{refuse-yes, refuse-no, or-next, or-stop, first-more, first-stop, first-done, count-one-more, count-as-before}
+use Rattle.sections.proofs.Firsts.{refuse-yes, refuse-no, or-next, or-stop, first-more, first-stop, first-done}
+use Rattle.sections.proofs.Firsts.{count-one-more, count-as-before}
 use Rattle.groups.proofs.GroupChecks.{group-passed}
 use Rattle.groups.proofs.records.group_records.Statement.{statement}
 use Rattle.groups.proofs.records.group_records.Tie as tie

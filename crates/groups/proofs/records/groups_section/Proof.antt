@@ -86,7 +86,8 @@ returns-3 : tie.Need-returns-3
 returns-3 c =
     let recordsPassed = c .before .before in
     let atHead = recordsPassed .before .before .before .before .before .before .before .before in
-    afterRecords recordsPassed (ap (Refused 8) (atHead .groups-head .ensures .0) ∙ refuse-yes 8 _ (sym (c .before .phase-without-group .ensures) ∙ c .if1 .taken))
+    afterRecords recordsPassed
+    (ap (Refused 8) (atHead .groups-head .ensures .0) ∙ refuse-yes 8 _ (sym (c .before .phase-without-group .ensures) ∙ c .if1 .taken))
 
 returns-4 : tie.Need-returns-4
 returns-4 c = afterRecords (c .before .before) (sym (refuse-no 8 _ (sym (c .before .phase-without-group .ensures) ∙ c .if1 .left)))

@@ -14,17 +14,17 @@ use Rattle.personality.proofs.pedestrians.after_pedestrians.Tie as tie
 pedestrians-head-requires : tie.Need-pedestrians-head-requires
 pedestrians-head-requires c κs = search needs
 
-add-end : tie.Need-add-end
-add-end c = search needs
+add-place : tie.Need-add-place
+add-place c = search needs
 
 movement-count-requires : tie.Need-movement-count-requires
 movement-count-requires c κs = search needs
 
-mul-end : tie.Need-mul-end
-mul-end c = search needs
+mul-place : tie.Need-mul-place
+mul-place c = search needs
 
-add-end-2 : tie.Need-add-end-2
-add-end-2 c = search needs
+add-place-2 : tie.Need-add-place-2
+add-place-2 c = search needs
 
 returns : tie.Need-returns
 unfolding afterPedestrians endOf bodyAt
@@ -47,9 +47,9 @@ after-pedestrians-spec =
     tie.close
     (tie.spec
     pedestrians-head-requires
-    add-end
+    add-place
     movement-count-requires
-    mul-end
-    add-end-2
+    mul-place
+    add-place-2
     returns
     returns-2)
