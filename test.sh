@@ -1,6 +1,6 @@
 #!/usr/bin/env bash
 # Passes everything: layout; every crate proved from nothing, every must-fail edit refused and every program run; the edits of the
-# rules that a theorem must refuse.
+# rules that a theorem must refuse; the example sites and their traces; the vectors.
 # The last line is `N passed, M failed`; the exit status is 0 only where M is 0.
 set -u
 cd "$(dirname "$0")" || exit 2
@@ -35,6 +35,19 @@ else
     failed=$((failed + 1))
 fi
 if [ "$status" -ne 0 ] && [ "$failed" -eq 0 ]; then failed=1; fi
+
+# The proved trace program prints for each example what the independent model prints.
+same_trace() { ./target/bin/run_trace <"$1" | cmp - "$2"; }
+
+check 'examples: bytes as their texts say' python3 examples/build.py --check
+for input in examples/*/stdin*.bin; do
+    trace=$(dirname "$input")/$(basename "$input" .bin | sed 's/^stdin/trace/').txt
+    check "$trace" same_trace "$input" "$trace"
+done
+
+# The vectors of the reader are those that the script makes.
+same_vectors() { python3 vectors/make_reads.py "$log" && cmp "$log" crates/run_reads/data/reads; }
+check 'vectors/make_reads.py' same_vectors
 
 for edit in edits/*.edit; do
     check "$edit" edits/run.sh "$(basename "$edit" .edit)"
