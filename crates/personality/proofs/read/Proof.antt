@@ -117,7 +117,8 @@ enum-told-9 c = search needs
 -- kind 4 has passed: the answer is that of what follows
 afterConflicts :
     (c : tie.After-enum-told8) {v : Verdict} →
-    let b = c .before .before .before .before .before .before .before .before .before .before .before .before .before .args .personality .now in
+    let groupsPassed = c .before .before .before in
+    let b = groupsPassed .before .before .before .before .before .before .before .before .before .before .args .personality .now in
     v ≡ fromDetectors b →
     v ≡ verdictOf b
 afterConflicts c e =
@@ -141,7 +142,8 @@ enum-told-11 c = search needs
 -- kind 5 has passed: the answer is that of what follows
 afterDetectors :
     (c : tie.After-enum-told10) {v : Verdict} →
-    let b = c .before .before .before .before .before .before .before .before .before .before .before .before .before .before .before .before .args .personality .now in
+    let groupsPassed = c .before .before .before .before .before .before in
+    let b = groupsPassed .before .before .before .before .before .before .before .before .before .before .args .personality .now in
     v ≡ fromPedestrians b →
     v ≡ verdictOf b
 afterDetectors c e =
@@ -162,7 +164,8 @@ after-pedestrians-requires c κs = search needs
 -- kind 6 has passed: the answer is that of what follows
 afterKind6 :
     (c : tie.After-enum-told12) {v : Verdict} →
-    let b = c .before .before .before .before .before .before .before .before .before .before .before .before .before .before .before .before .before .before .before .args .personality .now in
+    let groupsPassed = c .before .before .before .before .before .before .before .before .before in
+    let b = groupsPassed .before .before .before .before .before .before .before .before .before .before .args .personality .now in
     v ≡ afterPedestrians b →
     v ≡ verdictOf b
 afterKind6 c e =
