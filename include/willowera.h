@@ -1,0 +1,102 @@
+/* The board interface of the Willowera controller: one isolated junction, stepped by a tenth of a second.
+ *
+ * Every function takes buffers of any content and any length, and ends. A refusal leaves every buffer as it was.
+ * docs/DATA-SHEET.md has the personality's bytes, the limits, the refusals and the state's bytes.
+ */
+#ifndef WILLOWERA_H
+#define WILLOWERA_H
+
+#include <stddef.h>
+#include <stdint.h>
+
+#ifdef __cplusplus
+extern "C" {
+#endif
+
+/* ── Sizes ── */
+
+#define WILLOWERA_STATE_BYTES 51
+#define WILLOWERA_MOST_PHASES 7
+#define WILLOWERA_MOST_GROUPS 32
+#define WILLOWERA_MOST_DETECTORS 48
+#define WILLOWERA_MOST_MOVEMENTS 8
+
+/* ── Inputs: bit d is detector d (0 to 47), bit 48 + k is the button of movement k (0 to 7) ── */
+
+#define WILLOWERA_DETECTOR(d) (UINT64_C(1) << (d))
+#define WILLOWERA_BUTTON(k) (UINT64_C(1) << (48 + (k)))
+
+/* ── Colour codes, one byte a signal group ── */
+
+#define WILLOWERA_RED 0
+#define WILLOWERA_YELLOW 1
+#define WILLOWERA_GREEN 2
+#define WILLOWERA_FLASHING_RED 3
+
+/* ── Codes in the state's bytes ── */
+
+#define WILLOWERA_START_RED 0
+#define WILLOWERA_LATE_START 1
+#define WILLOWERA_MINIMUM_GREEN 2
+#define WILLOWERA_RUNNING 3
+#define WILLOWERA_INTERVAL_YELLOW 4
+#define WILLOWERA_ALL_RED 5
+
+#define WILLOWERA_IDLE 0
+#define WILLOWERA_WALK 1
+#define WILLOWERA_CLEARANCE_ONE 2
+#define WILLOWERA_CLEARANCE_TWO 3
+
+/* ── Refusals ── */
+
+#define WILLOWERA_ACCEPTED 0
+#define WILLOWERA_CUT_SHORT 1           /* section head or body past the end; place: the head */
+#define WILLOWERA_WRONG_KIND 2          /* not the kind expected; place: the head. Lookup: no such kind, at 0 */
+#define WILLOWERA_WRONG_LENGTH 3        /* length not as the counts need; place: the head */
+#define WILLOWERA_WRONG_COUNT 4         /* phases not 2 to 7, groups not 1 to 32; place: that byte */
+#define WILLOWERA_TIME_OUTSIDE 5        /* a time outside its limits; place: that field */
+#define WILLOWERA_WRONG_GROUP 6         /* phase bit, mark, or pedestrian without exactly one phase; place: the record */
+#define WILLOWERA_NINTH_PEDESTRIAN 7    /* ninth pedestrian group; place: the record */
+#define WILLOWERA_PHASE_WITHOUT_GROUP 8 /* place: the kind 3 head */
+#define WILLOWERA_WRONG_CONFLICT 9      /* own bit, bit past the groups, or not answered; place: the record */
+#define WILLOWERA_CONFLICT_IN_PHASE 10  /* conflicting groups share a phase; place: the lowest such record */
+#define WILLOWERA_WRONG_DETECTOR 11     /* place: the record */
+#define WILLOWERA_LEFT_OVER 12          /* bytes after kind 6; place: the first of them */
+#define WILLOWERA_STATE_NOT_VALID 13    /* place 0 */
+#define WILLOWERA_BUFFER_SHORT 14       /* colour buffer shorter than the number of groups; place 0 */
+#define WILLOWERA_STRAY_INPUT 15        /* input bit without a detector or button; place 0 */
+
+/* ── Answers: the number in the low 8 bits, and above it the place of a refusal, or what an accepted call gives ── */
+
+#define WILLOWERA_NUMBER(answer) ((unsigned)((answer) & 0xff))
+#define WILLOWERA_PLACE(answer) ((size_t)((answer) >> 8))
+#define WILLOWERA_WAIT(answer) ((uint32_t)((answer) >> 8))
+#define WILLOWERA_OFFSET(answer) ((size_t)((answer) >> 8 & 0xffffffff))
+#define WILLOWERA_LENGTH(answer) ((size_t)((answer) >> 40))
+
+/* ── Calls ── */
+
+/* 0, or the refusal of a personality. */
+uint64_t willowera_read(const uint8_t *personality, size_t personality_length);
+
+/* The wait bound in steps (WILLOWERA_WAIT), or the refusal of a personality. */
+uint64_t willowera_wait_bound(const uint8_t *personality, size_t personality_length);
+
+/* Writes the fresh state; 13 where the buffer has not WILLOWERA_STATE_BYTES bytes. */
+uint64_t willowera_fresh(uint8_t *state, size_t state_length);
+
+/* One step of 0.1 s: the next state and the colours in place, and the wait bound (WILLOWERA_WAIT); or a refusal. */
+uint64_t willowera_step(const uint8_t *personality, size_t personality_length, uint8_t *state, size_t state_length,
+                        uint64_t inputs, uint8_t *colours, size_t colours_length);
+
+/* Where the body of the section of a kind is (WILLOWERA_OFFSET, WILLOWERA_LENGTH); or a refusal. */
+uint64_t willowera_section(const uint8_t *personality, size_t personality_length, uint16_t kind);
+
+/* The version of this interface. */
+uint32_t willowera_version(void);
+
+#ifdef __cplusplus
+}
+#endif
+
+#endif
