@@ -1,7 +1,6 @@
 // The checks of a step call on its state and on its input bits.
 ghost use mathlib.Core.Path.{_≡_};
 ghost use Rattle.rules.specs.Call.{strayInput};
-ghost use Rattle.rules.specs.Intervals.{isIdle, isWalkOrFirst, isStartRed, isLeaving};
 ghost use Rattle.rules.specs.Rows.{allOf};
 ghost use Rattle.rules.specs.State.{ageValid, cameValid, targetValid, valid};
 ghost use Rattle.checks.specs.Parts.{positionValid, countsValid, demandExists, recordValid, movementAt, Phased, Wired};
@@ -9,10 +8,8 @@ use rules::site::PhaseTimes;
 use rules::site::Site;
 use rules::state::Counts;
 use rules::state::Held;
-use rules::state::Interval;
 use rules::state::Movement;
 use rules::state::Position;
-use rules::state::Stage;
 use rules::state::State;
 
 // Ages are from 1 to 2,000 steps.
@@ -20,55 +17,6 @@ const HIGHEST_AGE: u16 = 2000;
 
 // 2 ^ 48: input bits 0 to 47 are the detectors', those from 48 on the buttons'.
 const BUTTON_BITS: u64 = 281474976710656;
-
-fn is_idle(stage: Stage) -> bool
-    ensures { λ r. ⌜ r ≡ isIdle stage ⌝ }
-{
-    match stage {
-        Stage::Idle => true,
-        Stage::Walk => false,
-        Stage::ClearanceOne => false,
-        Stage::ClearanceTwo => false,
-    }
-}
-
-fn is_walk_or_first(stage: Stage) -> bool
-    ensures { λ r. ⌜ r ≡ isWalkOrFirst stage ⌝ }
-{
-    match stage {
-        Stage::Idle => false,
-        Stage::Walk => true,
-        Stage::ClearanceOne => true,
-        Stage::ClearanceTwo => false,
-    }
-}
-
-fn is_start_red(interval: Interval) -> bool
-    ensures { λ r. ⌜ r ≡ isStartRed interval ⌝ }
-{
-    match interval {
-        Interval::StartRed => true,
-        Interval::LateStart => false,
-        Interval::MinimumGreen => false,
-        Interval::Running => false,
-        Interval::Yellow => false,
-        Interval::AllRed => false,
-    }
-}
-
-// Yellow or all-red: the phase is being left.
-fn is_leaving(interval: Interval) -> bool
-    ensures { λ r. ⌜ r ≡ isLeaving interval ⌝ }
-{
-    match interval {
-        Interval::StartRed => false,
-        Interval::LateStart => false,
-        Interval::MinimumGreen => false,
-        Interval::Running => false,
-        Interval::Yellow => true,
-        Interval::AllRed => true,
-    }
-}
 
 fn age_valid(age: u16) -> bool
     ensures { λ r. ⌜ r ≡ ageValid age ⌝ }
@@ -104,7 +52,7 @@ fn position_valid(phases: u8, position: Position) -> bool
     let target = position.target;
     let came = position.came;
     let age = position.age;
-    target_valid(phases, position.phase, is_leaving(interval), target)
+    target_valid(phases, position.phase, intervals::leaving(interval), target)
         & came_valid(phases, came)
         & age_valid(age)
 }
@@ -151,10 +99,10 @@ fn record_valid(of_phase: bool, leaving: bool, start_red: bool, movement: Moveme
 {
     let stage = movement.stage;
     let age = movement.age;
-    let idle = is_idle(stage);
+    let idle = intervals::idle(stage);
     age_valid(age)
         & (of_phase | idle)
-        & !(leaving & is_walk_or_first(stage))
+        & !(leaving & intervals::walk_or_first(stage))
         & (!start_red | idle)
         & (!idle | (age == 1))
 }
@@ -167,8 +115,8 @@ fn movements_valid(site: Site, state: State) -> bool
     let position = state.position;
     let phase = position.phase;
     let interval = position.interval;
-    let leaving = is_leaving(interval);
-    let start_red = is_start_red(interval);
+    let leaving = intervals::leaving(interval);
+    let start_red = intervals::start_red(interval);
     let mut all = true;
     let mut k: u8 = 0;
     while k < 8 {

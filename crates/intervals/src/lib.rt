@@ -1,6 +1,6 @@
 // Tests of an interval and of a stage, and what is asked of a phase that may be held.
 ghost use mathlib.Core.Path.{_≡_};
-ghost use Rattle.rules.specs.Intervals.{isRunning, isMinimumGreen, isGreen, isBeforeStart, isIdle, isWalk, isWalkOrFirst, isSecond, isHeld, phaseHeld};
+ghost use Rattle.rules.specs.Intervals.{isRunning, isMinimumGreen, isGreen, isLeaving, isBeforeStart, isStartRed, isIdle, isWalk, isWalkOrFirst, isSecond, isHeld, phaseHeld};
 use rules::state::Held;
 use rules::state::Interval;
 use rules::state::Stage;
@@ -38,6 +38,20 @@ pub fn green(interval: Interval) -> bool
     minimum_green(interval) | running(interval)
 }
 
+// Yellow or all-red: the phase is being left.
+pub fn leaving(interval: Interval) -> bool
+    ensures { λ r. ⌜ r ≡ isLeaving interval ⌝ }
+{
+    match interval {
+        Interval::StartRed => false,
+        Interval::LateStart => false,
+        Interval::MinimumGreen => false,
+        Interval::Running => false,
+        Interval::Yellow => true,
+        Interval::AllRed => true,
+    }
+}
+
 // Start red or all-red: a phase starts when it ends.
 pub fn before_start(interval: Interval) -> bool
     ensures { λ r. ⌜ r ≡ isBeforeStart interval ⌝ }
@@ -48,8 +62,15 @@ pub fn before_start(interval: Interval) -> bool
         Interval::MinimumGreen => false,
         Interval::Running => false,
         Interval::Yellow => false,
-        Interval::AllRed => true,
+        Interval::AllRed => true, // the target starts
     }
+}
+
+// The one interval before a start in which no phase is being left.
+pub fn start_red(interval: Interval) -> bool
+    ensures { λ r. ⌜ r ≡ isStartRed interval ⌝ }
+{
+    before_start(interval) & !leaving(interval)
 }
 
 pub fn walking(stage: Stage) -> bool

@@ -16,11 +16,11 @@ Inv-loop site state count phase leaving start-red all₀ k₀ all k = Tested (mo
 abbrev μ-loop : tie.MeasureT-loop
 μ-loop site state count phase leaving start-red all₀ k₀ all k = 8 - k
 
-is-leaving-requires : tie.Need-is-leaving-requires Inv-loop μ-loop
-is-leaving-requires c κs = search needs
+leaving-requires : tie.Need-leaving-requires Inv-loop μ-loop
+leaving-requires c κs = search needs
 
-is-start-red-requires : tie.Need-is-start-red-requires Inv-loop μ-loop
-is-start-red-requires c κs = search needs
+start-red-requires : tie.Need-start-red-requires Inv-loop μ-loop
+start-red-requires c κs = search needs
 
 loop-holds : tie.Need-loop-holds Inv-loop μ-loop
 loop-holds c = tested-none (movementAt (c .before .before .before .args .t1) (c .before .before .before .args .t2)) 8
@@ -63,7 +63,7 @@ own-valid c =
     let called = turn .before .before in
     let start = called .before .before .before in
     let length-eight = eight start in
-    rw (c .before .bit8 .ensures, called .is-start-red .ensures, called .before .is-leaving .ensures) at (c .record-valid .ensures)
+    rw (c .before .bit8 .ensures, called .start-red .ensures, called .before .leaving .ensures) at (c .record-valid .ensures)
     ∙ record-of-state (start .args .t1) (start .args .t2) (turn .before .loop .k) (omega (arith, turn .loop-test .taken))
 
 loop-again : tie.Need-loop-again Inv-loop μ-loop
@@ -78,8 +78,8 @@ movements-valid-spec =
     (tie.spec
     Inv-loop
     μ-loop
-    is-leaving-requires
-    is-start-red-requires
+    leaving-requires
+    start-red-requires
     loop-holds
     cast-i
     element-copy-out-set

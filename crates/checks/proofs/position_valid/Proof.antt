@@ -4,8 +4,8 @@ use Rattle.checks.specs.Parts.{positionValid}
 use Rattle.checks.proofs.position_valid.Statement.{statement}
 use Rattle.checks.proofs.position_valid.Tie as tie
 
-is-leaving-requires : tie.Need-is-leaving-requires
-is-leaving-requires c κs = search needs
+leaving-requires : tie.Need-leaving-requires
+leaving-requires c κs = search needs
 
 target-valid-requires : tie.Need-target-valid-requires
 target-valid-requires c κs = search needs
@@ -20,13 +20,13 @@ returns : tie.Need-returns
 unfolding positionValid
 returns c =
     let called = c .before .before in
-    rw (called .target-valid .ensures, called .before .is-leaving .ensures, c .before .came-valid .ensures, c .age-valid .ensures)
+    rw (called .target-valid .ensures, called .before .leaving .ensures, c .before .came-valid .ensures, c .age-valid .ensures)
 
 pub position-valid-spec : {M : Type 1} → statement M
 position-valid-spec =
     tie.close
     (tie.spec
-    is-leaving-requires
+    leaving-requires
     target-valid-requires
     came-valid-requires
     age-valid-requires

@@ -10,14 +10,14 @@ use Rattle.checks.proofs.Records.{joined-every}
 use Rattle.checks.proofs.record_valid.Statement.{statement}
 use Rattle.checks.proofs.record_valid.Tie as tie
 
-is-idle-requires : tie.Need-is-idle-requires
-is-idle-requires c κs = search needs
+idle-requires : tie.Need-idle-requires
+idle-requires c κs = search needs
 
 age-valid-requires : tie.Need-age-valid-requires
 age-valid-requires c κs = search needs
 
-is-walk-or-first-requires : tie.Need-is-walk-or-first-requires
-is-walk-or-first-requires c κs = search needs
+walk-or-first-requires : tie.Need-walk-or-first-requires
+walk-or-first-requires c κs = search needs
 
 returns : tie.Need-returns
 unfolding recordValid
@@ -25,7 +25,7 @@ returns c =
     let args = c .before .before .before .args in
     let stage = args .movement .stage in
     let age = args .movement .age in
-    rw (c .before .age-valid .ensures, c .before .before .is-idle .ensures, c .is-walk-or-first .ensures)
+    rw (c .before .age-valid .ensures, c .before .before .idle .ensures, c .walk-or-first .ensures)
     (joined-every (ageValid age)
     ((args .of-phase || isIdle stage)
     ∷ not (args .leaving && isWalkOrFirst stage)
@@ -35,4 +35,4 @@ returns c =
 
 pub record-valid-spec : {M : Type 1} → statement M
 record-valid-spec =
-    tie.close (tie.spec is-idle-requires age-valid-requires is-walk-or-first-requires returns)
+    tie.close (tie.spec idle-requires age-valid-requires walk-or-first-requires returns)

@@ -1,8 +1,8 @@
--- `checks::is_leaving` meets its contract, interval by interval.
+-- `intervals::leaving` meets its contract, interval by interval.
 use borrow.Author.Needs.{needs}
 use Rattle.rules.specs.Intervals.{isLeaving}
-use Rattle.checks.proofs.is_leaving.Statement.{statement}
-use Rattle.checks.proofs.is_leaving.Tie as tie
+use Rattle.intervals.proofs.leaving.Statement.{statement}
+use Rattle.intervals.proofs.leaving.Tie as tie
 
 enum-told : tie.Need-enum-told
 enum-told c = search needs
@@ -46,8 +46,8 @@ returns-6 : tie.Need-returns-6
 unfolding isLeaving
 returns-6 c = rw (c .enum-told6 .given .1)
 
-pub is-leaving-spec : {M : Type 1} → statement M
-is-leaving-spec =
+pub leaving-spec : {M : Type 1} → statement M
+leaving-spec =
     tie.close
     (tie.spec
     enum-told
