@@ -1,4 +1,3 @@
 pub mod Choices
-pub mod Filling
 pub mod Shown
 pub mod Sizes

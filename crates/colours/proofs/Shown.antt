@@ -12,12 +12,12 @@ use Rattle.rules.specs.declared.site.Site.{Site}
 use Rattle.rules.specs.declared.state.Movement.{Movement}
 use Rattle.rules.specs.declared.state.Stage.the-variants.{Idle}
 use Rattle.rules.specs.declared.state.State.{State}
-use Rattle.rules.specs.Rows.{if_then_else_, countOf, listOf}
+use Rattle.rules.specs.Rows.{if_then_else_, countOf}
 use Rattle.rules.specs.Site.{groupOf, inPhase, isPedestrian, movementOf}
 use Rattle.rules.specs.State.{idle, movement}
 use Rattle.rules.specs.Colours.{red, vehicleColour, movementColour, colourOf, coloursOf}
 use Rattle.rules.proofs.Counts.{count-passed, count-failed}
-use Rattle.colours.proofs.Filling.{fill-none, fill-length, fill-more}
+use Rattle.proof_arrays.proofs.Fill.{Filled, fill-none, fill-length, fill-step}
 
 -- ── What a group shows, by its mark ──
 
@@ -57,7 +57,7 @@ stage-read s k =
 pub record Passed (site : Site) (s : State) (old buffer : List ℕ) (k g : ℕ) : Type 0 where
   pub within : g ≤ site .size .groups
   pub next : k ≡ movementOf site g
-  pub shown : buffer ≡ listOf (colourOf site s) g ++ drop g old
+  pub shown : Filled (colourOf site s) old buffer g
 
 pub none-passed : (site : Site) (s : State) (old : List ℕ) → Passed site s old old 0 0
 unfolding movementOf countOf
@@ -66,10 +66,10 @@ none-passed site s old = record { within = omega arith; next = refl; shown = fil
 module _ {site : Site} {s : State} {old buffer : List ℕ} {k g : ℕ} (p : Passed site s old buffer k g) where
   pub all-passed : site .size .groups ≤ g → buffer ≡ coloursOf site s ++ drop (site .size .groups) old
   unfolding coloursOf
-  all-passed l = let e : g ≡ site .size .groups = omega arith in rw e at (p .shown)
+  all-passed l = let e : g ≡ site .size .groups = omega arith in rw e at (p .shown .told)
 
   pub passed-length : site .size .groups ≤ length old → length buffer ≡ length old
-  passed-length room = ap length (p .shown) ∙ fill-length (colourOf site s) old g (omega arith)
+  passed-length room = fill-length (p .shown) (omega arith)
 
   module _
       (room : site .size .groups ≤ length old)
@@ -80,9 +80,11 @@ module _ {site : Site} {s : State} {old buffer : List ℕ} {k g : ℕ} (p : Pass
     where
       one-passed : colour ≡ colourOf site s g → next ≡ movementOf site (suc g) → Passed site s old after next (g + 1)
       one-passed e n =
-          let filled = fill-more (colourOf site s) old g colour (omega arith) e in
-          rw add-one
-          (record { within = l; next = n; shown = stored ∙ ap (λ (b : List ℕ). set b g colour) (p .shown) ∙ filled })
+          record {
+            within = omega arith;
+            next = rw add-one n;
+            shown = rw stored (fill-step (p .shown) (omega arith) e);
+          }
 
       pub pedestrian-passed :
           groupOf site g .mark ≡ 2 →

@@ -10,7 +10,7 @@ use native.Mathlib.Omega.{arith}
 use native.Mathlib.Nat.{le-of-eq, le-of-suc-le-suc, not-suc-le-zero}
 use borrow.Author.Tests.{eqb-true, eqb-false}
 use lib.Dec.{eqb}
-use lib.ListN.{length, getD, drop, set, length-set, drop-of-length-le}
+use lib.ListN.{length, getD, drop, set, length-append, length-drop, length-set, drop-of-length-le}
 use lib.Seq.{drop-cons, set-at, ext-getD, getD-set-same, getD-set-other}
 use Rattle.rules.specs.Rows.{listOf}
 use Rattle.rules.proofs.Tests.{decided}
@@ -39,6 +39,10 @@ module _ {ℓ} {A : Type ℓ} where
   pub fill-none : (f : ℕ → A) (old : List A) → Filled f old old 0
   unfolding listOf
   fill-none f old = record { told = refl }
+
+  pub fill-length : {f : ℕ → A} {old out : List A} {k : ℕ} → Filled f old out k → k ≤ length old → length out ≡ length old
+  fill-length {f} {old} {out} {k} filled h =
+      rw (filled .told) (omega (arith, length-append (listOf f k) (drop k old), list-length f k, length-drop k old))
 
   pub fill-step :
       {f : ℕ → A} {old out : List A} {k : ℕ} {a : A} →
