@@ -1,4 +1,3 @@
-pub mod Passing
 pub mod Records
 pub mod States
 pub mod Fields

@@ -2,7 +2,6 @@ pub mod BytesFirst
 pub mod Lists
 pub mod Meanings
 pub mod Movements
-pub mod Passing
 pub mod RoundTrips
 pub mod StateFirst
 pub mod Stores

@@ -4,7 +4,7 @@ use mathlib.Core.Path.{refl}
 use native.Mathlib.Omega.{arith}
 use borrow.Author.Needs.{needs}
 use Rattle.checks.specs.Parts.{demandExists}
-use Rattle.checks.proofs.Passing.{Tested, tested-none, tested-more, tested-all}
+use Rattle.proof_arrays.proofs.Passing.{Tested, tested-none, tested-more, tested-all}
 use Rattle.checks.proofs.buttons_valid.Statement.{statement}
 use Rattle.checks.proofs.buttons_valid.Tie as tie
 
@@ -15,7 +15,7 @@ abbrev μ-loop : tie.MeasureT-loop
 μ-loop movements buttons all₀ k₀ all k = 8 - k
 
 loop-holds : tie.Need-loop-holds Inv-loop μ-loop
-loop-holds c = tested-none (demandExists (c .args .t1) (c .args .movements)) 8
+loop-holds c = tested-none
 
 cast-button : tie.Need-cast-button Inv-loop μ-loop
 cast-button c = search needs

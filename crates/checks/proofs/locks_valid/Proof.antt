@@ -4,7 +4,7 @@ use mathlib.Core.Path.{refl}
 use native.Mathlib.Omega.{arith}
 use borrow.Author.Needs.{needs}
 use Rattle.checks.specs.Parts.{demandExists}
-use Rattle.checks.proofs.Passing.{Tested, tested-none, tested-more, tested-all}
+use Rattle.proof_arrays.proofs.Passing.{Tested, tested-none, tested-more, tested-all}
 use Rattle.checks.proofs.locks_valid.Statement.{statement}
 use Rattle.checks.proofs.locks_valid.Tie as tie
 
@@ -15,7 +15,7 @@ abbrev μ-loop : tie.MeasureT-loop
 μ-loop phases locks all₀ p₀ all p = 7 - p
 
 loop-holds : tie.Need-loop-holds Inv-loop μ-loop
-loop-holds c = tested-none (demandExists (c .args .t1) (c .args .phases)) 7
+loop-holds c = tested-none
 
 cast-lock : tie.Need-cast-lock Inv-loop μ-loop
 cast-lock c = search needs

@@ -6,7 +6,7 @@ use lib.ListN.{length, length-map}
 use borrow.Author.Needs.{needs}
 use Rattle.checks.specs.Parts.{movementAt}
 use Rattle.checks.proofs.Records.{record-of-state}
-use Rattle.checks.proofs.Passing.{Tested, tested-none, tested-more, tested-all}
+use Rattle.proof_arrays.proofs.Passing.{Tested, tested-none, tested-more, tested-all}
 use Rattle.checks.proofs.movements_valid.Statement.{statement}
 use Rattle.checks.proofs.movements_valid.Tie as tie
 
@@ -23,7 +23,7 @@ start-red-requires : tie.Need-start-red-requires Inv-loop μ-loop
 start-red-requires c κs = search needs
 
 loop-holds : tie.Need-loop-holds Inv-loop μ-loop
-loop-holds c = tested-none (movementAt (c .before .before .before .args .t1) (c .before .before .before .args .t2)) 8
+loop-holds c = tested-none
 
 cast-i : tie.Need-cast-i Inv-loop μ-loop
 cast-i c = search needs
