@@ -1,11 +1,11 @@
 -- One pass over the groups with a running count: before group g the array has the sets of the pedestrian groups below g, in group
 -- order, and the count is how many they are. A pedestrian group adds its set at the count; at the end every movement has its own.
-use Prim.Native.Nat.{ℕ, suc, _+_, _-_, _≤_, _<_}
+use Prim.Native.Nat.{ℕ, suc, _+_, _≤_, _<_}
 use mathlib.Core.List.{List, [], _∷_, _++_, map, map-append, append-nil}
 use mathlib.Core.Path.{_≡_, refl, sym, ap, _∙_}
 use native.Mathlib.Numerals.{add-one}
 use native.Mathlib.Omega.{arith}
-use lib.ListN.{length, getD, set, replicate, length-map, List·getD-map}
+use lib.ListN.{length, getD, drop, set, replicate, length-map, List·getD-map}
 use lib.Seq.{ext-getD}
 use borrow.Author.Tests.{eq-eqb, ne-eqb}
 use Rattle.rules.specs.Rows.{listOf, countOf, indicesOf}
@@ -14,7 +14,8 @@ use Rattle.rules.specs.Site.{rowOf, crossingAt, siteOf}
 use Rattle.rules.proofs.Rows.{list-length, list-at, indices-length}
 use Rattle.rules.proofs.Counts.{count-passed, count-failed, count-before}
 use Rattle.decoding.specs.Decoding.{crossingsIn}
-use Rattle.decoding.proofs.Filling.{stored}
+use Rattle.proof_arrays.proofs.Fill.{store-more}
+use Rattle.decoding.proofs.Filling.{blanks-left}
 
 -- ── The entries that a list of indices picks ──
 
@@ -32,7 +33,7 @@ picked f indices =
 pub record Passed (b : List ℕ) (g count : ℕ) (sets : List ℕ) : Type 0 where
   pub below : count ≤ g
   pub counted : count ≡ countOf (pedestrian b) g
-  pub found : sets ≡ map (groupSet b) (indicesOf (pedestrian b) g) ++ replicate (8 - count) 0
+  pub found : sets ≡ map (groupSet b) (indicesOf (pedestrian b) g) ++ drop count (replicate 8 0)
 
 module _ (b : List ℕ) where
   pub passed-none : Passed b 0 0 (replicate 8 0)
@@ -61,7 +62,7 @@ module _ (b : List ℕ) where
           counted = rw (add-one g, add-one count) (ap suc (passed .counted) ∙ sym (count-passed (pedestrian b) g e));
           found =
               rw (passed .found, u, add-one g, e, map-append (groupSet b) before (g ∷ []), add-one count)
-              (stored (map (groupSet b) before) 8 count 0 (groupSet b g)
+              (store-more (map (groupSet b) before) (replicate 8 0) count (groupSet b g)
               (length-map before (groupSet b) ∙ indices-length (pedestrian b) g ∙ sym (passed .counted))
               room);
         }
@@ -81,4 +82,4 @@ module _ (b : List ℕ) where
       let indices = indicesOf (pedestrian b) (groupCount b) in
       let row : listOf (λ k. groupSet b (getD indices k 0)) (countOf (pedestrian b) (groupCount b)) ≡ map (groupSet b) indices =
       rw (indices-length (pedestrian b) (groupCount b)) at (picked (groupSet b) indices) in
-      rw (row, passed .found, passed .counted, e)
+      rw (row, passed .found, blanks-left {A = ℕ} count 8 0, passed .counted, e)

@@ -2,7 +2,7 @@
 -- list that has f at every index is the list of f.
 use Prim.Native.Nat.{ℕ, zero, suc, _+_, _≤_, _<_}
 use mathlib.Core.Bool.{true, false}
-use mathlib.Core.List.{List, [], _∷_, _++_, append-assoc, append-nil}
+use mathlib.Core.List.{List, [], _∷_, _++_, append-nil}
 use mathlib.Core.Logic.{⊎-elim}
 use mathlib.Core.Path.{_≡_, refl, sym, _∙_}
 use native.Mathlib.Numerals.{add-one}
@@ -11,7 +11,7 @@ use native.Mathlib.Nat.{le-of-eq, le-of-suc-le-suc, not-suc-le-zero}
 use borrow.Author.Tests.{eqb-true, eqb-false}
 use lib.Dec.{eqb}
 use lib.ListN.{length, getD, drop, set, length-append, length-drop, length-set, drop-of-length-le}
-use lib.Seq.{drop-cons, set-at, ext-getD, getD-set-same, getD-set-other}
+use lib.Seq.{drop-cons, set-at, append-snoc, ext-getD, getD-set-same, getD-set-other}
 use Rattle.rules.specs.Rows.{listOf}
 use Rattle.rules.proofs.Tests.{decided}
 use Rattle.rules.proofs.Rows.{list-length, list-at}
@@ -23,15 +23,15 @@ pub record Filled {ℓ} {A : Type ℓ} (f : ℕ → A) (old out : List A) (k : �
 module _ {ℓ} {A : Type ℓ} where
   -- ── Filling from the front ──
 
-  fill-more :
-      (f : ℕ → A) (old : List A) (k : ℕ) →
+  -- a store at the seam, behind a front of any kind
+  pub store-more :
+      (front old : List A) (k : ℕ) (v : A) →
+      length front ≡ k →
       k < length old →
-      set (listOf f k ++ drop k old) k (f k) ≡ listOf f (suc k) ++ drop (suc k) old
-  unfolding listOf
-  fill-more f old k h =
-      rw (drop-cons old k (f k) h)
-      (set-at (listOf f k) (getD old k (f k)) (drop (suc k) old) (f k) k (list-length f k)
-      ∙ sym (append-assoc (listOf f k) (f k ∷ []) (drop (suc k) old)))
+      set (front ++ drop k old) k v ≡ (front ++ (v ∷ [])) ++ drop (suc k) old
+  store-more front old k v e h =
+      rw (drop-cons old k v h)
+      (set-at front (getD old k v) (drop (suc k) old) v k e ∙ sym (append-snoc front v (drop (suc k) old)))
 
   fill-all : (f : ℕ → A) (old : List A) (n : ℕ) → length old ≡ n → listOf f n ++ drop n old ≡ listOf f n
   fill-all f old n h = rw (drop-of-length-le old {i = n} (le-of-eq h)) (append-nil (listOf f n))
@@ -50,7 +50,9 @@ module _ {ℓ} {A : Type ℓ} where
       k < length old →
       a ≡ f k →
       Filled f old (set out k a) (k + 1)
-  fill-step {f} {old} {out} {k} {a} filled h same = record { told = rw (filled .told, same, add-one k) (fill-more f old k h) }
+  unfolding listOf
+  fill-step {f} {old} {out} {k} {a} filled h same =
+      record { told = rw (filled .told, same, add-one k) (store-more (listOf f k) old k (f k) (list-length f k) h) }
 
   pub fill-done :
       {f : ℕ → A} {old out : List A} {k : ℕ} {n : ℕ} →
