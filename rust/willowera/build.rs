@@ -13,7 +13,7 @@ fn main() {
         return;
     }
     let folder = library_folder();
-    let library = folder.join("libboard.a");
+    let library = folder.join("libwillowera.a");
     if !library.is_file() {
         println!(
             "cargo::error={} is not there: build the board library, or name its folder in {FOLDER}",
@@ -23,7 +23,7 @@ fn main() {
     }
     println!("cargo::rerun-if-changed={}", library.display());
     println!("cargo::rustc-link-search=native={}", folder.display());
-    println!("cargo::rustc-link-lib=static=board");
+    println!("cargo::rustc-link-lib=static=willowera");
 }
 
 /// The folder of the library; a relative one starts from this package.

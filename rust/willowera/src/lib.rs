@@ -2,7 +2,7 @@
 //!
 //! The library is proved; these wrappers only carry slices to its C functions
 //! and take its packed answers apart. The functions are there with the feature
-//! `linked`, which links `libboard.a`.
+//! `linked`, which links `libwillowera.a`.
 
 mod answer;
 #[cfg(feature = "linked")]

@@ -1,0 +1,44 @@
+-- `willowera::willowera_wait_bound` meets its contract, by the two cases of the outcome.
+use Rattle.willowera.proofs.Answers.{bound-near, outcome-stepped, outcome-declined}
+use borrow.Author.Needs.{needs}
+use Rattle.willowera.proofs.willowera_wait_bound.Statement.{statement}
+use Rattle.willowera.proofs.willowera_wait_bound.Tie as tie
+
+wait-bound-requires : tie.Need-wait-bound-requires
+wait-bound-requires c κs = search needs
+
+enum-known-outcome : tie.Need-enum-known-outcome
+enum-known-outcome c = search needs
+
+pack-requires : tie.Need-pack-requires
+pack-requires c κs = search needs
+
+enum-known-outcome-2 : tie.Need-enum-known-outcome-2
+enum-known-outcome-2 c = search needs
+
+refusal-requires : tie.Need-refusal-requires
+refusal-requires c κs =
+    let bound = c .before .before .before .wait-bound in
+    bound-near _ (bound .result) (bound .ensures) (c .before .outcome2 .given .1)
+
+returns : tie.Need-returns
+returns c =
+    let bound = c .before .before .before .before .wait-bound in
+    outcome-stepped (bound .result) _ _ (bound .ensures) (c .before .before .outcome .given .1) (c .pack .ensures)
+
+returns-2 : tie.Need-returns-2
+returns-2 c =
+    let bound = c .before .before .before .before .wait-bound in
+    outcome-declined (bound .result) _ _ (bound .ensures) (c .before .before .outcome2 .given .1) (c .refusal .ensures)
+
+pub willowera-wait-bound-spec : {M : Type 1} → statement M
+willowera-wait-bound-spec =
+    tie.close
+    (tie.spec
+    wait-bound-requires
+    enum-known-outcome
+    pack-requires
+    enum-known-outcome-2
+    refusal-requires
+    returns
+    returns-2)

@@ -1,0 +1,65 @@
+-- The calls of the board's library, over bytes. An answer is one number: the lowest byte is the number of the refusal, 0 where the call
+-- is accepted, and the rest is the place, or the wait bound where a step or a wait bound is given.
+use Prim.Native.Nat.{ℕ, _+_, _*_}
+use mathlib.Core.List.{List}
+use lib.Dec.{eqb}
+use lib.ListN.{length}
+use Rattle.rules.specs.declared.answer.Outcome.{Outcome}
+use Rattle.rules.specs.declared.answer.Outcome.the-variants.{Stepped, Declined}
+use Rattle.rules.specs.declared.answer.Verdict.{Verdict}
+use Rattle.rules.specs.declared.answer.Verdict.the-variants.{Accepted, Refused}
+use Rattle.rules.specs.declared.state.State.{State}
+use Rattle.rules.specs.Rows.{if_then_else_}
+use Rattle.rules.specs.Verdicts.{_orElse_}
+use Rattle.rules.specs.Personality.{verdictOf, bodyAt, bodyLength}
+use Rattle.rules.specs.Lookup.{lookupVerdict, headOf}
+use Rattle.rules.specs.Call.{answerOf, bufferOf}
+use Rattle.state_bytes.specs.Layout.{stateBytes, isState, decoded, encoded}
+
+unfoldable pub packed : ℕ → ℕ → ℕ
+packed number value = number + 256 * value
+
+unfoldable pub packedVerdict : Verdict → ℕ
+packedVerdict Accepted = 0
+packedVerdict (Refused number place) = packed number place
+
+unfoldable pub packedOutcome : Outcome → ℕ
+packedOutcome (Stepped wait) = packed 0 wait
+packedOutcome (Declined number place) = packed number place
+
+-- ── The fresh state ──
+
+-- 13 for a buffer that has not the length of a state
+unfoldable pub freshAnswer : List ℕ → ℕ
+freshAnswer old = if eqb (length old) stateBytes then 0 else packed 13 0
+
+-- ── A step call, its state in bytes: the personality's own refusal comes before 13 for bytes that are no state ──
+
+unfoldable pub stepAnswer : List ℕ → List ℕ → ℕ → ℕ → ℕ
+stepAnswer b old inputs room =
+    if isState old
+    then packedOutcome (answerOf b (decoded old) inputs room .outcome)
+    else packedVerdict (verdictOf b orElse Refused 13 0)
+
+unfoldable pub stateFor : Outcome → State → List ℕ → List ℕ
+stateFor (Stepped wait) next old = encoded next
+stateFor (Declined number place) next old = old
+
+-- the bytes of the new state; those handed in on a refusal
+unfoldable pub stateAfter : List ℕ → List ℕ → ℕ → ℕ → List ℕ
+stateAfter b old inputs room =
+    if isState old
+    then stateFor (answerOf b (decoded old) inputs room .outcome) (answerOf b (decoded old) inputs room .state) old
+    else old
+
+unfoldable pub coloursAfter : List ℕ → List ℕ → ℕ → List ℕ → List ℕ
+coloursAfter b old inputs buffer = if isState old then bufferOf b (decoded old) inputs buffer else buffer
+
+-- ── The section lookup: where the body starts, counted from the first byte of the personality, and how long it is ──
+
+unfoldable pub sectionFor : Verdict → ℕ → ℕ → ℕ
+sectionFor Accepted offset size = 256 * offset + 1099511627776 * size
+sectionFor (Refused number place) offset size = packed number place
+
+unfoldable pub sectionAnswer : List ℕ → ℕ → ℕ
+sectionAnswer b kind = sectionFor (lookupVerdict b kind) (bodyAt (headOf b kind)) (bodyLength b (headOf b kind))

@@ -1,0 +1,161 @@
+// The board's library for C and Rust: units one to three over bytes. A slice is passed as a pointer and a length. An answer's lowest
+// byte is the number of the refusal, 0 where the call is accepted; the rest is the place, or the wait bound of an accepted step.
+ghost use Prim.Native.Nat.{_+_, _*_, _≤_};
+ghost use mathlib.Core.Path.{_≡_};
+ghost use lib.ListN.{length};
+ghost use Rattle.rules.specs.Call.{boundOf};
+ghost use Rattle.rules.specs.Lookup.{headOf};
+ghost use Rattle.rules.specs.Personality.{verdictOf};
+ghost use Rattle.rules.specs.declared.answer.Verdict.the-variants.{Refused};
+ghost use Rattle.rules.specs.State.{fresh};
+ghost use Rattle.rules.specs.Verdicts.{_orElse_};
+ghost use Rattle.state_bytes.specs.Layout.{encodedOver};
+ghost use Rattle.willowera.specs.Board.{packed, packedVerdict, packedOutcome, freshAnswer, stepAnswer, stateAfter, coloursAfter, sectionAnswer};
+use reads::two;
+use rules::answer::Outcome;
+use rules::answer::Verdict;
+use sections::heads::conflicts_head;
+use sections::heads::detectors_head;
+use sections::heads::groups_head;
+use sections::heads::pedestrians_head;
+
+// The number in the lowest byte, and a place or a wait bound above it.
+fn pack(number: u8, value: u32) -> u64
+    ensures { λ r. ⌜ r ≡ packed number value ⌝ }
+{
+    (number as u64) + 256 * (value as u64)
+}
+
+// A refusal. No place of a personality is past 448.
+fn refusal(number: u8, place: usize) -> u64
+    requires { ⌜ place ≤ 448 ⌝ }
+    ensures { λ r. ⌜ r ≡ packed number place ⌝ }
+{
+    pack(number, place as u32)
+}
+
+// Accepts or refuses a personality.
+#[no_mangle]
+pub extern "C" fn willowera_read(personality: &[u8]) -> u64
+    ensures { λ r. ⌜ r ≡ packedVerdict (verdictOf (now (personality .entry))) ⌝ }
+{
+    let verdict = personality::read(personality);
+    match verdict {
+        Verdict::Accepted => 0,
+        Verdict::Refused { number, place } => refusal(number, place),
+    }
+}
+
+// The longest wait of a demand, in steps.
+#[no_mangle]
+pub extern "C" fn willowera_wait_bound(personality: &[u8]) -> u64
+    ensures { λ r. ⌜ r ≡ packedOutcome (boundOf (now (personality .entry))) ⌝ }
+{
+    let outcome = controller::wait_bound(personality);
+    match outcome {
+        Outcome::Stepped { wait } => pack(0, wait),
+        Outcome::Declined { number, place } => refusal(number, place),
+    }
+}
+
+// Writes the fresh state into a buffer of 51 bytes. Another buffer stays as it is, and the answer is 13.
+#[no_mangle]
+pub extern "C" fn willowera_fresh(state: &mut [u8]) -> u64
+    ensures { λ r. ⌜ (r ≡ freshAnswer (now (state .entry))) × (now (state .exit) ≡ encodedOver fresh (now (state .entry))) ⌝ }
+{
+    if state_bytes::encode(controller::fresh(), state) {
+        0
+    } else {
+        pack(13, 0)
+    }
+}
+
+// The answer to a step whose state bytes are no state: the personality's own refusal, and then 13.
+fn no_state(personality: &[u8]) -> u64
+    ensures { λ r. ⌜ r ≡ packedVerdict (verdictOf (now (personality .entry)) orElse Refused 13 0) ⌝ }
+{
+    let verdict = personality::read(personality);
+    if let Verdict::Refused { number, place } = verdict {
+        return refusal(number, place);
+    }
+    refusal(13, 0)
+}
+
+// One step of 0.1 s: the bytes of the new state take the place of the old, the colours of the groups are written, and the wait bound
+// is the answer. A refused step changes nothing.
+#[no_mangle]
+pub extern "C" fn willowera_step(
+    personality: &[u8],
+    state: &mut [u8],
+    inputs: u64,
+    colours: &mut [u8],
+) -> u64
+    ensures { λ r. ⌜ (r ≡ stepAnswer (now (personality .entry)) (now (state .entry)) inputs (length (now (colours .entry))))
+        × (now (state .exit) ≡ stateAfter (now (personality .entry)) (now (state .entry)) inputs (length (now (colours .entry))))
+        × (now (colours .exit) ≡ coloursAfter (now (personality .entry)) (now (state .entry)) inputs (now (colours .entry))) ⌝ }
+{
+    let decoded = state_bytes::decode(state);
+    if !decoded.known {
+        return no_state(personality);
+    }
+    let answer = controller::step(personality, decoded.state, inputs, colours);
+    let outcome = answer.outcome;
+    match outcome {
+        Outcome::Stepped { wait } => {
+            state_bytes::encode(answer.state, state);
+            pack(0, wait)
+        }
+        Outcome::Declined { number, place } => refusal(number, place),
+    }
+}
+
+// The head of the section of a kind. Kind 1 stands first, at 0.
+fn head(personality: &[u8], kind: u16) -> usize
+    ensures { λ r. ⌜ (r ≡ headOf (now (personality .entry)) kind) × (r ≤ 70149) ⌝ }
+{
+    if kind == 2 {
+        return 8;
+    }
+    if kind == 3 {
+        return groups_head(personality);
+    }
+    if kind == 4 {
+        return conflicts_head(personality);
+    }
+    if kind == 5 {
+        return detectors_head(personality);
+    }
+    if kind == 6 {
+        return pedestrians_head(personality);
+    }
+    0
+}
+
+// The place and the length of a part of the personality, above a lowest byte of 0: the place in 32 bits, the length in 24.
+fn part(start: usize, size: u16) -> u64
+    requires { ⌜ start ≤ 70153 ⌝ }
+    ensures { λ r. ⌜ r ≡ 256 * start + 1099511627776 * size ⌝ }
+{
+    256 * (start as u64) + 1099511627776 * (size as u64)
+}
+
+// Where the body of the section of a kind is.
+#[no_mangle]
+pub extern "C" fn willowera_section(personality: &[u8], kind: u16) -> u64
+    ensures { λ r. ⌜ r ≡ sectionAnswer (now (personality .entry)) kind ⌝ }
+{
+    let report = loading::lookup::section_report(personality, kind);
+    if report.number != 0 {
+        return refusal(report.number, report.place);
+    }
+    let head = head(personality, kind);
+    part(head + 4, two(personality, head))
+}
+
+// The version of these calls.
+#[no_mangle]
+pub extern "C" fn willowera_version() -> u32
+    ensures { λ r. ⌜ r ≡ 1 ⌝ }
+{
+    1
+}
