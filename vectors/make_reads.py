@@ -5,7 +5,7 @@ Usage: make_reads.py OUT. The same file comes out at every run. What is covered 
 import random
 import sys
 
-from model import RANGES, PHASE_FIELDS, WALK_FIELDS, build, conflicts_of, junction, largest, number, random_site, verdict
+from model import RANGES, PHASE_FIELDS, WALK_FIELDS, build, junction, largest, number, random_site, verdict
 
 
 def put(data, at, value, size=2):
@@ -69,13 +69,29 @@ def refusals(data):
                 yield put(put(data, at, phase, 1), at + 1, mode, 1)
 
 
-def too_many_pedestrians():
-    """Nine pedestrian groups, and phases without a group."""
+def nine_pedestrians(before, after):
+    """Nine pedestrian groups in a row: number 7 at the ninth, which has this many vehicle groups before the first."""
     row = (0, 20, 30, 5, 30, 10)
-    groups = [(1, 0), (2, 0)] + [(1, 2)] * 9
-    yield build(10, [row, row], groups, conflicts_of(groups), [], [(10, 1, 1)] * 9)
+    groups = [(3, 0)] * before + [(1, 2)] * 9 + [(3, 0)] * after
+    return build(10, [row, row], groups, set(), [], [(10, 1, 1)] * 9)
+
+
+def sharing(count, g, j):
+    """Number 10: of so many groups of phase A, and one of B, only g and j conflict."""
+    row = (0, 20, 30, 5, 30, 10)
+    groups = [(1, 0)] * (count - 1) + [(3, 0)]
+    return build(10, [row, row], groups, {(g, j)}, [], [])
+
+
+def groups_refused():
+    """Numbers 7, 8 and 10 at their first and last places."""
+    row = (0, 20, 30, 5, 30, 10)
+    yield nine_pedestrians(0, 1)
+    yield nine_pedestrians(23, 0)
     yield build(10, [row] * 3, [(1, 0), (4, 0)], {(0, 1)}, [], [])
     yield build(10, [row] * 2, [(0, 0), (3, 0)], set(), [], [])
+    yield sharing(2, 0, 1)
+    yield sharing(32, 30, 31)
 
 
 def damaged(rng, data):
@@ -101,7 +117,7 @@ def vectors():
     for data in (two, big):
         yield from limits(data)
         yield from refusals(data)
-    yield from too_many_pedestrians()
+    yield from groups_refused()
     for _ in range(100):
         site = random_site(rng)
         yield site
