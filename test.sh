@@ -1,6 +1,6 @@
 #!/usr/bin/env bash
 # Passes everything: layout; every crate proved from nothing, every must-fail edit refused and every program run; the edits of the
-# rules that a theorem must refuse; the example sites and their traces; the vectors.
+# rules that a theorem must refuse; the example sites and their traces; the vectors; the library against the model.
 # The last line is `N passed, M failed`; the exit status is 0 only where M is 0.
 set -u
 cd "$(dirname "$0")" || exit 2
@@ -48,6 +48,12 @@ done
 # The vectors of the reader are those that the script makes.
 same_vectors() { python3 vectors/make_reads.py "$log" && cmp "$log" crates/run_reads/data/reads; }
 check 'vectors/make_reads.py' same_vectors
+
+# The static library against the independent model, and demand 3 watched from outside: seeds and counts are printed.
+compare_with_model() { (cd rust && cargo run --quiet --release --offline --features linked -p compare -- "$@"); }
+check 'rt staticlib willowera' rt staticlib willowera
+check 'library and model agree' compare_with_model 1 5000
+check 'demand 3 watched' compare_with_model 1 watch 200000
 
 for edit in edits/*.edit; do
     check "$edit" edits/run.sh "$(basename "$edit" .edit)"
