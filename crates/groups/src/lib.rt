@@ -1,4 +1,3 @@
-// Kinds 3 and 4 of a personality: the signal groups, and which of them conflict.
-pub mod conflicts;
+// Kind 3 of a personality: the signal groups.
 pub mod records;
 pub mod sets;

@@ -1,11 +1,9 @@
-// What the records of kinds 3 and 4 hold: phase sets, marks and conflict sets; and how far up the bits of a set go.
+// What a record of kind 3 holds: a phase set and a mark; and how far up the bits of a set go.
 ghost use Prim.Native.Nat.{_^_, _≤_};
 ghost use mathlib.Core.Path.{_≡_};
 ghost use lib.Dec.{leb};
-ghost use Rattle.rules.specs.Personality.{groupSet, groupMark, conflictSet};
+ghost use Rattle.rules.specs.Personality.{groupSet, groupMark};
 use reads::byte;
-use reads::four;
-use sections::heads::conflicts_head;
 use sections::heads::groups_head;
 
 // The phase set of group g.
@@ -22,14 +20,6 @@ pub fn group_mark(s: &[u8], g: usize) -> u8
     ensures { λ r. ⌜ r ≡ groupMark (now (s .entry)) g ⌝ }
 {
     byte(s, groups_head(s) + 4 + g * 2 + 1)
-}
-
-// The groups that group g conflicts with.
-pub fn conflict_set(s: &[u8], g: usize) -> u32
-    requires { ⌜ g ≤ 255 ⌝ }
-    ensures { λ r. ⌜ r ≡ conflictSet (now (s .entry)) g ⌝ }
-{
-    four(s, conflicts_head(s) + 4 + g * 4)
 }
 
 // Whether a set has a bit at or above k.

@@ -6,8 +6,8 @@ pub mod detectors;
 pub mod pedestrians;
 pub mod site;
 
+use conflicts::conflicts_section;
 use detectors::detectors_section;
-use groups::conflicts::conflicts_section;
 use groups::records::groups_section;
 use pedestrians::after_pedestrians;
 use pedestrians::pedestrians_section;

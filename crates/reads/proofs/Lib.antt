@@ -1,2 +1,3 @@
 pub mod Past
 pub mod Common
+pub mod Union

@@ -1,9 +1,10 @@
 // Little-endian numbers and bits, read from a slice. A byte past the end reads as 0, so no place is out of reach.
-ghost use Prim.Native.Nat.{_+_, _*_};
+ghost use Prim.Native.Nat.{_+_, _*_, _<_, _≤_};
 ghost use mathlib.Core.Path.{_≡_};
 ghost use Rattle.rules.specs.Bytes.{byteAt, twoAt, fourAt, bit};
 ghost use Rattle.rules.specs.Rows.{anyOf};
 ghost use mathlib.Core.Bool.{_&&_};
+ghost use lib.ListN.{length};
 
 pub fn byte(s: &[u8], i: usize) -> u8
     ensures { λ r. ⌜ r ≡ byteAt (now (s .entry)) i ⌝ }
@@ -45,6 +46,29 @@ pub fn four(s: &[u8], i: usize) -> u32
     } else {
         0
     }
+}
+
+// The same where all the bytes are known to be in the slice, without a test.
+
+pub fn byte_in(s: &[u8], i: usize) -> u8
+    requires { ⌜ i < length (now s) ⌝ }
+    ensures { λ r. ⌜ r ≡ byteAt (now (s .entry)) i ⌝ }
+{
+    s[i]
+}
+
+pub fn two_in(s: &[u8], i: usize) -> u16
+    requires { ⌜ i + 2 ≤ length (now s) ⌝ }
+    ensures { λ r. ⌜ r ≡ twoAt (now (s .entry)) i ⌝ }
+{
+    pair(s[i], s[i + 1])
+}
+
+pub fn four_in(s: &[u8], i: usize) -> u32
+    requires { ⌜ i + 4 ≤ length (now s) ⌝ }
+    ensures { λ r. ⌜ r ≡ fourAt (now (s .entry)) i ⌝ }
+{
+    quad(two_in(s, i), two_in(s, i + 2))
 }
 
 // Bit k of a byte.

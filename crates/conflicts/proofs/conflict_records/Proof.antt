@@ -1,17 +1,17 @@
--- `conflicts::phase_conflicts` meets its contract. The invariant: no group before g clashes with another.
+-- `conflicts::conflict_records` meets its contract. The invariant: no record before g is bad.
 use Prim.Native.Nat.{_-_, _≤_}
 use mathlib.Core.Path.{_≡_, refl}
 use native.Mathlib.Omega.{arith}
 use borrow.Author.Needs.{needs}
-use Rattle.rules.specs.Personality.{bodyAt, recordAt, conflictsHead, conflictInPhase}
+use Rattle.rules.specs.Personality.{bodyAt, recordAt, conflictsHead, badConflict}
 use Rattle.rules.specs.Verdicts.{firstOf}
 use Rattle.rules.specs.declared.answer.Verdict.the-variants.{Accepted}
 use Rattle.sections.proofs.Firsts.{recordCheck, good-more, bad-stop, first-done}
-use Rattle.groups.proofs.conflicts.phase_conflicts.Statement.{statement}
-use Rattle.groups.proofs.conflicts.phase_conflicts.Tie as tie
+use Rattle.conflicts.proofs.conflict_records.Statement.{statement}
+use Rattle.conflicts.proofs.conflict_records.Tie as tie
 
 abbrev Inv-loop : tie.InvT-loop
-Inv-loop s count head g₀ g = (g ≤ count) × (firstOf (recordCheck (conflictInPhase s) 10 (recordAt (conflictsHead s) 4)) g ≡ Accepted)
+Inv-loop s count head g₀ g = (g ≤ count) × (firstOf (recordCheck (badConflict s) 9 (recordAt (conflictsHead s) 4)) g ≡ Accepted)
 
 abbrev μ-loop : tie.MeasureT-loop
 μ-loop s count head g₀ g = count - g
@@ -29,8 +29,8 @@ loop-holds : tie.Need-loop-holds Inv-loop μ-loop
 unfolding firstOf
 loop-holds c = (omega arith, refl)
 
-conflict-in-phase-requires : tie.Need-conflict-in-phase-requires Inv-loop μ-loop
-conflict-in-phase-requires c κs = search needs
+bad-conflict-requires : tie.Need-bad-conflict-requires Inv-loop μ-loop
+bad-conflict-requires c κs = search needs
 
 add-t8 : tie.Need-add-t8 Inv-loop μ-loop
 add-t8 c = search needs
@@ -57,8 +57,8 @@ loop-again c = (omega arith, good-more _ _ _ _ (c .before .before .before .loop 
 returns-2 : tie.Need-returns-2 Inv-loop μ-loop
 returns-2 c = first-done _ _ _ (c .before .loop .inv .1) (omega arith)
 
-pub phase-conflicts-spec : {M : Type 1} → statement M
-phase-conflicts-spec =
+pub conflict-records-spec : {M : Type 1} → statement M
+conflict-records-spec =
     tie.close
     (tie.spec
     Inv-loop
@@ -67,7 +67,7 @@ phase-conflicts-spec =
     cast-count
     conflicts-head-requires
     loop-holds
-    conflict-in-phase-requires
+    bad-conflict-requires
     add-t8
     mul-t9
     add-t10

@@ -8,16 +8,24 @@ ghost use Rattle.rules.specs.Rows.{anyOf};
 ghost use Rattle.rules.specs.Verdicts.{refuseIf, firstOf};
 ghost use Rattle.rules.specs.Personality.{recordAt, groupCount, conflictsHead, conflictSet};
 ghost use Rattle.rules.specs.Personality.{badConflict, conflictInPhase, groupsSection, conflictsSection};
-use crate::sets::conflict_set;
-use crate::sets::group_set;
-use crate::sets::reaches32;
+use groups::sets::group_set;
+use groups::sets::reaches32;
 use reads::bit32;
+use reads::four;
 use reads::share;
 use reads::two;
 use rules::answer::Verdict;
 use sections::heads::conflicts_head;
 use sections::heads::group_count;
 use sections::section;
+
+// The groups that group g conflicts with.
+fn conflict_set(s: &[u8], g: usize) -> u32
+    requires { ⌜ g ≤ 255 ⌝ }
+    ensures { λ r. ⌜ r ≡ conflictSet (now (s .entry)) g ⌝ }
+{
+    four(s, conflicts_head(s) + 4 + g * 4)
+}
 
 // Whether the set of group g has a group whose own set lacks g.
 fn one_sided(s: &[u8], g: usize) -> bool

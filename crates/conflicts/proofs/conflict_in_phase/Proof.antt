@@ -13,9 +13,9 @@ use Rattle.rules.specs.Rows.{anyOf}
 use Rattle.rules.proofs.Rows.{any-at}
 use Rattle.rules.proofs.Tests.{and-both, and-false-left, and-false-right}
 use Rattle.sections.proofs.Firsts.{any-more, any-done}
 use Rattle.groups.proofs.GroupChecks.{share-decided}
-use Rattle.groups.proofs.conflicts.conflict_in_phase.Statement.{statement}
-use Rattle.groups.proofs.conflicts.conflict_in_phase.Tie as tie
+use Rattle.conflicts.proofs.conflict_in_phase.Statement.{statement}
+use Rattle.conflicts.proofs.conflict_in_phase.Tie as tie
 
 -- group g conflicts with group j and shares a phase with it
 abbrev clash : List ℕ → ℕ → ℕ → Bool

@@ -6,8 +6,8 @@ use lib.Dec.{leb}
 use borrow.Author.Needs.{needs}
 use Rattle.rules.specs.Bytes.{bit}
 use Rattle.rules.specs.Personality.{groupCount, conflictSet, badConflict}
-use Rattle.groups.proofs.conflicts.bad_conflict.Statement.{statement}
-use Rattle.groups.proofs.conflicts.bad_conflict.Tie as tie
+use Rattle.conflicts.proofs.bad_conflict.Statement.{statement}
+use Rattle.conflicts.proofs.bad_conflict.Tie as tie
 
 conflict-set-requires : tie.Need-conflict-set-requires
 conflict-set-requires c κs = search needs

@@ -12,8 +12,8 @@ use Rattle.rules.specs.Rows.{anyOf}
 use Rattle.rules.proofs.Rows.{any-at}
 use Rattle.rules.proofs.Tests.{and-both, and-false-left, and-false-right}
 use Rattle.sections.proofs.Firsts.{any-more, any-done}
-use Rattle.groups.proofs.conflicts.one_sided.Statement.{statement}
-use Rattle.groups.proofs.conflicts.one_sided.Tie as tie
+use Rattle.conflicts.proofs.one_sided.Statement.{statement}
+use Rattle.conflicts.proofs.one_sided.Tie as tie
 
 -- the set of group g has group j, whose own set lacks g
 abbrev unanswered : List ℕ → ℕ → ℕ → Bool

@@ -5,8 +5,8 @@ use lib.Dec.{eqb}
 use borrow.Author.Needs.{needs}
 use Rattle.rules.specs.Personality.{bodyLength, groupCount, conflictsHead, sectionAt, conflictsSection}
 use Rattle.sections.proofs.Firsts.{or-next, or-stop}
-use Rattle.groups.proofs.conflicts.conflicts_section.Statement.{statement}
-use Rattle.groups.proofs.conflicts.conflicts_section.Tie as tie
+use Rattle.conflicts.proofs.conflicts_section.Statement.{statement}
+use Rattle.conflicts.proofs.conflicts_section.Tie as tie
 
 conflicts-head-requires : tie.Need-conflicts-head-requires
 conflicts-head-requires c κs = search needs
