@@ -7,7 +7,7 @@ ghost use Rattle.rules.specs.Bytes.{bit};
 ghost use Rattle.rules.specs.Rows.{anyOf};
 ghost use Rattle.rules.specs.Verdicts.{refuseIf, firstOf};
 ghost use Rattle.rules.specs.Personality.{recordAt, groupCount, conflictsHead, conflictSet};
-ghost use Rattle.rules.specs.Personality.{badConflict, conflictInPhase, groupsSection, conflictsSection};
+ghost use Rattle.rules.specs.Personality.{badConflict, conflictInPhase, siteSection, groupsSection, conflictsSection};
 use groups::sets::group_set;
 use groups::sets::reaches32;
 use reads::bit32;
@@ -126,8 +126,9 @@ fn phase_conflicts(s: &[u8]) -> Verdict
     Verdict::Accepted
 }
 
+// Kinds 1 and 3 have been accepted before it.
 pub fn conflicts_section(s: &[u8]) -> Verdict
-    requires { ⌜ groupsSection (now s) ≡ Accepted ⌝ }
+    requires { ⌜ (siteSection (now s) ≡ Accepted) × (groupsSection (now s) ≡ Accepted) ⌝ }
     ensures { λ r. ⌜ r ≡ conflictsSection (now (s .entry)) ⌝ }
 {
     let place = conflicts_head(s);

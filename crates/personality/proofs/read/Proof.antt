@@ -85,7 +85,11 @@ enum-told-6 : tie.Need-enum-told-6
 enum-told-6 c = search needs
 
 conflicts-section-requires : tie.Need-conflicts-section-requires
-conflicts-section-requires c κs = sym (c .before .before .groups-section .ensures) ∙ c .enum-told6 .given .1
+conflicts-section-requires c κs =
+    let sitePassed = c .before .before .before .before .before .before in (
+      sym (sitePassed .before .before .site-section .ensures) ∙ sitePassed .enum-told2 .given .1,
+      sym (c .before .before .groups-section .ensures) ∙ c .enum-told6 .given .1,
+    )
 
 enum-told-7 : tie.Need-enum-told-7
 enum-told-7 c = search needs
