@@ -49,9 +49,12 @@ done
 same_vectors() { python3 vectors/make_reads.py "$log" && cmp "$log" crates/run_reads/data/reads; }
 check 'vectors/make_reads.py' same_vectors
 
-# The static library against the independent model, and demand 3 watched from outside: seeds and counts are printed.
+# The Rust side's own tests; the static library against the independent model, and demand 3 watched from outside: seeds and counts
+# are printed.
+rust_tests() { (cd rust && cargo test --quiet --offline --features linked); }
 compare_with_model() { (cd rust && cargo run --quiet --release --offline --features linked -p compare -- "$@"); }
 check 'rt staticlib willowera' rt staticlib willowera
+check 'tests of rust/' rust_tests
 check 'library and model agree' compare_with_model 1 5000
 check 'demand 3 watched' compare_with_model 1 watch 200000
 
