@@ -1,6 +1,6 @@
 -- Phase sets as numbers. A set below 2 ^ P has as many phases as its number has ones, and has them all exactly where it is one less than
 -- 2 ^ P. So a record is bad by its two bytes, and the union of the sets tells whether a phase is in none.
-use Prim.Native.Nat.{ℕ, zero, suc, _+_, _*_, _/_, _%_, _^_, _≤_, _<_, min}
+use Prim.Native.Nat.{ℕ, zero, suc, _+_, _/_, _%_, _^_, _<_, min}
 use mathlib.Core.Bool.{true, false, not, _&&_, _||_}
 use mathlib.Core.List.{List}
 use mathlib.Core.Logic.{⊎-elim}
@@ -13,23 +13,25 @@ use lib.Bits.{bitOr, or-lt}
 use lib.Count.{onesIn, ones, ones-cat}
 use lib.Dec.{leb, ltb, eqb}
 use lib.Pow.{pow-pos}
-use borrow.Author.Tests.{leb-true, leb-false, le-leb, lt-leb, eq-eqb, eqb-false, not-false}
+use borrow.Author.Tests.{leb-true, leb-false, le-leb, lt-leb, eqb-true, eq-eqb, not-false}
 use Rattle.rules.specs.Bytes.{bit}
 use Rattle.rules.specs.Personality.{phaseCount, groupCount, groupSet, groupMark, pedestrian, badGroup, phaseWithoutGroup}
 use Rattle.rules.specs.Rows.{if_then_else_, anyOf, countOf}
 use Rattle.rules.proofs.Bits.{bit-blank}
 use Rattle.rules.proofs.Rows.{any-none, any-false}
-use Rattle.rules.proofs.Tests.{decided, or-false-left, not-true-false}
+use Rattle.rules.proofs.Tests.{decided, or-false-left}
 use Rattle.reads.proofs.Union.{bit-or}
 
 -- ── How many phases a set has ──
 
+-- a digit counts itself
 digit : (d : ℕ) → d < 2 → (if eqb d 1 then 1 else 0) ≡ ones d
 unfolding ones onesIn
 digit zero h = refl
 digit (suc zero) h = refl
 digit (suc (suc d)) h = absurd (omega arith)
 
+-- the ones among the n lowest digits
 lowest-ones : (n x : ℕ) → countOf (λ p. bit p x) n ≡ ones (x % 2 ^ n)
 unfolding countOf bit ones
 lowest-ones zero x = sym (ap ones (mod-one x))
@@ -58,7 +60,7 @@ odd-bit x e = eq-eqb (x / 2 ^ 0 % 2) 1 (omega arith)
 
 bit-odd : (x : ℕ) → bit 0 x ≡ true → x % 2 ≡ 1
 unfolding bit
-bit-odd x e = let odd = borrow.Author.Tests.eqb-true (x / 2 ^ 0 % 2) 1 e in omega arith
+bit-odd x e = let odd = eqb-true (x / 2 ^ 0 % 2) 1 e in omega arith
 
 pub all-full : (n x : ℕ) → x < 2 ^ n → ((p : ℕ) → p < n → bit p x ≡ true) → x + 1 ≡ 2 ^ n
 all-full zero x h all = omega arith
@@ -75,9 +77,10 @@ full-each zero x p e l = absurd (omega arith)
 full-each (suc n) x zero e l = odd-bit x (omega (arith, pow-succ' 2 n))
 full-each (suc n) x (suc p) e l = sym (half-bit p x) ∙ full-each n (x / 2) p (omega (arith, pow-succ' 2 n)) (omega arith)
 
--- ── A record and the union of the records before it ──
+-- ── The records of a personality ──
 
 module _ (b : List ℕ) where
+  -- whether a record is bad, from its two bytes
   pub bad-decided :
       (g : ℕ) {bound set mark : ℕ} →
       bound ≡ min (2 ^ phaseCount b) 512 →
@@ -119,6 +122,7 @@ module _ (b : List ℕ) where
     λ p. rw (add-one g, bit-or p served set, gathered .2 p, e),
   )
 
+  -- the union of all is one less than the bound: no phase is without a group
   pub all-served :
       (served : ℕ) {bound : ℕ} →
       bound ≡ min (2 ^ phaseCount b) 512 →
@@ -130,6 +134,7 @@ module _ (b : List ℕ) where
       any-none _ _
       (λ p l. ap not (sym (gathered .2 p) ∙ full-each (phaseCount b) served p (omega (arith, bounded, e, gathered .0)) l))
 
+  -- it is not: some phase is
   pub one-unserved :
       (served : ℕ) {bound : ℕ} →
       bound ≡ min (2 ^ phaseCount b) 512 →

@@ -15,7 +15,7 @@ use sections::heads::groups_head;
 use sections::heads::phase_count;
 use sections::section;
 
-// Every set of the site's phases is below it, and of the bytes only those are. More than eight phases take up no more than nine.
+// The number past the sets of the site's phases, 2 ^ P. A byte has no bit above 7, so 512 stands for every greater one.
 fn set_bound(phases: u8) -> u32
     ensures { λ r. ⌜ r ≡ min (2 ^ phases) 512 ⌝ }
 {

@@ -1,6 +1,5 @@
 -- `records::bad_group` meets its contract: one return for a set at or above the bound, one for a pedestrian group, one for any other mark.
-use mathlib.Core.Path.{_≡_, sym}
-use borrow.Author.Tests.{le-leb, lt-leb, eq-eqb, ne-eqb}
+use borrow.Author.Tests.{le-leb, lt-leb, ne-eqb}
 use Rattle.groups.proofs.Bits.{or-nothing}
 use Rattle.groups.proofs.records.bad_group.Statement.{statement}
 use Rattle.groups.proofs.records.bad_group.Tie as tie

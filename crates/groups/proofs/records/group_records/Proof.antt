@@ -1,7 +1,7 @@
 -- `records::group_records` meets its contract. The invariant: every record before g has passed, the running count is how many pedestrian
 -- groups stand before g, and the union so far is that of their sets.
 use Prim.Native.Nat.{ℕ, _+_, _*_, _-_, _≤_}
-use mathlib.Core.Bool.{true, false}
+use mathlib.Core.Bool.{false}
 use mathlib.Core.Logic.{⊎-elim}
 use mathlib.Core.Path.{_≡_, refl, sym, ap, _∙_}
 use native.Mathlib.Omega.{arith}
@@ -54,6 +54,7 @@ byte-in-requires-2 c κs = search needs
 bad-group-requires : tie.Need-bad-group-requires Inv-loop μ-loop
 bad-group-requires c κs = search needs
 
+-- where record g stands
 place :
     (c : tie.At-loop Inv-loop μ-loop) →
     c .before .before .args .head + 4 + c .loop .g * 2 ≡ recordAt (groupsHead (c .before .before .args .s .now)) 2 (c .loop .g)

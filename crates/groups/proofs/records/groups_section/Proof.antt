@@ -4,7 +4,9 @@ use mathlib.Core.Path.{_≡_, ap, sym, _∙_}
 use native.Mathlib.Omega.{arith}
 use lib.Dec.{eqb}
 use borrow.Author.Needs.{needs}
-use Rattle.rules.specs.Personality.{bodyAt, bodyLength, groupCount, groupsHead, sectionAt, groupsSection}
+use Rattle.rules.specs.Personality.{bodyAt, bodyLength, groupCount, groupsHead, groupRecord, phaseWithoutGroup, sectionAt, groupsSection}
+use Rattle.rules.specs.Verdicts.{_orElse_, refuseIf, firstOf}
+use Rattle.rules.specs.declared.answer.Verdict.{Verdict}
 use Rattle.proof_acceptance.proofs.Sections.{records-held}
 use Rattle.sections.proofs.Firsts.{or-next, or-stop}
 use Rattle.groups.proofs.records.groups_section.Statement.{statement}
@@ -68,11 +70,17 @@ group-records-requires c κs =
       omega (arith, head, count, held),
     )
 
-returns-2 : tie.Need-returns-2
+-- the head has passed: the answer is that of the records
+afterHead :
+    (c : tie.After-enum-told2) {v : Verdict} →
+    let b = c .before .before .before .before .before .before .before .args .s .now in
+    v ≡ (firstOf (groupRecord b) (groupCount b) orElse refuseIf (phaseWithoutGroup b) 8 (groupsHead b)) →
+    v ≡ groupsSection b
 unfolding groupsSection
-returns-2 c =
-    let passed = c .before .before .before in
-    or-next (checked (passed .before .before)) (passed .enum-told2 .given .1) (c .group-records .ensures)
+afterHead c e = or-next (checked (c .before .before)) (c .enum-told2 .given .1) e
+
+returns-2 : tie.Need-returns-2
+returns-2 c = afterHead (c .before .before .before) (c .group-records .ensures)
 
 pub groups-section-spec : {M : Type 1} → statement M
 groups-section-spec =

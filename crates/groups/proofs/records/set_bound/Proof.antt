@@ -1,6 +1,5 @@
 -- `records::set_bound` meets its contract: up to eight phases the power is at most 256, and from nine on at least 512.
 use Prim.Native.Nat.{_^_, _≤_}
-use mathlib.Core.Path.{_≡_}
 use native.Mathlib.Omega.{arith}
 use lib.Pow.{pow-mono}
 use borrow.Author.Needs.{needs}
