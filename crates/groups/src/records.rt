@@ -1,14 +1,13 @@
 // Kind 3: the signal groups, each with its phase set and its mark.
+ghost use mathlib.Core.Bool.{not, _&&_, _||_};
 ghost use mathlib.Core.Path.{_≡_};
-ghost use Prim.Native.Nat.{_≤_};
-ghost use Rattle.rules.specs.Bytes.{bit};
-ghost use Rattle.rules.specs.Rows.{anyOf, countOf};
-ghost use Rattle.rules.specs.Verdicts.{firstOf};
-ghost use Rattle.rules.specs.Personality.{groupCount, groupSet, badGroup, groupRecord, phaseWithoutGroup, groupsSection};
-use crate::sets::group_mark;
-use crate::sets::group_set;
-use crate::sets::reaches8;
-use reads::bit8;
+ghost use Prim.Native.Nat.{_+_, _*_, _^_, _≤_, min};
+ghost use lib.Count.{ones};
+ghost use lib.Dec.{leb, ltb, eqb};
+ghost use lib.ListN.{length};
+ghost use Rattle.rules.specs.Verdicts.{_orElse_, refuseIf, firstOf};
+ghost use Rattle.rules.specs.Personality.{phaseCount, groupCount, groupsHead, groupRecord, phaseWithoutGroup, groupsSection};
+use reads::byte_in;
 use reads::two;
 use rules::answer::Verdict;
 use sections::heads::group_count;
@@ -16,111 +15,71 @@ use sections::heads::groups_head;
 use sections::heads::phase_count;
 use sections::section;
 
-// How many of the site's phases a set has.
-fn phases_in(set: u8, phases: u8) -> u8
-    ensures { λ r. ⌜ r ≡ countOf (λ p. bit p set) phases ⌝ }
+// The number past the sets of the site's phases, 2 ^ P. A byte has no bit above 7, so 512 stands for every greater one.
+fn set_bound(phases: u8) -> u32
+    ensures { λ r. ⌜ r ≡ min (2 ^ phases) 512 ⌝ }
 {
-    let mut count: u8 = 0;
-    let mut p: u8 = 0;
-    while p < phases {
-        if bit8(p, set) {
-            count += 1;
-        }
-        p += 1;
-    }
-    count
+    if phases < 9 { 1u32 << phases } else { 512 }
 }
 
 // 6: a phase bit at or above P, a mark above 2, or pedestrian without exactly one phase.
-fn bad_group(s: &[u8], g: usize) -> bool
-    requires { ⌜ g ≤ 255 ⌝ }
-    ensures { λ r. ⌜ r ≡ badGroup (now (s .entry)) g ⌝ }
+fn bad_group(set: u8, mark: u8, bound: u32) -> bool
+    ensures { λ r. ⌜ r ≡ (leb bound set || ltb 2 mark || (eqb mark 2 && not (eqb (ones set) 1))) ⌝ }
 {
-    let phases = phase_count(s);
-    let set = group_set(s, g);
-    if reaches8(phases, set) {
+    if bound <= set as u32 {
         return true;
     }
-    let mark = group_mark(s, g);
     if mark == 2 {
-        return phases_in(set, phases) != 1;
+        return u8::count_ones(set) != 1;
     }
     2 < mark
 }
 
-// The group records, each checked for 6 and then for 7, the ninth pedestrian group.
-fn group_records(s: &[u8]) -> Verdict
-    ensures { λ r. ⌜ r ≡ firstOf (groupRecord (now (s .entry))) (groupCount (now (s .entry))) ⌝ }
+// One pass over the records: each is checked for 6 and then for 7, the ninth pedestrian group. The union of the sets tells 8, a phase
+// in no group's set.
+fn group_records(s: &[u8], head: usize, count: u8, bound: u32) -> Verdict
+    requires { ⌜ (head ≡ groupsHead (now s)) × (count ≡ groupCount (now s)) × (bound ≡ min (2 ^ phaseCount (now s)) 512) ⌝ }
+    requires { ⌜ head + 4 + count * 2 ≤ length (now s) ⌝ }
+    ensures { λ r. ⌜ r ≡ (firstOf (groupRecord (now (s .entry))) (groupCount (now (s .entry)))
+        orElse refuseIf (phaseWithoutGroup (now (s .entry))) 8 (groupsHead (now (s .entry)))) ⌝ }
 {
-    let count = group_count(s) as usize;
-    let head = groups_head(s);
+    let n = count as usize;
     let mut pedestrians: usize = 0;
+    let mut served: u8 = 0;
     let mut g: usize = 0;
-    while g < count {
+    while g < n {
         let place = head + 4 + g * 2;
-        if bad_group(s, g) {
+        let set = byte_in(s, place);
+        let mark = byte_in(s, place + 1);
+        if bad_group(set, mark, bound) {
             return Verdict::Refused { number: 6, place };
         }
-        if group_mark(s, g) == 2 {
+        if mark == 2 {
             if pedestrians == 8 {
                 return Verdict::Refused { number: 7, place };
             }
             pedestrians += 1;
         }
+        served = served | set;
         g += 1;
     }
-    Verdict::Accepted
-}
-
-// Whether some group has phase p in its set.
-fn served(s: &[u8], p: u8) -> bool
-    ensures { λ r. ⌜ r ≡ anyOf (λ g. bit p (groupSet (now (s .entry)) g)) (groupCount (now (s .entry))) ⌝ }
-{
-    let count = group_count(s) as usize;
-    let mut g: usize = 0;
-    while g < count {
-        if bit8(p, group_set(s, g)) {
-            return true;
-        }
-        g += 1;
+    if served as u32 + 1 == bound {
+        return Verdict::Accepted;
     }
-    false
-}
-
-// 8: a phase in no group's set.
-fn phase_without_group(s: &[u8]) -> bool
-    ensures { λ r. ⌜ r ≡ phaseWithoutGroup (now (s .entry)) ⌝ }
-{
-    let phases = phase_count(s);
-    let mut p: u8 = 0;
-    while p < phases {
-        if !served(s, p) {
-            return true;
-        }
-        p += 1;
+    Verdict::Refused {
+        number: 8,
+        place: head,
     }
-    false
 }
 
 pub fn groups_section(s: &[u8]) -> Verdict
     ensures { λ r. ⌜ r ≡ groupsSection (now (s .entry)) ⌝ }
 {
     let place = groups_head(s);
-    let head = section(
-        s,
-        place,
-        3,
-        two(s, place) as usize == (group_count(s) as usize) * 2,
-    );
+    let count = group_count(s);
+    let head = section(s, place, 3, two(s, place) as usize == (count as usize) * 2);
     if let Verdict::Refused { .. } = head {
         return head;
     }
-    let records = group_records(s);
-    if let Verdict::Refused { .. } = records {
-        return records;
-    }
-    if phase_without_group(s) {
-        return Verdict::Refused { number: 8, place };
-    }
-    Verdict::Accepted
+    group_records(s, place, count, set_bound(phase_count(s)))
 }

@@ -1,27 +1,28 @@
--- `records::groups_section` meets its contract: head, records and number 8 in order, the first refusal being the answer.
-use Prim.Native.Nat.{_*_}
+-- `records::groups_section` meets its contract: the head and then the records, whose bytes an accepted head holds in the slice.
+use Prim.Native.Nat.{ℕ, _*_, _^_, min}
 use mathlib.Core.Path.{_≡_, ap, sym, _∙_}
+use native.Mathlib.Omega.{arith}
 use lib.Dec.{eqb}
 use borrow.Author.Needs.{needs}
-use Rattle.rules.specs.Personality.{groupRecord, bodyLength, groupCount, groupsHead, sectionAt, phaseWithoutGroup, groupsSection}
+use Rattle.rules.specs.Personality.{bodyAt, bodyLength, groupCount, groupsHead, groupRecord, phaseWithoutGroup, sectionAt, groupsSection}
 use Rattle.rules.specs.Verdicts.{_orElse_, refuseIf, firstOf}
-use Rattle.rules.specs.declared.answer.Verdict.the-variants.{Refused}
 use Rattle.rules.specs.declared.answer.Verdict.{Verdict}
-use Rattle.sections.proofs.Firsts.{refuse-yes, refuse-no, or-next, or-stop}
+use Rattle.proof_acceptance.proofs.Sections.{records-held}
+use Rattle.sections.proofs.Firsts.{or-next, or-stop}
 use Rattle.groups.proofs.records.groups_section.Statement.{statement}
 use Rattle.groups.proofs.records.groups_section.Tie as tie
 
 groups-head-requires : tie.Need-groups-head-requires
 groups-head-requires c κs = search needs
 
+group-count-requires : tie.Need-group-count-requires
+group-count-requires c κs = search needs
+
 two-requires : tie.Need-two-requires
 two-requires c κs = search needs
 
 cast-section : tie.Need-cast-section
 cast-section c = search needs
-
-group-count-requires : tie.Need-group-count-requires
-group-count-requires c κs = search needs
 
 cast-section-2 : tie.Need-cast-section-2
 cast-section-2 c = search needs
@@ -50,13 +51,26 @@ returns c = or-stop _ (checked (c .before .before)) (c .enum-told .given .1)
 enum-told-2 : tie.Need-enum-told-2
 enum-told-2 c = search needs
 
+phase-count-requires : tie.Need-phase-count-requires
+phase-count-requires c κs = search needs
+
+set-bound-requires : tie.Need-set-bound-requires
+set-bound-requires c κs = search needs
+
 group-records-requires : tie.Need-group-records-requires
-group-records-requires c κs = search needs
+unfolding bodyAt
+group-records-requires c κs =
+    let passed = c .before .before in
+    let atSection = passed .before .before in
+    let atCount = atSection .before .before in
+    let head = atCount .before .groups-head .ensures .0 in
+    let count = atCount .group-count .ensures in
+    let held = records-held _ _ 3 _ 2 (sym (checked atSection) ∙ passed .enum-told2 .given .1) in (
+      (head, count, c .set-bound .ensures ∙ ap (λ (phases : ℕ). min (2 ^ phases) 512) (c .before .phase-count .ensures)),
+      omega (arith, head, count, held),
+    )
 
-enum-told-3 : tie.Need-enum-told-3
-enum-told-3 c = search needs
-
--- the head has passed: the answer is that of what follows
+-- the head has passed: the answer is that of the records
 afterHead :
     (c : tie.After-enum-told2) {v : Verdict} →
     let b = c .before .before .before .before .before .before .before .args .s .now in
@@ -66,50 +80,23 @@ unfolding groupsSection
 afterHead c e = or-next (checked (c .before .before)) (c .enum-told2 .given .1) e
 
 returns-2 : tie.Need-returns-2
-returns-2 c = afterHead (c .before .before .before) (or-stop _ (c .before .before .group-records .ensures) (c .enum-told3 .given .1))
-
-enum-told-4 : tie.Need-enum-told-4
-enum-told-4 c = search needs
-
-phase-without-group-requires : tie.Need-phase-without-group-requires
-phase-without-group-requires c κs = search needs
-
--- the records have passed as well
-afterRecords :
-    (c : tie.After-enum-told4) {v : Verdict} →
-    let b = c .before .before .before .before .before .before .before .before .before .before .args .s .now in
-    v ≡ refuseIf (phaseWithoutGroup b) 8 (groupsHead b) →
-    v ≡ groupsSection b
-afterRecords c e = afterHead (c .before .before .before) (or-next (c .before .before .group-records .ensures) (c .enum-told4 .given .1) e)
-
-returns-3 : tie.Need-returns-3
-returns-3 c =
-    let recordsPassed = c .before .before in
-    let atHead = recordsPassed .before .before .before .before .before .before .before .before in
-    afterRecords recordsPassed
-    (ap (Refused 8) (atHead .groups-head .ensures .0) ∙ refuse-yes 8 _ (sym (c .before .phase-without-group .ensures) ∙ c .if1 .taken))
-
-returns-4 : tie.Need-returns-4
-returns-4 c = afterRecords (c .before .before) (sym (refuse-no 8 _ (sym (c .before .phase-without-group .ensures) ∙ c .if1 .left)))
+returns-2 c = afterHead (c .before .before .before) (c .group-records .ensures)
 
 pub groups-section-spec : {M : Type 1} → statement M
 groups-section-spec =
     tie.close
     (tie.spec
     groups-head-requires
+    group-count-requires
     two-requires
     cast-section
-    group-count-requires
     cast-section-2
     mul-section
     section-requires
     enum-told
     returns
     enum-told-2
+    phase-count-requires
+    set-bound-requires
     group-records-requires
-    enum-told-3
-    returns-2
-    enum-told-4
-    phase-without-group-requires
-    returns-3
-    returns-4)
+    returns-2)
