@@ -3,7 +3,7 @@
 use Prim.Native.Nat.{ℕ, _≤_, _<_}
 use mathlib.Core.Bool.{Bool, true, false, not}
 use mathlib.Core.List.{List, _++_}
-use mathlib.Core.Path.{_≡_, refl, sym, ap, subst, subst⁻¹, _∙_}
+use mathlib.Core.Path.{_≡_, subst, subst⁻¹}
 use lib.Dec.{ltb}
 use lib.ListN.{length, drop}
 use borrow.Author.Tests.{lt-ltb, le-ltb}
@@ -22,8 +22,6 @@ use Rattle.rules.specs.Colours.{coloursOf}
 use Rattle.rules.specs.WaitBound.{waitBound}
 use Rattle.rules.specs.Call.{strayInput, stepVerdict, callVerdict, answerFor, bufferFor, boundFor, boundOf}
 use Rattle.rules.specs.Laws.{Sound, AcceptedIsSound}
-use Rattle.loading.specs.declared.Loaded.{Loaded}
-use Rattle.loading.specs.Loading.{loadedFor, loadedOf}
 use Rattle.proof_acceptance.proofs.Acceptance.{accepted-is-sound}
 
 module _ (site : Site) (s : State) (inputs room : ℕ) where
@@ -75,24 +73,9 @@ goes-on v site s next inputs wait buffer out e w n o = (rw (e, w, n), rw (e, o, 
 
 -- ── The personality first ──
 
-loaded-by : (v : Verdict) (site : Site) → loadedFor v site .verdict ≡ v
-unfolding loadedFor
-loaded-by Accepted site = refl
-loaded-by (Refused number place) site = refl
-
--- the verdict of what is loaded is that of the bytes
-pub verdict-read : (b : List ℕ) (l : Loaded) (v : Verdict) → l ≡ loadedOf b → l .verdict ≡ v → verdictOf b ≡ v
-unfolding loadedOf
-verdict-read b l v e f = sym (ap (λ (x : Loaded). x .verdict) e ∙ loaded-by (verdictOf b) (siteOf b)) ∙ f
-
--- and its site, where they are accepted, theirs
-pub site-read : (b : List ℕ) (l : Loaded) → l ≡ loadedOf b → verdictOf b ≡ Accepted → l .site ≡ siteOf b
-unfolding loadedOf loadedFor
-site-read b l e f = ap (λ (x : Loaded). x .site) e ∙ rw f
-
-pub sound-read : (b : List ℕ) (l : Loaded) → l ≡ loadedOf b → verdictOf b ≡ Accepted → Sound (l .site)
+pub sound-read : (b : List ℕ) (site : Site) → verdictOf b ≡ Accepted → site ≡ siteOf b → Sound site
 unfolding AcceptedIsSound
-sound-read b l e f = subst⁻¹ Sound (site-read b l e f) (accepted-is-sound b f)
+sound-read b site e f = subst⁻¹ Sound f (accepted-is-sound b e)
 
 pub call-refused :
     (b : List ℕ) (s : State) (inputs room number place : ℕ) →
@@ -101,7 +84,7 @@ pub call-refused :
 unfolding callVerdict _orElse_
 call-refused b s inputs room number place e = rw e
 
--- a step on the site that is loaded is the call's
+-- a step on the site of the bytes is the call's
 pub stepped-call :
     (b : List ℕ) (site : Site) (s : State) (inputs : ℕ) (buffer : List ℕ) (answer : Answer) (out : List ℕ) →
     verdictOf b ≡ Accepted →

@@ -83,24 +83,22 @@ pub fn step(personality: &[u8], state: State, inputs: u64, colours: &mut [u8]) -
     ensures { λ r. ⌜ (r ≡ answerOf (now (personality .entry)) state inputs (length (now (colours .entry))))
         × (now (colours .exit) ≡ bufferOf (now (personality .entry)) state inputs (now (colours .entry))) ⌝ }
 {
-    let loaded = loading::load(personality);
-    let verdict = loaded.verdict;
+    let verdict = personality::read(personality);
     if let Verdict::Refused { number, place } = verdict {
         return declined(number, place, state);
     }
-    step_on(loaded.site, state, inputs, colours)
+    step_on(loading::site(personality), state, inputs, colours)
 }
 
 // The wait bound of a personality in steps, or its refusal.
 pub fn wait_bound(personality: &[u8]) -> Outcome
     ensures { λ r. ⌜ r ≡ boundOf (now (personality .entry)) ⌝ }
 {
-    let loaded = loading::load(personality);
-    let verdict = loaded.verdict;
+    let verdict = personality::read(personality);
     if let Verdict::Refused { number, place } = verdict {
         return Outcome::Declined { number, place };
     }
     Outcome::Stepped {
-        wait: waits::wait_bound_of(loaded.site),
+        wait: waits::wait_bound_of(loading::site(personality)),
     }
 }

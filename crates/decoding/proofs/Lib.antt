@@ -1,2 +1,3 @@
+pub mod Ends
 pub mod Filling
 pub mod Pedestrians

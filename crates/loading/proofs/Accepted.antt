@@ -1,4 +1,4 @@
--- What acceptance gives to the code: every count fits its array, and the body of every section lies within the bytes.
+-- What acceptance gives to the code: every count fits its array, and every section lies within the bytes.
 use Prim.Native.Nat.{ℕ, zero, suc, _+_, _≤_, _<_}
 use mathlib.Core.List.{List}
 use mathlib.Core.Path.{_≡_}
@@ -11,14 +11,15 @@ use Rattle.rules.proofs.Verdicts.{or-first, or-later}
 use Rattle.proof_acceptance.proofs.Sections.{body-held, sections-accepted}
 use Rattle.decoding.specs.Decoding.{Fitting}
 
-pub counts-fit : (b : List ℕ) → verdictOf b ≡ Accepted → Fitting b
-counts-fit b h =
+pub accepted-fits : (b : List ℕ) → verdictOf b ≡ Accepted → Fitting b
+accepted-fits b h =
     let told = sections-accepted b h in
     record {
       phases = told .site .phases .1;
       groups = told .site .groups .1;
       detectors = told .detectors .count;
       movements = told .groups .movements;
+      whole = told .pedestrians .next;
     }
 
 -- the section with this head ends within the bytes

@@ -12,7 +12,7 @@ use sections::heads::groups_head;
 use sections::heads::pedestrians_head;
 
 // The head of the section of a kind. Kind 1 stands first, at 0.
-fn head_of(s: &[u8], kind: u16) -> usize
+pub fn head_of(s: &[u8], kind: u16) -> usize
     ensures { λ r. ⌜ (r ≡ headOf (now (s .entry)) kind) × (r ≤ 70149) ⌝ }
 {
     if kind == 2 {

@@ -4,20 +4,16 @@ ghost use Prim.Native.Nat.{_+_, _*_, _≤_};
 ghost use mathlib.Core.Path.{_≡_};
 ghost use lib.ListN.{length};
 ghost use Rattle.rules.specs.Call.{boundOf};
-ghost use Rattle.rules.specs.Lookup.{headOf};
 ghost use Rattle.rules.specs.Personality.{verdictOf};
 ghost use Rattle.rules.specs.declared.answer.Verdict.the-variants.{Refused};
 ghost use Rattle.rules.specs.State.{fresh};
 ghost use Rattle.rules.specs.Verdicts.{_orElse_};
 ghost use Rattle.state_bytes.specs.Layout.{encodedOver};
 ghost use Rattle.willowera.specs.Board.{packed, packedVerdict, packedOutcome, freshAnswer, stepAnswer, stateAfter, coloursAfter, sectionAnswer};
+use loading::lookup::head_of;
 use reads::two;
 use rules::answer::Outcome;
 use rules::answer::Verdict;
-use sections::heads::conflicts_head;
-use sections::heads::detectors_head;
-use sections::heads::groups_head;
-use sections::heads::pedestrians_head;
 
 // The number in the lowest byte, and a place or a wait bound above it.
 fn pack(number: u8, value: u32) -> u64
@@ -109,28 +105,6 @@ pub extern "C" fn willowera_step(
     }
 }
 
-// The head of the section of a kind. Kind 1 stands first, at 0.
-fn head(personality: &[u8], kind: u16) -> usize
-    ensures { λ r. ⌜ (r ≡ headOf (now (personality .entry)) kind) × (r ≤ 70149) ⌝ }
-{
-    if kind == 2 {
-        return 8;
-    }
-    if kind == 3 {
-        return groups_head(personality);
-    }
-    if kind == 4 {
-        return conflicts_head(personality);
-    }
-    if kind == 5 {
-        return detectors_head(personality);
-    }
-    if kind == 6 {
-        return pedestrians_head(personality);
-    }
-    0
-}
-
 // The place and the length of a part of the personality, above a lowest byte of 0: the place in 32 bits, the length in 24.
 fn part(start: usize, size: u16) -> u64
     requires { ⌜ start ≤ 70153 ⌝ }
@@ -148,7 +122,7 @@ pub extern "C" fn willowera_section(personality: &[u8], kind: u16) -> u64
     if report.number != 0 {
         return refusal(report.number, report.place);
     }
-    let head = head(personality, kind);
+    let head = head_of(personality, kind);
     part(head + 4, two(personality, head))
 }
 

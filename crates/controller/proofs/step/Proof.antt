@@ -1,15 +1,18 @@
 -- `controller::step` meets its contract, by the two cases of the personality's verdict: its refusal is the call's, and of an accepted
 -- one the step on its site is the call's.
 use borrow.Author.Needs.{needs}
+use mathlib.Core.Path.{_≡_, sym, _∙_}
 use lib.ListN.{length}
+use Rattle.rules.specs.declared.answer.Verdict.the-variants.{Accepted}
+use Rattle.rules.specs.Personality.{verdictOf}
 use Rattle.rules.specs.Site.{siteOf}
 use Rattle.rules.specs.Call.{callVerdict, answerOf, bufferOf}
-use Rattle.controller.proofs.Calls.{declines, verdict-read, site-read, sound-read, call-refused, stepped-call}
+use Rattle.controller.proofs.Calls.{declines, sound-read, call-refused, stepped-call}
 use Rattle.controller.proofs.step.Statement.{statement}
 use Rattle.controller.proofs.step.Tie as tie
 
-load-requires : tie.Need-load-requires
-load-requires c κs = search needs
+read-requires : tie.Need-read-requires
+read-requires c κs = search needs
 
 enum-known-verdict : tie.Need-enum-known-verdict
 enum-known-verdict c = search needs
@@ -20,24 +23,29 @@ declined-requires c κs = search needs
 returns : tie.Need-returns
 unfolding answerOf bufferOf
 returns c =
-    let read = c .before .before .before .before in
-    let a = read .before .before .before .args in
+    let asked = c .before .before .before .before in
+    let a = asked .before .before .before .args in
     let b = a .personality .now in
-    let verdict = verdict-read b (read .load .result) _ (read .load .ensures) (c .before .before .verdict .given .1) in
+    let refused = sym (asked .read .ensures) ∙ c .before .before .verdict .given .1 in
     declines (callVerdict b (a .state) (a .inputs) (length (a .colours .now))) (siteOf b) (a .state) (a .inputs) (a .colours .now)
     (c .declined .result) _ _
-    (call-refused b (a .state) (a .inputs) (length (a .colours .now)) _ _ verdict)
+    (call-refused b (a .state) (a .inputs) (length (a .colours .now)) _ _ refused)
     (c .declined .ensures)
 
 enum-told : tie.Need-enum-told
 enum-told c = search needs
 
+-- past the refusal the personality is accepted
+accepted : (c : tie.After-enum-told) → verdictOf (c .before .before .before .before .before .args .personality .now) ≡ Accepted
+accepted c = sym (c .before .before .read .ensures) ∙ c .enum-told .given .1
+
+site-requires : tie.Need-site-requires
+site-requires c κs = accepted c
+
 step-on-requires : tie.Need-step-on-requires
 step-on-requires c κs =
-    let read = c .before .before .before in
-    let b = read .before .before .before .args .personality .now in
-    let verdict = verdict-read b (read .load .result) _ (read .load .ensures) (c .before .enum-told .given .1) in
-    sound-read b (read .load .result) (read .load .ensures) verdict
+    let held = c .before in
+    sound-read _ (held .site .result) (accepted (held .before)) (held .site .ensures)
 
 same-length : tie.Need-same-length
 same-length c = search needs
@@ -45,16 +53,22 @@ same-length c = search needs
 returns-2 : tie.Need-returns-2
 unfolding answerOf bufferOf
 returns-2 c =
-    let told = c .before .before .before .before in
-    let read = told .before .before in
-    let a = read .before .before .before .args in
-    let b = a .personality .now in
-    let verdict = verdict-read b (read .load .result) _ (read .load .ensures) (told .enum-told .given .1) in
-    stepped-call b (read .load .result .site) (a .state) (a .inputs) (a .colours .now) _ _ verdict
-    (site-read b (read .load .result) (read .load .ensures) verdict)
+    let held = c .before .before .before .before in
+    let a = held .before .before .before .before .before .before .args in
+    stepped-call (a .personality .now) (held .site .result) (a .state) (a .inputs) (a .colours .now) _ _ (accepted (held .before))
+    (held .site .ensures)
     (c .before .before .step-on .ensures)
 
 pub step-spec : {M : Type 1} → statement M
 step-spec =
     tie.close
-    (tie.spec load-requires enum-known-verdict declined-requires returns enum-told step-on-requires same-length returns-2)
+    (tie.spec
+    read-requires
+    enum-known-verdict
+    declined-requires
+    returns
+    enum-told
+    site-requires
+    step-on-requires
+    same-length
+    returns-2)

@@ -1,41 +1,49 @@
 -- `controller::wait_bound` meets its contract, by the two cases of the personality's verdict.
 use borrow.Author.Needs.{needs}
+use mathlib.Core.Path.{_≡_, sym, _∙_}
+use Rattle.rules.specs.declared.answer.Verdict.the-variants.{Accepted}
+use Rattle.rules.specs.Personality.{verdictOf}
 use Rattle.waits.proofs.Sizes.{sound-counted}
-use Rattle.controller.proofs.Calls.{verdict-read, site-read, sound-read, bound-refused, bound-given}
+use Rattle.controller.proofs.Calls.{sound-read, bound-refused, bound-given}
 use Rattle.controller.proofs.wait_bound.Statement.{statement}
 use Rattle.controller.proofs.wait_bound.Tie as tie
 
-load-requires : tie.Need-load-requires
-load-requires c κs = search needs
+read-requires : tie.Need-read-requires
+read-requires c κs = search needs
 
 enum-known-verdict : tie.Need-enum-known-verdict
 enum-known-verdict c = search needs
 
 returns : tie.Need-returns
-returns c =
-    let read = c .before .before .before in
-    let b = read .before .before .args .personality .now in
-    bound-refused b _ _ (verdict-read b (read .load .result) _ (read .load .ensures) (c .before .verdict .given .1))
+returns c = bound-refused _ _ _ (sym (c .before .before .before .read .ensures) ∙ c .before .verdict .given .1)
 
 enum-told : tie.Need-enum-told
 enum-told c = search needs
 
+-- past the refusal the personality is accepted
+accepted : (c : tie.After-enum-told) → verdictOf (c .before .before .before .before .args .personality .now) ≡ Accepted
+accepted c = sym (c .before .before .read .ensures) ∙ c .enum-told .given .1
+
+site-requires : tie.Need-site-requires
+site-requires c κs = accepted c
+
 wait-bound-of-requires : tie.Need-wait-bound-of-requires
 wait-bound-of-requires c κs =
-    let read = c .before .before in
-    let b = read .before .before .args .personality .now in
-    let verdict = verdict-read b (read .load .result) _ (read .load .ensures) (c .enum-told .given .1) in
-    sound-counted (read .load .result .site) (sound-read b (read .load .result) (read .load .ensures) verdict)
+    sound-counted (c .site .result) (sound-read _ (c .site .result) (accepted (c .before)) (c .site .ensures))
 
 returns-2 : tie.Need-returns-2
 returns-2 c =
-    let read = c .before .before .before in
-    let b = read .before .before .args .personality .now in
-    let verdict = verdict-read b (read .load .result) _ (read .load .ensures) (c .before .enum-told .given .1) in
-    bound-given b (read .load .result .site) (c .wait-bound-of .result) verdict
-    (site-read b (read .load .result) (read .load .ensures) verdict)
-    (c .wait-bound-of .ensures)
+    let held = c .before in
+    bound-given _ (held .site .result) (c .wait-bound-of .result) (accepted (held .before)) (held .site .ensures) (c .wait-bound-of .ensures)
 
 pub wait-bound-spec : {M : Type 1} → statement M
 wait-bound-spec =
-    tie.close (tie.spec load-requires enum-known-verdict returns enum-told wait-bound-of-requires returns-2)
+    tie.close
+    (tie.spec
+    read-requires
+    enum-known-verdict
+    returns
+    enum-told
+    site-requires
+    wait-bound-of-requires
+    returns-2)

@@ -1,7 +1,9 @@
 -- `decoding::conflicts` meets its contract: before group g the records of the groups below g are in place, the rest is blank.
-use Prim.Native.Nat.{_-_}
+use Prim.Native.Nat.{_-_, _+_, _*_, _≤_}
+use lib.ListN.{length}
 use Rattle.rules.specs.Personality.{bodyAt, recordAt, groupCount, conflictSet}
 use Rattle.rules.specs.Site.{siteOf}
+use Rattle.decoding.proofs.Ends.{conflict-held}
 use Rattle.decoding.proofs.Filling.{Filled, filled-none, filled-more, filled-whole}
 use borrow.Author.Needs.{needs}
 use native.Mathlib.Omega.{arith}
@@ -9,34 +11,31 @@ use Rattle.decoding.proofs.conflicts.Statement.{statement}
 use Rattle.decoding.proofs.conflicts.Tie as tie
 
 abbrev Inv-loop : tie.InvT-loop
-Inv-loop s count head rows₀ g₀ rows g = Filled (conflictSet s) (groupCount s) 32 0 g rows
+Inv-loop s head count rows₀ g₀ rows g = Filled (conflictSet s) (groupCount s) 32 0 g rows
 
 abbrev μ-loop : tie.MeasureT-loop
-μ-loop s count head rows₀ g₀ rows g = count - g
+μ-loop s head count rows₀ g₀ rows g = count - g
 
-group-count-requires : tie.Need-group-count-requires Inv-loop μ-loop
-group-count-requires c κs = search needs
-
-cast-count : tie.Need-cast-count Inv-loop μ-loop
-cast-count c = search needs
-
-conflicts-head-requires : tie.Need-conflicts-head-requires Inv-loop μ-loop
-conflicts-head-requires c κs = search needs
+-- the record is in the bytes
+held :
+    (c : tie.In-loop Inv-loop μ-loop) →
+    c .before .before .before .args .head + 8 + c .before .loop .g * 4 ≤ length (c .before .before .before .args .s .now)
+held c = let asked = c .before .before .before .pre in conflict-held (asked .2) (asked .0) (asked .1) (c .loop-test .taken)
 
 loop-holds : tie.Need-loop-holds Inv-loop μ-loop
 loop-holds c = filled-none
 
-add-four : tie.Need-add-four Inv-loop μ-loop
-add-four c = search needs
+add-four-in : tie.Need-add-four-in Inv-loop μ-loop
+add-four-in c = omega (arith, held c)
 
-mul-four : tie.Need-mul-four Inv-loop μ-loop
-mul-four c = search needs
+mul-four-in : tie.Need-mul-four-in Inv-loop μ-loop
+mul-four-in c = omega (arith, held c)
 
-add-four-2 : tie.Need-add-four-2 Inv-loop μ-loop
-add-four-2 c = search needs
+add-four-in-2 : tie.Need-add-four-in-2 Inv-loop μ-loop
+add-four-in-2 c = omega (arith, held c)
 
-four-requires : tie.Need-four-requires Inv-loop μ-loop
-four-requires c κs = search needs
+four-in-requires : tie.Need-four-in-requires Inv-loop μ-loop
+four-in-requires c κs = omega (arith, held c)
 
 mul-rows : tie.Need-mul-rows Inv-loop μ-loop
 mul-rows c = search needs
@@ -55,7 +54,7 @@ unfolding conflictSet recordAt bodyAt
 loop-again c =
     filled-more
     (c .before .before .loop .inv)
-    (simp (c .four .ensures, c .before .before .before .conflicts-head .ensures .0))
+    (simp (c .four-in .ensures, c .before .before .before .before .pre .0))
     (omega arith)
     (omega arith)
 
@@ -69,14 +68,11 @@ conflicts-spec =
     (tie.spec
     Inv-loop
     μ-loop
-    group-count-requires
-    cast-count
-    conflicts-head-requires
     loop-holds
-    add-four
-    mul-four
-    add-four-2
-    four-requires
+    add-four-in
+    mul-four-in
+    add-four-in-2
+    four-in-requires
     mul-rows
     array-write-rows
     add-g

@@ -1,8 +1,10 @@
 -- `decoding::crossings` meets its contract: the pass over the groups, at its end, has found every movement.
-use Prim.Native.Nat.{_-_, _≤_}
+use Prim.Native.Nat.{_-_, _+_, _*_, _≤_}
 use mathlib.Core.Logic.{⊎-elim}
 use mathlib.Core.Path.{_≡_}
+use lib.ListN.{length}
 use Rattle.rules.specs.Personality.{bodyAt, recordAt, groupSet, groupMark}
+use Rattle.decoding.proofs.Ends.{group-held}
 use Rattle.decoding.proofs.Pedestrians.{Passed, passed-none, passed-vehicle, passed-pedestrian, room-left, passed-whole}
 use borrow.Author.Needs.{needs}
 use native.Mathlib.Omega.{arith}
@@ -10,47 +12,44 @@ use Rattle.decoding.proofs.crossings.Statement.{statement}
 use Rattle.decoding.proofs.crossings.Tie as tie
 
 abbrev Inv-loop : tie.InvT-loop
-Inv-loop s groups head sets₀ count₀ g₀ sets count g = (g ≤ groups) × Passed s g count sets
+Inv-loop s head groups sets₀ count₀ g₀ sets count g = (g ≤ groups) × Passed s g count sets
 
 abbrev μ-loop : tie.MeasureT-loop
-μ-loop s groups head sets₀ count₀ g₀ sets count g = groups - g
+μ-loop s head groups sets₀ count₀ g₀ sets count g = groups - g
 
-group-count-requires : tie.Need-group-count-requires Inv-loop μ-loop
-group-count-requires c κs = search needs
-
-cast-groups : tie.Need-cast-groups Inv-loop μ-loop
-cast-groups c = search needs
-
-groups-head-requires : tie.Need-groups-head-requires Inv-loop μ-loop
-groups-head-requires c κs = search needs
+-- the record is in the bytes
+held :
+    (c : tie.In-loop Inv-loop μ-loop) →
+    c .before .before .before .args .head + 6 + c .before .loop .g * 2 ≤ length (c .before .before .before .args .s .now)
+held c = let asked = c .before .before .before .pre in group-held (asked .2) (asked .0) (asked .1) (c .loop-test .taken)
 
 loop-holds : tie.Need-loop-holds Inv-loop μ-loop
 loop-holds c = (omega arith, passed-none _)
 
 add-place : tie.Need-add-place Inv-loop μ-loop
-add-place c = search needs
+add-place c = omega (arith, held c)
 
 mul-place : tie.Need-mul-place Inv-loop μ-loop
-mul-place c = search needs
+mul-place c = omega (arith, held c)
 
 add-place-2 : tie.Need-add-place-2 Inv-loop μ-loop
-add-place-2 c = search needs
+add-place-2 c = omega (arith, held c)
 
-add-byte : tie.Need-add-byte Inv-loop μ-loop
-add-byte c = search needs
+add-byte-in : tie.Need-add-byte-in Inv-loop μ-loop
+add-byte-in c = omega (arith, held c)
 
-byte-requires : tie.Need-byte-requires Inv-loop μ-loop
-byte-requires c κs = search needs
+byte-in-requires : tie.Need-byte-in-requires Inv-loop μ-loop
+byte-in-requires c κs = omega (arith, held c)
 
-byte-requires-2 : tie.Need-byte-requires-2 Inv-loop μ-loop
-byte-requires-2 c κs = search needs
+byte-in-requires-2 : tie.Need-byte-in-requires-2 Inv-loop μ-loop
+byte-in-requires-2 c κs = omega (arith, held (c .before .before))
 
 -- the test reads the group's mark
 mark-read :
-    (c : tie.After-byte Inv-loop μ-loop) →
-    c .byte .result ≡ groupMark (c .before .before .before .before .before .before .args .s .now) (c .before .before .loop .g)
+    (c : tie.After-byte-in Inv-loop μ-loop) →
+    c .byte-in .result ≡ groupMark (c .before .before .before .before .args .s .now) (c .before .before .loop .g)
 unfolding groupMark recordAt bodyAt
-mark-read c = simp (c .byte .ensures, c .before .before .before .groups-head .ensures .0)
+mark-read c = simp (c .byte-in .ensures, c .before .before .before .before .pre .0)
 
 array-write-sets : tie.Need-array-write-sets Inv-loop μ-loop
 array-write-sets c =
@@ -75,7 +74,7 @@ loop-again c =
           (λ w.
           rw (w .2, w .3)
           (passed-pedestrian _ passed (mark-read (c .before)) (w .0 .taken)
-          (simp (w .1 .ensures, c .before .before .before .before .groups-head .ensures .0))
+          (simp (w .1 .ensures, c .before .before .before .before .before .pre .0))
           (room-left _ passed (mark-read (c .before)) (w .0 .taken) (omega arith) (omega arith))))
           (λ w. rw (w .1, w .2) (passed-vehicle _ passed (mark-read (c .before)) (w .0 .left)))
           (c .if1 .came),
@@ -90,16 +89,13 @@ crossings-spec =
     (tie.spec
     Inv-loop
     μ-loop
-    group-count-requires
-    cast-groups
-    groups-head-requires
     loop-holds
     add-place
     mul-place
     add-place-2
-    add-byte
-    byte-requires
-    byte-requires-2
+    add-byte-in
+    byte-in-requires
+    byte-in-requires-2
     array-write-sets
     add-count
     add-g

@@ -1,7 +1,9 @@
 -- `decoding::groups` meets its contract: before group g the records of the groups below g are in place, the rest is blank.
-use Prim.Native.Nat.{_-_}
+use Prim.Native.Nat.{_-_, _+_, _*_, _≤_}
+use lib.ListN.{length}
 use Rattle.rules.specs.Personality.{bodyAt, recordAt, groupCount, groupSet, groupMark}
 use Rattle.rules.specs.Site.{noGroup, siteOf}
+use Rattle.decoding.proofs.Ends.{group-held}
 use Rattle.decoding.proofs.Filling.{Filled, filled-none, filled-more, filled-whole}
 use borrow.Author.Needs.{needs}
 use native.Mathlib.Omega.{arith}
@@ -9,41 +11,37 @@ use Rattle.decoding.proofs.groups.Statement.{statement}
 use Rattle.decoding.proofs.groups.Tie as tie
 
 abbrev Inv-loop : tie.InvT-loop
-Inv-loop s count head rows₀ g₀ rows g =
-    Filled (λ i. record { phases = groupSet s i; mark = groupMark s i }) (groupCount s) 32 noGroup g rows
+Inv-loop s head count rows₀ g₀ rows g = Filled (λ i. record { phases = groupSet s i; mark = groupMark s i }) (groupCount s) 32 noGroup g rows
 
 abbrev μ-loop : tie.MeasureT-loop
-μ-loop s count head rows₀ g₀ rows g = count - g
+μ-loop s head count rows₀ g₀ rows g = count - g
 
-group-count-requires : tie.Need-group-count-requires Inv-loop μ-loop
-group-count-requires c κs = search needs
-
-cast-count : tie.Need-cast-count Inv-loop μ-loop
-cast-count c = search needs
-
-groups-head-requires : tie.Need-groups-head-requires Inv-loop μ-loop
-groups-head-requires c κs = search needs
+-- the record is in the bytes
+held :
+    (c : tie.In-loop Inv-loop μ-loop) →
+    c .before .before .before .args .head + 6 + c .before .loop .g * 2 ≤ length (c .before .before .before .args .s .now)
+held c = let asked = c .before .before .before .pre in group-held (asked .2) (asked .0) (asked .1) (c .loop-test .taken)
 
 loop-holds : tie.Need-loop-holds Inv-loop μ-loop
 loop-holds c = filled-none
 
 add-at : tie.Need-add-at Inv-loop μ-loop
-add-at c = search needs
+add-at c = omega (arith, held c)
 
 mul-at : tie.Need-mul-at Inv-loop μ-loop
-mul-at c = search needs
+mul-at c = omega (arith, held c)
 
 add-at-2 : tie.Need-add-at-2 Inv-loop μ-loop
-add-at-2 c = search needs
+add-at-2 c = omega (arith, held c)
 
-byte-requires : tie.Need-byte-requires Inv-loop μ-loop
-byte-requires c κs = search needs
+byte-in-requires : tie.Need-byte-in-requires Inv-loop μ-loop
+byte-in-requires c κs = omega (arith, held c)
 
-add-byte : tie.Need-add-byte Inv-loop μ-loop
-add-byte c = search needs
+add-byte-in : tie.Need-add-byte-in Inv-loop μ-loop
+add-byte-in c = omega (arith, held (c .before))
 
-byte-requires-2 : tie.Need-byte-requires-2 Inv-loop μ-loop
-byte-requires-2 c κs = search needs
+byte-in-requires-2 : tie.Need-byte-in-requires-2 Inv-loop μ-loop
+byte-in-requires-2 c κs = omega (arith, held (c .before))
 
 mul-rows : tie.Need-mul-rows Inv-loop μ-loop
 mul-rows c = search needs
@@ -62,7 +60,7 @@ unfolding groupSet groupMark recordAt bodyAt
 loop-again c =
     filled-more
     (c .before .before .before .loop .inv)
-    (simp (c .byte2 .ensures, c .before .byte .ensures, c .before .before .before .before .groups-head .ensures .0))
+    (simp (c .byte-in2 .ensures, c .before .byte-in .ensures, c .before .before .before .before .before .pre .0))
     (omega arith)
     (omega arith)
 
@@ -76,16 +74,13 @@ groups-spec =
     (tie.spec
     Inv-loop
     μ-loop
-    group-count-requires
-    cast-count
-    groups-head-requires
     loop-holds
     add-at
     mul-at
     add-at-2
-    byte-requires
-    add-byte
-    byte-requires-2
+    byte-in-requires
+    add-byte-in
+    byte-in-requires-2
     mul-rows
     array-set-from-rows
     add-g

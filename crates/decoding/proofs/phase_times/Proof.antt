@@ -2,6 +2,7 @@
 use Prim.Native.Nat.{_-_}
 use Rattle.rules.specs.Personality.{phaseCount}
 use Rattle.rules.specs.Site.{noPhaseTimes, phaseTimesAt, timesIn}
+use Rattle.decoding.proofs.Ends.{phase-held}
 use Rattle.decoding.proofs.Filling.{Filled, filled-none, filled-more, filled-whole}
 use borrow.Author.Needs.{needs}
 use native.Mathlib.Omega.{arith}
@@ -14,17 +15,13 @@ Inv-loop s count phases₀ p₀ phases p = Filled (phaseTimesAt s) (phaseCount s
 abbrev μ-loop : tie.MeasureT-loop
 μ-loop s count phases₀ p₀ phases p = count - p
 
-phase-count-requires : tie.Need-phase-count-requires Inv-loop μ-loop
-phase-count-requires c κs = search needs
-
-cast-count : tie.Need-cast-count Inv-loop μ-loop
-cast-count c = search needs
-
 loop-holds : tie.Need-loop-holds Inv-loop μ-loop
 loop-holds c = filled-none
 
 phase-times-at-requires : tie.Need-phase-times-at-requires Inv-loop μ-loop
-phase-times-at-requires c κs = search needs
+phase-times-at-requires c κs =
+    let asked = c .before .before .before .pre in
+    phase-held (asked .1) (asked .0) (c .loop-test .taken)
 
 mul-phases : tie.Need-mul-phases Inv-loop μ-loop
 mul-phases c = search needs
@@ -51,8 +48,6 @@ phase-times-spec =
     (tie.spec
     Inv-loop
     μ-loop
-    phase-count-requires
-    cast-count
     loop-holds
     phase-times-at-requires
     mul-phases

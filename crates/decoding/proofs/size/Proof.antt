@@ -1,41 +1,54 @@
 -- `decoding::size` meets its contract: the counts are those of the sections, and each fits a byte.
+use mathlib.Core.Path.{ap, _∙_}
+use Rattle.rules.specs.Bytes.{twoAt}
+use Rattle.rules.specs.Personality.{bodyLength, phaseCount, groupCount, detectorCount}
 use Rattle.rules.specs.Site.{siteOf}
+use Rattle.decoding.proofs.Ends.{phases-end, detectors-end}
+use native.Mathlib.Omega.{arith}
 use borrow.Author.Needs.{needs}
 use Rattle.decoding.proofs.size.Statement.{statement}
 use Rattle.decoding.proofs.size.Tie as tie
+use Rattle.decoding.proofs.size.Reads as reads
+use Rattle.decoding.proofs.size.Lts as lts
+use Rattle.reads.proofs.byte_in.Reads as byte-in-reads
+use Rattle.reads.proofs.two_in.Reads as two-in-reads
 
-detector-count-requires : tie.Need-detector-count-requires
-detector-count-requires c κs = search needs
+-- src/lib.rt:214:9
+two-in-requires : tie.Need-two-in-requires
+two-in-requires c κs = let asked = c .before .pre in omega (arith, asked .0, detectors-end (asked .2))
 
-phase-count-requires : tie.Need-phase-count-requires
-phase-count-requires c κs = search needs
+-- src/lib.rt:216:17
+byte-in-requires : tie.Need-byte-in-requires
+byte-in-requires c κs = omega (arith, phases-end (c .before .before .pre .2))
 
-group-count-requires : tie.Need-group-count-requires
-group-count-requires c κs = search needs
+-- src/lib.rt:217:17
+byte-in-requires-2 : tie.Need-byte-in-requires-2
+byte-in-requires-2 c κs = omega (arith, phases-end (c .before .before .before .pre .2))
 
-cast-t6 : tie.Need-cast-t6
-cast-t6 c = search needs
+-- src/lib.rt:218:20
+cast-t8 : tie.Need-cast-t8
+unfolding detectorCount bodyLength
+cast-t8 c =
+    let asked = c .before .before .before .before .pre in
+    omega (arith, c .before .before .two-in .ensures ∙ ap (twoAt _) (asked .0), asked .2 .detectors)
 
-cast-t7 : tie.Need-cast-t7
-cast-t7 c = search needs
+-- src/lib.rt:219:20
+cast-t9 : tie.Need-cast-t9
+cast-t9 c = search needs
 
+-- src/lib.rt:210:1
 returns : tie.Need-returns
-unfolding siteOf
+unfolding siteOf phaseCount groupCount detectorCount bodyLength
 returns c =
     simp (
-      c .group-count .ensures,
-      c .before .phase-count .ensures,
-      c .before .before .detector-count .ensures,
+      c .byte-in2 .ensures,
+      c .before .byte-in .ensures,
+      c .before .before .two-in .ensures,
       c .before .before .before .before .pre .0,
+      c .before .before .before .before .pre .1,
     )
 
 pub size-spec : {M : Type 1} → statement M
 size-spec =
     tie.close
-    (tie.spec
-    detector-count-requires
-    phase-count-requires
-    group-count-requires
-    cast-t6
-    cast-t7
-    returns)
+    (tie.spec two-in-requires byte-in-requires byte-in-requires-2 cast-t8 cast-t9 returns)

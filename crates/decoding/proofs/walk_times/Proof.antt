@@ -2,6 +2,7 @@
 use Prim.Native.Nat.{_-_}
 use Rattle.rules.specs.Personality.{movementCount}
 use Rattle.rules.specs.Site.{noWalkTimes, walkTimesAt, timesIn}
+use Rattle.decoding.proofs.Ends.{walk-held}
 use Rattle.decoding.proofs.Filling.{Filled, filled-none, filled-more, filled-whole}
 use borrow.Author.Needs.{needs}
 use native.Mathlib.Omega.{arith}
@@ -9,19 +10,18 @@ use Rattle.decoding.proofs.walk_times.Statement.{statement}
 use Rattle.decoding.proofs.walk_times.Tie as tie
 
 abbrev Inv-loop : tie.InvT-loop
-Inv-loop s count head walks₀ k₀ walks k = Filled (walkTimesAt s) (movementCount s) 8 noWalkTimes k walks
+Inv-loop s head count walks₀ k₀ walks k = Filled (walkTimesAt s) (movementCount s) 8 noWalkTimes k walks
 
 abbrev μ-loop : tie.MeasureT-loop
-μ-loop s count head walks₀ k₀ walks k = count - k
-
-pedestrians-head-requires : tie.Need-pedestrians-head-requires Inv-loop μ-loop
-pedestrians-head-requires c κs = search needs
+μ-loop s head count walks₀ k₀ walks k = count - k
 
 loop-holds : tie.Need-loop-holds Inv-loop μ-loop
 loop-holds c = filled-none
 
 walk-times-at-requires : tie.Need-walk-times-at-requires Inv-loop μ-loop
-walk-times-at-requires c κs = search needs
+walk-times-at-requires c κs =
+    let asked = c .before .before .before .pre in
+    (asked .0, walk-held (asked .2) (asked .0) (asked .1) (c .loop-test .taken))
 
 mul-walks : tie.Need-mul-walks Inv-loop μ-loop
 mul-walks c = search needs
@@ -48,7 +48,6 @@ walk-times-spec =
     (tie.spec
     Inv-loop
     μ-loop
-    pedestrians-head-requires
     loop-holds
     walk-times-at-requires
     mul-walks

@@ -17,8 +17,8 @@ returns c =
     let looked = c .before .before .before .section-report in
     section-refused _ _ (looked .result) (looked .ensures) (c .before .if1 .taken) _ (c .refusal .ensures)
 
-head-requires : tie.Need-head-requires
-head-requires c κs = search needs
+head-of-requires : tie.Need-head-of-requires
+head-of-requires c κs = search needs
 
 add-part : tie.Need-add-part
 add-part c = search needs
@@ -33,7 +33,7 @@ returns-2 : tie.Need-returns-2
 returns-2 c =
     let start = c .before .before in
     let looked = start .before .before .before .section-report in
-    section-found _ _ (looked .result) (looked .ensures) _ _ _ (start .before .if1 .left) (start .head .ensures .0) (c .before .two .ensures)
+    section-found _ _ (looked .result) (looked .ensures) _ _ _ (start .before .if1 .left) (start .head-of .ensures .0) (c .before .two .ensures)
     (c .part .ensures)
 
 pub willowera-section-spec : {M : Type 1} → statement M
@@ -43,7 +43,7 @@ willowera-section-spec =
     section-report-requires
     refusal-requires
     returns
-    head-requires
+    head-of-requires
     add-part
     two-requires
     part-requires
