@@ -6,7 +6,7 @@ ghost use Rattle.rules.specs.Personality.{sectionAt};
 pub mod heads;
 pub mod times;
 
-use reads::two;
+use reads::two_in;
 use rules::answer::Verdict;
 
 // A section's head, and that its body is there: 1, 2, 3, 1, all at the head.
@@ -20,7 +20,7 @@ pub fn section(s: &[u8], head: usize, kind: u16, right: bool) -> Verdict
             place: head,
         };
     }
-    if two(s, head + 2) != kind {
+    if two_in(s, head + 2) != kind {
         return Verdict::Refused {
             number: 2,
             place: head,
@@ -32,7 +32,7 @@ pub fn section(s: &[u8], head: usize, kind: u16, right: bool) -> Verdict
             place: head,
         };
     }
-    if s.len() < head + 4 + (two(s, head) as usize) {
+    if s.len() < head + 4 + (two_in(s, head) as usize) {
         return Verdict::Refused {
             number: 1,
             place: head,
