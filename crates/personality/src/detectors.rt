@@ -1,41 +1,38 @@
 // Kind 5: the detectors, each with its phase and its mode.
-ghost use Prim.Native.Nat.{_≤_};
+ghost use Prim.Native.Nat.{_+_, _*_, _≤_};
+ghost use mathlib.Core.Bool.{not, _||_};
 ghost use mathlib.Core.Path.{_≡_};
+ghost use lib.Dec.{leb};
+ghost use lib.ListN.{length};
 ghost use Rattle.rules.specs.Verdicts.{refuseIf, firstOf};
-ghost use Rattle.rules.specs.Personality.{recordAt, detectorsHead, detectorCount, badDetector, detectorsSection};
-use reads::byte;
+ghost use Rattle.rules.specs.Personality.{recordAt, phaseCount, detectorsHead, detectorCount, knownMode, badDetector, detectorsSection};
+use reads::byte_in;
 use reads::two;
 use rules::answer::Verdict;
 use sections::heads::detectors_head;
 use sections::heads::phase_count;
 use sections::section;
 
-// A phase at or above P, or a mode not 0, 1, 2, 4, 5, 6.
-fn bad_detector(s: &[u8], d: usize) -> bool
-    requires { ⌜ d ≤ 32767 ⌝ }
-    ensures { λ r. ⌜ r ≡ badDetector (now (s .entry)) d ⌝ }
+// A phase at or above P, or a mode not 0, 1, 2, 4, 5, 6. Without the bit that 4 is, a known mode is 0, 1 or 2.
+fn bad_detector(phase: u8, mode: u8, phases: u8) -> bool
+    ensures { λ r. ⌜ r ≡ (leb phases phase || not (knownMode mode)) ⌝ }
 {
-    let place = detectors_head(s) + 4 + d * 2;
-    let phase = byte(s, place);
-    let mode = byte(s, place + 1);
-    (phase_count(s) <= phase) | !((mode % 4 < 3) & (mode / 4 < 2))
+    (phases <= phase) | (3 <= mode & 251)
 }
 
-// 11: the first bad detector record.
-fn detector_records(s: &[u8]) -> Verdict
+// 11: the first bad detector record, where all of them are in the slice.
+fn detector_records(s: &[u8], head: usize, phases: u8, count: usize) -> Verdict
+    requires { ⌜ (head ≡ detectorsHead (now s)) × (phases ≡ phaseCount (now s)) × (count ≡ detectorCount (now s))
+        × (head ≤ 10000) × (count ≤ 32767) × (head + 4 + count * 2 ≤ length (now s)) ⌝ }
     ensures { λ r. ⌜ r ≡ firstOf
         (λ d. refuseIf (badDetector (now (s .entry)) d) 11 (recordAt (detectorsHead (now (s .entry))) 2 d))
         (detectorCount (now (s .entry))) ⌝ }
 {
-    let head = detectors_head(s);
-    let count = (two(s, head) / 2) as usize;
     let mut d: usize = 0;
     while d < count {
-        if bad_detector(s, d) {
-            return Verdict::Refused {
-                number: 11,
-                place: head + 4 + d * 2,
-            };
+        let place = head + 4 + d * 2;
+        if bad_detector(byte_in(s, place), byte_in(s, place + 1), phases) {
+            return Verdict::Refused { number: 11, place };
         }
         d += 1;
     }
@@ -52,5 +49,5 @@ pub fn detectors_section(s: &[u8]) -> Verdict
     if let Verdict::Refused { .. } = head {
         return head;
     }
-    detector_records(s)
+    detector_records(s, place, phase_count(s), (length / 2) as usize)
 }

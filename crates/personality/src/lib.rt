@@ -10,6 +10,7 @@ use conflicts::conflicts_section;
 use detectors::detectors_section;
 use groups::records::groups_section;
 use pedestrians::after_pedestrians;
+use pedestrians::movement_count;
 use pedestrians::pedestrians_section;
 use rules::answer::Verdict;
 use site::phases_section;
@@ -38,9 +39,10 @@ pub fn read(personality: &[u8]) -> Verdict
     if let Verdict::Refused { .. } = detectors {
         return detectors;
     }
-    let pedestrians = pedestrians_section(personality);
+    let count = movement_count(personality);
+    let pedestrians = pedestrians_section(personality, count);
     if let Verdict::Refused { .. } = pedestrians {
         return pedestrians;
     }
-    after_pedestrians(personality)
+    after_pedestrians(personality, count)
 }

@@ -137,8 +137,13 @@ returns-5 c =
 enum-told-10 : tie.Need-enum-told-10
 enum-told-10 c = search needs
 
+movement-count-requires : tie.Need-movement-count-requires
+movement-count-requires c κs =
+    let groupsPassed = c .before .before .before .before .before .before in
+    sym (groupsPassed .before .before .groups-section .ensures) ∙ groupsPassed .enum-told6 .given .1
+
 pedestrians-section-requires : tie.Need-pedestrians-section-requires
-pedestrians-section-requires c κs = search needs
+pedestrians-section-requires c κs = c .movement-count .ensures
 
 enum-told-11 : tie.Need-enum-told-11
 enum-told-11 c = search needs
@@ -156,24 +161,24 @@ afterDetectors c e =
 
 returns-6 : tie.Need-returns-6
 returns-6 c =
-    afterDetectors (c .before .before .before)
+    afterDetectors (c .before .before .before .before)
     (or-stop _ (c .before .before .pedestrians-section .ensures) (c .enum-told11 .given .1))
 
 enum-told-12 : tie.Need-enum-told-12
 enum-told-12 c = search needs
 
 after-pedestrians-requires : tie.Need-after-pedestrians-requires
-after-pedestrians-requires c κs = search needs
+after-pedestrians-requires c κs = c .before .before .before .movement-count .ensures
 
 -- kind 6 has passed: the answer is that of what follows
 afterKind6 :
     (c : tie.After-enum-told12) {v : Verdict} →
-    let groupsPassed = c .before .before .before .before .before .before .before .before .before in
+    let groupsPassed = c .before .before .before .before .before .before .before .before .before .before in
     let b = groupsPassed .before .before .before .before .before .before .before .before .before .before .args .personality .now in
     v ≡ afterPedestrians b →
     v ≡ verdictOf b
 afterKind6 c e =
-    afterDetectors (c .before .before .before)
+    afterDetectors (c .before .before .before .before)
     (or-next (c .before .before .pedestrians-section .ensures) (c .enum-told12 .given .1) e)
 
 returns-7 : tie.Need-returns-7
@@ -203,6 +208,7 @@ read-spec =
     enum-told-9
     returns-5
     enum-told-10
+    movement-count-requires
     pedestrians-section-requires
     enum-told-11
     returns-6

@@ -1,10 +1,12 @@
 -- `detectors::detectors_section` meets its contract: head, then the records.
-use Prim.Native.Nat.{_%_}
+use Prim.Native.Nat.{_/_, _%_}
 use mathlib.Core.Bool.{_&&_}
-use mathlib.Core.Path.{_≡_}
+use mathlib.Core.Path.{_≡_, ap, sym, _∙_}
+use native.Mathlib.Omega.{arith}
 use lib.Dec.{eqb, leb}
 use borrow.Author.Needs.{needs}
-use Rattle.rules.specs.Personality.{bodyLength, detectorsHead, sectionAt, detectorsSection}
+use Rattle.rules.specs.Personality.{bodyAt, bodyLength, detectorsHead, detectorCount, sectionAt, detectorsSection}
+use Rattle.proof_acceptance.proofs.Sections.{body-held}
 use Rattle.sections.proofs.Firsts.{or-next, or-stop}
 use Rattle.personality.proofs.detectors.detectors_section.Statement.{statement}
 use Rattle.personality.proofs.detectors.detectors_section.Tie as tie
@@ -37,13 +39,32 @@ returns c = or-stop _ (checked (c .before .before)) (c .enum-told .given .1)
 enum-told-2 : tie.Need-enum-told-2
 enum-told-2 c = search needs
 
+phase-count-requires : tie.Need-phase-count-requires
+phase-count-requires c κs = search needs
+
+cast-detector-records : tie.Need-cast-detector-records
+cast-detector-records c = search needs
+
 detector-records-requires : tie.Need-detector-records-requires
-detector-records-requires c κs = search needs
+unfolding detectorCount bodyLength bodyAt
+detector-records-requires c κs =
+    let atSection = c .before .before .before in
+    let atTwo = atSection .before in
+    let b = atTwo .before .before .before .args .s .now in
+    let read : atTwo .two .result ≡ bodyLength b (detectorsHead b) = cc in
+    let held = body-held b (detectorsHead b) 5 _ (sym (checked atSection) ∙ c .before .enum-told2 .given .1) .1 in (
+      atTwo .before .detectors-head .ensures .0,
+      c .phase-count .ensures,
+      ap (λ n. n / 2) read,
+      omega arith,
+      omega arith,
+      omega (arith, held),
+    )
 
 returns-2 : tie.Need-returns-2
 unfolding detectorsSection
 returns-2 c =
-    let headPassed = c .before in
+    let headPassed = c .before .before in
     or-next (checked (headPassed .before .before)) (headPassed .enum-told2 .given .1) (c .detector-records .ensures)
 
 pub detectors-section-spec : {M : Type 1} → statement M
@@ -56,5 +77,7 @@ detectors-section-spec =
     enum-told
     returns
     enum-told-2
+    phase-count-requires
+    cast-detector-records
     detector-records-requires
     returns-2)

@@ -1,18 +1,17 @@
 -- `pedestrians::pedestrians_section` meets its contract: head, then the records of times.
 use Prim.Native.Nat.{_*_}
-use mathlib.Core.Path.{_≡_}
+use mathlib.Core.Path.{_≡_, sym, _∙_}
+use native.Mathlib.Omega.{arith}
 use lib.Dec.{eqb}
 use borrow.Author.Needs.{needs}
-use Rattle.rules.specs.Personality.{bodyLength, pedestriansHead, movementCount, sectionAt, pedestriansSection}
+use Rattle.rules.specs.Personality.{bodyLength, bodyAt, pedestriansHead, movementCount, sectionAt, pedestriansSection}
+use Rattle.proof_acceptance.proofs.Sections.{records-held}
 use Rattle.sections.proofs.Firsts.{or-next, or-stop}
 use Rattle.personality.proofs.pedestrians.pedestrians_section.Statement.{statement}
 use Rattle.personality.proofs.pedestrians.pedestrians_section.Tie as tie
 
 pedestrians-head-requires : tie.Need-pedestrians-head-requires
 pedestrians-head-requires c κs = search needs
-
-movement-count-requires : tie.Need-movement-count-requires
-movement-count-requires c κs = search needs
 
 two-requires : tie.Need-two-requires
 two-requires c κs = search needs
@@ -32,7 +31,7 @@ enum-told c = search needs
 -- the head is held to the length that the pedestrian groups need
 checked :
     (c : tie.After-section) →
-    let b = c .before .before .before .before .before .args .s .now in
+    let b = c .before .before .before .before .args .s .now in
     c .section .result ≡ sectionAt b (pedestriansHead b) 6 (eqb (bodyLength b (pedestriansHead b)) (movementCount b * 6))
 unfolding bodyLength
 checked c = cc
@@ -45,22 +44,25 @@ enum-told-2 : tie.Need-enum-told-2
 enum-told-2 c = search needs
 
 time-records-requires : tie.Need-time-records-requires
-time-records-requires c κs = search needs
+unfolding bodyAt
+time-records-requires c κs =
+    let atSection = c .before .before in
+    let b = atSection .before .before .before .before .args .s .now in
+    omega (arith, records-held b (pedestriansHead b) 6 (movementCount b) 6 (sym (checked atSection) ∙ c .enum-told2 .given .1))
 
 returns-2 : tie.Need-returns-2
 unfolding pedestriansSection
 returns-2 c =
     let headPassed = c .before in
-    let atCount = headPassed .before .before .before .before in
+    let atHead = headPassed .before .before .before .before in
     or-next (checked (headPassed .before .before)) (headPassed .enum-told2 .given .1)
-    (rw (atCount .before .pedestrians-head .ensures .0, atCount .movement-count .ensures .0) at (c .time-records .ensures))
+    (rw (atHead .pedestrians-head .ensures .0, atHead .before .before .pre) at (c .time-records .ensures))
 
 pub pedestrians-section-spec : {M : Type 1} → statement M
 pedestrians-section-spec =
     tie.close
     (tie.spec
     pedestrians-head-requires
-    movement-count-requires
     two-requires
     cast-section
     mul-section

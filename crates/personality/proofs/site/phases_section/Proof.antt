@@ -1,9 +1,11 @@
 -- `site::phases_section` meets its contract: head, then the records of times.
 use Prim.Native.Nat.{_*_}
-use mathlib.Core.Path.{_≡_}
+use mathlib.Core.Path.{_≡_, sym, _∙_}
+use native.Mathlib.Omega.{arith}
 use lib.Dec.{eqb}
 use borrow.Author.Needs.{needs}
-use Rattle.rules.specs.Personality.{bodyLength, phasesHead, phaseCount, sectionAt, phasesSection}
+use Rattle.rules.specs.Personality.{bodyLength, bodyAt, phasesHead, phaseCount, sectionAt, phasesSection}
+use Rattle.proof_acceptance.proofs.Sections.{records-held}
 use Rattle.sections.proofs.Firsts.{or-next, or-stop}
 use Rattle.personality.proofs.site.phases_section.Statement.{statement}
 use Rattle.personality.proofs.site.phases_section.Tie as tie
@@ -45,7 +47,11 @@ enum-told-2 : tie.Need-enum-told-2
 enum-told-2 c = search needs
 
 time-records-requires : tie.Need-time-records-requires
-time-records-requires c κs = search needs
+unfolding bodyAt
+time-records-requires c κs =
+    let atSection = c .before .before in
+    let b = atSection .before .before .before .before .args .s .now in
+    omega (arith, records-held b phasesHead 2 (phaseCount b) 12 (sym (checked atSection) ∙ c .enum-told2 .given .1))
 
 returns-2 : tie.Need-returns-2
 unfolding phasesSection

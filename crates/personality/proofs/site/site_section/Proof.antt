@@ -1,9 +1,11 @@
 -- `site::site_section` meets its contract: head, the two counts and start red in order, the first refusal being the answer.
 use mathlib.Core.Bool.{Bool, not, _&&_}
-use mathlib.Core.Path.{_≡_, refl}
+use mathlib.Core.Path.{_≡_, refl, sym, _∙_}
+use native.Mathlib.Omega.{arith}
 use lib.Dec.{eqb, leb}
 use borrow.Author.Needs.{needs}
-use Rattle.rules.specs.Personality.{bodyLength, siteHead, phaseCount, groupCount, sectionAt, siteSection}
+use Rattle.rules.specs.Personality.{bodyLength, bodyAt, siteHead, phaseCount, groupCount, sectionAt, siteSection}
+use Rattle.proof_acceptance.proofs.Sections.{records-held}
 use Rattle.sections.proofs.Firsts.{refuse-yes, refuse-no, or-next, or-stop}
 use Rattle.personality.proofs.site.site_section.Statement.{statement}
 use Rattle.personality.proofs.site.site_section.Tie as tie
@@ -70,7 +72,11 @@ returns-3 c =
     (or-stop _ (refuse-yes 4 5 (groups (c .before) (c .if2 .taken))) refl))
 
 time-requires : tie.Need-time-requires
-time-requires c κs = search needs
+unfolding bodyAt
+time-requires c κs =
+    let headPassed = c .before .before .before .before in
+    let b = headPassed .before .before .before .before .before .args .s .now in
+    omega (arith, records-held b siteHead 1 1 4 (sym (checked (headPassed .before .before)) ∙ headPassed .enum-told2 .given .1))
 
 returns-4 : tie.Need-returns-4
 unfolding siteSection
