@@ -1,7 +1,8 @@
 // What the sections of a personality have in common: where their heads stand, the check of a head with its body, and records of times.
 ghost use Prim.Native.Nat.{_≤_};
 ghost use mathlib.Core.Path.{_≡_};
-ghost use Rattle.rules.specs.Personality.{sectionAt};
+ghost use lib.Dec.{eqb};
+ghost use Rattle.rules.specs.Personality.{bodyLength, sectionAt};
 
 pub mod heads;
 pub mod times;
@@ -39,4 +40,18 @@ pub fn section(s: &[u8], head: usize, kind: u16, right: bool) -> Verdict
         };
     }
     Verdict::Accepted
+}
+
+// The same where the body has to be of just so many bytes.
+pub fn section_of(s: &[u8], head: usize, kind: u16, bytes: usize) -> Verdict
+    requires { ⌜ head ≤ 100000 ⌝ }
+    ensures { λ r. ⌜ r ≡ sectionAt (now (s .entry)) head kind (eqb (bodyLength (now (s .entry)) head) bytes) ⌝ }
+{
+    if s.len() < head + 4 {
+        return Verdict::Refused {
+            number: 1,
+            place: head,
+        };
+    }
+    section(s, head, kind, two_in(s, head) as usize == bytes)
 }
