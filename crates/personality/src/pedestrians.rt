@@ -1,18 +1,19 @@
 // Kind 6: the times of the pedestrian movements, and what may follow them.
+ghost use Prim.Native.Nat.{_≤_};
 ghost use mathlib.Core.Path.{_≡_};
 ghost use Rattle.rules.specs.declared.answer.Verdict.the-variants.{Accepted};
-ghost use Rattle.rules.specs.Personality.{movementCount, groupsSection, pedestriansSection, afterPedestrians};
+ghost use Rattle.rules.specs.Verdicts.{_orElse_};
+ghost use Rattle.rules.specs.Personality.{pedestriansHead, movementCount, groupsSection, pedestriansSection, afterPedestrians};
 use reads::byte_in;
-use reads::two;
 use rules::answer::Verdict;
 use sections::heads::group_count;
 use sections::heads::groups_head;
 use sections::heads::pedestrians_head;
-use sections::section;
+use sections::section_of;
 use sections::times::time_records;
 
 // How many pedestrian movements the site has: one for each pedestrian group. Kind 3 has been accepted, so every mark is in the slice.
-pub fn movement_count(s: &[u8]) -> u8
+fn movement_count(s: &[u8]) -> u8
     requires { ⌜ groupsSection (now s) ≡ Accepted ⌝ }
     ensures { λ r. ⌜ r ≡ movementCount (now (s .entry)) ⌝ }
 {
@@ -27,28 +28,40 @@ pub fn movement_count(s: &[u8]) -> u8
     count
 }
 
-// A record of W, C1, C2 for each pedestrian group, of which there are as many as count says.
-pub fn pedestrians_section(s: &[u8], count: u8) -> Verdict
-    requires { ⌜ count ≡ movementCount (now s) ⌝ }
+// A record of W, C1, C2 for each pedestrian group; place is that of the head, and count how many there are.
+fn pedestrians_section(s: &[u8], place: usize, count: usize) -> Verdict
+    requires { ⌜ (place ≡ pedestriansHead (now s)) × (count ≡ movementCount (now s)) × (place ≤ 70149) × (count ≤ 255) ⌝ }
     ensures { λ r. ⌜ r ≡ pedestriansSection (now (s .entry)) ⌝ }
 {
-    let place = pedestrians_head(s);
-    let records = count as usize;
-    let head = section(s, place, 6, two(s, place) as usize == records * 6);
+    let head = section_of(s, place, 6, count * 6);
     if let Verdict::Refused { .. } = head {
         return head;
     }
-    time_records(s, place, 7, 3, records)
+    time_records(s, place, 7, 3, count)
 }
 
 // 12: bytes left over after kind 6.
-pub fn after_pedestrians(s: &[u8], count: u8) -> Verdict
-    requires { ⌜ count ≡ movementCount (now s) ⌝ }
+fn after_pedestrians(s: &[u8], place: usize, count: usize) -> Verdict
+    requires { ⌜ (place ≡ pedestriansHead (now s)) × (count ≡ movementCount (now s)) × (place ≤ 70149) × (count ≤ 255) ⌝ }
     ensures { λ r. ⌜ r ≡ afterPedestrians (now (s .entry)) ⌝ }
 {
-    let place = pedestrians_head(s) + 4 + (count as usize) * 6;
+    let place = place + 4 + count * 6;
     if place < s.len() {
         return Verdict::Refused { number: 12, place };
     }
     Verdict::Accepted
+}
+
+// Kind 6 and what follows it, after kind 3 has been accepted. The head and the movements are sought once for both.
+pub fn from_pedestrians(s: &[u8]) -> Verdict
+    requires { ⌜ groupsSection (now s) ≡ Accepted ⌝ }
+    ensures { λ r. ⌜ r ≡ (pedestriansSection (now (s .entry)) orElse afterPedestrians (now (s .entry))) ⌝ }
+{
+    let place = pedestrians_head(s);
+    let count = movement_count(s) as usize;
+    let pedestrians = pedestrians_section(s, place, count);
+    if let Verdict::Refused { .. } = pedestrians {
+        return pedestrians;
+    }
+    after_pedestrians(s, place, count)
 }

@@ -1,7 +1,8 @@
--- `detectors::detector_records` meets its contract: the bytes read are those of record d. The invariant: no record before d is bad.
+-- `detectors::detector_records` meets its contract: the bytes read are those of record d. The invariant: no
+-- record before d is bad.
 use Prim.Native.Nat.{_+_, _*_, _-_, _≤_}
 use mathlib.Core.Bool.{not, _||_}
-use mathlib.Core.Path.{_≡_, refl, sym, _∙_}
+use mathlib.Core.Path.{_≡_, sym, _∙_}
 use native.Mathlib.Omega.{arith}
 use lib.Dec.{leb}
 use borrow.Author.Needs.{needs}
@@ -21,9 +22,11 @@ Inv-loop s head phases count d₀ d =
 abbrev μ-loop : tie.MeasureT-loop
 μ-loop s head phases count d₀ d = count - d
 
+good-fours-requires : tie.Need-good-fours-requires Inv-loop μ-loop
+good-fours-requires c κs = search needs
+
 loop-holds : tie.Need-loop-holds Inv-loop μ-loop
-unfolding firstOf
-loop-holds c = (omega arith, refl)
+loop-holds c = c .good-fours .ensures
 
 add-place : tie.Need-add-place Inv-loop μ-loop
 add-place c = search needs
@@ -50,18 +53,18 @@ bad-detector-requires c κs = search needs
 tested :
     (c : tie.After-bad-detector Inv-loop μ-loop) →
     let atLoop = c .before .before .before .before in
-    c .bad-detector .result ≡ badDetector (atLoop .before .before .args .s .now) (atLoop .loop .d)
+    c .bad-detector .result ≡ badDetector (atLoop .before .before .before .args .s .now) (atLoop .loop .d)
 unfolding badDetector detectorPhase detectorMode recordAt bodyAt
 tested c =
     let atLoop = c .before .before .before .before in
-    let atStart = atLoop .before .before in
+    let atStart = atLoop .before .before .before in
     rw (← atStart .pre .0, ← atStart .pre .1, ← c .before .before .byte-in .ensures, ← c .before .byte-in2 .ensures) (c .bad-detector .ensures)
 
 returns : tie.Need-returns Inv-loop μ-loop
 unfolding recordAt bodyAt
 returns c =
     let atLoop = c .before .before .before .before .before in
-    let atStart = atLoop .before .before in
+    let atStart = atLoop .before .before .before in
     bad-stop _ _ _ _ (atLoop .loop .d) (omega arith) (atLoop .loop .inv .1) (sym (tested (c .before)) ∙ c .if1 .taken) (omega arith)
 
 add-d : tie.Need-add-d Inv-loop μ-loop
@@ -84,6 +87,7 @@ detector-records-spec =
     (tie.spec
     Inv-loop
     μ-loop
+    good-fours-requires
     loop-holds
     add-place
     mul-place

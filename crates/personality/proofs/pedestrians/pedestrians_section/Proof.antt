@@ -10,31 +10,21 @@ use Rattle.sections.proofs.Firsts.{or-next, or-stop}
 use Rattle.personality.proofs.pedestrians.pedestrians_section.Statement.{statement}
 use Rattle.personality.proofs.pedestrians.pedestrians_section.Tie as tie
 
-pedestrians-head-requires : tie.Need-pedestrians-head-requires
-pedestrians-head-requires c κs = search needs
+mul-section-of : tie.Need-mul-section-of
+mul-section-of c = search needs
 
-two-requires : tie.Need-two-requires
-two-requires c κs = search needs
-
-cast-section : tie.Need-cast-section
-cast-section c = search needs
-
-mul-section : tie.Need-mul-section
-mul-section c = search needs
-
-section-requires : tie.Need-section-requires
-section-requires c κs = search needs
+section-of-requires : tie.Need-section-of-requires
+section-of-requires c κs = search needs
 
 enum-told : tie.Need-enum-told
 enum-told c = search needs
 
 -- the head is held to the length that the pedestrian groups need
 checked :
-    (c : tie.After-section) →
-    let b = c .before .before .before .before .args .s .now in
-    c .section .result ≡ sectionAt b (pedestriansHead b) 6 (eqb (bodyLength b (pedestriansHead b)) (movementCount b * 6))
-unfolding bodyLength
-checked c = cc
+    (c : tie.After-section-of) →
+    let b = c .before .before .args .s .now in
+    c .section-of .result ≡ sectionAt b (pedestriansHead b) 6 (eqb (bodyLength b (pedestriansHead b)) (movementCount b * 6))
+checked c = let at = c .before .before in rw (at .pre .0, at .pre .1) at (c .section-of .ensures)
 
 returns : tie.Need-returns
 unfolding pedestriansSection
@@ -47,26 +37,23 @@ time-records-requires : tie.Need-time-records-requires
 unfolding bodyAt
 time-records-requires c κs =
     let atSection = c .before .before in
-    let b = atSection .before .before .before .before .args .s .now in
+    let b = atSection .before .before .args .s .now in
     omega (arith, records-held b (pedestriansHead b) 6 (movementCount b) 6 (sym (checked atSection) ∙ c .enum-told2 .given .1))
 
 returns-2 : tie.Need-returns-2
 unfolding pedestriansSection
 returns-2 c =
     let headPassed = c .before in
-    let atHead = headPassed .before .before .before .before in
+    let atStart = headPassed .before .before .before .before in
     or-next (checked (headPassed .before .before)) (headPassed .enum-told2 .given .1)
-    (rw (atHead .pedestrians-head .ensures .0, atHead .before .before .pre) at (c .time-records .ensures))
+    (rw (atStart .pre .0, atStart .pre .1) at (c .time-records .ensures))
 
 pub pedestrians-section-spec : {M : Type 1} → statement M
 pedestrians-section-spec =
     tie.close
     (tie.spec
-    pedestrians-head-requires
-    two-requires
-    cast-section
-    mul-section
-    section-requires
+    mul-section-of
+    section-of-requires
     enum-told
     returns
     enum-told-2

@@ -16,28 +16,21 @@ phase-count-requires c κs = search needs
 cast-count : tie.Need-cast-count
 cast-count c = search needs
 
-two-requires : tie.Need-two-requires
-two-requires c κs = search needs
+mul-section-of : tie.Need-mul-section-of
+mul-section-of c = search needs
 
-cast-section : tie.Need-cast-section
-cast-section c = search needs
-
-mul-section : tie.Need-mul-section
-mul-section c = search needs
-
-section-requires : tie.Need-section-requires
-section-requires c κs = search needs
+section-of-requires : tie.Need-section-of-requires
+section-of-requires c κs = search needs
 
 enum-told : tie.Need-enum-told
 enum-told c = search needs
 
 -- the head is held to the length that P needs
 checked :
-    (c : tie.After-section) →
-    let b = c .before .before .before .before .args .s .now in
-    c .section .result ≡ sectionAt b phasesHead 2 (eqb (bodyLength b phasesHead) (phaseCount b * 12))
-unfolding bodyLength
-checked c = cc
+    (c : tie.After-section-of) →
+    let b = c .before .before .before .args .s .now in
+    c .section-of .result ≡ sectionAt b phasesHead 2 (eqb (bodyLength b phasesHead) (phaseCount b * 12))
+checked c = rw (c .before .phase-count .ensures) at (c .section-of .ensures)
 
 returns : tie.Need-returns
 unfolding phasesSection
@@ -50,14 +43,14 @@ time-records-requires : tie.Need-time-records-requires
 unfolding bodyAt
 time-records-requires c κs =
     let atSection = c .before .before in
-    let b = atSection .before .before .before .before .args .s .now in
+    let b = atSection .before .before .before .args .s .now in
     omega (arith, records-held b phasesHead 2 (phaseCount b) 12 (sym (checked atSection) ∙ c .enum-told2 .given .1))
 
 returns-2 : tie.Need-returns-2
 unfolding phasesSection
 returns-2 c =
     let headPassed = c .before in
-    let atCount = headPassed .before .before .before .before in
+    let atCount = headPassed .before .before .before in
     or-next (checked (headPassed .before .before)) (headPassed .enum-told2 .given .1)
     (rw (atCount .phase-count .ensures) at (c .time-records .ensures))
 
@@ -67,10 +60,8 @@ phases-section-spec =
     (tie.spec
     phase-count-requires
     cast-count
-    two-requires
-    cast-section
-    mul-section
-    section-requires
+    mul-section-of
+    section-of-requires
     enum-told
     returns
     enum-told-2
