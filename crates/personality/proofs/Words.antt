@@ -24,27 +24,13 @@ Passes x h m l = (bitAnd x h ≡ 0) × (bitAnd (bitAnd x m + l) h ≡ 0)
 pub both-tests : (x h m l : ℕ) → (eqb (bitAnd x h) 0 && eqb (bitAnd (bitAnd x m + l) h) 0) ≡ true → Passes x h m l
 both-tests x h m l t = (eqb-true _ _ (and-left (eqb (bitAnd x h) 0) _ t), eqb-true _ _ (and-right (eqb (bitAnd x h) 0) _ t))
 
--- ── A number of several records: the lowest, and the rest ──
+passes-as : {x y l k : ℕ} (h m : ℕ) → x ≡ y → l ≡ k → Passes x h m l → Passes y h m k
+passes-as h m e f p = rw (← e, ← f) p
 
-pub lowest-passes :
-    (rest w H h M m L l : ℕ) →
-    w < 65536 →
-    h < 65536 →
-    m < 65536 →
-    bitAnd w m + l < 65536 →
-    Passes (rest * 65536 + w) (H * 65536 + h) (M * 65536 + m) (L * 65536 + l) →
-    Passes w h m l × Passes rest H M L
-lowest-passes rest w H h M m L l a b c d p =
-    let split = and-block 16 rest H w h a b in
-    let masked = and-block 16 rest M w m a c in
-    let raised :
-    bitAnd (rest * 65536 + w) (M * 65536 + m) + (L * 65536 + l) ≡ (bitAnd rest M + L) * 65536 + (bitAnd w m + l) = omega (arith, masked) in
-    let met = and-block 16 (bitAnd rest M + L) H (bitAnd w m + l) h d b in
-    let second = sym (ap (λ x. bitAnd x (H * 65536 + h)) raised ∙ met) ∙ p .1 in
-    let first = sym split ∙ p .0 in
-    ((omega (arith, first), omega (arith, second)), (omega (arith, first), omega (arith, second)))
+-- ── One record: its phase and its mode ──
 
--- ── One record ──
+abbrev RecordPasses : ℕ → ℕ → Type 0
+RecordPasses w l = Passes w 0x8080 0x7b7f l
 
 high-clear : (a : ℕ) → a < 256 → bitAnd a 128 ≡ 0 → a < 128
 high-clear a l e =
@@ -52,45 +38,60 @@ high-clear a l e =
     let high : bitAnd a 128 ≡ (a / 128 % 2) * 128 = and-high a 1 7 in
     omega arith
 
-pub record-good :
+record-good :
     (p m P : ℕ) →
     p < 256 →
     m < 256 →
     P ≤ 7 →
-    Passes (m * 256 + p) 32896 31615 (32128 - P) →
+    RecordPasses (m * 256 + p) (0x7d80 - P) →
     (leb P p || not (knownMode m)) ≡ false
 record-good p m P a b c f =
     let bytes = sym (and-block 8 m 128 p 128 a (omega arith)) ∙ f .0 in
-    let lowP : p < 128 = high-clear p a (omega (arith, bytes)) in
-    let lowM : m < 128 = high-clear m b (omega (arith, bytes)) in
+    let phaseLow : p < 128 = high-clear p a (omega (arith, bytes)) in
+    let modeLow : m < 128 = high-clear m b (omega (arith, bytes)) in
     let masked = and-block 8 m 123 p 127 a (omega arith) in
     let whole : bitAnd p 127 ≡ p = and-mask p 7 ∙ omega arith in
     let few = and-le-r m 123 in
-    let raised : bitAnd (m * 256 + p) 31615 + (32128 - P) ≡ (bitAnd m 123 + 125) * 256 + (p + (128 - P)) = omega (arith, masked, whole) in
+    let raised : bitAnd (m * 256 + p) 0x7b7f + (0x7d80 - P) ≡ (bitAnd m 123 + 125) * 256 + (p + (128 - P)) = omega (arith, masked) in
     let met = and-block 8 (bitAnd m 123 + 125) 128 (p + (128 - P)) 128 (omega arith) (omega arith) in
-    let sums = sym (ap (λ x. bitAnd x 32896) raised ∙ met) ∙ f .1 in
+    let sums = sym (ap (λ x. bitAnd x 0x8080) raised ∙ met) ∙ f .1 in
     let phase : p + (128 - P) < 128 = high-clear (p + (128 - P)) (omega arith) (omega (arith, sums)) in
-    let mode : bitAnd m 123 + 125 < 128 = high-clear (bitAnd m 123 + 125) (omega (arith, few)) (omega (arith, sums)) in
-    or-false-both (lt-leb P p (omega arith)) (sym (mode-low-bits m lowM) ∙ lt-leb 3 (bitAnd m 123) (omega arith))
+    let mode : bitAnd m 123 + 125 < 128 = high-clear (bitAnd m 123 + 125) (omega arith) (omega (arith, sums)) in
+    or-false-both (lt-leb P p (omega arith)) (sym (mode-low-bits m modeLow) ∙ lt-leb 3 (bitAnd m 123) (omega arith))
 
--- ── Four records ──
+-- ── Several records in one number: the lowest, and the rest ──
 
-pub four-pass :
+lowest-passes :
+    (rest w H M L l : ℕ) →
+    w < 65536 →
+    l ≤ 0x7d80 →
+    Passes (rest * 65536 + w) (H * 65536 + 0x8080) (M * 65536 + 0x7b7f) (L * 65536 + l) →
+    RecordPasses w l × Passes rest H M L
+lowest-passes rest w H M L l a b p =
+    let few = and-le-r w 0x7b7f in
+    let split = sym (and-block 16 rest H w 0x8080 a (omega arith)) ∙ p .0 in
+    let masked = and-block 16 rest M w 0x7b7f a (omega arith) in
+    let low = bitAnd w 0x7b7f + l in
+    let high = bitAnd rest M + L in
+    let raised : bitAnd (rest * 65536 + w) (M * 65536 + 0x7b7f) + (L * 65536 + l) ≡ high * 65536 + low = omega (arith, masked) in
+    let met = and-block 16 high H low 0x8080 (omega arith) (omega arith) in
+    let sums = sym (ap (λ x. bitAnd x (H * 65536 + 0x8080)) raised ∙ met) ∙ p .1 in
+    ((omega (arith, split), omega (arith, sums)), (omega (arith, split), omega (arith, sums)))
+
+four-pass :
     (w x y z l : ℕ) →
     w < 65536 →
     x < 65536 →
     y < 65536 →
-    l ≤ 32128 →
+    l ≤ 0x7d80 →
     Passes (((z * 65536 + y) * 65536 + x) * 65536 + w) 0x8080808080808080 0x7b7f7b7f7b7f7b7f (((l * 65536 + l) * 65536 + l) * 65536 + l) →
-    Passes w 32896 31615 l × Passes x 32896 31615 l × Passes y 32896 31615 l × Passes z 32896 31615 l
+    RecordPasses w l × RecordPasses x l × RecordPasses y l × RecordPasses z l
 four-pass w x y z l a b c d p =
-    let first = lowest-passes ((z * 65536 + y) * 65536 + x) w 0x808080808080 32896 0x7b7f7b7f7b7f 31615 ((l * 65536 + l) * 65536 + l) l a (omega arith) (omega arith) (omega (arith, and-le-r w 31615)) p in
-    let second = lowest-passes (z * 65536 + y) x 0x80808080 32896 0x7b7f7b7f 31615 (l * 65536 + l) l b (omega arith) (omega arith) (omega (arith, and-le-r x 31615)) (first .1) in
-    let third = lowest-passes z y 32896 32896 31615 31615 l l c (omega arith) (omega arith) (omega (arith, and-le-r y 31615)) (second .1) in
+    let fromX = (z * 65536 + y) * 65536 + x in
+    let first = lowest-passes fromX w 0x808080808080 0x7b7f7b7f7b7f ((l * 65536 + l) * 65536 + l) l a d p in
+    let second = lowest-passes (z * 65536 + y) x 0x80808080 0x7b7f7b7f (l * 65536 + l) l b d (first .1) in
+    let third = lowest-passes z y 0x8080 0x7b7f l l c d (second .1) in
     (first .0, second .0, third .0, third .1)
-
-passes-as : {x y l k : ℕ} (h m : ℕ) → x ≡ y → l ≡ k → Passes x h m l → Passes y h m k
-passes-as h m e f p = rw (← e, ← f) p
 
 -- ── The detectors' bytes ──
 
@@ -99,7 +100,7 @@ module _ (b : List ℕ) (bytes : (i : ℕ) → byteAt b i < 256) (few : phaseCou
   good-at :
       (n i : ℕ) →
       recordAt (detectorsHead b) 2 n ≡ i →
-      Passes (byteAt b (i + 1) * 256 + byteAt b i) 32896 31615 (32128 - phaseCount b) →
+      RecordPasses (byteAt b (i + 1) * 256 + byteAt b i) (0x7d80 - phaseCount b) →
       badDetector b n ≡ false
   unfolding badDetector detectorPhase detectorMode
   good-at n i e p = rw e (record-good (byteAt b i) (byteAt b (i + 1)) (phaseCount b) (bytes i) (bytes (i + 1)) few p)
@@ -109,12 +110,12 @@ module _ (b : List ℕ) (bytes : (i : ℕ) → byteAt b i < 256) (few : phaseCou
       (d : ℕ) →
       let place = detectorsHead b + 4 + d * 2 in
       Passes (fourAt b place + 4294967296 * fourAt b (place + 4)) 0x8080808080808080 0x7b7f7b7f7b7f7b7f
-      (0x0001000100010001 * (32128 - phaseCount b)) →
+      (0x0001000100010001 * (0x7d80 - phaseCount b)) →
       (badDetector b d ≡ false) × (badDetector b (d + 1) ≡ false) × (badDetector b (d + 2) ≡ false) × (badDetector b (d + 3) ≡ false)
   unfolding fourAt twoAt recordAt bodyAt
   four-good d p =
       let place = detectorsHead b + 4 + d * 2 in
-      let l = 32128 - phaseCount b in
+      let l = 0x7d80 - phaseCount b in
       let w = byteAt b (place + 1) * 256 + byteAt b place in
       let x = byteAt b (place + 2 + 1) * 256 + byteAt b (place + 2) in
       let y = byteAt b (place + 4 + 1) * 256 + byteAt b (place + 4) in
@@ -122,8 +123,8 @@ module _ (b : List ℕ) (bytes : (i : ℕ) → byteAt b i < 256) (few : phaseCou
       let number : fourAt b place + 4294967296 * fourAt b (place + 4) ≡ ((z * 65536 + y) * 65536 + x) * 65536 + w = omega arith in
       let limits : 0x0001000100010001 * l ≡ ((l * 65536 + l) * 65536 + l) * 65536 + l = omega arith in
       let wide : (i : ℕ) → byteAt b (i + 1) * 256 + byteAt b i < 65536 = λ i. omega (arith, bytes i, bytes (i + 1)) in
-      let each = four-pass w x y z l (wide place) (wide (place + 2)) (wide (place + 4)) (omega arith)
-      (passes-as 0x8080808080808080 0x7b7f7b7f7b7f7b7f number limits p) in (
+      let whole = passes-as 0x8080808080808080 0x7b7f7b7f7b7f7b7f number limits p in
+      let each = four-pass w x y z l (wide place) (wide (place + 2)) (wide (place + 4)) (omega arith) whole in (
         good-at d place refl (each .0),
         good-at (d + 1) (place + 2) (omega arith) (each .1),
         good-at (d + 2) (place + 4) (omega arith) (each .2),

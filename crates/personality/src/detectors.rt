@@ -32,9 +32,9 @@ fn eight_in(s: &[u8], i: usize) -> u64
     (four_in(s, i) as u64) + 4294967296 * (four_in(s, i + 4) as u64)
 }
 
-// Whether the four records from d on are seen to be good, all at once: true says that they are, false says nothing. Every byte is below
-// 128 (mask 80 80), so that 128 - P added to a phase, or 125 to a mode without the bit that 4 is (mask 7b 7f), reaches 128 just where the
-// phase is at or above P, or the mode is unknown.
+// Whether the four records from d on are seen to be good, all at once: true says that they are, false says nothing. With 0x80 - P added,
+// a phase at or above P reaches 0x80; with 0x7d added, an unknown mode without the bit that 4 is does. Only what is below 0x80 is added
+// to, so no byte carries into the next.
 fn four_good(s: &[u8], head: usize, d: usize, phases: u8) -> bool
     requires { ⌜ (head ≡ detectorsHead (now s)) × (phases ≡ phaseCount (now s)) × (head ≤ 10000) × (d ≤ 32767) × (phases ≤ 7)
         × (head + 4 + (d + 4) * 2 ≤ length (now s)) ⌝ }
@@ -43,7 +43,7 @@ fn four_good(s: &[u8], head: usize, d: usize, phases: u8) -> bool
         × (badDetector (now (s .entry)) (d + 2) ≡ false) × (badDetector (now (s .entry)) (d + 3) ≡ false)) ⌝ }
 {
     let records = eight_in(s, head + 4 + d * 2);
-    let limits = 0x0001000100010001 * (32128 - (phases as u64));
+    let limits = 0x0001000100010001 * (0x7d80 - (phases as u64));
     let raised = (records & 0x7b7f7b7f7b7f7b7f) + limits;
     (records & 0x8080808080808080 == 0) & (raised & 0x8080808080808080 == 0)
 }

@@ -1,14 +1,10 @@
--- `detectors::detector_records` meets its contract: the bytes read are those of record d. The invariant: no
--- record before d is bad.
-use Prim.Native.Nat.{_+_, _*_, _-_, _≤_}
-use mathlib.Core.Bool.{not, _||_}
+-- `detectors::detector_records` meets its contract: the bytes read are those of record d. The invariant, which the records taken four by
+-- four start: no record before d is bad.
+use Prim.Native.Nat.{_-_, _≤_}
 use mathlib.Core.Path.{_≡_, sym, _∙_}
 use native.Mathlib.Omega.{arith}
-use lib.Dec.{leb}
 use borrow.Author.Needs.{needs}
-use Rattle.rules.specs.Bytes.{byteAt}
-use Rattle.rules.specs.Personality.{bodyAt, recordAt, detectorsHead, phaseCount, detectorCount}
-use Rattle.rules.specs.Personality.{detectorPhase, detectorMode, knownMode, badDetector}
+use Rattle.rules.specs.Personality.{bodyAt, recordAt, detectorsHead, detectorPhase, detectorMode, badDetector}
 use Rattle.rules.specs.Verdicts.{firstOf}
 use Rattle.rules.specs.declared.answer.Verdict.the-variants.{Accepted}
 use Rattle.sections.proofs.Firsts.{recordCheck, good-more, bad-stop, first-done}
@@ -58,7 +54,9 @@ unfolding badDetector detectorPhase detectorMode recordAt bodyAt
 tested c =
     let atLoop = c .before .before .before .before in
     let atStart = atLoop .before .before .before in
-    rw (← atStart .pre .0, ← atStart .pre .1, ← c .before .before .byte-in .ensures, ← c .before .byte-in2 .ensures) (c .bad-detector .ensures)
+    let phase = c .before .before .byte-in .ensures in
+    let mode = c .before .byte-in2 .ensures in
+    rw (← atStart .pre .0, ← atStart .pre .1, ← phase, ← mode) (c .bad-detector .ensures)
 
 returns : tie.Need-returns Inv-loop μ-loop
 unfolding recordAt bodyAt

@@ -37,7 +37,7 @@ returns c = λ t.
     let b = atStart .args .s .now in
     let bytes : (i : ℕ) → byteAt b i < 256 = λ i. omega (arith, c .before .shared-slice-known .given i) in
     let few : phaseCount b ≤ 7 = omega arith in
-    let limits = 0x0001000100010001 * (32128 - atStart .args .phases) in
+    let limits = 0x0001000100010001 * (0x7d80 - atStart .args .phases) in
     let passes = both-tests (c .eight-in .result) 0x8080808080808080 0x7b7f7b7f7b7f7b7f limits t in
     four-good b bytes few (atStart .args .d) (rw (c .eight-in .ensures, atStart .pre .0, atStart .pre .1) at passes)
 
