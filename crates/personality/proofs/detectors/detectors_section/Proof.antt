@@ -42,7 +42,9 @@ checked :
     let bytes = bodyLength b (detectorsHead b) in
     c .section .result ≡ sectionAt b (detectorsHead b) 5 (eqb (bytes % 2) 0 && leb bytes 96)
 unfolding bodyLength
-checked c = cc
+checked c =
+    let atHead = c .before .before .before in
+    rw (c .before .two-in .ensures, atHead .detectors-head .ensures .0) at (c .section .ensures)
 
 returns-2 : tie.Need-returns-2
 unfolding detectorsSection
