@@ -9,7 +9,7 @@ use rules::answer::Verdict;
 use sections::heads::group_count;
 use sections::heads::groups_head;
 use sections::heads::pedestrians_head;
-use sections::section_of;
+use sections::sized_section;
 use sections::times::time_records;
 
 // How many pedestrian movements the site has: one for each pedestrian group. Kind 3 has been accepted, so every mark is in the slice.
@@ -18,11 +18,15 @@ fn movement_count(s: &[u8]) -> u8
     ensures { λ r. ⌜ r ≡ movementCount (now (s .entry)) ⌝ }
 {
     let groups = group_count(s) as usize;
-    let first = groups_head(s) + 5;
+    let first_mark = groups_head(s) + 5;
     let mut count: u8 = 0;
     let mut g: usize = 0;
     while g < groups {
-        count += if byte_in(s, first + g * 2) == 2 { 1 } else { 0 };
+        count += if byte_in(s, first_mark + g * 2) == 2 {
+            1
+        } else {
+            0
+        };
         g += 1;
     }
     count
@@ -33,7 +37,7 @@ fn pedestrians_section(s: &[u8], place: usize, count: usize) -> Verdict
     requires { ⌜ (place ≡ pedestriansHead (now s)) × (count ≡ movementCount (now s)) × (place ≤ 70149) × (count ≤ 255) ⌝ }
     ensures { λ r. ⌜ r ≡ pedestriansSection (now (s .entry)) ⌝ }
 {
-    let head = section_of(s, place, 6, count * 6);
+    let head = sized_section(s, place, 6, count * 6);
     if let Verdict::Refused { .. } = head {
         return head;
     }
@@ -41,11 +45,11 @@ fn pedestrians_section(s: &[u8], place: usize, count: usize) -> Verdict
 }
 
 // 12: bytes left over after kind 6.
-fn after_pedestrians(s: &[u8], place: usize, count: usize) -> Verdict
-    requires { ⌜ (place ≡ pedestriansHead (now s)) × (count ≡ movementCount (now s)) × (place ≤ 70149) × (count ≤ 255) ⌝ }
+fn after_pedestrians(s: &[u8], head: usize, count: usize) -> Verdict
+    requires { ⌜ (head ≡ pedestriansHead (now s)) × (count ≡ movementCount (now s)) × (head ≤ 70149) × (count ≤ 255) ⌝ }
     ensures { λ r. ⌜ r ≡ afterPedestrians (now (s .entry)) ⌝ }
 {
-    let place = place + 4 + count * 6;
+    let place = head + 4 + count * 6;
     if place < s.len() {
         return Verdict::Refused { number: 12, place };
     }

@@ -4,7 +4,7 @@ ghost use Rattle.rules.specs.Personality.{siteSection, phasesSection};
 use rules::answer::Verdict;
 use sections::heads::group_count;
 use sections::heads::phase_count;
-use sections::section_of;
+use sections::sized_section;
 use sections::times::time;
 use sections::times::time_records;
 
@@ -12,7 +12,7 @@ use sections::times::time_records;
 pub fn site_section(s: &[u8]) -> Verdict
     ensures { λ r. ⌜ r ≡ siteSection (now (s .entry)) ⌝ }
 {
-    let head = section_of(s, 0, 1, 4);
+    let head = sized_section(s, 0, 1, 4);
     if let Verdict::Refused { .. } = head {
         return head;
     }
@@ -38,7 +38,7 @@ pub fn phases_section(s: &[u8]) -> Verdict
     ensures { λ r. ⌜ r ≡ phasesSection (now (s .entry)) ⌝ }
 {
     let count = phase_count(s) as usize;
-    let head = section_of(s, 8, 2, count * 12);
+    let head = sized_section(s, 8, 2, count * 12);
     if let Verdict::Refused { .. } = head {
         return head;
     }

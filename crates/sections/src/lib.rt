@@ -42,8 +42,8 @@ pub fn section(s: &[u8], head: usize, kind: u16, right: bool) -> Verdict
     Verdict::Accepted
 }
 
-// The same where the body has to be of just so many bytes.
-pub fn section_of(s: &[u8], head: usize, kind: u16, bytes: usize) -> Verdict
+// The same where the body has to have just so many bytes.
+pub fn sized_section(s: &[u8], head: usize, kind: u16, bytes: usize) -> Verdict
     requires { ⌜ head ≤ 100000 ⌝ }
     ensures { λ r. ⌜ r ≡ sectionAt (now (s .entry)) head kind (eqb (bodyLength (now (s .entry)) head) bytes) ⌝ }
 {

@@ -1,4 +1,4 @@
-// Records of two-byte times, each field held to the one table of limits.
+// Records of two-byte times that are in the slice, each field held to the one table of limits.
 ghost use Prim.Native.Nat.{_+_, _*_, _≤_};
 ghost use mathlib.Core.Path.{_≡_};
 ghost use lib.ListN.{length};

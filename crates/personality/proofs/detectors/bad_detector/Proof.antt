@@ -1,6 +1,6 @@
 -- `detectors::bad_detector` meets its contract: the first test is the definition's, and the second is that of an unknown mode.
 use mathlib.Core.Bool.{_||_}
-use mathlib.Core.Path.{_≡_, ap}
+use mathlib.Core.Path.{ap}
 use native.Mathlib.Omega.{arith}
 use lib.Dec.{leb}
 use Rattle.personality.proofs.Modes.{mode-bits}

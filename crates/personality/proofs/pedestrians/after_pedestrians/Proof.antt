@@ -25,7 +25,7 @@ unfolding afterPedestrians endOf bodyAt
 returns c =
     let atStart = c .before in
     let b = atStart .args .s .now in
-    let at : atStart .args .place + 4 + atStart .args .count * 6 ≡ endOf b = omega arith in
+    let at : atStart .args .head + 4 + atStart .args .count * 6 ≡ endOf b = omega arith in
     ap (Refused 12) at ∙ refuse-yes 12 _ (lt-ltb (endOf b) (length b) (omega arith))
 
 returns-2 : tie.Need-returns-2
@@ -33,7 +33,7 @@ unfolding afterPedestrians endOf bodyAt
 returns-2 c =
     let atStart = c .before in
     let b = atStart .args .s .now in
-    let at : atStart .args .place + 4 + atStart .args .count * 6 ≡ endOf b = omega arith in
+    let at : atStart .args .head + 4 + atStart .args .count * 6 ≡ endOf b = omega arith in
     sym (refuse-no 12 _ (le-ltb (endOf b) (length b) (omega arith)))
 
 pub after-pedestrians-spec : {M : Type 1} → statement M

@@ -1,14 +1,13 @@
 -- `pedestrians::movement_count` meets its contract: an accepted kind 3 has every mark in the slice. The invariant: count is how many
 -- pedestrian groups stand before g.
-use Prim.Native.Nat.{_+_, _*_, _-_, _<_, _≤_}
+use Prim.Native.Nat.{_+_, _-_, _≤_}
 use mathlib.Core.Logic.{⊎-elim}
 use mathlib.Core.Path.{_≡_, refl, sym, _∙_, ap}
 use native.Mathlib.Omega.{arith}
-use lib.ListN.{length}
 use borrow.Author.Needs.{needs}
 use borrow.Author.Tests.{eq-eqb, ne-eqb}
 use Rattle.rules.specs.Bytes.{byteAt}
-use Rattle.rules.specs.Personality.{bodyAt, recordAt, groupsHead, conflictsHead, groupMark, pedestrian, pedestriansBefore, movementCount}
+use Rattle.rules.specs.Personality.{bodyAt, recordAt, conflictsHead, groupMark, pedestrian, pedestriansBefore, movementCount}
 use Rattle.rules.specs.Rows.{countOf}
 use Rattle.rules.proofs.Rows.{count-most}
 use Rattle.proof_acceptance.proofs.Sections.{groups-accepted}
@@ -17,10 +16,10 @@ use Rattle.personality.proofs.pedestrians.movement_count.Statement.{sta
 use Rattle.personality.proofs.pedestrians.movement_count.Tie as tie
 
 abbrev Inv-loop : tie.InvT-loop
-Inv-loop s groups first count₀ g₀ count g = (g ≤ groups) × (count ≡ countOf (pedestrian s) g)
+Inv-loop s groups first-mark count₀ g₀ count g = (g ≤ groups) × (count ≡ countOf (pedestrian s) g)
 
 abbrev μ-loop : tie.MeasureT-loop
-μ-loop s groups first count₀ g₀ count g = groups - g
+μ-loop s groups first-mark count₀ g₀ count g = groups - g
 
 group-count-requires : tie.Need-group-count-requires Inv-loop μ-loop
 group-count-requires c κs = search needs
@@ -31,8 +30,8 @@ cast-groups c = search needs
 groups-head-requires : tie.Need-groups-head-requires Inv-loop μ-loop
 groups-head-requires c κs = search needs
 
-add-first : tie.Need-add-first Inv-loop μ-loop
-add-first c = search needs
+add-first-mark : tie.Need-add-first-mark Inv-loop μ-loop
+add-first-mark c = search needs
 
 loop-holds : tie.Need-loop-holds Inv-loop μ-loop
 unfolding countOf
@@ -104,7 +103,7 @@ movement-count-spec =
     group-count-requires
     cast-groups
     groups-head-requires
-    add-first
+    add-first-mark
     loop-holds
     mul-byte-in
     add-byte-in

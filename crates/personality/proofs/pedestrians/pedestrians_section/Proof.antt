@@ -10,21 +10,21 @@ use Rattle.sections.proofs.Firsts.{or-next, or-stop}
 use Rattle.personality.proofs.pedestrians.pedestrians_section.Statement.{statement}
 use Rattle.personality.proofs.pedestrians.pedestrians_section.Tie as tie
 
-mul-section-of : tie.Need-mul-section-of
-mul-section-of c = search needs
+mul-sized-section : tie.Need-mul-sized-section
+mul-sized-section c = search needs
 
-section-of-requires : tie.Need-section-of-requires
-section-of-requires c κs = search needs
+sized-section-requires : tie.Need-sized-section-requires
+sized-section-requires c κs = search needs
 
 enum-told : tie.Need-enum-told
 enum-told c = search needs
 
 -- the head is held to the length that the pedestrian groups need
 checked :
-    (c : tie.After-section-of) →
+    (c : tie.After-sized-section) →
     let b = c .before .before .args .s .now in
-    c .section-of .result ≡ sectionAt b (pedestriansHead b) 6 (eqb (bodyLength b (pedestriansHead b)) (movementCount b * 6))
-checked c = let at = c .before .before in rw (at .pre .0, at .pre .1) at (c .section-of .ensures)
+    c .sized-section .result ≡ sectionAt b (pedestriansHead b) 6 (eqb (bodyLength b (pedestriansHead b)) (movementCount b * 6))
+checked c = let at = c .before .before in rw (at .pre .0, at .pre .1) at (c .sized-section .ensures)
 
 returns : tie.Need-returns
 unfolding pedestriansSection
@@ -52,8 +52,8 @@ pub pedestrians-section-spec : {M : Type 1} → statement M
 pedestrians-section-spec =
     tie.close
     (tie.spec
-    mul-section-of
-    section-of-requires
+    mul-sized-section
+    sized-section-requires
     enum-told
     returns
     enum-told-2

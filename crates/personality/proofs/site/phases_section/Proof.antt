@@ -16,21 +16,21 @@ phase-count-requires c κs = search needs
 cast-count : tie.Need-cast-count
 cast-count c = search needs
 
-mul-section-of : tie.Need-mul-section-of
-mul-section-of c = search needs
+mul-sized-section : tie.Need-mul-sized-section
+mul-sized-section c = search needs
 
-section-of-requires : tie.Need-section-of-requires
-section-of-requires c κs = search needs
+sized-section-requires : tie.Need-sized-section-requires
+sized-section-requires c κs = search needs
 
 enum-told : tie.Need-enum-told
 enum-told c = search needs
 
 -- the head is held to the length that P needs
 checked :
-    (c : tie.After-section-of) →
+    (c : tie.After-sized-section) →
     let b = c .before .before .before .args .s .now in
-    c .section-of .result ≡ sectionAt b phasesHead 2 (eqb (bodyLength b phasesHead) (phaseCount b * 12))
-checked c = rw (c .before .phase-count .ensures) at (c .section-of .ensures)
+    c .sized-section .result ≡ sectionAt b phasesHead 2 (eqb (bodyLength b phasesHead) (phaseCount b * 12))
+checked c = rw (c .before .phase-count .ensures) at (c .sized-section .ensures)
 
 returns : tie.Need-returns
 unfolding phasesSection
@@ -60,8 +60,8 @@ phases-section-spec =
     (tie.spec
     phase-count-requires
     cast-count
-    mul-section-of
-    section-of-requires
+    mul-sized-section
+    sized-section-requires
     enum-told
     returns
     enum-told-2

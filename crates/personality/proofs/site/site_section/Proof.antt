@@ -10,15 +10,15 @@ use Rattle.sections.proofs.Firsts.{refuse-yes, refuse-no, or-next, or-stop}
 use Rattle.personality.proofs.site.site_section.Statement.{statement}
 use Rattle.personality.proofs.site.site_section.Tie as tie
 
-section-of-requires : tie.Need-section-of-requires
-section-of-requires c κs = search needs
+sized-section-requires : tie.Need-sized-section-requires
+sized-section-requires c κs = search needs
 
 enum-told : tie.Need-enum-told
 enum-told c = search needs
 
 returns : tie.Need-returns
 unfolding siteSection
-returns c = or-stop _ (c .before .before .section-of .ensures) (c .enum-told .given .1)
+returns c = or-stop _ (c .before .before .sized-section .ensures) (c .enum-told .given .1)
 
 enum-told-2 : tie.Need-enum-told-2
 enum-told-2 c = search needs
@@ -38,7 +38,7 @@ returns-2 : tie.Need-returns-2
 unfolding siteSection
 returns-2 c =
     let headPassed = c .before .before in
-    or-next (headPassed .before .before .section-of .ensures) (headPassed .enum-told2 .given .1)
+    or-next (headPassed .before .before .sized-section .ensures) (headPassed .enum-told2 .given .1)
     (or-stop _ (refuse-yes 4 4 (phases (c .before) (c .if1 .taken))) refl)
 
 group-count-requires : tie.Need-group-count-requires
@@ -56,7 +56,7 @@ unfolding siteSection
 returns-3 c =
     let phasesPassed = c .before .before in
     let headPassed = phasesPassed .before .before in
-    or-next (headPassed .before .before .section-of .ensures) (headPassed .enum-told2 .given .1)
+    or-next (headPassed .before .before .sized-section .ensures) (headPassed .enum-told2 .given .1)
     (or-next refl (refuse-no 4 4 (phases (phasesPassed .before) (phasesPassed .if1 .left)))
     (or-stop _ (refuse-yes 4 5 (groups (c .before) (c .if2 .taken))) refl))
 
@@ -65,7 +65,7 @@ unfolding bodyAt
 time-requires c κs =
     let headPassed = c .before .before .before .before in
     let b = headPassed .before .before .before .before .args .s .now in
-    omega (arith, records-held b siteHead 1 1 4 (sym (headPassed .before .before .section-of .ensures) ∙ headPassed .enum-told2 .given .1))
+    omega (arith, records-held b siteHead 1 1 4 (sym (headPassed .before .before .sized-section .ensures) ∙ headPassed .enum-told2 .given .1))
 
 returns-4 : tie.Need-returns-4
 unfolding siteSection
@@ -73,7 +73,7 @@ returns-4 c =
     let groupsPassed = c .before in
     let phasesPassed = groupsPassed .before .before in
     let headPassed = phasesPassed .before .before in
-    or-next (headPassed .before .before .section-of .ensures) (headPassed .enum-told2 .given .1)
+    or-next (headPassed .before .before .sized-section .ensures) (headPassed .enum-told2 .given .1)
     (or-next refl (refuse-no 4 4 (phases (phasesPassed .before) (phasesPassed .if1 .left)))
     (or-next refl (refuse-no 4 5 (groups (groupsPassed .before) (groupsPassed .if2 .left))) (c .time .ensures)))
 
@@ -81,7 +81,7 @@ pub site-section-spec : {M : Type 1} → statement M
 site-section-spec =
     tie.close
     (tie.spec
-    section-of-requires
+    sized-section-requires
     enum-told
     returns
     enum-told-2

@@ -1,10 +1,10 @@
--- `sections::section_of` meets its contract: a head that is not all there is refused with 1, and the length of one that is there is
+-- `sections::sized_section` meets its contract: a head that is not all there is refused with 1, and the length of one that is there is
 -- held to the bytes given.
 use borrow.Author.Needs.{needs}
 use Rattle.rules.specs.Personality.{bodyLength}
 use Rattle.sections.proofs.Short.{head-short}
-use Rattle.sections.proofs.section_of.Statement.{statement}
-use Rattle.sections.proofs.section_of.Tie as tie
+use Rattle.sections.proofs.sized_section.Statement.{statement}
+use Rattle.sections.proofs.sized_section.Tie as tie
 
 add-if1 : tie.Need-add-if1
 add-if1 c = search needs
@@ -25,6 +25,6 @@ returns-2 : tie.Need-returns-2
 unfolding bodyLength
 returns-2 c = rw (c .before .two-in .ensures) at (c .section .ensures)
 
-pub section-of-spec : {M : Type 1} → statement M
-section-of-spec =
+pub sized-section-spec : {M : Type 1} → statement M
+sized-section-spec =
     tie.close (tie.spec add-if1 returns two-in-requires cast-section section-requires returns-2)
