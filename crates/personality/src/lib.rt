@@ -9,8 +9,7 @@ pub mod site;
 use conflicts::conflicts_section;
 use detectors::detectors_section;
 use groups::records::groups_section;
-use pedestrians::after_pedestrians;
-use pedestrians::pedestrians_section;
+use pedestrians::from_pedestrians;
 use rules::answer::Verdict;
 use site::phases_section;
 use site::site_section;
@@ -38,9 +37,5 @@ pub fn read(personality: &[u8]) -> Verdict
     if let Verdict::Refused { .. } = detectors {
         return detectors;
     }
-    let pedestrians = pedestrians_section(personality);
-    if let Verdict::Refused { .. } = pedestrians {
-        return pedestrians;
-    }
-    after_pedestrians(personality)
+    from_pedestrians(personality)
 }

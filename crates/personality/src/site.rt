@@ -1,11 +1,10 @@
 // Kinds 1 and 2: the site's counts and start red, and the times of the phases.
 ghost use mathlib.Core.Path.{_≡_};
 ghost use Rattle.rules.specs.Personality.{siteSection, phasesSection};
-use reads::two;
 use rules::answer::Verdict;
 use sections::heads::group_count;
 use sections::heads::phase_count;
-use sections::section;
+use sections::sized_section;
 use sections::times::time;
 use sections::times::time_records;
 
@@ -13,7 +12,7 @@ use sections::times::time_records;
 pub fn site_section(s: &[u8]) -> Verdict
     ensures { λ r. ⌜ r ≡ siteSection (now (s .entry)) ⌝ }
 {
-    let head = section(s, 0, 1, two(s, 0) == 4);
+    let head = sized_section(s, 0, 1, 4);
     if let Verdict::Refused { .. } = head {
         return head;
     }
@@ -39,7 +38,7 @@ pub fn phases_section(s: &[u8]) -> Verdict
     ensures { λ r. ⌜ r ≡ phasesSection (now (s .entry)) ⌝ }
 {
     let count = phase_count(s) as usize;
-    let head = section(s, 8, 2, two(s, 8) as usize == count * 12);
+    let head = sized_section(s, 8, 2, count * 12);
     if let Verdict::Refused { .. } = head {
         return head;
     }

@@ -113,7 +113,9 @@ enum-told-8 : tie.Need-enum-told-8
 enum-told-8 c = search needs
 
 detectors-section-requires : tie.Need-detectors-section-requires
-detectors-section-requires c κs = search needs
+detectors-section-requires c κs =
+    let sitePassed = c .before .before .before .before .before .before .before .before .before in
+    sym (sitePassed .before .before .site-section .ensures) ∙ sitePassed .enum-told2 .given .1
 
 enum-told-9 : tie.Need-enum-told-9
 enum-told-9 c = search needs
@@ -137,11 +139,10 @@ returns-5 c =
 enum-told-10 : tie.Need-enum-told-10
 enum-told-10 c = search needs
 
-pedestrians-section-requires : tie.Need-pedestrians-section-requires
-pedestrians-section-requires c κs = search needs
-
-enum-told-11 : tie.Need-enum-told-11
-enum-told-11 c = search needs
+from-pedestrians-requires : tie.Need-from-pedestrians-requires
+from-pedestrians-requires c κs =
+    let groupsPassed = c .before .before .before .before .before .before in
+    sym (groupsPassed .before .before .groups-section .ensures) ∙ groupsPassed .enum-told6 .given .1
 
 -- kind 5 has passed: the answer is that of what follows
 afterDetectors :
@@ -155,29 +156,7 @@ afterDetectors c e =
     (or-next (c .before .before .detectors-section .ensures) (c .enum-told10 .given .1) e)
 
 returns-6 : tie.Need-returns-6
-returns-6 c =
-    afterDetectors (c .before .before .before)
-    (or-stop _ (c .before .before .pedestrians-section .ensures) (c .enum-told11 .given .1))
-
-enum-told-12 : tie.Need-enum-told-12
-enum-told-12 c = search needs
-
-after-pedestrians-requires : tie.Need-after-pedestrians-requires
-after-pedestrians-requires c κs = search needs
-
--- kind 6 has passed: the answer is that of what follows
-afterKind6 :
-    (c : tie.After-enum-told12) {v : Verdict} →
-    let groupsPassed = c .before .before .before .before .before .before .before .before .before in
-    let b = groupsPassed .before .before .before .before .before .before .before .before .before .before .args .personality .now in
-    v ≡ afterPedestrians b →
-    v ≡ verdictOf b
-afterKind6 c e =
-    afterDetectors (c .before .before .before)
-    (or-next (c .before .before .pedestrians-section .ensures) (c .enum-told12 .given .1) e)
-
-returns-7 : tie.Need-returns-7
-returns-7 c = afterKind6 (c .before) (c .after-pedestrians .ensures)
+returns-6 c = afterDetectors (c .before) (c .from-pedestrians .ensures)
 
 pub read-spec : {M : Type 1} → statement M
 read-spec =
@@ -203,9 +182,5 @@ read-spec =
     enum-told-9
     returns-5
     enum-told-10
-    pedestrians-section-requires
-    enum-told-11
-    returns-6
-    enum-told-12
-    after-pedestrians-requires
-    returns-7)
+    from-pedestrians-requires
+    returns-6)

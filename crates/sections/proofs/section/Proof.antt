@@ -24,25 +24,25 @@ notShort c = le-ltb _ _ (c .if1 .left)
 
 otherKind : (c : tie.Then2) → let at = c .before .before .before .before .args in eqb (kindAt (at .s .now) (at .head)) (at .kind) ≡ false
 unfolding kindAt
-otherKind c = let e = c .before .two .ensures in rw (← e) (ne-eqb _ _ (c .if2 .taken))
+otherKind c = let e = c .before .two-in .ensures in rw (← e) (ne-eqb _ _ (c .if2 .taken))
 
 rightKind : (c : tie.Else2) → let at = c .before .before .before .before .args in eqb (kindAt (at .s .now) (at .head)) (at .kind) ≡ true
 unfolding kindAt
-rightKind c = let e = c .before .two .ensures in rw (← e) (eq-eqb _ _ (c .if2 .left))
+rightKind c = let e = c .before .two-in .ensures in rw (← e) (eq-eqb _ _ (c .if2 .left))
 
 cutBody :
     (c : tie.Then4) →
     let at = c .before .before .before .before .before .before .before .args in
     ltb (length (at .s .now)) (bodyAt (at .head) + bodyLength (at .s .now) (at .head)) ≡ true
 unfolding bodyAt bodyLength
-cutBody c = let e = c .before .two2 .ensures in rw (← e) (lt-ltb _ _ (c .if4 .taken))
+cutBody c = let e = c .before .two-in2 .ensures in rw (← e) (lt-ltb _ _ (c .if4 .taken))
 
 wholeBody :
     (c : tie.Else4) →
     let at = c .before .before .before .before .before .before .before .args in
     ltb (length (at .s .now)) (bodyAt (at .head) + bodyLength (at .s .now) (at .head)) ≡ false
 unfolding bodyAt bodyLength
-wholeBody c = let e = c .before .two2 .ensures in rw (← e) (le-ltb _ _ (c .if4 .left))
+wholeBody c = let e = c .before .two-in2 .ensures in rw (← e) (le-ltb _ _ (c .if4 .left))
 
 -- ── The returns ──
 
@@ -50,11 +50,11 @@ returns : tie.Need-returns
 unfolding sectionAt refuseIf _orElse_
 returns c = rw (short c)
 
-add-two : tie.Need-add-two
-add-two c = search needs
+add-two-in : tie.Need-add-two-in
+add-two-in c = search needs
 
-two-requires : tie.Need-two-requires
-two-requires c κs = search needs
+two-in-requires : tie.Need-two-in-requires
+two-in-requires c κs = search needs
 
 returns-2 : tie.Need-returns-2
 unfolding sectionAt refuseIf _orElse_
@@ -67,8 +67,8 @@ returns-3 c = let named = c .before in rw (notShort (named .before .before), rig
 add-if4 : tie.Need-add-if4
 add-if4 c = search needs
 
-two-requires-2 : tie.Need-two-requires-2
-two-requires-2 c κs = search needs
+two-in-requires-2 : tie.Need-two-in-requires-2
+two-in-requires-2 c κs = search needs
 
 cast-if4 : tie.Need-cast-if4
 cast-if4 c = search needs
@@ -96,12 +96,12 @@ section-spec =
     (tie.spec
     add-if1
     returns
-    add-two
-    two-requires
+    add-two-in
+    two-in-requires
     returns-2
     returns-3
     add-if4
-    two-requires-2
+    two-in-requires-2
     cast-if4
     add-if4-2
     returns-4

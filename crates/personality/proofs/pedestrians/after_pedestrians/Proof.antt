@@ -11,14 +11,8 @@ use Rattle.sections.proofs.Firsts.{refuse-yes, refuse-no}
 use Rattle.personality.proofs.pedestrians.after_pedestrians.Statement.{statement}
 use Rattle.personality.proofs.pedestrians.after_pedestrians.Tie as tie
 
-pedestrians-head-requires : tie.Need-pedestrians-head-requires
-pedestrians-head-requires c κs = search needs
-
 add-place : tie.Need-add-place
 add-place c = search needs
-
-movement-count-requires : tie.Need-movement-count-requires
-movement-count-requires c κs = search needs
 
 mul-place : tie.Need-mul-place
 mul-place c = search needs
@@ -29,26 +23,24 @@ add-place-2 c = search needs
 returns : tie.Need-returns
 unfolding afterPedestrians endOf bodyAt
 returns c =
-    let atStart = c .before .before .before .before in
+    let atStart = c .before in
     let b = atStart .args .s .now in
-    let at : c .before .before .pedestrians-head .result + 4 + c .before .movement-count .result * 6 ≡ endOf b = omega arith in
+    let at : atStart .args .head + 4 + atStart .args .count * 6 ≡ endOf b = omega arith in
     ap (Refused 12) at ∙ refuse-yes 12 _ (lt-ltb (endOf b) (length b) (omega arith))
 
 returns-2 : tie.Need-returns-2
 unfolding afterPedestrians endOf bodyAt
 returns-2 c =
-    let atStart = c .before .before .before .before in
+    let atStart = c .before in
     let b = atStart .args .s .now in
-    let at : c .before .before .pedestrians-head .result + 4 + c .before .movement-count .result * 6 ≡ endOf b = omega arith in
+    let at : atStart .args .head + 4 + atStart .args .count * 6 ≡ endOf b = omega arith in
     sym (refuse-no 12 _ (le-ltb (endOf b) (length b) (omega arith)))
 
 pub after-pedestrians-spec : {M : Type 1} → statement M
 after-pedestrians-spec =
     tie.close
     (tie.spec
-    pedestrians-head-requires
     add-place
-    movement-count-requires
     mul-place
     add-place-2
     returns

@@ -1,41 +1,30 @@
 -- `pedestrians::pedestrians_section` meets its contract: head, then the records of times.
 use Prim.Native.Nat.{_*_}
-use mathlib.Core.Path.{_≡_}
+use mathlib.Core.Path.{_≡_, sym, _∙_}
+use native.Mathlib.Omega.{arith}
 use lib.Dec.{eqb}
 use borrow.Author.Needs.{needs}
-use Rattle.rules.specs.Personality.{bodyLength, pedestriansHead, movementCount, sectionAt, pedestriansSection}
+use Rattle.rules.specs.Personality.{bodyLength, bodyAt, pedestriansHead, movementCount, sectionAt, pedestriansSection}
+use Rattle.proof_acceptance.proofs.Sections.{records-held}
 use Rattle.sections.proofs.Firsts.{or-next, or-stop}
 use Rattle.personality.proofs.pedestrians.pedestrians_section.Statement.{statement}
 use Rattle.personality.proofs.pedestrians.pedestrians_section.Tie as tie
 
-pedestrians-head-requires : tie.Need-pedestrians-head-requires
-pedestrians-head-requires c κs = search needs
+mul-sized-section : tie.Need-mul-sized-section
+mul-sized-section c = search needs
 
-movement-count-requires : tie.Need-movement-count-requires
-movement-count-requires c κs = search needs
-
-two-requires : tie.Need-two-requires
-two-requires c κs = search needs
-
-cast-section : tie.Need-cast-section
-cast-section c = search needs
-
-mul-section : tie.Need-mul-section
-mul-section c = search needs
-
-section-requires : tie.Need-section-requires
-section-requires c κs = search needs
+sized-section-requires : tie.Need-sized-section-requires
+sized-section-requires c κs = search needs
 
 enum-told : tie.Need-enum-told
 enum-told c = search needs
 
 -- the head is held to the length that the pedestrian groups need
 checked :
-    (c : tie.After-section) →
-    let b = c .before .before .before .before .before .args .s .now in
-    c .section .result ≡ sectionAt b (pedestriansHead b) 6 (eqb (bodyLength b (pedestriansHead b)) (movementCount b * 6))
-unfolding bodyLength
-checked c = cc
+    (c : tie.After-sized-section) →
+    let b = c .before .before .args .s .now in
+    c .sized-section .result ≡ sectionAt b (pedestriansHead b) 6 (eqb (bodyLength b (pedestriansHead b)) (movementCount b * 6))
+checked c = let at = c .before .before in rw (at .pre .0, at .pre .1) at (c .sized-section .ensures)
 
 returns : tie.Need-returns
 unfolding pedestriansSection
@@ -45,26 +34,26 @@ enum-told-2 : tie.Need-enum-told-2
 enum-told-2 c = search needs
 
 time-records-requires : tie.Need-time-records-requires
-time-records-requires c κs = search needs
+unfolding bodyAt
+time-records-requires c κs =
+    let atSection = c .before .before in
+    let b = atSection .before .before .args .s .now in
+    omega (arith, records-held b (pedestriansHead b) 6 (movementCount b) 6 (sym (checked atSection) ∙ c .enum-told2 .given .1))
 
 returns-2 : tie.Need-returns-2
 unfolding pedestriansSection
 returns-2 c =
     let headPassed = c .before in
-    let atCount = headPassed .before .before .before .before in
+    let atStart = headPassed .before .before .before .before in
     or-next (checked (headPassed .before .before)) (headPassed .enum-told2 .given .1)
-    (rw (atCount .before .pedestrians-head .ensures .0, atCount .movement-count .ensures .0) at (c .time-records .ensures))
+    (rw (atStart .pre .0, atStart .pre .1) at (c .time-records .ensures))
 
 pub pedestrians-section-spec : {M : Type 1} → statement M
 pedestrians-section-spec =
     tie.close
     (tie.spec
-    pedestrians-head-requires
-    movement-count-requires
-    two-requires
-    cast-section
-    mul-section
-    section-requires
+    mul-sized-section
+    sized-section-requires
     enum-told
     returns
     enum-told-2

@@ -1,9 +1,11 @@
 -- `site::phases_section` meets its contract: head, then the records of times.
 use Prim.Native.Nat.{_*_}
-use mathlib.Core.Path.{_≡_}
+use mathlib.Core.Path.{_≡_, sym, _∙_}
+use native.Mathlib.Omega.{arith}
 use lib.Dec.{eqb}
 use borrow.Author.Needs.{needs}
-use Rattle.rules.specs.Personality.{bodyLength, phasesHead, phaseCount, sectionAt, phasesSection}
+use Rattle.rules.specs.Personality.{bodyLength, bodyAt, phasesHead, phaseCount, sectionAt, phasesSection}
+use Rattle.proof_acceptance.proofs.Sections.{records-held}
 use Rattle.sections.proofs.Firsts.{or-next, or-stop}
 use Rattle.personality.proofs.site.phases_section.Statement.{statement}
 use Rattle.personality.proofs.site.phases_section.Tie as tie
@@ -14,28 +16,21 @@ phase-count-requires c κs = search needs
 cast-count : tie.Need-cast-count
 cast-count c = search needs
 
-two-requires : tie.Need-two-requires
-two-requires c κs = search needs
+mul-sized-section : tie.Need-mul-sized-section
+mul-sized-section c = search needs
 
-cast-section : tie.Need-cast-section
-cast-section c = search needs
-
-mul-section : tie.Need-mul-section
-mul-section c = search needs
-
-section-requires : tie.Need-section-requires
-section-requires c κs = search needs
+sized-section-requires : tie.Need-sized-section-requires
+sized-section-requires c κs = search needs
 
 enum-told : tie.Need-enum-told
 enum-told c = search needs
 
 -- the head is held to the length that P needs
 checked :
-    (c : tie.After-section) →
-    let b = c .before .before .before .before .args .s .now in
-    c .section .result ≡ sectionAt b phasesHead 2 (eqb (bodyLength b phasesHead) (phaseCount b * 12))
-unfolding bodyLength
-checked c = cc
+    (c : tie.After-sized-section) →
+    let b = c .before .before .before .args .s .now in
+    c .sized-section .result ≡ sectionAt b phasesHead 2 (eqb (bodyLength b phasesHead) (phaseCount b * 12))
+checked c = rw (c .before .phase-count .ensures) at (c .sized-section .ensures)
 
 returns : tie.Need-returns
 unfolding phasesSection
@@ -45,13 +40,17 @@ enum-told-2 : tie.Need-enum-told-2
 enum-told-2 c = search needs
 
 time-records-requires : tie.Need-time-records-requires
-time-records-requires c κs = search needs
+unfolding bodyAt
+time-records-requires c κs =
+    let atSection = c .before .before in
+    let b = atSection .before .before .before .args .s .now in
+    omega (arith, records-held b phasesHead 2 (phaseCount b) 12 (sym (checked atSection) ∙ c .enum-told2 .given .1))
 
 returns-2 : tie.Need-returns-2
 unfolding phasesSection
 returns-2 c =
     let headPassed = c .before in
-    let atCount = headPassed .before .before .before .before in
+    let atCount = headPassed .before .before .before in
     or-next (checked (headPassed .before .before)) (headPassed .enum-told2 .given .1)
     (rw (atCount .phase-count .ensures) at (c .time-records .ensures))
 
@@ -61,10 +60,8 @@ phases-section-spec =
     (tie.spec
     phase-count-requires
     cast-count
-    two-requires
-    cast-section
-    mul-section
-    section-requires
+    mul-sized-section
+    sized-section-requires
     enum-told
     returns
     enum-told-2

@@ -1,33 +1,24 @@
 -- `site::site_section` meets its contract: head, the two counts and start red in order, the first refusal being the answer.
 use mathlib.Core.Bool.{Bool, not, _&&_}
-use mathlib.Core.Path.{_≡_, refl}
-use lib.Dec.{eqb, leb}
+use mathlib.Core.Path.{_≡_, refl, sym, _∙_}
+use native.Mathlib.Omega.{arith}
+use lib.Dec.{leb}
 use borrow.Author.Needs.{needs}
-use Rattle.rules.specs.Personality.{bodyLength, siteHead, phaseCount, groupCount, sectionAt, siteSection}
+use Rattle.rules.specs.Personality.{bodyAt, siteHead, phaseCount, groupCount, siteSection}
+use Rattle.proof_acceptance.proofs.Sections.{records-held}
 use Rattle.sections.proofs.Firsts.{refuse-yes, refuse-no, or-next, or-stop}
 use Rattle.personality.proofs.site.site_section.Statement.{statement}
 use Rattle.personality.proofs.site.site_section.Tie as tie
 
-two-requires : tie.Need-two-requires
-two-requires c κs = search needs
-
-section-requires : tie.Need-section-requires
-section-requires c κs = search needs
+sized-section-requires : tie.Need-sized-section-requires
+sized-section-requires c κs = search needs
 
 enum-told : tie.Need-enum-told
 enum-told c = search needs
 
--- the head is held to a length of 4
-checked :
-    (c : tie.After-section) →
-    let b = c .before .before .before .args .s .now in
-    c .section .result ≡ sectionAt b siteHead 1 (eqb (bodyLength b siteHead) 4)
-unfolding bodyLength
-checked c = cc
-
 returns : tie.Need-returns
 unfolding siteSection
-returns c = or-stop _ (checked (c .before .before)) (c .enum-told .given .1)
+returns c = or-stop _ (c .before .before .sized-section .ensures) (c .enum-told .given .1)
 
 enum-told-2 : tie.Need-enum-told-2
 enum-told-2 c = search needs
@@ -38,7 +29,7 @@ phase-count-requires c κs = search needs
 -- what the test of a count tells
 phases :
     (c : tie.After-phase-count) {t : Bool} →
-    let p = phaseCount (c .before .before .before .before .before .before .args .s .now) in
+    let p = phaseCount (c .before .before .before .before .before .args .s .now) in
     not (leb 2 (c .phase-count .result) && leb (c .phase-count .result) 7) ≡ t →
     not (leb 2 p && leb p 7) ≡ t
 phases c e = rw (← c .phase-count .ensures) e
@@ -47,7 +38,7 @@ returns-2 : tie.Need-returns-2
 unfolding siteSection
 returns-2 c =
     let headPassed = c .before .before in
-    or-next (checked (headPassed .before .before)) (headPassed .enum-told2 .given .1)
+    or-next (headPassed .before .before .sized-section .ensures) (headPassed .enum-told2 .given .1)
     (or-stop _ (refuse-yes 4 4 (phases (c .before) (c .if1 .taken))) refl)
 
 group-count-requires : tie.Need-group-count-requires
@@ -55,7 +46,7 @@ group-count-requires c κs = search needs
 
 groups :
     (c : tie.After-group-count) {t : Bool} →
-    let n = groupCount (c .before .before .before .before .before .before .before .before .args .s .now) in
+    let n = groupCount (c .before .before .before .before .before .before .before .args .s .now) in
     not (leb 1 (c .group-count .result) && leb (c .group-count .result) 32) ≡ t →
     not (leb 1 n && leb n 32) ≡ t
 groups c e = rw (← c .group-count .ensures) e
@@ -65,12 +56,16 @@ unfolding siteSection
 returns-3 c =
     let phasesPassed = c .before .before in
     let headPassed = phasesPassed .before .before in
-    or-next (checked (headPassed .before .before)) (headPassed .enum-told2 .given .1)
+    or-next (headPassed .before .before .sized-section .ensures) (headPassed .enum-told2 .given .1)
     (or-next refl (refuse-no 4 4 (phases (phasesPassed .before) (phasesPassed .if1 .left)))
     (or-stop _ (refuse-yes 4 5 (groups (c .before) (c .if2 .taken))) refl))
 
 time-requires : tie.Need-time-requires
-time-requires c κs = search needs
+unfolding bodyAt
+time-requires c κs =
+    let headPassed = c .before .before .before .before in
+    let b = headPassed .before .before .before .before .args .s .now in
+    omega (arith, records-held b siteHead 1 1 4 (sym (headPassed .before .before .sized-section .ensures) ∙ headPassed .enum-told2 .given .1))
 
 returns-4 : tie.Need-returns-4
 unfolding siteSection
@@ -78,7 +73,7 @@ returns-4 c =
     let groupsPassed = c .before in
     let phasesPassed = groupsPassed .before .before in
     let headPassed = phasesPassed .before .before in
-    or-next (checked (headPassed .before .before)) (headPassed .enum-told2 .given .1)
+    or-next (headPassed .before .before .sized-section .ensures) (headPassed .enum-told2 .given .1)
     (or-next refl (refuse-no 4 4 (phases (phasesPassed .before) (phasesPassed .if1 .left)))
     (or-next refl (refuse-no 4 5 (groups (groupsPassed .before) (groupsPassed .if2 .left))) (c .time .ensures)))
 
@@ -86,8 +81,7 @@ pub site-section-spec : {M : Type 1} → statement M
 site-section-spec =
     tie.close
     (tie.spec
-    two-requires
-    section-requires
+    sized-section-requires
     enum-told
     returns
     enum-told-2

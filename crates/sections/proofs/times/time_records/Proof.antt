@@ -4,10 +4,11 @@ use mathlib.Core.List.{List}
 use mathlib.Core.Path.{_≡_, refl}
 use native.Mathlib.Omega.{arith}
 use borrow.Author.Needs.{needs}
-use Rattle.rules.specs.Personality.{recordAt, timesAt}
+use Rattle.rules.specs.Personality.{bodyAt, recordAt, timesAt}
 use Rattle.rules.specs.Verdicts.{firstOf}
 use Rattle.rules.specs.declared.answer.Verdict.the-variants.{Accepted}
 use Rattle.rules.specs.declared.answer.Verdict.{Verdict}
+use Rattle.proof_acceptance.proofs.Sections.{record-within}
 use Rattle.sections.proofs.Firsts.{first-more, first-stop, first-done}
 use Rattle.sections.proofs.Places.{record-first, record-next, record-near}
 use Rattle.sections.proofs.times.time_records.Statement.{statement}
@@ -32,9 +33,13 @@ unfolding firstOf
 loop-holds c = (omega arith, record-first (c .before .args .head) (c .before .args .fields * 2), refl)
 
 times-requires : tie.Need-times-requires Inv-loop μ-loop
+unfolding bodyAt
 times-requires c κs =
     let atStart = c .before .before .before in
-    omega (arith, record-near (atStart .args .head) (atStart .args .fields * 2) (c .before .loop .i) (omega arith) (omega arith))
+    let head = atStart .args .head in
+    let width = atStart .args .fields * 2 in
+    let i = c .before .loop .i in
+    omega (arith, record-near head width i (omega arith) (omega arith), record-within head width (atStart .args .count) i (c .loop-test .taken))
 
 enum-told : tie.Need-enum-told Inv-loop μ-loop
 enum-told c = search needs
