@@ -1,0 +1,165 @@
+-- The pass over the occupied detectors: those that are passed have their places in the set, those that are left are the bits of the
+-- rest. And what the set of places says of the phases and of what is asked of them.
+use Prim.Native.Nat.{ℕ, zero, suc, _+_, _-_, _*_, _%_, _^_, _≤_, _<_}
+use mathlib.Core.Bool.{Bool, true, false, not, _&&_, _||_}
+use mathlib.Core.List.{List}
+use mathlib.Core.Logic.{⊎-elim}
+use mathlib.Core.Path.{_≡_, refl, sym, _∙_}
+use native.Mathlib.Nat.{mod-lt, lt-of-le-of-lt, lt-of-lt-of-le, one-mul}
+use native.Mathlib.Omega.{arith}
+use borrow.Author.Tests.{eqb-true, eqb-false, ne-eqb, eq-eqb, lt-ltb, le-ltb}
+use lib.Bits.{bitAnd, bitOr, and-le-r}
+use lib.Count.{trailingZeros}
+use lib.Dec.{eqb}
+use lib.ListN.{getD}
+use lib.Pow.{pow-pos, pow-mono, shl-exact}
+use Rattle.rules.specs.declared.site.Detector.{Detector}
+use Rattle.rules.specs.Bytes.{bit}
+use Rattle.rules.specs.Rows.{anyOf}
+use Rattle.rules.specs.Site.{noDetector}
+use Rattle.rules.specs.Demands.{occupied}
+use Rattle.rules.proofs.Bits.{bit-blank, bit-below}
+use Rattle.rules.proofs.Rows.{any-at, any-none}
+use Rattle.rules.proofs.Tests.{decided, or-right, and-left}
+use Rattle.reads.proofs.Union.{bit-or}
+use Rattle.demands.specs.Seen.{modeOf, placed}
+use Rattle.demands.proofs.Bits.{bit-one, bit-lower, lowest-set, without-lowest}
+use Rattle.demands.proofs.Marks.{or-none, and-all}
+
+-- ── Some index passes ──
+
+pub any-same : (f g : ℕ → Bool) (n : ℕ) → ((i : ℕ) → i < n → f i ≡ g i) → anyOf f n ≡ anyOf g n
+unfolding anyOf
+any-same f g zero h = refl
+any-same f g (suc n) h = rw (any-same f g n (λ i l. h i (omega arith)), h n (omega arith))
+
+-- a test that passes at t as well, where the other does not
+any-with :
+    (f g : ℕ → Bool) (n t : ℕ) (s : Bool) →
+    t < n →
+    f t ≡ false →
+    g t ≡ s →
+    ((i : ℕ) → (i ≡ t → ⊥) → g i ≡ f i) →
+    (anyOf f n || s) ≡ anyOf g n
+any-with f g n t s l out own same =
+    ⊎-elim
+    (λ (e : s ≡ true). or-right (anyOf f n) e ∙ sym (any-at g n t l (own ∙ e)))
+    (λ (e : s ≡ false).
+    rw e (or-none (anyOf f n))
+    ∙ any-same f g n
+    (λ i k.
+    ⊎-elim
+    (λ (i-is : eqb i t ≡ true). rw (eqb-true i t i-is) (out ∙ sym (own ∙ e)))
+    (λ (i-not : eqb i t ≡ false). sym (same i (eqb-false i t i-not)))
+    (decided (eqb i t))))
+    (decided s)
+
+-- ── The pass ──
+
+-- a one that is shifted by less than the width
+pub shifted : (k : ℕ) → k < 64 → 1 * 2 ^ k % 2 ^ 64 ≡ 1 * 2 ^ k
+shifted k l = shl-exact 1 k 64 (omega arith) (omega arith)
+
+pub shifted-some : (k : ℕ) → k < 64 → 0 < 1 * 2 ^ k % 2 ^ 64
+shifted-some k l = rw (shifted k l) (omega (arith, pow-pos k))
+
+module _ (detectors : List Detector) (inputs n : ℕ) where
+  abbrev at : ℕ → Detector
+  at d = getD detectors d noDetector
+
+  -- the rest are occupied detectors, and the set has the places of the others
+  pub record Passed (rest set : ℕ) : Type 0 where
+    pub within : rest < 2 ^ n
+    pub left : (d : ℕ) → bit d rest ≡ true → bit d inputs ≡ true
+    pub told : (q : ℕ) → bit q set ≡ anyOf (λ d. (bit d inputs && not (bit d rest)) && placed (at d) q) n
+
+  none-of : (a b : Bool) → ((a && not a) && b) ≡ false
+  none-of true b = refl
+  none-of false b = refl
+
+  passed-low : Passed (inputs % 2 ^ n) 0
+  passed-low =
+      record {
+        within = mod-lt inputs (pow-pos n);
+        left =
+            λ d e.
+            let below = bit-below (inputs % 2 ^ n) n d (mod-lt inputs (pow-pos n)) e in
+            sym (bit-lower n d inputs below) ∙ e;
+        told =
+            λ q.
+            bit-blank q
+            ∙ sym
+            (any-none (λ d. (bit d inputs && not (bit d (inputs % 2 ^ n))) && placed (at d) q) n
+            (λ d l. rw (bit-lower n d inputs l) (none-of (bit d inputs) (placed (at d) q))));
+      }
+
+  pub passed-none : n ≤ 48 → Passed (inputs % (1 * 2 ^ n % 2 ^ 64)) 0
+  passed-none few = rw (shifted n (omega arith), one-mul (2 ^ n)) passed-low
+
+  -- the detector that is the lowest of the rest
+  module _ (rest set : ℕ) (passed : Passed rest set) (some : 0 < rest) (few : n ≤ 48) where
+    room : rest < 2 ^ 64
+    room = lt-of-lt-of-le (passed .within) (pow-mono {j = 64} (omega arith))
+
+    abbrev next : ℕ
+    next = trailingZeros 64 rest
+
+    abbrev rest′ : ℕ
+    rest′ = bitAnd rest (rest - 1)
+
+    next-left : bit next rest ≡ true
+    next-left = lowest-set 64 rest some room
+
+    pub next-within : next < n
+    next-within = bit-below rest n next (passed .within) next-left
+
+    still : (i : ℕ) → bit i rest′ ≡ (bit i rest && not (eqb i next))
+    still i = without-lowest 64 rest i some room
+
+    gone : bit next rest′ ≡ false
+    gone = still next ∙ rw (next-left, eq-eqb next next refl)
+
+    other : (i : ℕ) → (i ≡ next → ⊥) → bit i rest′ ≡ bit i rest
+    other i apart = still i ∙ rw (ne-eqb i next apart) (and-all (bit i rest))
+
+    pub passed-more : (set′ : ℕ) → ((q : ℕ) → bit q set′ ≡ (bit q set || placed (at next) q)) → Passed rest′ set′
+    passed-more set′ own =
+        record {
+          within = lt-of-le-of-lt (and-le-r rest (rest - 1)) (omega (arith, passed .within));
+          left = λ d e. passed .left d (and-left (bit d rest) (not (eqb d next)) (sym (still d) ∙ e));
+          told =
+              λ q.
+              own q
+              ∙ rw (passed .told q)
+              (any-with
+              (λ d. (bit d inputs && not (bit d rest)) && placed (at d) q)
+              (λ d. (bit d inputs && not (bit d rest′)) && placed (at d) q) n next (placed (at next) q)
+              next-within
+              (rw (next-left, passed .left next next-left))
+              (rw (gone, passed .left next next-left))
+              (λ i apart. rw (other i apart)));
+        }
+
+  pub passed-all :
+      {rest set : ℕ} → Passed rest set → rest ≡ 0 → (q : ℕ) → bit q set ≡ anyOf (λ d. occupied inputs d && placed (at d) q) n
+  unfolding occupied
+  passed-all {rest} {set} passed e q =
+      passed .told q
+      ∙ any-same (λ d. (bit d inputs && not (bit d rest)) && placed (at d) q) (λ d. bit d inputs && placed (at d) q) n
+      (λ d l. rw (e, bit-blank d, and-all (bit d inputs)))
+
+-- ── One detector ──
+
+-- of a phase its place is set, of no phase none is
+pub place-set :
+    (detector : Detector) (set k q : ℕ) →
+    detector .phase < 8 →
+    (k ≡ 8 * modeOf (detector .mode) + detector .phase) × (k < 64) →
+    bit q (bitOr set (1 * 2 ^ k % 2 ^ 64)) ≡ (bit q set || placed detector q)
+unfolding placed
+place-set detector set k q l e =
+    bit-or q set (1 * 2 ^ k % 2 ^ 64) ∙ rw (shifted k (e .1), bit-one k q, e .0, lt-ltb (detector .phase) 8 l)
+
+pub place-none : (detector : Detector) (set q : ℕ) → 8 ≤ detector .phase → bit q set ≡ (bit q set || placed detector q)
+unfolding placed
+place-none detector set q l = rw (le-ltb (detector .phase) 8 l) (sym (or-none (bit q set)))
