@@ -2,6 +2,7 @@
 -- phase.
 use Prim.Native.Nat.{ℕ, _<_}
 use mathlib.Core.Bool.{Bool, true, false, not, _&&_, _||_}
+use mathlib.Core.List.{List}
 use mathlib.Core.Path.{_≡_, refl, ap, _∙_}
 use native.Mathlib.Omega.{arith}
 use lib.Bits.{bitAnd, bitOr}
@@ -12,11 +13,11 @@ use Rattle.rules.specs.declared.state.Demands.{Demands}
 use Rattle.rules.specs.declared.state.Held.{Held}
 use Rattle.rules.specs.declared.state.State.{State}
 use Rattle.rules.specs.Bytes.{bit}
-use Rattle.rules.specs.Rows.{anyOf}
+use Rattle.rules.specs.Rows.{anyOf, listOf}
 use Rattle.rules.specs.Site.{detectorOf, crosses, ring}
 use Rattle.rules.specs.Intervals.{isGreen}
-use Rattle.rules.specs.State.{locked}
-use Rattle.rules.specs.Demands.{calling, locking, extending, detected, inGreen, registersLock, calls, demandsAfter, stands, demanded, firstIn, nextDemanded}
+use Rattle.rules.specs.State.{locked, asked}
+use Rattle.rules.specs.Demands.{calling, locking, extending, detected, inGreen, registersLock, registersButton, calls, demandsAfter, stands, demanded, firstIn, nextDemanded}
 use Rattle.reads.proofs.Common.{bit-and}
 use Rattle.reads.proofs.Union.{bit-or}
 use Rattle.demands.specs.declared.Asked.{Asked}
@@ -31,6 +32,15 @@ use Rattle.demands.proofs.Letters.{next-same}
 or-next : (a b c : Bool) → (a || (b || c)) ≡ ((a || b) || c)
 or-next true b c = refl
 or-next false b c = refl
+
+-- the demands that stand, from their two parts
+pub demands-parts :
+    (s : State) (inputs locking : ℕ) (locks buttons : List Bool) →
+    locks ≡ listOf (λ p. locked s p || bit p locking) 7 →
+    buttons ≡ listOf (λ k. asked s k || registersButton s inputs k) 8 →
+    _≡_ {A = Demands} (record { locks = locks; buttons = buttons }) (demandsWith s inputs locking)
+unfolding demandsWith
+demands-parts s inputs locking locks buttons first second = rw (first, second)
 
 module _
     (site : Site) (s : State) (inputs : ℕ) (sensed : Sensed) (waiting : ℕ)

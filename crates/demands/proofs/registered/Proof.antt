@@ -2,7 +2,7 @@
 use borrow.Author.Needs.{needs}
 use Rattle.rules.specs.Demands.{registersButton}
 use Rattle.rules.specs.State.{locked, asked, movement}
-use Rattle.demands.specs.Asked.{demandsWith}
+use Rattle.demands.proofs.PartOne.{demands-parts}
 use Rattle.demands.proofs.registered.Statement.{statement}
 use Rattle.demands.proofs.registered.Tie as tie
 
@@ -13,8 +13,11 @@ press-requires : tie.Need-press-requires
 press-requires c κs = search needs
 
 returns : tie.Need-returns
-unfolding demandsWith locked asked registersButton movement
-returns c = rw (c .before .joined .ensures, c .press .ensures)
+unfolding locked asked registersButton movement
+returns c =
+    let args = c .before .before .before .before .before .before .args in
+    demands-parts (args .state) (args .inputs) (args .locking) (c .before .joined .result) (c .press .result)
+    (c .before .joined .ensures) (c .press .ensures)
 
 pub registered-spec : {M : Type 1} → statement M
 registered-spec = tie.close (tie.spec joined-requires press-requires returns)
