@@ -7,10 +7,10 @@ use mathlib.Core.Logic.{⊎-elim}
 use mathlib.Core.Path.{_≡_, refl, sym, _∙_}
 use native.Mathlib.Nat.{mod-lt, lt-of-le-of-lt, lt-of-lt-of-le, one-mul}
 use native.Mathlib.Omega.{arith}
-use borrow.Author.Tests.{eqb-true, eqb-false, ne-eqb, eq-eqb, lt-ltb, le-ltb}
+use borrow.Author.Tests.{eqb-true, eqb-false, ltb-true, ne-eqb, eq-eqb, lt-ltb, le-ltb}
 use lib.Bits.{bitAnd, bitOr, and-le-r}
 use lib.Count.{trailingZeros}
-use lib.Dec.{eqb}
+use lib.Dec.{ltb, eqb}
 use lib.ListN.{getD}
 use lib.Pow.{pow-pos, pow-mono, shl-exact}
 use Rattle.rules.specs.declared.site.Detector.{Detector}
@@ -20,7 +20,7 @@ use Rattle.rules.specs.Site.{noDetector}
 use Rattle.rules.specs.Demands.{occupied}
 use Rattle.rules.proofs.Bits.{bit-blank, bit-below}
 use Rattle.rules.proofs.Rows.{any-at, any-none}
-use Rattle.rules.proofs.Tests.{decided, or-right, and-left}
+use Rattle.rules.proofs.Tests.{decided, or-right, and-left, and-right}
 use Rattle.reads.proofs.Union.{bit-or}
 use Rattle.demands.specs.Seen.{modeOf, placed}
 use Rattle.demands.proofs.Bits.{bit-one, bit-lower, lowest-set, without-lowest}
@@ -150,16 +150,60 @@ module _ (detectors : List Detector) (inputs n : ℕ) where
 
 -- ── One detector ──
 
--- of a phase its place is set, of no phase none is
-pub place-set :
-    (detector : Detector) (set k q : ℕ) →
+place-of :
+    (detector : Detector) (k q : ℕ) →
     detector .phase < 8 →
-    (k ≡ 8 * modeOf (detector .mode) + detector .phase) × (k < 64) →
-    bit q (bitOr set (1 * 2 ^ k % 2 ^ 64)) ≡ (bit q set || placed detector q)
+    k ≡ 8 * modeOf (detector .mode) + detector .phase →
+    k < 64 →
+    bit q (1 * 2 ^ k % 2 ^ 64) ≡ placed detector q
 unfolding placed
-place-set detector set k q l e =
-    bit-or q set (1 * 2 ^ k % 2 ^ 64) ∙ rw (shifted k (e .1), bit-one k q, e .0, lt-ltb (detector .phase) 8 l)
+place-of detector k q l e m = rw (shifted k m, bit-one k q, e, lt-ltb (detector .phase) 8 l)
 
-pub place-none : (detector : Detector) (set q : ℕ) → 8 ≤ detector .phase → bit q set ≡ (bit q set || placed detector q)
+pub place-room : (phase mode : ℕ) → (ltb phase 8 && ltb mode 8) ≡ true → 8 * mode + phase < 64
+place-room phase mode t =
+    omega (arith, ltb-true phase 8 (and-left (ltb phase 8) (ltb mode 8) t), ltb-true mode 8 (and-right (ltb phase 8) (ltb mode 8) t))
+
+-- a mode below 8, and one from 8 on
+pub place-below :
+    (detector : Detector) (q : ℕ) →
+    (ltb (detector .phase) 8 && ltb (detector .mode) 8) ≡ true →
+    bit q (1 * 2 ^ (8 * detector .mode + detector .phase) % 2 ^ 64) ≡ placed detector q
+unfolding modeOf
+place-below detector q t =
+    let mode-is = and-right (ltb (detector .phase) 8) (ltb (detector .mode) 8) t in
+    place-of detector (8 * detector .mode + detector .phase) q
+    (ltb-true (detector .phase) 8 (and-left (ltb (detector .phase) 8) (ltb (detector .mode) 8) t))
+    (rw mode-is) (place-room (detector .phase) (detector .mode) t)
+
+pub place-past :
+    (detector : Detector) (q : ℕ) →
+    (ltb (detector .phase) 8 && ltb (detector .mode) 8) ≡ false →
+    detector .phase < 8 →
+    bit q (1 * 2 ^ (8 * (detector .mode % 4 + 4) + detector .phase) % 2 ^ 64) ≡ placed detector q
+unfolding modeOf
+place-past detector q t l =
+    let mode-is : ltb (detector .mode) 8 ≡ false = rw (lt-ltb (detector .phase) 8 l) at t in
+    place-of detector (8 * (detector .mode % 4 + 4) + detector .phase) q l (rw mode-is) (omega (arith, l))
+
+pub place-none : (detector : Detector) (q : ℕ) → 8 ≤ detector .phase → bit q 0 ≡ placed detector q
 unfolding placed
-place-none detector set q l = rw (le-ltb (detector .phase) 8 l) (sym (or-none (bit q set)))
+place-none detector q l = bit-blank q ∙ rw (le-ltb (detector .phase) 8 l)
+
+-- ── A union of two sets, with one place more in either ──
+
+pub more-left : (s m o q : ℕ) (t : Bool) → bit q o ≡ t → bit q (bitOr (bitOr s o) m) ≡ (bit q (bitOr s m) || t)
+more-left s m o q t e = rw (bit-or q (bitOr s o) m, bit-or q s o, bit-or q s m, e) (swap (bit q s) t (bit q m))
+  where
+    swap : (a b c : Bool) → ((a || b) || c) ≡ ((a || c) || b)
+    swap true b c = refl
+    swap false true true = refl
+    swap false true false = refl
+    swap false false true = refl
+    swap false false false = refl
+
+pub more-right : (s m o q : ℕ) (t : Bool) → bit q o ≡ t → bit q (bitOr s (bitOr m o)) ≡ (bit q (bitOr s m) || t)
+more-right s m o q t e = rw (bit-or q s (bitOr m o), bit-or q m o, bit-or q s m, e) (next (bit q s) (bit q m) t)
+  where
+    next : (a b c : Bool) → (a || (b || c)) ≡ ((a || b) || c)
+    next true b c = refl
+    next false b c = refl

@@ -1,13 +1,14 @@
 // One pass over the occupied detectors.
-ghost use mathlib.Core.Bool.{_&&_};
+ghost use mathlib.Core.Bool.{false, _&&_};
 ghost use mathlib.Core.Path.{_≡_};
 ghost use Prim.Native.Nat.{ℕ, _+_, _*_, _≤_, _<_};
+ghost use lib.Dec.{ltb};
 ghost use lib.ListN.{getD};
 ghost use Rattle.rules.specs.Bytes.{bit};
 ghost use Rattle.rules.specs.Rows.{anyOf};
 ghost use Rattle.rules.specs.Site.{noDetector};
 ghost use Rattle.rules.specs.Demands.{occupied};
-ghost use Rattle.demands.specs.Seen.{modeOf, placed, SensedIn};
+ghost use Rattle.demands.specs.Seen.{placed, SensedIn};
 use rules::site::Detector;
 
 // What the occupied detectors ask for, as sets of phases: a demand with lock, a demand in this step only; and whether one of them
@@ -18,34 +19,42 @@ pub struct Sensed {
     pub extended: bool,
 }
 
-// Where a detector placed in the set of the occupied ones: eight places for each mode, one of them for each phase. A mode from 8 on
-// placed with the one of 4 to 7 that asks the same.
-fn place(phase: u8, mode: u8) -> u8
-    requires { ⌜ phase < 8 ⌝ }
-    ensures { λ r. ⌜ (r ≡ 8 * modeOf mode + phase) × (r < 64) ⌝ }
+// The place of a detector with a phase or a mode from 8 on, which no accepted personality has. Such a phase has no place, and such a
+// mode stands with the one of 4 to 7 that asks the same.
+fn past(detector: Detector) -> u64
+    requires { ⌜ (ltb (detector .phase) 8 && ltb (detector .mode) 8) ≡ false ⌝ }
+    ensures { λ r. ⌜ ((q : ℕ) → bit q r ≡ placed detector q) ⌝ }
 {
-    if mode < 8 {
-        return 8 * mode + phase;
+    let phase = detector.phase;
+    let mode = detector.mode;
+    if phase < 8 {
+        return 1u64 << (8 * (mode % 4 + 4) + phase);
     }
-    8 * (mode % 4 + 4) + phase
+    0
 }
 
-// The places of the occupied detectors among the first count. Each turn takes the lowest input that is left.
+// The places of the occupied detectors among the first count: eight places for each mode, one of them for each phase. Each turn takes
+// the lowest input that is left.
 fn places(detectors: [Detector; 48], count: u8, inputs: u64) -> u64
     requires { ⌜ count ≤ 48 ⌝ }
     ensures { λ r. ⌜ ((q : ℕ) → bit q r ≡ anyOf (λ d. occupied inputs d && placed (getD detectors d noDetector) q) count) ⌝ }
 {
     let mut rest = inputs % (1u64 << count);
     let mut set: u64 = 0;
+    let mut more: u64 = 0;
     while rest != 0 {
         let d = u64::trailing_zeros(rest) as usize;
         let detector = detectors[d];
-        if detector.phase < 8 {
-            set = set | (1u64 << place(detector.phase, detector.mode));
+        let phase = detector.phase;
+        let mode = detector.mode;
+        if (phase < 8) & (mode < 8) {
+            set = set | (1u64 << (8 * mode + phase));
+        } else {
+            more = more | past(detector);
         }
         rest = rest & (rest - 1);
     }
-    set
+    set | more
 }
 
 // The phases of the occupied detectors with a mode.
