@@ -91,7 +91,7 @@ bit-others k p l m =
 below-one : (x : ℕ) → 0 < x → x < 1 → ⊥
 below-one x h l = omega arith
 
-pub lowest-set : (k x : ℕ) → 0 < x → x < 2 ^ k → bit (trailingZeros k x) x ≡ true
+lowest-set : (k x : ℕ) → 0 < x → x < 2 ^ k → bit (trailingZeros k x) x ≡ true
 unfolding trailingZeros
 lowest-set zero x h l = absurd (below-one x h l)
 lowest-set (suc k) x h l = go (x % 2) refl (λ e. lowest-set k (x / 2) (omega (arith, e)) (omega (arith, pow-succ' 2 k)))
@@ -112,7 +112,7 @@ even-less x h e =
     let same : (x - 1) / 2 ≡ x / 2 - 1 = omega (arith, e) in
     and-step x (x - 1) ∙ rw (same, e) (omega arith)
 
-pub without-lowest :
+without-lowest :
     (k x i : ℕ) →
     0 < x →
     x < 2 ^ k →
@@ -143,3 +143,23 @@ without-lowest (suc k) x i h l = go (x % 2) refl i (λ e j. without-lowest k (x 
     go (suc r) e (suc i) ih =
         let apart : eqb (suc i) 0 ≡ false = ne-eqb (suc i) 0 (λ z. omega (arith, z)) in
         rw (odd-less x r e, half-bit i (x / 2 * 2), double (x / 2), half-bit i x, apart) (sym (and-all (bit i (x / 2))))
+
+-- the lowest bit of a word, and the word without it
+module _ (rest : ℕ) (some : 0 < rest) (room : rest < 2 ^ 64) where
+  abbrev lowest : ℕ
+  lowest = trailingZeros 64 rest
+
+  abbrev others : ℕ
+  others = bitAnd rest (rest - 1)
+
+  pub lowest-in : bit lowest rest ≡ true
+  lowest-in = lowest-set 64 rest some room
+
+  pub others-in : (i : ℕ) → bit i others ≡ (bit i rest && not (eqb i lowest))
+  others-in i = without-lowest 64 rest i some room
+
+  pub lowest-gone : bit lowest others ≡ false
+  lowest-gone = others-in lowest ∙ rw (lowest-in, eq-eqb lowest lowest refl)
+
+  pub others-same : (i : ℕ) → (i ≡ lowest → ⊥) → bit i others ≡ bit i rest
+  others-same i apart = others-in i ∙ rw (ne-eqb i lowest apart) (and-all (bit i rest))

@@ -4,5 +4,6 @@ pub mod Crossed
 pub mod Bits
 pub mod Places
 pub mod Modes
+pub mod Presses
 pub mod PartOne
 pub mod Sizes

@@ -7,7 +7,7 @@ use mathlib.Core.Logic.{⊎-elim}
 use mathlib.Core.Path.{_≡_, refl, sym, _∙_}
 use native.Mathlib.Nat.{mod-lt, lt-of-le-of-lt, lt-of-lt-of-le, one-mul}
 use native.Mathlib.Omega.{arith}
-use borrow.Author.Tests.{eqb-true, eqb-false, ltb-true, ne-eqb, eq-eqb, lt-ltb, le-ltb}
+use borrow.Author.Tests.{eqb-true, eqb-false, ltb-true, lt-ltb, le-ltb}
 use lib.Bits.{bitAnd, bitOr, and-le-r}
 use lib.Count.{trailingZeros}
 use lib.Dec.{ltb, eqb}
@@ -23,7 +23,7 @@ use Rattle.rules.proofs.Rows.{any-at, any-none}
 use Rattle.rules.proofs.Tests.{decided, or-right, and-left, and-right}
 use Rattle.reads.proofs.Union.{bit-or}
 use Rattle.demands.specs.Seen.{modeOf, placed}
-use Rattle.demands.proofs.Bits.{bit-one, bit-lower, lowest-set, without-lowest}
+use Rattle.demands.proofs.Bits.{bit-one, bit-lower, lowest-in, others-in, lowest-gone, others-same}
 use Rattle.demands.proofs.Marks.{or-none, and-all}
 
 -- ── Some index passes ──
@@ -107,26 +107,14 @@ module _ (detectors : List Detector) (inputs n : ℕ) where
     abbrev rest′ : ℕ
     rest′ = bitAnd rest (rest - 1)
 
-    next-left : bit next rest ≡ true
-    next-left = lowest-set 64 rest some room
-
     pub next-within : next < n
-    next-within = bit-below rest n next (passed .within) next-left
-
-    still : (i : ℕ) → bit i rest′ ≡ (bit i rest && not (eqb i next))
-    still i = without-lowest 64 rest i some room
-
-    gone : bit next rest′ ≡ false
-    gone = still next ∙ rw (next-left, eq-eqb next next refl)
-
-    other : (i : ℕ) → (i ≡ next → ⊥) → bit i rest′ ≡ bit i rest
-    other i apart = still i ∙ rw (ne-eqb i next apart) (and-all (bit i rest))
+    next-within = bit-below rest n next (passed .within) (lowest-in rest some room)
 
     pub passed-more : (set′ : ℕ) → ((q : ℕ) → bit q set′ ≡ (bit q set || placed (at next) q)) → Passed rest′ set′
     passed-more set′ own =
         record {
           within = lt-of-le-of-lt (and-le-r rest (rest - 1)) (omega (arith, passed .within));
-          left = λ d e. passed .left d (and-left (bit d rest) (not (eqb d next)) (sym (still d) ∙ e));
+          left = λ d e. passed .left d (and-left (bit d rest) (not (eqb d next)) (sym (others-in rest some room d) ∙ e));
           told =
               λ q.
               own q
@@ -135,9 +123,9 @@ module _ (detectors : List Detector) (inputs n : ℕ) where
               (λ d. (bit d inputs && not (bit d rest)) && placed (at d) q)
               (λ d. (bit d inputs && not (bit d rest′)) && placed (at d) q) n next (placed (at next) q)
               next-within
-              (rw (next-left, passed .left next next-left))
-              (rw (gone, passed .left next next-left))
-              (λ i apart. rw (other i apart)));
+              (rw (lowest-in rest some room, passed .left next (lowest-in rest some room)))
+              (rw (lowest-gone rest some room, passed .left next (lowest-in rest some room)))
+              (λ i apart. rw (others-same rest some room i apart)));
         }
 
   pub passed-all :
