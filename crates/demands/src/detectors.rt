@@ -34,7 +34,7 @@ fn past(detector: Detector) -> u64
 }
 
 // The places of the occupied detectors among the first count: eight places for each mode, one of them for each phase. Each turn takes
-// the lowest input that is left.
+// the lowest input that is left. What `past` gives is gathered apart, which keeps the turn of any other detector short.
 fn places(detectors: [Detector; 48], count: u8, inputs: u64) -> u64
     requires { ⌜ count ≤ 48 ⌝ }
     ensures { λ r. ⌜ ((q : ℕ) → bit q r ≡ anyOf (λ d. occupied inputs d && placed (getD detectors d noDetector) q) count) ⌝ }
