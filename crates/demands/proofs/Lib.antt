@@ -1,6 +1,9 @@
 pub mod Marks
 pub mod Letters
 pub mod Crossed
-pub mod Scan
+pub mod Bits
+pub mod Places
+pub mod Modes
+pub mod Presses
 pub mod PartOne
 pub mod Sizes

@@ -1,4 +1,4 @@
--- Marks by index with one of them set or taken away: the store is at that index, and past the list nothing is stored.
+-- Marks by index with one of them taken away: the store is at that index, and past the list nothing is stored.
 use Prim.Native.Nat.{ℕ, _≤_, _<_}
 use mathlib.Core.Bool.{Bool, true, false, not, _&&_, _||_}
 use mathlib.Core.List.{List}
@@ -19,22 +19,6 @@ and-all true = refl
 and-all false = refl
 
 module _ (l : List Bool) (n p : ℕ) (t : Bool) (len : length l ≡ n) where
-  -- ── One more ──
-
-  marked-other : (q : ℕ) → (q ≡ p → ⊥) → (getD l q false || (eqb p q && t)) ≡ getD l q false
-  marked-other q apart = rw (ne-eqb p q (λ e. apart (sym e))) (or-none (getD l q false))
-
-  pub marked : p < n → set l p (getD l p false || t) ≡ listOf (λ q. getD l q false || (eqb p q && t)) n
-  marked h =
-      list-set (λ q. getD l q false || (eqb p q && t)) l n p (getD l p false || t) false len h
-      (rw (eq-eqb p p refl))
-      (λ q m apart. marked-other q apart)
-
-  pub marked-past : n ≤ p → l ≡ listOf (λ q. getD l q false || (eqb p q && t)) n
-  marked-past h = list-told (λ q. getD l q false || (eqb p q && t)) l n false len (λ q m. sym (marked-other q (λ e. omega arith)))
-
-  -- ── One less ──
-
   cleared-other : (q : ℕ) → (q ≡ p → ⊥) → (getD l q false && not (eqb q p && t)) ≡ getD l q false
   cleared-other q apart = rw (ne-eqb q p apart) (and-all (getD l q false))
 

@@ -1,137 +1,109 @@
--- Part 1 put together: what its halves give from the rows of the phases of which detectors are occupied is what the rules say, phase
--- by phase.
-use Prim.Native.Nat.{ℕ, _≤_, _<_}
-use mathlib.Core.Bool.{Bool, false, not, _&&_, _||_}
+-- Part 1 put together: what its calls give from the sets of phases of which detectors are occupied is what the rules say, phase by
+-- phase.
+use Prim.Native.Nat.{ℕ, _<_}
+use mathlib.Core.Bool.{Bool, true, false, not, _&&_, _||_}
 use mathlib.Core.List.{List}
-use mathlib.Core.Path.{_≡_, ap, _∙_}
+use mathlib.Core.Path.{_≡_, refl, ap, _∙_}
+use native.Mathlib.Omega.{arith}
+use lib.Bits.{bitAnd, bitOr}
+use lib.Dec.{eqb}
 use lib.ListN.{getD}
 use Rattle.rules.specs.declared.site.Site.{Site}
 use Rattle.rules.specs.declared.state.Demands.{Demands}
 use Rattle.rules.specs.declared.state.Held.{Held}
-use Rattle.rules.specs.declared.state.Position.{Position}
 use Rattle.rules.specs.declared.state.State.{State}
 use Rattle.rules.specs.Bytes.{bit}
 use Rattle.rules.specs.Rows.{anyOf, listOf}
 use Rattle.rules.specs.Site.{detectorOf, crosses, ring}
+use Rattle.rules.specs.Intervals.{isGreen}
 use Rattle.rules.specs.State.{locked, asked}
 use Rattle.rules.specs.Demands.{calling, locking, extending, detected, inGreen, registersLock, registersButton, calls, demandsAfter, stands, demanded, firstIn, nextDemanded}
-use Rattle.rules.proofs.Rows.{list-at}
+use Rattle.reads.proofs.Common.{bit-and}
+use Rattle.reads.proofs.Union.{bit-or}
 use Rattle.demands.specs.declared.Asked.{Asked}
 use Rattle.demands.specs.declared.detectors.Sensed.{Sensed}
 use Rattle.demands.specs.Letters.{others}
 use Rattle.demands.specs.Sized.{Sized}
-use Rattle.demands.specs.Seen.{seen, sensedIn}
-use Rattle.demands.specs.Asked.{outsideGreen, demandsWith, demandedWith, askedOf}
-use Rattle.proof_arrays.proofs.Fill.{list-same, row-of-row}
+use Rattle.demands.specs.Seen.{seen, SensedIn}
+use Rattle.demands.specs.Asked.{demandsWith, askedOf}
+use Rattle.proof_arrays.proofs.Fill.{list-same}
 use Rattle.demands.proofs.Letters.{next-same}
 
--- the demands that stand from the rows that are joined
-pub demands-rows :
-    (s : State) (inputs : ℕ) (row locks locking buttons : List Bool) →
-    locks ≡ listOf (λ p. getD (s .demands .locks) p false || getD locking p false) 7 →
-    locking ≡ listOf (outsideGreen (s .position) row) 7 →
+or-next : (a b c : Bool) → (a || (b || c)) ≡ ((a || b) || c)
+or-next true b c = refl
+or-next false b c = refl
+
+-- the demands that stand, from their two parts
+pub demands-parts :
+    (s : State) (inputs locking : ℕ) (locks buttons : List Bool) →
+    locks ≡ listOf (λ p. locked s p || bit p locking) 7 →
     buttons ≡ listOf (λ k. asked s k || registersButton s inputs k) 8 →
-    _≡_ {A = Demands} (record { locks = locks; buttons = buttons }) (demandsWith s inputs row)
-unfolding demandsWith locked
-demands-rows s inputs row locks locking buttons first second third =
-    rw (
-      first,
-      second,
-      third,
-      row-of-row (λ p (t : Bool). getD (s .demands .locks) p false || t) (outsideGreen (s .position) row) 7 false,
-    )
+    _≡_ {A = Demands} (record { locks = locks; buttons = buttons }) (demandsWith s inputs locking)
+unfolding demandsWith
+demands-parts s inputs locking locks buttons first second = rw (first, second)
 
--- the row of the demanded phases from the rows that are joined
-pub demanded-rows :
-    (crossings : List ℕ) (count : ℕ) (position : Position) (demands : Demands) (row standing calling : List Bool) (set : ℕ) →
-    standing ≡ listOf (λ p. getD (demands .locks) p false || bit p set) 7 →
-    ((p : ℕ) → bit p set ≡ anyOf (λ k. getD (demands .buttons) k false && bit p (getD crossings k 0)) count) →
-    calling ≡ listOf (outsideGreen position row) 7 →
-    listOf (λ p. getD standing p false || getD calling p false) 7 ≡ listOf (demandedWith crossings count position demands row) 7
-unfolding demandedWith
-demanded-rows crossings count position demands row standing calling set first union second =
-    rw (first, second)
-    (list-same
-    (λ p.
-    getD (listOf (λ p. getD (demands .locks) p false || bit p set) 7) p false
-    || getD (listOf (outsideGreen position row) 7) p false)
-    (demandedWith crossings count position demands row) 7
-    (λ p l.
-    rw (
-      list-at (λ p. getD (demands .locks) p false || bit p set) 7 p false l,
-      list-at (outsideGreen position row) 7 p false l,
-      union p,
-    )))
+module _
+    (site : Site) (s : State) (inputs : ℕ) (sensed : Sensed) (waiting : ℕ)
+    (scanned : SensedIn (site .detectors) inputs (s .position .phase) (site .size .detectors) sensed)
+    (waits : (p : ℕ) → p < 8 → bit p waiting ≡ not (eqb p (s .position .phase) && isGreen (s .position .interval)))
+  where
+    -- of a set of phases those that may be demanded
+    outside :
+        (kind : ℕ → Bool) (set : ℕ) →
+        ((p : ℕ) → p < 8 → bit p set ≡ seen kind (site .detectors) inputs (site .size .detectors) p) →
+        (p : ℕ) →
+        p < 7 →
+        bit p (bitAnd set waiting) ≡ (detected kind site inputs p && not (inGreen s p))
+    unfolding detected detectorOf seen inGreen
+    outside kind set told p l = bit-and p set waiting ∙ rw (told p (omega arith), waits p (omega arith))
 
-module _ (site : Site) (s : State) (inputs : ℕ) where
-  -- the phases of which a detector with a mode of the kind is occupied
-  abbrev seenIn : (ℕ → Bool) → List Bool
-  seenIn kind = listOf (seen kind (site .detectors) inputs (site .size .detectors)) 7
+    -- the demands that stand
+    demands-told : demandsWith s inputs (bitAnd (sensed .locks) waiting) ≡ demandsAfter site s inputs
+    unfolding demandsWith demandsAfter registersLock
+    demands-told =
+        rw
+        (list-same (λ p. locked s p || bit p (bitAnd (sensed .locks) waiting))
+        (λ p. locked s p || (detected locking site inputs p && not (inGreen s p))) 7
+        (λ p l. ap (λ (t : Bool). locked s p || t) (outside locking (sensed .locks) (scanned .locks) p l)))
 
-  outside : (kind : ℕ → Bool) (p : ℕ) → p < 7 → outsideGreen (s .position) (seenIn kind) p ≡ (detected kind site inputs p && not (inGreen s p))
-  unfolding outsideGreen detected detectorOf seen inGreen
-  outside kind p l = rw (list-at (seen kind (site .detectors) inputs (site .size .detectors)) 7 p false l)
+    module _
+        (demands : Demands) (crossed : ℕ) (next : Held)
+        (registered : demands ≡ demandsWith s inputs (bitAnd (sensed .locks) waiting))
+        (crossing :
+        (p : ℕ) →
+        bit p crossed ≡ anyOf (λ k. getD (demands .buttons) k false && bit p (getD (site .crossings) k 0)) (site .size .movements))
+        (searched :
+        next
+        ≡ firstIn (λ p. getD (demands .locks) p false || bit p (bitOr crossed (bitAnd (sensed .calls) waiting)))
+        (others (s .position .phase) (site .size .phases)))
+        (sized : Sized site (s .position .phase))
+      where
+        stand : demands ≡ demandsAfter site s inputs
+        stand = registered ∙ demands-told
 
-  demands-told : demandsWith s inputs (seenIn locking) ≡ demandsAfter site s inputs
-  unfolding demandsWith demandsAfter registersLock
-  demands-told =
-      rw
-      (list-same (λ p. locked s p || outsideGreen (s .position) (seenIn locking) p)
-      (λ p. locked s p || (detected locking site inputs p && not (inGreen s p))) 7
-      (λ p l. ap (λ (t : Bool). locked s p || t) (outside locking p l)))
+        -- a phase is demanded by lock, by a movement or by a detector
+        demanded-told :
+            (p : ℕ) →
+            p < 7 →
+            (getD (demands .locks) p false || bit p (bitOr crossed (bitAnd (sensed .calls) waiting))) ≡ demanded site s inputs p
+        unfolding demanded stands calls crosses
+        demanded-told p l =
+            rw (bit-or p crossed (bitAnd (sensed .calls) waiting), outside calling (sensed .calls) (scanned .calls) p l, crossing p, stand)
+            (or-next (getD (demandsAfter site s inputs .locks) p false)
+            (anyOf (λ k. getD (demandsAfter site s inputs .buttons) k false && bit p (getD (site .crossings) k 0)) (site .size .movements))
+            (detected calling site inputs p && not (inGreen s p)))
 
-  demanded-told :
-      (p : ℕ) →
-      p < 7 →
-      demandedWith (site .crossings) (site .size .movements) (s .position) (demandsAfter site s inputs) (seenIn calling) p
-      ≡ demanded site s inputs p
-  unfolding demandedWith demanded stands calls crosses
-  demanded-told p l = rw (outside calling p l)
+        next-told : next ≡ nextDemanded site s inputs
+        unfolding nextDemanded ring
+        next-told =
+            searched
+            ∙ next-same (λ p. getD (demands .locks) p false || bit p (bitOr crossed (bitAnd (sensed .calls) waiting)))
+            (demanded site s inputs) (s .position .phase) (site .size .phases) 7 (sized .on) (sized .phases) demanded-told
 
-  -- the search over the row of the demanded phases
-  next-told :
-      s .position .phase < site .size .phases →
-      site .size .phases ≤ 7 →
-      firstIn (λ p. getD (listOf (demanded site s inputs) 7) p false)
-      (others (s .position .phase) (site .size .phases))
-      ≡ nextDemanded site s inputs
-  unfolding nextDemanded ring
-  next-told h k =
-      next-same (λ p. getD (listOf (demanded site s inputs) 7) p false) (demanded site s inputs) (s .position .phase) (site .size .phases) 7 h k
-      (λ p l. list-at (demanded site s inputs) 7 p false l)
+        extended-told : sensed .extended ≡ detected extending site inputs (s .position .phase)
+        unfolding seen detected detectorOf
+        extended-told = scanned .extended
 
-  -- all of part 1, from what its calls give
-  module _
-      (sensed : Sensed) (demands : Demands) (row : List Bool) (next : Held)
-      (scanned : sensed ≡ sensedIn (site .detectors) inputs (s .position .phase) (site .size .detectors))
-      (registered : demands ≡ demandsWith s inputs (sensed .locks))
-      (rowed : row ≡ listOf (demandedWith (site .crossings) (site .size .movements) (s .position) demands (sensed .calls)) 7)
-      (searched :
-      next
-      ≡ firstIn (λ p. getD row p false)
-      (others (s .position .phase) (site .size .phases)))
-      (sized : Sized site (s .position .phase))
-    where
-      stand : demands ≡ demandsAfter site s inputs
-      unfolding sensedIn
-      stand = registered ∙ ap (λ (l : List Bool). demandsWith s inputs l) (ap (λ (x : Sensed). x .locks) scanned) ∙ demands-told
-
-      row-told : row ≡ listOf (demanded site s inputs) 7
-      unfolding sensedIn
-      row-told =
-          rowed
-          ∙ rw (stand, scanned)
-          (list-same
-          (demandedWith (site .crossings) (site .size .movements) (s .position) (demandsAfter site s inputs) (seenIn calling))
-          (demanded site s inputs) 7 demanded-told)
-
-      next-is : next ≡ nextDemanded site s inputs
-      next-is = searched ∙ rw row-told (next-told (sized .on) (sized .phases))
-
-      extended-told : sensed .extended ≡ detected extending site inputs (s .position .phase)
-      unfolding sensedIn seen detected detectorOf
-      extended-told = ap (λ (x : Sensed). x .extended) scanned
-
-      pub asked-told : _≡_ {A = Asked} (record { demands = demands; next = next; extended = sensed .extended }) (askedOf site s inputs)
-      unfolding askedOf
-      asked-told = rw (stand, next-is, extended-told)
+        pub asked-told : _≡_ {A = Asked} (record { demands = demands; next = next; extended = sensed .extended }) (askedOf site s inputs)
+        unfolding askedOf
+        asked-told = rw (stand, next-told, extended-told)

@@ -1,36 +1,34 @@
 -- What a list of detectors asks for, as far as it is read.
-use Prim.Native.Nat.{ℕ}
-use mathlib.Core.Bool.{Bool, false, _&&_, _||_}
+use Prim.Native.Nat.{ℕ, _+_, _*_, _%_, _<_}
+use mathlib.Core.Bool.{Bool, _&&_}
 use mathlib.Core.List.{List}
-use lib.Dec.{eqb}
+use mathlib.Core.Path.{_≡_}
+use lib.Dec.{ltb, eqb}
 use lib.ListN.{getD}
 use Rattle.rules.specs.declared.site.Detector.{Detector}
-use Rattle.rules.specs.Rows.{anyOf, listOf}
+use Rattle.rules.specs.Bytes.{bit}
+use Rattle.rules.specs.Rows.{if_then_else_, anyOf}
 use Rattle.rules.specs.Site.{noDetector}
 use Rattle.rules.specs.Demands.{occupied, calling, locking, extending}
 use Rattle.demands.specs.declared.detectors.Sensed.{Sensed}
 
--- a detector of the phase with a mode of the kind
-unfoldable pub asks : (ℕ → Bool) → Detector → ℕ → Bool
-asks kind detector p = eqb (detector .phase) p && kind (detector .mode)
-
--- one of the first n detectors, occupied, asks it
+-- one of the first n detectors, occupied, is of the phase and has a mode of the kind
 unfoldable pub seen : (ℕ → Bool) → List Detector → ℕ → ℕ → ℕ → Bool
 seen kind detectors inputs n p =
     anyOf (λ d. occupied inputs d && eqb (getD detectors d noDetector .phase) p && kind (getD detectors d noDetector .mode)) n
 
-unfoldable pub sensedBy : Sensed → Detector → ℕ → Sensed
-sensedBy sensed detector phase =
-    record {
-      locks = listOf (λ p. getD (sensed .locks) p false || asks locking detector p) 7;
-      calls = listOf (λ p. getD (sensed .calls) p false || asks calling detector p) 7;
-      extended = sensed .extended || asks extending detector phase;
-    }
+-- the sets of phases of which a detector asks, and whether one extends the phase that is on
+pub record SensedIn (detectors : List Detector) (inputs phase n : ℕ) (sensed : Sensed) : Type 0 where
+  pub locks : (p : ℕ) → p < 8 → bit p (sensed .locks) ≡ seen locking detectors inputs n p
+  pub calls : (p : ℕ) → p < 8 → bit p (sensed .calls) ≡ seen calling detectors inputs n p
+  pub extended : sensed .extended ≡ seen extending detectors inputs n phase
 
-unfoldable pub sensedIn : List Detector → ℕ → ℕ → ℕ → Sensed
-sensedIn detectors inputs phase n =
-    record {
-      locks = listOf (seen locking detectors inputs n) 7;
-      calls = listOf (seen calling detectors inputs n) 7;
-      extended = seen extending detectors inputs n phase;
-    }
+-- ── The set of the occupied detectors: bit 8 * m + p for those of phase p with mode m ──
+
+-- the mode below 8 that asks the same
+unfoldable pub modeOf : ℕ → ℕ
+modeOf mode = if ltb mode 8 then mode else mode % 4 + 4
+
+-- the detector has its place at q; one of a phase that is no phase has none
+unfoldable pub placed : Detector → ℕ → Bool
+placed detector q = ltb (detector .phase) 8 && eqb (8 * modeOf (detector .mode) + detector .phase) q

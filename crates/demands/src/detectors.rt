@@ -1,67 +1,80 @@
-// One pass over the detectors.
-ghost use mathlib.Core.Bool.{false, _&&_, _||_};
+// One pass over the occupied detectors.
+ghost use mathlib.Core.Bool.{false, _&&_};
 ghost use mathlib.Core.Path.{_≡_};
-ghost use Prim.Native.Nat.{_≤_};
-ghost use lib.Dec.{eqb};
+ghost use Prim.Native.Nat.{ℕ, _+_, _*_, _≤_, _<_};
+ghost use lib.Dec.{ltb};
 ghost use lib.ListN.{getD};
-ghost use Rattle.rules.specs.Rows.{listOf};
-ghost use Rattle.demands.specs.Seen.{sensedBy, sensedIn};
+ghost use Rattle.rules.specs.Bytes.{bit};
+ghost use Rattle.rules.specs.Rows.{anyOf};
+ghost use Rattle.rules.specs.Site.{noDetector};
+ghost use Rattle.rules.specs.Demands.{occupied};
+ghost use Rattle.demands.specs.Seen.{placed, SensedIn};
 use rules::site::Detector;
 
-// What the occupied detectors ask for, by phase: a demand with lock, a demand in this step only; and whether one of them extends
-// the phase that is on.
+// What the occupied detectors ask for, as sets of phases: a demand with lock, a demand in this step only; and whether one of them
+// extends the phase that is on.
 pub struct Sensed {
-    pub locks: [bool; 7],
-    pub calls: [bool; 7],
+    pub locks: u8,
+    pub calls: u8,
     pub extended: bool,
 }
 
-// The marks by phase with one more, at p where it is set.
-fn mark(marks: [bool; 7], p: u8, set: bool) -> [bool; 7]
-    ensures { λ r. ⌜ r ≡ listOf (λ q. getD marks q false || (eqb p q && set)) 7 ⌝ }
+// The place of a detector with a phase or a mode from 8 on, which no accepted personality has. Such a phase has no place, and such a
+// mode stands with the one of 4 to 7 that asks the same.
+fn past(detector: Detector) -> u64
+    requires { ⌜ (ltb (detector .phase) 8 && ltb (detector .mode) 8) ≡ false ⌝ }
+    ensures { λ r. ⌜ ((q : ℕ) → bit q r ≡ placed detector q) ⌝ }
 {
-    let i = p as usize;
-    if i < 7 {
-        let mut out = marks;
-        out[i] = marks[i] | set;
-        return out;
+    let phase = detector.phase;
+    let mode = detector.mode;
+    if phase < 8 {
+        return 1u64 << (8 * (mode % 4 + 4) + phase);
     }
-    marks
+    0
 }
 
-// One occupied detector more.
-fn sense(sensed: Sensed, detector: Detector, phase: u8) -> Sensed
-    ensures { λ r. ⌜ r ≡ sensedBy sensed detector phase ⌝ }
+// The places of the occupied detectors among the first count: eight places for each mode, one of them for each phase. Each turn takes
+// the lowest input that is left. What `past` gives is gathered apart, which keeps the turn of any other detector short.
+fn places(detectors: [Detector; 48], count: u8, inputs: u64) -> u64
+    requires { ⌜ count ≤ 48 ⌝ }
+    ensures { λ r. ⌜ ((q : ℕ) → bit q r ≡ anyOf (λ d. occupied inputs d && placed (getD detectors d noDetector) q) count) ⌝ }
 {
-    let p = detector.phase;
-    let mode = detector.mode;
-    let locks = sensed.locks;
-    let calls = sensed.calls;
-    Sensed {
-        locks: mark(locks, p, mode % 4 == 2),
-        calls: mark(calls, p, mode % 4 == 1),
-        extended: sensed.extended | ((p == phase) & (4 <= mode)),
+    let mut rest = inputs % (1u64 << count);
+    let mut set: u64 = 0;
+    let mut more: u64 = 0;
+    while rest != 0 {
+        let d = u64::trailing_zeros(rest) as usize;
+        let detector = detectors[d];
+        let phase = detector.phase;
+        let mode = detector.mode;
+        if (phase < 8) & (mode < 8) {
+            set = set | (1u64 << (8 * mode + phase));
+        } else {
+            more = more | past(detector);
+        }
+        rest = rest & (rest - 1);
     }
+    set | more
+}
+
+// The phases of the occupied detectors with a mode.
+fn with_mode(set: u64, mode: u8) -> u8
+    requires { ⌜ mode < 8 ⌝ }
+    ensures { λ r. ⌜ ((p : ℕ) → p < 8 → bit p r ≡ bit (8 * mode + p) set) ⌝ }
+{
+    ((set >> (8 * mode)) % 256) as u8
 }
 
 // What the first count detectors ask for.
 pub fn scan(detectors: [Detector; 48], count: u8, inputs: u64, phase: u8) -> Sensed
-    requires { ⌜ count ≤ 48 ⌝ }
-    ensures { λ r. ⌜ r ≡ sensedIn detectors inputs phase count ⌝ }
+    requires { ⌜ (count ≤ 48) × (phase < 8) ⌝ }
+    ensures { λ r. ⌜ SensedIn detectors inputs phase count r ⌝ }
 {
-    let n = count as usize;
-    let mut sensed = Sensed {
-        locks: [false; 7],
-        calls: [false; 7],
-        extended: false,
-    };
-    let mut d: usize = 0;
-    while d < n {
-        if reads::bit64(d, inputs) {
-            let detector = detectors[d];
-            sensed = sense(sensed, detector, phase);
-        }
-        d += 1;
+    let set = places(detectors, count, inputs);
+    let extending = with_mode(set, 4) | with_mode(set, 5) | with_mode(set, 6) | with_mode(set, 7);
+    Sensed {
+        locks: with_mode(set, 2) | with_mode(set, 6),
+        calls: with_mode(set, 1) | with_mode(set, 5),
+        extended: reads::bit8(phase, extending),
     }
-    sensed
 }

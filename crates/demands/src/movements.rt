@@ -11,17 +11,19 @@ ghost use Rattle.rules.specs.Demands.{pressed};
 use rules::state::Movement;
 use rules::state::Stage;
 
-// A pressed button demands its movement unless that movement is in walk. Button k is input bit 48 + k.
+// A pressed button demands its movement unless that movement is in walk. Button k is input bit 48 + k. Each turn takes the lowest button
+// that is left.
 pub fn press(buttons: [bool; 8], movements: [Movement; 8], inputs: u64) -> [bool; 8]
     ensures { λ r. ⌜ r ≡ listOf (λ k. getD buttons k false || (pressed inputs k && not (isWalk (getD movements k idle .stage)))) 8 ⌝ }
 {
     let mut out = buttons;
-    let mut k: usize = 0;
-    while k < 8 {
+    let mut rest = (inputs >> 48) % 256;
+    while rest != 0 {
+        let k = u64::trailing_zeros(rest) as usize;
         let movement = movements[k];
         let stage = movement.stage;
-        out[k] = buttons[k] | (reads::bit64(48 + k, inputs) & !intervals::walking(stage));
-        k += 1;
+        out[k] = out[k] | !intervals::walking(stage);
+        rest = rest & (rest - 1);
     }
     out
 }

@@ -1,10 +1,13 @@
-// Marks by phase: taken away, joined, and joined with a set of phases.
+// Marks by phase, and sets of phases.
 ghost use mathlib.Core.Bool.{false, not, _&&_, _||_};
 ghost use mathlib.Core.Path.{_≡_};
+ghost use Prim.Native.Nat.{ℕ, _<_};
 ghost use lib.Dec.{eqb};
 ghost use lib.ListN.{getD};
 ghost use Rattle.rules.specs.Bytes.{bit};
 ghost use Rattle.rules.specs.Rows.{listOf};
+ghost use Rattle.rules.specs.Intervals.{isGreen};
+use rules::state::Position;
 
 // The marks without the one at a phase where it is to go.
 pub fn cleared(marks: [bool; 7], phase: u8, gone: bool) -> [bool; 7]
@@ -19,19 +22,6 @@ pub fn cleared(marks: [bool; 7], phase: u8, gone: bool) -> [bool; 7]
     marks
 }
 
-// The marks of either.
-pub(crate) fn either(a: [bool; 7], b: [bool; 7]) -> [bool; 7]
-    ensures { λ r. ⌜ r ≡ listOf (λ p. getD a p false || getD b p false) 7 ⌝ }
-{
-    let mut out = a;
-    let mut p: usize = 0;
-    while p < 7 {
-        out[p] = a[p] | b[p];
-        p += 1;
-    }
-    out
-}
-
 // The marks, and the phases of a set.
 pub(crate) fn joined(marks: [bool; 7], set: u8) -> [bool; 7]
     ensures { λ r. ⌜ r ≡ listOf (λ p. getD marks p false || bit p set) 7 ⌝ }
@@ -44,4 +34,17 @@ pub(crate) fn joined(marks: [bool; 7], set: u8) -> [bool; 7]
         p += 1;
     }
     out
+}
+
+// The phases that detectors may demand: all but one that is in minimum green or running.
+pub(crate) fn waiting(position: Position) -> u8
+    requires { ⌜ position .phase < 8 ⌝ }
+    ensures { λ r. ⌜ ((p : ℕ) → p < 8 → bit p r ≡ not (eqb p (position .phase) && isGreen (position .interval))) ⌝ }
+{
+    let interval = position.interval;
+    if intervals::green(interval) {
+        255 - (1u8 << position.phase)
+    } else {
+        255
+    }
 }

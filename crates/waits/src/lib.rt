@@ -3,7 +3,7 @@
 ghost use Prim.Native.Nat.{_*_, _≤_, max};
 ghost use mathlib.Core.Path.{_≡_};
 ghost use Rattle.rules.specs.WaitBound.{waitBound};
-ghost use Rattle.waits.specs.Shares.{highest, walkIn, clearanceIn, LongestIn, shareOf, Counted};
+ghost use Rattle.waits.specs.Shares.{highest, LongestIn, shareOf, Counted};
 use rules::site::PhaseTimes;
 use rules::site::Site;
 use rules::site::WalkTimes;
@@ -12,28 +12,6 @@ fn greater(a: u32, b: u32) -> u32
     ensures { λ r. ⌜ r ≡ max a b ⌝ }
 {
     if a < b { b } else { a }
-}
-
-// W + C1 of a movement whose set has the phase, 0 of any other.
-fn walk_in(phase: u8, set: u8, times: WalkTimes) -> u32
-    ensures { λ r. ⌜ (r ≡ walkIn phase set times) × (r ≤ 2 * highest) ⌝ }
-{
-    if reads::bit8(phase, set) {
-        (times.walk as u32) + (times.first as u32)
-    } else {
-        0
-    }
-}
-
-// C2 of a movement whose set has the phase, 0 of any other.
-fn clearance_in(phase: u8, set: u8, times: WalkTimes) -> u32
-    ensures { λ r. ⌜ (r ≡ clearanceIn phase set times) × (r ≤ highest) ⌝ }
-{
-    if reads::bit8(phase, set) {
-        times.second as u32
-    } else {
-        0
-    }
 }
 
 // A and C of a phase.
@@ -51,10 +29,11 @@ fn longest_of(phase: u8, sets: [u8; 8], walks: [WalkTimes; 8], count: usize) -> 
     let mut clearance: u32 = 0;
     let mut k: usize = 0;
     while k < count {
-        let set = sets[k];
-        let times = walks[k];
-        walk = greater(walk, walk_in(phase, set, times));
-        clearance = greater(clearance, clearance_in(phase, set, times));
+        if reads::bit8(phase, sets[k]) {
+            let times = walks[k];
+            walk = greater(walk, (times.walk as u32) + (times.first as u32));
+            clearance = greater(clearance, times.second as u32);
+        }
         k += 1;
     }
     Longest { walk, clearance }
@@ -76,13 +55,13 @@ pub fn wait_bound_of(site: Site) -> u32
     let phases = site.size.phases;
     let movements = site.size.movements as usize;
     let sets = site.crossings;
-    let times = site.times;
-    let walks = times.walks;
+    let owns = site.times.phases;
+    let walks = site.times.walks;
     let mut sum: u32 = 0;
     let mut phase: u8 = 0;
     while phase < phases {
         let p = phase as usize;
-        let own = times.phases[p];
+        let own = owns[p];
         sum += share(own, longest_of(phase, sets, walks, movements));
         phase += 1;
     }

@@ -8,10 +8,10 @@ use Rattle.waits.proofs.wait_bound_of.Statement.{statement}
 use Rattle.waits.proofs.wait_bound_of.Tie as tie
 
 abbrev Inv-loop : tie.InvT-loop
-Inv-loop site phases movements sets times walks sum₀ phase₀ sum phase = Summed site sum phase
+Inv-loop site phases movements sets owns walks sum₀ phase₀ sum phase = Summed site sum phase
 
 abbrev μ-loop : tie.MeasureT-loop
-μ-loop site phases movements sets times walks sum₀ phase₀ sum phase = site .size .phases - phase
+μ-loop site phases movements sets owns walks sum₀ phase₀ sum phase = site .size .phases - phase
 
 cast-movements : tie.Need-cast-movements Inv-loop μ-loop
 cast-movements c = search needs
@@ -25,8 +25,8 @@ cast-p c = search needs
 mul-own : tie.Need-mul-own Inv-loop μ-loop
 mul-own c = search needs
 
-element-copy-out-own : tie.Need-element-copy-out-own Inv-loop μ-loop
-element-copy-out-own c = search needs
+array-copy-out-own : tie.Need-array-copy-out-own Inv-loop μ-loop
+array-copy-out-own c = search needs
 
 longest-of-requires : tie.Need-longest-of-requires Inv-loop μ-loop
 longest-of-requires c κs = search needs
@@ -68,7 +68,7 @@ wait-bound-of-spec =
     loop-holds
     cast-p
     mul-own
-    element-copy-out-own
+    array-copy-out-own
     longest-of-requires
     share-requires
     add-sum

@@ -1,77 +1,78 @@
--- `demands::detectors::scan` meets its contract. The loop's invariant: what is sensed is what the detectors passed ask for.
+-- `demands::detectors::scan` meets its contract: each of the three things that a detector may ask is asked by some of the modes.
 use borrow.Author.Needs.{needs}
-use native.Mathlib.Omega.{arith}
-use Prim.Native.Nat.{_-_, _≤_}
-use mathlib.Core.Logic.{⊎-elim}
-use mathlib.Core.Path.{_≡_, sym, ap, _∙_}
-use lib.ListN.{getD}
-use Rattle.rules.specs.Site.{noDetector}
-use Rattle.demands.specs.declared.detectors.Sensed.{Sensed}
-use Rattle.demands.specs.Seen.{sensedBy, sensedIn}
-use Rattle.demands.proofs.Scan.{scan-none, scan-more, scan-skip}
+use mathlib.Core.Path.{_∙_}
+use Rattle.demands.proofs.Modes.{of-mode, of-either, of-kind, locking-modes, calling-modes, extending-modes}
 use Rattle.demands.proofs.detectors.scan.Statement.{statement}
 use Rattle.demands.proofs.detectors.scan.Tie as tie
 
-abbrev Inv-loop : tie.InvT-loop
-Inv-loop count inputs phase detectors n sensed₀ d₀ sensed d = (d ≤ n) × (sensed ≡ sensedIn detectors inputs phase d)
+places-requires : tie.Need-places-requires
+places-requires c κs = search needs
 
-abbrev μ-loop : tie.MeasureT-loop
-μ-loop count inputs phase detectors n sensed₀ d₀ sensed d = n - d
+with-mode-requires : tie.Need-with-mode-requires
+with-mode-requires c κs = search needs
 
-loop-holds : tie.Need-loop-holds Inv-loop μ-loop
-loop-holds c = (search needs, scan-none _ _ _)
+with-mode-requires-2 : tie.Need-with-mode-requires-2
+with-mode-requires-2 c κs = search needs
 
-bit64-requires : tie.Need-bit64-requires Inv-loop μ-loop
-bit64-requires c κs = search needs
+with-mode-requires-3 : tie.Need-with-mode-requires-3
+with-mode-requires-3 c κs = search needs
 
-mul-detector : tie.Need-mul-detector Inv-loop μ-loop
-mul-detector c = search needs
+with-mode-requires-4 : tie.Need-with-mode-requires-4
+with-mode-requires-4 c κs = search needs
 
-array-copy-out-detector : tie.Need-array-copy-out-detector Inv-loop μ-loop
-array-copy-out-detector c = search needs
+with-mode-requires-5 : tie.Need-with-mode-requires-5
+with-mode-requires-5 c κs = search needs
 
-sense-requires : tie.Need-sense-requires Inv-loop μ-loop
-sense-requires c κs = search needs
+with-mode-requires-6 : tie.Need-with-mode-requires-6
+with-mode-requires-6 c κs = search needs
 
-add-d : tie.Need-add-d Inv-loop μ-loop
-add-d c = search needs
+with-mode-requires-7 : tie.Need-with-mode-requires-7
+with-mode-requires-7 c κs = search needs
 
-loop-less : tie.Need-loop-less Inv-loop μ-loop
-loop-less c = search needs
+with-mode-requires-8 : tie.Need-with-mode-requires-8
+with-mode-requires-8 c κs = search needs
 
-loop-again : tie.Need-loop-again Inv-loop μ-loop
-loop-again c =
-    let at = c .before .before .before in
-    let sees = c .before .bit64 .ensures in
-    let list = at .before .args .t1 in
-    let inputs = at .before .args .inputs in
-    let phase = at .before .args .phase in (
-      search needs,
-      ⊎-elim
-          (λ w.
-          w .3
-          ∙ w .2 .ensures
-          ∙ ap (λ (s : Sensed). sensedBy s (getD list (at .loop .d) noDetector) phase) (at .loop .inv .1)
-          ∙ scan-more list inputs phase (at .loop .d) (sym sees ∙ w .0 .taken))
-          (λ w. w .1 ∙ at .loop .inv .1 ∙ scan-skip list inputs phase (at .loop .d) (sym sees ∙ w .0 .left))
-          (c .if1 .came),
-    )
+bit8-requires : tie.Need-bit8-requires
+bit8-requires c κs = search needs
 
-returns : tie.Need-returns Inv-loop μ-loop
-returns c = let last : c .before .loop .d ≡ c .before .before .args .count = omega arith in rw (← last) (c .before .loop .inv .1)
+returns : tie.Need-returns
+returns c =
+    let a = c .before in
+    let b = a .before .before in
+    let m = b .before .before in
+    let e = m .before .before in
+    let at = e .before .before in
+    let args = at .before .args in
+    let of = of-mode (args .detectors) (args .inputs) (args .count) (at .places .result) (at .places .ensures) in
+    let either = of-either (args .detectors) (args .inputs) (args .count) in
+    let kind = of-kind (args .detectors) (args .inputs) (args .count) in
+    record {
+      locks =
+          kind _ _ _ locking-modes (either _ _ _ _ (of 2 _ (b .before .with-mode5 .ensures)) (of 6 _ (b .with-mode6 .ensures)));
+      calls =
+          kind _ _ _ calling-modes (either _ _ _ _ (of 1 _ (a .before .with-mode7 .ensures)) (of 5 _ (a .with-mode8 .ensures)));
+      extended =
+          c .bit8 .ensures
+          ∙ kind _ _ _ extending-modes
+          (either _ _ _ _
+          (either _ _ _ _
+          (either _ _ _ _ (of 4 _ (e .before .with-mode .ensures)) (of 5 _ (e .with-mode2 .ensures)))
+          (of 6 _ (m .before .with-mode3 .ensures)))
+          (of 7 _ (m .with-mode4 .ensures))) (args .phase) (at .before .pre .1);
+    }
 
 pub scan-spec : {M : Type 1} → statement M
 scan-spec =
     tie.close
     (tie.spec
-    Inv-loop
-    μ-loop
-    loop-holds
-    bit64-requires
-    mul-detector
-    array-copy-out-detector
-    sense-requires
-    add-d
-    loop-less
-    loop-again
+    places-requires
+    with-mode-requires
+    with-mode-requires-2
+    with-mode-requires-3
+    with-mode-requires-4
+    with-mode-requires-5
+    with-mode-requires-6
+    with-mode-requires-7
+    with-mode-requires-8
+    bit8-requires
     returns)
