@@ -1,12 +1,12 @@
 -- What the codes stand for: reading a code that was written gives back what was written, and writing what a known code was read as gives
 -- back the code.
 use Prim.Native.Nat.{ℕ, zero, suc, _+_, _*_, _/_, _%_, _≤_, _<_}
-use mathlib.Core.Bool.{Bool, true, false, _||_}
+use mathlib.Core.Bool.{Bool, true, false, _&&_, _||_}
 use mathlib.Core.List.{[], _∷_}
 use mathlib.Core.Path.{_≡_, refl, sym, ap}
 use native.Mathlib.Omega.{arith}
 use lib.Dec.{leb, ltb, eqb}
-use borrow.Author.Tests.{ltb-true, leb-true, eqb-true}
+use borrow.Author.Tests.{ltb-true, leb-true, eqb-true, lt-leb, ne-eqb}
 use Rattle.rules.specs.declared.state.Held.{Held}
 use Rattle.rules.specs.declared.state.Held.the-variants.{Nothing, Phase}
 use Rattle.rules.specs.declared.state.Interval.{Interval}
@@ -20,30 +20,28 @@ use Rattle.state_bytes.specs.Codes.{intervalCode, intervalOf, stageCode,
 
 -- ── Codes that stand for nothing ──
 
-pub interval-other :
-    (x : ℕ) →
-    (x ≡ 1 → ⊥) →
-    (x ≡ 2 → ⊥) →
-    (x ≡ 3 → ⊥) →
-    (x ≡ 4 → ⊥) →
-    (x ≡ 5 → ⊥) →
-    StartRed ≡ intervalOf x
+pub interval-other : (x : ℕ) → (x < 6 → ⊥) → StartRed ≡ intervalOf x
 unfolding intervalOf
-interval-other zero a b c d e = refl
-interval-other (suc zero) a b c d e = absurd (a refl)
-interval-other (suc (suc zero)) a b c d e = absurd (b refl)
-interval-other (suc (suc (suc zero))) a b c d e = absurd (c refl)
-interval-other (suc (suc (suc (suc zero)))) a b c d e = absurd (d refl)
-interval-other (suc (suc (suc (suc (suc zero))))) a b c d e = absurd (e refl)
-interval-other (suc (suc (suc (suc (suc (suc x)))))) a b c d e = refl
+interval-other zero h = refl
+interval-other (suc zero) h = absurd (h (omega arith))
+interval-other (suc (suc zero)) h = absurd (h (omega arith))
+interval-other (suc (suc (suc zero))) h = absurd (h (omega arith))
+interval-other (suc (suc (suc (suc zero)))) h = absurd (h (omega arith))
+interval-other (suc (suc (suc (suc (suc zero))))) h = absurd (h (omega arith))
+interval-other (suc (suc (suc (suc (suc (suc x)))))) h = refl
 
-pub stage-other : (x : ℕ) → (x ≡ 1 → ⊥) → (x ≡ 2 → ⊥) → (x ≡ 3 → ⊥) → Idle ≡ stageOf x
-unfolding stageOf
-stage-other zero a b c = refl
-stage-other (suc zero) a b c = absurd (a refl)
-stage-other (suc (suc zero)) a b c = absurd (b refl)
-stage-other (suc (suc (suc zero))) a b c = absurd (c refl)
-stage-other (suc (suc (suc (suc x)))) a b c = refl
+-- ── The test of a held phase ──
+
+pub held-tested : (tag phase : ℕ) → (eqb tag 1 || (eqb tag 0 && eqb phase 0)) ≡ heldKnown tag phase
+unfolding heldKnown
+held-tested zero phase = refl
+held-tested (suc zero) phase = refl
+held-tested (suc (suc tag)) phase =
+    rw (
+      lt-leb (suc (suc tag)) 1 (omega arith),
+      ne-eqb (suc (suc tag)) 1 (λ e. omega (arith, e)),
+      ne-eqb (suc (suc tag)) 0 (λ e. omega (arith, e)),
+    )
 
 -- ── Written, then read ──
 

@@ -24,11 +24,11 @@ loop-holds : tie.Need-loop-holds Inv-loop μ-loop
 unfolding flagsAt listOf
 loop-holds c = stored-none refl
 
-add-byte : tie.Need-add-byte Inv-loop μ-loop
-add-byte c = omega (arith, stored-length (c .before .loop .inv))
+add-out : tie.Need-add-out Inv-loop μ-loop
+add-out c = omega (arith, stored-length (c .before .loop .inv))
 
-byte-requires : tie.Need-byte-requires Inv-loop μ-loop
-byte-requires c κs = search needs
+shared-slice-read-out : tie.Need-shared-slice-read-out Inv-loop μ-loop
+shared-slice-read-out c = omega (arith, stored-length (c .before .before .loop .inv))
 
 slice-write-out : tie.Need-slice-write-out Inv-loop μ-loop
 slice-write-out c = search needs
@@ -40,12 +40,11 @@ loop-less : tie.Need-loop-less Inv-loop μ-loop
 loop-less c = omega (arith, stored-length (c .before .before .loop .inv))
 
 loop-again : tie.Need-loop-again Inv-loop μ-loop
-unfolding flagsAt flagOf
+unfolding flagsAt flagOf byteAt
 loop-again c =
     let stored = c .before .before .loop .inv in
-    let args = c .before .before .before .before .before .args in
-    stored-one (λ i. flagOf (byteAt (args .bytes .now) (args .at + i))) stored (omega (arith, stored-length stored)) (omega arith)
-    (simp (c .byte .ensures))
+    let args = c .before .before .before .args in
+    stored-one (λ i. flagOf (byteAt (args .bytes .now) (args .at + i))) stored (omega (arith, stored-length stored)) (omega arith) refl
 
 same-length : tie.Need-same-length Inv-loop μ-loop
 same-length c = stored-length (c .before .loop .inv)
@@ -53,7 +52,7 @@ same-length c = stored-length (c .before .loop .inv)
 returns : tie.Need-returns Inv-loop μ-loop
 unfolding flagsAt
 returns c =
-    let args = c .before .before .before .before .args in
+    let args = c .before .before .args in
     let b = args .bytes .now in
     let room = length (args .out .now) in
     let stored = c .before .loop .inv in
@@ -67,8 +66,8 @@ flags-spec =
     Inv-loop
     μ-loop
     loop-holds
-    add-byte
-    byte-requires
+    add-out
+    shared-slice-read-out
     slice-write-out
     add-i
     loop-less
