@@ -1,20 +1,22 @@
--- `checks::movements_valid` meets its contract. The invariant: the movement records passed are tested. The measure is the number left.
+-- `checks::movements_valid` meets its contract. The invariant: the movement records passed are valid. The measure is the number left.
 use Prim.Native.Nat.{_-_}
-use mathlib.Core.Path.{_≡_, _∙_}
+use mathlib.Core.Bool.{true}
+use mathlib.Core.Path.{_≡_, sym, _∙_}
 use native.Mathlib.Omega.{arith}
 use lib.ListN.{length, length-map}
 use borrow.Author.Needs.{needs}
+use borrow.Author.Tests.{not-true, not-false}
 use Rattle.checks.specs.Parts.{movementAt}
-use Rattle.checks.proofs.Records.{record-of-state}
+use Rattle.checks.proofs.Records.{record-of-state, one-fails}
 use Rattle.proof_arrays.proofs.Passing.{Tested, tested-none, tested-more, tested-all}
 use Rattle.checks.proofs.movements_valid.Statement.{statement}
 use Rattle.checks.proofs.movements_valid.Tie as tie
 
 abbrev Inv-loop : tie.InvT-loop
-Inv-loop site state count phase leaving start-red all₀ k₀ all k = Tested (movementAt site state) 8 all k
+Inv-loop site state count phase leaving start-red k₀ k = Tested (movementAt site state) 8 true k
 
 abbrev μ-loop : tie.MeasureT-loop
-μ-loop site state count phase leaving start-red all₀ k₀ all k = 8 - k
+μ-loop site state count phase leaving start-red k₀ k = 8 - k
 
 leaving-requires : tie.Need-leaving-requires Inv-loop μ-loop
 leaving-requires c κs = search needs
@@ -37,17 +39,8 @@ mul-own c = search needs
 element-copy-out-own : tie.Need-element-copy-out-own Inv-loop μ-loop
 element-copy-out-own c = search needs
 
-bit8-requires : tie.Need-bit8-requires Inv-loop μ-loop
-bit8-requires c κs = search needs
-
 record-valid-requires : tie.Need-record-valid-requires Inv-loop μ-loop
 record-valid-requires c κs = search needs
-
-add-k : tie.Need-add-k Inv-loop μ-loop
-add-k c = search needs
-
-loop-less : tie.Need-loop-less Inv-loop μ-loop
-loop-less c = search needs
 
 -- the array of movement records has eight
 eight : (c : tie.Start Inv-loop μ-loop) → length (c .args .t2 .movements) ≡ 8
@@ -55,22 +48,37 @@ eight c = simp length-map at (c .good .1 .0 .1 .1 .1 .1 .1 .0 .1 .0 .1)
 
 own-valid :
     (c : tie.After-record-valid Inv-loop μ-loop) →
-    let head = c .before .before .before .before .before in
+    let head = c .before .before .before .before in
     let args = head .before .before .before .before .args in
     c .record-valid .result ≡ movementAt (args .t1) (args .t2) (head .loop .k)
 own-valid c =
-    let turn = c .before .before .before .before in
+    let turn = c .before .before .before in
     let called = turn .before .before in
     let start = called .before .before .before in
     let length-eight = eight start in
-    rw (c .before .bit8 .ensures, called .start-red .ensures, called .before .leaving .ensures) at (c .record-valid .ensures)
+    rw (called .start-red .ensures, called .before .leaving .ensures) at (c .record-valid .ensures)
     ∙ record-of-state (start .args .t1) (start .args .t2) (turn .before .loop .k) (omega (arith, turn .loop-test .taken))
 
-loop-again : tie.Need-loop-again Inv-loop μ-loop
-loop-again c = tested-more (c .before .before .before .before .before .loop .inv) (omega arith) (own-valid c)
-
 returns : tie.Need-returns Inv-loop μ-loop
-returns c = tested-all (c .before .loop .inv) (c .loop-test .left)
+returns c =
+    let head = c .before .before .before .before .before in
+    let args = head .before .before .before .before .args in
+    one-fails (movementAt (args .t1) (args .t2)) 8 (head .loop .k) (omega arith)
+    (sym (own-valid (c .before)) ∙ not-true (c .before .record-valid .result) (c .if1 .taken))
+
+add-k : tie.Need-add-k Inv-loop μ-loop
+add-k c = search needs
+
+loop-less : tie.Need-loop-less Inv-loop μ-loop
+loop-less c = search needs
+
+loop-again : tie.Need-loop-again Inv-loop μ-loop
+loop-again c =
+    tested-more (c .before .before .before .before .before .loop .inv) (omega arith)
+    (sym (not-false (c .before .record-valid .result) (c .if1 .left)) ∙ own-valid (c .before))
+
+returns-2 : tie.Need-returns-2 Inv-loop μ-loop
+returns-2 c = tested-all (c .before .loop .inv) (c .loop-test .left)
 
 pub movements-valid-spec : {M : Type 1} → statement M
 movements-valid-spec =
@@ -85,9 +93,9 @@ movements-valid-spec =
     element-copy-out-set
     mul-own
     element-copy-out-own
-    bit8-requires
     record-valid-requires
+    returns
     add-k
     loop-less
     loop-again
-    returns)
+    returns-2)

@@ -1,9 +1,18 @@
 -- `checks::valid_state` meets its contract: where the phase exists, its tests are those of the parts of a valid state.
-use borrow.Author.Needs.{needs}
+use mathlib.Core.Path.{_≡_, sym}
+use lib.ListN.{length, length-map}
 use Rattle.rules.specs.Site.{phaseTimes}
 use Rattle.checks.proofs.States.{valid-of-parts, no-such-phase}
+use borrow.Author.Needs.{needs}
 use Rattle.checks.proofs.valid_state.Statement.{statement}
 use Rattle.checks.proofs.valid_state.Tie as tie
+
+-- the arrays of the state have their lengths
+locks-seven : (c : tie.Start) → length (c .args .state .demands .locks) ≡ 7
+locks-seven c = simp length-map at (c .good .1 .0 .1 .1 .1 .1 .0 .1 .1 .0 .1 .0 .1)
+
+buttons-eight : (c : tie.Start) → length (c .args .state .demands .buttons) ≡ 8
+buttons-eight c = simp length-map at (c .good .1 .0 .1 .1 .1 .1 .0 .1 .1 .1 .0 .1 .0 .1)
 
 returns : tie.Need-returns
 returns c = no-such-phase (c .before .before .args .site) (c .before .before .args .state) (c .if1 .taken)
@@ -23,11 +32,19 @@ position-valid-requires c κs = search needs
 counts-valid-requires : tie.Need-counts-valid-requires
 counts-valid-requires c κs = search needs
 
-locks-valid-requires : tie.Need-locks-valid-requires
-locks-valid-requires c κs = search needs
+slice-aggregate-demands-valid : tie.Need-slice-aggregate-demands-valid
+slice-aggregate-demands-valid c =
+    sym (locks-seven (c .before .before .before .before .before .before .before .before .before .before .before))
 
-buttons-valid-requires : tie.Need-buttons-valid-requires
-buttons-valid-requires c κs = search needs
+demands-valid-requires : tie.Need-demands-valid-requires
+demands-valid-requires c κs = search needs
+
+slice-aggregate-demands-valid-2 : tie.Need-slice-aggregate-demands-valid-2
+slice-aggregate-demands-valid-2 c =
+    sym (buttons-eight (c .before .before .before .before .before .before .before .before .before .before .before .before .before))
+
+demands-valid-requires-2 : tie.Need-demands-valid-requires-2
+demands-valid-requires-2 c κs = search needs
 
 movements-valid-requires : tie.Need-movements-valid-requires
 movements-valid-requires c κs = search needs
@@ -35,15 +52,17 @@ movements-valid-requires c κs = search needs
 returns-2 : tie.Need-returns-2
 unfolding phaseTimes
 returns-2 c =
-    let called = c .before .before .before .before in
+    let called = c .before .before .before .before .before .before in
     let tested = called .before .before .before .before .before .before .before in
     let start = tested .before .before in
     rw (
       called .position-valid .ensures,
-      c .before .before .before .counts-valid .ensures,
-      c .before .before .locks-valid .ensures,
-      c .before .buttons-valid .ensures,
+      c .before .before .before .before .before .counts-valid .ensures,
+      c .before .before .before .demands-valid .ensures,
+      c .before .demands-valid2 .ensures,
       c .movements-valid .ensures,
+      locks-seven start,
+      buttons-eight start,
     )
     (valid-of-parts (start .args .site) (start .args .state) (tested .if1 .left))
 
@@ -57,7 +76,9 @@ valid-state-spec =
     element-copy-out-own
     position-valid-requires
     counts-valid-requires
-    locks-valid-requires
-    buttons-valid-requires
+    slice-aggregate-demands-valid
+    demands-valid-requires
+    slice-aggregate-demands-valid-2
+    demands-valid-requires-2
     movements-valid-requires
     returns-2)
