@@ -1,27 +1,24 @@
--- Tests joined from the left are the tests of a list. A movement record passes by whether it is idle, and one that the code reads is the
--- state's: the array has eight.
+-- Tests joined from the left are the tests of a list. A movement record passes by whether it is idle, and one that the code reads is that
+-- of the row: the array has eight.
 use Prim.Native.Nat.{ℕ, zero, suc, _<_}
 use mathlib.Core.Bool.{Bool, true, false, not, _&&_, and-assoc, and-true, and-false, or-true, or-false}
 use mathlib.Core.List.{List, [], _∷_}
 use mathlib.Core.Logic.{⊎-elim}
-use mathlib.Core.Path.{_≡_, refl, sym, _∙_}
+use mathlib.Core.Path.{_≡_, refl, sym, ap, _∙_}
 use native.Mathlib.Nat.{not-suc-le-zero, le-of-suc-le-suc}
 use lib.Dec.{ltb, eqb}
 use lib.ListN.{length, getD}
 use borrow.Author.Tests.{eqb-true}
-use Rattle.rules.specs.declared.site.Site.{Site}
 use Rattle.rules.specs.declared.state.Movement.{Movement}
 use Rattle.rules.specs.declared.state.Stage.{Stage}
 use Rattle.rules.specs.declared.state.Stage.the-variants.{Idle, Walk, ClearanceOne, ClearanceTwo}
-use Rattle.rules.specs.declared.state.State.{State}
 use Rattle.rules.specs.Bytes.{bit}
-use Rattle.rules.specs.Intervals.{isIdle, isWalkOrFirst, isStartRed, isLeaving}
+use Rattle.rules.specs.Intervals.{isIdle, isWalkOrFirst}
 use Rattle.rules.specs.Rows.{allOf}
-use Rattle.rules.specs.Site.{crosses}
-use Rattle.rules.specs.State.{idle, movement, ageValid, every, movementValid}
+use Rattle.rules.specs.State.{idle, ageValid, every}
 use Rattle.rules.proofs.Rows.{all-at}
 use Rattle.rules.proofs.Tests.{decided, never-both, not-true-false}
-use Rattle.checks.specs.Parts.{recordValid, movementAt}
+use Rattle.checks.specs.Parts.{recordValid, recordAt}
 
 -- ── Tests joined ──
 
@@ -71,14 +68,19 @@ module _ (of-phase leaving start-red : Bool) (m : Movement) where
   unfolding recordValid every
   record-busy busy = simp (busy, or-false, and-true, and-assoc)
 
-pub record-of-state :
-    (site : Site) (s : State) (k : ℕ) →
-    k < length (s .movements) →
-    recordValid
-    (ltb k (site .size .movements) && bit (s .position .phase) (getD (site .crossings) k 0))
-    (isLeaving (s .position .interval))
-    (isStartRed (s .position .interval))
-    (getD (s .movements) k (record { stage = Idle; age = 0 }))
-    ≡ movementAt site s k
-unfolding recordValid movementAt movementValid movement crosses
-record-of-state site s k h = rw (entry-within (s .movements) k (record { stage = Idle; age = 0 }) idle h)
+pub record-of-row :
+    (count : ℕ) (crossings : List ℕ) (phase : ℕ) (leaving start-red : Bool) (movements : List Movement) (k : ℕ) {result : Bool} →
+    k < length movements →
+    result
+    ≡ recordValid
+    (ltb k count && bit phase (getD crossings k 0))
+    leaving
+    start-red
+    (getD movements k (record { stage = Idle; age = 0 })) →
+    result ≡ recordAt count crossings phase leaving start-red movements k
+unfolding recordAt
+record-of-row count crossings phase leaving start-red movements k h e =
+    e
+    ∙ ap
+    (recordValid (ltb k count && bit phase (getD crossings k 0)) leaving start-red)
+    (entry-within movements k (record { stage = Idle; age = 0 }) idle h)

@@ -7,7 +7,7 @@ ghost use Rattle.rules.specs.Bytes.{bit};
 ghost use Rattle.rules.specs.Call.{strayInput};
 ghost use Rattle.rules.specs.Rows.{allOf};
 ghost use Rattle.rules.specs.State.{ageValid, cameValid, targetValid, valid};
-ghost use Rattle.checks.specs.Parts.{positionValid, countsValid, demandExists, recordValid, movementAt, Phased, Wired};
+ghost use Rattle.checks.specs.Parts.{positionValid, countsValid, demandExists, recordValid, recordAt, Phased, Wired};
 use rules::site::PhaseTimes;
 use rules::site::Site;
 use rules::state::Counts;
@@ -107,21 +107,22 @@ fn record_valid(
 }
 
 // All movement records, up to the first that is not valid.
-fn movements_valid(site: Site, state: State) -> bool
-    requires { ⌜ state .position .phase < 8 ⌝ }
-    ensures { λ r. ⌜ r ≡ allOf (movementAt site state) 8 ⌝ }
+fn movements_valid(
+    count: u8,
+    crossings: [u8; 8],
+    phase: u8,
+    leaving: bool,
+    start_red: bool,
+    movements: [Movement; 8],
+) -> bool
+    requires { ⌜ phase < 8 ⌝ }
+    ensures { λ r. ⌜ r ≡ allOf (recordAt count crossings phase leaving «start_red» movements) 8 ⌝ }
 {
-    let count = site.size.movements;
-    let position = state.position;
-    let phase = position.phase;
-    let interval = position.interval;
-    let leaving = intervals::leaving(interval);
-    let start_red = intervals::start_red(interval);
     let mut k: u8 = 0;
     while k < 8 {
         let i = k as usize;
-        let set = site.crossings[i];
-        let own = state.movements[i];
+        let set = crossings[i];
+        let own = movements[i];
         if !record_valid(k < count, set, phase, leaving, start_red, own) {
             return false;
         }
@@ -136,7 +137,7 @@ pub fn valid_state(site: Site, state: State) -> bool
     ensures { λ r. ⌜ r ≡ valid site state ⌝ }
 {
     let phases = site.size.phases;
-    let movements = site.size.movements;
+    let count = site.size.movements;
     let position = state.position;
     let phase = position.phase;
     if phase >= phases {
@@ -147,12 +148,18 @@ pub fn valid_state(site: Site, state: State) -> bool
     let locks = demands.locks;
     let buttons = demands.buttons;
     let times = site.times;
-    let own = times.phases[phase as usize];
+    let rows = times.phases;
+    let own = rows[phase as usize];
+    let crossings = site.crossings;
+    let movements = state.movements;
+    let interval = position.interval;
+    let leaving = intervals::leaving(interval);
+    let start_red = intervals::start_red(interval);
     position_valid(phases, position)
         & counts_valid(own, counts)
         & demands_valid(&locks, phases)
-        & demands_valid(&buttons, movements)
-        & movements_valid(site, state)
+        & demands_valid(&buttons, count)
+        & movements_valid(count, crossings, phase, leaving, start_red, movements)
 }
 
 // Whether an input bit is set without a detector or button there.
