@@ -20,17 +20,35 @@ use Rattle.state_bytes.specs.Codes.{intervalCode, intervalOf, stageCode,
 
 -- ── Codes that stand for nothing ──
 
-pub interval-other : (x : ℕ) → (x < 6 → ⊥) → StartRed ≡ intervalOf x
+pub interval-other :
+    (x : ℕ) →
+    (x ≡ 1 → ⊥) →
+    (x ≡ 2 → ⊥) →
+    (x ≡ 3 → ⊥) →
+    (x ≡ 4 → ⊥) →
+    (x ≡ 5 → ⊥) →
+    StartRed ≡ intervalOf x
 unfolding intervalOf
-interval-other zero h = refl
-interval-other (suc zero) h = absurd (h (omega arith))
-interval-other (suc (suc zero)) h = absurd (h (omega arith))
-interval-other (suc (suc (suc zero))) h = absurd (h (omega arith))
-interval-other (suc (suc (suc (suc zero)))) h = absurd (h (omega arith))
-interval-other (suc (suc (suc (suc (suc zero))))) h = absurd (h (omega arith))
-interval-other (suc (suc (suc (suc (suc (suc x)))))) h = refl
+interval-other zero a b c d e = refl
+interval-other (suc zero) a b c d e = absurd (a refl)
+interval-other (suc (suc zero)) a b c d e = absurd (b refl)
+interval-other (suc (suc (suc zero))) a b c d e = absurd (c refl)
+interval-other (suc (suc (suc (suc zero)))) a b c d e = absurd (d refl)
+interval-other (suc (suc (suc (suc (suc zero))))) a b c d e = absurd (e refl)
+interval-other (suc (suc (suc (suc (suc (suc x)))))) a b c d e = refl
 
--- ── The test of a held phase ──
+-- ── Known flags and tags ──
+
+-- the lowest bit is all of a flag
+pub flag-low : (x : ℕ) → x ≤ 1 → eqb (x % 2) 1 ≡ flagOf x
+unfolding flagOf
+flag-low zero h = refl
+flag-low (suc zero) h = refl
+flag-low (suc (suc x)) h = absurd (omega arith)
+
+pub tag-known : (tag phase : ℕ) → heldKnown tag phase ≡ true → tag ≤ 1
+unfolding heldKnown
+tag-known tag phase h = leb-true tag 1 (and-left (leb tag 1) (eqb tag 1 || eqb phase 0) h)
 
 pub held-tested : (tag phase : ℕ) → (eqb tag 1 || (eqb tag 0 && eqb phase 0)) ≡ heldKnown tag phase
 unfolding heldKnown
@@ -130,9 +148,7 @@ pub held-written : (tag phase : ℕ) → heldKnown tag phase ≡ true → heldBy
 unfolding heldBytes heldKnown heldOf flagOf flagCode isHeld phaseHeld
 held-written zero phase h = ap (λ (p : ℕ). 0 ∷ p ∷ []) (sym (eqb-true phase 0 h))
 held-written (suc zero) phase h = refl
-held-written (suc (suc tag)) phase h =
-    absurd
-    (omega (arith, leb-true (suc (suc tag)) 1 (and-left (leb (suc (suc tag)) 1) (eqb (suc (suc tag)) 1 || eqb phase 0) h)))
+held-written (suc (suc tag)) phase h = absurd (omega (arith, tag-known (suc (suc tag)) phase h))
 
 pub two-written : (low high : ℕ) → low < 256 → twoBytes (low + 256 * high) ≡ low ∷ high ∷ []
 unfolding twoBytes

@@ -1,5 +1,5 @@
-// The byte codes of intervals, stages, flags and held phases. A code that stands for nothing reads as the first.
-ghost use Prim.Native.Nat.{_/_, _%_, _<_};
+// The byte codes of intervals, stages, flags and held phases. An interval code that stands for nothing reads as the first.
+ghost use Prim.Native.Nat.{_/_, _%_, _<_, _≤_};
 ghost use mathlib.Core.Path.{_≡_};
 ghost use Rattle.rules.specs.Intervals.{isHeld, phaseHeld};
 ghost use Rattle.state_bytes.specs.Codes.{intervalCode, intervalOf, stageCode, stageOf, flagCode, heldOf, heldKnown};
@@ -24,7 +24,6 @@ pub fn interval_of(code: u8) -> Interval
     ensures { λ r. ⌜ r ≡ intervalOf code ⌝ }
 {
     match code {
-        0 => Interval::StartRed,
         1 => Interval::LateStart,
         2 => Interval::MinimumGreen,
         3 => Interval::Running,
@@ -86,11 +85,12 @@ pub fn held_phase(held: Held) -> u8
     }
 }
 
-// A phase or none, by its tag.
+// A phase or none, by its tag, of which the lowest bit is all.
 pub fn held_of(tag: u8, phase: u8) -> Held
+    requires { ⌜ tag ≤ 1 ⌝ }
     ensures { λ r. ⌜ r ≡ heldOf tag phase ⌝ }
 {
-    if tag == 1 {
+    if tag % 2 == 1 {
         Held::Phase { phase }
     } else {
         Held::Nothing

@@ -1,8 +1,9 @@
 // What the bytes of a state hold, part by part. The length is tested first, so no other test of a place is made.
-ghost use Prim.Native.Nat.{_+_, _≤_};
+ghost use Prim.Native.Nat.{ℕ, _+_, _≤_, _<_};
 ghost use mathlib.Core.Bool.{true};
 ghost use mathlib.Core.Path.{_≡_};
 ghost use lib.ListN.{length};
+ghost use Rattle.rules.specs.Bytes.{byteAt};
 ghost use Rattle.rules.specs.Rows.{allOf, listOf};
 ghost use Rattle.state_bytes.specs.Layout.{stateBytes, isState, decoded, positionIn, flagsAt, movementAt, flagKnown, stageKnown};
 use crate::codes::held_known;
@@ -59,7 +60,7 @@ pub fn is_state(bytes: &[u8]) -> bool
 }
 
 fn position(bytes: &[u8]) -> Position
-    requires { ⌜ length (now bytes) ≡ stateBytes ⌝ }
+    requires { ⌜ (length (now bytes) ≡ stateBytes) × (byteAt (now bytes) 4 ≤ 1) × (byteAt (now bytes) 6 ≤ 1) ⌝ }
     ensures { λ r. ⌜ r ≡ positionIn (now (bytes .entry)) ⌝ }
 {
     Position {
@@ -71,20 +72,20 @@ fn position(bytes: &[u8]) -> Position
     }
 }
 
-// The flags from a place on, as many as there is room for.
+// The flags from a place on, as many as there is room for. Each byte is 0 or 1, so the lowest bit is all of it.
 fn flags(bytes: &[u8], at: usize, out: &mut [bool])
-    requires { ⌜ at + length (now out) ≤ length (now bytes) ⌝ }
+    requires { ⌜ (at + length (now out) ≤ length (now bytes)) × ((i : ℕ) → i < length (now out) → byteAt (now bytes) (at + i) ≤ 1) ⌝ }
     ensures { λ _. ⌜ now (out .exit) ≡ flagsAt (now (bytes .entry)) at (length (now (out .entry))) ⌝ }
 {
     let mut i: usize = 0;
     while i < out.len() {
-        out[i] = bytes[at + i] == 1;
+        out[i] = bytes[at + i] % 2 == 1;
         i += 1;
     }
 }
 
 fn demands(bytes: &[u8]) -> Demands
-    requires { ⌜ length (now bytes) ≡ stateBytes ⌝ }
+    requires { ⌜ isState (now bytes) ≡ true ⌝ }
     ensures { λ r. ⌜ r ≡ decoded (now (bytes .entry)) .demands ⌝ }
 {
     let mut locks = [false; 7];

@@ -1,5 +1,4 @@
 -- `state_bytes::codes::interval_of` meets its contract, code by code; any other code reads as the first.
-use native.Mathlib.Omega.{arith}
 use Rattle.state_bytes.proofs.Meanings.{interval-other}
 use Rattle.state_bytes.specs.Codes.{intervalOf}
 use Rattle.state_bytes.proofs.codes.interval_of.Statement.{statement}
@@ -26,14 +25,9 @@ unfolding intervalOf
 returns-5 c = rw (c .match .keys5)
 
 returns-6 : tie.Need-returns-6
-unfolding intervalOf
-returns-6 c = rw (c .match .keys6)
-
-returns-7 : tie.Need-returns-7
-returns-7 c =
+returns-6 c =
     let none = c .match .rest in
-    interval-other (c .before .args .code)
-    (λ h. omega (arith, h, none .0 .0 .0 .0 .0 .1, none .0 .0 .0 .0 .1, none .0 .0 .0 .1, none .0 .0 .1, none .0 .1, none .1))
+    interval-other (c .before .args .code) (none .0 .0 .0 .0 .1) (none .0 .0 .0 .1) (none .0 .0 .1) (none .0 .1) (none .1)
 
 pub interval-of-spec : {M : Type 1} → statement M
-interval-of-spec = tie.close (tie.spec returns returns-2 returns-3 returns-4 returns-5 returns-6 returns-7)
+interval-of-spec = tie.close (tie.spec returns returns-2 returns-3 returns-4 returns-5 returns-6)

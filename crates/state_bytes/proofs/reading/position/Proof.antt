@@ -24,7 +24,8 @@ shared-slice-read-held-of-2 : tie.Need-shared-slice-read-held-of-2
 shared-slice-read-held-of-2 c = search needs
 
 held-of-requires : tie.Need-held-of-requires
-held-of-requires c κs = search needs
+unfolding byteAt
+held-of-requires c κs = c .before .before .before .before .before .before .before .pre .1
 
 shared-slice-read-held-of-3 : tie.Need-shared-slice-read-held-of-3
 shared-slice-read-held-of-3 c = search needs
@@ -33,7 +34,8 @@ shared-slice-read-held-of-4 : tie.Need-shared-slice-read-held-of-4
 shared-slice-read-held-of-4 c = search needs
 
 held-of-requires-2 : tie.Need-held-of-requires-2
-held-of-requires-2 c κs = search needs
+unfolding byteAt
+held-of-requires-2 c κs = c .before .before .before .before .before .before .before .before .before .before .pre .2
 
 returns : tie.Need-returns
 unfolding positionIn byteAt

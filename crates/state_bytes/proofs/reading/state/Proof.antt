@@ -2,12 +2,15 @@
 use native.Mathlib.Omega.{arith}
 use Rattle.state_bytes.specs.Layout.{decoded}
 use Rattle.state_bytes.proofs.Known.{known-told}
+use Rattle.state_bytes.proofs.Meanings.{tag-known}
 use borrow.Author.Needs.{needs}
 use Rattle.state_bytes.proofs.reading.state.Statement.{statement}
 use Rattle.state_bytes.proofs.reading.state.Tie as tie
 
 position-requires : tie.Need-position-requires
-position-requires c κs = known-told (c .before .args .bytes .now) (c .before .pre) .size
+position-requires c κs =
+    let known = known-told (c .before .args .bytes .now) (c .before .pre) in
+    (known .size, tag-known _ _ (known .came), tag-known _ _ (known .target))
 
 two-in-requires : tie.Need-two-in-requires
 two-in-requires c κs =
@@ -20,9 +23,7 @@ two-in-requires-2 c κs =
     omega (arith, known-told (start .args .bytes .now) (start .pre) .size)
 
 demands-requires : tie.Need-demands-requires
-demands-requires c κs =
-    let start = c .before .before .before .before in
-    known-told (start .args .bytes .now) (start .pre) .size
+demands-requires c κs = search needs
 
 movements-requires : tie.Need-movements-requires
 movements-requires c κs = search needs
