@@ -1,4 +1,5 @@
 pub mod Records
+pub mod LastDemand
 pub mod States
 pub mod Fields
 pub mod Inputs

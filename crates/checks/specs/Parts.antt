@@ -9,9 +9,9 @@ use Rattle.rules.specs.declared.site.Site.{Site}
 use Rattle.rules.specs.declared.state.Counts.{Counts}
 use Rattle.rules.specs.declared.state.Movement.{Movement}
 use Rattle.rules.specs.declared.state.Position.{Position}
-use Rattle.rules.specs.declared.state.State.{State}
+use Rattle.rules.specs.Bytes.{bit}
 use Rattle.rules.specs.Intervals.{isIdle, isWalkOrFirst, isLeaving}
-use Rattle.rules.specs.State.{movement, targetValid, cameValid, ageValid, every, movementValid}
+use Rattle.rules.specs.State.{idle, targetValid, cameValid, ageValid, every}
 
 -- target, came-from and age of a position, of count phases
 unfoldable pub positionValid : ℕ → Position → Bool
@@ -39,9 +39,10 @@ recordValid ofPhase leaving startRed m =
     ∷ (not (isIdle (m .stage)) || eqb (m .age) 1)
     ∷ [])
 
--- the movement record k of a state
-unfoldable pub movementAt : Site → State → ℕ → Bool
-movementAt site s k = movementValid site (s .position) k (movement s k)
+-- movement record k of a row, there being count movements with these phase sets; the phase, and its interval as above
+unfoldable pub recordAt : ℕ → List ℕ → ℕ → Bool → Bool → List Movement → ℕ → Bool
+recordAt count crossings phase leaving startRed movements k =
+    recordValid (ltb k count && bit phase (getD crossings k 0)) leaving startRed (getD movements k idle)
 
 -- the phases are within the site's array
 pub record Phased (site : Site) : Type 0 where

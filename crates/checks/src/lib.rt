@@ -1,9 +1,13 @@
 // The checks of a step call on its state and on its input bits.
+ghost use Prim.Native.Nat.{_<_};
+ghost use mathlib.Core.Bool.{_&&_};
 ghost use mathlib.Core.Path.{_≡_};
+ghost use lib.ListN.{length};
+ghost use Rattle.rules.specs.Bytes.{bit};
 ghost use Rattle.rules.specs.Call.{strayInput};
 ghost use Rattle.rules.specs.Rows.{allOf};
 ghost use Rattle.rules.specs.State.{ageValid, cameValid, targetValid, valid};
-ghost use Rattle.checks.specs.Parts.{positionValid, countsValid, demandExists, recordValid, movementAt, Phased, Wired};
+ghost use Rattle.checks.specs.Parts.{positionValid, countsValid, demandExists, recordValid, recordAt, Phased, Wired};
 use rules::site::PhaseTimes;
 use rules::site::Site;
 use rules::state::Counts;
@@ -64,70 +68,67 @@ fn counts_valid(times: PhaseTimes, counts: Counts) -> bool
     (counts.gap <= times.gap) & (counts.maximum <= times.maximum)
 }
 
-// Locked demands only of phases that exist.
-fn locks_valid(locks: [bool; 7], phases: u8) -> bool
-    ensures { λ r. ⌜ r ≡ allOf (demandExists locks phases) 7 ⌝ }
+// Demands only of phases or movements that exist: the last one, counted from 1, is within the count.
+fn demands_valid(demands: &[bool], count: u8) -> bool
+    ensures { λ r. ⌜ r ≡ allOf (demandExists (now (demands .entry)) count) (length (now (demands .entry))) ⌝ }
 {
-    let mut all = true;
-    let mut p: u8 = 0;
-    while p < 7 {
-        let lock = locks[p as usize];
-        all = all & (!lock | (p < phases));
-        p += 1;
+    let mut last: usize = 0;
+    let mut i: usize = 0;
+    while i < demands.len() {
+        let demand = demands[i];
+        i += 1;
+        last = if demand { i } else { last };
     }
-    all
+    last <= count as usize
 }
 
-// Button demands only of movements that exist.
-fn buttons_valid(buttons: [bool; 8], movements: u8) -> bool
-    ensures { λ r. ⌜ r ≡ allOf (demandExists buttons movements) 8 ⌝ }
-{
-    let mut all = true;
-    let mut k: u8 = 0;
-    while k < 8 {
-        let button = buttons[k as usize];
-        all = all & (!button | (k < movements));
-        k += 1;
-    }
-    all
-}
-
-// One movement record: a valid age; idle unless it is of the phase; not in walk or C1 in yellow and all-red; idle in start red; at age 1
-// where it is idle.
-fn record_valid(of_phase: bool, leaving: bool, start_red: bool, movement: Movement) -> bool
-    ensures { λ r. ⌜ r ≡ recordValid «of_phase» leaving «start_red» movement ⌝ }
+// One movement record: an idle one is at age 1. Any other has a valid age, is of the phase, is not in walk or C1 in yellow and all-red,
+// and is not in start red. A movement that doesn't exist is of no phase.
+fn record_valid(
+    exists: bool,
+    set: u8,
+    phase: u8,
+    leaving: bool,
+    start_red: bool,
+    movement: Movement,
+) -> bool
+    requires { ⌜ phase < 8 ⌝ }
+    ensures { λ r. ⌜ r ≡ recordValid (exists && bit phase set) leaving «start_red» movement ⌝ }
 {
     let stage = movement.stage;
     let age = movement.age;
-    let idle = intervals::idle(stage);
+    if intervals::idle(stage) {
+        return age == 1;
+    }
     age_valid(age)
-        & (of_phase | idle)
+        & (exists & ((set >> phase) % 2 == 1))
         & !(leaving & intervals::walk_or_first(stage))
-        & (!start_red | idle)
-        & (!idle | (age == 1))
+        & !start_red
 }
 
-// All movement records; those that the site doesn't have are of no phase.
-fn movements_valid(site: Site, state: State) -> bool
-    ensures { λ r. ⌜ r ≡ allOf (movementAt site state) 8 ⌝ }
+// All movement records, up to the first that is not valid.
+fn movements_valid(
+    count: u8,
+    crossings: [u8; 8],
+    phase: u8,
+    leaving: bool,
+    start_red: bool,
+    movements: [Movement; 8],
+) -> bool
+    requires { ⌜ phase < 8 ⌝ }
+    ensures { λ r. ⌜ r ≡ allOf (recordAt count crossings phase leaving «start_red» movements) 8 ⌝ }
 {
-    let count = site.size.movements;
-    let position = state.position;
-    let phase = position.phase;
-    let interval = position.interval;
-    let leaving = intervals::leaving(interval);
-    let start_red = intervals::start_red(interval);
-    let mut all = true;
     let mut k: u8 = 0;
     while k < 8 {
         let i = k as usize;
-        let set = site.crossings[i];
-        let own = state.movements[i];
-        let of_phase = (k < count) & reads::bit8(phase, set);
-        all = all & record_valid(of_phase, leaving, start_red, own);
+        let set = crossings[i];
+        let own = movements[i];
+        if !record_valid(k < count, set, phase, leaving, start_red, own) {
+            return false;
+        }
         k += 1;
     }
-    all
+    true
 }
 
 // Whether the state is valid for the site.
@@ -136,7 +137,7 @@ pub fn valid_state(site: Site, state: State) -> bool
     ensures { λ r. ⌜ r ≡ valid site state ⌝ }
 {
     let phases = site.size.phases;
-    let movements = site.size.movements;
+    let count = site.size.movements;
     let position = state.position;
     let phase = position.phase;
     if phase >= phases {
@@ -147,12 +148,18 @@ pub fn valid_state(site: Site, state: State) -> bool
     let locks = demands.locks;
     let buttons = demands.buttons;
     let times = site.times;
-    let own = times.phases[phase as usize];
+    let rows = times.phases;
+    let own = rows[phase as usize];
+    let crossings = site.crossings;
+    let movements = state.movements;
+    let interval = position.interval;
+    let leaving = intervals::leaving(interval);
+    let start_red = intervals::start_red(interval);
     position_valid(phases, position)
         & counts_valid(own, counts)
-        & locks_valid(locks, phases)
-        & buttons_valid(buttons, movements)
-        & movements_valid(site, state)
+        & demands_valid(&locks, phases)
+        & demands_valid(&buttons, count)
+        & movements_valid(count, crossings, phase, leaving, start_red, movements)
 }
 
 // Whether an input bit is set without a detector or button there.

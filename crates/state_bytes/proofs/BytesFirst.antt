@@ -1,55 +1,20 @@
 -- Bytes that are a state, read and written again: each of the 51 bytes comes back, since the codes are known and each pair of bytes is
 -- the low and the high part of its number. What is read has the machine's types.
 use Prim.Native.Nat.{ℕ, _+_, _*_, _≤_, _<_}
-use mathlib.Core.Bool.{true, false, _&&_}
+use mathlib.Core.Bool.{true, false}
 use mathlib.Core.List.{List, [], _∷_, _++_, append-assoc}
 use mathlib.Core.Path.{_≡_, sym, ap, _∙_}
 use native.Mathlib.Omega.{arith}
-use lib.Dec.{ltb, eqb}
-use lib.ListN.{length, getD}
-use borrow.Author.Tests.{ltb-true, leb-true, eqb-true}
+use lib.ListN.{getD}
 use Rattle.rules.specs.Bytes.{byteAt, twoAt}
-use Rattle.rules.specs.Rows.{allOf, listOf}
-use Rattle.rules.specs.State.{idle, movement, every}
-use Rattle.rules.proofs.Tests.{and-left, and-right}
-use Rattle.rules.proofs.Rows.{all-at, list-length, list-at}
-use Rattle.state_bytes.specs.Codes.{flagCode, flagOf, heldKnown}
-use Rattle.state_bytes.specs.Layout.{stateBytes, headBytes, flagBytes, movementBytes, movementsBytes, encoded, positionIn, flagsAt, movementAt, decoded, flagKnown, stageKnown, isState, Proper, AreBytes}
+use Rattle.rules.specs.Rows.{listOf}
+use Rattle.rules.specs.State.{idle, movement}
+use Rattle.rules.proofs.Rows.{list-length, list-at}
+use Rattle.state_bytes.specs.Codes.{flagCode, flagOf}
+use Rattle.state_bytes.specs.Layout.{headBytes, flagBytes, movementBytes, movementsBytes, encoded, positionIn, flagsAt, movementAt, decoded, Proper, AreBytes}
 use Rattle.state_bytes.proofs.Meanings.{interval-written, stage-written, flag-written, held-written, two-written, held-byte}
+use Rattle.state_bytes.proofs.Known.{Known}
 use Rattle.state_bytes.proofs.Lists.{listed, list-same, list-cut, parts-same, threes}
-
--- ── What the test tells ──
-
-pub record Known (b : List ℕ) : Type 0 where
-  pub size : length b ≡ stateBytes
-  pub interval : byteAt b 1 < 6
-  pub came : heldKnown (byteAt b 4) (byteAt b 5) ≡ true
-  pub target : heldKnown (byteAt b 6) (byteAt b 7) ≡ true
-  pub flags : (i : ℕ) → i < 15 → byteAt b (12 + i) ≤ 1
-  pub stages : (k : ℕ) → k < 8 → byteAt b (27 + 3 * k) < 4
-
-pub known-told : (b : List ℕ) → isState b ≡ true → Known b
-unfolding isState every flagKnown stageKnown
-known-told b h =
-    let size = eqb (length b) stateBytes in
-    let interval = ltb (byteAt b 1) 6 in
-    let came = heldKnown (byteAt b 4) (byteAt b 5) in
-    let target = heldKnown (byteAt b 6) (byteAt b 7) in
-    let flags = allOf (flagKnown b) 15 in
-    let stages = allOf (stageKnown b) 8 in
-    let h1 = and-right size (interval && (came && (target && (flags && (stages && true))))) h in
-    let h2 = and-right interval (came && (target && (flags && (stages && true)))) h1 in
-    let h3 = and-right came (target && (flags && (stages && true))) h2 in
-    let h4 = and-right target (flags && (stages && true)) h3 in
-    let h5 = and-right flags (stages && true) h4 in
-    record {
-      size = eqb-true (length b) stateBytes (and-left size (interval && (came && (target && (flags && (stages && true))))) h);
-      interval = ltb-true (byteAt b 1) 6 (and-left interval (came && (target && (flags && (stages && true)))) h1);
-      came = and-left came (target && (flags && (stages && true))) h2;
-      target = and-left target (flags && (stages && true)) h3;
-      flags = λ i l. leb-true (byteAt b (12 + i)) 1 (all-at (flagKnown b) 15 i (and-left flags (stages && true) h4) l);
-      stages = λ k l. ltb-true (byteAt b (27 + 3 * k)) 4 (all-at (stageKnown b) 8 k (and-left stages true h5) l);
-    }
 
 -- ── Part by part ──
 

@@ -1,4 +1,6 @@
 pub mod BytesFirst
+pub mod Joined
+pub mod Known
 pub mod Lists
 pub mod Meanings
 pub mod Movements

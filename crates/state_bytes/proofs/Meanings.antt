@@ -1,12 +1,12 @@
 -- What the codes stand for: reading a code that was written gives back what was written, and writing what a known code was read as gives
 -- back the code.
 use Prim.Native.Nat.{ℕ, zero, suc, _+_, _*_, _/_, _%_, _≤_, _<_}
-use mathlib.Core.Bool.{Bool, true, false, _||_}
+use mathlib.Core.Bool.{Bool, true, false, _&&_, _||_}
 use mathlib.Core.List.{[], _∷_}
 use mathlib.Core.Path.{_≡_, refl, sym, ap}
 use native.Mathlib.Omega.{arith}
 use lib.Dec.{leb, ltb, eqb}
-use borrow.Author.Tests.{ltb-true, leb-true, eqb-true}
+use borrow.Author.Tests.{ltb-true, leb-true, eqb-true, lt-leb, ne-eqb}
 use Rattle.rules.specs.declared.state.Held.{Held}
 use Rattle.rules.specs.declared.state.Held.the-variants.{Nothing, Phase}
 use Rattle.rules.specs.declared.state.Interval.{Interval}
@@ -37,13 +37,29 @@ interval-other (suc (suc (suc (suc zero)))) a b c d e = absurd (d refl)
 interval-other (suc (suc (suc (suc (suc zero))))) a b c d e = absurd (e refl)
 interval-other (suc (suc (suc (suc (suc (suc x)))))) a b c d e = refl
 
-pub stage-other : (x : ℕ) → (x ≡ 1 → ⊥) → (x ≡ 2 → ⊥) → (x ≡ 3 → ⊥) → Idle ≡ stageOf x
-unfolding stageOf
-stage-other zero a b c = refl
-stage-other (suc zero) a b c = absurd (a refl)
-stage-other (suc (suc zero)) a b c = absurd (b refl)
-stage-other (suc (suc (suc zero))) a b c = absurd (c refl)
-stage-other (suc (suc (suc (suc x)))) a b c = refl
+-- ── Known flags and tags ──
+
+-- the lowest bit is all of a flag
+pub flag-low : (x : ℕ) → x ≤ 1 → eqb (x % 2) 1 ≡ flagOf x
+unfolding flagOf
+flag-low zero h = refl
+flag-low (suc zero) h = refl
+flag-low (suc (suc x)) h = absurd (omega arith)
+
+pub tag-known : (tag phase : ℕ) → heldKnown tag phase ≡ true → tag ≤ 1
+unfolding heldKnown
+tag-known tag phase h = leb-true tag 1 (and-left (leb tag 1) (eqb tag 1 || eqb phase 0) h)
+
+pub held-tested : (tag phase : ℕ) → (eqb tag 1 || (eqb tag 0 && eqb phase 0)) ≡ heldKnown tag phase
+unfolding heldKnown
+held-tested zero phase = refl
+held-tested (suc zero) phase = refl
+held-tested (suc (suc tag)) phase =
+    rw (
+      lt-leb (suc (suc tag)) 1 (omega arith),
+      ne-eqb (suc (suc tag)) 1 (λ e. omega (arith, e)),
+      ne-eqb (suc (suc tag)) 0 (λ e. omega (arith, e)),
+    )
 
 -- ── Written, then read ──
 
@@ -132,9 +148,7 @@ pub held-written : (tag phase : ℕ) → heldKnown tag phase ≡ true → heldBy
 unfolding heldBytes heldKnown heldOf flagOf flagCode isHeld phaseHeld
 held-written zero phase h = ap (λ (p : ℕ). 0 ∷ p ∷ []) (sym (eqb-true phase 0 h))
 held-written (suc zero) phase h = refl
-held-written (suc (suc tag)) phase h =
-    absurd
-    (omega (arith, leb-true (suc (suc tag)) 1 (and-left (leb (suc (suc tag)) 1) (eqb (suc (suc tag)) 1 || eqb phase 0) h)))
+held-written (suc (suc tag)) phase h = absurd (omega (arith, tag-known (suc (suc tag)) phase h))
 
 pub two-written : (low high : ℕ) → low < 256 → twoBytes (low + 256 * high) ≡ low ∷ high ∷ []
 unfolding twoBytes

@@ -15,7 +15,8 @@ use Rattle.rules.specs.Rows.{listOf}
 use Rattle.rules.specs.State.{fresh, idle}
 use Rattle.state_bytes.specs.Codes.{intervalCode, stageCode, flagCode, heldBytes, twoBytes}
 use Rattle.state_bytes.specs.Layout.{stateBytes, partsOf, headBytes, flagBytes, movementBytes, movementsBytes, encoded, decoded, isState, decodedOr, encodedOver, Proper, AreBytes}
-use Rattle.state_bytes.proofs.BytesFirst.{known-told, bytes-back, read-proper}
+use Rattle.state_bytes.proofs.BytesFirst.{bytes-back, read-proper}
+use Rattle.state_bytes.proofs.Known.{known-told}
 use Rattle.state_bytes.proofs.StateFirst.{state-passes, state-back, state-bytes}
 
 pub encoded-is-state : (s : State) → Proper s → isState (encoded s) ≡ true

@@ -1,5 +1,5 @@
-// The byte codes of intervals, stages, flags and held phases. A code that stands for nothing reads as the first.
-ghost use Prim.Native.Nat.{_/_, _%_};
+// The byte codes of intervals, stages, flags and held phases. An interval code that stands for nothing reads as the first.
+ghost use Prim.Native.Nat.{_/_, _%_, _<_, _≤_};
 ghost use mathlib.Core.Path.{_≡_};
 ghost use Rattle.rules.specs.Intervals.{isHeld, phaseHeld};
 ghost use Rattle.state_bytes.specs.Codes.{intervalCode, intervalOf, stageCode, stageOf, flagCode, heldOf, heldKnown};
@@ -44,10 +44,14 @@ pub fn stage_code(stage: Stage) -> u8
     }
 }
 
+// Of a code that stands for a stage. The remainder is the code itself, and has no value but these four.
 pub fn stage_of(code: u8) -> Stage
+    requires { ⌜ code < 4 ⌝ }
     ensures { λ r. ⌜ r ≡ stageOf code ⌝ }
 {
-    match code {
+    let known = code % 4;
+    match known {
+        0 => Stage::Idle,
         1 => Stage::Walk,
         2 => Stage::ClearanceOne,
         3 => Stage::ClearanceTwo,
@@ -81,11 +85,12 @@ pub fn held_phase(held: Held) -> u8
     }
 }
 
-// A phase or none, by its tag.
+// A phase or none, by its tag, of which the lowest bit is all.
 pub fn held_of(tag: u8, phase: u8) -> Held
+    requires { ⌜ tag ≤ 1 ⌝ }
     ensures { λ r. ⌜ r ≡ heldOf tag phase ⌝ }
 {
-    if tag == 1 {
+    if tag % 2 == 1 {
         Held::Phase { phase }
     } else {
         Held::Nothing
@@ -96,7 +101,7 @@ pub fn held_of(tag: u8, phase: u8) -> Held
 pub fn held_known(tag: u8, phase: u8) -> bool
     ensures { λ r. ⌜ r ≡ heldKnown tag phase ⌝ }
 {
-    (tag <= 1) & ((tag == 1) | (phase == 0))
+    (tag == 1) | ((tag == 0) & (phase == 0))
 }
 
 // The low byte of a number of two.

@@ -1,7 +1,9 @@
-// What the bytes of a state hold, part by part. A byte past the end reads as 0.
-ghost use Prim.Native.Nat.{_+_, _≤_};
+// What the bytes of a state hold, part by part. The length is tested first, so no other test of a place is made.
+ghost use Prim.Native.Nat.{ℕ, _+_, _≤_, _<_};
+ghost use mathlib.Core.Bool.{true};
 ghost use mathlib.Core.Path.{_≡_};
 ghost use lib.ListN.{length};
+ghost use Rattle.rules.specs.Bytes.{byteAt};
 ghost use Rattle.rules.specs.Rows.{allOf, listOf};
 ghost use Rattle.state_bytes.specs.Layout.{stateBytes, isState, decoded, positionIn, flagsAt, movementAt, flagKnown, stageKnown};
 use crate::codes::held_known;
@@ -15,69 +17,75 @@ use rules::state::Position;
 use rules::state::Stage;
 use rules::state::State;
 
-// Flags are 0 or 1.
+// Flags are 0 or 1. All are where the bits of all, joined, are.
 fn flags_known(bytes: &[u8]) -> bool
+    requires { ⌜ length (now bytes) ≡ stateBytes ⌝ }
     ensures { λ r. ⌜ r ≡ allOf (flagKnown (now (bytes .entry))) 15 ⌝ }
 {
-    let mut all = true;
+    let mut joined: u8 = 0;
     let mut i: usize = 0;
     while i < 15 {
-        all = all & (reads::byte(bytes, 12 + i) <= 1);
+        joined = joined | bytes[12 + i];
         i += 1;
     }
-    all
+    joined <= 1
 }
 
-// Stages are 0 to 3.
+// Stages are 0 to 3, likewise.
 fn stages_known(bytes: &[u8]) -> bool
+    requires { ⌜ length (now bytes) ≡ stateBytes ⌝ }
     ensures { λ r. ⌜ r ≡ allOf (stageKnown (now (bytes .entry))) 8 ⌝ }
 {
-    let mut all = true;
+    let mut joined: u8 = 0;
     let mut k: usize = 0;
     while k < 8 {
-        all = all & (reads::byte(bytes, 27 + 3 * k) < 4);
+        joined = joined | bytes[27 + 3 * k];
         k += 1;
     }
-    all
+    joined < 4
 }
 
 // Whether the bytes are a state.
 pub fn is_state(bytes: &[u8]) -> bool
     ensures { λ r. ⌜ r ≡ isState (now (bytes .entry)) ⌝ }
 {
-    (bytes.len() == crate::STATE_BYTES)
-        & (reads::byte(bytes, 1) < 6)
-        & held_known(reads::byte(bytes, 4), reads::byte(bytes, 5))
-        & held_known(reads::byte(bytes, 6), reads::byte(bytes, 7))
+    if bytes.len() != crate::STATE_BYTES {
+        return false;
+    }
+    (bytes[1] < 6)
+        & held_known(bytes[4], bytes[5])
+        & held_known(bytes[6], bytes[7])
         & flags_known(bytes)
         & stages_known(bytes)
 }
 
 fn position(bytes: &[u8]) -> Position
+    requires { ⌜ (length (now bytes) ≡ stateBytes) × (byteAt (now bytes) 4 ≤ 1) × (byteAt (now bytes) 6 ≤ 1) ⌝ }
     ensures { λ r. ⌜ r ≡ positionIn (now (bytes .entry)) ⌝ }
 {
     Position {
-        phase: reads::byte(bytes, 0),
-        interval: interval_of(reads::byte(bytes, 1)),
-        age: reads::two(bytes, 2),
-        came: held_of(reads::byte(bytes, 4), reads::byte(bytes, 5)),
-        target: held_of(reads::byte(bytes, 6), reads::byte(bytes, 7)),
+        phase: bytes[0],
+        interval: interval_of(bytes[1]),
+        age: reads::two_in(bytes, 2),
+        came: held_of(bytes[4], bytes[5]),
+        target: held_of(bytes[6], bytes[7]),
     }
 }
 
-// The flags from a place on, as many as there is room for.
+// The flags from a place on, as many as there is room for. Each byte is 0 or 1, so the lowest bit is all of it.
 fn flags(bytes: &[u8], at: usize, out: &mut [bool])
-    requires { ⌜ at + length (now out) ≤ stateBytes ⌝ }
+    requires { ⌜ (at + length (now out) ≤ length (now bytes)) × ((i : ℕ) → i < length (now out) → byteAt (now bytes) (at + i) ≤ 1) ⌝ }
     ensures { λ _. ⌜ now (out .exit) ≡ flagsAt (now (bytes .entry)) at (length (now (out .entry))) ⌝ }
 {
     let mut i: usize = 0;
     while i < out.len() {
-        out[i] = reads::byte(bytes, at + i) == 1;
+        out[i] = bytes[at + i] % 2 == 1;
         i += 1;
     }
 }
 
 fn demands(bytes: &[u8]) -> Demands
+    requires { ⌜ isState (now bytes) ≡ true ⌝ }
     ensures { λ r. ⌜ r ≡ decoded (now (bytes .entry)) .demands ⌝ }
 {
     let mut locks = [false; 7];
@@ -89,6 +97,7 @@ fn demands(bytes: &[u8]) -> Demands
 
 // The movement records, three bytes each, from byte 27 on.
 fn movements(bytes: &[u8]) -> [Movement; 8]
+    requires { ⌜ isState (now bytes) ≡ true ⌝ }
     ensures { λ r. ⌜ r ≡ listOf (movementAt (now (bytes .entry))) 8 ⌝ }
 {
     let idle = Movement {
@@ -100,8 +109,8 @@ fn movements(bytes: &[u8]) -> [Movement; 8]
     while k < 8 {
         let at = 3 * k;
         records[k] = Movement {
-            stage: stage_of(reads::byte(bytes, 27 + at)),
-            age: reads::two(bytes, 28 + at),
+            stage: stage_of(bytes[27 + at]),
+            age: reads::two_in(bytes, 28 + at),
         };
         k += 1;
     }
@@ -110,13 +119,14 @@ fn movements(bytes: &[u8]) -> [Movement; 8]
 
 // The state that the bytes hold.
 pub fn state(bytes: &[u8]) -> State
+    requires { ⌜ isState (now bytes) ≡ true ⌝ }
     ensures { λ r. ⌜ r ≡ decoded (now (bytes .entry)) ⌝ }
 {
     State {
         position: position(bytes),
         counts: Counts {
-            gap: reads::two(bytes, 8),
-            maximum: reads::two(bytes, 10),
+            gap: reads::two_in(bytes, 8),
+            maximum: reads::two_in(bytes, 10),
         },
         demands: demands(bytes),
         movements: movements(bytes),

@@ -9,7 +9,7 @@ is-state-requires : tie.Need-is-state-requires
 is-state-requires c κs = search needs
 
 state-requires : tie.Need-state-requires
-state-requires c κs = search needs
+state-requires c κs = sym (c .before .is-state .ensures) ∙ c .if1 .taken
 
 fresh-state-requires : tie.Need-fresh-state-requires
 fresh-state-requires c κs = search needs

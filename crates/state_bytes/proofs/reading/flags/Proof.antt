@@ -1,6 +1,6 @@
 -- `state_bytes::reading::flags` meets its contract.
 -- The invariant: the flags passed are stored from the front. The measure is the number left.
-use Prim.Native.Nat.{_-_, _+_}
+use Prim.Native.Nat.{_-_, _+_, _<_}
 use mathlib.Core.Path.{refl, _∙_}
 use lib.ListN.{length}
 use Rattle.rules.specs.Rows.{listOf}
@@ -8,6 +8,7 @@ use Rattle.rules.specs.Bytes.{byteAt}
 use Rattle.rules.proofs.Rows.{list-length}
 use Rattle.state_bytes.specs.Codes.{flagOf}
 use Rattle.state_bytes.specs.Layout.{flagsAt}
+use Rattle.state_bytes.proofs.Meanings.{flag-low}
 use Rattle.state_bytes.proofs.Stores.{Stored, stored-none, stored-one, stored-length, stored-all, sets-whole}
 use borrow.Author.Needs.{needs}
 use native.Mathlib.Omega.{arith}
@@ -24,11 +25,11 @@ loop-holds : tie.Need-loop-holds Inv-loop μ-loop
 unfolding flagsAt listOf
 loop-holds c = stored-none refl
 
-add-byte : tie.Need-add-byte Inv-loop μ-loop
-add-byte c = omega (arith, stored-length (c .before .loop .inv))
+add-out : tie.Need-add-out Inv-loop μ-loop
+add-out c = omega (arith, stored-length (c .before .loop .inv))
 
-byte-requires : tie.Need-byte-requires Inv-loop μ-loop
-byte-requires c κs = search needs
+shared-slice-read-out : tie.Need-shared-slice-read-out Inv-loop μ-loop
+shared-slice-read-out c = omega (arith, stored-length (c .before .before .loop .inv))
 
 slice-write-out : tie.Need-slice-write-out Inv-loop μ-loop
 slice-write-out c = search needs
@@ -40,12 +41,15 @@ loop-less : tie.Need-loop-less Inv-loop μ-loop
 loop-less c = omega (arith, stored-length (c .before .before .loop .inv))
 
 loop-again : tie.Need-loop-again Inv-loop μ-loop
-unfolding flagsAt flagOf
+unfolding flagsAt byteAt
 loop-again c =
-    let stored = c .before .before .loop .inv in
-    let args = c .before .before .before .before .before .args in
-    stored-one (λ i. flagOf (byteAt (args .bytes .now) (args .at + i))) stored (omega (arith, stored-length stored)) (omega arith)
-    (simp (c .byte .ensures))
+    let turn = c .before .before in
+    let start = turn .before in
+    let b = start .args .bytes .now in
+    let at = start .args .at in
+    let inside : turn .loop .i < length (start .args .out .now) = omega (arith, stored-length (turn .loop .inv)) in
+    stored-one (λ i. flagOf (byteAt b (at + i))) (turn .loop .inv) inside (omega arith)
+    (flag-low (byteAt b (at + turn .loop .i)) (start .pre .1 (turn .loop .i) inside))
 
 same-length : tie.Need-same-length Inv-loop μ-loop
 same-length c = stored-length (c .before .loop .inv)
@@ -53,7 +57,7 @@ same-length c = stored-length (c .before .loop .inv)
 returns : tie.Need-returns Inv-loop μ-loop
 unfolding flagsAt
 returns c =
-    let args = c .before .before .before .before .args in
+    let args = c .before .before .args in
     let b = args .bytes .now in
     let room = length (args .out .now) in
     let stored = c .before .loop .inv in
@@ -67,8 +71,8 @@ flags-spec =
     Inv-loop
     μ-loop
     loop-holds
-    add-byte
-    byte-requires
+    add-out
+    shared-slice-read-out
     slice-write-out
     add-i
     loop-less

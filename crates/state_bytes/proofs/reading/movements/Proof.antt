@@ -3,10 +3,12 @@
 use Prim.Native.Nat.{_-_}
 use mathlib.Core.Path.{refl, _∙_}
 use lib.ListN.{replicate}
+use Rattle.rules.specs.Bytes.{byteAt}
 use Rattle.rules.specs.Rows.{listOf}
 use Rattle.rules.specs.State.{idle}
 use Rattle.rules.proofs.Rows.{list-length}
 use Rattle.state_bytes.specs.Layout.{movementAt}
+use Rattle.state_bytes.proofs.Known.{known-told}
 use Rattle.state_bytes.proofs.Stores.{Stored, stored-none, stored-one, stored-all, sets-whole}
 use borrow.Author.Needs.{needs}
 use native.Mathlib.Omega.{arith}
@@ -26,20 +28,27 @@ loop-holds c = stored-none refl
 mul-at : tie.Need-mul-at Inv-loop μ-loop
 mul-at c = search needs
 
-add-byte : tie.Need-add-byte Inv-loop μ-loop
-add-byte c = search needs
+add-stage-of : tie.Need-add-stage-of Inv-loop μ-loop
+add-stage-of c = search needs
 
-byte-requires : tie.Need-byte-requires Inv-loop μ-loop
-byte-requires c κs = search needs
+shared-slice-read-stage-of : tie.Need-shared-slice-read-stage-of Inv-loop μ-loop
+shared-slice-read-stage-of c =
+    let start = c .before .before .before .before in
+    omega (arith, known-told (start .args .bytes .now) (start .pre) .size)
 
 stage-of-requires : tie.Need-stage-of-requires Inv-loop μ-loop
-stage-of-requires c κs = search needs
+unfolding byteAt
+stage-of-requires c κs =
+    let start = c .before .before .before .before in
+    known-told (start .args .bytes .now) (start .pre) .stages _ (omega arith)
 
-add-two : tie.Need-add-two Inv-loop μ-loop
-add-two c = search needs
+add-two-in : tie.Need-add-two-in Inv-loop μ-loop
+add-two-in c = search needs
 
-two-requires : tie.Need-two-requires Inv-loop μ-loop
-two-requires c κs = search needs
+two-in-requires : tie.Need-two-in-requires Inv-loop μ-loop
+two-in-requires c κs =
+    let start = c .before .before .before .before .before in
+    omega (arith, known-told (start .args .bytes .now) (start .pre) .size)
 
 mul-records : tie.Need-mul-records Inv-loop μ-loop
 mul-records c = search needs
@@ -54,11 +63,11 @@ loop-less : tie.Need-loop-less Inv-loop μ-loop
 loop-less c = search needs
 
 loop-again : tie.Need-loop-again Inv-loop μ-loop
-unfolding movementAt
+unfolding movementAt byteAt
 loop-again c =
     let head = c .before .before .before .before in
     stored-one (movementAt (head .before .before .args .bytes .now)) (head .loop .inv) (omega arith) (omega arith)
-    (simp (c .two .ensures, c .before .stage-of .ensures, c .before .before .byte .ensures))
+    (simp (c .two-in .ensures, c .before .stage-of .ensures))
 
 returns : tie.Need-returns Inv-loop μ-loop
 returns c =
@@ -74,11 +83,11 @@ movements-spec =
     μ-loop
     loop-holds
     mul-at
-    add-byte
-    byte-requires
+    add-stage-of
+    shared-slice-read-stage-of
     stage-of-requires
-    add-two
-    two-requires
+    add-two-in
+    two-in-requires
     mul-records
     array-set-from-records
     add-k

@@ -1,67 +1,61 @@
 -- `state_bytes::reading::position` meets its contract: each field is read from its own bytes.
+use Rattle.rules.specs.Bytes.{byteAt}
 use Rattle.state_bytes.specs.Layout.{positionIn}
 use borrow.Author.Needs.{needs}
 use Rattle.state_bytes.proofs.reading.position.Statement.{statement}
 use Rattle.state_bytes.proofs.reading.position.Tie as tie
 
-byte-requires : tie.Need-byte-requires
-byte-requires c κs = search needs
+shared-slice-read-t3 : tie.Need-shared-slice-read-t3
+shared-slice-read-t3 c = search needs
 
-byte-requires-2 : tie.Need-byte-requires-2
-byte-requires-2 c κs = search needs
+shared-slice-read-interval-of : tie.Need-shared-slice-read-interval-of
+shared-slice-read-interval-of c = search needs
 
 interval-of-requires : tie.Need-interval-of-requires
 interval-of-requires c κs = search needs
 
-two-requires : tie.Need-two-requires
-two-requires c κs = search needs
+two-in-requires : tie.Need-two-in-requires
+two-in-requires c κs = search needs
 
-byte-requires-3 : tie.Need-byte-requires-3
-byte-requires-3 c κs = search needs
+shared-slice-read-held-of : tie.Need-shared-slice-read-held-of
+shared-slice-read-held-of c = search needs
 
-byte-requires-4 : tie.Need-byte-requires-4
-byte-requires-4 c κs = search needs
+shared-slice-read-held-of-2 : tie.Need-shared-slice-read-held-of-2
+shared-slice-read-held-of-2 c = search needs
 
 held-of-requires : tie.Need-held-of-requires
-held-of-requires c κs = search needs
+unfolding byteAt
+held-of-requires c κs = c .before .before .before .before .before .before .before .pre .1
 
-byte-requires-5 : tie.Need-byte-requires-5
-byte-requires-5 c κs = search needs
+shared-slice-read-held-of-3 : tie.Need-shared-slice-read-held-of-3
+shared-slice-read-held-of-3 c = search needs
 
-byte-requires-6 : tie.Need-byte-requires-6
-byte-requires-6 c κs = search needs
+shared-slice-read-held-of-4 : tie.Need-shared-slice-read-held-of-4
+shared-slice-read-held-of-4 c = search needs
 
 held-of-requires-2 : tie.Need-held-of-requires-2
-held-of-requires-2 c κs = search needs
+unfolding byteAt
+held-of-requires-2 c κs = c .before .before .before .before .before .before .before .before .before .before .pre .2
 
 returns : tie.Need-returns
-unfolding positionIn
+unfolding positionIn byteAt
 returns c =
-    simp (
-      c .held-of2 .ensures,
-      c .before .byte6 .ensures,
-      c .before .before .byte5 .ensures,
-      c .before .before .before .held-of .ensures,
-      c .before .before .before .before .byte4 .ensures,
-      c .before .before .before .before .before .byte3 .ensures,
-      c .before .before .before .before .before .before .two .ensures,
-      c .before .before .before .before .before .before .before .interval-of .ensures,
-      c .before .before .before .before .before .before .before .before .byte2 .ensures,
-      c .before .before .before .before .before .before .before .before .before .byte .ensures,
-    )
+    let came = c .before .before .before in
+    let age = came .before .before .before in
+    simp (c .held-of2 .ensures, came .held-of .ensures, age .two-in .ensures, age .before .interval-of .ensures)
 
 pub position-spec : {M : Type 1} → statement M
 position-spec =
     tie.close
     (tie.spec
-    byte-requires
-    byte-requires-2
+    shared-slice-read-t3
+    shared-slice-read-interval-of
     interval-of-requires
-    two-requires
-    byte-requires-3
-    byte-requires-4
+    two-in-requires
+    shared-slice-read-held-of
+    shared-slice-read-held-of-2
     held-of-requires
-    byte-requires-5
-    byte-requires-6
+    shared-slice-read-held-of-3
+    shared-slice-read-held-of-4
     held-of-requires-2
     returns)

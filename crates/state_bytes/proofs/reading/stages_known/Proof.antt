@@ -1,6 +1,11 @@
--- `state_bytes::reading::stages_known` meets its contract. The invariant: the bytes passed are tested. The measure is the number left.
+-- `state_bytes::reading::stages_known` meets its contract. The invariant: the test of the bits joined is that of the bytes passed. The measure is
+-- the number left.
 use Prim.Native.Nat.{_-_}
+use mathlib.Core.Path.{refl}
+use lib.Dec.{ltb}
+use Rattle.rules.specs.Bytes.{byteAt}
 use Rattle.state_bytes.specs.Layout.{stageKnown}
+use Rattle.state_bytes.proofs.Joined.{joined-stages}
 use Rattle.proof_arrays.proofs.Passing.{Tested, tested-none, tested-more, tested-all}
 use borrow.Author.Needs.{needs}
 use native.Mathlib.Omega.{arith}
@@ -8,22 +13,22 @@ use Rattle.state_bytes.proofs.reading.stages_known.Statement.{statement
 use Rattle.state_bytes.proofs.reading.stages_known.Tie as tie
 
 abbrev Inv-loop : tie.InvT-loop
-Inv-loop bytes all₀ k₀ all k = Tested (stageKnown bytes) 8 all k
+Inv-loop bytes joined₀ k₀ joined k = Tested (stageKnown bytes) 8 (ltb joined 4) k
 
 abbrev μ-loop : tie.MeasureT-loop
-μ-loop bytes all₀ k₀ all k = 8 - k
+μ-loop bytes joined₀ k₀ joined k = 8 - k
 
 loop-holds : tie.Need-loop-holds Inv-loop μ-loop
 loop-holds c = tested-none
 
-mul-byte : tie.Need-mul-byte Inv-loop μ-loop
-mul-byte c = search needs
+mul-joined : tie.Need-mul-joined Inv-loop μ-loop
+mul-joined c = search needs
 
-add-byte : tie.Need-add-byte Inv-loop μ-loop
-add-byte c = search needs
+add-joined : tie.Need-add-joined Inv-loop μ-loop
+add-joined c = search needs
 
-byte-requires : tie.Need-byte-requires Inv-loop μ-loop
-byte-requires c κs = search needs
+shared-slice-read-joined : tie.Need-shared-slice-read-joined Inv-loop μ-loop
+shared-slice-read-joined c = search needs
 
 add-k : tie.Need-add-k Inv-loop μ-loop
 add-k c = search needs
@@ -32,8 +37,8 @@ loop-less : tie.Need-loop-less Inv-loop μ-loop
 loop-less c = search needs
 
 loop-again : tie.Need-loop-again Inv-loop μ-loop
-unfolding stageKnown
-loop-again c = tested-more (c .before .before .loop .inv) (omega arith) (simp (c .byte .ensures))
+unfolding stageKnown byteAt
+loop-again c = rw (joined-stages _ _) (tested-more (c .before .before .loop .inv) (omega arith) refl)
 
 returns : tie.Need-returns Inv-loop μ-loop
 returns c = tested-all (c .before .loop .inv) (c .loop-test .left)
@@ -45,9 +50,9 @@ stages-known-spec =
     Inv-loop
     μ-loop
     loop-holds
-    mul-byte
-    add-byte
-    byte-requires
+    mul-joined
+    add-joined
+    shared-slice-read-joined
     add-k
     loop-less
     loop-again

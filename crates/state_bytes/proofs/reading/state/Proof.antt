@@ -1,17 +1,26 @@
--- `state_bytes::reading::state` meets its contract: each part is the one that its own function reads.
+-- `state_bytes::reading::state` meets its contract: each part is the one that its own function reads, from bytes that the test passed.
+use native.Mathlib.Omega.{arith}
 use Rattle.state_bytes.specs.Layout.{decoded}
+use Rattle.state_bytes.proofs.Known.{known-told}
+use Rattle.state_bytes.proofs.Meanings.{tag-known}
 use borrow.Author.Needs.{needs}
 use Rattle.state_bytes.proofs.reading.state.Statement.{statement}
 use Rattle.state_bytes.proofs.reading.state.Tie as tie
 
 position-requires : tie.Need-position-requires
-position-requires c κs = search needs
+position-requires c κs =
+    let known = known-told (c .before .args .bytes .now) (c .before .pre) in
+    (known .size, tag-known _ _ (known .came), tag-known _ _ (known .target))
 
-two-requires : tie.Need-two-requires
-two-requires c κs = search needs
+two-in-requires : tie.Need-two-in-requires
+two-in-requires c κs =
+    let start = c .before .before in
+    omega (arith, known-told (start .args .bytes .now) (start .pre) .size)
 
-two-requires-2 : tie.Need-two-requires-2
-two-requires-2 c κs = search needs
+two-in-requires-2 : tie.Need-two-in-requires-2
+two-in-requires-2 c κs =
+    let start = c .before .before .before in
+    omega (arith, known-told (start .args .bytes .now) (start .pre) .size)
 
 demands-requires : tie.Need-demands-requires
 demands-requires c κs = search needs
@@ -25,8 +34,8 @@ returns c =
     simp (
       c .movements .ensures,
       c .before .demands .ensures,
-      c .before .before .two2 .ensures,
-      c .before .before .before .two .ensures,
+      c .before .before .two-in2 .ensures,
+      c .before .before .before .two-in .ensures,
       c .before .before .before .before .position .ensures,
     )
 
@@ -35,8 +44,8 @@ state-spec =
     tie.close
     (tie.spec
     position-requires
-    two-requires
-    two-requires-2
+    two-in-requires
+    two-in-requires-2
     demands-requires
     movements-requires
     returns)
