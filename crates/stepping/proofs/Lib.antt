@@ -1,1 +1,3 @@
 pub mod FiveParts
+pub mod Spare
+pub mod Walking

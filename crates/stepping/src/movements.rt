@@ -5,6 +5,7 @@ ghost use Rattle.rules.specs.Rows.{listOf};
 ghost use Rattle.rules.specs.Site.{noWalkTimes};
 ghost use Rattle.rules.specs.State.{idle};
 ghost use Rattle.rules.specs.Movements.{lasting, advanced};
+ghost use Rattle.changes.specs.IdlePast.{IdlePast};
 use rules::site::WalkTimes;
 use rules::state::Movement;
 use rules::state::Stage;
@@ -40,12 +41,15 @@ fn one_moved(stage: Stage, times: WalkTimes, age: u16) -> Movement
     }
 }
 
-pub fn moved(settings: [WalkTimes; 8], stages: [Movement; 8]) -> [Movement; 8]
+// All movements, a step on. The count is of those that the site has: the records past them are idle and stay.
+pub fn moved(settings: [WalkTimes; 8], stages: [Movement; 8], count: u8) -> [Movement; 8]
+    requires { ⌜ IdlePast count stages ⌝ }
     ensures { λ r. ⌜ r ≡ listOf (λ k. advanced (getD stages k idle .stage) (getD settings k noWalkTimes) (getD stages k idle .age)) 8 ⌝ }
 {
+    let n = count as usize;
     let mut out = stages;
     let mut k: usize = 0;
-    while k < 8 {
+    while k < n {
         let movement = stages[k];
         let stage = movement.stage;
         let times = settings[k];

@@ -2,6 +2,7 @@
 // phase is demanded, idle demanded movements of the phase begin walk. Beginning clears the demand; the age is 1.
 ghost use mathlib.Core.Path.{_≡_};
 ghost use Rattle.stepping.specs.Begun.{mayBegin, walkIf, begunOf};
+ghost use Rattle.stepping.specs.Ready.{NonePast};
 use rules::state::Movement;
 use rules::state::Position;
 use rules::state::Stage;
@@ -31,23 +32,28 @@ fn walk_if(begins: bool, movement: Movement) -> Movement
     movement
 }
 
+// Only the movements that the site has, count of them, are of a phase. None begins walk where no phase starts and walks may not
+// begin, so then none is looked at.
 pub fn begin(
     crossings: [u8; 8],
+    count: u8,
     starts: bool,
     another: bool,
     now: Position,
     buttons: [bool; 8],
     stages: [Movement; 8],
 ) -> Walks
+    requires { ⌜ NonePast count crossings ⌝ }
     ensures { λ r. ⌜ r ≡ begunOf crossings starts another now buttons stages ⌝ }
 {
     let interval = now.interval;
     let phase = now.phase;
     let free = intervals::running(interval) & !another;
+    let n = if starts | free { count as usize } else { 0 };
     let mut left = buttons;
     let mut out = stages;
     let mut k: usize = 0;
-    while k < 8 {
+    while k < n {
         let movement = stages[k];
         let stage = movement.stage;
         let begins = may_begin(buttons[k], crossings[k], phase, starts, free, stage);

@@ -1,4 +1,5 @@
--- `stepping::movements::moved` meets its contract. The loop's invariant: the movements passed are a step on, the others as they were.
+-- `stepping::movements::moved` meets its contract. The loop's invariant: the movements passed are a step on, the others as they were. The
+-- records past the count are idle, so a step leaves them as they were.
 use borrow.Author.Needs.{needs}
 use native.Mathlib.Omega.{arith}
 use Prim.Native.Nat.{ℕ, _-_, _≤_, _<_}
@@ -11,7 +12,8 @@ use Rattle.rules.specs.declared.state.Stage.the-variants.{Idle}
 use Rattle.rules.specs.Site.{noWalkTimes}
 use Rattle.rules.specs.State.{idle}
 use Rattle.rules.specs.Movements.{advanced}
-use Rattle.proof_arrays.proofs.Fill.{Filled, fill-none, fill-step, fill-done, entry-same}
+use Rattle.proof_arrays.proofs.Fill.{Filled, fill-none, fill-step, entry-same}
+use Rattle.stepping.proofs.Spare.{fill-kept, idle-after}
 use Rattle.stepping.proofs.movements.moved.Statement.{statement}
 use Rattle.stepping.proofs.movements.moved.Tie as tie
 
@@ -19,10 +21,10 @@ abbrev after : List WalkTimes → List Movement → ℕ → Movement
 after settings stages k = advanced (getD stages k idle .stage) (getD settings k noWalkTimes) (getD stages k idle .age)
 
 abbrev Inv-loop : tie.InvT-loop
-Inv-loop settings stages out₀ k₀ out k = (k ≤ 8) × Filled (after settings stages) stages out k
+Inv-loop count settings stages n out₀ k₀ out k = (k ≤ n) × Filled (after settings stages) stages out k
 
 abbrev μ-loop : tie.MeasureT-loop
-μ-loop settings stages out₀ k₀ out k = 8 - k
+μ-loop count settings stages n out₀ k₀ out k = n - k
 
 loop-holds : tie.Need-loop-holds Inv-loop μ-loop
 loop-holds c = (search needs, fill-none _ _)
@@ -59,7 +61,7 @@ loop-again c =
     let at = c .before .before .before .before in
     let args = at .before .args in
     let k = at .loop .k in
-    let inside : k < length (args .t2) = omega (arith, at .before .good .1 .0 .1 .0 .1) in (
+    let inside : k < length (args .t2) = omega (arith, at .before .good .1 .0 .1 .0 .1, at .before .pre .room) in (
       search needs,
       fill-step (at .loop .inv .1) inside
           (c .one-moved .ensures
@@ -68,7 +70,12 @@ loop-again c =
     )
 
 returns : tie.Need-returns Inv-loop μ-loop
-returns c = fill-done (c .before .loop .inv .1) (c .before .before .good .1 .0 .1 .0 .1) (c .before .loop .inv .0) (c .loop-test .left)
+returns c =
+    let at = c .before in
+    let start = at .before in
+    let args = start .args in
+    fill-kept idle (at .loop .k) 8 (at .loop .inv .1) (start .good .1 .0 .1 .0 .1) (omega (arith, at .loop .inv .0, start .pre .room))
+    (λ k a b. idle-after (args .t1) (args .t2) (args .count) (start .pre) k (omega (arith, c .loop-test .left)) b)
 
 pub moved-spec : {M : Type 1} → statement M
 moved-spec =

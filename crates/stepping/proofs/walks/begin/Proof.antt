@@ -1,47 +1,38 @@
 -- `stepping::walks::begin` meets its contract. The loop's invariant: the movements passed have begun walk where they may, with their demands
--- cleared, and the others are as they were.
+-- cleared, and the others are as they were. Those past the count, and all where walks may not begin, do not begin walk.
 use borrow.Author.Needs.{needs}
 use native.Mathlib.Omega.{arith}
 use Prim.Native.Nat.{ℕ, _-_, _≤_, _<_}
-use mathlib.Core.Bool.{Bool, false, not, _&&_}
-use mathlib.Core.List.{List}
-use mathlib.Core.Path.{_∙_}
-use lib.ListN.{length, getD}
-use Rattle.rules.specs.declared.state.Movement.{Movement}
+use mathlib.Core.Bool.{false, not, _&&_}
+use mathlib.Core.Logic.{⊎-elim}
+use mathlib.Core.Path.{_≡_, _∙_}
+use lib.ListN.{length}
 use Rattle.rules.specs.declared.state.Stage.the-variants.{Idle}
 use Rattle.rules.specs.State.{idle}
 use Rattle.rules.specs.Walks.{walksBegun, buttonsLeft}
-use Rattle.stepping.specs.Begun.{mayBegin, walkIf, beginsAt, begunOf}
-use Rattle.proof_arrays.proofs.Fill.{Filled, fill-none, fill-step, fill-done, entry-same}
+use Rattle.stepping.specs.Begun.{walkIf, beginsAt, begunOf}
+use Rattle.proof_arrays.proofs.Fill.{Filled, fill-none, fill-step, entry-same}
+use Rattle.stepping.proofs.Spare.{fill-kept}
+use Rattle.stepping.proofs.Walking.{begins, button, walk, button-stays, walk-stays, none-begins-past, none-begins}
 use Rattle.stepping.proofs.walks.begin.Statement.{statement}
 use Rattle.stepping.proofs.walks.begin.Tie as tie
 
--- movement k begins walk
-abbrev begins : List ℕ → List Bool → List Movement → ℕ → Bool → Bool → ℕ → Bool
-begins crossings buttons stages phase starts free k =
-    mayBegin (getD buttons k false) (getD crossings k 0) phase starts free (getD stages k idle .stage)
-
-abbrev button : List ℕ → List Bool → List Movement → ℕ → Bool → Bool → ℕ → Bool
-button crossings buttons stages phase starts free k =
-    getD buttons k false && not (begins crossings buttons stages phase starts free k)
-
-abbrev walk : List ℕ → List Bool → List Movement → ℕ → Bool → Bool → ℕ → Movement
-walk crossings buttons stages phase starts free k =
-    walkIf (begins crossings buttons stages phase starts free k) (getD stages k idle)
-
 abbrev Inv-loop : tie.InvT-loop
-Inv-loop starts another crossings buttons stages phase free left₀ out₀ k₀ left out k = (k ≤ 8)
+Inv-loop count starts another crossings buttons stages phase free n left₀ out₀ k₀ left out k = ((k ≤ n) × (n ≤ 8))
     × Filled (button crossings buttons stages phase starts free) buttons left k
     × Filled (walk crossings buttons stages phase starts free) stages out k
 
 abbrev μ-loop : tie.MeasureT-loop
-μ-loop starts another crossings buttons stages phase free left₀ out₀ k₀ left out k = 8 - k
+μ-loop count starts another crossings buttons stages phase free n left₀ out₀ k₀ left out k = n - k
 
 running-requires : tie.Need-running-requires Inv-loop μ-loop
 running-requires c κs = search needs
 
 loop-holds : tie.Need-loop-holds Inv-loop μ-loop
-loop-holds c = (search needs, fill-none _ _, fill-none _ _)
+loop-holds c =
+    let room = c .before .before .pre .room in
+    let within : c .if1 .n ≤ 8 = ⊎-elim (λ w. omega (arith, w .1, room)) (λ w. omega (arith, w .1)) (c .if1 .came) in
+    ((omega arith, within), fill-none _ _, fill-none _ _)
 
 mul-movement : tie.Need-mul-movement Inv-loop μ-loop
 mul-movement c = search needs
@@ -82,14 +73,15 @@ loop-less c = search needs
 loop-again : tie.Need-loop-again Inv-loop μ-loop
 loop-again c =
     let at = c .before .before .before .before in
-    let start = at .before .before in
+    let start = at .before .before .before in
     let args = start .args in
     let k = at .loop .k in
-    let inside : k < length (args .t6) = omega (arith, start .good .1 .1 .1 .1 .1 .0 .1 .0 .1) in
-    let entry = entry-same (args .t6) k (record { stage = Idle; age = 0 }) idle inside in
+    let within = at .loop .inv .0 .1 in
+    let inside : k < length (args .t7) = omega (arith, within, start .good .1 .1 .1 .1 .1 .1 .0 .1 .0 .1) in
+    let entry = entry-same (args .t7) k (record { stage = Idle; age = 0 }) idle inside in
     let told = rw entry at (c .before .may-begin .ensures) in (
       search needs,
-      fill-step (at .loop .inv .1) (omega (arith, start .good .1 .1 .1 .1 .0 .1 .0 .1)) (rw told),
+      fill-step (at .loop .inv .1) (omega (arith, within, start .good .1 .1 .1 .1 .1 .0 .1 .0 .1)) (rw told),
       fill-step (at .loop .inv .2) inside (c .walk-if .ensures ∙ rw (told, entry)),
     )
 
@@ -97,11 +89,23 @@ returns : tie.Need-returns Inv-loop μ-loop
 unfolding begunOf beginsAt buttonsLeft walksBegun walkIf
 returns c =
     let at = c .before in
-    let good = at .before .before .good in
+    let chosen = at .before in
+    let start = chosen .before .before in
+    let a = start .args in
+    let free = chosen .before .running .result && not (a .another) in
+    let stays : (k : ℕ) → at .loop .k ≤ k → begins (a .t1) (a .t6) (a .t7) (a .now .phase) (a .starts) free k ≡ false = λ k h.
+    ⊎-elim
+    (λ w.
+    none-begins-past (a .t1) (a .t6) (a .t7) (a .now .phase) (a .starts) free (a .count) k (start .pre) (omega (arith, w .1, c .loop-test .left)))
+    (λ w. none-begins (a .t1) (a .t6) (a .t7) (a .now .phase) (a .starts) free k (w .0 .left))
+    (chosen .if1 .came) in
+    let within : at .loop .k ≤ 8 = omega (arith, at .loop .inv .0 .0, at .loop .inv .0 .1) in
     rw (
-      fill-done (at .loop .inv .1) (good .1 .1 .1 .1 .0 .1 .0 .1) (at .loop .inv .0) (c .loop-test .left),
-      fill-done (at .loop .inv .2) (good .1 .1 .1 .1 .1 .0 .1 .0 .1) (at .loop .inv .0) (c .loop-test .left),
-      at .before .running .ensures,
+      fill-kept false (at .loop .k) 8 (at .loop .inv .1) (start .good .1 .1 .1 .1 .1 .0 .1 .0 .1) within
+          (λ k h l. button-stays (a .t1) (a .t6) (a .t7) (a .now .phase) (a .starts) free k (stays k h)),
+      fill-kept idle (at .loop .k) 8 (at .loop .inv .2) (start .good .1 .1 .1 .1 .1 .1 .0 .1 .0 .1) within
+          (λ k h l. walk-stays (a .t1) (a .t6) (a .t7) (a .now .phase) (a .starts) free k (stays k h)),
+      chosen .before .running .ensures,
     )
 
 pub begin-spec : {M : Type 1} → statement M

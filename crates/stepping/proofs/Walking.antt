@@ -1,0 +1,49 @@
+-- Part 5, movement by movement: what a movement and its demand are after it, and which movements it leaves as they are.
+use Prim.Native.Nat.{ℕ, _≤_}
+use mathlib.Core.Bool.{Bool, true, false, not, _&&_, _||_}
+use mathlib.Core.List.{List}
+use mathlib.Core.Path.{_≡_, refl, sym}
+use lib.ListN.{getD}
+use Rattle.rules.specs.declared.state.Movement.{Movement}
+use Rattle.rules.specs.Bytes.{bit}
+use Rattle.rules.specs.Intervals.{isIdle}
+use Rattle.rules.specs.State.{idle}
+use Rattle.rules.proofs.Tests.{and-false-left, and-false-right, or-false-left, or-false-right, or-false-both}
+use Rattle.stepping.specs.Begun.{mayBegin, walkIf}
+use Rattle.stepping.specs.Ready.{NonePast}
+
+and-true : (a : Bool) → (a && true) ≡ a
+and-true true = refl
+and-true false = refl
+
+module _ (crossings : List ℕ) (buttons : List Bool) (stages : List Movement) (phase : ℕ) (starts free : Bool) where
+  -- movement k begins walk
+  abbrev pub begins : ℕ → Bool
+  begins k = mayBegin (getD buttons k false) (getD crossings k 0) phase starts free (getD stages k idle .stage)
+
+  abbrev pub button : ℕ → Bool
+  button k = getD buttons k false && not (begins k)
+
+  abbrev pub walk : ℕ → Movement
+  walk k = walkIf (begins k) (getD stages k idle)
+
+  -- ── Movements that do not begin walk ──
+
+  pub button-stays : (k : ℕ) → begins k ≡ false → getD buttons k false ≡ button k
+  button-stays k e = rw e (sym (and-true (getD buttons k false)))
+
+  pub walk-stays : (k : ℕ) → begins k ≡ false → getD stages k idle ≡ walk k
+  unfolding walkIf
+  walk-stays k e = rw e
+
+  -- a movement that the site has not is of no phase
+  pub none-begins-past : (count k : ℕ) → NonePast count crossings → count ≤ k → begins k ≡ false
+  unfolding mayBegin
+  none-begins-past count k known h = and-false-left _ (and-false-right (getD buttons k false) (known .past k phase h))
+
+  -- no phase starts and walks may not begin
+  pub none-begins : (k : ℕ) → (starts || free) ≡ false → begins k ≡ false
+  unfolding mayBegin
+  none-begins k e =
+      and-false-right (getD buttons k false && bit phase (getD crossings k 0))
+      (or-false-both (or-false-left starts free e) (and-false-left (isIdle (getD stages k idle .stage)) (or-false-right starts free e)))
