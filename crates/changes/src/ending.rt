@@ -54,13 +54,20 @@ pub fn over(
         Interval::LateStart => times.late <= age,
         Interval::MinimumGreen => times.minimum <= age,
         Interval::Running => {
+            let due = (counted.gap == 0) | (counted.maximum == times.maximum);
+            if !(another & due) {
+                return false;
+            }
             let now = under_way(movements, count);
-            another & !now.walking & ((counted.gap == 0) | (counted.maximum == times.maximum))
+            !now.walking
         }
         Interval::Yellow => times.yellow <= age,
         Interval::AllRed => {
+            if age < times.red {
+                return false;
+            }
             let now = under_way(movements, count);
-            (times.red <= age) & !now.clearing
+            !now.clearing
         }
     }
 }

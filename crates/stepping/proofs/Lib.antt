@@ -1,3 +1,4 @@
 pub mod FiveParts
 pub mod Spare
 pub mod Walking
+pub mod Locks

@@ -6,7 +6,7 @@ use mathlib.Core.Logic.{⊎-elim}
 use mathlib.Core.Path.{_≡_, refl, sym, ap, _∙_}
 use native.Mathlib.Omega.{arith}
 use lib.ListN.{length, getD, drop}
-use lib.Seq.{drop-cons, append-snoc}
+use lib.Seq.{drop-cons, append-snoc, getD-at}
 use Rattle.rules.specs.declared.site.Site.{Site}
 use Rattle.rules.specs.declared.site.WalkTimes.{WalkTimes}
 use Rattle.rules.specs.declared.state.Movement.{Movement}
@@ -20,12 +20,12 @@ use Rattle.rules.specs.Intervals.{isIdle}
 use Rattle.rules.specs.State.{idle, movement, valid}
 use Rattle.rules.specs.Movements.{advanced}
 use Rattle.rules.specs.Laws.{Sound}
-use Rattle.rules.proofs.Rows.{list-at}
+use Rattle.rules.proofs.Rows.{list-length, list-at}
 use Rattle.rules.proofs.Tests.{decided}
 use Rattle.proof_runs.proofs.ValidStates.{state-told}
 use Rattle.demands.proofs.Sizes.{sized}
 use Rattle.changes.specs.IdlePast.{IdlePast}
-use Rattle.proof_arrays.proofs.Fill.{Filled, fill-done}
+use Rattle.proof_arrays.proofs.Fill.{Filled, fill-none, fill-done}
 use Rattle.stepping.specs.Ready.{NonePast, Ready}
 
 -- ── Entries that a fill need not write ──
@@ -49,6 +49,11 @@ module _ {A : Type 0} {f : ℕ → A} {old out : List A} where
       rw next
       (kept-one d (k + m) (kept-more d k m filled (omega arith) (λ i a b. same i a (omega arith))) (omega arith)
       (same (k + m) (omega arith) (omega arith)))
+
+  -- the entry at the seam is the old one
+  pub fill-seam : (d : A) (k : ℕ) → Filled f old out k → k < length old → getD out k d ≡ getD old k d
+  fill-seam d k filled h =
+      rw (filled .told, drop-cons old k d h) (getD-at (listOf f k) (getD old k d) (drop (suc k) old) d k (list-length f k))
 
   pub fill-kept :
       (d : A) (k n : ℕ) →

@@ -5,11 +5,15 @@ use mathlib.Core.List.{List}
 use mathlib.Core.Path.{_≡_, refl, sym}
 use lib.ListN.{getD}
 use Rattle.rules.specs.declared.state.Movement.{Movement}
+use Rattle.rules.specs.declared.state.Position.{Position}
 use Rattle.rules.specs.Bytes.{bit}
-use Rattle.rules.specs.Intervals.{isIdle}
+use Rattle.rules.specs.Rows.{listOf}
+use Rattle.rules.specs.Intervals.{isIdle, isRunning}
 use Rattle.rules.specs.State.{idle}
+use Rattle.rules.specs.Walks.{walksBegun, buttonsLeft}
 use Rattle.rules.proofs.Tests.{and-false-left, and-false-right, or-false-left, or-false-right, or-false-both}
-use Rattle.stepping.specs.Begun.{mayBegin, walkIf}
+use Rattle.stepping.specs.declared.walks.Walks.{Walks}
+use Rattle.stepping.specs.Begun.{mayBegin, walkIf, beginsAt, begunOf}
 use Rattle.stepping.specs.Ready.{NonePast}
 
 and-true : (a : Bool) → (a && true) ≡ a
@@ -47,3 +51,14 @@ module _ (crossings : List ℕ) (buttons : List Bool) (stages : List Movement) (
   none-begins k e =
       and-false-right (getD buttons k false && bit phase (getD crossings k 0))
       (or-false-both (or-false-left starts free e) (and-false-left (isIdle (getD stages k idle .stage)) (or-false-right starts free e)))
+
+-- all of part 5, from its two rows
+pub begun-told :
+    (crossings : List ℕ) (buttons : List Bool) (stages : List Movement) (starts another runs : Bool) (now : Position)
+    (left : List Bool) (out : List Movement) →
+    runs ≡ isRunning (now .interval) →
+    left ≡ listOf (button crossings buttons stages (now .phase) starts (runs && not another)) 8 →
+    out ≡ listOf (walk crossings buttons stages (now .phase) starts (runs && not another)) 8 →
+    _≡_ {A = Walks} (record { buttons = left; movements = out }) (begunOf crossings starts another now buttons stages)
+unfolding begunOf beginsAt buttonsLeft walksBegun walkIf
+begun-told crossings buttons stages starts another runs now left out told lefts outs = rw (lefts, outs, told)

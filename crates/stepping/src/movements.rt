@@ -47,10 +47,13 @@ pub fn moved(settings: [WalkTimes; 8], stages: [Movement; 8], count: u8) -> [Mov
     ensures { λ r. ⌜ r ≡ listOf (λ k. advanced (getD stages k idle .stage) (getD settings k noWalkTimes) (getD stages k idle .age)) 8 ⌝ }
 {
     let n = count as usize;
+    if n == 0 {
+        return stages;
+    }
     let mut out = stages;
     let mut k: usize = 0;
     while k < n {
-        let movement = stages[k];
+        let movement = out[k];
         let stage = movement.stage;
         let times = settings[k];
         out[k] = one_moved(stage, times, movement.age);

@@ -49,15 +49,21 @@ pub fn begin(
     let interval = now.interval;
     let phase = now.phase;
     let free = intervals::running(interval) & !another;
-    let n = if starts | free { count as usize } else { 0 };
+    let n = count as usize;
+    if (n == 0) | !(starts | free) {
+        return Walks {
+            buttons: buttons,
+            movements: stages,
+        };
+    }
     let mut left = buttons;
     let mut out = stages;
     let mut k: usize = 0;
     while k < n {
-        let movement = stages[k];
+        let movement = out[k];
         let stage = movement.stage;
-        let begins = may_begin(buttons[k], crossings[k], phase, starts, free, stage);
-        left[k] = buttons[k] & !begins;
+        let begins = may_begin(left[k], crossings[k], phase, starts, free, stage);
+        left[k] = left[k] & !begins;
         out[k] = walk_if(begins, movement);
         k += 1;
     }

@@ -16,42 +16,38 @@ moved-requires c κs = search needs
 
 judge-requires : tie.Need-judge-requires
 judge-requires c κs =
-    let registered = c .before .before .before .before .before in
-    let start = registered .before .before .before .before .before .before .before .before in
+    let moved = c .before .before in
+    let start = moved .before .before .before .before .before .before in
     idle-moved (start .args .site .times .walks) (start .args .state .movements) (start .args .site .size .movements) (start .pre .idles)
-    (c .moved .result) (c .moved .ensures)
+    (moved .moved .result) (moved .moved .ensures)
 
 before-start-requires : tie.Need-before-start-requires
 before-start-requires c κs = search needs
 
 begin-requires : tie.Need-begin-requires
 begin-requires c κs =
-    let moved = c .before .before .before .before .before in
-    let registered = moved .before .before .before .before .before in
-    let start = registered .before .before .before .before .before .before .before .before in
+    let judged = c .before .before .before .before .before .before .before in
+    let moved = judged .before .before .before in
+    let start = moved .before .before .before .before .before .before in
     start .pre .none
 
-minimum-green-requires : tie.Need-minimum-green-requires
-minimum-green-requires c κs = search needs
-
-cleared-requires : tie.Need-cleared-requires
-cleared-requires c κs = search needs
+locks-left-requires : tie.Need-locks-left-requires
+locks-left-requires c κs = search needs
 
 returns : tie.Need-returns
 returns c =
-    let greened = c .before .before in
-    let walked = greened .before .before .before in
-    let started = walked .before .before in
+    let walked = c .before .before .before in
+    let started = walked .before .before .before .before .before in
     let judged = started .before .before .before in
-    let moved = judged .before in
-    let held = moved .before in
-    let registered = held .before .before .before .before in
-    let start = registered .before .before .before .before .before .before .before .before in
+    let moved = judged .before .before .before in
+    let held = moved .before .before .before .before in
+    let registered = held .before in
+    let start = registered .before in
     step-told (start .args .site) (start .args .state) (start .args .inputs)
     (registered .register .result) (held .held .result) (moved .moved .result) (judged .judge .result)
-    (started .before-start .result) (greened .minimum-green .result) (walked .begin .result) (c .cleared .result)
+    (started .before-start .result) (walked .begin .result) (c .locks-left .result)
     (registered .register .ensures) (held .held .ensures) (moved .moved .ensures) (judged .judge .ensures)
-    (started .before-start .ensures) (walked .begin .ensures) (greened .minimum-green .ensures) (c .cleared .ensures)
+    (started .before-start .ensures) (walked .begin .ensures) (c .locks-left .ensures)
 
 pub advance-spec : {M : Type 1} → statement M
 advance-spec =
@@ -63,6 +59,5 @@ advance-spec =
     judge-requires
     before-start-requires
     begin-requires
-    minimum-green-requires
-    cleared-requires
+    locks-left-requires
     returns)

@@ -12,8 +12,8 @@ use Rattle.rules.specs.declared.state.Stage.the-variants.{Idle}
 use Rattle.rules.specs.Site.{noWalkTimes}
 use Rattle.rules.specs.State.{idle}
 use Rattle.rules.specs.Movements.{advanced}
-use Rattle.proof_arrays.proofs.Fill.{Filled, fill-none, fill-step, entry-same}
-use Rattle.stepping.proofs.Spare.{fill-kept, idle-after}
+use Rattle.proof_arrays.proofs.Fill.{Filled, fill-none, fill-step, entry-same, list-told}
+use Rattle.stepping.proofs.Spare.{fill-seam, fill-kept, idle-after}
 use Rattle.stepping.proofs.movements.moved.Statement.{statement}
 use Rattle.stepping.proofs.movements.moved.Tie as tie
 
@@ -21,10 +21,17 @@ abbrev after : List WalkTimes → List Movement → ℕ → Movement
 after settings stages k = advanced (getD stages k idle .stage) (getD settings k noWalkTimes) (getD stages k idle .age)
 
 abbrev Inv-loop : tie.InvT-loop
-Inv-loop count settings stages n out₀ k₀ out k = (k ≤ n) × Filled (after settings stages) stages out k
+Inv-loop count settings n out₀ k₀ out k = (k ≤ n) × Filled (after settings out₀) out₀ out k
 
 abbrev μ-loop : tie.MeasureT-loop
-μ-loop count settings stages n out₀ k₀ out k = n - k
+μ-loop count settings n out₀ k₀ out k = n - k
+
+returns : tie.Need-returns Inv-loop μ-loop
+returns c =
+    let start = c .before in
+    let args = start .args in
+    list-told (after (args .t1) (args .stages)) (args .stages) 8 idle (start .good .1 .0 .1 .0 .1)
+    (λ k b. idle-after (args .t1) (args .stages) (args .count) (start .pre) k (omega (arith, c .if1 .taken)) b)
 
 loop-holds : tie.Need-loop-holds Inv-loop μ-loop
 loop-holds c = (search needs, fill-none _ _)
@@ -59,23 +66,25 @@ loop-less c = search needs
 loop-again : tie.Need-loop-again Inv-loop μ-loop
 loop-again c =
     let at = c .before .before .before .before in
-    let args = at .before .args in
+    let start = at .before .before in
+    let args = start .args in
     let k = at .loop .k in
-    let inside : k < length (args .t2) = omega (arith, at .before .good .1 .0 .1 .0 .1, at .before .pre .room) in (
+    let inside : k < length (args .stages) = omega (arith, start .good .1 .0 .1 .0 .1, start .pre .room) in (
       search needs,
       fill-step (at .loop .inv .1) inside
           (c .one-moved .ensures
           ∙ ap (λ (m : Movement). advanced (m .stage) (getD (args .t1) k noWalkTimes) (m .age))
-          (entry-same (args .t2) k (record { stage = Idle; age = 0 }) idle inside)),
+          (fill-seam (record { stage = Idle; age = 0 }) k (at .loop .inv .1) inside
+          ∙ entry-same (args .stages) k (record { stage = Idle; age = 0 }) idle inside)),
     )
 
-returns : tie.Need-returns Inv-loop μ-loop
-returns c =
+returns-2 : tie.Need-returns-2 Inv-loop μ-loop
+returns-2 c =
     let at = c .before in
-    let start = at .before in
+    let start = at .before .before in
     let args = start .args in
     fill-kept idle (at .loop .k) 8 (at .loop .inv .1) (start .good .1 .0 .1 .0 .1) (omega (arith, at .loop .inv .0, start .pre .room))
-    (λ k a b. idle-after (args .t1) (args .t2) (args .count) (start .pre) k (omega (arith, c .loop-test .left)) b)
+    (λ k a b. idle-after (args .t1) (args .stages) (args .count) (start .pre) k (omega (arith, c .loop-test .left)) b)
 
 pub moved-spec : {M : Type 1} → statement M
 moved-spec =
@@ -83,6 +92,7 @@ moved-spec =
     (tie.spec
     Inv-loop
     μ-loop
+    returns
     loop-holds
     mul-movement
     array-copy-out-movement
@@ -94,4 +104,4 @@ moved-spec =
     add-k
     loop-less
     loop-again
-    returns)
+    returns-2)

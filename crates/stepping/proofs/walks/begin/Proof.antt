@@ -1,38 +1,56 @@
 -- `stepping::walks::begin` meets its contract. The loop's invariant: the movements passed have begun walk where they may, with their demands
 -- cleared, and the others are as they were. Those past the count, and all where walks may not begin, do not begin walk.
 use borrow.Author.Needs.{needs}
+use borrow.Author.Tests.{eqb-true, not-true}
 use native.Mathlib.Omega.{arith}
 use Prim.Native.Nat.{ℕ, _-_, _≤_, _<_}
-use mathlib.Core.Bool.{false, not, _&&_}
+use mathlib.Core.Bool.{true, false, not, _&&_, _||_}
 use mathlib.Core.Logic.{⊎-elim}
 use mathlib.Core.Path.{_≡_, _∙_}
+use lib.Dec.{eqb}
 use lib.ListN.{length}
 use Rattle.rules.specs.declared.state.Stage.the-variants.{Idle}
 use Rattle.rules.specs.State.{idle}
-use Rattle.rules.specs.Walks.{walksBegun, buttonsLeft}
-use Rattle.stepping.specs.Begun.{walkIf, beginsAt, begunOf}
-use Rattle.proof_arrays.proofs.Fill.{Filled, fill-none, fill-step, entry-same}
-use Rattle.stepping.proofs.Spare.{fill-kept}
-use Rattle.stepping.proofs.Walking.{begins, button, walk, button-stays, walk-stays, none-begins-past, none-begins}
+use Rattle.rules.proofs.Tests.{or-cases}
+use Rattle.proof_arrays.proofs.Fill.{Filled, fill-none, fill-step, entry-same, list-told}
+use Rattle.stepping.proofs.Spare.{fill-seam, fill-kept}
+use Rattle.stepping.proofs.Walking.{begins, button, walk, button-stays, walk-stays, none-begins-past, none-begins, begun-told}
 use Rattle.stepping.proofs.walks.begin.Statement.{statement}
 use Rattle.stepping.proofs.walks.begin.Tie as tie
 
 abbrev Inv-loop : tie.InvT-loop
-Inv-loop count starts another crossings buttons stages phase free n left₀ out₀ k₀ left out k = ((k ≤ n) × (n ≤ 8))
-    × Filled (button crossings buttons stages phase starts free) buttons left k
-    × Filled (walk crossings buttons stages phase starts free) stages out k
+Inv-loop count starts another crossings phase free n left₀ out₀ k₀ left out k = (k ≤ n)
+    × Filled (button crossings left₀ out₀ phase starts free) left₀ left k
+    × Filled (walk crossings left₀ out₀ phase starts free) out₀ out k
 
 abbrev μ-loop : tie.MeasureT-loop
-μ-loop count starts another crossings buttons stages phase free n left₀ out₀ k₀ left out k = n - k
+μ-loop count starts another crossings phase free n left₀ out₀ k₀ left out k = n - k
 
 running-requires : tie.Need-running-requires Inv-loop μ-loop
 running-requires c κs = search needs
 
+returns : tie.Need-returns Inv-loop μ-loop
+returns c =
+    let asked = c .before in
+    let start = asked .before in
+    let a = start .args in
+    let free = asked .running .result && not (a .another) in
+    let stays : (k : ℕ) → begins (a .t1) (a .buttons) (a .stages) (a .now .phase) (a .starts) free k ≡ false = λ k.
+    ⊎-elim
+    (λ (e : eqb (a .count) 0 ≡ true).
+    none-begins-past (a .t1) (a .buttons) (a .stages) (a .now .phase) (a .starts) free (a .count) k (start .pre) (omega (arith, eqb-true (a .count) 0 e)))
+    (λ (e : not (a .starts || free) ≡ true).
+    none-begins (a .t1) (a .buttons) (a .stages) (a .now .phase) (a .starts) free k (not-true (a .starts || free) e))
+    (or-cases (eqb (a .count) 0) (not (a .starts || free)) (c .if1 .taken)) in
+    begun-told (a .t1) (a .buttons) (a .stages) (a .starts) (a .another) (asked .running .result) (a .now) (a .buttons) (a .stages)
+    (asked .running .ensures)
+    (list-told (button (a .t1) (a .buttons) (a .stages) (a .now .phase) (a .starts) free) (a .buttons) 8 false (start .good .1 .1 .1 .1 .1 .0 .1 .0 .1)
+    (λ k l. button-stays (a .t1) (a .buttons) (a .stages) (a .now .phase) (a .starts) free k (stays k)))
+    (list-told (walk (a .t1) (a .buttons) (a .stages) (a .now .phase) (a .starts) free) (a .stages) 8 idle (start .good .1 .1 .1 .1 .1 .1 .0 .1 .0 .1)
+    (λ k l. walk-stays (a .t1) (a .buttons) (a .stages) (a .now .phase) (a .starts) free k (stays k)))
+
 loop-holds : tie.Need-loop-holds Inv-loop μ-loop
-loop-holds c =
-    let room = c .before .before .pre .room in
-    let within : c .if1 .n ≤ 8 = ⊎-elim (λ w. omega (arith, w .1, room)) (λ w. omega (arith, w .1)) (c .if1 .came) in
-    ((omega arith, within), fill-none _ _, fill-none _ _)
+loop-holds c = (search needs, fill-none _ _, fill-none _ _)
 
 mul-movement : tie.Need-mul-movement Inv-loop μ-loop
 mul-movement c = search needs
@@ -76,37 +94,35 @@ loop-again c =
     let start = at .before .before .before in
     let args = start .args in
     let k = at .loop .k in
-    let within = at .loop .inv .0 .1 in
-    let inside : k < length (args .t7) = omega (arith, within, start .good .1 .1 .1 .1 .1 .1 .0 .1 .0 .1) in
-    let entry = entry-same (args .t7) k (record { stage = Idle; age = 0 }) idle inside in
-    let told = rw entry at (c .before .may-begin .ensures) in (
+    let room = start .pre .room in
+    let within : k < length (args .buttons) = omega (arith, room, start .good .1 .1 .1 .1 .1 .0 .1 .0 .1) in
+    let inside : k < length (args .stages) = omega (arith, room, start .good .1 .1 .1 .1 .1 .1 .0 .1 .0 .1) in
+    let pressed = fill-seam false k (at .loop .inv .1) within in
+    let entry =
+    fill-seam (record { stage = Idle; age = 0 }) k (at .loop .inv .2) inside
+    ∙ entry-same (args .stages) k (record { stage = Idle; age = 0 }) idle inside in
+    let told = rw (pressed, entry) at (c .before .may-begin .ensures) in (
       search needs,
-      fill-step (at .loop .inv .1) (omega (arith, within, start .good .1 .1 .1 .1 .1 .0 .1 .0 .1)) (rw told),
+      fill-step (at .loop .inv .1) within (rw (told, pressed)),
       fill-step (at .loop .inv .2) inside (c .walk-if .ensures ∙ rw (told, entry)),
     )
 
-returns : tie.Need-returns Inv-loop μ-loop
-unfolding begunOf beginsAt buttonsLeft walksBegun walkIf
-returns c =
+returns-2 : tie.Need-returns-2 Inv-loop μ-loop
+returns-2 c =
     let at = c .before in
-    let chosen = at .before in
-    let start = chosen .before .before in
+    let asked = at .before .before in
+    let start = asked .before in
     let a = start .args in
-    let free = chosen .before .running .result && not (a .another) in
-    let stays : (k : ℕ) → at .loop .k ≤ k → begins (a .t1) (a .t6) (a .t7) (a .now .phase) (a .starts) free k ≡ false = λ k h.
-    ⊎-elim
-    (λ w.
-    none-begins-past (a .t1) (a .t6) (a .t7) (a .now .phase) (a .starts) free (a .count) k (start .pre) (omega (arith, w .1, c .loop-test .left)))
-    (λ w. none-begins (a .t1) (a .t6) (a .t7) (a .now .phase) (a .starts) free k (w .0 .left))
-    (chosen .if1 .came) in
-    let within : at .loop .k ≤ 8 = omega (arith, at .loop .inv .0 .0, at .loop .inv .0 .1) in
-    rw (
-      fill-kept false (at .loop .k) 8 (at .loop .inv .1) (start .good .1 .1 .1 .1 .1 .0 .1 .0 .1) within
-          (λ k h l. button-stays (a .t1) (a .t6) (a .t7) (a .now .phase) (a .starts) free k (stays k h)),
-      fill-kept idle (at .loop .k) 8 (at .loop .inv .2) (start .good .1 .1 .1 .1 .1 .1 .0 .1 .0 .1) within
-          (λ k h l. walk-stays (a .t1) (a .t6) (a .t7) (a .now .phase) (a .starts) free k (stays k h)),
-      chosen .before .running .ensures,
-    )
+    let free = asked .running .result && not (a .another) in
+    let within : at .loop .k ≤ 8 = omega (arith, at .loop .inv .0, start .pre .room) in
+    let stays : (k : ℕ) → at .loop .k ≤ k → begins (a .t1) (a .buttons) (a .stages) (a .now .phase) (a .starts) free k ≡ false = λ k h.
+    none-begins-past (a .t1) (a .buttons) (a .stages) (a .now .phase) (a .starts) free (a .count) k (start .pre) (omega (arith, c .loop-test .left)) in
+    begun-told (a .t1) (a .buttons) (a .stages) (a .starts) (a .another) (asked .running .result) (a .now) (at .loop .left) (at .loop .out)
+    (asked .running .ensures)
+    (fill-kept false (at .loop .k) 8 (at .loop .inv .1) (start .good .1 .1 .1 .1 .1 .0 .1 .0 .1) within
+    (λ k h l. button-stays (a .t1) (a .buttons) (a .stages) (a .now .phase) (a .starts) free k (stays k h)))
+    (fill-kept idle (at .loop .k) 8 (at .loop .inv .2) (start .good .1 .1 .1 .1 .1 .1 .0 .1 .0 .1) within
+    (λ k h l. walk-stays (a .t1) (a .buttons) (a .stages) (a .now .phase) (a .starts) free k (stays k h)))
 
 pub begin-spec : {M : Type 1} → statement M
 begin-spec =
@@ -115,6 +131,7 @@ begin-spec =
     Inv-loop
     μ-loop
     running-requires
+    returns
     loop-holds
     mul-movement
     array-copy-out-movement
@@ -129,4 +146,4 @@ begin-spec =
     add-k
     loop-less
     loop-again
-    returns)
+    returns-2)
