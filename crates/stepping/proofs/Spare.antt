@@ -4,8 +4,9 @@ use mathlib.Core.Bool.{true, false}
 use mathlib.Core.List.{List, _∷_, _++_}
 use mathlib.Core.Logic.{⊎-elim}
 use mathlib.Core.Path.{_≡_, refl, sym, ap, _∙_}
+use native.Mathlib.Numerals.{add-one}
 use native.Mathlib.Omega.{arith}
-use lib.ListN.{length, getD, drop}
+use lib.ListN.{length, getD, drop, set}
 use lib.Seq.{drop-cons, append-snoc, getD-at}
 use Rattle.rules.specs.declared.site.Site.{Site}
 use Rattle.rules.specs.declared.site.WalkTimes.{WalkTimes}
@@ -25,7 +26,7 @@ use Rattle.rules.proofs.Tests.{decided}
 use Rattle.proof_runs.proofs.ValidStates.{state-told}
 use Rattle.demands.proofs.Sizes.{sized}
 use Rattle.changes.specs.IdlePast.{IdlePast}
-use Rattle.proof_arrays.proofs.Fill.{Filled, fill-none, fill-done}
+use Rattle.proof_arrays.proofs.Fill.{Filled, fill-step, fill-done}
 use Rattle.stepping.specs.Ready.{NonePast, Ready}
 
 -- ── Entries that a fill need not write ──
@@ -55,6 +56,14 @@ module _ {A : Type 0} {f : ℕ → A} {old out : List A} where
   fill-seam d k filled h =
       rw (filled .told, drop-cons old k d h) (getD-at (listOf f k) (getD old k d) (drop (suc k) old) d k (list-length f k))
 
+  -- one entry more, where a store is made and where none is needed
+  pub fill-set : {next : List A} {k : ℕ} {a : A} → next ≡ set out k a → Filled f old out k → k < length old → a ≡ f k → Filled f old next (k + 1)
+  fill-set e filled h same = rw e (fill-step filled h same)
+
+  pub fill-skip :
+      (d : A) {next : List A} {k : ℕ} → next ≡ out → Filled f old out k → k < length old → getD old k d ≡ f k → Filled f old next (k + 1)
+  fill-skip d {next} {k} e filled h same = rw (e, add-one k) (kept-one d k filled h same)
+
   pub fill-kept :
       (d : A) (k n : ℕ) →
       Filled f old out k →
@@ -67,6 +76,13 @@ module _ {A : Type 0} {f : ℕ → A} {old out : List A} where
       fill-done (rw rest at (kept-more d k (n - k) filled (omega arith) (λ i a b. same i a (omega arith)))) len (omega arith) (omega arith)
 
 -- ── Idle records ──
+
+pub idle-only : (stage : Stage) → isIdle stage ≡ true → stage ≡ Idle
+unfolding isIdle
+idle-only Idle e = refl
+idle-only Walk e = absurd (mathlib.Core.Bool.true≢false (sym e))
+idle-only ClearanceOne e = absurd (mathlib.Core.Bool.true≢false (sym e))
+idle-only ClearanceTwo e = absurd (mathlib.Core.Bool.true≢false (sym e))
 
 -- an idle movement stays as it is
 pub idle-stays : (m : Movement) (times : WalkTimes) → m .stage ≡ Idle → m ≡ advanced (m .stage) times (m .age)
@@ -90,13 +106,6 @@ module _ (settings : List WalkTimes) (stages : List Movement) (count : ℕ) (kno
       }
 
 -- ── What acceptance and validity tell ──
-
-idle-only : (stage : Stage) → isIdle stage ≡ true → stage ≡ Idle
-unfolding isIdle
-idle-only Idle e = refl
-idle-only Walk e = absurd (mathlib.Core.Bool.true≢false (sym e))
-idle-only ClearanceOne e = absurd (mathlib.Core.Bool.true≢false (sym e))
-idle-only ClearanceTwo e = absurd (mathlib.Core.Bool.true≢false (sym e))
 
 module _ (site : Site) (s : State) (sound : Sound site) (ok : valid site s ≡ true) where
   idle-past : (k : ℕ) → site .size .movements ≤ k → k < 8 → getD (s .movements) k idle .stage ≡ Idle

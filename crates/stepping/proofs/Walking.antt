@@ -2,7 +2,7 @@
 use Prim.Native.Nat.{ℕ, _≤_}
 use mathlib.Core.Bool.{Bool, true, false, not, _&&_, _||_}
 use mathlib.Core.List.{List}
-use mathlib.Core.Path.{_≡_, refl, sym}
+use mathlib.Core.Path.{_≡_, refl, sym, ap, _∙_}
 use lib.ListN.{getD}
 use Rattle.rules.specs.declared.state.Movement.{Movement}
 use Rattle.rules.specs.declared.state.Position.{Position}
@@ -31,7 +31,27 @@ module _ (crossings : List ℕ) (buttons : List Bool) (stages : List Movement) (
   abbrev pub walk : ℕ → Movement
   walk k = walkIf (begins k) (getD stages k idle)
 
+  -- ── A demanded movement ──
+
+  pub begins-asked :
+      (k : ℕ) (b : Bool) (m : Movement) →
+      getD buttons k false ≡ true →
+      m ≡ getD stages k idle →
+      b ≡ mayBegin true (getD crossings k 0) phase starts free (m .stage) →
+      b ≡ begins k
+  begins-asked k b m a e told = told ∙ rw (e, a)
+
+  pub button-asked : (k : ℕ) (b : Bool) → getD buttons k false ≡ true → b ≡ begins k → not b ≡ button k
+  button-asked k b a told = ap not told ∙ rw a
+
+  pub walk-asked : (k : ℕ) (b : Bool) (m w : Movement) → m ≡ getD stages k idle → b ≡ begins k → w ≡ walkIf b m → w ≡ walk k
+  walk-asked k b m w e told walks = walks ∙ rw (told, e)
+
   -- ── Movements that do not begin walk ──
+
+  pub unasked : (k : ℕ) → getD buttons k false ≡ false → begins k ≡ false
+  unfolding mayBegin
+  unasked k a = rw a
 
   pub button-stays : (k : ℕ) → begins k ≡ false → getD buttons k false ≡ button k
   button-stays k e = rw e (sym (and-true (getD buttons k false)))

@@ -55,8 +55,10 @@ pub fn moved(settings: [WalkTimes; 8], stages: [Movement; 8], count: u8) -> [Mov
     while k < n {
         let movement = out[k];
         let stage = movement.stage;
-        let times = settings[k];
-        out[k] = one_moved(stage, times, movement.age);
+        if !intervals::idle(stage) {
+            let times = settings[k];
+            out[k] = one_moved(stage, times, movement.age);
+        }
         k += 1;
     }
     out

@@ -1,5 +1,6 @@
 // Part 5 of a step: walks. When a phase starts, its demanded movements begin walk. When the interval is now running and no other
 // phase is demanded, idle demanded movements of the phase begin walk. Beginning clears the demand; the age is 1.
+ghost use mathlib.Core.Bool.{true};
 ghost use mathlib.Core.Path.{_≡_};
 ghost use Rattle.stepping.specs.Begun.{mayBegin, walkIf, begunOf};
 ghost use Rattle.stepping.specs.Ready.{NonePast};
@@ -13,11 +14,11 @@ pub struct Walks {
     pub movements: [Movement; 8],
 }
 
-// Whether a movement begins walk: it is demanded, is of the phase, and the phase starts, or it is idle and walks may begin.
-fn may_begin(asked: bool, crossing: u8, phase: u8, starts: bool, free: bool, stage: Stage) -> bool
-    ensures { λ r. ⌜ r ≡ mayBegin asked crossing phase starts free stage ⌝ }
+// Whether a demanded movement begins walk: it is of the phase, and the phase starts, or it is idle and walks may begin.
+fn may_begin(crossing: u8, phase: u8, starts: bool, free: bool, stage: Stage) -> bool
+    ensures { λ r. ⌜ r ≡ mayBegin true crossing phase starts free stage ⌝ }
 {
-    asked & reads::bit8(phase, crossing) & (starts | (free & intervals::idle(stage)))
+    reads::bit8(phase, crossing) & (starts | (free & intervals::idle(stage)))
 }
 
 fn walk_if(begins: bool, movement: Movement) -> Movement
@@ -60,11 +61,13 @@ pub fn begin(
     let mut out = stages;
     let mut k: usize = 0;
     while k < n {
-        let movement = out[k];
-        let stage = movement.stage;
-        let begins = may_begin(left[k], crossings[k], phase, starts, free, stage);
-        left[k] = left[k] & !begins;
-        out[k] = walk_if(begins, movement);
+        if left[k] {
+            let movement = out[k];
+            let stage = movement.stage;
+            let begins = may_begin(crossings[k], phase, starts, free, stage);
+            left[k] = !begins;
+            out[k] = walk_if(begins, movement);
+        }
         k += 1;
     }
     Walks {

@@ -1,19 +1,23 @@
 -- `stepping::movements::moved` meets its contract. The loop's invariant: the movements passed are a step on, the others as they were. The
 -- records past the count are idle, so a step leaves them as they were.
 use borrow.Author.Needs.{needs}
+use borrow.Author.Tests.{not-false}
 use native.Mathlib.Omega.{arith}
 use Prim.Native.Nat.{ℕ, _-_, _≤_, _<_}
+use mathlib.Core.Bool.{true}
 use mathlib.Core.List.{List}
-use mathlib.Core.Path.{ap, _∙_}
+use mathlib.Core.Logic.{⊎-elim}
+use mathlib.Core.Path.{_≡_, sym, ap, _∙_}
 use lib.ListN.{length, getD}
 use Rattle.rules.specs.declared.site.WalkTimes.{WalkTimes}
 use Rattle.rules.specs.declared.state.Movement.{Movement}
 use Rattle.rules.specs.declared.state.Stage.the-variants.{Idle}
 use Rattle.rules.specs.Site.{noWalkTimes}
+use Rattle.rules.specs.Intervals.{isIdle}
 use Rattle.rules.specs.State.{idle}
 use Rattle.rules.specs.Movements.{advanced}
-use Rattle.proof_arrays.proofs.Fill.{Filled, fill-none, fill-step, entry-same, list-told}
-use Rattle.stepping.proofs.Spare.{fill-seam, fill-kept, idle-after}
+use Rattle.proof_arrays.proofs.Fill.{Filled, fill-none, entry-same, list-told}
+use Rattle.stepping.proofs.Spare.{fill-seam, fill-set, fill-skip, fill-kept, idle-only, idle-stays, idle-after}
 use Rattle.stepping.proofs.movements.moved.Statement.{statement}
 use Rattle.stepping.proofs.movements.moved.Tie as tie
 
@@ -42,6 +46,9 @@ mul-movement c = search needs
 array-copy-out-movement : tie.Need-array-copy-out-movement Inv-loop μ-loop
 array-copy-out-movement c = search needs
 
+idle-requires : tie.Need-idle-requires Inv-loop μ-loop
+idle-requires c κs = search needs
+
 mul-times : tie.Need-mul-times Inv-loop μ-loop
 mul-times c = search needs
 
@@ -65,17 +72,27 @@ loop-less c = search needs
 
 loop-again : tie.Need-loop-again Inv-loop μ-loop
 loop-again c =
-    let at = c .before .before .before .before in
+    let tested = c .before in
+    let at = tested .before .before .before in
     let start = at .before .before in
     let args = start .args in
     let k = at .loop .k in
-    let inside : k < length (args .stages) = omega (arith, start .good .1 .0 .1 .0 .1, start .pre .room) in (
+    let filled = at .loop .inv .1 in
+    let inside : k < length (args .stages) = omega (arith, start .good .1 .0 .1 .0 .1, start .pre .room) in
+    let blank : Movement = record { stage = Idle; age = 0 } in
+    let entry = fill-seam blank k filled inside ∙ entry-same (args .stages) k blank idle inside in (
       search needs,
-      fill-step (at .loop .inv .1) inside
-          (c .one-moved .ensures
-          ∙ ap (λ (m : Movement). advanced (m .stage) (getD (args .t1) k noWalkTimes) (m .age))
-          (fill-seam (record { stage = Idle; age = 0 }) k (at .loop .inv .1) inside
-          ∙ entry-same (args .stages) k (record { stage = Idle; age = 0 }) idle inside)),
+      ⊎-elim
+          (λ w.
+          fill-set (w .3) filled inside
+          (w .2 .ensures ∙ ap (λ (m : Movement). advanced (m .stage) (getD (args .t1) k noWalkTimes) (m .age)) entry))
+          (λ w.
+          let rests : isIdle (getD (args .stages) k idle .stage) ≡ true =
+          ap (λ (m : Movement). isIdle (m .stage)) (sym entry)
+          ∙ sym (tested .idle .ensures)
+          ∙ not-false (tested .idle .result) (w .0 .left) in
+          fill-skip idle (w .1) filled inside (idle-stays (getD (args .stages) k idle) (getD (args .t1) k noWalkTimes) (idle-only _ rests)))
+          (c .if2 .came),
     )
 
 returns-2 : tie.Need-returns-2 Inv-loop μ-loop
@@ -96,6 +113,7 @@ moved-spec =
     loop-holds
     mul-movement
     array-copy-out-movement
+    idle-requires
     mul-times
     array-copy-out-times
     one-moved-requires

@@ -6,15 +6,16 @@ use native.Mathlib.Omega.{arith}
 use Prim.Native.Nat.{ℕ, _-_, _≤_, _<_}
 use mathlib.Core.Bool.{true, false, not, _&&_, _||_}
 use mathlib.Core.Logic.{⊎-elim}
-use mathlib.Core.Path.{_≡_, _∙_}
+use mathlib.Core.Path.{_≡_, sym, _∙_}
 use lib.Dec.{eqb}
-use lib.ListN.{length}
+use lib.ListN.{length, getD}
+use Rattle.rules.specs.declared.state.Movement.{Movement}
 use Rattle.rules.specs.declared.state.Stage.the-variants.{Idle}
 use Rattle.rules.specs.State.{idle}
 use Rattle.rules.proofs.Tests.{or-cases}
-use Rattle.proof_arrays.proofs.Fill.{Filled, fill-none, fill-step, entry-same, list-told}
-use Rattle.stepping.proofs.Spare.{fill-seam, fill-kept}
-use Rattle.stepping.proofs.Walking.{begins, button, walk, button-stays, walk-stays, none-begins-past, none-begins, begun-told}
+use Rattle.proof_arrays.proofs.Fill.{Filled, fill-none, entry-same, list-told}
+use Rattle.stepping.proofs.Spare.{fill-seam, fill-set, fill-skip, fill-kept}
+use Rattle.stepping.proofs.Walking.{begins, button, walk, begins-asked, button-asked, walk-asked, unasked, button-stays, walk-stays, none-begins-past, none-begins, begun-told}
 use Rattle.stepping.proofs.walks.begin.Statement.{statement}
 use Rattle.stepping.proofs.walks.begin.Tie as tie
 
@@ -52,6 +53,9 @@ returns c =
 loop-holds : tie.Need-loop-holds Inv-loop μ-loop
 loop-holds c = (search needs, fill-none _ _, fill-none _ _)
 
+array-read-if2 : tie.Need-array-read-if2 Inv-loop μ-loop
+array-read-if2 c = search needs
+
 mul-movement : tie.Need-mul-movement Inv-loop μ-loop
 mul-movement c = search needs
 
@@ -61,14 +65,8 @@ array-copy-out-movement c = search needs
 array-read-may-begin : tie.Need-array-read-may-begin Inv-loop μ-loop
 array-read-may-begin c = search needs
 
-array-read-may-begin-2 : tie.Need-array-read-may-begin-2 Inv-loop μ-loop
-array-read-may-begin-2 c = search needs
-
 may-begin-requires : tie.Need-may-begin-requires Inv-loop μ-loop
 may-begin-requires c κs = search needs
-
-array-read-left : tie.Need-array-read-left Inv-loop μ-loop
-array-read-left c = search needs
 
 array-write-left : tie.Need-array-write-left Inv-loop μ-loop
 array-write-left c = search needs
@@ -90,22 +88,36 @@ loop-less c = search needs
 
 loop-again : tie.Need-loop-again Inv-loop μ-loop
 loop-again c =
-    let at = c .before .before .before .before in
-    let start = at .before .before .before in
-    let args = start .args in
+    let at = c .before .before in
+    let asked = at .before .before in
+    let start = asked .before in
+    let a = start .args in
+    let free = asked .running .result && not (a .another) in
     let k = at .loop .k in
     let room = start .pre .room in
-    let within : k < length (args .buttons) = omega (arith, room, start .good .1 .1 .1 .1 .1 .0 .1 .0 .1) in
-    let inside : k < length (args .stages) = omega (arith, room, start .good .1 .1 .1 .1 .1 .1 .0 .1 .0 .1) in
+    let within : k < length (a .buttons) = omega (arith, room, start .good .1 .1 .1 .1 .1 .0 .1 .0 .1) in
+    let inside : k < length (a .stages) = omega (arith, room, start .good .1 .1 .1 .1 .1 .1 .0 .1 .0 .1) in
     let pressed = fill-seam false k (at .loop .inv .1) within in
-    let entry =
-    fill-seam (record { stage = Idle; age = 0 }) k (at .loop .inv .2) inside
-    ∙ entry-same (args .stages) k (record { stage = Idle; age = 0 }) idle inside in
-    let told = rw (pressed, entry) at (c .before .may-begin .ensures) in (
+    let blank : Movement = record { stage = Idle; age = 0 } in
+    let m = getD (at .loop .out) k blank in
+    let entry = fill-seam blank k (at .loop .inv .2) inside ∙ entry-same (a .stages) k blank idle inside in
+    ⊎-elim
+    (λ w.
+    let yes = sym pressed ∙ w .0 .taken in
+    let told = begins-asked (a .t1) (a .buttons) (a .stages) (a .now .phase) (a .starts) free k (w .2 .result) m yes entry (w .2 .ensures) in (
       search needs,
-      fill-step (at .loop .inv .1) within (rw (told, pressed)),
-      fill-step (at .loop .inv .2) inside (c .walk-if .ensures ∙ rw (told, entry)),
-    )
+      fill-set {a = not (w .2 .result)} (w .4) (at .loop .inv .1) within
+          (button-asked (a .t1) (a .buttons) (a .stages) (a .now .phase) (a .starts) free k (w .2 .result) yes told),
+      fill-set {a = w .3 .result} (w .5) (at .loop .inv .2) inside
+          (walk-asked (a .t1) (a .buttons) (a .stages) (a .now .phase) (a .starts) free k (w .2 .result) m (w .3 .result) entry told (w .3 .ensures)),
+    ))
+    (λ w.
+    let stays = unasked (a .t1) (a .buttons) (a .stages) (a .now .phase) (a .starts) free k (sym pressed ∙ w .0 .left) in (
+      search needs,
+      fill-skip false (w .1) (at .loop .inv .1) within (button-stays (a .t1) (a .buttons) (a .stages) (a .now .phase) (a .starts) free k stays),
+      fill-skip idle (w .2) (at .loop .inv .2) inside (walk-stays (a .t1) (a .buttons) (a .stages) (a .now .phase) (a .starts) free k stays),
+    ))
+    (c .if2 .came)
 
 returns-2 : tie.Need-returns-2 Inv-loop μ-loop
 returns-2 c =
@@ -133,12 +145,11 @@ begin-spec =
     running-requires
     returns
     loop-holds
+    array-read-if2
     mul-movement
     array-copy-out-movement
     array-read-may-begin
-    array-read-may-begin-2
     may-begin-requires
-    array-read-left
     array-write-left
     walk-if-requires
     mul-out
