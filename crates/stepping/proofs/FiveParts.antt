@@ -3,13 +3,14 @@ use Prim.Native.Nat.{ℕ}
 use mathlib.Core.Bool.{Bool, false, not, _&&_}
 use mathlib.Core.List.{List}
 use mathlib.Core.Path.{_≡_}
+use lib.Dec.{eqb}
 use lib.ListN.{getD}
 use Rattle.rules.specs.declared.site.Site.{Site}
 use Rattle.rules.specs.declared.state.Movement.{Movement}
 use Rattle.rules.specs.declared.state.State.{State}
 use Rattle.rules.specs.Rows.{listOf}
 use Rattle.rules.specs.Site.{noWalkTimes, walkTimes, crosses}
-use Rattle.rules.specs.Intervals.{isHeld, isBeforeStart}
+use Rattle.rules.specs.Intervals.{isHeld, isMinimumGreen, isBeforeStart}
 use Rattle.rules.specs.State.{idle, movement}
 use Rattle.rules.specs.Movements.{advanced, movementsAfter}
 use Rattle.rules.specs.Interval.{clearsLock, starts}
@@ -33,7 +34,11 @@ module _
     (judges : judged ≡ judgedOf (site .times) (s .position) (asked .next) another (asked .extended) moved (s .counts))
     (begin : before ≡ isBeforeStart (s .position .interval))
     (walk : walks ≡ begunOf (site .crossings) (judged .ended && before) another (judged .now) (asked .demands .buttons) moved)
-    (clear : locks ≡ listOf (λ p. getD (asked .demands .locks) p false && not (clearsLock (judged .ended) (judged .now) p)) 7)
+    (clear :
+    locks
+    ≡ listOf
+    (λ p. getD (asked .demands .locks) p false && not (judged .ended && isMinimumGreen (judged .now .interval) && eqb p (judged .now .phase)))
+    7)
   where
     pub step-told :
         _≡_ {A = State}
@@ -44,5 +49,5 @@ module _
           movements = walks .movements;
         })
         (stepped site s inputs)
-    unfolding stepped askedOf judgedOf begunOf beginsAt mayBegin begins crosses starts movementsAfter walkTimes movement
+    unfolding stepped askedOf judgedOf begunOf beginsAt mayBegin begins crosses starts clearsLock movementsAfter walkTimes movement
     step-told = rw (clear, walk, begin, judges, moves, holds, registers)

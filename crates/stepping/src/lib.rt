@@ -1,27 +1,27 @@
 // One step on an accepted site: the five parts, in order.
 ghost use mathlib.Core.Bool.{false, not, _&&_};
 ghost use mathlib.Core.Path.{_≡_};
+ghost use lib.Dec.{eqb};
 ghost use lib.ListN.{getD};
 ghost use Rattle.rules.specs.Rows.{listOf};
-ghost use Rattle.rules.specs.Interval.{clearsLock};
+ghost use Rattle.rules.specs.Intervals.{isMinimumGreen};
 ghost use Rattle.rules.specs.Step.{stepped};
 ghost use Rattle.stepping.specs.Ready.{Ready};
 use rules::site::Site;
 use rules::state::Demands;
-use rules::state::Position;
+use rules::state::Interval;
 use rules::state::State;
 
 mod movements;
 mod walks;
 
-// The locks that stand once the interval is settled: entering minimum green clears that of the phase.
-fn locks_left(standing: Demands, ended: bool, now: Position) -> [bool; 7]
-    ensures { λ r. ⌜ r ≡ listOf (λ p. getD (standing .locks) p false && not (clearsLock ended now p)) 7 ⌝ }
+// The locks that are left of those that stand: entering minimum green clears that of the phase.
+fn locks_left(standing: Demands, ended: bool, phase: u8, after: Interval) -> [bool; 7]
+    ensures { λ r. ⌜ r ≡ listOf (λ p. getD (standing .locks) p false && not (ended && isMinimumGreen after && eqb p phase)) 7 ⌝ }
 {
     let locks = standing.locks;
-    let interval = now.interval;
-    if ended & intervals::minimum_green(interval) {
-        return demands::phases::cleared(locks, now.phase, true);
+    if ended & intervals::minimum_green(after) {
+        return demands::phases::cleared(locks, phase, true);
     }
     locks
 }
@@ -46,6 +46,7 @@ pub fn advance(site: Site, state: State, inputs: u64) -> State
     let counts = state.counts;
     let judged = changes::judge(times, old, next, another, asked.extended, moved, n, counts);
     let now = judged.now;
+    let after = now.interval;
     let counted = judged.counts;
     // 5. walks
     let before = old.interval;
@@ -60,7 +61,7 @@ pub fn advance(site: Site, state: State, inputs: u64) -> State
         position: now,
         counts: counted,
         demands: Demands {
-            locks: locks_left(standing, judged.ended, now),
+            locks: locks_left(standing, judged.ended, now.phase, after),
             buttons: left,
         },
         movements: begun,

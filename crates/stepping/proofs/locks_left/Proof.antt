@@ -14,14 +14,14 @@ returns : tie.Need-returns
 returns c =
     let asked = c .before .before in
     let a = asked .before .before .args in
-    lock-cleared (a .standing .locks) (a .ended) (asked .minimum-green .result) (a .now) (c .cleared .result)
+    lock-cleared (a .standing .locks) (a .ended) (asked .minimum-green .result) (a .phase) (a .after) (c .cleared .result)
     (asked .minimum-green .ensures) (c .before .if1 .taken) (c .cleared .ensures)
 
 returns-2 : tie.Need-returns-2
 returns-2 c =
     let asked = c .before in
     let a = asked .before .before .args in
-    locks-stand (a .standing .locks) (a .ended) (asked .minimum-green .result) (a .now)
+    locks-stand (a .standing .locks) (a .ended) (asked .minimum-green .result) (a .phase) (a .after)
     (asked .minimum-green .ensures) (c .if1 .left) (search needs)
 
 pub locks-left-spec : {M : Type 1} → statement M
