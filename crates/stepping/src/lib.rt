@@ -31,16 +31,15 @@ pub fn advance(site: Site, state: State, inputs: u64) -> State
     requires { ⌜ Ready site state ⌝ }
     ensures { λ r. ⌜ r ≡ stepped site state inputs ⌝ }
 {
+    // 2. movements, which ask nothing of the demands
+    let n = site.size.movements;
+    let stages = state.movements;
+    let times = site.times;
+    let moved = movements::moved(times, stages, n);
     // 1. demands
     let asked = demands::register(site, state, inputs);
     let next = asked.next;
     let another = intervals::held(next);
-    // 2. movements
-    let n = site.size.movements;
-    let stages = state.movements;
-    let times = site.times;
-    let settings = times.walks;
-    let moved = movements::moved(settings, stages, n);
     // 3. counts, 4. interval
     let old = state.position;
     let counts = state.counts;

@@ -5,19 +5,19 @@ use Rattle.stepping.proofs.Spare.{idle-moved}
 use Rattle.stepping.proofs.advance.Statement.{statement}
 use Rattle.stepping.proofs.advance.Tie as tie
 
+moved-requires : tie.Need-moved-requires
+moved-requires c κs = search needs
+
 register-requires : tie.Need-register-requires
 register-requires c κs = search needs
 
 held-requires : tie.Need-held-requires
 held-requires c κs = search needs
 
-moved-requires : tie.Need-moved-requires
-moved-requires c κs = search needs
-
 judge-requires : tie.Need-judge-requires
 judge-requires c κs =
-    let moved = c .before .before in
-    let start = moved .before .before .before .before .before .before in
+    let moved = c .before .before .before .before in
+    let start = moved .before .before .before in
     idle-moved (start .args .site .times .walks) (start .args .state .movements) (start .args .site .size .movements) (start .pre .idles)
     (moved .moved .result) (moved .moved .ensures)
 
@@ -27,8 +27,8 @@ before-start-requires c κs = search needs
 begin-requires : tie.Need-begin-requires
 begin-requires c κs =
     let judged = c .before .before .before .before .before .before .before in
-    let moved = judged .before .before .before in
-    let start = moved .before .before .before .before .before .before in
+    let moved = judged .before .before .before .before .before in
+    let start = moved .before .before .before in
     start .pre .none
 
 locks-left-requires : tie.Need-locks-left-requires
@@ -39,10 +39,10 @@ returns c =
     let walked = c .before .before .before in
     let started = walked .before .before .before .before .before in
     let judged = started .before .before .before in
-    let moved = judged .before .before .before in
-    let held = moved .before .before .before .before in
+    let held = judged .before .before .before in
     let registered = held .before in
-    let start = registered .before in
+    let moved = registered .before in
+    let start = moved .before .before .before in
     step-told (start .args .site) (start .args .state) (start .args .inputs)
     (registered .register .result) (held .held .result) (moved .moved .result) (judged .judge .result)
     (started .before-start .result) (walked .begin .result) (c .locks-left .result)
@@ -53,9 +53,9 @@ pub advance-spec : {M : Type 1} → statement M
 advance-spec =
     tie.close
     (tie.spec
+    moved-requires
     register-requires
     held-requires
-    moved-requires
     judge-requires
     before-start-requires
     begin-requires

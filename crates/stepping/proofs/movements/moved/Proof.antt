@@ -25,17 +25,17 @@ abbrev after : List WalkTimes → List Movement → ℕ → Movement
 after settings stages k = advanced (getD stages k idle .stage) (getD settings k noWalkTimes) (getD stages k idle .age)
 
 abbrev Inv-loop : tie.InvT-loop
-Inv-loop count settings n out₀ k₀ out k = (k ≤ n) × Filled (after settings out₀) out₀ out k
+Inv-loop count n settings out₀ k₀ out k = (k ≤ n) × Filled (after settings out₀) out₀ out k
 
 abbrev μ-loop : tie.MeasureT-loop
-μ-loop count settings n out₀ k₀ out k = n - k
+μ-loop count n settings out₀ k₀ out k = n - k
 
 returns : tie.Need-returns Inv-loop μ-loop
 returns c =
     let start = c .before in
     let args = start .args in
-    list-told (after (args .t1) (args .stages)) (args .stages) 8 idle (start .good .1 .0 .1 .0 .1)
-    (λ k b. idle-after (args .t1) (args .stages) (args .count) (start .pre) k (omega (arith, c .if1 .taken)) b)
+    list-told (after (args .times .walks) (args .stages)) (args .stages) 8 idle (start .good .1 .0 .1 .0 .1)
+    (λ k b. idle-after (args .times .walks) (args .stages) (args .count) (start .pre) k (omega (arith, c .if1 .taken)) b)
 
 loop-holds : tie.Need-loop-holds Inv-loop μ-loop
 loop-holds c = (search needs, fill-none _ _)
@@ -49,11 +49,11 @@ array-copy-out-movement c = search needs
 idle-requires : tie.Need-idle-requires Inv-loop μ-loop
 idle-requires c κs = search needs
 
-mul-times : tie.Need-mul-times Inv-loop μ-loop
-mul-times c = search needs
+mul-own : tie.Need-mul-own Inv-loop μ-loop
+mul-own c = search needs
 
-array-copy-out-times : tie.Need-array-copy-out-times Inv-loop μ-loop
-array-copy-out-times c = search needs
+array-copy-out-own : tie.Need-array-copy-out-own Inv-loop μ-loop
+array-copy-out-own c = search needs
 
 one-moved-requires : tie.Need-one-moved-requires Inv-loop μ-loop
 one-moved-requires c κs = search needs
@@ -74,7 +74,7 @@ loop-again : tie.Need-loop-again Inv-loop μ-loop
 loop-again c =
     let tested = c .before in
     let at = tested .before .before .before in
-    let start = at .before .before in
+    let start = at .before .before .before in
     let args = start .args in
     let k = at .loop .k in
     let filled = at .loop .inv .1 in
@@ -85,23 +85,23 @@ loop-again c =
       ⊎-elim
           (λ w.
           fill-set (w .3) filled inside
-          (w .2 .ensures ∙ ap (λ (m : Movement). advanced (m .stage) (getD (args .t1) k noWalkTimes) (m .age)) entry))
+          (w .2 .ensures ∙ ap (λ (m : Movement). advanced (m .stage) (getD (args .times .walks) k noWalkTimes) (m .age)) entry))
           (λ w.
           let rests : isIdle (getD (args .stages) k idle .stage) ≡ true =
           ap (λ (m : Movement). isIdle (m .stage)) (sym entry)
           ∙ sym (tested .idle .ensures)
           ∙ not-false (tested .idle .result) (w .0 .left) in
-          fill-skip idle (w .1) filled inside (idle-stays (getD (args .stages) k idle) (getD (args .t1) k noWalkTimes) (idle-only _ rests)))
+          fill-skip idle (w .1) filled inside (idle-stays (getD (args .stages) k idle) (getD (args .times .walks) k noWalkTimes) (idle-only _ rests)))
           (c .if2 .came),
     )
 
 returns-2 : tie.Need-returns-2 Inv-loop μ-loop
 returns-2 c =
     let at = c .before in
-    let start = at .before .before in
+    let start = at .before .before .before in
     let args = start .args in
     fill-kept idle (at .loop .k) 8 (at .loop .inv .1) (start .good .1 .0 .1 .0 .1) (omega (arith, at .loop .inv .0, start .pre .room))
-    (λ k a b. idle-after (args .t1) (args .stages) (args .count) (start .pre) k (omega (arith, c .loop-test .left)) b)
+    (λ k a b. idle-after (args .times .walks) (args .stages) (args .count) (start .pre) k (omega (arith, c .loop-test .left)) b)
 
 pub moved-spec : {M : Type 1} → statement M
 moved-spec =
@@ -114,8 +114,8 @@ moved-spec =
     mul-movement
     array-copy-out-movement
     idle-requires
-    mul-times
-    array-copy-out-times
+    mul-own
+    array-copy-out-own
     one-moved-requires
     mul-out
     array-set-from-out
