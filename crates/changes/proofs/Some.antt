@@ -1,4 +1,5 @@
--- Indices that fail add nothing to the question whether some index passes.
+-- The end of an interval by the movements: records that are idle add nothing to the question whether some movement is in a stage, and
+-- running waits for it only where it is due.
 use Prim.Native.Nat.{ℕ, zero, suc, _≤_, _<_}
 use mathlib.Core.Bool.{Bool, true, false, not, _&&_, _||_}
 use mathlib.Core.List.{List}
@@ -17,7 +18,7 @@ use Rattle.rules.specs.Interval.{someMovement}
 use Rattle.rules.proofs.Tests.{and-left, and-right, and-false-right, decided}
 use Rattle.changes.specs.IdlePast.{IdlePast}
 
-and-true : (a : Bool) → (a && true) ≡ a
+pub and-true : (a : Bool) → (a && true) ≡ a
 and-true true = refl
 and-true false = refl
 

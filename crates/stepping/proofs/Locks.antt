@@ -8,11 +8,8 @@ use lib.ListN.{length, getD}
 use Rattle.rules.specs.declared.state.Interval.{Interval}
 use Rattle.rules.specs.Rows.{listOf}
 use Rattle.rules.specs.Intervals.{isMinimumGreen}
+use Rattle.changes.proofs.Some.{and-true}
 use Rattle.proof_arrays.proofs.Fill.{list-same, list-told}
-
-and-true : (a : Bool) → (a && true) ≡ a
-and-true true = refl
-and-true false = refl
 
 module _ (locks : List Bool) (ended green : Bool) (phase : ℕ) (after : Interval) where
   pub lock-cleared :

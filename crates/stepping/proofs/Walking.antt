@@ -12,13 +12,10 @@ use Rattle.rules.specs.Intervals.{isIdle, isRunning}
 use Rattle.rules.specs.State.{idle}
 use Rattle.rules.specs.Walks.{walksBegun, buttonsLeft}
 use Rattle.rules.proofs.Tests.{and-false-left, and-false-right, or-false-left, or-false-right, or-false-both}
+use Rattle.changes.proofs.Some.{and-true}
 use Rattle.stepping.specs.declared.walks.Walks.{Walks}
 use Rattle.stepping.specs.Begun.{mayBegin, walkIf, beginsAt, begunOf}
 use Rattle.stepping.specs.Ready.{NonePast}
-
-and-true : (a : Bool) → (a && true) ≡ a
-and-true true = refl
-and-true false = refl
 
 module _ (crossings : List ℕ) (buttons : List Bool) (stages : List Movement) (phase : ℕ) (starts free : Bool) where
   -- movement k begins walk

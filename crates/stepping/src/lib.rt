@@ -1,4 +1,4 @@
-// One step on an accepted site: the five parts, in order.
+// One step on an accepted site: the five parts. Parts 1 and 2 ask nothing of each other, and part 2 is first here.
 ghost use mathlib.Core.Bool.{false, not, _&&_};
 ghost use mathlib.Core.Path.{_≡_};
 ghost use lib.Dec.{eqb};
@@ -31,7 +31,7 @@ pub fn advance(site: Site, state: State, inputs: u64) -> State
     requires { ⌜ Ready site state ⌝ }
     ensures { λ r. ⌜ r ≡ stepped site state inputs ⌝ }
 {
-    // 2. movements, which ask nothing of the demands
+    // 2. movements
     let n = site.size.movements;
     let stages = state.movements;
     let times = site.times;

@@ -33,8 +33,8 @@ fn walk_if(begins: bool, movement: Movement) -> Movement
     movement
 }
 
-// Only the movements that the site has, count of them, are of a phase. None begins walk where no phase starts and walks may not
-// begin, so then none is looked at.
+// The movements that begin walk are among those that the site has, count of them: a record past those is of no phase. Where no phase
+// starts and walks may not begin, there are none.
 pub fn begin(
     crossings: [u8; 8],
     count: u8,
@@ -42,23 +42,20 @@ pub fn begin(
     another: bool,
     now: Position,
     buttons: [bool; 8],
-    stages: [Movement; 8],
+    movements: [Movement; 8],
 ) -> Walks
     requires { ⌜ NonePast count crossings ⌝ }
-    ensures { λ r. ⌜ r ≡ begunOf crossings starts another now buttons stages ⌝ }
+    ensures { λ r. ⌜ r ≡ begunOf crossings starts another now buttons movements ⌝ }
 {
     let interval = now.interval;
     let phase = now.phase;
     let free = intervals::running(interval) & !another;
     let n = count as usize;
     if (n == 0) | !(starts | free) {
-        return Walks {
-            buttons: buttons,
-            movements: stages,
-        };
+        return Walks { buttons, movements };
     }
     let mut left = buttons;
-    let mut out = stages;
+    let mut out = movements;
     let mut k: usize = 0;
     while k < n {
         if left[k] {

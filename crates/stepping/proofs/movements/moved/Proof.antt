@@ -17,7 +17,8 @@ use Rattle.rules.specs.Intervals.{isIdle}
 use Rattle.rules.specs.State.{idle}
 use Rattle.rules.specs.Movements.{advanced}
 use Rattle.proof_arrays.proofs.Fill.{Filled, fill-none, entry-same, list-told}
-use Rattle.stepping.proofs.Spare.{fill-seam, fill-set, fill-skip, fill-kept, idle-only, idle-stays, idle-after}
+use Rattle.stepping.proofs.Kept.{fill-seam, fill-set, fill-skip, fill-kept}
+use Rattle.stepping.proofs.Spare.{idle-only, idle-stays, idle-after}
 use Rattle.stepping.proofs.movements.moved.Statement.{statement}
 use Rattle.stepping.proofs.movements.moved.Tie as tie
 

@@ -14,7 +14,7 @@ use Rattle.rules.specs.declared.state.Stage.the-variants.{Idle}
 use Rattle.rules.specs.State.{idle}
 use Rattle.rules.proofs.Tests.{or-cases}
 use Rattle.proof_arrays.proofs.Fill.{Filled, fill-none, entry-same, list-told}
-use Rattle.stepping.proofs.Spare.{fill-seam, fill-set, fill-skip, fill-kept}
+use Rattle.stepping.proofs.Kept.{fill-seam, fill-set, fill-skip, fill-kept}
 use Rattle.stepping.proofs.Walking.{begins, button, walk, begins-asked, button-asked, walk-asked, unasked, button-stays, walk-stays, none-begins-past, none-begins, begun-told}
 use Rattle.stepping.proofs.walks.begin.Statement.{statement}
 use Rattle.stepping.proofs.walks.begin.Tie as tie
@@ -36,19 +36,19 @@ returns c =
     let start = asked .before in
     let a = start .args in
     let free = asked .running .result && not (a .another) in
-    let stays : (k : ℕ) → begins (a .t1) (a .buttons) (a .stages) (a .now .phase) (a .starts) free k ≡ false = λ k.
+    let stays : (k : ℕ) → begins (a .t1) (a .buttons) (a .movements) (a .now .phase) (a .starts) free k ≡ false = λ k.
     ⊎-elim
     (λ (e : eqb (a .count) 0 ≡ true).
-    none-begins-past (a .t1) (a .buttons) (a .stages) (a .now .phase) (a .starts) free (a .count) k (start .pre) (omega (arith, eqb-true (a .count) 0 e)))
+    none-begins-past (a .t1) (a .buttons) (a .movements) (a .now .phase) (a .starts) free (a .count) k (start .pre) (omega (arith, eqb-true (a .count) 0 e)))
     (λ (e : not (a .starts || free) ≡ true).
-    none-begins (a .t1) (a .buttons) (a .stages) (a .now .phase) (a .starts) free k (not-true (a .starts || free) e))
+    none-begins (a .t1) (a .buttons) (a .movements) (a .now .phase) (a .starts) free k (not-true (a .starts || free) e))
     (or-cases (eqb (a .count) 0) (not (a .starts || free)) (c .if1 .taken)) in
-    begun-told (a .t1) (a .buttons) (a .stages) (a .starts) (a .another) (asked .running .result) (a .now) (a .buttons) (a .stages)
+    begun-told (a .t1) (a .buttons) (a .movements) (a .starts) (a .another) (asked .running .result) (a .now) (a .buttons) (a .movements)
     (asked .running .ensures)
-    (list-told (button (a .t1) (a .buttons) (a .stages) (a .now .phase) (a .starts) free) (a .buttons) 8 false (start .good .1 .1 .1 .1 .1 .0 .1 .0 .1)
-    (λ k l. button-stays (a .t1) (a .buttons) (a .stages) (a .now .phase) (a .starts) free k (stays k)))
-    (list-told (walk (a .t1) (a .buttons) (a .stages) (a .now .phase) (a .starts) free) (a .stages) 8 idle (start .good .1 .1 .1 .1 .1 .1 .0 .1 .0 .1)
-    (λ k l. walk-stays (a .t1) (a .buttons) (a .stages) (a .now .phase) (a .starts) free k (stays k)))
+    (list-told (button (a .t1) (a .buttons) (a .movements) (a .now .phase) (a .starts) free) (a .buttons) 8 false (start .good .1 .1 .1 .1 .1 .0 .1 .0 .1)
+    (λ k l. button-stays (a .t1) (a .buttons) (a .movements) (a .now .phase) (a .starts) free k (stays k)))
+    (list-told (walk (a .t1) (a .buttons) (a .movements) (a .now .phase) (a .starts) free) (a .movements) 8 idle (start .good .1 .1 .1 .1 .1 .1 .0 .1 .0 .1)
+    (λ k l. walk-stays (a .t1) (a .buttons) (a .movements) (a .now .phase) (a .starts) free k (stays k)))
 
 loop-holds : tie.Need-loop-holds Inv-loop μ-loop
 loop-holds c = (search needs, fill-none _ _, fill-none _ _)
@@ -96,26 +96,26 @@ loop-again c =
     let k = at .loop .k in
     let room = start .pre .room in
     let within : k < length (a .buttons) = omega (arith, room, start .good .1 .1 .1 .1 .1 .0 .1 .0 .1) in
-    let inside : k < length (a .stages) = omega (arith, room, start .good .1 .1 .1 .1 .1 .1 .0 .1 .0 .1) in
+    let inside : k < length (a .movements) = omega (arith, room, start .good .1 .1 .1 .1 .1 .1 .0 .1 .0 .1) in
     let pressed = fill-seam false k (at .loop .inv .1) within in
     let blank : Movement = record { stage = Idle; age = 0 } in
     let m = getD (at .loop .out) k blank in
-    let entry = fill-seam blank k (at .loop .inv .2) inside ∙ entry-same (a .stages) k blank idle inside in
+    let entry = fill-seam blank k (at .loop .inv .2) inside ∙ entry-same (a .movements) k blank idle inside in
     ⊎-elim
     (λ w.
     let yes = sym pressed ∙ w .0 .taken in
-    let told = begins-asked (a .t1) (a .buttons) (a .stages) (a .now .phase) (a .starts) free k (w .2 .result) m yes entry (w .2 .ensures) in (
+    let told = begins-asked (a .t1) (a .buttons) (a .movements) (a .now .phase) (a .starts) free k (w .2 .result) m yes entry (w .2 .ensures) in (
       search needs,
       fill-set {a = not (w .2 .result)} (w .4) (at .loop .inv .1) within
-          (button-asked (a .t1) (a .buttons) (a .stages) (a .now .phase) (a .starts) free k (w .2 .result) yes told),
+          (button-asked (a .t1) (a .buttons) (a .movements) (a .now .phase) (a .starts) free k (w .2 .result) yes told),
       fill-set {a = w .3 .result} (w .5) (at .loop .inv .2) inside
-          (walk-asked (a .t1) (a .buttons) (a .stages) (a .now .phase) (a .starts) free k (w .2 .result) m (w .3 .result) entry told (w .3 .ensures)),
+          (walk-asked (a .t1) (a .buttons) (a .movements) (a .now .phase) (a .starts) free k (w .2 .result) m (w .3 .result) entry told (w .3 .ensures)),
     ))
     (λ w.
-    let stays = unasked (a .t1) (a .buttons) (a .stages) (a .now .phase) (a .starts) free k (sym pressed ∙ w .0 .left) in (
+    let stays = unasked (a .t1) (a .buttons) (a .movements) (a .now .phase) (a .starts) free k (sym pressed ∙ w .0 .left) in (
       search needs,
-      fill-skip false (w .1) (at .loop .inv .1) within (button-stays (a .t1) (a .buttons) (a .stages) (a .now .phase) (a .starts) free k stays),
-      fill-skip idle (w .2) (at .loop .inv .2) inside (walk-stays (a .t1) (a .buttons) (a .stages) (a .now .phase) (a .starts) free k stays),
+      fill-skip false (w .1) (at .loop .inv .1) within (button-stays (a .t1) (a .buttons) (a .movements) (a .now .phase) (a .starts) free k stays),
+      fill-skip idle (w .2) (at .loop .inv .2) inside (walk-stays (a .t1) (a .buttons) (a .movements) (a .now .phase) (a .starts) free k stays),
     ))
     (c .if2 .came)
 
@@ -127,14 +127,14 @@ returns-2 c =
     let a = start .args in
     let free = asked .running .result && not (a .another) in
     let within : at .loop .k ≤ 8 = omega (arith, at .loop .inv .0, start .pre .room) in
-    let stays : (k : ℕ) → at .loop .k ≤ k → begins (a .t1) (a .buttons) (a .stages) (a .now .phase) (a .starts) free k ≡ false = λ k h.
-    none-begins-past (a .t1) (a .buttons) (a .stages) (a .now .phase) (a .starts) free (a .count) k (start .pre) (omega (arith, c .loop-test .left)) in
-    begun-told (a .t1) (a .buttons) (a .stages) (a .starts) (a .another) (asked .running .result) (a .now) (at .loop .left) (at .loop .out)
+    let stays : (k : ℕ) → at .loop .k ≤ k → begins (a .t1) (a .buttons) (a .movements) (a .now .phase) (a .starts) free k ≡ false = λ k h.
+    none-begins-past (a .t1) (a .buttons) (a .movements) (a .now .phase) (a .starts) free (a .count) k (start .pre) (omega (arith, c .loop-test .left)) in
+    begun-told (a .t1) (a .buttons) (a .movements) (a .starts) (a .another) (asked .running .result) (a .now) (at .loop .left) (at .loop .out)
     (asked .running .ensures)
     (fill-kept false (at .loop .k) 8 (at .loop .inv .1) (start .good .1 .1 .1 .1 .1 .0 .1 .0 .1) within
-    (λ k h l. button-stays (a .t1) (a .buttons) (a .stages) (a .now .phase) (a .starts) free k (stays k h)))
+    (λ k h l. button-stays (a .t1) (a .buttons) (a .movements) (a .now .phase) (a .starts) free k (stays k h)))
     (fill-kept idle (at .loop .k) 8 (at .loop .inv .2) (start .good .1 .1 .1 .1 .1 .1 .0 .1 .0 .1) within
-    (λ k h l. walk-stays (a .t1) (a .buttons) (a .stages) (a .now .phase) (a .starts) free k (stays k h)))
+    (λ k h l. walk-stays (a .t1) (a .buttons) (a .movements) (a .now .phase) (a .starts) free k (stays k h)))
 
 pub begin-spec : {M : Type 1} → statement M
 begin-spec =
