@@ -1,1 +1,2 @@
 pub mod Maximum
+pub mod Some

@@ -2,6 +2,7 @@
 ghost use mathlib.Core.Path.{_≡_};
 ghost use Rattle.rules.specs.Intervals.{isWalkOrFirst, isSecond};
 ghost use Rattle.rules.specs.Interval.{someMovement, ends};
+ghost use Rattle.changes.specs.IdlePast.{IdlePast};
 use rules::site::PhaseTimes;
 use rules::state::Counts;
 use rules::state::Interval;
@@ -13,13 +14,16 @@ pub struct Busy {
     pub clearing: bool,
 }
 
-fn under_way(movements: [Movement; 8]) -> Busy
+// Idle records are in neither, so the movements that the site has settle it.
+fn under_way(movements: [Movement; 8], count: u8) -> Busy
+    requires { ⌜ IdlePast count movements ⌝ }
     ensures { λ r. ⌜ (r .walking ≡ someMovement isWalkOrFirst movements) × (r .clearing ≡ someMovement isSecond movements) ⌝ }
 {
+    let n = count as usize;
     let mut walking = false;
     let mut clearing = false;
     let mut k: usize = 0;
-    while k < 8 {
+    while k < n {
         let movement = movements[k];
         let stage = movement.stage;
         walking = walking | intervals::walk_or_first(stage);
@@ -39,8 +43,10 @@ pub fn over(
     age: u16,
     another: bool,
     movements: [Movement; 8],
+    count: u8,
     counted: Counts,
 ) -> bool
+    requires { ⌜ IdlePast count movements ⌝ }
     ensures { λ r. ⌜ r ≡ ends interval start times age another movements counted ⌝ }
 {
     match interval {
@@ -48,13 +54,20 @@ pub fn over(
         Interval::LateStart => times.late <= age,
         Interval::MinimumGreen => times.minimum <= age,
         Interval::Running => {
-            let now = under_way(movements);
-            another & !now.walking & ((counted.gap == 0) | (counted.maximum == times.maximum))
+            let due = (counted.gap == 0) | (counted.maximum == times.maximum);
+            if !(another & due) {
+                return false;
+            }
+            let now = under_way(movements, count);
+            !now.walking
         }
         Interval::Yellow => times.yellow <= age,
         Interval::AllRed => {
-            let now = under_way(movements);
-            (times.red <= age) & !now.clearing
+            if age < times.red {
+                return false;
+            }
+            let now = under_way(movements, count);
+            !now.clearing
         }
     }
 }

@@ -1,6 +1,7 @@
 // Parts 3 and 4 of a step: the counts, and the interval.
 ghost use mathlib.Core.Path.{_≡_};
 ghost use Rattle.rules.specs.Interval.{positionAfter, countsChanged};
+ghost use Rattle.changes.specs.IdlePast.{IdlePast};
 ghost use Rattle.changes.specs.Judged.{judgedOf};
 use rules::site::Times;
 use rules::state::Counts;
@@ -49,6 +50,7 @@ fn counts_changed(
 }
 
 // Parts 3 and 4. The maximum count and the end of running go by whether another phase is demanded, the target by which is next.
+// The count is of the movements that the site has.
 pub fn judge(
     times: Times,
     old: Position,
@@ -56,8 +58,10 @@ pub fn judge(
     another: bool,
     extended: bool,
     movements: [Movement; 8],
+    count: u8,
     before: Counts,
 ) -> Judged
+    requires { ⌜ IdlePast count movements ⌝ }
     ensures { λ r. ⌜ r ≡ judgedOf times old next another extended movements before ⌝ }
 {
     let interval = old.interval;
@@ -71,6 +75,7 @@ pub fn judge(
         old.age,
         another,
         movements,
+        count,
         counted,
     );
     let now = position_after(ended, times, next, old);

@@ -1,8 +1,8 @@
 -- The five parts put together: what the calls of a step give, one after the other, is the step of the rules.
 use Prim.Native.Nat.{ℕ}
-use mathlib.Core.Bool.{Bool, true, false, not, _&&_}
+use mathlib.Core.Bool.{Bool, false, not, _&&_}
 use mathlib.Core.List.{List}
-use mathlib.Core.Path.{_≡_, refl, _∙_}
+use mathlib.Core.Path.{_≡_}
 use lib.Dec.{eqb}
 use lib.ListN.{getD}
 use Rattle.rules.specs.declared.site.Site.{Site}
@@ -20,19 +20,12 @@ use Rattle.demands.specs.declared.Asked.{Asked}
 use Rattle.demands.specs.Asked.{askedOf}
 use Rattle.changes.specs.declared.Judged.{Judged}
 use Rattle.changes.specs.Judged.{judgedOf}
-use Rattle.proof_arrays.proofs.Fill.{list-same}
 use Rattle.stepping.specs.declared.walks.Walks.{Walks}
 use Rattle.stepping.specs.Begun.{mayBegin, beginsAt, begunOf}
 
-and-swap : (a b : Bool) → (a && b) ≡ (b && a)
-and-swap true true = refl
-and-swap true false = refl
-and-swap false true = refl
-and-swap false false = refl
-
 module _
     (site : Site) (s : State) (inputs : ℕ)
-    (asked : Asked) (another : Bool) (moved : List Movement) (judged : Judged) (before green : Bool) (walks : Walks) (locks : List Bool)
+    (asked : Asked) (another : Bool) (moved : List Movement) (judged : Judged) (before : Bool) (walks : Walks) (locks : List Bool)
     (registers : asked ≡ askedOf site s inputs)
     (holds : another ≡ isHeld (asked .next))
     (moves :
@@ -41,19 +34,12 @@ module _
     (judges : judged ≡ judgedOf (site .times) (s .position) (asked .next) another (asked .extended) moved (s .counts))
     (begin : before ≡ isBeforeStart (s .position .interval))
     (walk : walks ≡ begunOf (site .crossings) (judged .ended && before) another (judged .now) (asked .demands .buttons) moved)
-    (enter : green ≡ isMinimumGreen (judged .now .interval))
-    (clear : locks ≡ listOf (λ p. getD (asked .demands .locks) p false && not (eqb p (judged .now .phase) && (judged .ended && green))) 7)
+    (clear :
+    locks
+    ≡ listOf
+    (λ p. getD (asked .demands .locks) p false && not (judged .ended && isMinimumGreen (judged .now .interval) && eqb p (judged .now .phase)))
+    7)
   where
-    -- the locks that entering minimum green leaves
-    left : locks ≡ listOf (λ p. getD (asked .demands .locks) p false && not (clearsLock (judged .ended) (judged .now) p)) 7
-    unfolding clearsLock
-    left =
-        clear
-        ∙ list-same (λ p. getD (asked .demands .locks) p false && not (eqb p (judged .now .phase) && (judged .ended && green)))
-        (λ p. getD (asked .demands .locks) p false && not (judged .ended && isMinimumGreen (judged .now .interval) && eqb p (judged .now .phase)))
-        7
-        (λ p l. rw (enter, and-swap (eqb p (judged .now .phase)) (judged .ended && isMinimumGreen (judged .now .interval))))
-
     pub step-told :
         _≡_ {A = State}
         (record {
@@ -63,5 +49,5 @@ module _
           movements = walks .movements;
         })
         (stepped site s inputs)
-    unfolding stepped askedOf judgedOf begunOf beginsAt mayBegin begins crosses starts movementsAfter walkTimes movement
-    step-told = rw (left, walk, begin, judges, moves, holds, registers)
+    unfolding stepped askedOf judgedOf begunOf beginsAt mayBegin begins crosses starts clearsLock movementsAfter walkTimes movement
+    step-told = rw (clear, walk, begin, judges, moves, holds, registers)

@@ -5,6 +5,8 @@ ghost use Rattle.rules.specs.Rows.{listOf};
 ghost use Rattle.rules.specs.Site.{noWalkTimes};
 ghost use Rattle.rules.specs.State.{idle};
 ghost use Rattle.rules.specs.Movements.{lasting, advanced};
+ghost use Rattle.changes.specs.IdlePast.{IdlePast};
+use rules::site::Times;
 use rules::site::WalkTimes;
 use rules::state::Movement;
 use rules::state::Stage;
@@ -40,16 +42,25 @@ fn one_moved(stage: Stage, times: WalkTimes, age: u16) -> Movement
     }
 }
 
-pub fn moved(settings: [WalkTimes; 8], stages: [Movement; 8]) -> [Movement; 8]
-    ensures { λ r. ⌜ r ≡ listOf (λ k. advanced (getD stages k idle .stage) (getD settings k noWalkTimes) (getD stages k idle .age)) 8 ⌝ }
+// All movements, a step on. The count is of those that the site has: the records past them are idle and stay.
+pub fn moved(times: Times, stages: [Movement; 8], count: u8) -> [Movement; 8]
+    requires { ⌜ IdlePast count stages ⌝ }
+    ensures { λ r. ⌜ r ≡ listOf (λ k. advanced (getD stages k idle .stage) (getD (times .walks) k noWalkTimes) (getD stages k idle .age)) 8 ⌝ }
 {
+    let n = count as usize;
+    if n == 0 {
+        return stages;
+    }
+    let settings = times.walks;
     let mut out = stages;
     let mut k: usize = 0;
-    while k < 8 {
-        let movement = stages[k];
+    while k < n {
+        let movement = out[k];
         let stage = movement.stage;
-        let times = settings[k];
-        out[k] = one_moved(stage, times, movement.age);
+        if !intervals::idle(stage) {
+            let own = settings[k];
+            out[k] = one_moved(stage, own, movement.age);
+        }
         k += 1;
     }
     out

@@ -1,7 +1,9 @@
 // Part 5 of a step: walks. When a phase starts, its demanded movements begin walk. When the interval is now running and no other
 // phase is demanded, idle demanded movements of the phase begin walk. Beginning clears the demand; the age is 1.
+ghost use mathlib.Core.Bool.{true};
 ghost use mathlib.Core.Path.{_≡_};
 ghost use Rattle.stepping.specs.Begun.{mayBegin, walkIf, begunOf};
+ghost use Rattle.stepping.specs.Ready.{NonePast};
 use rules::state::Movement;
 use rules::state::Position;
 use rules::state::Stage;
@@ -12,11 +14,11 @@ pub struct Walks {
     pub movements: [Movement; 8],
 }
 
-// Whether a movement begins walk: it is demanded, is of the phase, and the phase starts, or it is idle and walks may begin.
-fn may_begin(asked: bool, crossing: u8, phase: u8, starts: bool, free: bool, stage: Stage) -> bool
-    ensures { λ r. ⌜ r ≡ mayBegin asked crossing phase starts free stage ⌝ }
+// Whether a demanded movement begins walk: it is of the phase, and the phase starts, or it is idle and walks may begin.
+fn may_begin(crossing: u8, phase: u8, starts: bool, free: bool, stage: Stage) -> bool
+    ensures { λ r. ⌜ r ≡ mayBegin true crossing phase starts free stage ⌝ }
 {
-    asked & reads::bit8(phase, crossing) & (starts | (free & intervals::idle(stage)))
+    reads::bit8(phase, crossing) & (starts | (free & intervals::idle(stage)))
 }
 
 fn walk_if(begins: bool, movement: Movement) -> Movement
@@ -31,28 +33,38 @@ fn walk_if(begins: bool, movement: Movement) -> Movement
     movement
 }
 
+// The movements that begin walk are among those that the site has, count of them: a record past those is of no phase. Where no phase
+// starts and walks may not begin, there are none.
 pub fn begin(
     crossings: [u8; 8],
+    count: u8,
     starts: bool,
     another: bool,
     now: Position,
     buttons: [bool; 8],
-    stages: [Movement; 8],
+    movements: [Movement; 8],
 ) -> Walks
-    ensures { λ r. ⌜ r ≡ begunOf crossings starts another now buttons stages ⌝ }
+    requires { ⌜ NonePast count crossings ⌝ }
+    ensures { λ r. ⌜ r ≡ begunOf crossings starts another now buttons movements ⌝ }
 {
     let interval = now.interval;
     let phase = now.phase;
     let free = intervals::running(interval) & !another;
+    let n = count as usize;
+    if (n == 0) | !(starts | free) {
+        return Walks { buttons, movements };
+    }
     let mut left = buttons;
-    let mut out = stages;
+    let mut out = movements;
     let mut k: usize = 0;
-    while k < 8 {
-        let movement = stages[k];
-        let stage = movement.stage;
-        let begins = may_begin(buttons[k], crossings[k], phase, starts, free, stage);
-        left[k] = buttons[k] & !begins;
-        out[k] = walk_if(begins, movement);
+    while k < n {
+        if left[k] {
+            let movement = out[k];
+            let stage = movement.stage;
+            let begins = may_begin(crossings[k], phase, starts, free, stage);
+            left[k] = !begins;
+            out[k] = walk_if(begins, movement);
+        }
         k += 1;
     }
     Walks {

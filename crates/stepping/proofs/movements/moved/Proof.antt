@@ -1,17 +1,24 @@
--- `stepping::movements::moved` meets its contract. The loop's invariant: the movements passed are a step on, the others as they were.
+-- `stepping::movements::moved` meets its contract. The loop's invariant: the movements passed are a step on, the others as they were. The
+-- records past the count are idle, so a step leaves them as they were.
 use borrow.Author.Needs.{needs}
+use borrow.Author.Tests.{not-false}
 use native.Mathlib.Omega.{arith}
 use Prim.Native.Nat.{ℕ, _-_, _≤_, _<_}
+use mathlib.Core.Bool.{true}
 use mathlib.Core.List.{List}
-use mathlib.Core.Path.{ap, _∙_}
+use mathlib.Core.Logic.{⊎-elim}
+use mathlib.Core.Path.{_≡_, sym, ap, _∙_}
 use lib.ListN.{length, getD}
 use Rattle.rules.specs.declared.site.WalkTimes.{WalkTimes}
 use Rattle.rules.specs.declared.state.Movement.{Movement}
 use Rattle.rules.specs.declared.state.Stage.the-variants.{Idle}
 use Rattle.rules.specs.Site.{noWalkTimes}
+use Rattle.rules.specs.Intervals.{isIdle}
 use Rattle.rules.specs.State.{idle}
 use Rattle.rules.specs.Movements.{advanced}
-use Rattle.proof_arrays.proofs.Fill.{Filled, fill-none, fill-step, fill-done, entry-same}
+use Rattle.proof_arrays.proofs.Fill.{Filled, fill-none, entry-same, list-told}
+use Rattle.stepping.proofs.Kept.{fill-seam, fill-set, fill-skip, fill-kept}
+use Rattle.stepping.proofs.Spare.{idle-only, idle-stays, idle-after}
 use Rattle.stepping.proofs.movements.moved.Statement.{statement}
 use Rattle.stepping.proofs.movements.moved.Tie as tie
 
@@ -19,10 +26,17 @@ abbrev after : List WalkTimes → List Movement → ℕ → Movement
 after settings stages k = advanced (getD stages k idle .stage) (getD settings k noWalkTimes) (getD stages k idle .age)
 
 abbrev Inv-loop : tie.InvT-loop
-Inv-loop settings stages out₀ k₀ out k = (k ≤ 8) × Filled (after settings stages) stages out k
+Inv-loop count n settings out₀ k₀ out k = (k ≤ n) × Filled (after settings out₀) out₀ out k
 
 abbrev μ-loop : tie.MeasureT-loop
-μ-loop settings stages out₀ k₀ out k = 8 - k
+μ-loop count n settings out₀ k₀ out k = n - k
+
+returns : tie.Need-returns Inv-loop μ-loop
+returns c =
+    let start = c .before in
+    let args = start .args in
+    list-told (after (args .times .walks) (args .stages)) (args .stages) 8 idle (start .good .1 .0 .1 .0 .1)
+    (λ k b. idle-after (args .times .walks) (args .stages) (args .count) (start .pre) k (omega (arith, c .if1 .taken)) b)
 
 loop-holds : tie.Need-loop-holds Inv-loop μ-loop
 loop-holds c = (search needs, fill-none _ _)
@@ -33,11 +47,14 @@ mul-movement c = search needs
 array-copy-out-movement : tie.Need-array-copy-out-movement Inv-loop μ-loop
 array-copy-out-movement c = search needs
 
-mul-times : tie.Need-mul-times Inv-loop μ-loop
-mul-times c = search needs
+idle-requires : tie.Need-idle-requires Inv-loop μ-loop
+idle-requires c κs = search needs
 
-array-copy-out-times : tie.Need-array-copy-out-times Inv-loop μ-loop
-array-copy-out-times c = search needs
+mul-own : tie.Need-mul-own Inv-loop μ-loop
+mul-own c = search needs
+
+array-copy-out-own : tie.Need-array-copy-out-own Inv-loop μ-loop
+array-copy-out-own c = search needs
 
 one-moved-requires : tie.Need-one-moved-requires Inv-loop μ-loop
 one-moved-requires c κs = search needs
@@ -56,19 +73,36 @@ loop-less c = search needs
 
 loop-again : tie.Need-loop-again Inv-loop μ-loop
 loop-again c =
-    let at = c .before .before .before .before in
-    let args = at .before .args in
+    let tested = c .before in
+    let at = tested .before .before .before in
+    let start = at .before .before .before in
+    let args = start .args in
     let k = at .loop .k in
-    let inside : k < length (args .t2) = omega (arith, at .before .good .1 .0 .1 .0 .1) in (
+    let filled = at .loop .inv .1 in
+    let inside : k < length (args .stages) = omega (arith, start .good .1 .0 .1 .0 .1, start .pre .room) in
+    let blank : Movement = record { stage = Idle; age = 0 } in
+    let entry = fill-seam blank k filled inside ∙ entry-same (args .stages) k blank idle inside in (
       search needs,
-      fill-step (at .loop .inv .1) inside
-          (c .one-moved .ensures
-          ∙ ap (λ (m : Movement). advanced (m .stage) (getD (args .t1) k noWalkTimes) (m .age))
-          (entry-same (args .t2) k (record { stage = Idle; age = 0 }) idle inside)),
+      ⊎-elim
+          (λ w.
+          fill-set (w .3) filled inside
+          (w .2 .ensures ∙ ap (λ (m : Movement). advanced (m .stage) (getD (args .times .walks) k noWalkTimes) (m .age)) entry))
+          (λ w.
+          let rests : isIdle (getD (args .stages) k idle .stage) ≡ true =
+          ap (λ (m : Movement). isIdle (m .stage)) (sym entry)
+          ∙ sym (tested .idle .ensures)
+          ∙ not-false (tested .idle .result) (w .0 .left) in
+          fill-skip idle (w .1) filled inside (idle-stays (getD (args .stages) k idle) (getD (args .times .walks) k noWalkTimes) (idle-only _ rests)))
+          (c .if2 .came),
     )
 
-returns : tie.Need-returns Inv-loop μ-loop
-returns c = fill-done (c .before .loop .inv .1) (c .before .before .good .1 .0 .1 .0 .1) (c .before .loop .inv .0) (c .loop-test .left)
+returns-2 : tie.Need-returns-2 Inv-loop μ-loop
+returns-2 c =
+    let at = c .before in
+    let start = at .before .before .before in
+    let args = start .args in
+    fill-kept idle (at .loop .k) 8 (at .loop .inv .1) (start .good .1 .0 .1 .0 .1) (omega (arith, at .loop .inv .0, start .pre .room))
+    (λ k a b. idle-after (args .times .walks) (args .stages) (args .count) (start .pre) k (omega (arith, c .loop-test .left)) b)
 
 pub moved-spec : {M : Type 1} → statement M
 moved-spec =
@@ -76,15 +110,17 @@ moved-spec =
     (tie.spec
     Inv-loop
     μ-loop
+    returns
     loop-holds
     mul-movement
     array-copy-out-movement
-    mul-times
-    array-copy-out-times
+    idle-requires
+    mul-own
+    array-copy-out-own
     one-moved-requires
     mul-out
     array-set-from-out
     add-k
     loop-less
     loop-again
-    returns)
+    returns-2)
