@@ -5,7 +5,7 @@ use borrow.Author.Tests.{not-true, not-false}
 use mathlib.Core.Path.{sym, ap, _∙_}
 use lib.ListN.{length}
 use Rattle.rules.specs.Call.{stepVerdict}
-use Rattle.demands.proofs.Sizes.{sized}
+use Rattle.stepping.proofs.Spare.{ready}
 use Rattle.colours.proofs.Sizes.{sound-sized}
 use Rattle.controller.proofs.Calls.{invalid, strays, short, passes, declines, goes-on}
 use Rattle.controller.proofs.step_on.Statement.{statement}
@@ -67,7 +67,7 @@ advance-requires c κs =
     let told = wired .before .before .before in
     let a = told .before .before .args in
     let yes = sym (told .valid-state .ensures) ∙ not-false (told .valid-state .result) (wired .before .before .if1 .left) in
-    sized (a .site) (a .state) (told .before .before .pre) yes
+    ready (a .site) (a .state) (told .before .before .pre) yes
 
 write-requires : tie.Need-write-requires
 write-requires c κs =
