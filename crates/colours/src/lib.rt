@@ -100,7 +100,8 @@ fn vehicle(position: Position, group: Group) -> u8
     }
 }
 
-// Writes what the first count groups show from the buffer's start on; the bytes past them stay as they are.
+// Writes what the first count groups show. It takes the parts that this rests on, and not the site and the state: a parameter with an
+// array that is read by a running index is copied whole.
 fn show(
     groups: [Group; 32],
     count: usize,
