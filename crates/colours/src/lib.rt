@@ -3,14 +3,15 @@ ghost use mathlib.Core.List.{_++_};
 ghost use mathlib.Core.Path.{_≡_};
 ghost use lib.ListN.{length, drop};
 ghost use Rattle.rules.specs.Intervals.{heldIn};
-ghost use Rattle.rules.specs.Bytes.{bit};
-ghost use Rattle.rules.specs.Rows.{if_then_else_};
-ghost use Rattle.rules.specs.Colours.{red, vehicleColour, movementColour, coloursOf};
+ghost use Rattle.rules.specs.Rows.{listOf};
+ghost use Rattle.rules.specs.Colours.{vehicleColour, movementColour, coloursOf};
+ghost use Rattle.colours.specs.Parts.{vehicleShown, shownAt, Within};
 ghost use Rattle.colours.specs.Sized.{Sized};
 use rules::site::Group;
 use rules::site::Site;
 use rules::state::Held;
 use rules::state::Interval;
+use rules::state::Movement;
 use rules::state::Position;
 use rules::state::Stage;
 use rules::state::State;
@@ -87,9 +88,7 @@ impl Colour {
 
 // A vehicle group, by where the controller stands: one that is not of the phase is red.
 fn vehicle(position: Position, group: Group) -> u8
-    ensures { λ r. ⌜ r ≡ if bit (position .phase) (group .phases)
-        then vehicleColour (position .interval) (position .came) (position .target) group
-        else red ⌝ }
+    ensures { λ r. ⌜ r ≡ vehicleShown position group ⌝ }
 {
     if reads::bit8(position.phase, group.phases) {
         let interval = position.interval;
@@ -101,19 +100,24 @@ fn vehicle(position: Position, group: Group) -> u8
     }
 }
 
-// Writes the colours of all groups from the buffer's start on; the bytes past them stay as they are.
-pub fn write(site: Site, state: State, buffer: &mut [u8])
-    requires { ⌜ Sized site (length (now buffer)) ⌝ }
-    ensures { λ _. ⌜ now (buffer .exit) ≡ coloursOf site state ++ drop (site .size .groups) (now (buffer .entry)) ⌝ }
+// Writes what the first count groups show. It takes the parts that this rests on, and not the site and the state: a parameter with an
+// array that is read by a running index is copied whole.
+fn show(
+    groups: [Group; 32],
+    count: usize,
+    position: Position,
+    movements: [Movement; 8],
+    buffer: &mut [u8],
+)
+    requires { ⌜ Within groups count (length (now buffer)) ⌝ }
+    ensures { λ _. ⌜ now (buffer .exit) ≡ listOf (shownAt groups position movements) count ++ drop count (now (buffer .entry)) ⌝ }
 {
-    let count = site.size.groups as usize;
-    let position = state.position;
     let mut movement: usize = 0;
     let mut g: usize = 0;
     while g < count {
-        let group = site.groups[g];
+        let group = groups[g];
         if group.mark == 2 {
-            let own = state.movements[movement];
+            let own = movements[movement];
             let stage = own.stage;
             buffer[g] = Colour::of_movement(stage);
             movement += 1;
@@ -122,4 +126,16 @@ pub fn write(site: Site, state: State, buffer: &mut [u8])
         }
         g += 1;
     }
+}
+
+// Writes the colours of all groups from the buffer's start on; the bytes past them stay as they are.
+pub fn write(site: Site, state: State, buffer: &mut [u8])
+    requires { ⌜ Sized site (length (now buffer)) ⌝ }
+    ensures { λ _. ⌜ now (buffer .exit) ≡ coloursOf site state ++ drop (site .size .groups) (now (buffer .entry)) ⌝ }
+{
+    let groups = site.groups;
+    let count = site.size.groups as usize;
+    let position = state.position;
+    let movements = state.movements;
+    show(groups, count, position, movements, buffer);
 }

@@ -1,122 +1,25 @@
--- `colours::write` meets its contract. The invariant: the groups passed have their colours, every other byte is as it came, and the
--- running count is the next pedestrian group's movement. The measure is the number of groups left.
-use Prim.Native.Nat.{_-_, _<_}
-use mathlib.Core.Logic.{⊎-elim}
-use mathlib.Core.Path.{ap, _∙_}
-use native.Mathlib.Omega.{arith}
+-- `colours::write` meets its contract: what the site's groups show of the state's position and movements is the colours of the state.
 use lib.ListN.{length}
 use borrow.Author.Needs.{needs}
-use Rattle.rules.specs.Site.{groupOf, inPhase}
-use Rattle.rules.specs.State.{movement}
-use Rattle.rules.specs.Colours.{movementColour}
-use Rattle.colours.proofs.Shown.{pedestrian-mark, stage-read, Passed, none-passed, all-passed, passed-length, pedestrian-passed, vehicle-passed}
+use Rattle.colours.proofs.Parts.{parts-shown, parts-within}
 use Rattle.colours.proofs.write.Statement.{statement}
 use Rattle.colours.proofs.write.Tie as tie
 
-abbrev Inv-loop : tie.InvT-loop
-Inv-loop buffer₀ site state count position movement₀ g₀ buffer movement g = Passed site state buffer₀ buffer movement g
-
-abbrev μ-loop : tie.MeasureT-loop
-μ-loop buffer₀ site state count position movement₀ g₀ buffer movement g = site .size .groups - g
-
-cast-count : tie.Need-cast-count Inv-loop μ-loop
+cast-count : tie.Need-cast-count
 cast-count c = search needs
 
-loop-holds : tie.Need-loop-holds Inv-loop μ-loop
-loop-holds c = none-passed (c .before .before .args .t1) (c .before .before .args .t2) (c .before .before .args .buffer .now)
+show-requires : tie.Need-show-requires
+show-requires c κs =
+    let start = c .before .before .before .before .before .before in
+    parts-within (start .args .site) (length (start .args .buffer .now)) (start .pre)
 
--- the store is within the buffer
-room : (c : tie.In-loop Inv-loop μ-loop) → c .before .loop .g < length (c .before .loop .buffer)
-room c =
-    let fits = c .before .before .before .before .pre .fits in
-    omega (arith, passed-length (c .before .loop .inv) fits, fits)
+same-length : tie.Need-same-length
+same-length c = search needs
 
--- a pedestrian group has a movement record
-own : (c : tie.Then1 Inv-loop μ-loop) → c .before .before .before .before .loop .movement < 8
-unfolding groupOf
-own c =
-    let turn = c .before .before .before in
-    let start = turn .before .before .before .before in
-    let g = turn .before .loop .g in
-    omega (
-      arith,
-      turn .before .loop .inv .next,
-      start .pre .movement g (turn .loop-test .taken) (pedestrian-mark (start .args .t1) g (c .if1 .taken)),
-    )
-
-mul-group : tie.Need-mul-group Inv-loop μ-loop
-mul-group c = search needs
-
-element-copy-out-group : tie.Need-element-copy-out-group Inv-loop μ-loop
-element-copy-out-group c = search needs
-
-mul-own : tie.Need-mul-own Inv-loop μ-loop
-mul-own c = let h = own c in omega arith
-
-element-copy-out-own : tie.Need-element-copy-out-own Inv-loop μ-loop
-element-copy-out-own c = own c
-
-of-movement-requires : tie.Need-of-movement-requires Inv-loop μ-loop
-of-movement-requires c κs = search needs
-
-slice-write-buffer : tie.Need-slice-write-buffer Inv-loop μ-loop
-slice-write-buffer c = room (c .before .before .before .before .before)
-
-add-movement : tie.Need-add-movement Inv-loop μ-loop
-add-movement c = let h = own (c .before .before) in omega arith
-
-vehicle-requires : tie.Need-vehicle-requires Inv-loop μ-loop
-vehicle-requires c κs = search needs
-
-slice-write-buffer-2 : tie.Need-slice-write-buffer-2 Inv-loop μ-loop
-slice-write-buffer-2 c = room (c .before .before .before .before)
-
-add-g : tie.Need-add-g Inv-loop μ-loop
-add-g c = search needs
-
-loop-less : tie.Need-loop-less Inv-loop μ-loop
-loop-less c = omega (arith, c .before .before .before .loop-test)
-
-loop-again : tie.Need-loop-again Inv-loop μ-loop
-unfolding groupOf inPhase movement
-loop-again c =
-    let turn = c .before .before .before in
-    let head = turn .before in
-    let start = head .before .before .before in
-    let passed = head .loop .inv in
-    ⊎-elim
-    (λ w.
-    pedestrian-passed passed (start .pre .fits) (turn .loop-test .taken) (w .3) (w .0 .taken)
-    (w .2 .ensures ∙ ap movementColour (stage-read (start .args .t2) (head .loop .movement)))
-    (w .4))
-    (λ w. vehicle-passed passed (start .pre .fits) (turn .loop-test .taken) (w .2) (w .0 .left) (w .1 .ensures) (w .3))
-    (c .if1 .came)
-
-same-length : tie.Need-same-length Inv-loop μ-loop
-same-length c = passed-length (c .before .loop .inv) (c .before .before .before .before .pre .fits)
-
-returns : tie.Need-returns Inv-loop μ-loop
-returns c = all-passed (c .before .loop .inv) (c .loop-test .left)
+returns : tie.Need-returns
+returns c =
+    let start = c .before .before .before .before .before .before .before .before .before in
+    parts-shown (start .args .site) (start .args .state) (start .args .buffer .now) (c .before .before .show .ensures)
 
 pub write-spec : {M : Type 1} → statement M
-write-spec =
-    tie.close
-    (tie.spec
-    Inv-loop
-    μ-loop
-    cast-count
-    loop-holds
-    mul-group
-    element-copy-out-group
-    mul-own
-    element-copy-out-own
-    of-movement-requires
-    slice-write-buffer
-    add-movement
-    vehicle-requires
-    slice-write-buffer-2
-    add-g
-    loop-less
-    loop-again
-    same-length
-    returns)
+write-spec = tie.close (tie.spec cast-count show-requires same-length returns)
