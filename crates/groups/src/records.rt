@@ -8,12 +8,11 @@ ghost use lib.ListN.{length};
 ghost use Rattle.rules.specs.Verdicts.{_orElse_, refuseIf, firstOf};
 ghost use Rattle.rules.specs.Personality.{phaseCount, groupCount, groupsHead, groupRecord, phaseWithoutGroup, groupsSection};
 use reads::byte_in;
-use reads::two;
 use rules::answer::Verdict;
 use sections::heads::group_count;
 use sections::heads::groups_head;
 use sections::heads::phase_count;
-use sections::section;
+use sections::sized_section;
 
 // The number past the sets of the site's phases, 2 ^ P. A byte has no bit above 7, so 512 stands for every greater one.
 fn set_bound(phases: u8) -> u32
@@ -77,7 +76,7 @@ pub fn groups_section(s: &[u8]) -> Verdict
 {
     let place = groups_head(s);
     let count = group_count(s);
-    let head = section(s, place, 3, two(s, place) as usize == (count as usize) * 2);
+    let head = sized_section(s, place, 3, (count as usize) * 2);
     if let Verdict::Refused { .. } = head {
         return head;
     }

@@ -1,8 +1,8 @@
-// What a record of kind 3 holds: a phase set and a mark; and how far up the bits of a set go.
+// The phase set of a record of kind 3; and how far up the bits of a set go.
 ghost use Prim.Native.Nat.{_^_, _≤_};
 ghost use mathlib.Core.Path.{_≡_};
 ghost use lib.Dec.{leb};
-ghost use Rattle.rules.specs.Personality.{groupSet, groupMark};
+ghost use Rattle.rules.specs.Personality.{groupSet};
 use reads::byte;
 use sections::heads::groups_head;
 
@@ -12,21 +12,6 @@ pub fn group_set(s: &[u8], g: usize) -> u8
     ensures { λ r. ⌜ r ≡ groupSet (now (s .entry)) g ⌝ }
 {
     byte(s, groups_head(s) + 4 + g * 2)
-}
-
-// The mark of group g.
-pub fn group_mark(s: &[u8], g: usize) -> u8
-    requires { ⌜ g ≤ 255 ⌝ }
-    ensures { λ r. ⌜ r ≡ groupMark (now (s .entry)) g ⌝ }
-{
-    byte(s, groups_head(s) + 4 + g * 2 + 1)
-}
-
-// Whether a set has a bit at or above k.
-pub fn reaches8(k: u8, x: u8) -> bool
-    ensures { λ r. ⌜ r ≡ leb (2 ^ k) x ⌝ }
-{
-    if k < 8 { x >> k != 0 } else { false }
 }
 
 // Whether a set has a bit at or above k.

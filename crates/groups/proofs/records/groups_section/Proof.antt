@@ -18,30 +18,23 @@ groups-head-requires c κs = search needs
 group-count-requires : tie.Need-group-count-requires
 group-count-requires c κs = search needs
 
-two-requires : tie.Need-two-requires
-two-requires c κs = search needs
+cast-sized-section : tie.Need-cast-sized-section
+cast-sized-section c = search needs
 
-cast-section : tie.Need-cast-section
-cast-section c = search needs
+mul-sized-section : tie.Need-mul-sized-section
+mul-sized-section c = search needs
 
-cast-section-2 : tie.Need-cast-section-2
-cast-section-2 c = search needs
-
-mul-section : tie.Need-mul-section
-mul-section c = search needs
-
-section-requires : tie.Need-section-requires
-section-requires c κs = search needs
+sized-section-requires : tie.Need-sized-section-requires
+sized-section-requires c κs = search needs
 
 enum-told : tie.Need-enum-told
 enum-told c = search needs
 
 -- the head is held to the length that N needs
 checked :
-    (c : tie.After-section) →
-    let b = c .before .before .before .before .before .args .s .now in
-    c .section .result ≡ sectionAt b (groupsHead b) 3 (eqb (bodyLength b (groupsHead b)) (groupCount b * 2))
-unfolding bodyLength
+    (c : tie.After-sized-section) →
+    let b = c .before .before .before .before .args .s .now in
+    c .sized-section .result ≡ sectionAt b (groupsHead b) 3 (eqb (bodyLength b (groupsHead b)) (groupCount b * 2))
 checked c = cc
 
 returns : tie.Need-returns
@@ -62,7 +55,7 @@ unfolding bodyAt
 group-records-requires c κs =
     let passed = c .before .before in
     let atSection = passed .before .before in
-    let atCount = atSection .before .before in
+    let atCount = atSection .before in
     let head = atCount .before .groups-head .ensures .0 in
     let count = atCount .group-count .ensures in
     let held = records-held _ _ 3 _ 2 (sym (checked atSection) ∙ passed .enum-told2 .given .1) in (
@@ -73,7 +66,7 @@ group-records-requires c κs =
 -- the head has passed: the answer is that of the records
 afterHead :
     (c : tie.After-enum-told2) {v : Verdict} →
-    let b = c .before .before .before .before .before .before .before .args .s .now in
+    let b = c .before .before .before .before .before .before .args .s .now in
     v ≡ (firstOf (groupRecord b) (groupCount b) orElse refuseIf (phaseWithoutGroup b) 8 (groupsHead b)) →
     v ≡ groupsSection b
 unfolding groupsSection
@@ -88,11 +81,9 @@ groups-section-spec =
     (tie.spec
     groups-head-requires
     group-count-requires
-    two-requires
-    cast-section
-    cast-section-2
-    mul-section
-    section-requires
+    cast-sized-section
+    mul-sized-section
+    sized-section-requires
     enum-told
     returns
     enum-told-2
