@@ -65,7 +65,8 @@ pub extern "C" fn willowera_fresh(state: &mut [u8]) -> u64
 }
 
 // One step of 0.1 s: the bytes of the new state take the place of the old, the colours of the groups are written, and the wait bound
-// is the answer. A refused step changes nothing.
+// is the answer. A refused step changes nothing, and the personality's own refusal comes before 13 for bytes that are no state. The state
+// is decoded last, so that it is not held while the personality is read.
 #[no_mangle]
 pub extern "C" fn willowera_step(
     personality: &[u8],
