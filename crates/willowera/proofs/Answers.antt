@@ -20,8 +20,9 @@ use Rattle.rules.specs.Verdicts.{_orElse_, reportOf}
 use Rattle.rules.specs.Personality.{bodyAt, bodyLength, verdictOf}
 use Rattle.rules.specs.Site.{siteOf}
 use Rattle.rules.specs.Lookup.{lookupVerdict, lookupReport, headOf}
-use Rattle.rules.specs.Call.{callVerdict, answerFor, boundFor, boundOf, answerOf, bufferOf}
+use Rattle.rules.specs.Call.{stepVerdict, callVerdict, answerFor, bufferFor, boundFor, boundOf, answerOf, bufferOf}
 use Rattle.rules.proofs.Tests.{and-left}
+use Rattle.controller.proofs.Calls.{Answers, stepped-call}
 use Rattle.state_bytes.specs.declared.Decoded.{Decoded}
 use Rattle.state_bytes.specs.Layout.{stateBytes, isState, decoded, encoded, decodedOr, encodedOver}
 use Rattle.willowera.specs.Board.{packed, packedVerdict, packedOutcome, stepAnswer, stateFor, stateAfter, coloursAfter, sectionFor, sectionAnswer}
@@ -39,20 +40,6 @@ read-accepted v w e f = rw (sym e ∙ f)
 pub read-refused : (v w : Verdict) (r : ℕ) {number place : ℕ} → w ≡ v → w ≡ Refused number place → r ≡ packed number place → r ≡ packedVerdict v
 unfolding packedVerdict
 read-refused v w r e f p = rw (sym e ∙ f, p)
-
--- bytes that are no state: 13 where the personality is accepted, else its refusal
-pub other-accepted : (v w : Verdict) (r : ℕ) → w ≡ v → w ≡ Accepted → r ≡ packed 13 0 → r ≡ packedVerdict (v orElse Refused 13 0)
-unfolding packedVerdict _orElse_
-other-accepted v w r e f p = rw (sym e ∙ f, p)
-
-pub other-refused :
-    (v w : Verdict) (r : ℕ) {number place : ℕ} →
-    w ≡ v →
-    w ≡ Refused number place →
-    r ≡ packed number place →
-    r ≡ packedVerdict (v orElse Refused 13 0)
-unfolding packedVerdict _orElse_
-other-refused v w r e f p = rw (sym e ∙ f, p)
 
 -- ── One outcome ──
 
@@ -89,15 +76,24 @@ unfolding answerFor
 answer-declined Accepted site s inputs h = absurd (stepped-not-declined h)
 answer-declined (Refused m q) site s inputs h = same-refusal h
 
-pub answer-near :
-    (b : List ℕ) (s : State) (inputs room : ℕ) (a : Answer) {number place : ℕ} →
-    a ≡ answerOf b s inputs room →
-    a .outcome ≡ Declined number place →
-    place ≤ lastPlace
-unfolding answerOf
-answer-near b s inputs room a {number} {place} e f =
-    call-named b s inputs room number place
-    (answer-declined (callVerdict b s inputs room) (siteOf b) s inputs (sym (ap (λ (x : Answer). x .outcome) e) ∙ f)) .1
+-- what a step on a site answers, and what the call on bytes answers, each with the buffer as it returns
+abbrev pub OnSite : Site → State → ℕ → List ℕ → Answer → List ℕ → Type 0
+OnSite site s inputs buffer a out = Answers (stepVerdict site s inputs (length buffer)) site s inputs buffer a out
+
+abbrev pub OnBytes : List ℕ → State → ℕ → List ℕ → Answer → List ℕ → Type 0
+OnBytes b s inputs buffer a out = (a ≡ answerOf b s inputs (length buffer)) × (out ≡ bufferOf b s inputs buffer)
+
+module _ (b : List ℕ) (accepted : verdictOf b ≡ Accepted) (site : Site) (read : site ≡ siteOf b) where
+  module _ (s : State) (inputs : ℕ) (buffer : List ℕ) (a : Answer) (out : List ℕ) (given : OnSite site s inputs buffer a out) where
+    call : OnBytes b s inputs buffer a out
+    unfolding answerOf bufferOf
+    call = stepped-call b site s inputs buffer a out accepted read given
+
+    pub answer-near : {number place : ℕ} → a .outcome ≡ Declined number place → place ≤ lastPlace
+    unfolding answerOf
+    answer-near {number} {place} f =
+        call-named b s inputs (length buffer) number place
+        (answer-declined (callVerdict b s inputs (length buffer)) (siteOf b) s inputs (sym (ap (λ (x : Answer). x .outcome) (call .0)) ∙ f)) .1
 
 -- ── A step over bytes ──
 
@@ -124,39 +120,58 @@ Steps b old inputs buffer r new out =
     × (new ≡ stateAfter b old inputs (length buffer))
     × (out ≡ coloursAfter b old inputs buffer)
 
-module _ (b old buffer : List ℕ) (inputs r : ℕ) (d : Decoded) (e : d ≡ decodedOr old) where
-  pub no-state : d .known ≡ false → r ≡ packedVerdict (verdictOf b orElse Refused 13 0) → Steps b old inputs buffer r old buffer
-  unfolding stepAnswer stateAfter coloursAfter
-  no-state f p = let other = known-read old d false e f in (rw (other, p), rw other, rw other)
+module _ (b old buffer : List ℕ) (inputs r : ℕ) where
+  refused-by :
+      (t : Bool) {number place : ℕ} →
+      isState old ≡ t →
+      verdictOf b ≡ Refused number place →
+      r ≡ packed number place →
+      Steps b old inputs buffer r old buffer
+  unfolding stepAnswer stateAfter coloursAfter answerOf bufferOf callVerdict _orElse_ answerFor bufferFor packedVerdict packedOutcome stateFor
+  refused-by true k e p = (rw (k, e, p), rw (k, e), rw (k, e))
+  refused-by false k e p = (rw (k, e, p), rw k, rw k)
 
-  module _ (f : d .known ≡ true) (a : Answer) (given : a ≡ answerOf b (d .state) inputs (length buffer)) (out : List ℕ) (colours : out ≡ bufferOf b (d .state) inputs buffer) where
-    known : isState old ≡ true
-    known = known-read old d true e f
+  -- a refused personality, whatever the state's bytes are
+  pub refuses :
+      (v : Verdict) {number place : ℕ} →
+      v ≡ verdictOf b →
+      v ≡ Refused number place →
+      r ≡ packed number place →
+      Steps b old inputs buffer r old buffer
+  refuses v e f p = refused-by (isState old) refl (sym e ∙ f) p
 
-    given-bytes : a ≡ answerOf b (decoded old) inputs (length buffer)
-    given-bytes = subst (λ (s : State). a ≡ answerOf b s inputs (length buffer)) (state-read old d e known) given
+  module _ (accepted : verdictOf b ≡ Accepted) (d : Decoded) (e : d ≡ decodedOr old) where
+    pub no-state : d .known ≡ false → r ≡ packed 13 0 → Steps b old inputs buffer r old buffer
+    unfolding stepAnswer stateAfter coloursAfter packedVerdict _orElse_
+    no-state f p = let other = known-read old d false e f in (rw (other, accepted, p), rw other, rw other)
 
-    colours-bytes : out ≡ bufferOf b (decoded old) inputs buffer
-    colours-bytes = subst (λ (s : State). out ≡ bufferOf b s inputs buffer) (state-read old d e known) colours
+    module _ (f : d .known ≡ true) (site : Site) (read : site ≡ siteOf b) (a : Answer) (out : List ℕ) (given : OnSite site (d .state) inputs buffer a out) where
+      known : isState old ≡ true
+      known = known-read old d true e f
 
-    pub steps-on :
-        (new : List ℕ) {wait : ℕ} →
-        a .outcome ≡ Stepped wait →
-        new ≡ encodedOver (a .state) old →
-        r ≡ packed 0 wait →
-        Steps b old inputs buffer r new out
-    unfolding stepAnswer stateAfter coloursAfter packedOutcome stateFor encodedOver
-    steps-on new o n p =
-        let long = state-long old known in
-        (rw (known, sym given-bytes, o, p), rw (known, sym given-bytes, o, n, long), rw (known, colours-bytes))
+      called : OnBytes b (decoded old) inputs buffer a out
+      called =
+          subst (λ (s : State). OnBytes b s inputs buffer a out) (state-read old d e known)
+          (call b accepted site read (d .state) inputs buffer a out given)
 
-    pub stays :
-        {number place : ℕ} →
-        a .outcome ≡ Declined number place →
-        r ≡ packed number place →
-        Steps b old inputs buffer r old out
-    unfolding stepAnswer stateAfter coloursAfter packedOutcome stateFor
-    stays o p = (rw (known, sym given-bytes, o, p), rw (known, sym given-bytes, o), rw (known, colours-bytes))
+      pub steps-on :
+          (new : List ℕ) {wait : ℕ} →
+          a .outcome ≡ Stepped wait →
+          new ≡ encodedOver (a .state) old →
+          r ≡ packed 0 wait →
+          Steps b old inputs buffer r new out
+      unfolding stepAnswer stateAfter coloursAfter packedOutcome stateFor encodedOver
+      steps-on new o n p =
+          let long = state-long old known in
+          (rw (known, sym (called .0), o, p), rw (known, sym (called .0), o, n, long), rw (known, called .1))
+
+      pub stays :
+          {number place : ℕ} →
+          a .outcome ≡ Declined number place →
+          r ≡ packed number place →
+          Steps b old inputs buffer r old out
+      unfolding stepAnswer stateAfter coloursAfter packedOutcome stateFor
+      stays o p = (rw (known, sym (called .0), o, p), rw (known, sym (called .0), o), rw (known, called .1))
 
 -- ── The section lookup ──
 

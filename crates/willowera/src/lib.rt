@@ -5,9 +5,7 @@ ghost use mathlib.Core.Path.{_≡_};
 ghost use lib.ListN.{length};
 ghost use Rattle.rules.specs.Call.{boundOf};
 ghost use Rattle.rules.specs.Personality.{verdictOf};
-ghost use Rattle.rules.specs.declared.answer.Verdict.the-variants.{Refused};
 ghost use Rattle.rules.specs.State.{fresh};
-ghost use Rattle.rules.specs.Verdicts.{_orElse_};
 ghost use Rattle.state_bytes.specs.Layout.{encodedOver};
 ghost use Rattle.willowera.specs.Board.{packed, packedVerdict, packedOutcome, freshAnswer, stepAnswer, stateAfter, coloursAfter, sectionAnswer};
 use loading::lookup::head_of;
@@ -66,19 +64,9 @@ pub extern "C" fn willowera_fresh(state: &mut [u8]) -> u64
     }
 }
 
-// The answer to a step whose state bytes are no state: the personality's own refusal, and then 13.
-fn no_state(personality: &[u8]) -> u64
-    ensures { λ r. ⌜ r ≡ packedVerdict (verdictOf (now (personality .entry)) orElse Refused 13 0) ⌝ }
-{
-    let verdict = personality::read(personality);
-    if let Verdict::Refused { number, place } = verdict {
-        return refusal(number, place);
-    }
-    refusal(13, 0)
-}
-
 // One step of 0.1 s: the bytes of the new state take the place of the old, the colours of the groups are written, and the wait bound
-// is the answer. A refused step changes nothing.
+// is the answer. A refused step changes nothing, and the personality's own refusal comes before 13 for bytes that are no state. The state
+// is decoded last, so that it is not held while the personality is read.
 #[no_mangle]
 pub extern "C" fn willowera_step(
     personality: &[u8],
@@ -90,11 +78,16 @@ pub extern "C" fn willowera_step(
         × (now (state .exit) ≡ stateAfter (now (personality .entry)) (now (state .entry)) inputs (length (now (colours .entry))))
         × (now (colours .exit) ≡ coloursAfter (now (personality .entry)) (now (state .entry)) inputs (now (colours .entry))) ⌝ }
 {
+    let verdict = personality::read(personality);
+    if let Verdict::Refused { number, place } = verdict {
+        return refusal(number, place);
+    }
+    let site = loading::site(personality);
     let decoded = state_bytes::decode(state);
     if !decoded.known {
-        return no_state(personality);
+        return refusal(13, 0);
     }
-    let answer = controller::step(personality, decoded.state, inputs, colours);
+    let answer = controller::step_on(site, decoded.state, inputs, colours);
     let outcome = answer.outcome;
     match outcome {
         Outcome::Stepped { wait } => {

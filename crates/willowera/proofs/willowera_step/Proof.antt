@@ -1,31 +1,73 @@
--- `willowera::willowera_step` meets its contract: bytes that are no state, a refusal, and a step.
-use lib.ListN.{length}
-use borrow.Author.Tests.{not-true, not-false}
-use Rattle.willowera.proofs.Answers.{answer-near, no-state, steps-on, stays}
+-- `willowera::willowera_step` meets its contract: a refused personality, bytes that are no state, a refused step and a step.
+use mathlib.Core.Path.{_≡_, sym, _∙_}
 use borrow.Author.Needs.{needs}
+use borrow.Author.Tests.{not-true, not-false}
+use Rattle.rules.specs.declared.answer.Verdict.the-variants.{Accepted}
+use Rattle.rules.specs.Personality.{verdictOf}
+use Rattle.controller.proofs.Calls.{sound-read}
+use Rattle.willowera.proofs.Answers.{refused-near, refuses, no-state, answer-near, steps-on, stays}
 use Rattle.willowera.proofs.willowera_step.Statement.{statement}
 use Rattle.willowera.proofs.willowera_step.Tie as tie
+
+-- ── A refused personality ──
+
+read-requires : tie.Need-read-requires
+read-requires c κs = search needs
+
+enum-known-verdict : tie.Need-enum-known-verdict
+enum-known-verdict c = search needs
+
+refusal-requires : tie.Need-refusal-requires
+refusal-requires c κs =
+    let read = c .before .before .before .read in
+    refused-near _ (read .result) (read .ensures) (c .before .verdict .given .1)
+
+returns : tie.Need-returns
+returns c =
+    let asked = c .before .before .before .before in
+    let a = asked .before .before .before .before .args in
+    refuses (a .personality .now) (a .state .now) (a .colours .now) (a .inputs) (c .refusal .result) (asked .read .result)
+    (asked .read .ensures)
+    (c .before .before .verdict .given .1)
+    (c .refusal .ensures)
+
+-- ── An accepted one, and bytes that are no state ──
+
+enum-told : tie.Need-enum-told
+enum-told c = search needs
+
+accepted : (c : tie.After-enum-told) → verdictOf (c .before .before .before .before .before .before .args .personality .now) ≡ Accepted
+accepted c = sym (c .before .before .read .ensures) ∙ c .enum-told .given .1
+
+site-requires : tie.Need-site-requires
+site-requires c κs = accepted c
 
 decode-requires : tie.Need-decode-requires
 decode-requires c κs = search needs
 
-no-state-requires : tie.Need-no-state-requires
-no-state-requires c κs = search needs
+refusal-requires-2 : tie.Need-refusal-requires-2
+refusal-requires-2 c κs = search needs
 
 same-length : tie.Need-same-length
 same-length c = search needs
 
-returns : tie.Need-returns
-returns c =
-    let read = c .before .before .before in
-    let a = read .before .before .before .before .before .args in
-    no-state (a .personality .now) (a .state .now) (a .colours .now) (a .inputs) (c .no-state .result) (read .decode .result)
-    (read .decode .ensures)
-    (not-true (read .decode .result .known) (c .before .if1 .taken))
-    (c .no-state .ensures)
+returns-2 : tie.Need-returns-2
+returns-2 c =
+    let bytes = c .before .before .before in
+    let told = bytes .before .before .before in
+    let a = told .before .before .before .before .before .before .args in
+    no-state (a .personality .now) (a .state .now) (a .colours .now) (a .inputs) (c .refusal2 .result) (accepted told)
+    (bytes .decode .result)
+    (bytes .decode .ensures)
+    (not-true (bytes .decode .result .known) (c .before .if1 .taken))
+    (c .refusal2 .ensures)
 
-step-requires : tie.Need-step-requires
-step-requires c κs = search needs
+-- ── A state: the step on the site, refused or not ──
+
+step-on-requires : tie.Need-step-on-requires
+step-on-requires c κs =
+    let held = c .before .before .before .before .before in
+    sound-read _ (held .site .result) (accepted (held .before)) (held .site .ensures)
 
 enum-known-outcome : tie.Need-enum-known-outcome
 enum-known-outcome c = search needs
@@ -39,14 +81,16 @@ pack-requires c κs = search needs
 enum-known-outcome-2 : tie.Need-enum-known-outcome-2
 enum-known-outcome-2 c = search needs
 
-refusal-requires : tie.Need-refusal-requires
-refusal-requires c κs =
+refusal-requires-3 : tie.Need-refusal-requires-3
+refusal-requires-3 c κs =
     let called = c .before .before .before .before .before in
-    let choice = called .before .before in
-    let read = choice .before .before in
-    let a = read .before .before .before .before .before .args in
-    answer-near (a .personality .now) (read .decode .result .state) (a .inputs) (length (a .colours .now)) (called .step .result)
-    (called .step .ensures .0)
+    let bytes = called .before .before .before .before in
+    let held = bytes .before .before in
+    let told = held .before in
+    let a = told .before .before .before .before .before .before .args in
+    answer-near (a .personality .now) (accepted told) (held .site .result) (held .site .ensures) (bytes .decode .result .state) (a .inputs)
+    (a .colours .now) (called .step-on .result) _
+    (called .step-on .ensures)
     (c .before .outcome2 .given .1)
 
 same-length-2 : tie.Need-same-length-2
@@ -55,19 +99,24 @@ same-length-2 c = search needs
 same-length-3 : tie.Need-same-length-3
 same-length-3 c = search needs
 
-returns-2 : tie.Need-returns-2
-returns-2 c =
-    let told = c .before .before .before .before .before .before in
-    let called = told .before .before .before .before in
+returns-3 : tie.Need-returns-3
+returns-3 c =
+    let moved = c .before .before .before .before .before .before in
+    let called = moved .before .before .before .before in
     let choice = called .before .before in
-    let read = choice .before .before in
-    let a = read .before .before .before .before .before .args in
-    steps-on (a .personality .now) (a .state .now) (a .colours .now) (a .inputs) (c .pack .result) (read .decode .result)
-    (read .decode .ensures)
-    (not-false (read .decode .result .known) (choice .if1 .left))
-    (called .step .result)
-    (called .step .ensures .0) _ (called .step .ensures .1) _
-    (told .outcome .given .1)
+    let bytes = choice .before .before in
+    let held = bytes .before .before in
+    let told = held .before in
+    let a = told .before .before .before .before .before .before .args in
+    steps-on (a .personality .now) (a .state .now) (a .colours .now) (a .inputs) (c .pack .result) (accepted told)
+    (bytes .decode .result)
+    (bytes .decode .ensures)
+    (not-false (bytes .decode .result .known) (choice .if1 .left))
+    (held .site .result)
+    (held .site .ensures)
+    (called .step-on .result) _
+    (called .step-on .ensures) _
+    (moved .outcome .given .1)
     (c .before .before .before .encode .ensures .1)
     (c .pack .ensures)
 
@@ -77,37 +126,48 @@ same-length-4 c = search needs
 same-length-5 : tie.Need-same-length-5
 same-length-5 c = search needs
 
-returns-3 : tie.Need-returns-3
-returns-3 c =
+returns-4 : tie.Need-returns-4
+returns-4 c =
     let called = c .before .before .before .before .before .before in
     let choice = called .before .before in
-    let read = choice .before .before in
-    let a = read .before .before .before .before .before .args in
-    stays (a .personality .now) (a .state .now) (a .colours .now) (a .inputs) (c .refusal .result) (read .decode .result)
-    (read .decode .ensures)
-    (not-false (read .decode .result .known) (choice .if1 .left))
-    (called .step .result)
-    (called .step .ensures .0) _ (called .step .ensures .1)
+    let bytes = choice .before .before in
+    let held = bytes .before .before in
+    let told = held .before in
+    let a = told .before .before .before .before .before .before .args in
+    stays (a .personality .now) (a .state .now) (a .colours .now) (a .inputs) (c .refusal3 .result) (accepted told)
+    (bytes .decode .result)
+    (bytes .decode .ensures)
+    (not-false (bytes .decode .result .known) (choice .if1 .left))
+    (held .site .result)
+    (held .site .ensures)
+    (called .step-on .result) _
+    (called .step-on .ensures)
     (c .before .before .outcome2 .given .1)
-    (c .refusal .ensures)
+    (c .refusal3 .ensures)
 
 pub willowera-step-spec : {M : Type 1} → statement M
 willowera-step-spec =
     tie.close
     (tie.spec
-    decode-requires
-    no-state-requires
-    same-length
+    read-requires
+    enum-known-verdict
+    refusal-requires
     returns
-    step-requires
+    enum-told
+    site-requires
+    decode-requires
+    refusal-requires-2
+    same-length
+    returns-2
+    step-on-requires
     enum-known-outcome
     encode-requires
     pack-requires
     enum-known-outcome-2
-    refusal-requires
+    refusal-requires-3
     same-length-2
     same-length-3
-    returns-2
+    returns-3
     same-length-4
     same-length-5
-    returns-3)
+    returns-4)
