@@ -1,4 +1,5 @@
 pub mod Sections
+pub mod Places
 pub mod Entries
 pub mod Acceptance
 pub mod Refusals

@@ -26,7 +26,7 @@ use Rattle.controller.proofs.Calls.{Answers, stepped-call}
 use Rattle.state_bytes.specs.declared.Decoded.{Decoded}
 use Rattle.state_bytes.specs.Layout.{stateBytes, isState, decoded, encoded, decodedOr, encodedOver}
 use Rattle.willowera.specs.Board.{packed, packedVerdict, packedOutcome, stepAnswer, stateFor, stateAfter, coloursAfter, sectionFor, sectionAnswer}
-use Rattle.willowera.proofs.Places.{lastPlace, Named, personality-named, call-named, lookup-named}
+use Rattle.proof_acceptance.proofs.Places.{lastPlace, Named, personality-named, call-named, lookup-named}
 
 -- ── One verdict ──
 
