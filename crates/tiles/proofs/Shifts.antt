@@ -1,0 +1,47 @@
+-- The bits of a shifted number are those of the number, as far away as the shift says.
+use Prim.Native.Nat.{ℕ, suc, _+_, _-_, _*_, _/_, _%_, _^_, _<_}
+use mathlib.Core.Bool.{true, false, _&&_}
+use mathlib.Core.Logic.{⊎-elim}
+use mathlib.Core.Path.{_≡_, ap, subst, _∙_}
+use native.Mathlib.Nat.{mul-assoc}
+use native.Mathlib.Omega.{arith}
+use lib.Bits.{shifted-even}
+use lib.Dec.{leb, eqb}
+use lib.Pow.{pow-add, shl-shr, shr-shr, field, mod-mod-pow}
+use borrow.Author.Tests.{leb-true, leb-false}
+use Rattle.rules.specs.Bytes.{bit}
+use Rattle.rules.proofs.Tests.{decided}
+
+-- to the right
+pub bit-down : (x s k : ℕ) → bit k (x / 2 ^ s) ≡ bit (s + k) x
+unfolding bit
+bit-down x s k = rw (shr-shr x s k)
+
+-- to the left, from the shift on
+moved-bit : (x s d : ℕ) → bit (s + d) (x * 2 ^ s) ≡ bit d x
+unfolding bit
+moved-bit x s d = rw (← shr-shr (x * 2 ^ s) s d, shl-shr x s)
+
+-- to the left, below the shift
+vacated-bit : (x d k : ℕ) → bit k (x * 2 ^ (suc d + k)) ≡ false
+unfolding bit
+vacated-bit x d k =
+    rw (pow-add 2 (suc d) k, ← mul-assoc x (2 ^ suc d) (2 ^ k), shl-shr (x * 2 ^ suc d) k, shifted-even x d)
+
+-- the bits below the width stay
+kept-bit : (x d k : ℕ) → bit k (x % 2 ^ (d + 1 + k)) ≡ bit k x
+unfolding bit
+kept-bit x d k = ap (λ (q : ℕ). eqb q 1) (ap (λ (q : ℕ). q % 2) (field x (d + 1) k) ∙ mod-mod-pow (x / 2 ^ k) d 1)
+
+-- to the left, in a number of w bits
+pub bit-up : (x s w k : ℕ) → k < w → bit k (x * 2 ^ s % 2 ^ w) ≡ (leb s k && bit (k - s) x)
+bit-up x s w k h =
+    subst (λ (v : ℕ). bit k (x * 2 ^ s % 2 ^ v) ≡ bit k (x * 2 ^ s)) (omega arith) (kept-bit (x * 2 ^ s) (w - k - 1) k)
+    ∙ ⊎-elim
+    (λ (e : leb s k ≡ true).
+    rw e
+    (subst (λ (j : ℕ). bit j (x * 2 ^ s) ≡ bit (k - s) x) (omega (arith, leb-true s k e)) (moved-bit x s (k - s))))
+    (λ (e : leb s k ≡ false).
+    rw e
+    (subst (λ (t : ℕ). bit k (x * 2 ^ t) ≡ false) (omega (arith, leb-false s k e)) (vacated-bit x (s - k - 1) k)))
+    (decided (leb s k))
