@@ -1,7 +1,10 @@
-// Kind 4: which groups conflict. All of number 9 is checked before any of number 10.
+// Kind 4: which groups conflict. All of number 9 is checked before any of number 10, record by record, unless a quick test finds both in
+// order.
 ghost use mathlib.Core.Path.{_≡_};
 ghost use Rattle.rules.specs.declared.answer.Verdict.the-variants.{Accepted};
 ghost use Rattle.rules.specs.Personality.{siteSection, groupsSection, conflictsSection};
+use crate::matrix::laid_out;
+use crate::matrix::sound;
 use crate::phases::phase_conflicts;
 use crate::records::conflict_records;
 use reads::two;
@@ -10,6 +13,7 @@ use sections::heads::conflicts_head;
 use sections::heads::group_count;
 use sections::section;
 
+mod matrix;
 mod phases;
 mod records;
 
@@ -27,6 +31,9 @@ pub fn conflicts_section(s: &[u8]) -> Verdict
     );
     if let Verdict::Refused { .. } = head {
         return head;
+    }
+    if sound(s, laid_out(s)) {
+        return Verdict::Accepted;
     }
     let records = conflict_records(s);
     if let Verdict::Refused { .. } = records {

@@ -1,10 +1,13 @@
--- `conflicts::conflicts_section` meets its contract: head, number 9, then number 10, the first refusal being the answer.
+-- `conflicts::conflicts_section` meets its contract: head, number 9, then number 10, the first refusal being the answer. Where the quick
+-- test passes, no record is refused.
 use Prim.Native.Nat.{_*_}
-use mathlib.Core.Path.{_≡_}
+use mathlib.Core.Path.{_≡_, refl, sym, _∙_}
 use lib.Dec.{eqb}
 use borrow.Author.Needs.{needs}
 use Rattle.rules.specs.Personality.{bodyLength, groupCount, conflictsHead, sectionAt, conflictsSection}
 use Rattle.sections.proofs.Firsts.{or-next, or-stop}
+use Rattle.proof_acceptance.proofs.Sections.{records-held}
+use Rattle.conflicts.proofs.Pairs.{all-good}
 use Rattle.conflicts.proofs.conflicts_section.Statement.{statement}
 use Rattle.conflicts.proofs.conflicts_section.Tie as tie
 
@@ -47,16 +50,33 @@ returns c = or-stop _ (checked (c .before .before)) (c .enum-told .given .1)
 enum-told-2 : tie.Need-enum-told-2
 enum-told-2 c = search needs
 
+laid-out-requires : tie.Need-laid-out-requires
+laid-out-requires c κs =
+    let atSection = c .before .before in
+    let start = atSection .before .before .before .before .before in
+    (start .pre .0, records-held _ _ _ _ _ (sym (checked atSection) ∙ c .enum-told2 .given .1))
+
+sound-requires : tie.Need-sound-requires
+sound-requires c κs = search needs
+
+returns-2 : tie.Need-returns-2
+unfolding conflictsSection
+returns-2 c =
+    let headPassed = c .before .before .before in
+    let good = c .before .sound .ensures (c .if1 .taken) in
+    or-next (checked (headPassed .before .before)) (headPassed .enum-told2 .given .1)
+    (or-next (all-good _ _ _ _ (λ g l. good g l .0)) refl (all-good _ _ _ _ (λ g l. good g l .1)))
+
 conflict-records-requires : tie.Need-conflict-records-requires
 conflict-records-requires c κs = search needs
 
 enum-told-3 : tie.Need-enum-told-3
 enum-told-3 c = search needs
 
-returns-2 : tie.Need-returns-2
+returns-3 : tie.Need-returns-3
 unfolding conflictsSection
-returns-2 c =
-    let headPassed = c .before .before .before in
+returns-3 c =
+    let headPassed = c .before .before .before .before .before .before in
     or-next (checked (headPassed .before .before)) (headPassed .enum-told2 .given .1)
     (or-stop _ (cc) (c .enum-told3 .given .1))
 
@@ -66,11 +86,11 @@ enum-told-4 c = search needs
 phase-conflicts-requires : tie.Need-phase-conflicts-requires
 phase-conflicts-requires c κs = search needs
 
-returns-3 : tie.Need-returns-3
+returns-4 : tie.Need-returns-4
 unfolding conflictsSection
-returns-3 c =
+returns-4 c =
     let recordsPassed = c .before in
-    let headPassed = recordsPassed .before .before .before in
+    let headPassed = recordsPassed .before .before .before .before .before .before in
     or-next (checked (headPassed .before .before)) (headPassed .enum-told2 .given .1)
     (or-next (recordsPassed .before .before .conflict-records .ensures) (recordsPassed .enum-told4 .given .1) (c .phase-conflicts .ensures))
 
@@ -88,9 +108,12 @@ conflicts-section-spec =
     enum-told
     returns
     enum-told-2
+    laid-out-requires
+    sound-requires
+    returns-2
     conflict-records-requires
     enum-told-3
-    returns-2
+    returns-3
     enum-told-4
     phase-conflicts-requires
-    returns-3)
+    returns-4)
