@@ -5,6 +5,7 @@ use mathlib.Core.Bool.{Bool, true, false, not, _&&_, _||_}
 use mathlib.Core.List.{List}
 use mathlib.Core.Logic.{⊎-elim}
 use mathlib.Core.Path.{_≡_, refl, sym, ap, subst, _∙_}
+use native.Mathlib.Nat.{zero-add}
 use native.Mathlib.Omega.{arith}
 use lib.Bits.{bitAnd}
 use lib.Dec.{leb, eqb}
@@ -23,7 +24,7 @@ use Rattle.rules.proofs.Tests.{decided, never-both, not-true-false, and-left, a
 use Rattle.reads.proofs.Common.{bit-and}
 use Rattle.sections.proofs.Firsts.{recordCheck, or-next, refuse-no}
 use Rattle.conflicts.specs.declared.matrix.Layout.{Layout}
-use Rattle.conflicts.specs.Matrix.{Laid, ByteRows, ConflictRows, SetRows, MemberRows, PairSound, BlockSound, BandSound}
+use Rattle.conflicts.specs.Matrix.{Laid, ByteRows, ConflictRows, SetRows, MemberRows, PairSound, BlockSound, BandSound, AllSound}
 use Rattle.conflicts.proofs.TileBits.{four-bit}
 
 -- ── What the tiles hold ──
@@ -181,10 +182,7 @@ pub all-sound :
     (b : List ℕ) (n : ℕ) →
     ((i : ℕ) → 0 ≤ i → i < n → BandSound b i) →
     groupCount b ≤ 8 * n →
-    (g j : ℕ) →
-    g < groupCount b →
-    j < groupCount b →
-    PairSound b g j
+    AllSound b
 all-sound b n each all g j h l =
     ⊎-elim
     (λ (m : g / 8 < j / 8). pair-turned b j g (ordered j g l h (omega arith)))
@@ -199,9 +197,13 @@ all-sound b n each all g j h l =
         (subst (λ (y : ℕ). PairSound b (8 * (g / 8) + g % 8) y) other
         (each (j / 8) (omega arith) (omega arith) (g / 8) m (g % 8) (j % 8) (omega arith) (omega arith) (omega arith) (omega arith)))
 
+-- all are in band 0
+pub single-sound : (b : List ℕ) → BlockSound b 0 0 → groupCount b ≤ 8 → AllSound b
+single-sound b own few g j h l = simp zero-add at (own g j (omega arith) (omega arith) (omega arith) (omega arith))
+
 -- ── All groups ──
 
-pub good-conflict :
+good-conflict :
     (b : List ℕ) (g : ℕ) →
     g < groupCount b →
     conflictSet b g < 2 ^ groupCount b →
@@ -218,7 +220,7 @@ good-conflict b g h below sound =
     same-not true t e = rw (sym e)
     same-not false t e = refl
 
-pub no-clash :
+no-clash :
     (b : List ℕ) (g : ℕ) → ((j : ℕ) → j < groupCount b → PairSound b g j) → conflictInPhase b g ≡ false
 unfolding conflictInPhase sharePhase
 no-clash b g sound =
@@ -236,6 +238,16 @@ no-clash b g sound =
     (λ (e : bit j (conflictSet b g) ≡ false).
     and-false-left (anyOf (λ p. bit p (groupSet b g) && bit p (groupSet b j)) (phaseCount b)) e)
     (decided (bit j (conflictSet b g))))
+
+pub records-good :
+    (b : List ℕ) →
+    ((g : ℕ) → g < groupCount b → conflictSet b g < 2 ^ groupCount b) →
+    AllSound b →
+    (g : ℕ) →
+    g < groupCount b →
+    (badConflict b g ≡ false) × (conflictInPhase b g ≡ false)
+records-good b below sound g l =
+    (good-conflict b g l (below g l) (λ j m. sound g j l m), no-clash b g (λ j m. sound g j l m))
 
 -- records of which none is bad are accepted
 pub all-good :

@@ -16,6 +16,7 @@ pub record Laid (b : List ℕ) (w : Layout) : Type 0 where
   pub sets : w .sets ≡ bodyAt (groupsHead b)
   pub conflicts : w .conflicts ≡ bodyAt (conflictsHead b)
   pub fewPhases : w .phases ≤ 7
+  pub someGroups : 1 ≤ w .groups
   pub fewGroups : w .groups ≤ 32
   pub near : w .conflicts ≤ 4000
   pub apart : w .sets + 2 * w .groups ≤ w .conflicts
@@ -57,3 +58,7 @@ BlockSound b a k =
 -- so do the groups of band k and those of bands from k on
 abbrev pub BandSound : List ℕ → ℕ → Type 0
 BandSound b k = (a : ℕ) → k ≤ a → BlockSound b a k
+
+-- so do all groups
+abbrev pub AllSound : List ℕ → Type 0
+AllSound b = (g j : ℕ) → g < groupCount b → j < groupCount b → PairSound b g j

@@ -7,7 +7,7 @@ ghost use lib.ListN.{length};
 ghost use Rattle.rules.specs.Bytes.{bit};
 ghost use Rattle.rules.specs.declared.answer.Verdict.the-variants.{Accepted};
 ghost use Rattle.rules.specs.Personality.{bodyAt, conflictsHead, groupCount, conflictSet, badConflict, conflictInPhase, siteSection};
-ghost use Rattle.conflicts.specs.Matrix.{Laid, ByteRows, ConflictRows, SetRows, MemberRows, PairSound, BlockSound, BandSound};
+ghost use Rattle.conflicts.specs.Matrix.{Laid, ByteRows, ConflictRows, SetRows, MemberRows, BlockSound, BandSound, AllSound};
 use groups::sets::reaches32;
 use reads::byte_in;
 use reads::four_in;
@@ -105,16 +105,26 @@ fn own_block(s: &[u8], w: Layout, k: usize, sets: u64, members: u64) -> bool
     (mirrored(t) == t) & (t & none == 0)
 }
 
-// Whether the groups of band a are sound with those of band k. One way.
+// Whether the groups of band a are sound with those of an earlier band k, which has all its eight. One way.
 fn block(s: &[u8], w: Layout, a: usize, k: usize, members: u64) -> bool
     requires { ⌜ Laid (now s) w × (8 * a < w .groups) × (k < a) × MemberRows (now s) k members ⌝ }
     ensures { λ r. ⌜ (r ≡ true → BlockSound (now (s .entry)) a k) ⌝ }
 {
     let phases = w.phases;
+    let place = w.conflicts;
     let t = conflict_tile(s, w, a, k);
-    let back = conflict_tile(s, w, k, a);
+    let back = tile(s, place + 32 * k + a, 4, 8);
     let none = barred(0, set_tile(s, w, a), members, phases);
     (mirrored(t) == back) & (t & none == 0)
+}
+
+// Whether all groups of a site with one band only are sound with each other. One way.
+fn single_band(s: &[u8], w: Layout) -> bool
+    requires { ⌜ Laid (now s) w × (w .groups ≤ 8) ⌝ }
+    ensures { λ r. ⌜ (r ≡ true → AllSound (now (s .entry))) ⌝ }
+{
+    let sets = set_tile(s, w, 0);
+    own_block(s, w, 0, sets, mirrored(sets))
 }
 
 // Whether the groups of band k are sound with all groups from the band on. One way.
@@ -141,7 +151,7 @@ fn band(s: &[u8], w: Layout, k: usize) -> bool
 // Whether all groups are sound with each other. One way.
 fn bands(s: &[u8], w: Layout) -> bool
     requires { ⌜ Laid (now s) w ⌝ }
-    ensures { λ r. ⌜ (r ≡ true → (g j : ℕ) → g < groupCount (now (s .entry)) → j < groupCount (now (s .entry)) → PairSound (now (s .entry)) g j) ⌝ }
+    ensures { λ r. ⌜ (r ≡ true → AllSound (now (s .entry))) ⌝ }
 {
     let groups = w.groups;
     let mut k: usize = 0;
@@ -194,6 +204,10 @@ pub fn sound(s: &[u8], w: Layout) -> bool
 {
     if !below(s, w) {
         return false;
+    }
+    let groups = w.groups;
+    if groups <= 8 {
+        return single_band(s, w);
     }
     bands(s, w)
 }

@@ -1,19 +1,48 @@
 -- `matrix::block` meets its contract: the one tile is the mirror image of the other, and has no bit of groups that share a phase. No group
 -- is in both bands.
+use Prim.Native.Nat.{ℕ, _<_}
 use native.Mathlib.Omega.{arith}
-use Rattle.conflicts.specs.Matrix.{Laid}
-use Rattle.conflicts.proofs.Pairs.{block-sound}
+use Rattle.rules.specs.Bytes.{byteAt}
+use Rattle.conflicts.specs.Matrix.{Laid, ConflictRows}
+use Rattle.conflicts.proofs.Pairs.{conflict-rows, block-sound}
 use Rattle.conflicts.proofs.matrix.block.Statement.{statement}
 use Rattle.conflicts.proofs.matrix.block.Tie as tie
+
+small : (c : tie.After-shared-slice-known) → (i : ℕ) → byteAt (c .before .args .s .now) i < 256
+unfolding byteAt
+small c i = omega (arith, c .shared-slice-known .given i)
 
 conflict-tile-requires : tie.Need-conflict-tile-requires
 conflict-tile-requires c κs =
     let pre = c .before .pre in (pre .0, pre .1, omega (arith, pre .0 .fewGroups, pre .1, pre .2))
 
-conflict-tile-requires-2 : tie.Need-conflict-tile-requires-2
-conflict-tile-requires-2 c κs =
-    let pre = c .before .before .pre in
-    (pre .0, omega (arith, pre .1, pre .2), omega (arith, pre .0 .fewGroups, pre .1))
+mul-tile : tie.Need-mul-tile
+mul-tile c = let pre = c .before .before .pre in omega (arith, pre .0 .fewGroups, pre .1, pre .2)
+
+add-tile : tie.Need-add-tile
+add-tile c = let pre = c .before .before .pre in omega (arith, pre .0 .fewGroups, pre .0 .near, pre .1, pre .2)
+
+add-tile-2 : tie.Need-add-tile-2
+add-tile-2 c = let pre = c .before .before .pre in omega (arith, pre .0 .fewGroups, pre .0 .near, pre .1, pre .2)
+
+tile-requires : tie.Need-tile-requires
+tile-requires c κs =
+    let pre = c .before .before .pre in (
+      omega (arith, pre .0 .fewGroups, pre .0 .near, pre .1, pre .2),
+      omega arith,
+      omega arith,
+      λ r l. omega (arith, l, pre .0 .fewGroups, pre .0 .held, pre .1, pre .2),
+    )
+
+-- the tile back
+back :
+    (c : tie.After-tile) →
+    let start = c .before .before .before in
+    ConflictRows (start .args .s .now) (start .args .k) (start .args .a) (c .tile .result)
+back c =
+    let known = c .before .before in
+    let pre = known .before .pre in
+    conflict-rows (pre .0) _ _ 8 (small known) (omega (arith, pre .0 .fewGroups, pre .1)) (λ r h l. h) (c .tile .ensures)
 
 set-tile-requires : tie.Need-set-tile-requires
 set-tile-requires c κs = let pre = c .before .before .before .pre in (pre .0, pre .1)
@@ -29,7 +58,7 @@ returns c =
     let atSets = c .before .before in
     let start = atSets .before .before .before .before in
     let none = c .before .barred .ensures in
-    block-sound (c .mirrored .result) 0 (c .before .barred .result) (start .pre .0) (atSets .before .before .conflict-tile .ensures) (atSets .before .conflict-tile2 .ensures)
+    block-sound (c .mirrored .result) 0 (c .before .barred .result) (start .pre .0) (atSets .before .before .conflict-tile .ensures) (back (atSets .before))
     (atSets .set-tile .ensures) (start .pre .3) (c .mirrored .ensures) (none .0) (none .1)
     (λ r n h l e. absurd (omega (arith, h, l, e, start .pre .2)))
 
@@ -38,7 +67,10 @@ block-spec =
     tie.close
     (tie.spec
     conflict-tile-requires
-    conflict-tile-requires-2
+    mul-tile
+    add-tile
+    add-tile-2
+    tile-requires
     set-tile-requires
     barred-requires
     mirrored-requires

@@ -48,6 +48,7 @@ returns c =
       sets = omega (arith, head .0);
       conflicts = omega (arith, head .0, groups);
       fewPhases = omega (arith, phases, site .phases .1);
+      someGroups = omega (arith, groups, site .groups .0);
       fewGroups = omega (arith, groups, site .groups .1);
       near = omega (arith, head .1, groups, site .groups .1);
       apart = omega arith;

@@ -1,8 +1,10 @@
--- `matrix::sound` meets its contract: no set goes past N, and all pairs of groups are sound.
+-- `matrix::sound` meets its contract: no set goes past N, and all groups are sound with each other.
+use Prim.Native.Nat.{ℕ, _^_, _<_}
 use mathlib.Core.Path.{refl}
 use borrow.Author.Tests.{not-false}
+use Rattle.rules.specs.Personality.{groupCount, conflictSet}
 use Rattle.rules.proofs.Tests.{never-both}
-use Rattle.conflicts.proofs.Pairs.{good-conflict, no-clash}
+use Rattle.conflicts.proofs.Pairs.{records-good}
 use borrow.Author.Needs.{needs}
 use Rattle.conflicts.proofs.matrix.sound.Statement.{statement}
 use Rattle.conflicts.proofs.matrix.sound.Tie as tie
@@ -13,14 +15,28 @@ below-requires c κs = search needs
 returns : tie.Need-returns
 returns c e = absurd (never-both e refl)
 
+-- no set goes past N
+under :
+    (c : tie.Else1) →
+    let b = c .before .before .before .args .s .now in
+    (g : ℕ) →
+    g < groupCount b →
+    conflictSet b g < 2 ^ groupCount b
+under c = c .before .below .ensures (not-false _ (c .if1 .left))
+
+single-band-requires : tie.Need-single-band-requires
+single-band-requires c κs = search needs
+
+returns-2 : tie.Need-returns-2
+returns-2 c e = records-good _ (under (c .before .before)) (c .single-band .ensures e)
+
 bands-requires : tie.Need-bands-requires
 bands-requires c κs = search needs
 
-returns-2 : tie.Need-returns-2
-returns-2 c e g l =
-    let all = c .bands .ensures e in
-    let under = c .before .before .below .ensures (not-false _ (c .before .if1 .left)) in
-    (good-conflict _ g l (under g l) (λ j m. all g j l m), no-clash _ g (λ j m. all g j l m))
+returns-3 : tie.Need-returns-3
+returns-3 c e = records-good _ (under (c .before .before)) (c .bands .ensures e)
 
 pub sound-spec : {M : Type 1} → statement M
-sound-spec = tie.close (tie.spec below-requires returns bands-requires returns-2)
+sound-spec =
+    tie.close
+    (tie.spec below-requires returns single-band-requires returns-2 bands-requires returns-3)
