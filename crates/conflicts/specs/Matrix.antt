@@ -4,7 +4,7 @@ use Prim.Native.Nat.{ℕ, _+_, _*_, _≤_, _<_}
 use mathlib.Core.Bool.{true, false}
 use mathlib.Core.List.{List}
 use mathlib.Core.Path.{_≡_}
-use lib.ListN.{length}
+use lib.ListN.{length, getD}
 use Rattle.rules.specs.Bytes.{byteAt, bit}
 use Rattle.rules.specs.Personality.{bodyAt, groupsHead, conflictsHead, phaseCount, groupCount, groupSet, conflictSet}
 use Rattle.conflicts.specs.declared.matrix.Layout.{Layout}
@@ -34,6 +34,10 @@ pub record ConflictRows (b : List ℕ) (a k t : ℕ) : Type 0 where
 -- the phase sets of band a's groups, one a row
 pub record SetRows (b : List ℕ) (a t : ℕ) : Type 0 where
   pub told : (r p : ℕ) → r < 8 → p < 8 → 8 * a + r < groupCount b → bit (8 * r + p) t ≡ bit p (groupSet b (8 * a + r))
+
+-- those of all bands, a tile each
+pub record SetTiles (b tiles : List ℕ) : Type 0 where
+  pub told : (a : ℕ) → 8 * a < groupCount b → SetRows b a (getD tiles a 0)
 
 -- the members of each phase in band k, one phase a row
 pub record MemberRows (b : List ℕ) (k t : ℕ) : Type 0 where

@@ -7,7 +7,7 @@ ghost use lib.ListN.{length};
 ghost use Rattle.rules.specs.Bytes.{bit};
 ghost use Rattle.rules.specs.declared.answer.Verdict.the-variants.{Accepted};
 ghost use Rattle.rules.specs.Personality.{bodyAt, conflictsHead, groupCount, conflictSet, badConflict, conflictInPhase, siteSection};
-ghost use Rattle.conflicts.specs.Matrix.{Laid, ByteRows, ConflictRows, SetRows, MemberRows, BlockSound, BandSound, AllSound};
+ghost use Rattle.conflicts.specs.Matrix.{Laid, ByteRows, ConflictRows, SetRows, SetTiles, MemberRows, BlockSound, BandSound, AllSound};
 use groups::sets::reaches32;
 use reads::byte_in;
 use reads::four_in;
@@ -74,6 +74,21 @@ fn set_tile(s: &[u8], w: Layout, a: usize) -> u64
     tile(s, at, 2, 8)
 }
 
+// The phase sets of all bands.
+fn set_tiles(s: &[u8], w: Layout) -> [u64; 4]
+    requires { ⌜ Laid (now s) w ⌝ }
+    ensures { λ r. ⌜ SetTiles (now (s .entry)) r ⌝ }
+{
+    let groups = w.groups;
+    let mut tiles = [0u64; 4];
+    let mut a: usize = 0;
+    while 8 * a < groups {
+        tiles[a] = set_tile(s, w, a);
+        a += 1;
+    }
+    tiles
+}
+
 // The bits that the conflicts of two bands may not have: those given, and those of groups that share a phase. The first band's sets have
 // a group a row; the second band's members have a phase a row.
 fn barred(given: u64, sets: u64, members: u64, phases: usize) -> u64
@@ -106,15 +121,15 @@ fn own_block(s: &[u8], w: Layout, k: usize, sets: u64, members: u64) -> bool
 }
 
 // Whether the groups of band a are sound with those of an earlier band k, which has all its eight. One way.
-fn block(s: &[u8], w: Layout, a: usize, k: usize, members: u64) -> bool
-    requires { ⌜ Laid (now s) w × (8 * a < w .groups) × (k < a) × MemberRows (now s) k members ⌝ }
+fn block(s: &[u8], w: Layout, a: usize, k: usize, sets: u64, members: u64) -> bool
+    requires { ⌜ Laid (now s) w × (8 * a < w .groups) × (k < a) × SetRows (now s) a sets × MemberRows (now s) k members ⌝ }
     ensures { λ r. ⌜ (r ≡ true → BlockSound (now (s .entry)) a k) ⌝ }
 {
     let phases = w.phases;
     let place = w.conflicts;
     let t = conflict_tile(s, w, a, k);
     let back = tile(s, place + 32 * k + a, 4, 8);
-    let none = barred(0, set_tile(s, w, a), members, phases);
+    let none = barred(0, sets, members, phases);
     (mirrored(t) == back) & (t & none == 0)
 }
 
@@ -128,19 +143,19 @@ fn single_band(s: &[u8], w: Layout) -> bool
 }
 
 // Whether the groups of band k are sound with all groups from the band on. One way.
-fn band(s: &[u8], w: Layout, k: usize) -> bool
-    requires { ⌜ Laid (now s) w × (8 * k < w .groups) ⌝ }
+fn band(s: &[u8], w: Layout, k: usize, sets: [u64; 4]) -> bool
+    requires { ⌜ Laid (now s) w × (8 * k < w .groups) × SetTiles (now s) sets ⌝ }
     ensures { λ r. ⌜ (r ≡ true → BandSound (now (s .entry)) k) ⌝ }
 {
-    let sets = set_tile(s, w, k);
-    let members = mirrored(sets);
-    if !own_block(s, w, k, sets, members) {
+    let groups = w.groups;
+    let own = sets[k];
+    let members = mirrored(own);
+    if !own_block(s, w, k, own, members) {
         return false;
     }
-    let groups = w.groups;
     let mut a = k + 1;
     while 8 * a < groups {
-        if !block(s, w, a, k, members) {
+        if !block(s, w, a, k, sets[a], members) {
             return false;
         }
         a += 1;
@@ -154,9 +169,10 @@ fn bands(s: &[u8], w: Layout) -> bool
     ensures { λ r. ⌜ (r ≡ true → AllSound (now (s .entry))) ⌝ }
 {
     let groups = w.groups;
+    let sets = set_tiles(s, w);
     let mut k: usize = 0;
     while 8 * k < groups {
-        if !band(s, w, k) {
+        if !band(s, w, k, sets) {
             return false;
         }
         k += 1;

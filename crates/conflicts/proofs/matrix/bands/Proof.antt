@@ -12,19 +12,22 @@ use Rattle.conflicts.proofs.matrix.bands.Statement.{statement}
 use Rattle.conflicts.proofs.matrix.bands.Tie as tie
 
 abbrev Inv-loop : tie.InvT-loop
-Inv-loop s w groups k₀ k = (8 * k < groups + 8) × ((i : ℕ) → 0 ≤ i → i < k → BandSound s i)
+Inv-loop s w groups sets k₀ k = (8 * k < groups + 8) × ((i : ℕ) → 0 ≤ i → i < k → BandSound s i)
 
 abbrev μ-loop : tie.MeasureT-loop
-μ-loop s w groups k₀ k = groups - k
+μ-loop s w groups sets k₀ k = groups - k
+
+set-tiles-requires : tie.Need-set-tiles-requires Inv-loop μ-loop
+set-tiles-requires c κs = c .before .pre
 
 loop-holds : tie.Need-loop-holds Inv-loop μ-loop
 loop-holds c = (omega arith, λ i h l. absurd (not-suc-le-zero l))
 
 mul-loop : tie.Need-mul-loop Inv-loop μ-loop
-mul-loop c = omega (arith, c .before .before .pre .fewGroups, c .loop .inv .0)
+mul-loop c = omega (arith, c .before .before .before .pre .fewGroups, c .loop .inv .0)
 
 band-requires : tie.Need-band-requires Inv-loop μ-loop
-band-requires c κs = (c .before .before .before .pre, c .loop-test .taken)
+band-requires c κs = (c .before .before .before .before .pre, c .loop-test .taken, c .before .before .set-tiles .ensures)
 
 returns : tie.Need-returns Inv-loop μ-loop
 returns c e = absurd (never-both e refl)
@@ -32,7 +35,7 @@ returns c e = absurd (never-both e refl)
 add-k : tie.Need-add-k Inv-loop μ-loop
 add-k c =
     let atLoop = c .before .before .before in
-    omega (arith, atLoop .before .before .pre .fewGroups, atLoop .loop .inv .0)
+    omega (arith, atLoop .before .before .before .pre .fewGroups, atLoop .loop .inv .0)
 
 loop-less : tie.Need-loop-less Inv-loop μ-loop
 loop-less c = omega (arith, c .before .before .loop-test .taken)
@@ -47,7 +50,7 @@ loop-again c =
 returns-2 : tie.Need-returns-2 Inv-loop μ-loop
 returns-2 c e =
     let atLoop = c .before in
-    all-sound _ (atLoop .loop .k) (atLoop .loop .inv .1) (omega (arith, c .loop-test .left, atLoop .before .before .pre .groups))
+    all-sound _ (atLoop .loop .k) (atLoop .loop .inv .1) (omega (arith, c .loop-test .left, atLoop .before .before .before .pre .groups))
 
 pub bands-spec : {M : Type 1} → statement M
 bands-spec =
@@ -55,6 +58,7 @@ bands-spec =
     (tie.spec
     Inv-loop
     μ-loop
+    set-tiles-requires
     loop-holds
     mul-loop
     band-requires

@@ -44,22 +44,19 @@ back c =
     let pre = known .before .pre in
     conflict-rows (pre .0) _ _ 8 (small known) (omega (arith, pre .0 .fewGroups, pre .1)) (λ r h l. h) (c .tile .ensures)
 
-set-tile-requires : tie.Need-set-tile-requires
-set-tile-requires c κs = let pre = c .before .before .before .pre in (pre .0, pre .1)
-
 barred-requires : tie.Need-barred-requires
-barred-requires c κs = c .before .before .before .before .pre .0 .fewPhases
+barred-requires c κs = c .before .before .before .pre .0 .fewPhases
 
 mirrored-requires : tie.Need-mirrored-requires
 mirrored-requires c κs = tt
 
 returns : tie.Need-returns
 returns c =
-    let atSets = c .before .before in
-    let start = atSets .before .before .before .before in
+    let atBack = c .before .before in
+    let start = atBack .before .before .before in
     let none = c .before .barred .ensures in
-    block-sound (c .mirrored .result) 0 (c .before .barred .result) (start .pre .0) (atSets .before .before .conflict-tile .ensures) (back (atSets .before))
-    (atSets .set-tile .ensures) (start .pre .3) (c .mirrored .ensures) (none .0) (none .1)
+    block-sound (c .mirrored .result) 0 (c .before .barred .result) (start .pre .0) (atBack .before .conflict-tile .ensures) (back atBack)
+    (start .pre .3) (start .pre .4) (c .mirrored .ensures) (none .0) (none .1)
     (λ r n h l e. absurd (omega (arith, h, l, e, start .pre .2)))
 
 pub block-spec : {M : Type 1} → statement M
@@ -71,7 +68,6 @@ block-spec =
     add-tile
     add-tile-2
     tile-requires
-    set-tile-requires
     barred-requires
     mirrored-requires
     returns)
