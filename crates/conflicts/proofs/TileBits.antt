@@ -15,6 +15,7 @@ use Rattle.rules.specs.Bytes.{byteAt, twoAt, fourAt, bit}
 use Rattle.rules.proofs.Rows.{last-or-below}
 use Rattle.rules.proofs.Tests.{or-left, or-right}
 use Rattle.reads.proofs.Union.{bit-or}
+use Rattle.tiles.proofs.Shifts.{bit-down}
 use Rattle.conflicts.specs.Matrix.{ByteRows}
 
 -- ── A byte under a number ──
@@ -28,19 +29,12 @@ shifted-clear x n p l =
     ne-eqb (x * 2 ^ n / 2 ^ p % 2) 1
     (λ q. omega (arith, q, ap (λ (y : ℕ). y / 2 ^ p % 2) e, ap (λ (y : ℕ). y % 2) (shl-shr (x * 2 ^ suc d) p), shifted-even x d))
 
-bit-shr : (p n x : ℕ) → bit p (x / 2 ^ n) ≡ bit (n + p) x
-unfolding bit
-bit-shr p n x = ap (λ (y : ℕ). eqb (y % 2) 1) (shr-shr x n p)
-
-or-blank : (t : Bool) → (false || t) ≡ t
-or-blank t = refl
-
 pub byte-bit : (y x c : ℕ) → x < 256 → c < 8 → bit c (y * 256 + x) ≡ bit c x
 byte-bit y x c h l =
     ap (bit c) (sym (or-shifted y 8 x h)) ∙ bit-or c (y * 2 ^ 8) x ∙ ap (λ (t : Bool). t || bit c x) (shifted-clear y 8 c l)
 
 pub upper-bit : (y x p : ℕ) → x < 256 → bit (8 + p) (y * 256 + x) ≡ bit p y
-upper-bit y x p h = sym (bit-shr p 8 (y * 256 + x)) ∙ ap (bit p) (high y 8 h)
+upper-bit y x p h = sym (bit-down (y * 256 + x) 8 p) ∙ ap (bit p) (high y 8 h)
 
 -- row 0, and the rows further up
 first-row : (y x c : ℕ) → x < 256 → c < 8 → bit (8 * 0 + c) (y * 256 + x) ≡ bit c x
@@ -176,7 +170,7 @@ product-bit (suc n) (suc r) c x y h l small p q =
     ap (bit (8 * suc r + c)) (parted n x y)
     ∙ next-row (bitAnd (x / 256) (lowest n) * y) (x % 2 * y) r c (part-small x y small)
     ∙ product-bit n r c (x / 256) y (omega arith) l small
-    (bit-shr (8 * r) 8 x ∙ ap (λ (j : ℕ). bit j x) (omega arith) ∙ p)
+    (bit-down x 8 (8 * r) ∙ ap (λ (j : ℕ). bit j x) (omega arith) ∙ p)
     q
 
 -- the product fits
@@ -224,5 +218,5 @@ module _ {given sets members : ℕ} where
       fresh : (r c : ℕ) → r < 8 → c < 8 → bit (8 * r + p) sets ≡ true → bit (8 * p + c) members ≡ true → bit (8 * r + c) taken ≡ true
       fresh r c h l e f =
           product-bit 8 r c left (right % 256) h l (omega arith)
-          (ap (bit (8 * r)) (found .leftRest) ∙ bit-shr (8 * r) p sets ∙ ap (λ (i : ℕ). bit i sets) (omega arith) ∙ e)
-          (low-byte right c l ∙ ap (bit c) (found .rightRest) ∙ bit-shr c (8 * p) members ∙ f)
+          (ap (bit (8 * r)) (found .leftRest) ∙ bit-down sets p (8 * r) ∙ ap (λ (i : ℕ). bit i sets) (omega arith) ∙ e)
+          (low-byte right c l ∙ ap (bit c) (found .rightRest) ∙ bit-down members (8 * p) c ∙ f)
