@@ -9,8 +9,6 @@ use crate::phases::phase_conflicts;
 use crate::records::conflict_records;
 use reads::two;
 use rules::answer::Verdict;
-use sections::heads::conflicts_head;
-use sections::heads::group_count;
 use sections::section;
 
 mod matrix;
@@ -22,17 +20,14 @@ pub fn conflicts_section(s: &[u8]) -> Verdict
     requires { ⌜ (siteSection (now s) ≡ Accepted) × (groupsSection (now s) ≡ Accepted) ⌝ }
     ensures { λ r. ⌜ r ≡ conflictsSection (now (s .entry)) ⌝ }
 {
-    let place = conflicts_head(s);
-    let head = section(
-        s,
-        place,
-        4,
-        two(s, place) as usize == (group_count(s) as usize) * 4,
-    );
+    let w = laid_out(s);
+    let groups = w.groups;
+    let place = w.conflicts - 4;
+    let head = section(s, place, 4, two(s, place) as usize == groups * 4);
     if let Verdict::Refused { .. } = head {
         return head;
     }
-    if sound(s, laid_out(s)) {
+    if sound(s, w) {
         return Verdict::Accepted;
     }
     let records = conflict_records(s);

@@ -11,9 +11,6 @@ ghost use Rattle.conflicts.specs.Matrix.{Laid, ByteRows, ConflictRows, S
 use groups::sets::reaches32;
 use reads::byte_in;
 use reads::four_in;
-use sections::heads::group_count;
-use sections::heads::groups_head;
-use sections::heads::phase_count;
 use tiles::mirrored;
 
 // Bit r of each row r.
@@ -138,8 +135,11 @@ fn single_band(s: &[u8], w: Layout) -> bool
     requires { ⌜ Laid (now s) w × (w .groups ≤ 8) ⌝ }
     ensures { λ r. ⌜ (r ≡ true → AllSound (now (s .entry))) ⌝ }
 {
+    let phases = w.phases;
     let sets = set_tile(s, w, 0);
-    own_block(s, w, 0, sets, mirrored(sets))
+    let t = conflict_tile(s, w, 0, 0);
+    let none = barred(DIAGONAL, sets, mirrored(sets), phases);
+    (mirrored(t) == t) & (t & none == 0)
 }
 
 // Whether the groups of band k are sound with all groups from the band on. One way.
@@ -196,14 +196,18 @@ fn below(s: &[u8], w: Layout) -> bool
     !reaches32(groups as u8, all)
 }
 
-// The layout of a site whose kind 1 is accepted and whose kind 4 has a body of the right length.
+// The layout of a site whose kind 1 is accepted.
 pub fn laid_out(s: &[u8]) -> Layout
-    requires { ⌜ (siteSection (now s) ≡ Accepted) × (bodyAt (conflictsHead (now s)) + groupCount (now s) * 4 ≤ length (now s)) ⌝ }
-    ensures { λ r. ⌜ Laid (now (s .entry)) r ⌝ }
+    requires { ⌜ siteSection (now s) ≡ Accepted ⌝ }
+    ensures { λ r. ⌜ (r .groups ≡ groupCount (now (s .entry)))
+        × (r .conflicts ≡ bodyAt (conflictsHead (now (s .entry))))
+        × (r .conflicts ≤ 4000)
+        × (r .groups ≤ 32)
+        × (r .conflicts + r .groups * 4 ≤ length (now (s .entry)) → Laid (now (s .entry)) r) ⌝ }
 {
-    let phases = phase_count(s) as usize;
-    let groups = group_count(s) as usize;
-    let sets = groups_head(s) + 4;
+    let phases = byte_in(s, 4) as usize;
+    let groups = byte_in(s, 5) as usize;
+    let sets = 16 + phases * 12;
     Layout {
         phases,
         groups,
