@@ -1,14 +1,14 @@
 -- From tiles to groups. The tiles of two bands tell of each pair of their groups, and where all pairs are sound and no set goes past N the
 -- section is accepted.
 use Prim.Native.Nat.{ℕ, zero, suc, _+_, _*_, _/_, _%_, _^_, _≤_, _<_}
-use mathlib.Core.Bool.{Bool, true, false, not, _&&_, _||_}
+use mathlib.Core.Bool.{Bool, true, false, not, _&&_}
 use mathlib.Core.List.{List}
 use mathlib.Core.Logic.{⊎-elim}
 use mathlib.Core.Path.{_≡_, refl, sym, ap, subst, _∙_}
 use native.Mathlib.Nat.{zero-add, not-suc-le-zero}
 use native.Mathlib.Omega.{arith}
 use lib.Bits.{bitAnd}
-use lib.Dec.{leb, eqb}
+use lib.Dec.{eqb}
 use lib.ListN.{length, getD, set, replicate, length-set}
 use lib.Seq.{getD-set-same, getD-set-other}
 use borrow.Author.Tests.{lt-leb, eqb-true}
@@ -93,34 +93,34 @@ member-rows rows mirror = record { told = λ p c h l m. mirror c p l h ∙ rows 
 
 -- ── A pair of groups ──
 
--- a bit of a tile that has none in common with another
-clear-bit : (k t none : ℕ) → bitAnd t none ≡ 0 → bit k none ≡ true → bit k t ≡ false
-clear-bit k t none e p =
+-- a bit that another tile has, where the two have none in common
+clear-bit : (k t wrong : ℕ) → bitAnd t wrong ≡ 0 → bit k wrong ≡ true → bit k t ≡ false
+clear-bit k t wrong e p =
     not-true-false (bit k t)
-    (λ q. never-both (bit-and k t none ∙ and-both q p) (ap (bit k) e ∙ bit-blank k))
+    (λ q. never-both (bit-and k t wrong ∙ and-both q p) (ap (bit k) e ∙ bit-blank k))
 
 -- groups 8 a + r and 8 k + c, from the tile of their bands, the one back, and the bits that the first may not have
 pub pair-sound :
-    (b : List ℕ) (a k r c t none : ℕ) {mirror back : ℕ} →
+    (b : List ℕ) (a k r c t wrong : ℕ) {mirror back : ℕ} →
     bit (8 * r + c) t ≡ bit (8 * k + c) (conflictSet b (8 * a + r)) →
     bit (8 * c + r) back ≡ bit (8 * a + r) (conflictSet b (8 * k + c)) →
     bit (8 * c + r) mirror ≡ bit (8 * r + c) t →
     mirror ≡ back →
-    bitAnd t none ≡ 0 →
-    (8 * a + r ≡ 8 * k + c → bit (8 * r + c) none ≡ true) →
+    bitAnd t wrong ≡ 0 →
+    (8 * a + r ≡ 8 * k + c → bit (8 * r + c) wrong ≡ true) →
     ((p : ℕ) →
     p < phaseCount b →
     bit p (groupSet b (8 * a + r)) ≡ true →
     bit p (groupSet b (8 * k + c)) ≡ true →
-    bit (8 * r + c) none ≡ true) →
+    bit (8 * r + c) wrong ≡ true) →
     PairSound b (8 * a + r) (8 * k + c)
-pair-sound b a k r c t none {mirror} {back} there home turned same free own shared =
+pair-sound b a k r c t wrong {mirror} {back} there home turned same free own shared =
     record {
       answered = sym there ∙ sym turned ∙ ap (bit (8 * c + r)) same ∙ home;
-      other = λ e. sym there ∙ clear-bit (8 * r + c) t none free (own e);
+      other = λ e. sym there ∙ clear-bit (8 * r + c) t wrong free (own e);
       apart = λ p h e f.
           not-true-false (bit p (groupSet b (8 * k + c)))
-          (λ q. never-both (there ∙ e) (clear-bit (8 * r + c) t none free (shared p h f q)));
+          (λ q. never-both (there ∙ e) (clear-bit (8 * r + c) t wrong free (shared p h f q)));
     }
 
 -- the bits of the diagonal
@@ -141,28 +141,28 @@ diagonal-bit r c h e = subst (λ (j : ℕ). bit (8 * r + j) 9241421688590303745 
 
 -- all pairs of two bands
 pub block-sound :
-    {b : List ℕ} {w : Layout} {a k t back sets members : ℕ} (mirror given none : ℕ) →
+    {b : List ℕ} {w : Layout} {a k t back sets members : ℕ} (mirror given wrong : ℕ) →
     Laid b w →
     ConflictRows b a k t →
     ConflictRows b k a back →
     SetRows b a sets →
     MemberRows b k members →
     ((r c : ℕ) → r < 8 → c < 8 → bit (8 * c + r) mirror ≡ bit (8 * r + c) t) →
-    ((i : ℕ) → bit i given ≡ true → bit i none ≡ true) →
+    ((i : ℕ) → bit i given ≡ true → bit i wrong ≡ true) →
     ((r c p : ℕ) →
     r < 8 →
     c < 8 →
     p < w .phases →
     bit (8 * r + p) sets ≡ true →
     bit (8 * p + c) members ≡ true →
-    bit (8 * r + c) none ≡ true) →
+    bit (8 * r + c) wrong ≡ true) →
     ((r c : ℕ) → r < 8 → c < 8 → 8 * a + r ≡ 8 * k + c → bit (8 * r + c) given ≡ true) →
-    (eqb mirror back && eqb (bitAnd t none) 0) ≡ true →
+    (eqb mirror back && eqb (bitAnd t wrong) 0) ≡ true →
     BlockSound b a k
-block-sound {b} {w} {a} {k} {t} {back} mirror given none laid there home rows columns turned kept shared own passed r c h l m n =
-    pair-sound b a k r c t none (there .told r c h l m) (home .told c r l h n) (turned r c h l)
+block-sound {b} {w} {a} {k} {t} {back} mirror given wrong laid there home rows columns turned kept shared own passed r c h l m n =
+    pair-sound b a k r c t wrong (there .told r c h l m) (home .told c r l h n) (turned r c h l)
     (eqb-true mirror back (and-left _ _ passed))
-    (eqb-true (bitAnd t none) 0 (and-right (eqb mirror back) _ passed))
+    (eqb-true (bitAnd t wrong) 0 (and-right (eqb mirror back) _ passed))
     (λ e. kept (8 * r + c) (own r c h l e))
     (λ p q e f.
     shared r c p h l (omega (arith, laid .phases, q))

@@ -5,7 +5,7 @@ use mathlib.Core.Bool.{Bool, true, false, _||_}
 use mathlib.Core.List.{List}
 use mathlib.Core.Logic.{⊎-elim}
 use mathlib.Core.Path.{_≡_, refl, sym, ap, subst, _∙_}
-use native.Mathlib.Nat.{mul-assoc, mul-comm, add-mul, mul-le-mul-right, mul-le-mul-left, le-trans, not-suc-le-zero}
+use native.Mathlib.Nat.{mul-assoc, mul-comm, add-mul, mul-le-mul-right, not-suc-le-zero}
 use native.Mathlib.Omega.{arith}
 use lib.Bits.{bitAnd, bitOr, or-shifted, and-block, and-le-r, and-mask, shifted-even}
 use lib.Pow.{pow-add, pow-mono, pow-pos, shl-shr, shr-shr, high, split}

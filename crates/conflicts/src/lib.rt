@@ -4,8 +4,8 @@ ghost use mathlib.Core.Path.{_≡_};
 ghost use Rattle.rules.specs.declared.answer.Verdict.the-variants.{Accepted};
 ghost use Rattle.rules.specs.Personality.{siteSection, groupsSection, conflictsSection};
 use crate::matrix::laid_out;
-use crate::matrix::sound;
 use crate::phases::phase_conflicts;
+use crate::quick::sound;
 use crate::records::conflict_records;
 use reads::two;
 use rules::answer::Verdict;
@@ -13,6 +13,7 @@ use sections::section;
 
 mod matrix;
 mod phases;
+mod quick;
 mod records;
 
 // Kinds 1 and 3 have been accepted before it.
@@ -20,14 +21,14 @@ pub fn conflicts_section(s: &[u8]) -> Verdict
     requires { ⌜ (siteSection (now s) ≡ Accepted) × (groupsSection (now s) ≡ Accepted) ⌝ }
     ensures { λ r. ⌜ r ≡ conflictsSection (now (s .entry)) ⌝ }
 {
-    let w = laid_out(s);
-    let groups = w.groups;
-    let place = w.conflicts - 4;
+    let layout = laid_out(s);
+    let groups = layout.groups;
+    let place = layout.conflicts - 4;
     let head = section(s, place, 4, two(s, place) as usize == groups * 4);
     if let Verdict::Refused { .. } = head {
         return head;
     }
-    if sound(s, w) {
+    if sound(s, layout) {
         return Verdict::Accepted;
     }
     let records = conflict_records(s);

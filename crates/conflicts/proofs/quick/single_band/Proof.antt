@@ -1,10 +1,10 @@
--- `matrix::single_band` meets its contract: all groups are in band 0, whose tile is its own mirror image, has no bit of the diagonal, and
+-- `quick::single_band` meets its contract: all groups are in band 0, whose tile is its own mirror image, has no bit of the diagonal, and
 -- none of groups that share a phase.
 use native.Mathlib.Omega.{arith}
 use Rattle.conflicts.specs.Matrix.{Laid}
 use Rattle.conflicts.proofs.Pairs.{member-rows, block-sound, diagonal-bit, single-sound}
-use Rattle.conflicts.proofs.matrix.single_band.Statement.{statement}
-use Rattle.conflicts.proofs.matrix.single_band.Tie as tie
+use Rattle.conflicts.proofs.quick.single_band.Statement.{statement}
+use Rattle.conflicts.proofs.quick.single_band.Tie as tie
 
 set-tile-requires : tie.Need-set-tile-requires
 set-tile-requires c κs = let pre = c .before .pre in (pre .0, pre .0 .someGroups)
@@ -28,10 +28,10 @@ returns c e =
     let pre = atTile .before .before .before .pre in
     let sets = atTile .before .set-tile .ensures in
     let tile = atTile .conflict-tile .ensures in
-    let none = c .before .barred .ensures in
+    let wrong = c .before .barred .ensures in
     single-sound _
     (block-sound (c .mirrored2 .result) 9241421688590303745 (c .before .barred .result) (pre .0) tile tile sets
-    (member-rows sets (atMirror .mirrored .ensures)) (c .mirrored2 .ensures) (none .0) (none .1)
+    (member-rows sets (atMirror .mirrored .ensures)) (c .mirrored2 .ensures) (wrong .0) (wrong .1)
     (λ r n h l q. diagonal-bit r n h (omega (arith, q)))
     e)
     (omega (arith, pre .0 .groups, pre .1))

@@ -1,4 +1,4 @@
--- `matrix::sound` meets its contract: no set goes past N, and all groups are sound with each other.
+-- `quick::sound` meets its contract: no set goes past N, and all groups are sound with each other.
 use Prim.Native.Nat.{ℕ, _^_, _<_}
 use mathlib.Core.Path.{refl}
 use borrow.Author.Tests.{not-false}
@@ -6,8 +6,8 @@ use Rattle.rules.specs.Personality.{groupCount, conflictSet}
 use Rattle.rules.proofs.Tests.{never-both}
 use Rattle.conflicts.proofs.Pairs.{records-good}
 use borrow.Author.Needs.{needs}
-use Rattle.conflicts.proofs.matrix.sound.Statement.{statement}
-use Rattle.conflicts.proofs.matrix.sound.Tie as tie
+use Rattle.conflicts.proofs.quick.sound.Statement.{statement}
+use Rattle.conflicts.proofs.quick.sound.Tie as tie
 
 below-requires : tie.Need-below-requires
 below-requires c κs = search needs

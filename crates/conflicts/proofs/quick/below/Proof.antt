@@ -1,4 +1,4 @@
--- `matrix::below` meets its contract. The invariant: no set of a group before g is above the union, and that stays below 2 ^ N.
+-- `quick::below` meets its contract. The invariant: no set of a group before g is above the union, and that stays below 2 ^ N.
 use Prim.Native.Nat.{ℕ, _-_, _^_, _≤_, _<_}
 use native.Mathlib.Nat.{not-suc-le-zero, le-trans, lt-of-le-of-lt}
 use lib.Bits.{bitOr, bitAnd, or-add-and, and-le-l, and-le-r}
@@ -8,8 +8,8 @@ use native.Mathlib.Omega.{arith}
 use Rattle.rules.specs.Personality.{bodyAt, recordAt, groupCount, conflictSet}
 use Rattle.conflicts.specs.Matrix.{Laid}
 use Rattle.conflicts.proofs.Pairs.{upto-more}
-use Rattle.conflicts.proofs.matrix.below.Statement.{statement}
-use Rattle.conflicts.proofs.matrix.below.Tie as tie
+use Rattle.conflicts.proofs.quick.below.Statement.{statement}
+use Rattle.conflicts.proofs.quick.below.Tie as tie
 
 abbrev Inv-loop : tie.InvT-loop
 Inv-loop s groups place all₀ g₀ all g = (g ≤ groups) × ((i : ℕ) → 0 ≤ i → i < g → conflictSet s i ≤ all)

@@ -1,4 +1,4 @@
--- `matrix::band` meets its contract. The invariant: band k is sound with itself and with the bands before a.
+-- `quick::band` meets its contract. The invariant: band k is sound with itself and with the bands before a.
 use Prim.Native.Nat.{ℕ, _+_, _-_, _*_, _≤_, _<_}
 use mathlib.Core.Path.{refl}
 use native.Mathlib.Omega.{arith}
@@ -7,8 +7,8 @@ use borrow.Author.Tests.{not-false}
 use Rattle.rules.proofs.Tests.{never-both}
 use Rattle.conflicts.specs.Matrix.{Laid, SetRows, BlockSound}
 use Rattle.conflicts.proofs.Pairs.{member-rows, upto-more, band-first, band-whole}
-use Rattle.conflicts.proofs.matrix.band.Statement.{statement}
-use Rattle.conflicts.proofs.matrix.band.Tie as tie
+use Rattle.conflicts.proofs.quick.band.Statement.{statement}
+use Rattle.conflicts.proofs.quick.band.Tie as tie
 
 abbrev Inv-loop : tie.InvT-loop
 Inv-loop s w k sets groups own members a₀ a = (8 * a < groups + 8) × (k < a) × ((i : ℕ) → k ≤ i → i < a → BlockSound s i k)

@@ -1,12 +1,12 @@
--- `matrix::block` meets its contract: the one tile is the mirror image of the other, and has no bit of groups that share a phase. No group
+-- `quick::block` meets its contract: the one tile is the mirror image of the other, and has no bit of groups that share a phase. No group
 -- is in both bands.
 use Prim.Native.Nat.{ℕ, _<_}
 use native.Mathlib.Omega.{arith}
 use Rattle.rules.specs.Bytes.{byteAt}
 use Rattle.conflicts.specs.Matrix.{Laid, ConflictRows}
 use Rattle.conflicts.proofs.Pairs.{conflict-rows, block-sound}
-use Rattle.conflicts.proofs.matrix.block.Statement.{statement}
-use Rattle.conflicts.proofs.matrix.block.Tie as tie
+use Rattle.conflicts.proofs.quick.block.Statement.{statement}
+use Rattle.conflicts.proofs.quick.block.Tie as tie
 
 small : (c : tie.After-shared-slice-known) → (i : ℕ) → byteAt (c .before .args .s .now) i < 256
 unfolding byteAt
@@ -54,9 +54,9 @@ returns : tie.Need-returns
 returns c =
     let atBack = c .before .before in
     let start = atBack .before .before .before in
-    let none = c .before .barred .ensures in
+    let wrong = c .before .barred .ensures in
     block-sound (c .mirrored .result) 0 (c .before .barred .result) (start .pre .0) (atBack .before .conflict-tile .ensures) (back atBack)
-    (start .pre .3) (start .pre .4) (c .mirrored .ensures) (none .0) (none .1)
+    (start .pre .3) (start .pre .4) (c .mirrored .ensures) (wrong .0) (wrong .1)
     (λ r n h l e. absurd (omega (arith, h, l, e, start .pre .2)))
 
 pub block-spec : {M : Type 1} → statement M

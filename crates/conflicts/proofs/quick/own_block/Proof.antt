@@ -1,10 +1,10 @@
--- `matrix::own_block` meets its contract: the tile is its own mirror image, has no bit of the diagonal, and none of groups that share a
+-- `quick::own_block` meets its contract: the tile is its own mirror image, has no bit of the diagonal, and none of groups that share a
 -- phase.
 use native.Mathlib.Omega.{arith}
 use Rattle.conflicts.specs.Matrix.{Laid}
 use Rattle.conflicts.proofs.Pairs.{block-sound, diagonal-bit}
-use Rattle.conflicts.proofs.matrix.own_block.Statement.{statement}
-use Rattle.conflicts.proofs.matrix.own_block.Tie as tie
+use Rattle.conflicts.proofs.quick.own_block.Statement.{statement}
+use Rattle.conflicts.proofs.quick.own_block.Tie as tie
 
 conflict-tile-requires : tie.Need-conflict-tile-requires
 conflict-tile-requires c κs =
@@ -20,8 +20,8 @@ returns : tie.Need-returns
 returns c =
     let start = c .before .before .before .before in
     let tile = c .before .before .conflict-tile .ensures in
-    let none = c .before .barred .ensures in
-    block-sound (c .mirrored .result) 9241421688590303745 (c .before .barred .result) (start .pre .0) tile tile (start .pre .2) (start .pre .3) (c .mirrored .ensures) (none .0) (none .1)
+    let wrong = c .before .barred .ensures in
+    block-sound (c .mirrored .result) 9241421688590303745 (c .before .barred .result) (start .pre .0) tile tile (start .pre .2) (start .pre .3) (c .mirrored .ensures) (wrong .0) (wrong .1)
     (λ r n h l e. diagonal-bit r n h (omega (arith, e)))
 
 pub own-block-spec : {M : Type 1} → statement M

@@ -1,4 +1,4 @@
--- `matrix::bands` meets its contract. The invariant: the bands before k are sound with all from themselves on. Of two groups one is not
+-- `quick::bands` meets its contract. The invariant: the bands before k are sound with all from themselves on. Of two groups one is not
 -- in a band before the other's.
 use Prim.Native.Nat.{ℕ, _+_, _-_, _*_, _≤_, _<_}
 use mathlib.Core.Path.{refl}
@@ -8,8 +8,8 @@ use borrow.Author.Tests.{not-false}
 use Rattle.rules.proofs.Tests.{never-both}
 use Rattle.conflicts.specs.Matrix.{Laid, BandSound}
 use Rattle.conflicts.proofs.Pairs.{upto-more, all-sound}
-use Rattle.conflicts.proofs.matrix.bands.Statement.{statement}
-use Rattle.conflicts.proofs.matrix.bands.Tie as tie
+use Rattle.conflicts.proofs.quick.bands.Statement.{statement}
+use Rattle.conflicts.proofs.quick.bands.Tie as tie
 
 abbrev Inv-loop : tie.InvT-loop
 Inv-loop s w groups sets k₀ k = (8 * k < groups + 8) × ((i : ℕ) → 0 ≤ i → i < k → BandSound s i)
