@@ -1,2 +1,3 @@
+pub mod Unlike
 pub mod Shifts
 pub mod Places

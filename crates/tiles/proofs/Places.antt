@@ -1,19 +1,19 @@
 -- Where the bits come from, in one swap and through the three swaps of a tile.
 use Prim.Native.Nat.{ℕ, _+_, _-_, _*_, _/_, _%_, _^_, _<_}
-use mathlib.Core.Bool.{Bool, true, false, _&&_, _||_, true≢false, and-true, and-false, or-false}
+use mathlib.Core.Bool.{Bool, true, false, not, _&&_, true≢false, and-true, and-false}
 use mathlib.Core.Path.{_≡_, refl, sym, ap, _∙_}
 use native.Mathlib.Omega.{arith}
-use lib.Bits.{bitAnd, bitOr}
+use lib.Bits.{bitAnd, bitXor}
 use lib.Dec.{leb, ltb, eqb}
-use borrow.Author.Tests.{ltb-true, eqb-true}
+use borrow.Author.Tests.{leb-true, ltb-true, eqb-true}
 use Rattle.rules.specs.Bytes.{bit}
 use Rattle.rules.specs.Rows.{if_then_else_, allOf}
 use Rattle.rules.proofs.Tests.{and-left, and-right}
 use Rattle.rules.proofs.Rows.{all-at}
 use Rattle.reads.proofs.Common.{bit-and}
-use Rattle.reads.proofs.Union.{bit-or}
-use Rattle.tiles.specs.Swaps.{upper, source, single, placed, swaps}
+use Rattle.tiles.specs.Swaps.{upper, source, placed, swaps}
 use Rattle.tiles.proofs.Shifts.{bit-down, bit-up}
+use Rattle.tiles.proofs.Unlike.{other, other-none, other-twice, other-back, bit-xor}
 
 -- bit k of y is one of the 64 of x, the one at f k
 abbrev pub From : (ℕ → ℕ) → ℕ → ℕ → Type 0
@@ -21,57 +21,67 @@ From f x y = (k : ℕ) → k < 64 → (f k < 64) × (bit k y ≡ bit (f k) x)
 
 -- ── One swap ──
 
--- what stays, the lower bits shifted up and the upper ones shifted down
-abbrev pub swap : ℕ → ℕ → ℕ → ℕ → ℕ
-swap x keep low shift = bitOr (bitOr (bitAnd x keep) (bitAnd x low * 2 ^ shift % 2 ^ 64)) (bitAnd (x / 2 ^ shift) low)
+-- the pairs whose bits differ, at their lower places
+abbrev unlike : ℕ → ℕ → ℕ → ℕ
+unlike x low shift = bitAnd (bitXor x (x / 2 ^ shift)) low
 
-and-past : (a b c : Bool) → (a && (b && c)) ≡ (b && (a && c))
-and-past true b c = refl
-and-past false b c = sym (and-false b)
+-- both bits of those pairs change
+abbrev pub swap : ℕ → ℕ → ℕ → ℕ
+swap x low shift = bitXor (bitXor x (unlike x low shift)) (unlike x low shift * 2 ^ shift % 2 ^ 64)
+
+unlike-bit : (x low shift k : ℕ) → bit k (unlike x low shift) ≡ (other (bit k x) (bit (shift + k) x) && bit k low)
+unlike-bit x low shift k =
+    rw (bit-and k (bitXor x (x / 2 ^ shift)) low, bit-xor k x (x / 2 ^ shift), bit-down x shift k)
 
 -- a bit of a swap, by its three parts
 parts :
-    (x keep low shift k : ℕ) →
+    (x low shift k : ℕ) →
     k < 64 →
-    bit k (swap x keep low shift)
-    ≡ (bit k x && bit k keep || bit (k - shift) x && upper low shift k || bit (shift + k) x && bit k low)
-unfolding upper
-parts x keep low shift k h =
+    bit k (swap x low shift)
+    ≡ other (other (bit k x) (other (bit k x) (bit (shift + k) x) && bit k low))
+    (leb shift k && (other (bit (k - shift) x) (bit (shift + (k - shift)) x) && bit (k - shift) low))
+parts x low shift k h =
     rw (
-      bit-or k (bitOr (bitAnd x keep) (bitAnd x low * 2 ^ shift % 2 ^ 64)) (bitAnd (x / 2 ^ shift) low),
-      bit-or k (bitAnd x keep) (bitAnd x low * 2 ^ shift % 2 ^ 64),
-      bit-and k x keep,
-      bit-up (bitAnd x low) shift 64 k h,
-      bit-and (k - shift) x low,
-      and-past (leb shift k) (bit (k - shift) x) (bit (k - shift) low),
-      bit-and k (x / 2 ^ shift) low,
-      bit-down x shift k,
+      bit-xor k (bitXor x (unlike x low shift)) (unlike x low shift * 2 ^ shift % 2 ^ 64),
+      bit-xor k x (unlike x low shift),
+      bit-up (unlike x low shift) shift 64 k h,
+      unlike-bit x low shift k,
+      unlike-bit x low shift (k - shift),
     )
 
--- where one part alone can have the bit, that part says from where it comes
+-- at the lower place of a pair the upper bit comes out, at the upper place the lower one, and elsewhere the bit itself
 taken :
-    (x above below k : ℕ) (a b c : Bool) →
-    single a b c ≡ true →
-    (bit k x && c || bit below x && b || bit above x && a) ≡ bit (if a then above else if b then below else k) x
-unfolding single
-taken x above below k true false false e = simp (and-true, and-false)
-taken x above below k false true false e = simp (and-true, and-false, or-false)
-taken x above below k false false true e = simp (and-true, and-false, or-false)
-taken x above below k true true c e = absurd (true≢false (sym e))
-taken x above below k true false true e = absurd (true≢false (sym e))
-taken x above below k false true true e = absurd (true≢false (sym e))
-taken x above below k false false false e = absurd (true≢false (sym e))
+    (here above below back : Bool) (a b c : Bool) →
+    (b ≡ true → back ≡ here) →
+    not (a && (b && c)) ≡ true →
+    other (other here (other here above && a)) (b && (other below back && c)) ≡ (if a then above else if b && c then below else here)
+taken here above below back true false c same e = simp (and-true, other-none, other-twice)
+taken here above below back true true false same e = simp (and-true, and-false, other-none, other-twice)
+taken here above below back true true true same e = absurd (true≢false (sym e))
+taken here above below back false false c same e = simp (and-false, other-none)
+taken here above below back false true false same e = simp (and-false, other-none)
+taken here above below back false true true same e = simp (and-true, and-false, other-none, same refl, other-back)
 
-pub swapped-from :
-    (x keep low shift : ℕ) → swaps keep low shift ≡ true → From (source low shift) x (swap x keep low shift)
-unfolding swaps placed source
-swapped-from x keep low shift ok k h =
-    let one = single (bit k low) (upper low shift k) (bit k keep) in
+-- the bit at a chosen place
+drawn :
+    (a b : Bool) (x above below k : ℕ) →
+    bit (if a then above else if b then below else k) x ≡ (if a then bit above x else if b then bit below x else bit k x)
+drawn true b x above below k = refl
+drawn false true x above below k = refl
+drawn false false x above below k = refl
+
+pub swapped-from : (x low shift : ℕ) → swaps low shift ≡ true → From (source low shift) x (swap x low shift)
+unfolding swaps placed source upper
+swapped-from x low shift ok k h =
+    let alone = not (bit k low && (leb shift k && bit (k - shift) low)) in
     let inside = ltb (source low shift k) 64 in
-    let test = all-at (placed keep low shift) 64 k ok h in (
-      ltb-true (source low shift k) 64 (and-right one inside test),
-      parts x keep low shift k h
-          ∙ taken x (shift + k) (k - shift) k (bit k low) (upper low shift k) (bit k keep) (and-left one inside test),
+    let test = all-at (placed low shift) 64 k ok h in (
+      ltb-true (source low shift k) 64 (and-right alone inside test),
+      parts x low shift k h
+          ∙ taken (bit k x) (bit (shift + k) x) (bit (k - shift) x) (bit (shift + (k - shift)) x) (bit k low) (leb shift k) (bit (k - shift) low)
+          (λ e. ap (λ (i : ℕ). bit i x) (omega (arith, leb-true shift k e)))
+          (and-left alone inside test)
+          ∙ sym (drawn (bit k low) (leb shift k && bit (k - shift) low) x (shift + k) (k - shift) k),
     )
 
 -- ── The three swaps of a tile ──

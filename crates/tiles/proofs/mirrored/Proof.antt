@@ -1,24 +1,24 @@
--- `tiles::mirrored` meets its contract: computed for all 64 places, each of the three swaps shares them out, and the place that a bit comes
+-- `tiles::mirrored` meets its contract: computed for all 64 places, none is in two pairs of one swap, and the place that a bit comes
 -- from through all three is the one mirrored at the diagonal.
 use borrow.Author.Needs.{needs}
 use mathlib.Core.Path.{refl}
 use Rattle.rules.specs.Bytes.{bit}
 use Rattle.rules.specs.Rows.{allOf}
-use Rattle.tiles.specs.Swaps.{upper, source, single, placed, swaps}
+use Rattle.tiles.specs.Swaps.{upper, source, placed, swaps}
 use Rattle.tiles.proofs.Places.{mirrors, mirrored-bit}
 use Rattle.tiles.proofs.mirrored.Statement.{statement}
 use Rattle.tiles.proofs.mirrored.Tie as tie
 
 swapped-requires : tie.Need-swapped-requires
-unfolding bit allOf upper source single placed swaps
+unfolding bit allOf upper source placed swaps
 swapped-requires c κs = (search needs, refl)
 
 swapped-requires-2 : tie.Need-swapped-requires-2
-unfolding bit allOf upper source single placed swaps
+unfolding bit allOf upper source placed swaps
 swapped-requires-2 c κs = (search needs, refl)
 
 swapped-requires-3 : tie.Need-swapped-requires-3
-unfolding bit allOf upper source single placed swaps
+unfolding bit allOf upper source placed swaps
 swapped-requires-3 c κs = (search needs, refl)
 
 returns : tie.Need-returns

@@ -1,8 +1,8 @@
--- `sets::conflict_set` meets its contract: the four bytes are read at the record's place.
+-- `records::conflict_set` meets its contract: the four bytes are read at the record's place.
 use borrow.Author.Needs.{needs}
 use Rattle.rules.specs.Personality.{bodyAt, recordAt, conflictSet}
-use Rattle.conflicts.proofs.conflict_set.Statement.{statement}
-use Rattle.conflicts.proofs.conflict_set.Tie as tie
+use Rattle.conflicts.proofs.records.conflict_set.Statement.{statement}
+use Rattle.conflicts.proofs.records.conflict_set.Tie as tie
 
 conflicts-head-requires : tie.Need-conflicts-head-requires
 conflicts-head-requires c κs = search needs

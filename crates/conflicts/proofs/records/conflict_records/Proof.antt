@@ -1,4 +1,4 @@
--- `conflicts::conflict_records` meets its contract. The invariant: no record before g is bad.
+-- `records::conflict_records` meets its contract. The invariant: no record before g is bad.
 use Prim.Native.Nat.{_-_, _≤_}
 use mathlib.Core.Path.{_≡_, refl}
 use native.Mathlib.Omega.{arith}
@@ -7,8 +7,8 @@ use Rattle.rules.specs.Personality.{bodyAt, recordAt, conflictsHead, badConflic
 use Rattle.rules.specs.Verdicts.{firstOf}
 use Rattle.rules.specs.declared.answer.Verdict.the-variants.{Accepted}
 use Rattle.sections.proofs.Firsts.{recordCheck, good-more, bad-stop, first-done}
-use Rattle.conflicts.proofs.conflict_records.Statement.{statement}
-use Rattle.conflicts.proofs.conflict_records.Tie as tie
+use Rattle.conflicts.proofs.records.conflict_records.Statement.{statement}
+use Rattle.conflicts.proofs.records.conflict_records.Tie as tie
 
 abbrev Inv-loop : tie.InvT-loop
 Inv-loop s count head g₀ g = (g ≤ count) × (firstOf (recordCheck (badConflict s) 9 (recordAt (conflictsHead s) 4)) g ≡ Accepted)

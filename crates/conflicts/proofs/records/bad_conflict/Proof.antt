@@ -1,4 +1,4 @@
--- `conflicts::bad_conflict` meets its contract: one return for each of number 9's three conditions.
+-- `records::bad_conflict` meets its contract: one return for each of number 9's three conditions.
 use Prim.Native.Nat.{_^_}
 use mathlib.Core.Bool.{true, false}
 use mathlib.Core.Path.{_≡_}
@@ -6,8 +6,8 @@ use lib.Dec.{leb}
 use borrow.Author.Needs.{needs}
 use Rattle.rules.specs.Bytes.{bit}
 use Rattle.rules.specs.Personality.{groupCount, conflictSet, badConflict}
-use Rattle.conflicts.proofs.bad_conflict.Statement.{statement}
-use Rattle.conflicts.proofs.bad_conflict.Tie as tie
+use Rattle.conflicts.proofs.records.bad_conflict.Statement.{statement}
+use Rattle.conflicts.proofs.records.bad_conflict.Tie as tie
 
 conflict-set-requires : tie.Need-conflict-set-requires
 conflict-set-requires c κs = search needs

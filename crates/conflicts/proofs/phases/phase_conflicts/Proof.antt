@@ -1,4 +1,4 @@
--- `conflicts::phase_conflicts` meets its contract. The invariant: no group before g clashes with another.
+-- `phases::phase_conflicts` meets its contract. The invariant: no group before g clashes with another.
 use Prim.Native.Nat.{_-_, _≤_}
 use mathlib.Core.Path.{_≡_, refl}
 use native.Mathlib.Omega.{arith}
@@ -7,8 +7,8 @@ use Rattle.rules.specs.Personality.{bodyAt, recordAt, conflictsHead, conflictIn
 use Rattle.rules.specs.Verdicts.{firstOf}
 use Rattle.rules.specs.declared.answer.Verdict.the-variants.{Accepted}
 use Rattle.sections.proofs.Firsts.{recordCheck, good-more, bad-stop, first-done}
-use Rattle.conflicts.proofs.phase_conflicts.Statement.{statement}
-use Rattle.conflicts.proofs.phase_conflicts.Tie as tie
+use Rattle.conflicts.proofs.phases.phase_conflicts.Statement.{statement}
+use Rattle.conflicts.proofs.phases.phase_conflicts.Tie as tie
 
 abbrev Inv-loop : tie.InvT-loop
 Inv-loop s count head g₀ g = (g ≤ count) × (firstOf (recordCheck (conflictInPhase s) 10 (recordAt (conflictsHead s) 4)) g ≡ Accepted)

@@ -1,4 +1,4 @@
--- `conflicts::conflict_in_phase` meets its contract. The invariant: g clashes with no group before j. The sets of accepted groups stay
+-- `phases::conflict_in_phase` meets its contract. The invariant: g clashes with no group before j. The sets of accepted groups stay
 -- below 2 ^ P, so that what they share they share among the phases.
 use Prim.Native.Nat.{ℕ, _-_, _≤_}
 use mathlib.Core.Bool.{Bool, false, _&&_}
@@ -14,8 +14,8 @@ use Rattle.rules.proofs.Rows.{any-at}
 use Rattle.rules.proofs.Tests.{and-both, and-false-left, and-false-right}
 use Rattle.sections.proofs.Firsts.{any-more, any-done}
 use Rattle.groups.proofs.GroupChecks.{share-decided}
-use Rattle.conflicts.proofs.conflict_in_phase.Statement.{statement}
-use Rattle.conflicts.proofs.conflict_in_phase.Tie as tie
+use Rattle.conflicts.proofs.phases.conflict_in_phase.Statement.{statement}
+use Rattle.conflicts.proofs.phases.conflict_in_phase.Tie as tie
 
 -- group g conflicts with group j and shares a phase with it
 abbrev clash : List ℕ → ℕ → ℕ → Bool

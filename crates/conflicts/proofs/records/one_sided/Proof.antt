@@ -1,4 +1,4 @@
--- `conflicts::one_sided` meets its contract. The invariant: no group before j that g conflicts with lacks g.
+-- `records::one_sided` meets its contract. The invariant: no group before j that g conflicts with lacks g.
 use Prim.Native.Nat.{ℕ, _-_, _≤_}
 use mathlib.Core.Bool.{Bool, false, not, _&&_}
 use mathlib.Core.List.{List}
@@ -12,8 +12,8 @@ use Rattle.rules.specs.Rows.{anyOf}
 use Rattle.rules.proofs.Rows.{any-at}
 use Rattle.rules.proofs.Tests.{and-both, and-false-left, and-false-right}
 use Rattle.sections.proofs.Firsts.{any-more, any-done}
-use Rattle.conflicts.proofs.one_sided.Statement.{statement}
-use Rattle.conflicts.proofs.one_sided.Tie as tie
+use Rattle.conflicts.proofs.records.one_sided.Statement.{statement}
+use Rattle.conflicts.proofs.records.one_sided.Tie as tie
 
 -- the set of group g has group j, whose own set lacks g
 abbrev unanswered : List ℕ → ℕ → ℕ → Bool
