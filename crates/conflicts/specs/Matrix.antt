@@ -43,7 +43,7 @@ pub record SetTiles (b tiles : List ℕ) : Type 0 where
 pub record MemberRows (b : List ℕ) (k t : ℕ) : Type 0 where
   pub told : (p c : ℕ) → p < 8 → c < 8 → 8 * k + c < groupCount b → bit (8 * p + c) t ≡ bit p (groupSet b (8 * k + c))
 
--- the groups conflict with each other or neither does, none does with itself, and none with one that it shares a phase with
+-- groups g and j conflict with each other or not at all, not where they are one group, and not where they share a phase
 pub record PairSound (b : List ℕ) (g j : ℕ) : Type 0 where
   pub answered : bit j (conflictSet b g) ≡ bit g (conflictSet b j)
   pub other : g ≡ j → bit j (conflictSet b g) ≡ false
@@ -54,15 +54,15 @@ pub record PairSound (b : List ℕ) (g j : ℕ) : Type 0 where
       bit p (groupSet b g) ≡ true →
       bit p (groupSet b j) ≡ false
 
--- so do the groups of band a and those of band k
+-- the same of each group of band a with each of band k
 abbrev pub BlockSound : List ℕ → ℕ → ℕ → Type 0
 BlockSound b a k =
     (r c : ℕ) → r < 8 → c < 8 → 8 * a + r < groupCount b → 8 * k + c < groupCount b → PairSound b (8 * a + r) (8 * k + c)
 
--- so do the groups of band k and those of bands from k on
+-- the same of each group of the bands from k on with each of band k
 abbrev pub BandSound : List ℕ → ℕ → Type 0
 BandSound b k = (a : ℕ) → k ≤ a → BlockSound b a k
 
--- so do all groups
+-- the same of any two groups
 abbrev pub AllSound : List ℕ → Type 0
 AllSound b = (g j : ℕ) → g < groupCount b → j < groupCount b → PairSound b g j

@@ -18,7 +18,7 @@ use tiles::mirrored;
 // Bit r of each row r.
 const DIAGONAL: u64 = 0x8040_2010_0804_0201;
 
-// Whether the groups of one band are sound among themselves. One way: only `true` tells.
+// Whether the groups of band k are sound with each other. One way: only `true` tells.
 fn own_block(s: &[u8], layout: Layout, k: usize, sets: u64, members: u64) -> bool
     requires { ⌜ Laid (now s) layout × (8 * k < layout .groups) × SetRows (now s) k sets × MemberRows (now s) k members ⌝ }
     ensures { λ r. ⌜ (r ≡ true → BlockSound (now (s .entry)) k k) ⌝ }
