@@ -1,3 +1,5 @@
+pub mod Bits
+pub mod Packed
 pub mod Greatest
 pub mod Sums
 pub mod Sizes

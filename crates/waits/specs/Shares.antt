@@ -9,10 +9,14 @@ use Rattle.rules.specs.declared.site.WalkTimes.{WalkTimes}
 use Rattle.rules.specs.Bytes.{bit}
 use Rattle.rules.specs.Rows.{if_then_else_, greatestOf}
 use Rattle.rules.specs.Site.{noWalkTimes}
+use Rattle.waits.specs.declared.Longest.{Longest}
 
 -- a setting is a number of two bytes
 abbrev pub highest : ℕ
 highest = 65535
+
+abbrev pub noLongest : Longest
+noLongest = record { walk = 0; clearance = 0 }
 
 -- W + C1 of a movement whose set has the phase, 0 of any other
 unfoldable pub walkIn : ℕ → ℕ → WalkTimes → ℕ

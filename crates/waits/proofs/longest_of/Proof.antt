@@ -1,36 +1,58 @@
--- `waits::longest_of` meets its contract. The invariant: both are the greatest among the movements passed. The measure is the number left.
-use Prim.Native.Nat.{_+_, _*_, _≤_, _-_}
-use mathlib.Core.Logic.{⊎-elim}
-use mathlib.Core.Path.{_≡_, sym, _∙_}
+-- `waits::longest_of` meets its contract. The invariant: A and C of each phase are those of the movements that are passed, and the bits
+-- of the rest are those that are left. The measure is the rest, which loses a bit a turn.
+use borrow.Author.Needs.{needs}
+use native.Mathlib.Omega.{arith}
+use Prim.Native.Nat.{_+_, _-_, _*_, _/_, _%_, _≤_, _<_}
+use mathlib.Core.Path.{_≡_}
+use lib.Bits.{and-le-r}
+use lib.Count.{trailingZeros}
 use lib.ListN.{getD}
 use Rattle.rules.specs.Site.{noWalkTimes}
-use native.Mathlib.Omega.{arith}
-use borrow.Author.Needs.{needs}
-use Rattle.waits.specs.Shares.{highest, LongestIn}
-use Rattle.waits.proofs.Greatest.{longest-none, longest-with, longest-without}
+use Rattle.waits.specs.Shares.{highest}
+use Rattle.waits.proofs.Greatest.{Passed, passed-none, passed-more, passed-all, at-within}
 use Rattle.waits.proofs.longest_of.Statement.{statement}
 use Rattle.waits.proofs.longest_of.Tie as tie
+use Rattle.waits.proofs.longest_of.Reads as reads
+use Rattle.waits.proofs.longest_of.Lts as lts
+use Rattle.waits.proofs.greater.Reads as greater-reads
+use Rattle.waits.proofs.sets_of.Reads as sets-of-reads
 
 abbrev Inv-loop : tie.InvT-loop
-Inv-loop phase count sets walks walk₀ clearance₀ k₀ walk clearance k = (k ≤ count) × LongestIn phase sets walks k walk clearance
+Inv-loop count walks out₀ rest₀ out rest = Passed walks rest₀ rest out
 
 abbrev μ-loop : tie.MeasureT-loop
-μ-loop phase count sets walks walk₀ clearance₀ k₀ walk clearance k = count - k
+μ-loop count walks out₀ rest₀ out rest = rest
+
+sets-of-requires : tie.Need-sets-of-requires Inv-loop μ-loop
+sets-of-requires c κs = search needs
 
 loop-holds : tie.Need-loop-holds Inv-loop μ-loop
-loop-holds c = (omega arith, longest-none (c .args .phase) (c .args .t2) (c .args .t3))
+loop-holds c = passed-none (c .before .args .t2) (c .sets-of .result) (search needs)
 
-array-read-bit8 : tie.Need-array-read-bit8 Inv-loop μ-loop
-array-read-bit8 c = search needs
+abbrev Turn : Type 0
+Turn = lts.In-loop (sets-of-reads.Asked, sets-of-reads.Learnt, greater-reads.Asked, greater-reads.Learnt) reads.Pre reads.Post Inv-loop μ-loop
 
-bit8-requires : tie.Need-bit8-requires Inv-loop μ-loop
-bit8-requires c κs = search needs
+-- the bit of a turn is one of the 64
+turn-within : (c : Turn) → trailingZeros 64 (c .before .loop .rest) < 64
+turn-within c =
+    let at = c .before .loop in
+    let start = c .before .before in
+    at-within (start .before .args .t2) (start .sets-of .result) (at .rest) (at .out) (at .inv) (omega (arith, c .loop-test .taken))
+
+cast-i : tie.Need-cast-i Inv-loop μ-loop
+cast-i c = omega (arith, turn-within c)
 
 mul-times : tie.Need-mul-times Inv-loop μ-loop
-mul-times c = search needs
+mul-times c = omega (arith, turn-within c)
 
 array-copy-out-times : tie.Need-array-copy-out-times Inv-loop μ-loop
-array-copy-out-times c = search needs
+array-copy-out-times c = omega (arith, turn-within c)
+
+mul-own : tie.Need-mul-own Inv-loop μ-loop
+mul-own c = search needs
+
+array-copy-out-own : tie.Need-array-copy-out-own Inv-loop μ-loop
+array-copy-out-own c = search needs
 
 cast-greater : tie.Need-cast-greater Inv-loop μ-loop
 cast-greater c = search needs
@@ -50,33 +72,39 @@ cast-greater-3 c = search needs
 greater-requires-2 : tie.Need-greater-requires-2 Inv-loop μ-loop
 greater-requires-2 c κs = search needs
 
-add-k : tie.Need-add-k Inv-loop μ-loop
-add-k c = search needs
+mul-out : tie.Need-mul-out Inv-loop μ-loop
+mul-out c = search needs
+
+array-set-from-out : tie.Need-array-set-from-out Inv-loop μ-loop
+array-set-from-out c = search needs
+
+sub-rest : tie.Need-sub-rest Inv-loop μ-loop
+sub-rest c = search needs
 
 loop-less : tie.Need-loop-less Inv-loop μ-loop
-loop-less c = search needs
+loop-less c =
+    let turn = c .before .before .before .before .before .before .before in
+    let rest = turn .before .loop .rest in
+    omega (arith, and-le-r rest (rest - 1), turn .loop-test .taken)
 
 loop-again : tie.Need-loop-again Inv-loop μ-loop
 loop-again c =
-    let tested = c .before in
-    let turn = tested .before in
+    let raised = c .before .before in
+    let turn = raised .before .before .before .before .before in
     let at = turn .before .loop in
-    let args = turn .before .before .args in
-    let times = getD (args .t3) (at .k) noWalkTimes in (
-      omega (arith, turn .loop-test .taken),
-      ⊎-elim
-          (λ w.
-          let walks : times .walk + times .first ≤ 2 * highest = search needs in
-          let second : times .second ≤ highest = search needs in
-          longest-with (at .inv .1) (sym (tested .bit8 .ensures) ∙ w .0 .taken) walks second (w .7 ∙ w .4 .ensures) (w .8 ∙ w .6 .ensures))
-          (λ w. longest-without (at .inv .1) (sym (tested .bit8 .ensures) ∙ w .0 .left) (w .1) (w .2))
-          (c .if1 .came),
-    )
+    let start = turn .before .before in
+    let walks = start .before .args .t2 in
+    let times = getD walks (trailingZeros 64 (at .rest) / 8) noWalkTimes in
+    let walk : times .walk + times .first ≤ 2 * highest = search needs in
+    let second : times .second ≤ highest = search needs in
+    passed-more walks (start .sets-of .result) (at .rest) (at .out) (at .inv) (omega (arith, turn .loop-test .taken))
+    _ (raised .greater .ensures) (c .greater2 .ensures) walk second
 
 returns : tie.Need-returns Inv-loop μ-loop
 returns c =
-    let e : c .before .loop .k ≡ c .before .before .args .count = omega arith in
-    rw e at (c .before .loop .inv .1)
+    let start = c .before .before in
+    let args = start .before .args in
+    passed-all (args .t2) (args .crossings) (c .before .loop .inv) (c .loop-test .left) (start .before .pre) (start .sets-of .ensures)
 
 pub longest-of-spec : {M : Type 1} → statement M
 longest-of-spec =
@@ -84,18 +112,22 @@ longest-of-spec =
     (tie.spec
     Inv-loop
     μ-loop
+    sets-of-requires
     loop-holds
-    array-read-bit8
-    bit8-requires
+    cast-i
     mul-times
     array-copy-out-times
+    mul-own
+    array-copy-out-own
     cast-greater
     cast-greater-2
     add-greater
     greater-requires
     cast-greater-3
     greater-requires-2
-    add-k
+    mul-out
+    array-set-from-out
+    sub-rest
     loop-less
     loop-again
     returns)

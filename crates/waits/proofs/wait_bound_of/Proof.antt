@@ -1,6 +1,7 @@
 -- `waits::wait_bound_of` meets its contract. The invariant: the sum is that of the shares of the phases passed. The measure is the number
 -- of phases left.
-use Prim.Native.Nat.{_-_}
+use Prim.Native.Nat.{_-_, _<_}
+use native.Mathlib.Omega.{arith}
 use borrow.Author.Needs.{needs}
 use Rattle.rules.specs.Site.{phaseTimes}
 use Rattle.waits.proofs.Sums.{Summed, summed-none, summed-more, summed-all}
@@ -8,13 +9,13 @@ use Rattle.waits.proofs.wait_bound_of.Statement.{statement}
 use Rattle.waits.proofs.wait_bound_of.Tie as tie
 
 abbrev Inv-loop : tie.InvT-loop
-Inv-loop site phases movements sets owns walks sum₀ phase₀ sum phase = Summed site sum phase
+Inv-loop site phases owns longest sum₀ phase₀ sum phase = Summed site sum phase
 
 abbrev μ-loop : tie.MeasureT-loop
-μ-loop site phases movements sets owns walks sum₀ phase₀ sum phase = site .size .phases - phase
+μ-loop site phases owns longest sum₀ phase₀ sum phase = site .size .phases - phase
 
-cast-movements : tie.Need-cast-movements Inv-loop μ-loop
-cast-movements c = search needs
+longest-of-requires : tie.Need-longest-of-requires Inv-loop μ-loop
+longest-of-requires c κs = search needs
 
 loop-holds : tie.Need-loop-holds Inv-loop μ-loop
 loop-holds c = summed-none (c .before .before .before .before .args .site)
@@ -28,11 +29,18 @@ mul-own c = search needs
 array-copy-out-own : tie.Need-array-copy-out-own Inv-loop μ-loop
 array-copy-out-own c = search needs
 
-longest-of-requires : tie.Need-longest-of-requires Inv-loop μ-loop
-longest-of-requires c κs = search needs
+mul-share : tie.Need-mul-share Inv-loop μ-loop
+mul-share c = search needs
+
+array-copy-out-share : tie.Need-array-copy-out-share Inv-loop μ-loop
+array-copy-out-share c = search needs
 
 share-requires : tie.Need-share-requires Inv-loop μ-loop
-share-requires c κs = search needs
+share-requires c κs =
+    let turn = c .before .before in
+    let told = turn .before .before in
+    let longest = told .longest-of .ensures (turn .before .loop .phase) (omega (arith, turn .loop-test .taken, told .before .before .before .before .pre .phases)) in
+    (longest .walkMost, longest .clearanceMost)
 
 add-sum : tie.Need-add-sum Inv-loop μ-loop
 add-sum c = search needs
@@ -47,7 +55,9 @@ loop-again : tie.Need-loop-again Inv-loop μ-loop
 unfolding phaseTimes
 loop-again c =
     let turn = c .before .before .before in
-    summed-more (turn .before .loop .inv) (turn .loop-test .taken) (c .before .longest-of .ensures) (c .share .ensures)
+    let told = turn .before .before in
+    let longest = told .longest-of .ensures (turn .before .loop .phase) (omega (arith, turn .loop-test .taken, told .before .before .before .before .pre .phases)) in
+    summed-more (turn .before .loop .inv) (turn .loop-test .taken) longest (c .share .ensures)
 
 cast-result : tie.Need-cast-result Inv-loop μ-loop
 cast-result c = search needs
@@ -64,12 +74,13 @@ wait-bound-of-spec =
     (tie.spec
     Inv-loop
     μ-loop
-    cast-movements
+    longest-of-requires
     loop-holds
     cast-p
     mul-own
     array-copy-out-own
-    longest-of-requires
+    mul-share
+    array-copy-out-share
     share-requires
     add-sum
     add-phase
