@@ -15,7 +15,7 @@ use Rattle.rules.specs.Bytes.{byteAt, twoAt, fourAt, bit}
 use Rattle.rules.proofs.Rows.{last-or-below}
 use Rattle.rules.proofs.Tests.{or-left, or-right}
 use Rattle.reads.proofs.Union.{bit-or}
-use Rattle.tiles.proofs.Shifts.{bit-down}
+use Rattle.reads.proofs.Shifts.{bit-down}
 use Rattle.conflicts.specs.Matrix.{ByteRows}
 
 -- ── A byte under a number ──

@@ -1,6 +1,6 @@
 -- Marks by index with one of them taken away: the store is at that index, and past the list nothing is stored.
 use Prim.Native.Nat.{ℕ, _≤_, _<_}
-use mathlib.Core.Bool.{Bool, true, false, not, _&&_, _||_}
+use mathlib.Core.Bool.{Bool, true, false, not, _&&_, _||_, and-true, or-false}
 use mathlib.Core.List.{List}
 use mathlib.Core.Path.{_≡_, refl, sym}
 use native.Mathlib.Omega.{arith}
@@ -10,17 +10,9 @@ use lib.ListN.{length, getD, set}
 use Rattle.rules.specs.Rows.{listOf}
 use Rattle.proof_arrays.proofs.Fill.{list-told, list-set}
 
-pub or-none : (a : Bool) → (a || false) ≡ a
-or-none true = refl
-or-none false = refl
-
-pub and-all : (a : Bool) → (a && true) ≡ a
-and-all true = refl
-and-all false = refl
-
 module _ (l : List Bool) (n p : ℕ) (t : Bool) (len : length l ≡ n) where
   cleared-other : (q : ℕ) → (q ≡ p → ⊥) → (getD l q false && not (eqb q p && t)) ≡ getD l q false
-  cleared-other q apart = rw (ne-eqb q p apart) (and-all (getD l q false))
+  cleared-other q apart = rw (ne-eqb q p apart) (and-true (getD l q false))
 
   pub taken-away : p < n → set l p (getD l p false && not t) ≡ listOf (λ q. getD l q false && not (eqb q p && t)) n
   taken-away h =

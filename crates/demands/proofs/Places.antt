@@ -1,7 +1,7 @@
 -- The pass over the occupied detectors: those that are passed have their places in the set, those that are left are the bits of the
 -- rest. And what the set of places says of the phases and of what is asked of them.
 use Prim.Native.Nat.{ℕ, zero, suc, _+_, _-_, _*_, _%_, _^_, _≤_, _<_}
-use mathlib.Core.Bool.{Bool, true, false, not, _&&_, _||_}
+use mathlib.Core.Bool.{Bool, true, false, not, _&&_, _||_, and-true, or-false}
 use mathlib.Core.List.{List}
 use mathlib.Core.Logic.{⊎-elim}
 use mathlib.Core.Path.{_≡_, refl, sym, _∙_}
@@ -23,8 +23,8 @@ use Rattle.rules.proofs.Rows.{any-at, any-none}
 use Rattle.rules.proofs.Tests.{decided, or-right, and-left, and-right}
 use Rattle.reads.proofs.Union.{bit-or}
 use Rattle.demands.specs.Seen.{modeOf, placed}
-use Rattle.demands.proofs.Bits.{bit-one, bit-lower, lowest-in, others-in, lowest-gone, others-same}
-use Rattle.demands.proofs.Marks.{or-none, and-all}
+use Rattle.reads.proofs.Lowest.{bit-one, lowest-in, others-in, lowest-gone, others-same}
+use Rattle.reads.proofs.Shifts.{bit-lower}
 
 -- ── Some index passes ──
 
@@ -45,7 +45,7 @@ any-with f g n t s l out own same =
     ⊎-elim
     (λ (e : s ≡ true). or-right (anyOf f n) e ∙ sym (any-at g n t l (own ∙ e)))
     (λ (e : s ≡ false).
-    rw e (or-none (anyOf f n))
+    rw e (or-false (anyOf f n))
     ∙ any-same f g n
     (λ i k.
     ⊎-elim
@@ -134,7 +134,7 @@ module _ (detectors : List Detector) (inputs n : ℕ) where
   passed-all {rest} {set} passed e q =
       passed .told q
       ∙ any-same (λ d. (bit d inputs && not (bit d rest)) && placed (at d) q) (λ d. bit d inputs && placed (at d) q) n
-      (λ d l. rw (e, bit-blank d, and-all (bit d inputs)))
+      (λ d l. rw (e, bit-blank d, and-true (bit d inputs)))
 
 -- ── One detector ──
 

@@ -1,6 +1,6 @@
 -- The pass over the pressed buttons: those that are passed have their demands, those that are left are the bits of the rest.
 use Prim.Native.Nat.{ℕ, _-_, _/_, _%_, _^_, _<_}
-use mathlib.Core.Bool.{Bool, true, false, not, _&&_, _||_}
+use mathlib.Core.Bool.{Bool, true, false, not, _&&_, _||_, and-true, or-false}
 use mathlib.Core.List.{List}
 use mathlib.Core.Path.{_≡_, refl, sym, _∙_}
 use native.Mathlib.Nat.{mod-lt, lt-of-le-of-lt, lt-of-lt-of-le}
@@ -20,8 +20,8 @@ use Rattle.rules.proofs.Bits.{bit-blank, bit-below}
 use Rattle.rules.proofs.Rows.{list-length, list-at}
 use Rattle.rules.proofs.Tests.{and-left}
 use Rattle.proof_arrays.proofs.Fill.{list-told, list-same, list-set}
-use Rattle.demands.proofs.Bits.{bit-lower, bit-upper, lowest-in, others-in, lowest-gone, others-same}
-use Rattle.demands.proofs.Marks.{or-none, and-all}
+use Rattle.reads.proofs.Lowest.{lowest-in, others-in, lowest-gone, others-same}
+use Rattle.reads.proofs.Shifts.{bit-down, bit-lower}
 
 module _ (buttons : List Bool) (movements : List Movement) (inputs : ℕ) where
   abbrev walks : ℕ → Bool
@@ -39,7 +39,7 @@ module _ (buttons : List Bool) (movements : List Movement) (inputs : ℕ) where
   -- the bits of the rest at first
   button : (k : ℕ) → k < 8 → bit k (inputs / 2 ^ 48 % 2 ^ 8) ≡ pressed inputs k
   unfolding pressed
-  button k l = bit-lower 8 k (inputs / 2 ^ 48) l ∙ bit-upper 48 k inputs
+  button k l = bit-lower 8 k (inputs / 2 ^ 48) l ∙ bit-down inputs 48 k
 
   none-of : (b p w : Bool) → b ≡ (b || ((p && not p) && w))
   none-of true p w = refl
@@ -79,7 +79,7 @@ module _ (buttons : List Bool) (movements : List Movement) (inputs : ℕ) where
           lowest-in rest some room,
           passed .left next (lowest-in rest some room),
         )
-        (or-none (getD buttons next false))
+        (or-false (getD buttons next false))
 
     pub pressed-more : (walking : Bool) → walking ≡ walks next → Pressed rest′ (set out next (getD out next false || not walking))
     pressed-more walking e =
@@ -103,4 +103,4 @@ module _ (buttons : List Bool) (movements : List Movement) (inputs : ℕ) where
   pressed-all {rest} {out} passed e =
       passed .told
       ∙ list-same (demand rest) (λ k. getD buttons k false || (pressed inputs k && not (walks k))) 8
-      (λ k l. rw (e, bit-blank k, and-all (pressed inputs k)))
+      (λ k l. rw (e, bit-blank k, and-true (pressed inputs k)))

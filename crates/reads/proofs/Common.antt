@@ -4,7 +4,7 @@ use Prim.Native.Nat.{ℕ, zero, suc, _+_, _*_, _/_, _%_, _^_, _<_, min}
 use mathlib.Core.Bool.{Bool, true, false, not, _&&_}
 use mathlib.Core.Logic.{⊎-elim}
 use mathlib.Core.Path.{_≡_, refl, sym, ap, subst, _∙_}
-use native.Mathlib.Nat.{div-div-eq-div-mul, pow-succ'}
+use native.Mathlib.Nat.{pow-succ'}
 use native.Mathlib.Omega.{arith}
 use lib.Bits.{bitAnd, and-step, and-shr, and-lt}
 use lib.Dec.{eqb}
@@ -14,6 +14,7 @@ use Rattle.rules.specs.Rows.{anyOf}
 use Rattle.rules.proofs.Tests.{decided, never-both}
 use Rattle.rules.proofs.Rows.{any-found, any-false}
 use Rattle.rules.proofs.Bits.{bit-blank}
+use Rattle.reads.proofs.Shifts.{half-bit}
 
 -- ── The bits of a conjunction ──
 
@@ -41,10 +42,6 @@ bit-and p a b =
 
 -- ── A number without bits ──
 
-half-bit : (p x : ℕ) → bit p (x / 2) ≡ bit (suc p) x
-unfolding bit
-half-bit p x = rw (div-div-eq-div-mul x 2 (2 ^ p), pow-succ' 2 p)
-
 lowest-bit : (x : ℕ) → bit 0 x ≡ false → x % 2 ≡ 0
 unfolding bit
 lowest-bit x h = let odd = eqb-false (x / 2 ^ 0 % 2) 1 h in omega (arith, odd)
@@ -54,7 +51,7 @@ no-bits zero x h none = omega arith
 no-bits (suc n) x h none =
     omega (
       arith,
-      no-bits n (x / 2) (omega (arith, pow-succ' 2 n)) (λ p l. half-bit p x ∙ none (suc p) (omega arith)),
+      no-bits n (x / 2) (omega (arith, pow-succ' 2 n)) (λ p l. sym (half-bit p x) ∙ none (suc p) (omega arith)),
       lowest-bit x (none 0 (omega arith)),
     )
 

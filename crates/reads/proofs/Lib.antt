@@ -1,3 +1,5 @@
 pub mod Past
+pub mod Shifts
+pub mod Lowest
 pub mod Common
 pub mod Union

@@ -1,3 +1,2 @@
 pub mod Unlike
-pub mod Shifts
 pub mod Places

@@ -12,7 +12,7 @@ use Rattle.rules.proofs.Tests.{and-left, and-right}
 use Rattle.rules.proofs.Rows.{all-at}
 use Rattle.reads.proofs.Common.{bit-and}
 use Rattle.tiles.specs.Swaps.{upper, source, placed, swaps}
-use Rattle.tiles.proofs.Shifts.{bit-down, bit-up}
+use Rattle.reads.proofs.Shifts.{bit-down, bit-up}
 use Rattle.tiles.proofs.Unlike.{other, other-none, other-twice, other-back, bit-xor}
 
 -- bit k of y is one of the 64 of x, the one at f k

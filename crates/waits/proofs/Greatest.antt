@@ -1,6 +1,6 @@
 -- The greatest of a row, and the pass that gathers A and C of all phases.
 use Prim.Native.Nat.{ℕ, zero, suc, _+_, _-_, _*_, _/_, _%_, _^_, _≤_, _<_, max}
-use mathlib.Core.Bool.{Bool, true, false, not, _&&_}
+use mathlib.Core.Bool.{Bool, true, false, not, _&&_, and-true}
 use mathlib.Core.List.{List}
 use mathlib.Core.Logic.{⊎-elim}
 use mathlib.Core.Path.{_≡_, refl, sym, ap, subst, _∙_}
@@ -21,7 +21,7 @@ use Rattle.rules.proofs.Rows.{last-or-below, greatest-most}
 use Rattle.rules.proofs.Tests.{decided, and-left}
 use Rattle.waits.specs.declared.Longest.{Longest}
 use Rattle.waits.specs.Shares.{highest, noLongest, walkIn, clearanceIn, LongestIn}
-use Rattle.waits.proofs.Bits.{and-all, lowest-in, others-in, lowest-gone, others-same}
+use Rattle.reads.proofs.Lowest.{lowest-in, others-in, lowest-gone, others-same}
 
 -- ── The greatest of a row ──
 
@@ -125,7 +125,7 @@ counts-all :
 counts-all all n p b row few told =
     let cut : ℕ → ℕ = λ k. if ltb k n && b k then row k else 0 in
     let reach : 8 - n + n ≡ 8 = omega arith in
-    greatest-same (counts all 0 p row) cut 8 (λ k l. rw (bit-blank (8 * k + p), and-all (bit (8 * k + p) all), told k l))
+    greatest-same (counts all 0 p row) cut 8 (λ k l. rw (bit-blank (8 * k + p), and-true (bit (8 * k + p) all), told k l))
     ∙ ap (greatestOf cut) (sym reach)
     ∙ greatest-past cut n (8 - n) (λ k l. rw (le-ltb k n l))
     ∙ greatest-same cut (λ k. if b k then row k else 0) n (λ k l. rw (lt-ltb k n l))

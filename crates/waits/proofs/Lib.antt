@@ -1,4 +1,3 @@
-pub mod Bits
 pub mod Packed
 pub mod Greatest
 pub mod Sums

@@ -15,7 +15,7 @@ use Rattle.rules.proofs.Bits.{bit-blank, bit-above}
 use Rattle.rules.proofs.Rows.{any-at, any-none}
 use Rattle.rules.proofs.Tests.{decided}
 use Rattle.reads.proofs.Union.{bit-or}
-use Rattle.waits.proofs.Bits.{bit-upper, bit-lower}
+use Rattle.reads.proofs.Shifts.{bit-down, bit-lower}
 
 -- ── One byte of the eight ──
 
@@ -26,7 +26,7 @@ placed : (j k p x : ℕ) → x < 2 ^ 8 → p < 8 → bit (8 * k + p) (x * 2 ^ (8
 placed j k p x fits l =
     ⊎-elim
     (λ (e : eqb j k ≡ true).
-    rw (e, ← eqb-true j k e) (sym (bit-upper (8 * j) p (x * 2 ^ (8 * j))) ∙ ap (bit p) (shl-shr x (8 * j))))
+    rw (e, ← eqb-true j k e) (sym (bit-down (x * 2 ^ (8 * j)) (8 * j) p) ∙ ap (bit p) (shl-shr x (8 * j))))
     (λ (e : eqb j k ≡ false).
     rw e
     (⊎-elim

@@ -2,7 +2,7 @@
 use borrow.Author.Needs.{needs}
 use Prim.Native.Nat.{_*_, _/_, _^_}
 use mathlib.Core.Path.{_∙_}
-use Rattle.demands.proofs.Bits.{bit-upper, bit-lower}
+use Rattle.reads.proofs.Shifts.{bit-down, bit-lower}
 use Rattle.demands.proofs.detectors.with_mode.Statement.{statement}
 use Rattle.demands.proofs.detectors.with_mode.Tie as tie
 
@@ -22,7 +22,7 @@ returns : tie.Need-returns
 returns c p l =
     let set = c .args .set in
     let first = 8 * c .args .mode in
-    bit-lower 8 p (set / 2 ^ first) l ∙ bit-upper first p set
+    bit-lower 8 p (set / 2 ^ first) l ∙ bit-down set first p
 
 pub with-mode-spec : {M : Type 1} → statement M
 with-mode-spec = tie.close (tie.spec mul-result cast-result shr-result cast-result-2 returns)

@@ -1,11 +1,10 @@
 -- `demands::phases::waiting` meets its contract: all bits but that of the phase, where it is in minimum green or running.
 use borrow.Author.Needs.{needs}
-use mathlib.Core.Bool.{not}
+use mathlib.Core.Bool.{not, and-true}
 use mathlib.Core.Path.{sym, ap, _∙_}
 use lib.Dec.{eqb}
 use Rattle.rules.proofs.Tests.{and-false-right}
 use Rattle.demands.proofs.Bits.{bit-all, bit-others}
-use Rattle.demands.proofs.Marks.{and-all}
 use Rattle.demands.proofs.phases.waiting.Statement.{statement}
 use Rattle.demands.proofs.phases.waiting.Tie as tie
 
@@ -24,7 +23,7 @@ returns c p l =
     let start = tested .before in
     let phase = start .args .position .phase in
     let green = sym (tested .green .ensures) ∙ c .before .if1 .taken in
-    bit-others phase p (start .pre) l ∙ sym (rw green (ap not (and-all (eqb p phase))))
+    bit-others phase p (start .pre) l ∙ sym (rw green (ap not (and-true (eqb p phase))))
 
 returns-2 : tie.Need-returns-2
 returns-2 c p l =

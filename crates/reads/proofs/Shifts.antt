@@ -1,9 +1,9 @@
--- The bits of a shifted number are those of the number, as far away as the shift says.
+-- The bits of a shifted number are those of the number, as far away as the shift says; of a number cut to a width, those below it stay.
 use Prim.Native.Nat.{ℕ, suc, _+_, _-_, _*_, _/_, _%_, _^_, _<_}
 use mathlib.Core.Bool.{true, false, _&&_}
 use mathlib.Core.Logic.{⊎-elim}
-use mathlib.Core.Path.{_≡_, ap, subst, _∙_}
-use native.Mathlib.Nat.{mul-assoc}
+use mathlib.Core.Path.{_≡_, sym, ap, subst, _∙_}
+use native.Mathlib.Nat.{div-div-eq-div-mul, mul-assoc, pow-succ'}
 use native.Mathlib.Omega.{arith}
 use lib.Bits.{shifted-even}
 use lib.Dec.{leb, eqb}
@@ -17,6 +17,11 @@ pub bit-down : (x s k : ℕ) → bit k (x / 2 ^ s) ≡ bit (s + k) x
 unfolding bit
 bit-down x s k = rw (shr-shr x s k)
 
+-- to the right by one
+pub half-bit : (k x : ℕ) → bit (suc k) x ≡ bit k (x / 2)
+unfolding bit
+half-bit k x = sym (rw (div-div-eq-div-mul x 2 (2 ^ k), pow-succ' 2 k))
+
 -- to the left, from the shift on
 moved-bit : (x s d : ℕ) → bit (s + d) (x * 2 ^ s) ≡ bit d x
 unfolding bit
@@ -28,15 +33,18 @@ unfolding bit
 vacated-bit x d k =
     rw (pow-add 2 (suc d) k, ← mul-assoc x (2 ^ suc d) (2 ^ k), shl-shr (x * 2 ^ suc d) k, shifted-even x d)
 
--- the bits below the width stay
-kept-bit : (x d k : ℕ) → bit k (x % 2 ^ (d + 1 + k)) ≡ bit k x
+kept-bit : (d k x : ℕ) → bit k (x % 2 ^ (d + 1 + k)) ≡ bit k x
 unfolding bit
-kept-bit x d k = ap (λ (q : ℕ). eqb q 1) (ap (λ (q : ℕ). q % 2) (field x (d + 1) k) ∙ mod-mod-pow (x / 2 ^ k) d 1)
+kept-bit d k x = ap (λ (q : ℕ). eqb q 1) (ap (λ (q : ℕ). q % 2) (field x (d + 1) k) ∙ mod-mod-pow (x / 2 ^ k) d 1)
+
+-- in a number cut to w bits
+pub bit-lower : (w k x : ℕ) → k < w → bit k (x % 2 ^ w) ≡ bit k x
+bit-lower w k x h = subst (λ (v : ℕ). bit k (x % 2 ^ v) ≡ bit k x) (omega arith) (kept-bit (w - k - 1) k x)
 
 -- to the left, in a number of w bits
 pub bit-up : (x s w k : ℕ) → k < w → bit k (x * 2 ^ s % 2 ^ w) ≡ (leb s k && bit (k - s) x)
 bit-up x s w k h =
-    subst (λ (v : ℕ). bit k (x * 2 ^ s % 2 ^ v) ≡ bit k (x * 2 ^ s)) (omega arith) (kept-bit (x * 2 ^ s) (w - k - 1) k)
+    bit-lower w k (x * 2 ^ s) h
     ∙ ⊎-elim
     (λ (e : leb s k ≡ true).
     rw e

@@ -1,30 +1,18 @@
--- Laws of bits: the bits of the lower and of the upper part of a number, and a number without its lowest bit.
-use Prim.Native.Nat.{ℕ, zero, suc, _+_, _-_, _*_, _/_, _%_, _^_, _<_}
-use mathlib.Core.Bool.{Bool, true, false, not, _&&_}
+-- A power of two has one bit; and a number without its lowest bit has all its others.
+use Prim.Native.Nat.{ℕ, zero, suc, _-_, _*_, _/_, _%_, _^_, _<_}
+use mathlib.Core.Bool.{true, false, not, _&&_, and-true}
 use mathlib.Core.Logic.{⊎-elim}
 use mathlib.Core.Path.{_≡_, refl, sym, ap, _∙_}
-use native.Mathlib.Nat.{div-div-eq-div-mul, pow-succ'}
+use native.Mathlib.Nat.{pow-succ'}
 use native.Mathlib.Omega.{arith}
 use lib.Bits.{bitAnd, and-step, and-self, shifted-half, shifted-even}
 use lib.Count.{trailingZeros, under}
 use lib.Dec.{eqb}
-use lib.Pow.{shr-shr, field, mod-mod-pow}
-use borrow.Author.Tests.{eqb-true, eqb-false, ne-eqb, eq-eqb, not-true}
+use borrow.Author.Tests.{eqb-true, eqb-false, ne-eqb, eq-eqb}
 use Rattle.rules.specs.Bytes.{bit}
-use Rattle.rules.specs.Rows.{allOf}
 use Rattle.rules.proofs.Bits.{bit-blank}
-use Rattle.rules.proofs.Rows.{all-at}
 use Rattle.rules.proofs.Tests.{decided}
-
--- ── The lowest bit, and the others ──
-
-pub and-all : (a : Bool) → (a && true) ≡ a
-and-all true = refl
-and-all false = refl
-
-half-bit : (p x : ℕ) → bit (suc p) x ≡ bit p (x / 2)
-unfolding bit
-half-bit p x = sym (rw (div-div-eq-div-mul x 2 (2 ^ p), pow-succ' 2 p))
+use Rattle.reads.proofs.Shifts.{half-bit}
 
 even-bit : (x : ℕ) → x % 2 ≡ 0 → bit 0 x ≡ false
 unfolding bit
@@ -34,6 +22,8 @@ odd-bit : (x : ℕ) → x % 2 ≡ 1 → bit 0 x ≡ true
 unfolding bit
 odd-bit x e = eq-eqb (x / 2 ^ 0 % 2) 1 (omega (arith, e))
 
+-- ── One bit ──
+
 eqb-both : (a b : ℕ) → eqb (suc a) (suc b) ≡ eqb a b
 eqb-both a b =
     ⊎-elim
@@ -41,21 +31,13 @@ eqb-both a b =
     (λ (e : eqb a b ≡ false). rw e (ne-eqb (suc a) (suc b) (λ z. eqb-false a b e (omega (arith, z)))))
     (decided (eqb a b))
 
--- ── The upper part of a number, and the lower ──
-
-pub bit-upper : (k p x : ℕ) → bit p (x / 2 ^ k) ≡ bit (k + p) x
-unfolding bit
-bit-upper k p x = rw (shr-shr x k p)
-
-lower-digits : (j p x : ℕ) → bit p (x % 2 ^ (j + 1 + p)) ≡ bit p x
-unfolding bit
-lower-digits j p x =
-    ap (λ (y : ℕ). eqb (y % 2) 1) (field x (j + 1) p) ∙ ap (λ (y : ℕ). eqb y 1) (mod-mod-pow (x / 2 ^ p) j 1)
-
-pub bit-lower : (n p x : ℕ) → p < n → bit p (x % 2 ^ n) ≡ bit p x
-bit-lower n p x l =
-    let same : n ≡ n - suc p + 1 + p = omega arith in
-    ap (λ (m : ℕ). bit p (x % 2 ^ m)) same ∙ lower-digits (n - suc p) p x
+pub bit-one : (k q : ℕ) → bit q (1 * 2 ^ k) ≡ eqb k q
+bit-one zero zero = odd-bit 1 refl
+bit-one zero (suc q) = half-bit q 1 ∙ bit-blank q ∙ sym (ne-eqb 0 (suc q) (λ z. omega (arith, z)))
+bit-one (suc k) zero =
+    even-bit (1 * 2 ^ suc k) (shifted-even 1 k) ∙ sym (ne-eqb (suc k) 0 (λ z. omega (arith, z)))
+bit-one (suc k) (suc q) =
+    half-bit q (1 * 2 ^ suc k) ∙ ap (bit q) (shifted-half 1 k) ∙ bit-one k q ∙ sym (eqb-both k q)
 
 -- ── Without the lowest bit ──
 
@@ -113,7 +95,7 @@ without-lowest (suc k) x i h l = go (x % 2) refl i (λ e j. without-lowest k (x 
     go (suc r) e zero ih = rw (odd-less x r e, odd-bit x (omega (arith, e))) (even-bit (x / 2 * 2) (omega arith))
     go (suc r) e (suc i) ih =
         let apart : eqb (suc i) 0 ≡ false = ne-eqb (suc i) 0 (λ z. omega (arith, z)) in
-        rw (odd-less x r e, half-bit i (x / 2 * 2), double (x / 2), half-bit i x, apart) (sym (and-all (bit i (x / 2))))
+        rw (odd-less x r e, half-bit i (x / 2 * 2), double (x / 2), half-bit i x, apart) (sym (and-true (bit i (x / 2))))
 
 -- the lowest bit of a word, and the word without it
 module _ (rest : ℕ) (some : 0 < rest) (room : rest < 2 ^ 64) where
@@ -133,4 +115,4 @@ module _ (rest : ℕ) (some : 0 < rest) (room : rest < 2 ^ 64) where
   lowest-gone = others-in lowest ∙ rw (lowest-in, eq-eqb lowest lowest refl)
 
   pub others-same : (i : ℕ) → (i ≡ lowest → ⊥) → bit i others ≡ bit i rest
-  others-same i apart = others-in i ∙ rw (ne-eqb i lowest apart) (and-all (bit i rest))
+  others-same i apart = others-in i ∙ rw (ne-eqb i lowest apart) (and-true (bit i rest))
