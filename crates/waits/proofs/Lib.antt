@@ -1,4 +1,5 @@
 pub mod Packed
 pub mod Greatest
+pub mod Passes
 pub mod Sums
 pub mod Sizes

@@ -7,21 +7,17 @@ ghost use lib.Dec.{ltb};
 ghost use lib.ListN.{getD};
 ghost use Rattle.rules.specs.Bytes.{bit};
 ghost use Rattle.rules.specs.WaitBound.{waitBound};
-ghost use Rattle.waits.specs.Shares.{highest, noLongest, LongestIn, shareOf, Counted};
+ghost use Rattle.waits.specs.Shares.{highest, LongestIn, shareOf, siteWith, Counted};
 use rules::site::PhaseTimes;
 use rules::site::Site;
+use rules::site::Size;
+use rules::site::Times;
 use rules::site::WalkTimes;
 
 fn greater(a: u32, b: u32) -> u32
     ensures { λ r. ⌜ r ≡ max a b ⌝ }
 {
     if a < b { b } else { a }
-}
-
-// A and C of a phase.
-struct Longest {
-    walk: u32,
-    clearance: u32,
 }
 
 // The sets of the first count movements in one number: bit 8 * k + p where movement k is of phase p.
@@ -44,55 +40,62 @@ fn sets_of(crossings: [u8; 8], count: u8) -> u64
     all
 }
 
-// A and C of each phase among the first count movements, whose sets and times are given. Each turn takes the lowest bit that is left.
-fn longest_of(crossings: [u8; 8], walks: [WalkTimes; 8], count: u8) -> [Longest; 8]
+// A and C of each phase among the first count movements, whose sets and times are given: A of phase p at p, C at 8 + p. Each turn takes
+// the lowest bit that is left, so a movement has a turn for each of its phases.
+fn longest_of(crossings: [u8; 8], times: [WalkTimes; 8], count: u8) -> [u32; 16]
     requires { ⌜ count ≤ 8 ⌝ }
-    ensures { λ r. ⌜ ((p : ℕ) → p < 8 → LongestIn p crossings walks count (getD r p noLongest .walk) (getD r p noLongest .clearance)) ⌝ }
+    ensures { λ r. ⌜ ((p : ℕ) → p < 8 → LongestIn p crossings times count (getD r p 0) (getD r (8 + p) 0)) ⌝ }
 {
-    let none = Longest {
-        walk: 0,
-        clearance: 0,
-    };
-    let mut out = [none; 8];
+    let mut longest = [0u32; 16];
     let mut rest = sets_of(crossings, count);
     while rest != 0 {
         let i = u64::trailing_zeros(rest) as usize;
-        let times = walks[i / 8];
-        let own = out[i % 8];
-        out[i % 8] = Longest {
-            walk: greater(own.walk, (times.walk as u32) + (times.first as u32)),
-            clearance: greater(own.clearance, times.second as u32),
-        };
+        let own = times[i / 8];
+        let p = i % 8;
+        let walk = greater(longest[p], (own.walk as u32) + (own.first as u32));
+        let clearance = greater(longest[8 + p], own.second as u32);
+        longest[p] = walk;
+        longest[8 + p] = clearance;
         rest = rest & (rest - 1);
     }
-    out
+    longest
 }
 
-// A phase's share.
-fn share(times: PhaseTimes, longest: Longest) -> u32
-    requires { ⌜ (longest .walk ≤ 2 * highest) × (longest .clearance ≤ highest) ⌝ }
-    ensures { λ r. ⌜ (r ≡ shareOf times (longest .walk) (longest .clearance)) × (r ≤ 13 * highest) ⌝ }
+// The share of a phase whose A and C are given.
+fn share(times: PhaseTimes, walk: u32, clearance: u32) -> u32
+    requires { ⌜ (walk ≤ 2 * highest) × (clearance ≤ highest) ⌝ }
+    ensures { λ r. ⌜ (r ≡ shareOf times walk clearance) × (r ≤ 13 * highest) ⌝ }
 {
-    let held = longest.walk + (times.yellow as u32) + (times.red as u32) + longest.clearance;
+    let held = walk + (times.yellow as u32) + (times.red as u32) + clearance;
     (times.late as u32) + (times.minimum as u32) + (times.maximum as u32) + 2 * held
+}
+
+// The bound goes by three parts of a site.
+fn bound_of(size: Size, times: Times, crossings: [u8; 8]) -> u32
+    requires { ⌜ Counted (siteWith size times crossings) ⌝ }
+    ensures { λ r. ⌜ r ≡ waitBound (siteWith size times crossings) ⌝ }
+{
+    let owns = times.phases;
+    let walks = times.walks;
+    let phases = size.phases;
+    let longest = longest_of(crossings, walks, size.movements);
+    let mut sum: u32 = 0;
+    let mut phase: u8 = 0;
+    while phase < phases {
+        let p = phase as usize;
+        let own = owns[p];
+        sum += share(own, longest[p], longest[8 + p]);
+        phase += 1;
+    }
+    (times.start as u32) + sum
 }
 
 pub fn wait_bound_of(site: Site) -> u32
     requires { ⌜ Counted site ⌝ }
     ensures { λ r. ⌜ r ≡ waitBound site ⌝ }
 {
-    let phases = site.size.phases;
-    let owns = site.times.phases;
+    let size = site.size;
+    let times = site.times;
     let crossings = site.crossings;
-    let walks = site.times.walks;
-    let longest = longest_of(crossings, walks, site.size.movements);
-    let mut sum: u32 = 0;
-    let mut phase: u8 = 0;
-    while phase < phases {
-        let p = phase as usize;
-        let own = owns[p];
-        sum += share(own, longest[p]);
-        phase += 1;
-    }
-    (site.times.start as u32) + sum
+    bound_of(size, times, crossings)
 }

@@ -2,14 +2,13 @@
 -- of the rest are those that are left. The measure is the rest, which loses a bit a turn.
 use borrow.Author.Needs.{needs}
 use native.Mathlib.Omega.{arith}
-use Prim.Native.Nat.{_+_, _-_, _*_, _/_, _%_, _≤_, _<_}
-use mathlib.Core.Path.{_≡_}
+use Prim.Native.Nat.{_+_, _-_, _*_, _/_, _≤_, _<_}
 use lib.Bits.{and-le-r}
 use lib.Count.{trailingZeros}
 use lib.ListN.{getD}
 use Rattle.rules.specs.Site.{noWalkTimes}
 use Rattle.waits.specs.Shares.{highest}
-use Rattle.waits.proofs.Greatest.{Passed, passed-none, passed-more, passed-all, at-within}
+use Rattle.waits.proofs.Passes.{Passed, passed-none, passed-more, passed-all, at-within}
 use Rattle.waits.proofs.longest_of.Statement.{statement}
 use Rattle.waits.proofs.longest_of.Tie as tie
 use Rattle.waits.proofs.longest_of.Reads as reads
@@ -18,10 +17,10 @@ use Rattle.waits.proofs.greater.Reads as greater-reads
 use Rattle.waits.proofs.sets_of.Reads as sets-of-reads
 
 abbrev Inv-loop : tie.InvT-loop
-Inv-loop count walks out₀ rest₀ out rest = Passed walks rest₀ rest out
+Inv-loop count times longest₀ rest₀ longest rest = Passed times rest₀ rest longest
 
 abbrev μ-loop : tie.MeasureT-loop
-μ-loop count walks out₀ rest₀ out rest = rest
+μ-loop count times longest₀ rest₀ longest rest = rest
 
 sets-of-requires : tie.Need-sets-of-requires Inv-loop μ-loop
 sets-of-requires c κs = search needs
@@ -35,24 +34,22 @@ Turn = lts.In-loop (sets-of-reads.Asked, sets-of-reads.Learnt, greater-reads.Ask
 -- the bit of a turn is one of the 64
 turn-within : (c : Turn) → trailingZeros 64 (c .before .loop .rest) < 64
 turn-within c =
-    let at = c .before .loop in
-    let start = c .before .before in
-    at-within (start .before .args .t2) (start .sets-of .result) (at .rest) (at .out) (at .inv) (omega (arith, c .loop-test .taken))
+    at-within (c .before .before .before .args .t2) (c .before .loop .inv) (omega (arith, c .loop-test .taken))
 
 cast-i : tie.Need-cast-i Inv-loop μ-loop
 cast-i c = omega (arith, turn-within c)
 
-mul-times : tie.Need-mul-times Inv-loop μ-loop
-mul-times c = omega (arith, turn-within c)
-
-array-copy-out-times : tie.Need-array-copy-out-times Inv-loop μ-loop
-array-copy-out-times c = omega (arith, turn-within c)
-
 mul-own : tie.Need-mul-own Inv-loop μ-loop
-mul-own c = search needs
+mul-own c = omega (arith, turn-within c)
 
 array-copy-out-own : tie.Need-array-copy-out-own Inv-loop μ-loop
-array-copy-out-own c = search needs
+array-copy-out-own c = omega (arith, turn-within c)
+
+mul-greater : tie.Need-mul-greater Inv-loop μ-loop
+mul-greater c = search needs
+
+array-read-greater : tie.Need-array-read-greater Inv-loop μ-loop
+array-read-greater c = search needs
 
 cast-greater : tie.Need-cast-greater Inv-loop μ-loop
 cast-greater c = search needs
@@ -66,39 +63,55 @@ add-greater c = search needs
 greater-requires : tie.Need-greater-requires Inv-loop μ-loop
 greater-requires c κs = search needs
 
+add-greater-2 : tie.Need-add-greater-2 Inv-loop μ-loop
+add-greater-2 c = search needs
+
+mul-greater-2 : tie.Need-mul-greater-2 Inv-loop μ-loop
+mul-greater-2 c = search needs
+
+array-read-greater-2 : tie.Need-array-read-greater-2 Inv-loop μ-loop
+array-read-greater-2 c = search needs
+
 cast-greater-3 : tie.Need-cast-greater-3 Inv-loop μ-loop
 cast-greater-3 c = search needs
 
 greater-requires-2 : tie.Need-greater-requires-2 Inv-loop μ-loop
 greater-requires-2 c κs = search needs
 
-mul-out : tie.Need-mul-out Inv-loop μ-loop
-mul-out c = search needs
+mul-longest : tie.Need-mul-longest Inv-loop μ-loop
+mul-longest c = search needs
 
-array-set-from-out : tie.Need-array-set-from-out Inv-loop μ-loop
-array-set-from-out c = search needs
+array-write-longest : tie.Need-array-write-longest Inv-loop μ-loop
+array-write-longest c = search needs
+
+add-longest : tie.Need-add-longest Inv-loop μ-loop
+add-longest c = search needs
+
+mul-longest-2 : tie.Need-mul-longest-2 Inv-loop μ-loop
+mul-longest-2 c = search needs
+
+array-write-longest-2 : tie.Need-array-write-longest-2 Inv-loop μ-loop
+array-write-longest-2 c = search needs
 
 sub-rest : tie.Need-sub-rest Inv-loop μ-loop
 sub-rest c = search needs
 
 loop-less : tie.Need-loop-less Inv-loop μ-loop
 loop-less c =
-    let turn = c .before .before .before .before .before .before .before in
+    let turn = c .before .before .before .before .before .before in
     let rest = turn .before .loop .rest in
     omega (arith, and-le-r rest (rest - 1), turn .loop-test .taken)
 
 loop-again : tie.Need-loop-again Inv-loop μ-loop
 loop-again c =
     let raised = c .before .before in
-    let turn = raised .before .before .before .before .before in
+    let turn = raised .before .before .before .before in
     let at = turn .before .loop in
-    let start = turn .before .before in
-    let walks = start .before .args .t2 in
-    let times = getD walks (trailingZeros 64 (at .rest) / 8) noWalkTimes in
-    let walk : times .walk + times .first ≤ 2 * highest = search needs in
-    let second : times .second ≤ highest = search needs in
-    passed-more walks (start .sets-of .result) (at .rest) (at .out) (at .inv) (omega (arith, turn .loop-test .taken))
-    _ (raised .greater .ensures) (c .greater2 .ensures) walk second
+    let times = turn .before .before .before .args .t2 in
+    let own = getD times (trailingZeros 64 (at .rest) / 8) noWalkTimes in
+    let walk : own .walk + own .first ≤ 2 * highest = search needs in
+    let second : own .second ≤ highest = search needs in
+    passed-more times (at .inv) (omega (arith, turn .loop-test .taken)) (raised .greater .ensures) (c .greater2 .ensures) walk second
 
 returns : tie.Need-returns Inv-loop μ-loop
 returns c =
@@ -115,18 +128,24 @@ longest-of-spec =
     sets-of-requires
     loop-holds
     cast-i
-    mul-times
-    array-copy-out-times
     mul-own
     array-copy-out-own
+    mul-greater
+    array-read-greater
     cast-greater
     cast-greater-2
     add-greater
     greater-requires
+    add-greater-2
+    mul-greater-2
+    array-read-greater-2
     cast-greater-3
     greater-requires-2
-    mul-out
-    array-set-from-out
+    mul-longest
+    array-write-longest
+    add-longest
+    mul-longest-2
+    array-write-longest-2
     sub-rest
     loop-less
     loop-again

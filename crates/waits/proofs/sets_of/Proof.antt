@@ -1,6 +1,6 @@
 -- `waits::sets_of` meets its contract: each byte is shifted to its own place, and those from the count on are cut off.
 use borrow.Author.Needs.{needs}
-use Prim.Native.Nat.{ℕ, _+_, _*_, _^_, _<_}
+use Prim.Native.Nat.{ℕ, _*_, _^_, _<_}
 use native.Mathlib.Omega.{arith}
 use lib.ListN.{getD}
 use lib.Pow.{pow-pos, shl-exact}
@@ -81,12 +81,12 @@ rem-result c =
 returns : tie.Need-returns
 returns c k p few l =
     let start = c .before in
-    packed-below (λ k. getD (start .args .t1) k 0) (entry-fits start) (start .args .count) k p (c .if1 .taken) few l
+    packed-below (λ k. getD (start .args .t1) k 0) (entry-fits start) (start .args .count) k p (omega (arith, c .if1 .taken)) few l
 
 returns-2 : tie.Need-returns-2
 returns-2 c k p few l =
     let start = c .before in
-    packed-all (λ k. getD (start .args .t1) k 0) (entry-fits start) (start .args .count) k p (c .if1 .left) few l
+    packed-all (λ k. getD (start .args .t1) k 0) (entry-fits start) (start .args .count) k p (omega (arith, c .if1 .left)) few l
 
 pub sets-of-spec : {M : Type 1} → statement M
 sets-of-spec =
