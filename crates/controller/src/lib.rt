@@ -70,9 +70,12 @@ pub fn step_on(site: Site, state: State, inputs: u64, colours: &mut [u8]) -> Ans
     }
     let next = stepping::advance(site, state, inputs);
     colours::write(site, next, colours);
+    let size = site.size;
+    let times = site.times;
+    let crossings = site.crossings;
     Answer {
         outcome: Outcome::Stepped {
-            wait: waits::wait_bound_of(site),
+            wait: waits::wait_bound_of(size, times, crossings),
         },
         state: next,
     }
@@ -98,7 +101,11 @@ pub fn wait_bound(personality: &[u8]) -> Outcome
     if let Verdict::Refused { number, place } = verdict {
         return Outcome::Declined { number, place };
     }
+    let site = loading::site(personality);
+    let size = site.size;
+    let times = site.times;
+    let crossings = site.crossings;
     Outcome::Stepped {
-        wait: waits::wait_bound_of(loading::site(personality)),
+        wait: waits::wait_bound_of(size, times, crossings),
     }
 }

@@ -2,4 +2,4 @@ pub mod Packed
 pub mod Greatest
 pub mod Passes
 pub mod Sums
-pub mod Sizes
+pub mod Parts

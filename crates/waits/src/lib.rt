@@ -9,7 +9,6 @@ ghost use Rattle.rules.specs.Bytes.{bit};
 ghost use Rattle.rules.specs.WaitBound.{waitBound};
 ghost use Rattle.waits.specs.Shares.{highest, LongestIn, shareOf, siteWith, Counted};
 use rules::site::PhaseTimes;
-use rules::site::Site;
 use rules::site::Size;
 use rules::site::Times;
 use rules::site::WalkTimes;
@@ -70,8 +69,8 @@ fn share(times: PhaseTimes, walk: u32, clearance: u32) -> u32
     (times.late as u32) + (times.minimum as u32) + (times.maximum as u32) + 2 * held
 }
 
-// The bound goes by three parts of a site.
-fn bound_of(size: Size, times: Times, crossings: [u8; 8]) -> u32
+// The bound of a site, by the three parts of it that it goes by.
+pub fn wait_bound_of(size: Size, times: Times, crossings: [u8; 8]) -> u32
     requires { ⌜ Counted (siteWith size times crossings) ⌝ }
     ensures { λ r. ⌜ r ≡ waitBound (siteWith size times crossings) ⌝ }
 {
@@ -88,14 +87,4 @@ fn bound_of(size: Size, times: Times, crossings: [u8; 8]) -> u32
         phase += 1;
     }
     (times.start as u32) + sum
-}
-
-pub fn wait_bound_of(site: Site) -> u32
-    requires { ⌜ Counted site ⌝ }
-    ensures { λ r. ⌜ r ≡ waitBound site ⌝ }
-{
-    let size = site.size;
-    let times = site.times;
-    let crossings = site.crossings;
-    bound_of(size, times, crossings)
 }

@@ -7,6 +7,7 @@ use lib.ListN.{length}
 use Rattle.rules.specs.Call.{stepVerdict}
 use Rattle.stepping.proofs.Spare.{ready}
 use Rattle.colours.proofs.Sizes.{sound-sized}
+use Rattle.waits.proofs.Parts.{by-parts}
 use Rattle.controller.proofs.Calls.{invalid, strays, short, passes, declines, goes-on}
 use Rattle.controller.proofs.step_on.Statement.{statement}
 use Rattle.controller.proofs.step_on.Tie as tie
@@ -83,7 +84,8 @@ same-length c = search needs
 
 returns-4 : tie.Need-returns-4
 returns-4 c =
-    let moved = c .before .before .before .before .before in
+    let written = c .before .before .before .before .before .before in
+    let moved = written .before .before in
     let wired = moved .before .before .before in
     let told = wired .before .before .before in
     let a = told .before .before .args in
@@ -93,7 +95,7 @@ returns-4 c =
     goes-on (stepVerdict (a .site) (a .state) (a .inputs) room) (a .site) (a .state) (moved .advance .result) (a .inputs)
     (c .wait-bound-of .result) (a .colours .now) _
     (passes (a .site) (a .state) (a .inputs) room yes stray (moved .before .if3 .left))
-    (c .wait-bound-of .ensures) (moved .advance .ensures) (c .before .before .before .write .ensures)
+    (c .wait-bound-of .ensures ∙ by-parts (a .site)) (moved .advance .ensures) (written .write .ensures)
 
 pub step-on-spec : {M : Type 1} → statement M
 step-on-spec =

@@ -3,7 +3,7 @@ use borrow.Author.Needs.{needs}
 use mathlib.Core.Path.{_≡_, sym, _∙_}
 use Rattle.rules.specs.declared.answer.Verdict.the-variants.{Accepted}
 use Rattle.rules.specs.Personality.{verdictOf}
-use Rattle.waits.proofs.Sizes.{sound-counted}
+use Rattle.waits.proofs.Parts.{by-parts, sound-counted}
 use Rattle.controller.proofs.Calls.{sound-read, bound-refused, bound-given}
 use Rattle.controller.proofs.wait_bound.Statement.{statement}
 use Rattle.controller.proofs.wait_bound.Tie as tie
@@ -29,12 +29,13 @@ site-requires c κs = accepted c
 
 wait-bound-of-requires : tie.Need-wait-bound-of-requires
 wait-bound-of-requires c κs =
-    sound-counted (c .site .result) (sound-read _ (c .site .result) (accepted (c .before)) (c .site .ensures))
+    let held = c .before .before .before in
+    sound-counted (held .site .result) (sound-read _ (held .site .result) (accepted (held .before)) (held .site .ensures))
 
 returns-2 : tie.Need-returns-2
 returns-2 c =
-    let held = c .before in
-    bound-given _ (held .site .result) (c .wait-bound-of .result) (accepted (held .before)) (held .site .ensures) (c .wait-bound-of .ensures)
+    let held = c .before .before .before .before in
+    bound-given _ (held .site .result) (c .wait-bound-of .result) (accepted (held .before)) (held .site .ensures) (c .wait-bound-of .ensures ∙ by-parts (held .site .result))
 
 pub wait-bound-spec : {M : Type 1} → statement M
 wait-bound-spec =
