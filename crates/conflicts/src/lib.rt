@@ -3,17 +3,15 @@
 ghost use mathlib.Core.Path.{_≡_};
 ghost use Rattle.rules.specs.declared.answer.Verdict.the-variants.{Accepted};
 ghost use Rattle.rules.specs.Personality.{siteSection, groupsSection, conflictsSection};
-use crate::matrix::laid_out;
 use crate::phases::phase_conflicts;
-use crate::quick::sound;
 use crate::records::conflict_records;
+use conflict_matrix::matrix::laid_out;
+use conflict_matrix::quick::sound;
 use reads::two;
 use rules::answer::Verdict;
 use sections::section;
 
-mod matrix;
 mod phases;
-mod quick;
 mod records;
 
 // Kinds 1 and 3 have been accepted before it.

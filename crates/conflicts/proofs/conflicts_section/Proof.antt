@@ -8,7 +8,7 @@ use borrow.Author.Needs.{needs}
 use Rattle.rules.specs.Personality.{bodyAt, bodyLength, groupCount, conflictsHead, sectionAt, conflictsSection}
 use Rattle.sections.proofs.Firsts.{or-next, or-stop}
 use Rattle.proof_acceptance.proofs.Sections.{records-held}
-use Rattle.conflicts.proofs.Pairs.{all-good}
+use Rattle.conflict_matrix.proofs.Pairs.{all-good}
 use Rattle.conflicts.proofs.conflicts_section.Statement.{statement}
 use Rattle.conflicts.proofs.conflicts_section.Tie as tie
 
