@@ -7,9 +7,8 @@ use crate::phases::phase_conflicts;
 use crate::records::conflict_records;
 use conflict_matrix::matrix::laid_out;
 use conflict_matrix::quick::sound;
-use reads::two;
 use rules::answer::Verdict;
-use sections::section;
+use sections::sized_section;
 
 mod phases;
 mod records;
@@ -22,7 +21,7 @@ pub fn conflicts_section(s: &[u8]) -> Verdict
     let layout = laid_out(s);
     let groups = layout.groups;
     let place = layout.conflicts - 4;
-    let head = section(s, place, 4, two(s, place) as usize == groups * 4);
+    let head = sized_section(s, place, 4, groups * 4);
     if let Verdict::Refused { .. } = head {
         return head;
     }

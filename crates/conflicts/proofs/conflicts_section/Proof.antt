@@ -26,32 +26,23 @@ sub-place : tie.Need-sub-place
 unfolding bodyAt
 sub-place c = omega (arith, c .before .laid-out .ensures .1)
 
-two-requires : tie.Need-two-requires
-two-requires c κs = search needs
+mul-sized-section : tie.Need-mul-sized-section
+mul-sized-section c = omega (arith, c .before .laid-out .ensures .3)
 
-cast-section : tie.Need-cast-section
-cast-section c = search needs
-
-mul-section : tie.Need-mul-section
-mul-section c = omega (arith, c .before .before .laid-out .ensures .3)
-
-section-requires : tie.Need-section-requires
-section-requires c κs = omega (arith, c .before .before .laid-out .ensures .2)
+sized-section-requires : tie.Need-sized-section-requires
+sized-section-requires c κs = omega (arith, c .before .laid-out .ensures .2)
 
 enum-told : tie.Need-enum-told
 enum-told c = search needs
 
 -- the head is held to the length that N needs
 checked :
-    (c : tie.After-section) →
-    let b = c .before .before .before .before .before .args .s .now in
-    c .section .result ≡ sectionAt b (conflictsHead b) 4 (eqb (bodyLength b (conflictsHead b)) (groupCount b * 4))
-unfolding bodyLength
+    (c : tie.After-sized-section) →
+    let b = c .before .before .before .before .args .s .now in
+    c .sized-section .result ≡ sectionAt b (conflictsHead b) 4 (eqb (bodyLength b (conflictsHead b)) (groupCount b * 4))
 checked c =
-    let laid = c .before .before .before in
-    let place = head laid in
-    let count = laid .laid-out .ensures .0 in
-    rw (← place, ← count, ← c .before .two .ensures) (c .section .ensures)
+    let laid = c .before .before in
+    rw (← head laid, ← laid .laid-out .ensures .0) (c .sized-section .ensures)
 
 returns : tie.Need-returns
 unfolding conflictsSection
@@ -63,7 +54,7 @@ enum-told-2 c = search needs
 sound-requires : tie.Need-sound-requires
 sound-requires c κs =
     let atSection = c .before .before in
-    let laid = atSection .before .before .before .laid-out .ensures in
+    let laid = atSection .before .before .laid-out .ensures in
     let held = records-held _ _ _ _ _ (sym (checked atSection) ∙ c .enum-told2 .given .1) in
     laid .4 (omega (arith, laid .0, laid .1, held))
 
@@ -108,10 +99,8 @@ conflicts-section-spec =
     (tie.spec
     laid-out-requires
     sub-place
-    two-requires
-    cast-section
-    mul-section
-    section-requires
+    mul-sized-section
+    sized-section-requires
     enum-told
     returns
     enum-told-2
