@@ -10,10 +10,10 @@ const CALLS: usize = 1_000;
 pub type Work<'a> = Box<dyn FnMut(usize) + 'a>;
 
 /// The time of one call over several rounds, in ns.
-#[derive(Clone, Copy)]
 pub struct Time {
     pub median: f64,
     pub best: f64,
+    rounds: Vec<f64>,
 }
 
 /// The times of several works. Each round times all of them, one after the
@@ -39,13 +39,30 @@ fn round_ns(first: usize, work: &mut Work) -> f64 {
 }
 
 impl Time {
-    fn of(mut times: Vec<f64>) -> Time {
-        times.sort_by(f64::total_cmp);
+    fn of(rounds: Vec<f64>) -> Time {
         Time {
-            median: times[times.len() / 2],
-            best: times[0],
+            median: median(rounds.clone()),
+            best: rounds.iter().copied().fold(f64::INFINITY, f64::min),
+            rounds,
         }
     }
+
+    /// How many times as long as the other one: the median over the rounds, in
+    /// each of which both were timed, one straight after the other.
+    pub fn over(&self, other: &Time) -> f64 {
+        median(
+            self.rounds
+                .iter()
+                .zip(&other.rounds)
+                .map(|(one, other)| one / other)
+                .collect(),
+        )
+    }
+}
+
+fn median(mut values: Vec<f64>) -> f64 {
+    values.sort_by(f64::total_cmp);
+    values[values.len() / 2]
 }
 
 /// The longest single calls seen, in ns, the clock's own time in them.

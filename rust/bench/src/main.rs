@@ -2,7 +2,8 @@
 //!
 //! `bench [seed] [rounds]`. A full step call reads and checks the personality,
 //! then steps; an inner step starts from a site already read. Each time is the
-//! median of the rounds, with the best round behind it.
+//! median of the rounds, with the best round behind it; a ratio is the median of
+//! the rounds' own ratios, with that of the best rounds behind it.
 
 #![forbid(unsafe_code)]
 

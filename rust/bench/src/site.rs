@@ -98,17 +98,17 @@ impl Bench {
             }
         }
         let [inner] = times_of(rounds, [self.inner_stepper()]);
-        println!("inner step of the model: {}", shown(inner));
+        println!("inner step of the model: {}", shown(&inner));
     }
 
     fn time<const SETS: usize>(&self, rounds: usize, sets: [&Calls; SETS]) -> [Times; SETS] {
-        let reads = times_of(rounds, sets.map(|calls| self.reader(calls)));
-        let steps = times_of(rounds, sets.map(|calls| self.stepper(calls)));
-        std::array::from_fn(|set| Times {
-            name: sets[set].name,
-            read: reads[set],
-            full_step: steps[set],
-            longest_step: longest_ns(INPUTS, || self.stepper(sets[set])),
+        let mut reads = times_of(rounds, sets.map(|calls| self.reader(calls))).into_iter();
+        let mut steps = times_of(rounds, sets.map(|calls| self.stepper(calls))).into_iter();
+        sets.map(|calls| Times {
+            name: calls.name,
+            read: reads.next().expect("a time for each set"),
+            full_step: steps.next().expect("a time for each set"),
+            longest_step: longest_ns(INPUTS, || self.stepper(calls)),
         })
     }
 
@@ -148,7 +148,7 @@ impl Bench {
 
 impl Times {
     fn print(&self) {
-        let (read, step) = (shown(self.read), shown(self.full_step));
+        let (read, step) = (shown(&self.read), shown(&self.full_step));
         let Longest { seen, repeated } = self.longest_step;
         let longest = format!("{seen} ({repeated})");
         println!("{:8} {read:>16} {step:>18} {longest:>24}", self.name);
@@ -156,16 +156,16 @@ impl Times {
 
     /// How many times as long as the other one.
     fn print_ratio(&self, other: &Times) {
-        let ratio = |one: Time, other: Time| {
-            let (median, best) = (one.median / other.median, one.best / other.best);
+        let ratio = |one: &Time, other: &Time| {
+            let (median, best) = (one.over(other), one.best / other.best);
             format!("{median:.2} ({best:.2})")
         };
-        let read = ratio(self.read, other.read);
-        let step = ratio(self.full_step, other.full_step);
+        let read = ratio(&self.read, &other.read);
+        let step = ratio(&self.full_step, &other.full_step);
         println!("{:8} {read:>16} {step:>18}", "ratio");
     }
 }
 
-fn shown(time: Time) -> String {
+fn shown(time: &Time) -> String {
     format!("{:.1} ({:.1})", time.median, time.best)
 }
