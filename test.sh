@@ -55,8 +55,8 @@ rust_tests() { (cd rust && cargo test --quiet --offline --features linked); }
 compare_with_model() { (cd rust && cargo run --quiet --release --offline --features linked -p compare -- "$@"); }
 check 'rt staticlib willowera' rt staticlib willowera
 check 'tests of rust/' rust_tests
-check 'library and model agree' compare_with_model 1 5000
-check 'demand 3 watched' compare_with_model 1 watch 200000
+check 'library and model agree' compare_with_model 1 50000
+check 'demand 3 watched' compare_with_model 1 watch 4000000
 
 for edit in edits/*.edit; do
     check "$edit" edits/run.sh "$(basename "$edit" .edit)"
