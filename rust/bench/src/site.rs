@@ -47,6 +47,7 @@ struct Times {
     read: Time,
     full_step: Time,
     longest_step: Longest,
+    longest_damaged: Longest,
 }
 
 impl Bench {
@@ -82,8 +83,8 @@ impl Bench {
         println!();
         println!("{}: {} bytes", self.name, self.personality.len());
         println!(
-            "{:8} {:>16} {:>18} {:>24}",
-            "", "read (best)", "full step (best)", "longest step (repeated)"
+            "{:8} {:>16} {:>18} {:>24} {:>24}",
+            "", "read (best)", "full step (best)", "longest step (repeated)", "of a damaged read"
         );
         match LIBRARY {
             None => {
@@ -109,12 +110,23 @@ impl Bench {
             read: reads.next().expect("a time for each set"),
             full_step: steps.next().expect("a time for each set"),
             longest_step: longest_ns(INPUTS, || self.stepper(calls)),
+            longest_damaged: longest_ns(8 * self.personality.len(), || self.damager(calls)),
         })
     }
 
     fn reader<'a>(&'a self, calls: &'a Calls) -> Work<'a> {
         Box::new(move |_| {
             black_box((calls.read)(black_box(&self.personality)));
+        })
+    }
+
+    /// Reads the personality with one bit turned over, another one in each call.
+    fn damager<'a>(&'a self, calls: &'a Calls) -> Work<'a> {
+        let mut damaged = self.personality.clone();
+        Box::new(move |call| {
+            damaged[call / 8] ^= 1 << (call % 8);
+            black_box((calls.read)(black_box(&damaged)));
+            damaged[call / 8] ^= 1 << (call % 8);
         })
     }
 
@@ -149,9 +161,12 @@ impl Bench {
 impl Times {
     fn print(&self) {
         let (read, step) = (shown(&self.read), shown(&self.full_step));
-        let Longest { seen, repeated } = self.longest_step;
-        let longest = format!("{seen} ({repeated})");
-        println!("{:8} {read:>16} {step:>18} {longest:>24}", self.name);
+        let [longest, damaged] = [self.longest_step, self.longest_damaged]
+            .map(|Longest { seen, repeated }| format!("{seen} ({repeated})"));
+        println!(
+            "{:8} {read:>16} {step:>18} {longest:>24} {damaged:>24}",
+            self.name
+        );
     }
 
     /// How many times as long as the other one.
