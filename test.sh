@@ -1,6 +1,7 @@
 #!/usr/bin/env bash
 # Passes everything: layout; every crate proved from nothing, every must-fail edit refused and every program run; the edits of the
-# rules that a theorem must refuse; the example sites and their traces; the vectors; the library against the model.
+# rules that a theorem must refuse; the example sites and their traces; the vectors; the tests of rust/ and the library against the
+# model.
 # The last line is `N passed, M failed`; the exit status is 0 only where M is 0.
 set -u
 cd "$(dirname "$0")" || exit 2

@@ -85,13 +85,6 @@ pub fn bit32(k: usize, x: u32) -> bool
     if k < 32 { (x >> k) % 2 == 1 } else { false }
 }
 
-// Bit k of the input bits.
-pub fn bit64(k: usize, x: u64) -> bool
-    ensures { λ r. ⌜ r ≡ bit k x ⌝ }
-{
-    if k < 64 { (x >> k) % 2 == 1 } else { false }
-}
-
 // Whether two sets have a bit in common.
 pub fn share(a: u8, b: u8) -> bool
     ensures { λ r. ⌜ r ≡ anyOf (λ p. bit p a && bit p b) 8 ⌝ }
