@@ -11,9 +11,9 @@ value_of() { sed -n "s/^$1: //p" "$2"; }
 # A copy of the crates without the worked cases, and without what cites them.
 copy_without_cases() { # ROOM
     cp -R "$root/crates" "$root/crates.txt" "$1/"
-    rm -f "$1"/crates/rules/proofs/Cases.antt "$1"/crates/guarantees/proofs/Junction.antt
+    rm -f "$1"/crates/rules/proofs/Cases.antt "$1"/crates/proof_guarantees/proofs/Junction.antt
     sed -i '/^pub mod Cases$/d' "$1/crates/rules/proofs/Lib.antt"
-    sed -i '/^pub mod Junction$/d' "$1/crates/guarantees/proofs/Lib.antt"
+    sed -i '/^pub mod Junction$/d' "$1/crates/proof_guarantees/proofs/Lib.antt"
 }
 
 # Puts the new text in the place of the old, which must stand in the file once.

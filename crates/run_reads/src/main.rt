@@ -23,7 +23,7 @@ struct Tally {
 
 // Whether the reader gives this number and place, 0 at 0 where it accepts.
 fn agrees(personality: &[u8], number: u8, place: u32) -> bool {
-    let verdict = personality::read(personality);
+    let verdict = read_personality::read(personality);
     match verdict {
         Verdict::Accepted => number == 0 && place == 0,
         Verdict::Refused {
@@ -37,7 +37,12 @@ fn agrees(personality: &[u8], number: u8, place: u32) -> bool {
 fn compare(file: i32, personality: &[u8]) -> bool {
     let mut right = [0u8; 5];
     let got = io::read_full(file, &mut right);
-    got == 5 && agrees(personality, reads::byte(&right, 0), reads::four(&right, 1))
+    got == 5
+        && agrees(
+            personality,
+            base_reads::byte(&right, 0),
+            base_reads::four(&right, 1),
+        )
 }
 
 // Fills the buffer from the file and compares.
@@ -53,7 +58,7 @@ fn next(file: i32) -> Found {
         return Found::Ended;
     }
     let mut space = io::large_buffer();
-    let length = io::count(reads::two(&head, 0) as isize, &space);
+    let length = io::count(base_reads::two(&head, 0) as isize, &space);
     Found::Vector {
         agrees: take(file, &mut space[..length]),
     }

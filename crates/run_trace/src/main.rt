@@ -43,15 +43,15 @@ fn read_record() -> Record {
         return Record::Cut;
     }
     Record::Inputs {
-        bits: tracing::inputs(&bytes),
+        bits: run_text::inputs(&bytes),
     }
 }
 
 // A line of the trace, of at most 32 groups. Their number is byte 5 of an accepted personality.
 fn show(step: u64, position: Position, colours: &[u8], personality: &[u8]) {
-    let groups = io::count(reads::byte(personality, 5) as isize, colours);
+    let groups = io::count(base_reads::byte(personality, 5) as isize, colours);
     let mut text = [0u8; 38];
-    let end = tracing::tail(position, &colours[..groups], &mut text);
+    let end = run_text::tail(position, &colours[..groups], &mut text);
     io::print_decimal(STDOUT_FILENO, step);
     io::write_all(STDOUT_FILENO, &text[..end]);
 }
@@ -59,7 +59,7 @@ fn show(step: u64, position: Position, colours: &[u8], personality: &[u8]) {
 // One step call, and what it prints.
 fn advance(personality: &[u8], state: State, bits: u64, step: u64) -> Turn {
     let mut colours = [0u8; 32];
-    let answer = controller::step(personality, state, bits, &mut colours);
+    let answer = board_controller::step(personality, state, bits, &mut colours);
     let outcome = answer.outcome;
     let after = answer.state;
     if let Outcome::Declined { number, place } = outcome {
@@ -98,7 +98,7 @@ fn take_turn(personality: &[u8], state: State, step: u64) -> Turn {
 
 // The steps of an accepted personality, from the fresh state.
 fn run(personality: &[u8]) {
-    let mut state = controller::fresh();
+    let mut state = board_controller::fresh();
     let mut step: u64 = 1;
     while step <= STEPS {
         let next = take_turn(personality, state, step);
@@ -118,7 +118,7 @@ fn trace(personality: &mut [u8]) {
         refuse(16, 0);
         return;
     }
-    let verdict = personality::read(personality);
+    let verdict = read_personality::read(personality);
     if let Verdict::Refused { number, place } = verdict {
         refuse(number, place);
         return;
@@ -135,6 +135,6 @@ fn main() {
         return;
     }
     let mut space = io::large_buffer();
-    let length = io::count(reads::two(&head, 0) as isize, &space);
+    let length = io::count(base_reads::two(&head, 0) as isize, &space);
     trace(&mut space[..length]);
 }

@@ -22,9 +22,9 @@ use Rattle.rules.specs.Site.{siteOf}
 use Rattle.rules.specs.Lookup.{lookupVerdict, lookupReport, headOf}
 use Rattle.rules.specs.Call.{stepVerdict, callVerdict, answerFor, bufferFor, boundFor, boundOf, answerOf, bufferOf}
 use Rattle.rules.proofs.Tests.{and-left}
-use Rattle.controller.proofs.Calls.{Answers, stepped-call}
-use Rattle.state_bytes.specs.declared.Decoded.{Decoded}
-use Rattle.state_bytes.specs.Layout.{stateBytes, isState, decoded, encoded, decodedOr, encodedOver}
+use Rattle.board_controller.proofs.Calls.{Answers, stepped-call}
+use Rattle.board_state.specs.declared.Decoded.{Decoded}
+use Rattle.board_state.specs.Layout.{stateBytes, isState, decoded, encoded, decodedOr, encodedOver}
 use Rattle.willowera.specs.Board.{packed, packedVerdict, packedOutcome, stepAnswer, stateFor, stateAfter, coloursAfter, sectionFor, sectionAnswer}
 use Rattle.proof_acceptance.proofs.Places.{lastPlace, Named, personality-named, call-named, lookup-named}
 

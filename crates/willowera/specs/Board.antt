@@ -14,7 +14,7 @@ use Rattle.rules.specs.Verdicts.{_orElse_}
 use Rattle.rules.specs.Personality.{verdictOf, bodyAt, bodyLength}
 use Rattle.rules.specs.Lookup.{lookupVerdict, headOf}
 use Rattle.rules.specs.Call.{answerOf, bufferOf}
-use Rattle.state_bytes.specs.Layout.{stateBytes, isState, decoded, encoded}
+use Rattle.board_state.specs.Layout.{stateBytes, isState, decoded, encoded}
 
 unfoldable pub packed : ℕ → ℕ → ℕ
 packed number value = number + 256 * value

@@ -6,10 +6,10 @@ ghost use lib.ListN.{length};
 ghost use Rattle.rules.specs.Call.{boundOf};
 ghost use Rattle.rules.specs.Personality.{verdictOf};
 ghost use Rattle.rules.specs.State.{fresh};
-ghost use Rattle.state_bytes.specs.Layout.{encodedOver};
+ghost use Rattle.board_state.specs.Layout.{encodedOver};
 ghost use Rattle.willowera.specs.Board.{packed, packedVerdict, packedOutcome, freshAnswer, stepAnswer, stateAfter, coloursAfter, sectionAnswer};
-use loading::lookup::head_of;
-use reads::two;
+use base_reads::two;
+use read_lookup::lookup::head_of;
 use rules::answer::Outcome;
 use rules::answer::Verdict;
 
@@ -33,7 +33,7 @@ fn refusal(number: u8, place: usize) -> u64
 pub extern "C" fn willowera_read(personality: &[u8]) -> u64
     ensures { λ r. ⌜ r ≡ packedVerdict (verdictOf (now (personality .entry))) ⌝ }
 {
-    let verdict = personality::read(personality);
+    let verdict = read_personality::read(personality);
     match verdict {
         Verdict::Accepted => 0,
         Verdict::Refused { number, place } => refusal(number, place),
@@ -45,7 +45,7 @@ pub extern "C" fn willowera_read(personality: &[u8]) -> u64
 pub extern "C" fn willowera_wait_bound(personality: &[u8]) -> u64
     ensures { λ r. ⌜ r ≡ packedOutcome (boundOf (now (personality .entry))) ⌝ }
 {
-    let outcome = controller::wait_bound(personality);
+    let outcome = board_controller::wait_bound(personality);
     match outcome {
         Outcome::Stepped { wait } => pack(0, wait),
         Outcome::Declined { number, place } => refusal(number, place),
@@ -57,7 +57,7 @@ pub extern "C" fn willowera_wait_bound(personality: &[u8]) -> u64
 pub extern "C" fn willowera_fresh(state: &mut [u8]) -> u64
     ensures { λ r. ⌜ (r ≡ freshAnswer (now (state .entry))) × (now (state .exit) ≡ encodedOver fresh (now (state .entry))) ⌝ }
 {
-    if state_bytes::encode(controller::fresh(), state) {
+    if board_state::encode(board_controller::fresh(), state) {
         0
     } else {
         pack(13, 0)
@@ -78,20 +78,20 @@ pub extern "C" fn willowera_step(
         × (now (state .exit) ≡ stateAfter (now (personality .entry)) (now (state .entry)) inputs (length (now (colours .entry))))
         × (now (colours .exit) ≡ coloursAfter (now (personality .entry)) (now (state .entry)) inputs (now (colours .entry))) ⌝ }
 {
-    let verdict = personality::read(personality);
+    let verdict = read_personality::read(personality);
     if let Verdict::Refused { number, place } = verdict {
         return refusal(number, place);
     }
-    let site = loading::site(personality);
-    let decoded = state_bytes::decode(state);
+    let site = read_lookup::site(personality);
+    let decoded = board_state::decode(state);
     if !decoded.known {
         return refusal(13, 0);
     }
-    let answer = controller::step_on(site, decoded.state, inputs, colours);
+    let answer = board_controller::step_on(site, decoded.state, inputs, colours);
     let outcome = answer.outcome;
     match outcome {
         Outcome::Stepped { wait } => {
-            state_bytes::encode(answer.state, state);
+            board_state::encode(answer.state, state);
             pack(0, wait)
         }
         Outcome::Declined { number, place } => refusal(number, place),
@@ -111,7 +111,7 @@ fn part(start: usize, size: u16) -> u64
 pub extern "C" fn willowera_section(personality: &[u8], kind: u16) -> u64
     ensures { λ r. ⌜ r ≡ sectionAnswer (now (personality .entry)) kind ⌝ }
 {
-    let report = loading::lookup::section_report(personality, kind);
+    let report = read_lookup::lookup::section_report(personality, kind);
     if report.number != 0 {
         return refusal(report.number, report.place);
     }

@@ -4,7 +4,7 @@ use borrow.Author.Needs.{needs}
 use borrow.Author.Tests.{not-true, not-false}
 use Rattle.rules.specs.declared.answer.Verdict.the-variants.{Accepted}
 use Rattle.rules.specs.Personality.{verdictOf}
-use Rattle.controller.proofs.Calls.{sound-read}
+use Rattle.board_controller.proofs.Calls.{sound-read}
 use Rattle.willowera.proofs.Answers.{refused-near, refuses, no-state, answer-near, steps-on, stays}
 use Rattle.willowera.proofs.willowera_step.Statement.{statement}
 use Rattle.willowera.proofs.willowera_step.Tie as tie

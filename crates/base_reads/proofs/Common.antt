@@ -1,0 +1,79 @@
+-- Two numbers below 2 ^ n have a bit in common exactly where their conjunction is not 0: the bits of the conjunction are the common
+-- ones, and a number below 2 ^ n with no bit below n is 0.
+use Prim.Native.Nat.{ℕ, zero, suc, _+_, _*_, _/_, _%_, _^_, _<_, min}
+use mathlib.Core.Bool.{Bool, true, false, not, _&&_}
+use mathlib.Core.Logic.{⊎-elim}
+use mathlib.Core.Path.{_≡_, refl, sym, ap, subst, _∙_}
+use native.Mathlib.Nat.{pow-succ'}
+use native.Mathlib.Omega.{arith}
+use lib.Bits.{bitAnd, and-step, and-shr, and-lt}
+use lib.Dec.{eqb}
+use borrow.Author.Tests.{eqb-true, eqb-false, ne-eqb, eq-eqb}
+use Rattle.rules.specs.Bytes.{bit}
+use Rattle.rules.specs.Rows.{anyOf}
+use Rattle.rules.proofs.Tests.{decided, never-both}
+use Rattle.rules.proofs.Rows.{any-found, any-false}
+use Rattle.rules.proofs.Bits.{bit-blank}
+use Rattle.base_reads.proofs.Shifts.{half-bit}
+
+-- ── The bits of a conjunction ──
+
+lowest : (x y : ℕ) → bitAnd x y % 2 ≡ min (x % 2) (y % 2)
+lowest x y = omega (arith, and-step x y)
+
+both-one : (u v : ℕ) → u < 2 → v < 2 → eqb (min u v) 1 ≡ (eqb u 1 && eqb v 1)
+both-one u v h k =
+    ⊎-elim
+    (λ (e : eqb u 1 ≡ true).
+    ⊎-elim
+    (λ (f : eqb v 1 ≡ true). rw (e, f) (eq-eqb (min u v) 1 (omega (arith, eqb-true u 1 e, eqb-true v 1 f))))
+    (λ (f : eqb v 1 ≡ false).
+    rw (e, f)
+    (ne-eqb (min u v) 1 (λ q. eqb-false v 1 f (omega (arith, q, eqb-true u 1 e)))))
+    (decided (eqb v 1)))
+    (λ (e : eqb u 1 ≡ false). rw e (ne-eqb (min u v) 1 (λ q. eqb-false u 1 e (omega (arith, q)))))
+    (decided (eqb u 1))
+
+pub bit-and : (p a b : ℕ) → bit p (bitAnd a b) ≡ (bit p a && bit p b)
+unfolding bit
+bit-and p a b =
+    rw (and-shr a b p, lowest (a / 2 ^ p) (b / 2 ^ p))
+    (both-one (a / 2 ^ p % 2) (b / 2 ^ p % 2) (omega arith) (omega arith))
+
+-- ── A number without bits ──
+
+lowest-bit : (x : ℕ) → bit 0 x ≡ false → x % 2 ≡ 0
+unfolding bit
+lowest-bit x h = let odd = eqb-false (x / 2 ^ 0 % 2) 1 h in omega (arith, odd)
+
+pub no-bits : (n x : ℕ) → x < 2 ^ n → ((p : ℕ) → p < n → bit p x ≡ false) → x ≡ 0
+no-bits zero x h none = omega arith
+no-bits (suc n) x h none =
+    omega (
+      arith,
+      no-bits n (x / 2) (omega (arith, pow-succ' 2 n)) (λ p l. sym (half-bit p x) ∙ none (suc p) (omega arith)),
+      lowest-bit x (none 0 (omega arith)),
+    )
+
+-- ── Together ──
+
+pub in-common :
+    (n a b : ℕ) →
+    a < 2 ^ n →
+    b < 2 ^ n →
+    not (eqb (bitAnd a b) 0) ≡ anyOf (λ (p : ℕ). bit p a && bit p b) n
+in-common n a b h k =
+    ⊎-elim
+    (λ (e : anyOf (λ (p : ℕ). bit p a && bit p b) n ≡ true).
+    let w = any-found (λ (p : ℕ). bit p a && bit p b) n e in
+    rw e
+    (ap not
+    (ne-eqb (bitAnd a b) 0
+    (λ z. never-both (bit-and (w .0) a b ∙ w .2) (ap (bit (w .0)) z ∙ bit-blank (w .0))))))
+    (λ (e : anyOf (λ (p : ℕ). bit p a && bit p b) n ≡ false).
+    rw e
+    (ap not
+    (eq-eqb (bitAnd a b) 0
+    (no-bits n (bitAnd a b) (and-lt n a b h k)
+    (λ p l. bit-and p a b ∙ any-false (λ (p : ℕ). bit p a && bit p b) n p e l)))))
+    (decided (anyOf (λ (p : ℕ). bit p a && bit p b) n))

@@ -1,0 +1,118 @@
+-- A power of two has one bit; and a number without its lowest bit has all its others.
+use Prim.Native.Nat.{ℕ, zero, suc, _-_, _*_, _/_, _%_, _^_, _<_}
+use mathlib.Core.Bool.{true, false, not, _&&_, and-true}
+use mathlib.Core.Logic.{⊎-elim}
+use mathlib.Core.Path.{_≡_, refl, sym, ap, _∙_}
+use native.Mathlib.Nat.{pow-succ'}
+use native.Mathlib.Omega.{arith}
+use lib.Bits.{bitAnd, and-step, and-self, shifted-half, shifted-even}
+use lib.Count.{trailingZeros, under}
+use lib.Dec.{eqb}
+use borrow.Author.Tests.{eqb-true, eqb-false, ne-eqb, eq-eqb}
+use Rattle.rules.specs.Bytes.{bit}
+use Rattle.rules.proofs.Bits.{bit-blank}
+use Rattle.rules.proofs.Tests.{decided}
+use Rattle.base_reads.proofs.Shifts.{half-bit}
+
+even-bit : (x : ℕ) → x % 2 ≡ 0 → bit 0 x ≡ false
+unfolding bit
+even-bit x e = ne-eqb (x / 2 ^ 0 % 2) 1 (λ z. omega (arith, z))
+
+odd-bit : (x : ℕ) → x % 2 ≡ 1 → bit 0 x ≡ true
+unfolding bit
+odd-bit x e = eq-eqb (x / 2 ^ 0 % 2) 1 (omega (arith, e))
+
+-- ── One bit ──
+
+eqb-both : (a b : ℕ) → eqb (suc a) (suc b) ≡ eqb a b
+eqb-both a b =
+    ⊎-elim
+    (λ (e : eqb a b ≡ true). rw e (eq-eqb (suc a) (suc b) (ap suc (eqb-true a b e))))
+    (λ (e : eqb a b ≡ false). rw e (ne-eqb (suc a) (suc b) (λ z. eqb-false a b e (omega (arith, z)))))
+    (decided (eqb a b))
+
+pub bit-one : (k q : ℕ) → bit q (1 * 2 ^ k) ≡ eqb k q
+bit-one zero zero = odd-bit 1 refl
+bit-one zero (suc q) = half-bit q 1 ∙ bit-blank q ∙ sym (ne-eqb 0 (suc q) (λ z. omega (arith, z)))
+bit-one (suc k) zero =
+    even-bit (1 * 2 ^ suc k) (shifted-even 1 k) ∙ sym (ne-eqb (suc k) 0 (λ z. omega (arith, z)))
+bit-one (suc k) (suc q) =
+    half-bit q (1 * 2 ^ suc k) ∙ ap (bit q) (shifted-half 1 k) ∙ bit-one k q ∙ sym (eqb-both k q)
+
+-- ── Without the lowest bit ──
+
+below-one : (x : ℕ) → 0 < x → x < 1 → ⊥
+below-one x h l = omega arith
+
+lowest-set : (k x : ℕ) → 0 < x → x < 2 ^ k → bit (trailingZeros k x) x ≡ true
+unfolding trailingZeros
+lowest-set zero x h l = absurd (below-one x h l)
+lowest-set (suc k) x h l = go (x % 2) refl (λ e. lowest-set k (x / 2) (omega (arith, e)) (omega (arith, pow-succ' 2 k)))
+  where
+    go : (r : ℕ) → x % 2 ≡ r → (x % 2 ≡ 0 → bit (trailingZeros k (x / 2)) (x / 2) ≡ true) → bit (under r (trailingZeros k (x / 2))) x ≡ true
+    go zero e ih = half-bit (trailingZeros k (x / 2)) x ∙ ih e
+    go (suc r) e ih = odd-bit x (omega (arith, e))
+
+-- one less than an odd number, and than an even one
+odd-less : (x r : ℕ) → x % 2 ≡ suc r → bitAnd x (x - 1) ≡ x / 2 * 2
+odd-less x r e =
+    let same : (x - 1) / 2 ≡ x / 2 = omega (arith, e) in
+    let even : (x - 1) % 2 ≡ 0 = omega (arith, e) in
+    and-step x (x - 1) ∙ rw (same, even) (omega (arith, and-self (x / 2)))
+
+even-less : (x : ℕ) → 0 < x → x % 2 ≡ 0 → bitAnd x (x - 1) ≡ bitAnd (x / 2) (x / 2 - 1) * 2
+even-less x h e =
+    let same : (x - 1) / 2 ≡ x / 2 - 1 = omega (arith, e) in
+    and-step x (x - 1) ∙ rw (same, e) (omega arith)
+
+without-lowest :
+    (k x i : ℕ) →
+    0 < x →
+    x < 2 ^ k →
+    bit i (bitAnd x (x - 1)) ≡ (bit i x && not (eqb i (trailingZeros k x)))
+unfolding trailingZeros
+without-lowest zero x i h l = absurd (below-one x h l)
+without-lowest (suc k) x i h l = go (x % 2) refl i (λ e j. without-lowest k (x / 2) j (omega (arith, e)) (omega (arith, pow-succ' 2 k)))
+  where
+    double : (y : ℕ) → y * 2 / 2 ≡ y
+    double y = omega arith
+
+    go :
+        (r : ℕ) → x % 2 ≡ r → (i : ℕ) →
+        (x % 2 ≡ 0 → (j : ℕ) → bit j (bitAnd (x / 2) (x / 2 - 1)) ≡ (bit j (x / 2) && not (eqb j (trailingZeros k (x / 2))))) →
+        bit i (bitAnd x (x - 1)) ≡ (bit i x && not (eqb i (under r (trailingZeros k (x / 2)))))
+    go zero e zero ih =
+        rw (even-less x h e, even-bit x e) (even-bit (bitAnd (x / 2) (x / 2 - 1) * 2) (omega arith))
+    go zero e (suc i) ih =
+        rw (
+          even-less x h e,
+          half-bit i (bitAnd (x / 2) (x / 2 - 1) * 2),
+          double (bitAnd (x / 2) (x / 2 - 1)),
+          half-bit i x,
+          eqb-both i (trailingZeros k (x / 2)),
+        )
+        (ih e i)
+    go (suc r) e zero ih = rw (odd-less x r e, odd-bit x (omega (arith, e))) (even-bit (x / 2 * 2) (omega arith))
+    go (suc r) e (suc i) ih =
+        let apart : eqb (suc i) 0 ≡ false = ne-eqb (suc i) 0 (λ z. omega (arith, z)) in
+        rw (odd-less x r e, half-bit i (x / 2 * 2), double (x / 2), half-bit i x, apart) (sym (and-true (bit i (x / 2))))
+
+-- the lowest bit of a word, and the word without it
+module _ (rest : ℕ) (some : 0 < rest) (room : rest < 2 ^ 64) where
+  abbrev lowest : ℕ
+  lowest = trailingZeros 64 rest
+
+  abbrev others : ℕ
+  others = bitAnd rest (rest - 1)
+
+  pub lowest-in : bit lowest rest ≡ true
+  lowest-in = lowest-set 64 rest some room
+
+  pub others-in : (i : ℕ) → bit i others ≡ (bit i rest && not (eqb i lowest))
+  others-in i = without-lowest 64 rest i some room
+
+  pub lowest-gone : bit lowest others ≡ false
+  lowest-gone = others-in lowest ∙ rw (lowest-in, eq-eqb lowest lowest refl)
+
+  pub others-same : (i : ℕ) → (i ≡ lowest → ⊥) → bit i others ≡ bit i rest
+  others-same i apart = others-in i ∙ rw (ne-eqb i lowest apart) (and-true (bit i rest))

@@ -1,0 +1,50 @@
+-- `board_controller::wait_bound` meets its contract, by the two cases of the personality's verdict.
+use borrow.Author.Needs.{needs}
+use mathlib.Core.Path.{_≡_, sym, _∙_}
+use Rattle.rules.specs.declared.answer.Verdict.the-variants.{Accepted}
+use Rattle.rules.specs.Personality.{verdictOf}
+use Rattle.wait_bound.proofs.Parts.{by-parts, sound-counted}
+use Rattle.board_controller.proofs.Calls.{sound-read, bound-refused, bound-given}
+use Rattle.board_controller.proofs.wait_bound.Statement.{statement}
+use Rattle.board_controller.proofs.wait_bound.Tie as tie
+
+read-requires : tie.Need-read-requires
+read-requires c κs = search needs
+
+enum-known-verdict : tie.Need-enum-known-verdict
+enum-known-verdict c = search needs
+
+returns : tie.Need-returns
+returns c = bound-refused _ _ _ (sym (c .before .before .before .read .ensures) ∙ c .before .verdict .given .1)
+
+enum-told : tie.Need-enum-told
+enum-told c = search needs
+
+-- past the refusal the personality is accepted
+accepted : (c : tie.After-enum-told) → verdictOf (c .before .before .before .before .args .personality .now) ≡ Accepted
+accepted c = sym (c .before .before .read .ensures) ∙ c .enum-told .given .1
+
+site-requires : tie.Need-site-requires
+site-requires c κs = accepted c
+
+wait-bound-of-requires : tie.Need-wait-bound-of-requires
+wait-bound-of-requires c κs =
+    let held = c .before .before .before in
+    sound-counted (held .site .result) (sound-read _ (held .site .result) (accepted (held .before)) (held .site .ensures))
+
+returns-2 : tie.Need-returns-2
+returns-2 c =
+    let held = c .before .before .before .before in
+    bound-given _ (held .site .result) (c .wait-bound-of .result) (accepted (held .before)) (held .site .ensures) (c .wait-bound-of .ensures ∙ by-parts (held .site .result))
+
+pub wait-bound-spec : {M : Type 1} → statement M
+wait-bound-spec =
+    tie.close
+    (tie.spec
+    read-requires
+    enum-known-verdict
+    returns
+    enum-told
+    site-requires
+    wait-bound-of-requires
+    returns-2)

@@ -1,0 +1,111 @@
+// Units two and three as a caller sees them: the fresh state, the step call and the wait bound.
+ghost use lib.ListN.{length};
+ghost use mathlib.Core.Path.{_≡_};
+ghost use Rattle.rules.specs.declared.answer.Outcome.the-variants.{Declined};
+ghost use Rattle.rules.specs.Call.{stepVerdict, answerFor, bufferFor, answerOf, bufferOf, boundOf};
+ghost use Rattle.rules.specs.Laws.{Sound};
+ghost use Rattle.rules.specs.State.{fresh as freshState};
+use rules::answer::Answer;
+use rules::answer::Outcome;
+use rules::answer::Verdict;
+use rules::site::Site;
+use rules::state::Counts;
+use rules::state::Demands;
+use rules::state::Held;
+use rules::state::Interval;
+use rules::state::Movement;
+use rules::state::Position;
+use rules::state::Stage;
+use rules::state::State;
+
+// Phase A in start red, age 1, came-from none, counts 0, no demands, movements idle.
+pub fn fresh() -> State
+    ensures { λ r. ⌜ r ≡ freshState ⌝ }
+{
+    let idle = Movement {
+        stage: Stage::Idle,
+        age: 1,
+    };
+    State {
+        position: Position {
+            phase: 0,
+            interval: Interval::StartRed,
+            age: 1,
+            came: Held::Nothing,
+            target: Held::Nothing,
+        },
+        counts: Counts { gap: 0, maximum: 0 },
+        demands: Demands {
+            locks: [false; 7],
+            buttons: [false; 8],
+        },
+        movements: [idle; 8],
+    }
+}
+
+// A refused step hands back the old state.
+fn declined(number: u8, place: usize, state: State) -> Answer
+    ensures { λ r. ⌜ r ≡ record { outcome = Declined number place; state = state } ⌝ }
+{
+    Answer {
+        outcome: Outcome::Declined { number, place },
+        state,
+    }
+}
+
+// A step on the site of an accepted personality, for callers that step many times: 13, then 15, then 14, then the step.
+pub fn step_on(site: Site, state: State, inputs: u64, colours: &mut [u8]) -> Answer
+    requires { ⌜ Sound site ⌝ }
+    ensures { λ r. ⌜ (r ≡ answerFor (stepVerdict site state inputs (length (now (colours .entry)))) site state inputs)
+        × (now (colours .exit) ≡ bufferFor (stepVerdict site state inputs (length (now (colours .entry)))) site state inputs (now (colours .entry))) ⌝ }
+{
+    if !step_checks::valid_state(site, state) {
+        return declined(13, 0, state);
+    }
+    if step_checks::stray(site, inputs) {
+        return declined(15, 0, state);
+    }
+    if colours.len() < site.size.groups as usize {
+        return declined(14, 0, state);
+    }
+    let next = step_whole::advance(site, state, inputs);
+    step_colours::write(site, next, colours);
+    let size = site.size;
+    let times = site.times;
+    let crossings = site.crossings;
+    Answer {
+        outcome: Outcome::Stepped {
+            wait: wait_bound::wait_bound_of(size, times, crossings),
+        },
+        state: next,
+    }
+}
+
+// A step call: the personality is read and checked first, then the step.
+pub fn step(personality: &[u8], state: State, inputs: u64, colours: &mut [u8]) -> Answer
+    ensures { λ r. ⌜ (r ≡ answerOf (now (personality .entry)) state inputs (length (now (colours .entry))))
+        × (now (colours .exit) ≡ bufferOf (now (personality .entry)) state inputs (now (colours .entry))) ⌝ }
+{
+    let verdict = read_personality::read(personality);
+    if let Verdict::Refused { number, place } = verdict {
+        return declined(number, place, state);
+    }
+    step_on(read_lookup::site(personality), state, inputs, colours)
+}
+
+// The wait bound of a personality in steps, or its refusal.
+pub fn wait_bound(personality: &[u8]) -> Outcome
+    ensures { λ r. ⌜ r ≡ boundOf (now (personality .entry)) ⌝ }
+{
+    let verdict = read_personality::read(personality);
+    if let Verdict::Refused { number, place } = verdict {
+        return Outcome::Declined { number, place };
+    }
+    let site = read_lookup::site(personality);
+    let size = site.size;
+    let times = site.times;
+    let crossings = site.crossings;
+    Outcome::Stepped {
+        wait: wait_bound::wait_bound_of(size, times, crossings),
+    }
+}

@@ -1,0 +1,46 @@
+-- Demand 3 applied to the junction of two phases. That the rules accept it, with a wait bound of 270, are two of the worked cases;
+-- that its two groups conflict is computed.
+use Prim.Native.Nat.{ℕ, _≤_}
+use mathlib.Core.Bool.{true}
+use mathlib.Core.List.{List}
+use mathlib.Core.Path.{_≡_, refl, sym, subst}
+use lib.ListN.{length}
+use Rattle.rules.specs.declared.answer.Verdict.the-variants.{Accepted}
+use Rattle.rules.specs.Rows.{listOf, countOf, indicesOf}
+use Rattle.rules.specs.Bytes.{byteAt, twoAt, fourAt, bit}
+use Rattle.rules.specs.Personality.{verdictOf, groupCount, phaseCount, bodyAt, recordAt, groupsHead, conflictsHead, conflictSet}
+use Rattle.rules.specs.Site.{siteOf, rowOf, conflict}
+use Rattle.rules.specs.WaitBound.{waitBound}
+use Rattle.rules.specs.Runs.{NoConflictingGreens, DemandsMet, DemandThree, comesWithin, minimumGreenBegins}
+use Rattle.rules.specs.Junctions.{junction, two, four, twos, fours, section, sections, shortPhase}
+use Rattle.rules.specs.Cases.{CasesHold, cases, starred}
+use Rattle.rules.proofs.Cases.{cases-hold}
+use Rattle.proof_guarantees.specs.Junction.{NeverTogether, MetIn270}
+use Rattle.proof_guarantees.proofs.DemandThree.{demand-three}
+
+junction-accepted : verdictOf junction ≡ Accepted
+unfolding CasesHold cases starred
+junction-accepted = cases-hold .1 .1 .1 .0
+
+junction-bound : waitBound (siteOf junction) ≡ 270
+unfolding CasesHold cases starred
+junction-bound = cases-hold .0
+
+groups-conflict : conflict (siteOf junction) 0 1 ≡ true
+unfolding
+    conflict siteOf rowOf listOf conflictSet conflictsHead groupsHead bodyAt recordAt groupCount phaseCount byteAt twoAt fourAt bit junction
+    sections section shortPhase two four twos fours
+groups-conflict = refl
+
+pub never-together : NeverTogether
+unfolding NeverTogether DemandThree NoConflictingGreens
+never-together calls earlier later step e =
+    demand-three junction junction-accepted calls .noConflictingGreens earlier later step e 0 1 groups-conflict
+
+pub met-in-270 : MetIn270
+unfolding MetIn270 DemandThree DemandsMet
+met-in-270 calls earlier later step e long registered =
+    let met =
+    demand-three junction junction-accepted calls .demandsMet earlier later step e
+    (subst (λ (n : ℕ). n ≤ length later) (sym junction-bound) long) in
+    subst (λ (n : ℕ). comesWithin n (minimumGreenBegins 1) step later ≡ true) junction-bound (met .0 1 registered)

@@ -1,0 +1,151 @@
+-- Phase sets as numbers. A set below 2 ^ P has as many phases as its number has ones, and has them all exactly where it is one less than
+-- 2 ^ P. So a record is bad by its two bytes, and the union of the sets tells whether a phase is in none.
+use Prim.Native.Nat.{ℕ, zero, suc, _+_, _/_, _%_, _^_, _<_, min}
+use mathlib.Core.Bool.{true, false, not, _&&_, _||_}
+use mathlib.Core.List.{List}
+use mathlib.Core.Logic.{⊎-elim}
+use mathlib.Core.Path.{_≡_, refl, sym, ap, _∙_}
+use native.Mathlib.Nat.{div-div-eq-div-mul, mod-eq-of-lt, mod-lt, mod-one, pow-succ', zero-lt-suc}
+use native.Mathlib.Numerals.{add-one}
+use native.Mathlib.Omega.{arith}
+use lib.Arith.{mod-mul}
+use lib.Bits.{bitOr, or-lt}
+use lib.Count.{onesIn, ones, ones-cat}
+use lib.Dec.{leb, ltb, eqb}
+use lib.Pow.{pow-pos}
+use borrow.Author.Tests.{leb-true, leb-false, le-leb, lt-leb, eqb-true, eq-eqb, not-false}
+use Rattle.rules.specs.Bytes.{bit}
+use Rattle.rules.specs.Personality.{phaseCount, groupCount, groupSet, groupMark, pedestrian, badGroup, phaseWithoutGroup}
+use Rattle.rules.specs.Rows.{if_then_else_, anyOf, countOf}
+use Rattle.rules.proofs.Bits.{bit-blank}
+use Rattle.rules.proofs.Rows.{any-none, any-false}
+use Rattle.rules.proofs.Tests.{decided, or-false-left}
+use Rattle.base_reads.proofs.Union.{bit-or}
+
+-- ── How many phases a set has ──
+
+-- a digit counts itself
+digit : (d : ℕ) → d < 2 → (if eqb d 1 then 1 else 0) ≡ ones d
+unfolding ones onesIn
+digit zero h = refl
+digit (suc zero) h = refl
+digit (suc (suc d)) h = absurd (omega arith)
+
+-- the ones among the n lowest digits
+lowest-ones : (n x : ℕ) → countOf (λ p. bit p x) n ≡ ones (x % 2 ^ n)
+unfolding countOf bit ones
+lowest-ones zero x = sym (ap ones (mod-one x))
+lowest-ones (suc n) x =
+    rw (
+      pow-succ' 2 n,
+      mod-mul x {m = 2} {c = 2 ^ n} (zero-lt-suc 1) (pow-pos n),
+      ones-cat n (x / 2 ^ n % 2) (x % 2 ^ n) (mod-lt x (pow-pos n)),
+      lowest-ones n x,
+      digit (x / 2 ^ n % 2) (mod-lt (x / 2 ^ n) (zero-lt-suc 1)),
+    )
+    (omega arith)
+
+pub ones-counted : (n x : ℕ) → x < 2 ^ n → countOf (λ p. bit p x) n ≡ ones x
+ones-counted n x h = lowest-ones n x ∙ ap ones (mod-eq-of-lt h)
+
+-- ── A set of all phases ──
+
+half-bit : (p x : ℕ) → bit p (x / 2) ≡ bit (suc p) x
+unfolding bit
+half-bit p x = rw (div-div-eq-div-mul x 2 (2 ^ p), pow-succ' 2 p)
+
+odd-bit : (x : ℕ) → x % 2 ≡ 1 → bit 0 x ≡ true
+unfolding bit
+odd-bit x e = eq-eqb (x / 2 ^ 0 % 2) 1 (omega arith)
+
+bit-odd : (x : ℕ) → bit 0 x ≡ true → x % 2 ≡ 1
+unfolding bit
+bit-odd x e = let odd = eqb-true (x / 2 ^ 0 % 2) 1 e in omega arith
+
+pub all-full : (n x : ℕ) → x < 2 ^ n → ((p : ℕ) → p < n → bit p x ≡ true) → x + 1 ≡ 2 ^ n
+all-full zero x h all = omega arith
+all-full (suc n) x h all =
+    omega (
+      arith,
+      pow-succ' 2 n,
+      all-full n (x / 2) (omega (arith, pow-succ' 2 n)) (λ p l. half-bit p x ∙ all (suc p) (omega arith)),
+      bit-odd x (all 0 (omega arith)),
+    )
+
+pub full-each : (n x p : ℕ) → x + 1 ≡ 2 ^ n → p < n → bit p x ≡ true
+full-each zero x p e l = absurd (omega arith)
+full-each (suc n) x zero e l = odd-bit x (omega (arith, pow-succ' 2 n))
+full-each (suc n) x (suc p) e l = sym (half-bit p x) ∙ full-each n (x / 2) p (omega (arith, pow-succ' 2 n)) (omega arith)
+
+-- ── The records of a personality ──
+
+module _ (b : List ℕ) where
+  -- whether a record is bad, from its two bytes
+  pub bad-decided :
+      (g : ℕ) {bound set mark : ℕ} →
+      bound ≡ min (2 ^ phaseCount b) 512 →
+      set < 256 →
+      set ≡ groupSet b g →
+      mark ≡ groupMark b g →
+      (leb bound set || ltb 2 mark || (eqb mark 2 && not (eqb (ones set) 1))) ≡ badGroup b g
+  unfolding badGroup pedestrian
+  bad-decided g {bound} {set} {mark} bounded h e m =
+      rw (← e, ← m)
+      (⊎-elim
+      (λ (t : leb (2 ^ phaseCount b) set ≡ true).
+      rw (t, le-leb bound set (omega (arith, bounded, leb-true (2 ^ phaseCount b) set t))))
+      (λ (t : leb (2 ^ phaseCount b) set ≡ false).
+      let below = leb-false (2 ^ phaseCount b) set t in
+      rw (t, lt-leb bound set (omega (arith, bounded, below)), ones-counted (phaseCount b) set below))
+      (decided (leb (2 ^ phaseCount b) set)))
+
+  -- the union of the first g sets, in a byte
+  abbrev pub Gathered : ℕ → ℕ → Type 0
+  Gathered served g = (served < 256) × (served < 2 ^ phaseCount b) × ((p : ℕ) → bit p served ≡ anyOf (λ i. bit p (groupSet b i)) g)
+
+  pub gathered-none : Gathered 0 0
+  unfolding anyOf
+  gathered-none = (omega arith, pow-pos (phaseCount b), bit-blank)
+
+  pub gathered-more :
+      (served g : ℕ) {set : ℕ} →
+      set < 256 →
+      set ≡ groupSet b g →
+      badGroup b g ≡ false →
+      Gathered served g →
+      Gathered (bitOr served set) (g + 1)
+  unfolding anyOf badGroup
+  gathered-more served g {set} h e good gathered = (
+    or-lt 8 served set (gathered .0) h,
+    or-lt (phaseCount b) served set (gathered .1)
+        (rw e (leb-false _ _ (or-false-left _ _ (or-false-left _ _ good)))),
+    λ p. rw (add-one g, bit-or p served set, gathered .2 p, e),
+  )
+
+  -- the union of all is one less than the bound: no phase is without a group
+  pub all-served :
+      (served : ℕ) {bound : ℕ} →
+      bound ≡ min (2 ^ phaseCount b) 512 →
+      Gathered served (groupCount b) →
+      served + 1 ≡ bound →
+      phaseWithoutGroup b ≡ false
+  unfolding phaseWithoutGroup
+  all-served served bounded gathered e =
+      any-none _ _
+      (λ p l. ap not (sym (gathered .2 p) ∙ full-each (phaseCount b) served p (omega (arith, bounded, e, gathered .0)) l))
+
+  -- it is not: some phase is
+  pub one-unserved :
+      (served : ℕ) {bound : ℕ} →
+      bound ≡ min (2 ^ phaseCount b) 512 →
+      Gathered served (groupCount b) →
+      (served + 1 ≡ bound → ⊥) →
+      phaseWithoutGroup b ≡ true
+  unfolding phaseWithoutGroup
+  one-unserved served bounded gathered e =
+      ⊎-elim
+      (λ (t : phaseWithoutGroup b ≡ true). t)
+      (λ (t : phaseWithoutGroup b ≡ false).
+      let full = all-full (phaseCount b) served (gathered .1) (λ p l. gathered .2 p ∙ not-false _ (any-false _ _ p t l)) in
+      absurd (e (omega (arith, bounded, full, gathered .0))))
+      (decided (phaseWithoutGroup b))

@@ -1,0 +1,13 @@
+-- `read_lookup::site` meets its contract: in an accepted personality the counts fit and all sections are there, as the decoder asks.
+use Rattle.read_lookup.proofs.Accepted.{accepted-fits}
+use Rattle.read_lookup.proofs.site.Statement.{statement}
+use Rattle.read_lookup.proofs.site.Tie as tie
+
+site-requires : tie.Need-site-requires
+site-requires c κs = accepted-fits _ (c .before .pre)
+
+returns : tie.Need-returns
+returns c = c .site .ensures
+
+pub site-spec : {M : Type 1} → statement M
+site-spec = tie.close (tie.spec site-requires returns)

@@ -1,0 +1,16 @@
+// What an accepted personality holds: the site, decoded in one go for a step call, and the bytes of a section, looked up by its kind.
+pub mod lookup;
+
+ghost use mathlib.Core.Path.{_≡_};
+ghost use Rattle.rules.specs.declared.answer.Verdict.the-variants.{Accepted};
+ghost use Rattle.rules.specs.Personality.{verdictOf};
+ghost use Rattle.rules.specs.Site.{siteOf};
+use rules::site::Site;
+
+// The site of a personality that `read_personality::read` accepts.
+pub fn site(personality: &[u8]) -> Site
+    requires { ⌜ verdictOf (now personality) ≡ Accepted ⌝ }
+    ensures { λ r. ⌜ r ≡ siteOf (now (personality .entry)) ⌝ }
+{
+    read_site::site(personality)
+}

@@ -1,0 +1,86 @@
+// The section lookup. The answer is the section's own bytes in the caller's buffer, body only; for a refused personality or a kind
+// not held it is empty, and the report beside it gives the number and place.
+ghost use Prim.Native.Nat.{_≤_};
+ghost use mathlib.Core.Path.{_≡_};
+ghost use Rattle.rules.specs.Lookup.{heldKind, headOf, lookupVerdict, lookupReport, sectionOf};
+use base_reads::two;
+use read_sections::heads::conflicts_head;
+use read_sections::heads::detectors_head;
+use read_sections::heads::groups_head;
+use read_sections::heads::pedestrians_head;
+use rules::answer::Report;
+use rules::answer::Verdict;
+
+// The head of the section of a kind. Kind 1 stands first, at 0.
+pub fn head_of(s: &[u8], kind: u16) -> usize
+    ensures { λ r. ⌜ (r ≡ headOf (now (s .entry)) kind) × (r ≤ 70149) ⌝ }
+{
+    if kind == 2 {
+        return 8;
+    }
+    if kind == 3 {
+        return groups_head(s);
+    }
+    if kind == 4 {
+        return conflicts_head(s);
+    }
+    if kind == 5 {
+        return detectors_head(s);
+    }
+    if kind == 6 {
+        return pedestrians_head(s);
+    }
+    0
+}
+
+// A personality has the kinds 1 to 6.
+fn held(kind: u16) -> bool
+    ensures { λ r. ⌜ r ≡ heldKind kind ⌝ }
+{
+    (1 <= kind) & (kind <= 6)
+}
+
+// The personality's own refusal, and then 2 at 0 for a kind that is not held.
+fn verdict_on(s: &[u8], kind: u16) -> Verdict
+    ensures { λ r. ⌜ r ≡ lookupVerdict (now (s .entry)) kind ⌝ }
+{
+    let verdict = read_personality::read(s);
+    if let Verdict::Refused { .. } = verdict {
+        return verdict;
+    }
+    if held(kind) {
+        return Verdict::Accepted;
+    }
+    Verdict::Refused {
+        number: 2,
+        place: 0,
+    }
+}
+
+// The part of the personality that is the body of the kind's section.
+pub fn section(personality: &[u8], kind: u16) -> &[u8]
+    ensures { λ r. ⌜ now r ≡ sectionOf (now (personality .entry)) kind ⌝ }
+{
+    let verdict = verdict_on(personality, kind);
+    if let Verdict::Refused { .. } = verdict {
+        return &personality[0..0];
+    }
+    let head = head_of(personality, kind);
+    let start = head + 4;
+    let end = start + two(personality, head) as usize;
+    &personality[start..end]
+}
+
+// The number and place beside the lookup, 0 at 0 where the section is found.
+pub fn section_report(personality: &[u8], kind: u16) -> Report
+    ensures { λ r. ⌜ r ≡ lookupReport (now (personality .entry)) kind ⌝ }
+{
+    let verdict = verdict_on(personality, kind);
+    match verdict {
+        Verdict::Accepted => Report {
+            number: 0,
+            place: 0,
+        },
+        Verdict::Refused { number, place } => Report { number, place },
+    }
+}

@@ -1,0 +1,284 @@
+-- From tiles to groups. The tiles of two bands tell of each pair of their groups, and where all pairs are sound and no set goes past N the
+-- section is accepted.
+use Prim.Native.Nat.{ℕ, zero, suc, _+_, _*_, _/_, _%_, _^_, _≤_, _<_}
+use mathlib.Core.Bool.{Bool, true, false, not, _&&_}
+use mathlib.Core.List.{List}
+use mathlib.Core.Logic.{⊎-elim}
+use mathlib.Core.Path.{_≡_, refl, sym, ap, subst, _∙_}
+use native.Mathlib.Nat.{zero-add, not-suc-le-zero}
+use native.Mathlib.Omega.{arith}
+use lib.Bits.{bitAnd}
+use lib.Dec.{eqb}
+use lib.ListN.{length, getD, set, replicate, length-set}
+use lib.Seq.{getD-set-same, getD-set-other}
+use borrow.Author.Tests.{lt-leb, eqb-true}
+use Rattle.rules.specs.Bytes.{byteAt, bit}
+use Rattle.rules.specs.Personality.{bodyAt, recordAt, groupsHead, conflictsHead, phaseCount, groupCount, groupSet, conflictSet}
+use Rattle.rules.specs.Personality.{badConflict, sharePhase, conflictInPhase}
+use Rattle.rules.specs.Rows.{anyOf}
+use Rattle.rules.specs.Verdicts.{firstOf}
+use Rattle.rules.specs.declared.answer.Verdict.the-variants.{Accepted}
+use Rattle.rules.proofs.Bits.{bit-blank}
+use Rattle.rules.proofs.Counts.{below-or-past}
+use Rattle.rules.proofs.Rows.{last-or-below, any-none}
+use Rattle.rules.proofs.Tests.{decided, never-both, not-true-false, and-left, and-right, and-both, and-false-left, and-false-right, or-false-both}
+use Rattle.base_reads.proofs.Common.{bit-and}
+use Rattle.read_sections.proofs.Firsts.{recordCheck, or-next, refuse-no}
+use Rattle.read_matrix.specs.declared.matrix.Layout.{Layout}
+use Rattle.read_matrix.specs.Matrix.{Laid, ByteRows, ConflictRows, SetRows, MemberRows, PairSound, BlockSound, BandSound, AllSound}
+use Rattle.read_matrix.proofs.TileBits.{four-bit}
+
+-- ── What the tiles hold ──
+
+module _ {b : List ℕ} {w : Layout} (laid : Laid b w) where
+  pub conflict-rows :
+      (a k rows : ℕ) {t : ℕ} →
+      ((i : ℕ) → byteAt b i < 256) →
+      k < 4 →
+      ((r : ℕ) → r < 8 → 8 * a + r < w .groups → r < rows) →
+      ByteRows b (w .conflicts + 32 * a + k) 4 rows t →
+      ConflictRows b a k t
+  unfolding conflictSet recordAt
+  conflict-rows a k rows small below there bytes =
+      record {
+        told = λ r c h l m.
+            bytes .told r c (there r h (omega (arith, laid .groups, m))) l
+            ∙ ap (λ (j : ℕ). bit c (byteAt b j)) (omega (arith, laid .conflicts))
+            ∙ sym (four-bit b small (bodyAt (conflictsHead b) + (8 * a + r) * 4) k c below l);
+      }
+
+  pub set-rows :
+      (a rows : ℕ) {t : ℕ} →
+      ((r : ℕ) → r < 8 → 8 * a + r < w .groups → r < rows) →
+      ByteRows b (w .sets + 16 * a) 2 rows t →
+      SetRows b a t
+  unfolding groupSet recordAt
+  set-rows a rows there bytes =
+      record {
+        told = λ r c h l m.
+            bytes .told r c (there r h (omega (arith, laid .groups, m))) l
+            ∙ ap (λ (j : ℕ). bit c (byteAt b j)) (omega (arith, laid .sets));
+      }
+
+-- the tiles of the first n bands are in an array of four
+pub record Kept (b tiles : List ℕ) (n : ℕ) : Type 0 where
+  pub room : length tiles ≡ 4
+  pub told : (a : ℕ) → a < n → SetRows b a (getD tiles a 0)
+
+pub kept-none : {b : List ℕ} → Kept b (replicate 4 0) 0
+kept-none = record { room = refl; told = λ a l. absurd (not-suc-le-zero l) }
+
+pub kept-more :
+    {b tiles : List ℕ} {n t : ℕ} → Kept b tiles n → n < 4 → SetRows b n t → Kept b (set tiles n t) (n + 1)
+kept-more {b} {tiles} {n} {t} kept h rows =
+    record {
+      room = length-set tiles n t ∙ kept .room;
+      told = λ a l.
+          ⊎-elim
+          (λ (e : a ≡ n).
+          subst (λ (i : ℕ). SetRows b i (getD (set tiles n t) i 0)) (sym e)
+          (subst (SetRows b n) (sym (getD-set-same tiles n t 0 (omega (arith, kept .room)))) rows))
+          (λ (m : a < n).
+          subst (SetRows b a) (sym (getD-set-other tiles n a t 0 (λ e. omega (arith, e, m)))) (kept .told a m))
+          (last-or-below (omega (arith, l)));
+    }
+
+-- the members of a band are its sets mirrored
+pub member-rows :
+    {b : List ℕ} {k sets members : ℕ} →
+    SetRows b k sets →
+    ((r c : ℕ) → r < 8 → c < 8 → bit (8 * c + r) members ≡ bit (8 * r + c) sets) →
+    MemberRows b k members
+member-rows rows mirror = record { told = λ p c h l m. mirror c p l h ∙ rows .told c p l h m }
+
+-- ── A pair of groups ──
+
+-- a bit that another tile has, where the two have none in common
+clear-bit : (k t wrong : ℕ) → bitAnd t wrong ≡ 0 → bit k wrong ≡ true → bit k t ≡ false
+clear-bit k t wrong e p =
+    not-true-false (bit k t)
+    (λ q. never-both (bit-and k t wrong ∙ and-both q p) (ap (bit k) e ∙ bit-blank k))
+
+-- groups 8 a + r and 8 k + c, from the tile of their bands, the one back, and the bits that the first may not have
+pub pair-sound :
+    (b : List ℕ) (a k r c t wrong : ℕ) {mirror back : ℕ} →
+    bit (8 * r + c) t ≡ bit (8 * k + c) (conflictSet b (8 * a + r)) →
+    bit (8 * c + r) back ≡ bit (8 * a + r) (conflictSet b (8 * k + c)) →
+    bit (8 * c + r) mirror ≡ bit (8 * r + c) t →
+    mirror ≡ back →
+    bitAnd t wrong ≡ 0 →
+    (8 * a + r ≡ 8 * k + c → bit (8 * r + c) wrong ≡ true) →
+    ((p : ℕ) →
+    p < phaseCount b →
+    bit p (groupSet b (8 * a + r)) ≡ true →
+    bit p (groupSet b (8 * k + c)) ≡ true →
+    bit (8 * r + c) wrong ≡ true) →
+    PairSound b (8 * a + r) (8 * k + c)
+pair-sound b a k r c t wrong {mirror} {back} there home turned same free own shared =
+    record {
+      answered = sym there ∙ sym turned ∙ ap (bit (8 * c + r)) same ∙ home;
+      other = λ e. sym there ∙ clear-bit (8 * r + c) t wrong free (own e);
+      apart = λ p h e f.
+          not-true-false (bit p (groupSet b (8 * k + c)))
+          (λ q. never-both (there ∙ e) (clear-bit (8 * r + c) t wrong free (shared p h f q)));
+    }
+
+-- the bits of the diagonal
+diagonal-row : (r : ℕ) → r < 8 → bit (8 * r + r) 9241421688590303745 ≡ true
+unfolding bit
+diagonal-row zero h = refl
+diagonal-row (suc zero) h = refl
+diagonal-row (suc (suc zero)) h = refl
+diagonal-row (suc (suc (suc zero))) h = refl
+diagonal-row (suc (suc (suc (suc zero)))) h = refl
+diagonal-row (suc (suc (suc (suc (suc zero))))) h = refl
+diagonal-row (suc (suc (suc (suc (suc (suc zero)))))) h = refl
+diagonal-row (suc (suc (suc (suc (suc (suc (suc zero))))))) h = refl
+diagonal-row (suc (suc (suc (suc (suc (suc (suc (suc r)))))))) h = absurd (omega arith)
+
+pub diagonal-bit : (r c : ℕ) → r < 8 → r ≡ c → bit (8 * r + c) 9241421688590303745 ≡ true
+diagonal-bit r c h e = subst (λ (j : ℕ). bit (8 * r + j) 9241421688590303745 ≡ true) e (diagonal-row r h)
+
+-- all pairs of two bands
+pub block-sound :
+    {b : List ℕ} {w : Layout} {a k t back sets members : ℕ} (mirror given wrong : ℕ) →
+    Laid b w →
+    ConflictRows b a k t →
+    ConflictRows b k a back →
+    SetRows b a sets →
+    MemberRows b k members →
+    ((r c : ℕ) → r < 8 → c < 8 → bit (8 * c + r) mirror ≡ bit (8 * r + c) t) →
+    ((i : ℕ) → bit i given ≡ true → bit i wrong ≡ true) →
+    ((r c p : ℕ) →
+    r < 8 →
+    c < 8 →
+    p < w .phases →
+    bit (8 * r + p) sets ≡ true →
+    bit (8 * p + c) members ≡ true →
+    bit (8 * r + c) wrong ≡ true) →
+    ((r c : ℕ) → r < 8 → c < 8 → 8 * a + r ≡ 8 * k + c → bit (8 * r + c) given ≡ true) →
+    (eqb mirror back && eqb (bitAnd t wrong) 0) ≡ true →
+    BlockSound b a k
+block-sound {b} {w} {a} {k} {t} {back} mirror given wrong laid there home rows columns turned kept shared own passed r c h l m n =
+    pair-sound b a k r c t wrong (there .told r c h l m) (home .told c r l h n) (turned r c h l)
+    (eqb-true mirror back (and-left _ _ passed))
+    (eqb-true (bitAnd t wrong) 0 (and-right (eqb mirror back) _ passed))
+    (λ e. kept (8 * r + c) (own r c h l e))
+    (λ p q e f.
+    shared r c p h l (omega (arith, laid .phases, q))
+    (rows .told r p h (omega (arith, laid .phases, laid .fewPhases, q)) m ∙ e)
+    (columns .told p c (omega (arith, laid .phases, laid .fewPhases, q)) l n ∙ f))
+
+-- the other way round
+pub pair-turned : (b : List ℕ) (g j : ℕ) → PairSound b g j → PairSound b j g
+pair-turned b g j sound =
+    record {
+      answered = sym (sound .answered);
+      other = λ e. sym (sound .answered) ∙ sound .other (sym e);
+      apart = λ p h e f.
+          not-true-false (bit p (groupSet b g)) (λ q. never-both f (sound .apart p h (sound .answered ∙ e) q));
+    }
+
+-- ── Bands ──
+
+-- what holds of those before n, and of n
+pub upto-more :
+    (P : ℕ → Type 0) (k n : ℕ) → ((i : ℕ) → k ≤ i → i < n → P i) → P n → (i : ℕ) → k ≤ i → i < n + 1 → P i
+upto-more P k n before here i h l =
+    ⊎-elim
+    (λ (e : i ≡ n). subst P (sym e) here)
+    (λ (m : i < n). before i h m)
+    (last-or-below (omega (arith, l)))
+
+pub band-first : (b : List ℕ) (k : ℕ) → BlockSound b k k → (i : ℕ) → k ≤ i → i < k + 1 → BlockSound b i k
+band-first b k own i h l = let e : k ≡ i = omega arith in subst (λ (a : ℕ). BlockSound b a k) e own
+
+-- no group is past the last band
+pub band-whole :
+    (b : List ℕ) (k n : ℕ) → ((i : ℕ) → k ≤ i → i < n → BlockSound b i k) → groupCount b ≤ 8 * n → BandSound b k
+band-whole b k n before all a h r c =
+    ⊎-elim
+    (λ (l : a < n). before a h l r c)
+    (λ (l : n ≤ a) p q m. absurd (omega (arith, l, m, all)))
+    (below-or-past a n)
+
+pub all-sound :
+    (b : List ℕ) (n : ℕ) →
+    ((i : ℕ) → 0 ≤ i → i < n → BandSound b i) →
+    groupCount b ≤ 8 * n →
+    AllSound b
+all-sound b n each all g j h l =
+    ⊎-elim
+    (λ (m : g / 8 < j / 8). pair-turned b j g (ordered j g l h (omega arith)))
+    (λ (m : j / 8 ≤ g / 8). ordered g j h l m)
+    (below-or-past (g / 8) (j / 8))
+  where
+    ordered : (g j : ℕ) → g < groupCount b → j < groupCount b → j / 8 ≤ g / 8 → PairSound b g j
+    ordered g j h l m =
+        let whole : 8 * (g / 8) + g % 8 ≡ g = omega arith in
+        let other : 8 * (j / 8) + j % 8 ≡ j = omega arith in
+        subst (λ (x : ℕ). PairSound b x j) whole
+        (subst (λ (y : ℕ). PairSound b (8 * (g / 8) + g % 8) y) other
+        (each (j / 8) (omega arith) (omega arith) (g / 8) m (g % 8) (j % 8) (omega arith) (omega arith) (omega arith) (omega arith)))
+
+-- all are in band 0
+pub single-sound : (b : List ℕ) → BlockSound b 0 0 → groupCount b ≤ 8 → AllSound b
+single-sound b own few g j h l = simp zero-add at (own g j (omega arith) (omega arith) (omega arith) (omega arith))
+
+-- ── All groups ──
+
+good-conflict :
+    (b : List ℕ) (g : ℕ) →
+    g < groupCount b →
+    conflictSet b g < 2 ^ groupCount b →
+    ((j : ℕ) → j < groupCount b → PairSound b g j) →
+    badConflict b g ≡ false
+unfolding badConflict
+good-conflict b g h below sound =
+    or-false-both
+    (or-false-both (sound g h .other refl) (lt-leb (2 ^ groupCount b) (conflictSet b g) below))
+    (any-none (λ j. bit j (conflictSet b g) && not (bit g (conflictSet b j))) (groupCount b)
+    (λ j l. same-not (bit j (conflictSet b g)) (bit g (conflictSet b j)) (sound j l .answered)))
+  where
+    same-not : (s t : Bool) → s ≡ t → (s && not t) ≡ false
+    same-not true t e = rw (sym e)
+    same-not false t e = refl
+
+no-clash :
+    (b : List ℕ) (g : ℕ) → ((j : ℕ) → j < groupCount b → PairSound b g j) → conflictInPhase b g ≡ false
+unfolding conflictInPhase sharePhase
+no-clash b g sound =
+    any-none (λ j. bit j (conflictSet b g) && anyOf (λ p. bit p (groupSet b g) && bit p (groupSet b j)) (phaseCount b)) (groupCount b)
+    (λ j l.
+    ⊎-elim
+    (λ (e : bit j (conflictSet b g) ≡ true).
+    and-false-right (bit j (conflictSet b g))
+    (any-none (λ p. bit p (groupSet b g) && bit p (groupSet b j)) (phaseCount b)
+    (λ p m.
+    ⊎-elim
+    (λ (f : bit p (groupSet b g) ≡ true). and-false-right (bit p (groupSet b g)) (sound j l .apart p m e f))
+    (λ (f : bit p (groupSet b g) ≡ false). and-false-left (bit p (groupSet b j)) f)
+    (decided (bit p (groupSet b g))))))
+    (λ (e : bit j (conflictSet b g) ≡ false).
+    and-false-left (anyOf (λ p. bit p (groupSet b g) && bit p (groupSet b j)) (phaseCount b)) e)
+    (decided (bit j (conflictSet b g))))
+
+pub records-good :
+    (b : List ℕ) →
+    ((g : ℕ) → g < groupCount b → conflictSet b g < 2 ^ groupCount b) →
+    AllSound b →
+    (g : ℕ) →
+    g < groupCount b →
+    (badConflict b g ≡ false) × (conflictInPhase b g ≡ false)
+records-good b below sound g l =
+    (good-conflict b g l (below g l) (λ j m. sound g j l m), no-clash b g (λ j m. sound g j l m))
+
+-- records of which none is bad are accepted
+pub all-good :
+    (bad : ℕ → Bool) (k : ℕ) (place : ℕ → ℕ) (n : ℕ) →
+    ((i : ℕ) → i < n → bad i ≡ false) →
+    Accepted ≡ firstOf (recordCheck bad k place) n
+unfolding firstOf
+all-good bad k place zero h = refl
+all-good bad k place (suc n) h =
+    or-next (all-good bad k place n (λ i l. h i (omega arith))) refl (sym (refuse-no k (place n) (h n (omega arith))))

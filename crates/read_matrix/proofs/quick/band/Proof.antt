@@ -1,0 +1,124 @@
+-- `quick::band` meets its contract. The invariant: band k is sound with itself and with the bands before a.
+use Prim.Native.Nat.{ℕ, _+_, _-_, _*_, _≤_, _<_}
+use mathlib.Core.Path.{refl}
+use native.Mathlib.Omega.{arith}
+use lib.ListN.{getD}
+use borrow.Author.Tests.{not-false}
+use Rattle.rules.proofs.Tests.{never-both}
+use Rattle.read_matrix.specs.Matrix.{Laid, SetRows, BlockSound}
+use Rattle.read_matrix.proofs.Pairs.{member-rows, upto-more, band-first, band-whole}
+use Rattle.read_matrix.proofs.quick.band.Statement.{statement}
+use Rattle.read_matrix.proofs.quick.band.Tie as tie
+
+abbrev Inv-loop : tie.InvT-loop
+Inv-loop s w k sets groups own members a₀ a = (8 * a < groups + 8) × (k < a) × ((i : ℕ) → k ≤ i → i < a → BlockSound s i k)
+
+abbrev μ-loop : tie.MeasureT-loop
+μ-loop s w k sets groups own members a₀ a = groups - a
+
+-- the band's own sets
+rows :
+    (c : tie.After-shared-slice-known Inv-loop μ-loop) →
+    let start = c .before in
+    SetRows (start .args .s .now) (start .args .k) (getD (start .args .t4) (start .args .k) 0)
+rows c = let pre = c .before .pre in pre .2 .told _ (omega (arith, pre .0 .groups, pre .1))
+
+mul-own : tie.Need-mul-own Inv-loop μ-loop
+mul-own c = let pre = c .before .pre in omega (arith, pre .0 .fewGroups, pre .1)
+
+array-read-own : tie.Need-array-read-own Inv-loop μ-loop
+array-read-own c = let pre = c .before .pre in omega (arith, pre .0 .fewGroups, pre .1)
+
+mirrored-requires : tie.Need-mirrored-requires Inv-loop μ-loop
+mirrored-requires c κs = tt
+
+own-block-requires : tie.Need-own-block-requires Inv-loop μ-loop
+own-block-requires c κs =
+    let pre = c .before .before .pre in
+    (pre .0, pre .1, rows (c .before), member-rows (rows (c .before)) (c .mirrored .ensures))
+
+returns : tie.Need-returns Inv-loop μ-loop
+returns c e = absurd (never-both e refl)
+
+add-a : tie.Need-add-a Inv-loop μ-loop
+add-a c = let pre = c .before .before .before .before .pre in omega (arith, pre .0 .fewGroups, pre .1)
+
+loop-holds : tie.Need-loop-holds Inv-loop μ-loop
+loop-holds c =
+    let pre = c .before .before .before .before .pre in
+    (omega (arith, pre .1), omega arith, band-first _ _ (c .before .own-block .ensures (not-false _ (c .if1 .left))))
+
+mul-loop : tie.Need-mul-loop Inv-loop μ-loop
+mul-loop c =
+    let pre = c .before .before .before .before .before .pre in
+    omega (arith, pre .0 .fewGroups, c .loop .inv .0)
+
+mul-block : tie.Need-mul-block Inv-loop μ-loop
+mul-block c =
+    let pre = c .before .before .before .before .before .before .pre in
+    omega (arith, pre .0 .fewGroups, c .loop-test .taken)
+
+array-read-block : tie.Need-array-read-block Inv-loop μ-loop
+array-read-block c =
+    let pre = c .before .before .before .before .before .before .pre in
+    omega (arith, pre .0 .fewGroups, c .loop-test .taken)
+
+block-requires : tie.Need-block-requires Inv-loop μ-loop
+block-requires c κs =
+    let atMirror = c .before .before .before .before in
+    let pre = atMirror .before .before .pre in (
+      pre .0,
+      c .loop-test .taken,
+      c .before .loop .inv .1,
+      pre .2 .told _ (omega (arith, pre .0 .groups, c .loop-test .taken)),
+      member-rows (rows (atMirror .before)) (atMirror .mirrored .ensures),
+    )
+
+returns-2 : tie.Need-returns-2 Inv-loop μ-loop
+returns-2 c e = absurd (never-both e refl)
+
+add-a-2 : tie.Need-add-a-2 Inv-loop μ-loop
+add-a-2 c =
+    let atLoop = c .before .before .before in
+    let pre = atLoop .before .before .before .before .before .pre in
+    omega (arith, pre .0 .fewGroups, atLoop .loop .inv .0)
+
+loop-less : tie.Need-loop-less Inv-loop μ-loop
+loop-less c = omega (arith, c .before .before .loop-test .taken)
+
+loop-again : tie.Need-loop-again Inv-loop μ-loop
+loop-again c =
+    let atLoop = c .before .before .before in (
+      omega (arith, c .before .before .loop-test .taken),
+      omega (arith, atLoop .loop .inv .1),
+      upto-more (λ i. BlockSound _ i _) _ _ (atLoop .loop .inv .2) (c .before .block .ensures (not-false _ (c .if2 .left))),
+    )
+
+returns-3 : tie.Need-returns-3 Inv-loop μ-loop
+returns-3 c e =
+    let atLoop = c .before in
+    let pre = atLoop .before .before .before .before .before .pre in
+    band-whole _ _ (atLoop .loop .a) (atLoop .loop .inv .2) (omega (arith, c .loop-test .left, pre .0 .groups))
+
+pub band-spec : {M : Type 1} → statement M
+band-spec =
+    tie.close
+    (tie.spec
+    Inv-loop
+    μ-loop
+    mul-own
+    array-read-own
+    mirrored-requires
+    own-block-requires
+    returns
+    add-a
+    loop-holds
+    mul-loop
+    mul-block
+    array-read-block
+    block-requires
+    returns-2
+    add-a-2
+    loop-less
+    loop-again
+    returns-3)

@@ -1,0 +1,68 @@
+-- The conflicts as a matrix of bits in tiles. Bands are of eight groups: band a has groups 8 a to 8 a + 7. A tile is a number of 64 bits,
+-- eight rows of eight, bit c of row r being bit 8 r + c.
+use Prim.Native.Nat.{ℕ, _+_, _*_, _≤_, _<_}
+use mathlib.Core.Bool.{true, false}
+use mathlib.Core.List.{List}
+use mathlib.Core.Path.{_≡_}
+use lib.ListN.{length, getD}
+use Rattle.rules.specs.Bytes.{byteAt, bit}
+use Rattle.rules.specs.Personality.{bodyAt, groupsHead, conflictsHead, phaseCount, groupCount, groupSet, conflictSet}
+use Rattle.read_matrix.specs.declared.matrix.Layout.{Layout}
+
+-- the counts, and where the records of kinds 3 and 4 start; all records are there
+pub record Laid (b : List ℕ) (w : Layout) : Type 0 where
+  pub phases : w .phases ≡ phaseCount b
+  pub groups : w .groups ≡ groupCount b
+  pub sets : w .sets ≡ bodyAt (groupsHead b)
+  pub conflicts : w .conflicts ≡ bodyAt (conflictsHead b)
+  pub fewPhases : w .phases ≤ 7
+  pub someGroups : 1 ≤ w .groups
+  pub fewGroups : w .groups ≤ 32
+  pub near : w .conflicts ≤ 4000
+  pub apart : w .sets + 2 * w .groups ≤ w .conflicts
+  pub held : w .conflicts + 4 * w .groups ≤ length b
+
+-- row r of the tile is the byte at `at + r * stride`
+pub record ByteRows (b : List ℕ) (at stride rows t : ℕ) : Type 0 where
+  pub told : (r c : ℕ) → r < rows → c < 8 → bit (8 * r + c) t ≡ bit c (byteAt b (at + r * stride))
+
+-- the conflicts of band a's groups, one a row, with those of band k
+pub record ConflictRows (b : List ℕ) (a k t : ℕ) : Type 0 where
+  pub told :
+      (r c : ℕ) → r < 8 → c < 8 → 8 * a + r < groupCount b → bit (8 * r + c) t ≡ bit (8 * k + c) (conflictSet b (8 * a + r))
+
+-- the phase sets of band a's groups, one a row
+pub record SetRows (b : List ℕ) (a t : ℕ) : Type 0 where
+  pub told : (r p : ℕ) → r < 8 → p < 8 → 8 * a + r < groupCount b → bit (8 * r + p) t ≡ bit p (groupSet b (8 * a + r))
+
+-- those of all bands, a tile each
+pub record SetTiles (b tiles : List ℕ) : Type 0 where
+  pub told : (a : ℕ) → 8 * a < groupCount b → SetRows b a (getD tiles a 0)
+
+-- the members of each phase in band k, one phase a row
+pub record MemberRows (b : List ℕ) (k t : ℕ) : Type 0 where
+  pub told : (p c : ℕ) → p < 8 → c < 8 → 8 * k + c < groupCount b → bit (8 * p + c) t ≡ bit p (groupSet b (8 * k + c))
+
+-- groups g and j conflict with each other or not at all, not where they are one group, and not where they share a phase
+pub record PairSound (b : List ℕ) (g j : ℕ) : Type 0 where
+  pub answered : bit j (conflictSet b g) ≡ bit g (conflictSet b j)
+  pub other : g ≡ j → bit j (conflictSet b g) ≡ false
+  pub apart :
+      (p : ℕ) →
+      p < phaseCount b →
+      bit j (conflictSet b g) ≡ true →
+      bit p (groupSet b g) ≡ true →
+      bit p (groupSet b j) ≡ false
+
+-- the same of each group of band a with each of band k
+abbrev pub BlockSound : List ℕ → ℕ → ℕ → Type 0
+BlockSound b a k =
+    (r c : ℕ) → r < 8 → c < 8 → 8 * a + r < groupCount b → 8 * k + c < groupCount b → PairSound b (8 * a + r) (8 * k + c)
+
+-- the same of each group of the bands from k on with each of band k
+abbrev pub BandSound : List ℕ → ℕ → Type 0
+BandSound b k = (a : ℕ) → k ≤ a → BlockSound b a k
+
+-- the same of any two groups
+abbrev pub AllSound : List ℕ → Type 0
+AllSound b = (g j : ℕ) → g < groupCount b → j < groupCount b → PairSound b g j

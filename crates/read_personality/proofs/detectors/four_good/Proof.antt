@@ -1,0 +1,55 @@
+-- `detectors::four_good` meets its contract: a number that passes both tests passes them record by record.
+use Prim.Native.Nat.{ℕ, _*_, _-_, _≤_, _<_}
+use native.Mathlib.Omega.{arith}
+use lib.Bits.{and-le-r}
+use borrow.Author.Needs.{needs}
+use Rattle.rules.specs.Bytes.{byteAt}
+use Rattle.rules.specs.Personality.{phaseCount}
+use Rattle.read_personality.proofs.Words.{both-tests, four-good}
+use Rattle.read_personality.proofs.detectors.four_good.Statement.{statement}
+use Rattle.read_personality.proofs.detectors.four_good.Tie as tie
+
+add-eight-in : tie.Need-add-eight-in
+add-eight-in c = search needs
+
+mul-eight-in : tie.Need-mul-eight-in
+mul-eight-in c = search needs
+
+add-eight-in-2 : tie.Need-add-eight-in-2
+add-eight-in-2 c = search needs
+
+eight-in-requires : tie.Need-eight-in-requires
+eight-in-requires c κs = search needs
+
+sub-limits : tie.Need-sub-limits
+sub-limits c = search needs
+
+mul-limits : tie.Need-mul-limits
+mul-limits c = search needs
+
+add-raised : tie.Need-add-raised
+add-raised c = omega (arith, and-le-r (c .eight-in .result) 0x7b7f7b7f7b7f7b7f)
+
+returns : tie.Need-returns
+unfolding byteAt
+returns c = λ t.
+    let atStart = c .before .before in
+    let b = atStart .args .s .now in
+    let bytes : (i : ℕ) → byteAt b i < 256 = λ i. omega (arith, c .before .shared-slice-known .given i) in
+    let few : phaseCount b ≤ 7 = omega arith in
+    let limits = 0x0001000100010001 * (0x7d80 - atStart .args .phases) in
+    let passes = both-tests (c .eight-in .result) 0x8080808080808080 0x7b7f7b7f7b7f7b7f limits t in
+    four-good b bytes few (atStart .args .d) (rw (c .eight-in .ensures, atStart .pre .0, atStart .pre .1) at passes)
+
+pub four-good-spec : {M : Type 1} → statement M
+four-good-spec =
+    tie.close
+    (tie.spec
+    add-eight-in
+    mul-eight-in
+    add-eight-in-2
+    eight-in-requires
+    sub-limits
+    mul-limits
+    add-raised
+    returns)

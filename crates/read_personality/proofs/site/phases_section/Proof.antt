@@ -1,0 +1,69 @@
+-- `site::phases_section` meets its contract: head, then the records of times.
+use Prim.Native.Nat.{_*_}
+use mathlib.Core.Path.{_≡_, sym, _∙_}
+use native.Mathlib.Omega.{arith}
+use lib.Dec.{eqb}
+use borrow.Author.Needs.{needs}
+use Rattle.rules.specs.Personality.{bodyLength, bodyAt, phasesHead, phaseCount, sectionAt, phasesSection}
+use Rattle.proof_acceptance.proofs.Sections.{records-held}
+use Rattle.read_sections.proofs.Firsts.{or-next, or-stop}
+use Rattle.read_personality.proofs.site.phases_section.Statement.{statement}
+use Rattle.read_personality.proofs.site.phases_section.Tie as tie
+
+phase-count-requires : tie.Need-phase-count-requires
+phase-count-requires c κs = search needs
+
+cast-count : tie.Need-cast-count
+cast-count c = search needs
+
+mul-sized-section : tie.Need-mul-sized-section
+mul-sized-section c = search needs
+
+sized-section-requires : tie.Need-sized-section-requires
+sized-section-requires c κs = search needs
+
+enum-told : tie.Need-enum-told
+enum-told c = search needs
+
+-- the head is held to the length that P needs
+checked :
+    (c : tie.After-sized-section) →
+    let b = c .before .before .before .args .s .now in
+    c .sized-section .result ≡ sectionAt b phasesHead 2 (eqb (bodyLength b phasesHead) (phaseCount b * 12))
+checked c = rw (c .before .phase-count .ensures) at (c .sized-section .ensures)
+
+returns : tie.Need-returns
+unfolding phasesSection
+returns c = or-stop _ (checked (c .before .before)) (c .enum-told .given .1)
+
+enum-told-2 : tie.Need-enum-told-2
+enum-told-2 c = search needs
+
+time-records-requires : tie.Need-time-records-requires
+unfolding bodyAt
+time-records-requires c κs =
+    let atSection = c .before .before in
+    let b = atSection .before .before .before .args .s .now in
+    omega (arith, records-held b phasesHead 2 (phaseCount b) 12 (sym (checked atSection) ∙ c .enum-told2 .given .1))
+
+returns-2 : tie.Need-returns-2
+unfolding phasesSection
+returns-2 c =
+    let headPassed = c .before in
+    let atCount = headPassed .before .before .before in
+    or-next (checked (headPassed .before .before)) (headPassed .enum-told2 .given .1)
+    (rw (atCount .phase-count .ensures) at (c .time-records .ensures))
+
+pub phases-section-spec : {M : Type 1} → statement M
+phases-section-spec =
+    tie.close
+    (tie.spec
+    phase-count-requires
+    cast-count
+    mul-sized-section
+    sized-section-requires
+    enum-told
+    returns
+    enum-told-2
+    time-records-requires
+    returns-2)

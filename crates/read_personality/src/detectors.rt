@@ -1,0 +1,102 @@
+// Kind 5: the detectors, each with its phase and its mode.
+ghost use Prim.Native.Nat.{_+_, _*_, _≤_};
+ghost use mathlib.Core.Bool.{true, false, not, _||_};
+ghost use mathlib.Core.Path.{_≡_};
+ghost use lib.Dec.{leb};
+ghost use lib.ListN.{length};
+ghost use Rattle.rules.specs.declared.answer.Verdict.the-variants.{Accepted};
+ghost use Rattle.rules.specs.Bytes.{fourAt};
+ghost use Rattle.rules.specs.Verdicts.{refuseIf, firstOf};
+ghost use Rattle.rules.specs.Personality.{recordAt, phaseCount, detectorsHead, detectorCount, knownMode, badDetector};
+ghost use Rattle.rules.specs.Personality.{siteSection, detectorsSection};
+use base_reads::byte_in;
+use base_reads::four_in;
+use base_reads::two_in;
+use read_sections::heads::detectors_head;
+use read_sections::heads::phase_count;
+use read_sections::section;
+use rules::answer::Verdict;
+
+// A phase at or above P, or a mode not 0, 1, 2, 4, 5, 6. Without the bit that 4 is, a known mode is 0, 1 or 2.
+fn bad_detector(phase: u8, mode: u8, phases: u8) -> bool
+    ensures { λ r. ⌜ r ≡ (leb phases phase || not (knownMode mode)) ⌝ }
+{
+    (phases <= phase) | (3 <= mode & 251)
+}
+
+// The number in the eight bytes from i on.
+fn eight_in(s: &[u8], i: usize) -> u64
+    requires { ⌜ i + 8 ≤ length (now s) ⌝ }
+    ensures { λ r. ⌜ r ≡ fourAt (now (s .entry)) i + 4294967296 * fourAt (now (s .entry)) (i + 4) ⌝ }
+{
+    (four_in(s, i) as u64) + 4294967296 * (four_in(s, i + 4) as u64)
+}
+
+// Whether the four records from d on are seen to be good, all at once: true says that they are, false says nothing. With 0x80 - P added,
+// a phase at or above P reaches 0x80; with 0x7d added, an unknown mode without the bit that 4 is does. Only what is below 0x80 is added
+// to, so no byte carries into the next.
+fn four_good(s: &[u8], head: usize, d: usize, phases: u8) -> bool
+    requires { ⌜ (head ≡ detectorsHead (now s)) × (phases ≡ phaseCount (now s)) × (head ≤ 10000) × (d ≤ 32767) × (phases ≤ 7)
+        × (head + 4 + (d + 4) * 2 ≤ length (now s)) ⌝ }
+    ensures { λ r. ⌜ (r ≡ true →
+        (badDetector (now (s .entry)) d ≡ false) × (badDetector (now (s .entry)) (d + 1) ≡ false)
+        × (badDetector (now (s .entry)) (d + 2) ≡ false) × (badDetector (now (s .entry)) (d + 3) ≡ false)) ⌝ }
+{
+    let records = eight_in(s, head + 4 + d * 2);
+    let limits = 0x0001000100010001 * (0x7d80 - (phases as u64));
+    let raised = (records & 0x7b7f7b7f7b7f7b7f) + limits;
+    (records & 0x8080808080808080 == 0) & (raised & 0x8080808080808080 == 0)
+}
+
+// How many records, four by four from the first on, are seen to be good.
+fn good_fours(s: &[u8], head: usize, phases: u8, count: usize) -> usize
+    requires { ⌜ (head ≡ detectorsHead (now s)) × (phases ≡ phaseCount (now s)) × (head ≤ 10000) × (count ≤ 32767) × (phases ≤ 7)
+        × (head + 4 + count * 2 ≤ length (now s)) ⌝ }
+    ensures { λ r. ⌜ (r ≤ count) × (firstOf
+        (λ d. refuseIf (badDetector (now (s .entry)) d) 11 (recordAt (detectorsHead (now (s .entry))) 2 d)) r ≡ Accepted) ⌝ }
+{
+    let mut d: usize = 0;
+    while d + 4 <= count {
+        if !four_good(s, head, d, phases) {
+            return d;
+        }
+        d += 4;
+    }
+    d
+}
+
+// 11: the first bad detector record, where all of them are in the slice.
+fn detector_records(s: &[u8], head: usize, phases: u8, count: usize) -> Verdict
+    requires { ⌜ (head ≡ detectorsHead (now s)) × (phases ≡ phaseCount (now s)) × (count ≡ detectorCount (now s))
+        × (head ≤ 10000) × (count ≤ 32767) × (phases ≤ 7) × (head + 4 + count * 2 ≤ length (now s)) ⌝ }
+    ensures { λ r. ⌜ r ≡ firstOf
+        (λ d. refuseIf (badDetector (now (s .entry)) d) 11 (recordAt (detectorsHead (now (s .entry))) 2 d))
+        (detectorCount (now (s .entry))) ⌝ }
+{
+    let mut d = good_fours(s, head, phases, count);
+    while d < count {
+        let place = head + 4 + d * 2;
+        if bad_detector(byte_in(s, place), byte_in(s, place + 1), phases) {
+            return Verdict::Refused { number: 11, place };
+        }
+        d += 1;
+    }
+    Verdict::Accepted
+}
+
+// The body length is even and at most that of 48 records. Kind 1 has been accepted before it.
+pub fn detectors_section(s: &[u8]) -> Verdict
+    requires { ⌜ siteSection (now s) ≡ Accepted ⌝ }
+    ensures { λ r. ⌜ r ≡ detectorsSection (now (s .entry)) ⌝ }
+{
+    let place = detectors_head(s);
+    if s.len() < place + 4 {
+        return Verdict::Refused { number: 1, place };
+    }
+    let length = two_in(s, place);
+    let head = section(s, place, 5, (length % 2 == 0) & (length <= 96));
+    if let Verdict::Refused { .. } = head {
+        return head;
+    }
+    detector_records(s, place, phase_count(s), (length / 2) as usize)
+}

@@ -1,0 +1,57 @@
+// What the sections of a personality have in common: where their heads stand, the check of a head with its body, and records of times.
+ghost use Prim.Native.Nat.{_≤_};
+ghost use mathlib.Core.Path.{_≡_};
+ghost use lib.Dec.{eqb};
+ghost use Rattle.rules.specs.Personality.{bodyLength, sectionAt};
+
+pub mod heads;
+pub mod times;
+
+use base_reads::two_in;
+use rules::answer::Verdict;
+
+// A section's head, and that its body is there: 1, 2, 3, 1, all at the head.
+pub fn section(s: &[u8], head: usize, kind: u16, right: bool) -> Verdict
+    requires { ⌜ head ≤ 100000 ⌝ }
+    ensures { λ r. ⌜ r ≡ sectionAt (now (s .entry)) head kind right ⌝ }
+{
+    if s.len() < head + 4 {
+        return Verdict::Refused {
+            number: 1,
+            place: head,
+        };
+    }
+    if two_in(s, head + 2) != kind {
+        return Verdict::Refused {
+            number: 2,
+            place: head,
+        };
+    }
+    if !right {
+        return Verdict::Refused {
+            number: 3,
+            place: head,
+        };
+    }
+    if s.len() < head + 4 + (two_in(s, head) as usize) {
+        return Verdict::Refused {
+            number: 1,
+            place: head,
+        };
+    }
+    Verdict::Accepted
+}
+
+// The same where the body has to have just so many bytes.
+pub fn sized_section(s: &[u8], head: usize, kind: u16, bytes: usize) -> Verdict
+    requires { ⌜ head ≤ 100000 ⌝ }
+    ensures { λ r. ⌜ r ≡ sectionAt (now (s .entry)) head kind (eqb (bodyLength (now (s .entry)) head) bytes) ⌝ }
+{
+    if s.len() < head + 4 {
+        return Verdict::Refused {
+            number: 1,
+            place: head,
+        };
+    }
+    section(s, head, kind, two_in(s, head) as usize == bytes)
+}

@@ -1,0 +1,55 @@
+// Records of two-byte times that are in the slice, each field held to the one table of limits.
+ghost use Prim.Native.Nat.{_+_, _*_, _≤_};
+ghost use mathlib.Core.Path.{_≡_};
+ghost use lib.ListN.{length};
+ghost use Rattle.rules.specs.Personality.{recordAt, timeAt, timesAt};
+ghost use Rattle.rules.specs.Verdicts.{firstOf};
+use base_limits::admits;
+use base_reads::two_in;
+use rules::answer::Verdict;
+
+// 5: a time outside its range.
+pub fn time(s: &[u8], place: usize, setting: usize) -> Verdict
+    requires { ⌜ place + 2 ≤ length (now s) ⌝ }
+    ensures { λ r. ⌜ r ≡ timeAt (now (s .entry)) place setting ⌝ }
+{
+    if admits(setting, two_in(s, place)) {
+        return Verdict::Accepted;
+    }
+    Verdict::Refused { number: 5, place }
+}
+
+// A record of two-byte times, field by field, where the first is that of the setting given.
+pub fn times(s: &[u8], place: usize, setting: usize, fields: usize) -> Verdict
+    requires { ⌜ (place ≤ 100000) × (setting ≤ 10) × (fields ≤ 10) × (place + fields * 2 ≤ length (now s)) ⌝ }
+    ensures { λ r. ⌜ r ≡ timesAt (now (s .entry)) place setting fields ⌝ }
+{
+    let mut f: usize = 0;
+    while f < fields {
+        let v = time(s, place + f * 2, setting + f);
+        if let Verdict::Refused { .. } = v {
+            return v;
+        }
+        f += 1;
+    }
+    Verdict::Accepted
+}
+
+// A section's records of times, one after the other.
+pub fn time_records(s: &[u8], head: usize, setting: usize, fields: usize, count: usize) -> Verdict
+    requires { ⌜ (head ≤ 90000) × (setting ≤ 10) × (fields ≤ 10) × (count ≤ 255)
+        × (head + 4 + count * (fields * 2) ≤ length (now s)) ⌝ }
+    ensures { λ r. ⌜ r ≡ firstOf (λ i. timesAt (now (s .entry)) (recordAt head (fields * 2) i) setting fields) count ⌝ }
+{
+    let mut place = head + 4;
+    let mut i: usize = 0;
+    while i < count {
+        let v = times(s, place, setting, fields);
+        if let Verdict::Refused { .. } = v {
+            return v;
+        }
+        place += fields * 2;
+        i += 1;
+    }
+    Verdict::Accepted
+}

@@ -1,0 +1,58 @@
+-- `read_site::phase_times` meets its contract: before phase p the records of the phases below p are in place, the rest is blank.
+use Prim.Native.Nat.{_-_}
+use Rattle.rules.specs.Personality.{phaseCount}
+use Rattle.rules.specs.Site.{noPhaseTimes, phaseTimesAt, timesIn}
+use Rattle.read_site.proofs.Ends.{phase-held}
+use Rattle.read_site.proofs.Filling.{Filled, filled-none, filled-more, filled-whole}
+use borrow.Author.Needs.{needs}
+use native.Mathlib.Omega.{arith}
+use Rattle.read_site.proofs.phase_times.Statement.{statement}
+use Rattle.read_site.proofs.phase_times.Tie as tie
+
+abbrev Inv-loop : tie.InvT-loop
+Inv-loop s count phases₀ p₀ phases p = Filled (phaseTimesAt s) (phaseCount s) 7 noPhaseTimes p phases
+
+abbrev μ-loop : tie.MeasureT-loop
+μ-loop s count phases₀ p₀ phases p = count - p
+
+loop-holds : tie.Need-loop-holds Inv-loop μ-loop
+loop-holds c = filled-none
+
+phase-times-at-requires : tie.Need-phase-times-at-requires Inv-loop μ-loop
+phase-times-at-requires c κs =
+    let asked = c .before .before .before .pre in
+    phase-held (asked .1) (asked .0) (c .loop-test .taken)
+
+mul-phases : tie.Need-mul-phases Inv-loop μ-loop
+mul-phases c = search needs
+
+array-set-from-phases : tie.Need-array-set-from-phases Inv-loop μ-loop
+array-set-from-phases c = search needs
+
+add-p : tie.Need-add-p Inv-loop μ-loop
+add-p c = search needs
+
+loop-less : tie.Need-loop-less Inv-loop μ-loop
+loop-less c = search needs
+
+loop-again : tie.Need-loop-again Inv-loop μ-loop
+loop-again c = filled-more (c .before .before .loop .inv) (c .phase-times-at .ensures) (omega arith) (omega arith)
+
+returns : tie.Need-returns Inv-loop μ-loop
+unfolding timesIn
+returns c = filled-whole (c .before .loop .inv) (omega arith)
+
+pub phase-times-spec : {M : Type 1} → statement M
+phase-times-spec =
+    tie.close
+    (tie.spec
+    Inv-loop
+    μ-loop
+    loop-holds
+    phase-times-at-requires
+    mul-phases
+    array-set-from-phases
+    add-p
+    loop-less
+    loop-again
+    returns)

@@ -1,0 +1,113 @@
+// The trace program's work on slices: the input bits of a step record, and the text of a line, from a state's position and the
+// colours that the groups show.
+ghost use Prim.Native.Nat.{_+_, _*_};
+ghost use mathlib.Core.Path.{_≡_};
+ghost use lib.ListN.{length, getD};
+ghost use Rattle.rules.specs.Intervals.{letterOf};
+ghost use Rattle.rules.specs.TraceText.{phaseLetter, colourLetter, lineTail};
+ghost use Rattle.run_text.specs.Lines.{inputsOf, leading, shown, tailLength, tailOf, Counted};
+use rules::state::Interval;
+use rules::state::Position;
+
+const PHASES: [u8; 7] = [65, 66, 67, 68, 69, 70, 71];
+
+const COLOURS: [u8; 4] = [82, 89, 71, 70];
+
+// A to G, or a question mark.
+fn phase_letter(phase: u8) -> u8
+    ensures { λ r. ⌜ r ≡ phaseLetter phase ⌝ }
+{
+    let at = phase as usize;
+    if at < PHASES.len() { PHASES[at] } else { 63 }
+}
+
+// R, Y, G or F.
+fn colour_letter(code: u8) -> u8
+    ensures { λ r. ⌜ r ≡ colourLetter code ⌝ }
+{
+    let at = code as usize;
+    if at < COLOURS.len() { COLOURS[at] } else { 82 }
+}
+
+// S, L, M, G, Y or R.
+fn interval_letter(interval: Interval) -> u8
+    ensures { λ r. ⌜ r ≡ letterOf interval ⌝ }
+{
+    match interval {
+        Interval::StartRed => 83,
+        Interval::LateStart => 76,
+        Interval::MinimumGreen => 77,
+        Interval::Running => 71,
+        Interval::Yellow => 89,
+        Interval::AllRed => 82,
+    }
+}
+
+// Letter i of a line up to the groups: a space, the phase, a space, the interval, a space.
+fn leading_letter(position: Position, i: usize) -> u8
+    ensures { λ r. ⌜ r ≡ getD (leading position) i 32 ⌝ }
+{
+    if i == 1 {
+        return phase_letter(position.phase);
+    }
+    if i == 3 {
+        let interval = position.interval;
+        return interval_letter(interval);
+    }
+    32
+}
+
+// Letter i of a line from the groups on: one letter a group, and the line's end.
+fn shown_letter(colours: &[u8], i: usize) -> u8
+    ensures { λ r. ⌜ r ≡ getD (shown (now (colours .entry))) i 10 ⌝ }
+{
+    if i < colours.len() {
+        colour_letter(colours[i])
+    } else {
+        10
+    }
+}
+
+// Letter i of what follows the step's number in a line.
+fn letter(position: Position, colours: &[u8], i: usize) -> u8
+    ensures { λ r. ⌜ r ≡ getD (lineTail position (now (colours .entry))) i 10 ⌝ }
+{
+    if i < 5 {
+        leading_letter(position, i)
+    } else {
+        shown_letter(colours, i - 5)
+    }
+}
+
+// Puts what follows the step's number in a line at the start of out and answers its length. Where out has no room for it, out
+// stays as it is and the answer is 0.
+pub fn tail(position: Position, colours: &[u8], out: &mut [u8]) -> usize
+    ensures { λ r. ⌜ Counted r (now (out .exit)) ⌝ }
+    ensures { λ r. ⌜ r ≡ tailLength (length (now (colours .entry))) (length (now (out .entry))) ⌝ }
+    ensures { λ _. ⌜ now (out .exit) ≡ tailOf position (now (colours .entry)) (now (out .entry)) ⌝ }
+{
+    let end = colours.len() + 6;
+    if out.len() < end {
+        return 0;
+    }
+    let mut i: usize = 0;
+    while i < end {
+        out[i] = letter(position, colours, i);
+        i += 1;
+    }
+    end
+}
+
+// The number that two halves of four bytes make.
+fn joined(low: u32, high: u32) -> u64
+    ensures { λ r. ⌜ r ≡ low + 4294967296 * high ⌝ }
+{
+    (low as u64) + 4294967296 * (high as u64)
+}
+
+// The 64 input bits in the 8 bytes of a step record.
+pub fn inputs(bytes: &[u8]) -> u64
+    ensures { λ r. ⌜ r ≡ inputsOf (now (bytes .entry)) ⌝ }
+{
+    joined(base_reads::four(bytes, 0), base_reads::four(bytes, 4))
+}

@@ -1,0 +1,180 @@
+// The checks of a step call on its state and on its input bits.
+ghost use Prim.Native.Nat.{_<_};
+ghost use mathlib.Core.Bool.{_&&_};
+ghost use mathlib.Core.Path.{_≡_};
+ghost use lib.ListN.{length};
+ghost use Rattle.rules.specs.Bytes.{bit};
+ghost use Rattle.rules.specs.Call.{strayInput};
+ghost use Rattle.rules.specs.Rows.{allOf};
+ghost use Rattle.rules.specs.State.{ageValid, cameValid, targetValid, valid};
+ghost use Rattle.step_checks.specs.Parts.{positionValid, countsValid, demandExists, recordValid, recordAt, Phased, Wired};
+use rules::site::PhaseTimes;
+use rules::site::Site;
+use rules::state::Counts;
+use rules::state::Held;
+use rules::state::Movement;
+use rules::state::Position;
+use rules::state::State;
+
+// Ages are from 1 to 2,000 steps.
+const HIGHEST_AGE: u16 = 2000;
+
+// 2 ^ 48: input bits 0 to 47 are the detectors', those from 48 on the buttons'.
+const BUTTON_BITS: u64 = 281474976710656;
+
+fn age_valid(age: u16) -> bool
+    ensures { λ r. ⌜ r ≡ ageValid age ⌝ }
+{
+    (1 <= age) & (age <= HIGHEST_AGE)
+}
+
+// Came-from is a phase or none.
+fn came_valid(phases: u8, came: Held) -> bool
+    ensures { λ r. ⌜ r ≡ cameValid phases came ⌝ }
+{
+    match came {
+        Held::Nothing => true,
+        Held::Phase { phase } => phase < phases,
+    }
+}
+
+// A target unlike the phase, held in yellow and all-red only.
+fn target_valid(phases: u8, phase: u8, leaving: bool, target: Held) -> bool
+    ensures { λ r. ⌜ r ≡ targetValid phases phase leaving target ⌝ }
+{
+    match target {
+        Held::Nothing => !leaving,
+        Held::Phase { phase: next } => leaving & (next < phases) & (next != phase),
+    }
+}
+
+// Target, came-from and age.
+fn position_valid(phases: u8, position: Position) -> bool
+    ensures { λ r. ⌜ r ≡ positionValid phases position ⌝ }
+{
+    let interval = position.interval;
+    let target = position.target;
+    let came = position.came;
+    let age = position.age;
+    target_valid(
+        phases,
+        position.phase,
+        base_intervals::leaving(interval),
+        target,
+    )
+        & came_valid(phases, came)
+        & age_valid(age)
+}
+
+// The gap count is at most G, and the maximum count at most X of the phase.
+fn counts_valid(times: PhaseTimes, counts: Counts) -> bool
+    ensures { λ r. ⌜ r ≡ countsValid times counts ⌝ }
+{
+    (counts.gap <= times.gap) & (counts.maximum <= times.maximum)
+}
+
+// Demands only of phases or movements that exist: the last one, counted from 1, is within the count.
+fn demands_valid(demands: &[bool], count: u8) -> bool
+    ensures { λ r. ⌜ r ≡ allOf (demandExists (now (demands .entry)) count) (length (now (demands .entry))) ⌝ }
+{
+    let mut last: usize = 0;
+    let mut i: usize = 0;
+    while i < demands.len() {
+        let demand = demands[i];
+        i += 1;
+        last = if demand { i } else { last };
+    }
+    last <= count as usize
+}
+
+// One movement record: an idle one is at age 1. Any other has a valid age, is of the phase, is not in walk or C1 in yellow and all-red,
+// and is not in start red. A movement that doesn't exist is of no phase.
+fn record_valid(
+    exists: bool,
+    set: u8,
+    phase: u8,
+    leaving: bool,
+    start_red: bool,
+    movement: Movement,
+) -> bool
+    requires { ⌜ phase < 8 ⌝ }
+    ensures { λ r. ⌜ r ≡ recordValid (exists && bit phase set) leaving «start_red» movement ⌝ }
+{
+    let stage = movement.stage;
+    let age = movement.age;
+    if base_intervals::idle(stage) {
+        return age == 1;
+    }
+    age_valid(age)
+        & (exists & ((set >> phase) % 2 == 1))
+        & !(leaving & base_intervals::walk_or_first(stage))
+        & !start_red
+}
+
+// All movement records, up to the first that is not valid.
+fn movements_valid(
+    count: u8,
+    crossings: [u8; 8],
+    phase: u8,
+    leaving: bool,
+    start_red: bool,
+    movements: [Movement; 8],
+) -> bool
+    requires { ⌜ phase < 8 ⌝ }
+    ensures { λ r. ⌜ r ≡ allOf (recordAt count crossings phase leaving «start_red» movements) 8 ⌝ }
+{
+    let mut k: u8 = 0;
+    while k < 8 {
+        let i = k as usize;
+        let set = crossings[i];
+        let own = movements[i];
+        if !record_valid(k < count, set, phase, leaving, start_red, own) {
+            return false;
+        }
+        k += 1;
+    }
+    true
+}
+
+// Whether the state is valid for the site.
+pub fn valid_state(site: Site, state: State) -> bool
+    requires { ⌜ Phased site ⌝ }
+    ensures { λ r. ⌜ r ≡ valid site state ⌝ }
+{
+    let phases = site.size.phases;
+    let count = site.size.movements;
+    let position = state.position;
+    let phase = position.phase;
+    if phase >= phases {
+        return false;
+    }
+    let counts = state.counts;
+    let demands = state.demands;
+    let locks = demands.locks;
+    let buttons = demands.buttons;
+    let times = site.times;
+    let rows = times.phases;
+    let own = rows[phase as usize];
+    let crossings = site.crossings;
+    let movements = state.movements;
+    let interval = position.interval;
+    let leaving = base_intervals::leaving(interval);
+    let start_red = base_intervals::start_red(interval);
+    position_valid(phases, position)
+        & counts_valid(own, counts)
+        & demands_valid(&locks, phases)
+        & demands_valid(&buttons, count)
+        & movements_valid(count, crossings, phase, leaving, start_red, movements)
+}
+
+// Whether an input bit is set without a detector or button there.
+pub fn stray(site: Site, inputs: u64) -> bool
+    requires { ⌜ Wired site ⌝ }
+    ensures { λ r. ⌜ r ≡ strayInput site inputs ⌝ }
+{
+    let detectors = site.size.detectors;
+    let buttons = site.size.movements;
+    let low = inputs % BUTTON_BITS;
+    let high = inputs / BUTTON_BITS;
+    (low >> detectors != 0) | (high >> buttons != 0)
+}

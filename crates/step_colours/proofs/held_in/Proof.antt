@@ -1,0 +1,25 @@
+-- `step_colours::held_in` meets its contract: no set has what is not held, and a phase is in a set where its bit is.
+use borrow.Author.Needs.{needs}
+use Rattle.rules.specs.Intervals.{heldIn}
+use Rattle.step_colours.proofs.held_in.Statement.{statement}
+use Rattle.step_colours.proofs.held_in.Tie as tie
+
+enum-told : tie.Need-enum-told
+enum-told c = search needs
+
+enum-known-held : tie.Need-enum-known-held
+enum-known-held c = search needs
+
+bit8-requires : tie.Need-bit8-requires
+bit8-requires c κs = search needs
+
+returns : tie.Need-returns
+unfolding heldIn
+returns c = rw (c .enum-told .given .1)
+
+returns-2 : tie.Need-returns-2
+unfolding heldIn
+returns-2 c = rw (c .before .before .held .given .1) (c .bit8 .ensures)
+
+pub held-in-spec : {M : Type 1} → statement M
+held-in-spec = tie.close (tie.spec enum-told enum-known-held bit8-requires returns returns-2)

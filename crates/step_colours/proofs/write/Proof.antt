@@ -1,0 +1,25 @@
+-- `step_colours::write` meets its contract: what the site's groups show of the state's position and movements is the colours of the state.
+use lib.ListN.{length}
+use borrow.Author.Needs.{needs}
+use Rattle.step_colours.proofs.Parts.{parts-shown, parts-within}
+use Rattle.step_colours.proofs.write.Statement.{statement}
+use Rattle.step_colours.proofs.write.Tie as tie
+
+cast-count : tie.Need-cast-count
+cast-count c = search needs
+
+show-requires : tie.Need-show-requires
+show-requires c κs =
+    let start = c .before .before .before .before .before .before in
+    parts-within (start .args .site) (length (start .args .buffer .now)) (start .pre)
+
+same-length : tie.Need-same-length
+same-length c = search needs
+
+returns : tie.Need-returns
+returns c =
+    let start = c .before .before .before .before .before .before .before .before .before in
+    parts-shown (start .args .site) (start .args .state) (start .args .buffer .now) (c .before .before .show .ensures)
+
+pub write-spec : {M : Type 1} → statement M
+write-spec = tie.close (tie.spec cast-count show-requires same-length returns)

@@ -1,0 +1,141 @@
+// The colours that the signal groups show in a state, one byte a group.
+ghost use mathlib.Core.List.{_++_};
+ghost use mathlib.Core.Path.{_≡_};
+ghost use lib.ListN.{length, drop};
+ghost use Rattle.rules.specs.Intervals.{heldIn};
+ghost use Rattle.rules.specs.Rows.{listOf};
+ghost use Rattle.rules.specs.Colours.{vehicleColour, movementColour, coloursOf};
+ghost use Rattle.step_colours.specs.Parts.{vehicleShown, shownAt, Within};
+ghost use Rattle.step_colours.specs.Sized.{Sized};
+use rules::site::Group;
+use rules::site::Site;
+use rules::state::Held;
+use rules::state::Interval;
+use rules::state::Movement;
+use rules::state::Position;
+use rules::state::Stage;
+use rules::state::State;
+
+// What a signal group shows, by its code.
+pub struct Colour {
+    pub code: u8,
+}
+
+// Whether the set has the phase held.
+fn held_in(held: Held, set: u8) -> bool
+    ensures { λ r. ⌜ r ≡ heldIn held set ⌝ }
+{
+    match held {
+        Held::Nothing => false,
+        Held::Phase { phase } => base_reads::bit8(phase, set),
+    }
+}
+
+impl Colour {
+    pub const RED: u8 = 0;
+
+    pub const YELLOW: u8 = 1;
+
+    pub const GREEN: u8 = 2;
+
+    pub const FLASHING: u8 = 3;
+
+    // A vehicle group of the state's phase, by the interval. In late start mark 1 waits in red unless came-from is in its set; in yellow
+    // and all-red the group stays green if its set has the target also.
+    pub fn of_group(interval: Interval, came: Held, target: Held, group: Group) -> u8
+        ensures { λ r. ⌜ r ≡ vehicleColour interval came target group ⌝ }
+    {
+        match interval {
+            Interval::StartRed => Self::RED,
+            Interval::LateStart => {
+                if (group.mark == 1) & !held_in(came, group.phases) {
+                    Self::RED
+                } else {
+                    Self::GREEN
+                }
+            }
+            Interval::MinimumGreen => Self::GREEN,
+            Interval::Running => Self::GREEN,
+            Interval::Yellow => {
+                if held_in(target, group.phases) {
+                    Self::GREEN
+                } else {
+                    Self::YELLOW
+                }
+            }
+            Interval::AllRed => {
+                if held_in(target, group.phases) {
+                    Self::GREEN
+                } else {
+                    Self::RED
+                }
+            }
+        }
+    }
+
+    // A pedestrian group, by its movement's stage.
+    pub fn of_movement(stage: Stage) -> u8
+        ensures { λ r. ⌜ r ≡ movementColour stage ⌝ }
+    {
+        match stage {
+            Stage::Idle => Self::RED,
+            Stage::Walk => Self::GREEN,
+            Stage::ClearanceOne => Self::FLASHING,
+            Stage::ClearanceTwo => Self::FLASHING,
+        }
+    }
+}
+
+// A vehicle group, by where the controller stands: one that is not of the phase is red.
+fn vehicle(position: Position, group: Group) -> u8
+    ensures { λ r. ⌜ r ≡ vehicleShown position group ⌝ }
+{
+    if base_reads::bit8(position.phase, group.phases) {
+        let interval = position.interval;
+        let came = position.came;
+        let target = position.target;
+        Colour::of_group(interval, came, target, group)
+    } else {
+        Colour::RED
+    }
+}
+
+// Writes what the first count groups show. It takes the parts that this rests on, and not the site and the state: a parameter with an
+// array that is read by a running index is copied whole.
+fn show(
+    groups: [Group; 32],
+    count: usize,
+    position: Position,
+    movements: [Movement; 8],
+    buffer: &mut [u8],
+)
+    requires { ⌜ Within groups count (length (now buffer)) ⌝ }
+    ensures { λ _. ⌜ now (buffer .exit) ≡ listOf (shownAt groups position movements) count ++ drop count (now (buffer .entry)) ⌝ }
+{
+    let mut movement: usize = 0;
+    let mut g: usize = 0;
+    while g < count {
+        let group = groups[g];
+        if group.mark == 2 {
+            let own = movements[movement];
+            let stage = own.stage;
+            buffer[g] = Colour::of_movement(stage);
+            movement += 1;
+        } else {
+            buffer[g] = vehicle(position, group);
+        }
+        g += 1;
+    }
+}
+
+// Writes the colours of all groups from the buffer's start on; the bytes past them stay as they are.
+pub fn write(site: Site, state: State, buffer: &mut [u8])
+    requires { ⌜ Sized site (length (now buffer)) ⌝ }
+    ensures { λ _. ⌜ now (buffer .exit) ≡ coloursOf site state ++ drop (site .size .groups) (now (buffer .entry)) ⌝ }
+{
+    let groups = site.groups;
+    let count = site.size.groups as usize;
+    let position = state.position;
+    let movements = state.movements;
+    show(groups, count, position, movements, buffer);
+}

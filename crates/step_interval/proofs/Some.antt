@@ -1,0 +1,63 @@
+-- The end of an interval by the movements: records that are idle add nothing to the question whether some movement is in a stage, and
+-- running waits for it only where it is due.
+use Prim.Native.Nat.{ℕ, zero, suc, _≤_, _<_}
+use mathlib.Core.Bool.{Bool, true, false, not, _&&_, _||_}
+use mathlib.Core.List.{List}
+use mathlib.Core.Logic.{⊎-elim}
+use mathlib.Core.Path.{_≡_, refl, sym, ap, _∙_}
+use native.Mathlib.Nat.{eq-or-lt-of-le}
+use native.Mathlib.Omega.{arith}
+use borrow.Author.Tests.{not-true, not-false}
+use lib.ListN.{getD}
+use Rattle.rules.specs.declared.state.Movement.{Movement}
+use Rattle.rules.specs.declared.state.Stage.{Stage}
+use Rattle.rules.specs.declared.state.Stage.the-variants.{Idle}
+use Rattle.rules.specs.Rows.{anyOf}
+use Rattle.rules.specs.State.{idle}
+use Rattle.rules.specs.Interval.{someMovement}
+use Rattle.rules.proofs.Tests.{and-left, and-right, and-false-right, decided}
+use Rattle.step_interval.specs.IdlePast.{IdlePast}
+
+pub and-true : (a : Bool) → (a && true) ≡ a
+and-true true = refl
+and-true false = refl
+
+or-none : (a : Bool) → (a || false) ≡ a
+or-none true = refl
+or-none false = refl
+
+rest-fails : (f : ℕ → Bool) (n m : ℕ) → n ≤ m → ((k : ℕ) → n ≤ k → k < m → f k ≡ false) → anyOf f n ≡ anyOf f m
+unfolding anyOf
+rest-fails f n zero h fails = let last : n ≡ 0 = omega arith in rw last
+rest-fails f n (suc m) h fails =
+    ⊎-elim
+    (λ (e : n ≡ suc m). rw e)
+    (λ (l : n < suc m).
+    rest-fails f n m (omega arith) (λ k a b. fails k a (omega arith))
+    ∙ rw (fails m (omega arith) (omega arith)) (sym (or-none (anyOf f m))))
+    (eq-or-lt-of-le h)
+
+-- a test that an idle movement fails is settled by the movements that the site has
+pub some-counted :
+    (test : Stage → Bool) (movements : List Movement) (count : ℕ) →
+    IdlePast count movements →
+    test Idle ≡ false →
+    anyOf (λ k. test (getD movements k idle .stage)) count ≡ someMovement test movements
+unfolding someMovement
+some-counted test movements count known fails =
+    rest-fails (λ k. test (getD movements k idle .stage)) count 8 (known .room) (λ k a b. ap test (known .past k a b) ∙ fails)
+
+-- ── Running ends if another phase is demanded, no movement is in the way, and it is due ──
+
+module _ (another some due : Bool) where
+  pub goes-on : not (another && due) ≡ true → false ≡ (another && not some && due)
+  goes-on e =
+      ⊎-elim
+      (λ (a : another ≡ true). let d : due ≡ false = not-true due (rw a at e) in rw (a, d) (sym (and-false-right (not some) refl)))
+      (λ (a : another ≡ false). rw a)
+      (decided another)
+
+  pub goes-by-movements : not (another && due) ≡ false → not some ≡ (another && not some && due)
+  goes-by-movements e =
+      let both = not-false (another && due) e in
+      rw (and-left another due both, and-right another due both) (sym (and-true (not some)))
