@@ -33,7 +33,7 @@ pub record Link (site : Site) (s : State) (step : Taken) : Type 0 where
   pub valid : valid site s ≡ true
   pub wired : strayInput site (step .inputs) ≡ false
   pub after : step .after ≡ stepped site s (step .inputs)
-  pub shown : (g : ℕ) → g < site .size .groups → shows step g ≡ colourOf site (step .after) g
+  pub shown : (g : ℕ) → g < site .size .groups → shows step g ≡ colourOf (site .groups) (step .after .position) (step .after .movements) g
 
 abbrev pub Chain : Site → State → List Taken → Type 0
 Chain site s [] = Unit {0}
@@ -47,11 +47,11 @@ valid-after keeps site sound s step link = rw (link .after) (keeps site sound s 
 
 -- the colours stand before the bytes that are left untouched
 front-shown :
-    (site : Site) (s : State) (rest : List ℕ) (g : ℕ) → g < site .size .groups → getD (coloursOf site s ++ rest) g 0 ≡ colourOf site s g
+    (site : Site) (s : State) (rest : List ℕ) (g : ℕ) → g < site .size .groups → getD (coloursOf site s ++ rest) g 0 ≡ colourOf (site .groups) (s .position) (s .movements) g
 unfolding coloursOf
 front-shown site s rest g h =
-    List·getD-append (coloursOf site s) rest 0 g (subst (λ (n : ℕ). g < n) (sym (list-length (colourOf site s) (site .size .groups))) h)
-    ∙ list-at (colourOf site s) (site .size .groups) g 0 h
+    List·getD-append (coloursOf site s) rest 0 g (subst (λ (n : ℕ). g < n) (sym (list-length (colourOf (site .groups) (s .position) (s .movements)) (site .size .groups))) h)
+    ∙ list-at (colourOf (site .groups) (s .position) (s .movements)) (site .size .groups) g 0 h
 
 module _ (b : List ℕ) (s : State) (c : Call) where
   -- the step that a call with such a verdict makes

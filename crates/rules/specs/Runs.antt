@@ -96,11 +96,11 @@ VehicleCleared site g last since =
 -- A pedestrian group shows first flashing red for C1 + C2 steps in a row; only red follows.
 unfoldable pub PedestrianCleared : Site → ℕ → List Taken → Type 0
 PedestrianCleared site g since =
-    let times = walkTimes (site .times) (movementOf site g) in
+    let times = walkTimes (site .times) (movementOf (site .groups) g) in
     (n : ℕ) × (shownBy g since ≡ replicate (times .first + times .second) flashing ++ replicate n red)
 
 unfoldable pub Cleared : Site → ℕ → Taken → List Taken → Type 0
-Cleared site g last since = if isPedestrian site g then PedestrianCleared site g since else VehicleCleared site g last since
+Cleared site g last since = if isPedestrian (site .groups) g then PedestrianCleared site g since else VehicleCleared site g last since
 
 -- Group g starts a green at `start`, and the conflicting group j was green for the last time after `last`.
 unfoldable pub FullClearances : Site → List Taken → Type 0
