@@ -37,14 +37,23 @@ else
 fi
 if [ "$status" -ne 0 ] && [ "$failed" -eq 0 ]; then failed=1; fi
 
-# The proved trace program prints for each example what the independent model prints.
-same_trace() { ./target/bin/run_trace <"$1" | cmp - "$2"; }
+# The proved trace program and the independent model's, both run here, print for each example the trace that is kept with it, and the
+# same in every way a trace can end.
+proved=./target/bin/run_trace
+model=./rust/target/release/trace
+build_model() { (cd rust && cargo build --quiet --release --offline -p trace); }
+same_trace() (
+    set -o pipefail
+    "$proved" <"$1" | cmp - "$2" && "$model" <"$1" | cmp - "$2"
+)
+check "the model's trace program" build_model
 
 check 'examples: bytes as their texts say' python3 examples/build.py --check
 for input in examples/*/stdin*.bin; do
     trace=$(dirname "$input")/$(basename "$input" .bin | sed 's/^stdin/trace/').txt
     check "$trace" same_trace "$input" "$trace"
 done
+check 'endings of a trace' python3 examples/endings.py "$proved" "$model"
 
 # The vectors of the reader are those that the script makes.
 same_vectors() { python3 vectors/make_reads.py "$log" && cmp "$log" crates/run_reads/data/reads; }
