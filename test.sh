@@ -1,7 +1,7 @@
 #!/usr/bin/env bash
 # Passes everything: layout; every crate proved from nothing, every must-fail edit refused and every program run; the edits of the
-# rules that a theorem must refuse; the example sites and their traces; the vectors; the tests of rust/ and the library against the
-# model.
+# rules that a theorem must refuse; the example sites, their traces and the ways a trace ends; the vectors; the tests of rust/ and the
+# library against the model; the library from C.
 # The last line is `N passed, M failed`; the exit status is 0 only where M is 0.
 set -u
 cd "$(dirname "$0")" || exit 2
@@ -67,6 +67,11 @@ check 'rt staticlib willowera' rt staticlib willowera
 check 'tests of rust/' rust_tests
 check 'library and model agree' compare_with_model 1 50000
 check 'demand 3 watched' compare_with_model 1 watch 4000000
+
+# The library from C: what it needs, the conditions that its header states, and the example program.
+for part in needs conditions steps; do
+    check "examples/c/check.sh $part" examples/c/check.sh "$part"
+done
 
 for edit in edits/*.edit; do
     check "$edit" edits/run.sh "$(basename "$edit" .edit)"
