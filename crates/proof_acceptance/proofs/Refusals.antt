@@ -9,7 +9,6 @@ use mathlib.Core.Path.{_≡_, refl}
 use lib.Dec.{eqb}
 use lib.ListN.{length}
 use native.Mathlib.Omega.{arith}
-use borrow.Author.Tests.{ltb-false}
 use Rattle.rules.specs.declared.answer.Verdict.{Verdict}
 use Rattle.rules.specs.declared.answer.Verdict.the-variants.{Accepted, Refused}
 use Rattle.rules.specs.declared.state.State.{State}
@@ -18,7 +17,7 @@ use Rattle.rules.specs.Verdicts.{_orElse_, refuseIf, firstOf}
 use Rattle.rules.specs.Personality.{bodyAt, bodyLength, recordAt, phaseCount, groupCount, siteHead, phasesHead, groupsHead, conflictsHead, detectorsHead, pedestriansHead, movementCount, detectorCount, endOf, sectionAt, timeAt, timesAt, siteSection, phasesSection, groupRecord, groupsSection, conflictsSection, detectorsSection, pedestriansSection, afterPedestrians, verdictOf}
 use Rattle.rules.specs.Call.{stepVerdict, callVerdict}
 use Rattle.rules.specs.Laws.{readingNumber, stepNumber, greatestLength, AcceptedIsShort, PlaceIn, Written, RefusalIsWritten}
-use Rattle.rules.proofs.Verdicts.{or-later, or-refused, refuse-passed, refuse-failed, first-refused}
+use Rattle.rules.proofs.Verdicts.{or-refused, refuse-failed, first-refused}
 use Rattle.proof_acceptance.proofs.Sections.{SiteAccepted, GroupsAccepted, DetectorsAccepted, records-held, record-within, detectors-held, site-accepted, phases-accepted, groups-accepted, conflicts-accepted, detectors-accepted, pedestrians-accepted, sections-accepted}
 
 -- ── A check, checks in order, and the first of a row ──
@@ -49,7 +48,7 @@ module _ (Allowed : ℕ → ℕ → Type 0) where
 module _ (b : List ℕ) where
   end-near : SiteAccepted b → GroupsAccepted b → bodyLength b (detectorsHead b) ≤ 96 → endOf b ≤ greatestLength
   unfolding endOf pedestriansHead detectorsHead conflictsHead groupsHead bodyAt
-  end-near counts groups short = omega (arith, counts .phases .1, counts .groups .1, groups .movements)
+  end-near counts groups short = omega arith
 
 -- ── The personality's checks ──
 
@@ -106,14 +105,14 @@ module _
       phases : Refusals Allowed (phasesSection b)
       unfolding phasesSection bodyAt
       phases =
-          records phasesHead 2 (phaseCount b) 12 _ (omega (arith, counts .next)) (omega (arith, counts .phases .1))
+          records phasesHead 2 (phaseCount b) 12 _ (omega arith) (omega arith)
           (times phasesHead (phaseCount b) 12 phaseSettings 6 (omega arith))
 
       groups : groupsHead b ≤ length b → Refusals Allowed (groupsSection b)
       unfolding groupsSection groupRecord groupsHead bodyAt
       groups l =
           records (groupsHead b) 3 (groupCount b) 2 _
-          (omega (arith, counts .phases .1)) (omega (arith, counts .phases .1, counts .groups .1))
+          (omega arith) (omega arith)
           (λ body. or-refusals Allowed _ _
           (each _ (groupsHead b) (groupCount b) 2 body
           (λ g m. or-refusals Allowed _ _ (check _ 6 _ refl (omega arith)) (λ e. check _ 7 _ refl (omega arith))))
@@ -123,7 +122,7 @@ module _
       unfolding conflictsSection conflictsHead groupsHead bodyAt
       conflicts l =
           records (conflictsHead b) 4 (groupCount b) 4 _
-          (omega (arith, counts .phases .1, counts .groups .1)) (omega (arith, counts .phases .1, counts .groups .1))
+          (omega arith) (omega arith)
           (λ body. or-refusals Allowed _ _
           (each _ (conflictsHead b) (groupCount b) 4 body (λ g m. check _ 9 _ refl (omega arith)))
           (λ e. each _ (conflictsHead b) (groupCount b) 4 body (λ g m. check _ 10 _ refl (omega arith))))
@@ -131,10 +130,10 @@ module _
       detectors : detectorsHead b ≤ length b → Refusals Allowed (detectorsSection b)
       unfolding detectorsSection detectorCount detectorsHead conflictsHead groupsHead bodyAt
       detectors l =
-          or-refusals Allowed _ _ (section (detectorsHead b) 5 _ (omega (arith, counts .phases .1, counts .groups .1)))
+          or-refusals Allowed _ _ (section (detectorsHead b) 5 _ (omega arith))
           (λ e.
           let body = detectors-held b (detectorsHead b) e in
-          each _ (detectorsHead b) (detectorCount b) 2 (omega (arith, counts .phases .1, counts .groups .1, body))
+          each _ (detectorsHead b) (detectorCount b) 2 (omega arith)
           (λ d m. check _ 11 _ refl (omega arith)))
 
       module _ (few : GroupsAccepted b) (short : DetectorsAccepted b) where
@@ -142,7 +141,7 @@ module _
         unfolding pedestriansSection endOf bodyAt
         pedestrians =
             let near = end-near b counts few (short .short) in
-            records (pedestriansHead b) 6 (movementCount b) 6 _ (omega (arith, short .next)) near
+            records (pedestriansHead b) 6 (movementCount b) 6 _ (omega arith) near
             (times (pedestriansHead b) (movementCount b) 6 walkSettings 3 (omega arith))
 
         after : endOf b ≤ length b → Refusals Allowed (afterPedestrians b)
@@ -185,9 +184,7 @@ refusal-is-written b s inputs room =
 -- ── An accepted personality ──
 
 pub accepted-is-short : AcceptedIsShort
-unfolding AcceptedIsShort verdictOf afterPedestrians
+unfolding AcceptedIsShort
 accepted-is-short b h =
     let s = sections-accepted b h in
-    let fits = end-near b (s .site) (s .groups) (s .detectors .short) in
-    let over = or-later _ _ (or-later _ _ (or-later _ _ (or-later _ _ (or-later _ _ (or-later _ _ h))))) in
-    omega (arith, fits, ltb-false (endOf b) (length b) (refuse-passed _ _ _ over))
+    omega (arith, end-near b (s .site) (s .groups) (s .detectors .short))

@@ -14,7 +14,7 @@ use Rattle.rules.specs.Rows.{anyOf, countOf}
 use Rattle.rules.specs.Bytes.{twoAt, bit}
 use Rattle.rules.specs.Limits.{limits, within, startRedSetting, phaseSettings, walkSettings}
 use Rattle.rules.specs.Verdicts.{firstOf}
-use Rattle.rules.specs.Personality.{bodyLength, bodyAt, recordAt, phaseCount, groupCount, siteHead, phasesHead, groupsHead, conflictsHead, detectorsHead, pedestriansHead, groupSet, groupMark, pedestrian, pedestriansBefore, movementCount, conflictSet, detectorCount, detectorPhase, sectionAt, timeAt, timesAt, siteSection, phasesSection, badGroup, ninthPedestrian, groupRecord, phaseWithoutGroup, groupsSection, badConflict, sharePhase, conflictInPhase, conflictsSection, badDetector, detectorsSection, pedestriansSection, endOf, verdictOf}
+use Rattle.rules.specs.Personality.{bodyLength, bodyAt, recordAt, phaseCount, groupCount, siteHead, phasesHead, groupsHead, conflictsHead, detectorsHead, pedestriansHead, groupSet, groupMark, pedestrian, pedestriansBefore, movementCount, conflictSet, detectorCount, detectorPhase, sectionAt, timeAt, timesAt, siteSection, phasesSection, badGroup, ninthPedestrian, groupRecord, phaseWithoutGroup, groupsSection, badConflict, sharePhase, conflictInPhase, conflictsSection, badDetector, detectorsSection, pedestriansSection, afterPedestrians, endOf, verdictOf}
 use Rattle.rules.specs.Laws.{InTable}
 use Rattle.rules.proofs.Tests.{and-left, and-right, or-false-left, or-false-right}
 use Rattle.rules.proofs.Rows.{any-false, any-found}
@@ -232,7 +232,7 @@ pedestrians-accepted b h =
       time = times-passed b (pedestriansHead b) 6 walkSettings 3 (movementCount b) (or-later _ _ h);
     }
 
--- ── All six ──
+-- ── All six, with nothing after them ──
 
 pub record SectionsAccepted (b : List ℕ) : Type 0 where
   pub site : SiteAccepted b
@@ -241,9 +241,10 @@ pub record SectionsAccepted (b : List ℕ) : Type 0 where
   pub conflicts : ConflictsAccepted b
   pub detectors : DetectorsAccepted b
   pub pedestrians : PedestriansAccepted b
+  pub last : length b ≤ endOf b
 
 pub sections-accepted : (b : List ℕ) → verdictOf b ≡ Accepted → SectionsAccepted b
-unfolding verdictOf
+unfolding verdictOf afterPedestrians
 sections-accepted b h =
     let fromPhases = or-later _ _ h in
     let fromGroups = or-later _ _ fromPhases in
@@ -257,4 +258,5 @@ sections-accepted b h =
       conflicts = conflicts-accepted b (or-first _ _ fromConflicts);
       detectors = detectors-accepted b (or-first _ _ fromDetectors);
       pedestrians = pedestrians-accepted b (or-first _ _ fromPedestrians);
+      last = ltb-false _ _ (refuse-passed _ _ _ (or-later _ _ fromPedestrians));
     }

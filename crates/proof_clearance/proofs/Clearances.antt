@@ -18,7 +18,8 @@ use Rattle.rules.specs.State.{fresh, movement}
 use Rattle.rules.specs.Movements.{older}
 use Rattle.rules.specs.Colours.{red, yellow, green, flashing, movementColour}
 use Rattle.rules.specs.Runs.{Taken, shows, shownBy, StartsGreen, VehicleCleared, PedestrianCleared, Cleared, FullClearances}
-use Rattle.rules.specs.Laws.{Sound, SoundPhaseTimes, StepKeepsValid}
+use Rattle.rules.specs.Laws.{Sound, StepKeepsValid}
+use Rattle.rules.proofs.Settings.{Timed, phase-timed, walk-reached}
 use Rattle.proof_runs.proofs.ValidStates.{state-told}
 use Rattle.proof_runs.proofs.Chains.{Link, Chain, always, valid-after}
 use Rattle.proof_clearance.proofs.Shown.{vehicleAt, vehicle-shows, pedestrian-shows, green-walks}
@@ -36,7 +37,7 @@ module _
 
   -- ── Vehicle groups ──
 
-  module _ (kind : isPedestrian (site .groups) j ≡ false) (p : ℕ) (times : SoundPhaseTimes (phaseTimes (site .times) p)) where
+  module _ (kind : isPedestrian (site .groups) j ≡ false) (p : ℕ) (times : Timed (phaseTimes (site .times) p)) where
     abbrev Yellows : ℕ → State → Type 0
     Yellows n s = YellowsLeft site j p n (s .position)
 
@@ -148,7 +149,7 @@ module _
     flashing-falls n s step link other left =
         let here = mine-after s step link other in
         let shown = rw here at (pedestrian-shows site s step link j within kind) in
-        let fall = flashes-fall times (sound .walkTime (movementOf (site .groups) j) below) n (mine s) left (λ e. other (shown ∙ e)) in
+        let fall = flashes-fall times (walk-reached site sound (movementOf (site .groups) j) below) n (mine s) left (λ e. other (shown ∙ e)) in
         (rw here (fall .0), shown ∙ fall .1)
 
     -- idle, or in the last step of C2
@@ -176,7 +177,7 @@ module _
         steps
         (in-walk (green-walks (mine s .stage) e) refl)
         since in
-        let idles = flashes-over times (sound .walkTime (movementOf (site .groups) j) below) (mine (down .0)) (down .2) in
+        let idles = flashes-over times (walk-reached site sound (movementOf (site .groups) j) below) (mine (down .0)) (down .2) in
         let reds = only-red site j start later Idles idle-rests (down .0) (down .1) idles (down .3) in
         (length (down .1), rw (← reds) (down .4))
 
@@ -197,7 +198,7 @@ module _
           rw kind (pedestrian-cleared kind (last .after) steps (sym (pedestrian-shows site s last link j within kind) ∙ e) since)
       by-kind false kind =
           let sane = valid-after keeps site sound s last link in
-          let times = sound .phaseTime (last .after .position .phase) (state-told site (last .after) sane .phase) in
+          let times = phase-timed site sound (last .after .position .phase) (state-told site (last .after) sane .phase) in
           rw kind
           (vehicle-cleared kind (last .after .position .phase) times (last .after) steps refl
           (sym (vehicle-shows site s last link j within kind) ∙ e)

@@ -11,7 +11,6 @@ use Rattle.rules.specs.declared.site.Site.{Site}
 use Rattle.rules.specs.declared.state.Interval.the-variants.{Yellow, AllRed}
 use Rattle.rules.specs.declared.state.Position.{Position}
 use Rattle.rules.specs.declared.state.State.{State}
-use Rattle.rules.specs.Limits.{limits, limitOf}
 use Rattle.rules.specs.Site.{inPhase, phaseTimes}
 use Rattle.rules.specs.Intervals.{isSecond}
 use Rattle.rules.specs.State.{movement}
@@ -20,8 +19,8 @@ use Rattle.rules.specs.Movements.{older, movementsAfter}
 use Rattle.rules.specs.Interval.{ends, someMovement, following, staying, positionAfter}
 use Rattle.rules.specs.Colours.{red, yellow, green}
 use Rattle.rules.specs.Runs.{Taken}
-use Rattle.rules.specs.Laws.{SoundPhaseTimes}
 use Rattle.rules.proofs.Tests.{and-left}
+use Rattle.rules.proofs.Settings.{Timed}
 use Rattle.proof_runs.proofs.Steps.{timesNow, ended, now, position-of}
 use Rattle.proof_runs.proofs.Chains.{Link}
 use Rattle.proof_clearance.proofs.Shown.{vehicleAt, green-of-phase}
@@ -151,14 +150,14 @@ module _ (site : Site) (j p : ℕ) where
   yellows-member n position (in-green here e c) = green-of-phase (inPhase (site .groups) j (position .phase)) _ e
   yellows-member n position (in-yellow a row c) = leaving-member site j p a position Yellow row
 
-  module _ (times : SoundPhaseTimes (phaseTimes (site .times) p)) (s : State) (step : Taken) (link : Link site s step) where
+  module _ (times : Timed (phaseTimes (site .times) p)) (s : State) (step : Taken) (link : Link site s step) where
     -- a step that does not show green is one of the yellow ones
     pub yellows-fall :
         (n : ℕ) →
         YellowsLeft site j p (suc n) (s .position) →
         (vehicleAt site j (step .after .position) ≡ green → ⊥) →
         YellowsLeft site j p n (step .after .position) × (vehicleAt site j (step .after .position) ≡ yellow)
-    unfolding older limitOf limits
+    unfolding older
     yellows-fall n (in-green here e c) other =
         let row = rw here at (yellow-begins site s step link j e other) in
         (in-yellow 1 row (omega arith), leaving-yellow site j p 1 (step .after .position) row)
@@ -168,6 +167,5 @@ module _ (site : Site) (j p : ℕ) where
 
     -- after the last yellow step comes all-red
     pub yellows-over : YellowsLeft site j p 0 (s .position) → Leaving site j p AllRed 1 (step .after .position)
-    unfolding limitOf limits
     yellows-over (in-green here e c) = absurd (omega arith)
     yellows-over (in-yellow a row c) = all-red-begins site s step link j p a row (omega arith)

@@ -29,7 +29,7 @@ use Rattle.rules.proofs.Rows.{list-at}
 use Rattle.proof_runs.proofs.ValidStates.{ValidState, state-told}
 use Rattle.proof_runs.proofs.Steps.{ended, now, lockedNow, position-of, locked-of}
 use Rattle.proof_runs.proofs.Chains.{Link}
-use Rattle.proof_waits.proofs.Settings.{phase-timed, start-timed}
+use Rattle.rules.proofs.Settings.{phase-timed, start-timed}
 use Rattle.proof_waits.proofs.Left.{visit, Left, never-none}
 use Rattle.proof_waits.proofs.Falls.{timer-falls}
 use Rattle.proof_waits.proofs.Moves.{after-valid, now-in, next-in, ended-in}
@@ -211,7 +211,7 @@ module _ (site : Site) (sound : Sound site) (q : ℕ) (below : q < site .size .p
             subst (λ (p : Position). OwnLate site q p n) (sym (next-in site s inputs LateStart false (h .0) e)) (
               h .0,
               h .1,
-              timer-falls (late site q) (s .position .age) 0 0 n (phase-timed (sound .phaseTime q below) .late)
+              timer-falls (late site q) (s .position .age) 0 0 n (phase-timed site sound q below .late)
                   (subst (λ (p : ℕ). s .position .age < phaseTimes (site .times) p .late) (h .1) runs)
                   (omega arith)
                   (h .2),

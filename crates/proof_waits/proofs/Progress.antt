@@ -22,13 +22,12 @@ use Rattle.rules.specs.Demands.{nextDemanded}
 use Rattle.rules.specs.Movements.{movementsAfter}
 use Rattle.rules.specs.Interval.{ends, following, entering, starting, staying}
 use Rattle.rules.specs.Step.{stepped}
-use Rattle.rules.specs.WaitBound.{longestWalk, longestClearance}
 use Rattle.rules.specs.Laws.{Sound}
 use Rattle.rules.proofs.Tests.{decided}
 use Rattle.proof_runs.proofs.ValidStates.{ValidState}
 use Rattle.proof_runs.proofs.Steps.{another, counted, ended, now, started}
-use Rattle.proof_waits.proofs.Stages.{outs, idles, out-most, clear-most}
-use Rattle.proof_waits.proofs.Settings.{Timed, phase-timed, start-timed}
+use Rattle.proof_waits.proofs.Stages.{longestWalk, longestClearance, outs, idles, out-most, clear-most}
+use Rattle.rules.proofs.Settings.{Timed, phase-timed, start-timed}
 use Rattle.proof_waits.proofs.Left.{visit, fromYellow, fromRunning, LeftIn, Left}
 use Rattle.proof_waits.proofs.Falls.{timer-falls, timer-waits, yellow-whole, each-falls, running-whole, running-more, running-stays, starts-left}
 use Rattle.proof_waits.proofs.Moves.{now-in, next-in, stays-in, ended-in, started-in, ends-for-another, maximum-rises, quiet-leaving, quiet-demanded, outs-fall, idles-fall, running-held, red-held}
@@ -78,7 +77,7 @@ module _
     settings = phaseTimes (site .times) (s .position .phase)
 
     times : Timed settings
-    times = phase-timed (sound .phaseTime (s .position .phase) (v .phase))
+    times = phase-timed site sound (s .position .phase) (v .phase)
 
     -- ── The three ways on ──
 
@@ -105,7 +104,7 @@ module _
         (λ (other : eqb t q ≡ false).
         let phase : next .position .phase ≡ t = ap (λ (p : Position). p .phase) e in
         let sized : Timed (phaseTimes (site .times) t) =
-        phase-timed (sound .phaseTime t (subst (λ (p : ℕ). p < site .size .phases) phase (v' .phase))) in
+        phase-timed site sound t (subst (λ (p : ℕ). p < site .size .phases) phase (v' .phase)) in
         inr (becomes (starting (site .times) t came) e
         (starts-left site ahead onward n own' (next .counts .maximum) (outs site next) (idles site next) t came (sized .minimum .0)
         (stand .gone (λ same. eqb-false t q other (sym phase ∙ same)))
