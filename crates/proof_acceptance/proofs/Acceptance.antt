@@ -13,7 +13,7 @@ use Rattle.rules.specs.declared.site.Group.{Group}
 use Rattle.rules.specs.Rows.{indicesOf}
 use Rattle.rules.specs.Bytes.{twoAt, bit}
 use Rattle.rules.specs.Limits.{limits, phaseSettings, walkSettings}
-use Rattle.rules.specs.Personality.{recordAt, phasesHead, pedestriansHead, phaseCount, groupCount, movementCount, detectorCount, groupSet, groupMark, conflictSet, detectorPhase, pedestrian, pedestriansBefore}
+use Rattle.rules.specs.Personality.{recordAt, phasesHead, pedestriansHead, phaseCount, groupCount, movementCount, groupSet, groupMark, conflictSet, detectorPhase, pedestrian, pedestriansBefore}
 use Rattle.rules.specs.Site.{phaseTimesAt, walkTimesAt, timesIn, crossingAt, siteOf, groupOf, inPhase, crosses, isPedestrian, movementOf, conflict}
 use Rattle.rules.specs.Laws.{InTable, SoundPhaseTimes, SoundWalkTimes, OnePhase, Sound, AcceptedIsSound}
 use Rattle.rules.proofs.Tests.{never-both}
@@ -160,12 +160,12 @@ conflict-phase b t s g j e p q r =
 -- ── The site ──
 
 sound : (b : List ℕ) → SectionsAccepted b → Sound (siteOf b)
-unfolding siteOf timesIn detectorCount
+unfolding siteOf timesIn
 sound b s =
     record {
       phases = s .site .phases;
       groups = s .site .groups;
-      detectors = omega (arith, s .detectors .short);
+      detectors = s .detectors .count;
       movements = s .groups .movements;
       times =
           record {

@@ -126,6 +126,7 @@ pub record ConflictsAccepted (b : List ℕ) : Type 0 where
 pub record DetectorsAccepted (b : List ℕ) : Type 0 where
   pub next : pedestriansHead b ≤ length b
   pub short : bodyLength b (detectorsHead b) ≤ 96
+  pub count : detectorCount b ≤ 48
   pub phase : (d : ℕ) → d < detectorCount b → detectorPhase b d < phaseCount b
 
 pub record PedestriansAccepted (b : List ℕ) : Type 0 where
@@ -221,6 +222,7 @@ detectors-accepted b h =
     record {
       next = body .0;
       short = body .1;
+      count = omega (arith, body .1);
       phase = λ d l. leb-false _ _ (or-false-left _ _ (refuse-passed _ _ _ (first-each _ _ d (or-later _ _ h) l)));
     }
 

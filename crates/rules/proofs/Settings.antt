@@ -21,7 +21,7 @@ use Rattle.rules.proofs.Tests.{and-left, and-right}
 use Rattle.rules.proofs.Rows.{all-at}
 
 pub table-is-usable : TableIsUsable
-unfolding TableIsUsable usable timely allOf mayBeZero highest highestPhase highestWalk greatestShare greatestWait phaseShare limitOf limits
+unfolding usable timely allOf mayBeZero highest highestPhase highestWalk greatestShare greatestWait phaseShare limitOf limits
 table-is-usable = refl
 
 -- a setting that is counted: one step at least, and an age can reach it
@@ -94,13 +94,10 @@ module _ (table : List Range) (passed : usable table ≡ true) where
 
 module _ (site : Site) (sound : Sound site) where
   pub phase-timed : (p : ℕ) → p < site .size .phases → Timed (phaseTimes (site .times) p)
-  unfolding TableIsUsable
   phase-timed p l = phase-told limits table-is-usable (sound .times .phase p l)
 
   pub walk-reached : (k : ℕ) → k < site .size .movements → Reached (walkTimes (site .times) k)
-  unfolding TableIsUsable
   walk-reached k l = walk-told limits table-is-usable (sound .times .walk k l)
 
   pub start-timed : Counted (site .times .start)
-  unfolding TableIsUsable
   start-timed = start-told limits table-is-usable (sound .times .start)

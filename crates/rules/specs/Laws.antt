@@ -175,7 +175,7 @@ timely table setting = leb (highest table setting) highestAge && (mayBeZero sett
 unfoldable pub usable : List Range → Bool
 usable table = allOf (timely table) settingCount && leb (greatestWait table) 65535
 
-unfoldable pub TableIsUsable : Type 0
+abbrev pub TableIsUsable : Type 0
 TableIsUsable = usable limits ≡ true
 
 -- ── Valid states ──
