@@ -11,7 +11,7 @@ use Rattle.rules.specs.declared.site.Size.{Size}
 use Rattle.rules.specs.declared.site.Times.{Times}
 use Rattle.rules.specs.Rows.{if_then_else_}
 use Rattle.rules.specs.Limits.{limits, limitOf}
-use Rattle.rules.specs.Site.{phaseTimes, crosses, siteOf}
+use Rattle.rules.specs.Site.{phaseTimes, walkTimes, crosses, siteOf}
 use Rattle.rules.specs.WaitBound.{phaseShare, longestWalk, longestClearance, waitBoundBy}
 use Rattle.rules.specs.Laws.{SoundTimes, AcceptedIsSound, highest, highestPhase, highestWalk, greatestShare, greatestWait, WaitIsInTable}
 use Rattle.rules.proofs.Rows.{greatest-most}
@@ -28,21 +28,28 @@ chosen-within true n m l = l
 chosen-within false n m l = omega arith
 
 module _ (table : List Range) (size : Size) (times : Times) (crossings : List ℕ) (sound : SoundTimes table size times) where
-  walk-within : (p : ℕ) → longestWalk size times crossings p ≤ highestWalk table .walk + highestWalk table .first
-  unfolding longestWalk highestWalk highest
+  -- A and C of a phase
+  abbrev walkOf : ℕ → ℕ
+  walkOf = longestWalk crossings (times .walks) (size .movements)
+
+  abbrev clearanceOf : ℕ → ℕ
+  clearanceOf = longestClearance crossings (times .walks) (size .movements)
+
+  walk-within : (p : ℕ) → walkOf p ≤ highestWalk table .walk + highestWalk table .first
+  unfolding longestWalk walkTimes highestWalk highest
   walk-within p =
       greatest-most _ (size .movements) _
       (λ k l.
       let own = sound .walk k l in
       chosen-within (crosses crossings k p) _ _ (omega (arith, own .walk .1, own .first .1)))
 
-  clearance-within : (p : ℕ) → longestClearance size times crossings p ≤ highestWalk table .second
-  unfolding longestClearance highestWalk highest
+  clearance-within : (p : ℕ) → clearanceOf p ≤ highestWalk table .second
+  unfolding longestClearance walkTimes highestWalk highest
   clearance-within p =
       greatest-most _ (size .movements) _ (λ k l. chosen-within (crosses crossings k p) _ _ (sound .walk k l .second .1))
 
-  abbrev pub shareOf : ℕ → ℕ
-  shareOf p = phaseShare (phaseTimes times p) (longestWalk size times crossings p) (longestClearance size times crossings p)
+  abbrev shareOf : ℕ → ℕ
+  shareOf p = phaseShare (phaseTimes times p) (walkOf p) (clearanceOf p)
 
   share-within : (p : ℕ) → p < size .phases → shareOf p ≤ greatestShare table
   unfolding phaseShare greatestShare highestPhase highest

@@ -200,10 +200,10 @@ module _ (times : WalkTimes) (age : ℕ) where
 
 -- A and C of a phase of the site
 abbrev pub longestWalk : Site → ℕ → ℕ
-longestWalk site = walkBy (site .size) (site .times) (site .crossings)
+longestWalk site = walkBy (site .crossings) (site .times .walks) (site .size .movements)
 
 abbrev pub longestClearance : Site → ℕ → ℕ
-longestClearance site = clearanceBy (site .size) (site .times) (site .crossings)
+longestClearance site = clearanceBy (site .crossings) (site .times .walks) (site .size .movements)
 
 module _ (site : Site) (sound : Sound site) (position : Position) (k : ℕ) (m : Movement) (v : ValidMovement site position k m) where
   pub stage-reached : isIdle (m .stage) ≡ false → Reached (walkTimes (site .times) k)
@@ -229,11 +229,11 @@ module _ (site : Site) (sound : Sound site) (position : Position) (k : ℕ) (m :
   walk-limit :
       isIdle (m .stage) ≡ false →
       walkTimes (site .times) k .walk + walkTimes (site .times) k .first ≤ longestWalk site (position .phase)
-  unfolding walkBy
+  unfolding walkBy walkTimes
   walk-limit = phase-limit (λ (times : WalkTimes). times .walk + times .first)
 
   clearance-limit : isIdle (m .stage) ≡ false → walkTimes (site .times) k .second ≤ longestClearance site (position .phase)
-  unfolding clearanceBy
+  unfolding clearanceBy walkTimes
   clearance-limit = phase-limit (λ (times : WalkTimes). times .second)
 
   pub out-most : untilOut (m .stage) (walkTimes (site .times) k) (m .age) ≤ longestWalk site (position .phase)

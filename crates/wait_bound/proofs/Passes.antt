@@ -13,12 +13,10 @@ use lib.Count.{trailingZeros}
 use lib.Dec.{eqb, ltb}
 use lib.ListN.{length, getD, set, replicate, length-set, getD-replicate}
 use lib.Seq.{getD-set-same, getD-set-other}
-use Rattle.rules.specs.declared.site.Size.{Size}
-use Rattle.rules.specs.declared.site.Times.{Times}
 use Rattle.rules.specs.declared.site.WalkTimes.{WalkTimes}
 use Rattle.rules.specs.Bytes.{bit}
 use Rattle.rules.specs.Rows.{if_then_else_, greatestOf}
-use Rattle.rules.specs.Site.{noWalkTimes, walkTimes, crosses}
+use Rattle.rules.specs.Site.{noWalkTimes, crosses}
 use Rattle.rules.specs.WaitBound.{longestWalk, longestClearance}
 use Rattle.rules.proofs.Bits.{bit-blank, bit-below}
 use Rattle.rules.proofs.Tests.{decided, and-left}
@@ -183,40 +181,39 @@ module _ (walks : List WalkTimes) where
               ∙ getD-set-other out p (8 + q) a 0 (λ e. omega (arith, e)));
         }
 
--- bit 8 * k + p of the whole is set where movement k, one of the first n, is of phase p
-abbrev pub Sets : (all : ℕ) (crossings : List ℕ) (n : ℕ) → Type 0
-Sets all crossings n = (k p : ℕ) → k < 8 → p < 8 → bit (8 * k + p) all ≡ (ltb k n && bit p (getD crossings k 0))
+  -- bit 8 * k + p of the whole is set where movement k, one of the first n, is of phase p
+  module _
+      (crossings : List ℕ)
+      (n : ℕ)
+      {all rest : ℕ}
+      {out : List ℕ}
+      (passed : Passed all rest out)
+      (told : (k p : ℕ) → k < 8 → p < 8 → bit (8 * k + p) all ≡ (ltb k n && bit p (getD crossings k 0)))
+    where
+      -- the movement of the lowest bit of the rest is one of them
+      pub movement-below : 0 < rest → trailingZeros 64 rest / 8 < n
+      movement-below some =
+          let at = trailingZeros 64 rest in
+          let parts : 8 * (at / 8) + at % 8 ≡ at = omega arith in
+          let set = passed .left at (lowest-in rest some (passed .within)) in
+          let inside = at-within passed some in
+          ltb-true (at / 8) n
+          (and-left (ltb (at / 8) n) (bit (at % 8) (getD crossings (at / 8) 0))
+          (sym (told (at / 8) (at % 8) (omega arith) (omega arith)) ∙ ap (λ (i : ℕ). bit i all) parts ∙ set))
 
-module _ (size : Size) (times : Times) (crossings : List ℕ) {all rest : ℕ} {out : List ℕ} (passed : Passed (times .walks) all rest out) (told : Sets all crossings (size .movements)) where
-  -- the movement of the lowest bit of the rest is one of the site's
-  pub movement-below : 0 < rest → trailingZeros 64 rest / 8 < size .movements
-  movement-below some =
-      let at = trailingZeros 64 rest in
-      let parts : 8 * (at / 8) + at % 8 ≡ at = omega arith in
-      let set = passed .left at (lowest-in rest some (passed .within)) in
-      let inside = at-within (times .walks) passed some in
-      ltb-true (at / 8) (size .movements)
-      (and-left (ltb (at / 8) (size .movements)) (bit (at % 8) (getD crossings (at / 8) 0))
-      (sym (told (at / 8) (at % 8) (omega arith) (omega arith)) ∙ ap (λ (i : ℕ). bit i all) parts ∙ set))
+      -- no bit is left
+      module _ (none : rest ≡ 0) (few : n ≤ 8) where
+        whole :
+            (place row : ℕ → ℕ) (q : ℕ) →
+            Row place row all rest out →
+            q < 8 →
+            getD out (place q) 0 ≡ greatestOf (λ k. if bit q (getD crossings k 0) then row k else 0) n
+        whole place row q entry l =
+            entry q l
+            ∙ ap (λ (r : ℕ). greatestOf (counts all r q row) 8) none
+            ∙ counts-all all n q (λ k. bit q (getD crossings k 0)) row few (λ k m. told k q m l)
 
-  -- no bit is left
-  module _ (none : rest ≡ 0) (few : size .movements ≤ 8) where
-    whole :
-        (place row : ℕ → ℕ) (q : ℕ) →
-        Row place row all rest out →
-        q < 8 →
-        getD out (place q) 0 ≡ greatestOf (λ k. if bit q (getD crossings k 0) then row k else 0) (size .movements)
-    whole place row q entry l =
-        entry q l
-        ∙ ap (λ (r : ℕ). greatestOf (counts all r q row) 8) none
-        ∙ counts-all all (size .movements) q (λ k. bit q (getD crossings k 0)) row few (λ k m. told k q m l)
-
-    pub passed-all :
-        (q : ℕ) →
-        q < 8 →
-        (getD out q 0 ≡ longestWalk size times crossings q) × (getD out (8 + q) 0 ≡ longestClearance size times crossings q)
-    unfolding longestWalk longestClearance crosses walkTimes
-    passed-all q l = (
-      whole (λ i. i) (walkOf (times .walks)) q (passed .walk) l,
-      whole (λ i. 8 + i) (clearanceOf (times .walks)) q (passed .clearance) l,
-    )
+        pub passed-all :
+            (q : ℕ) → q < 8 → (getD out q 0 ≡ longestWalk crossings walks n q) × (getD out (8 + q) 0 ≡ longestClearance crossings walks n q)
+        unfolding longestWalk longestClearance crosses
+        passed-all q l = (whole (λ i. i) walkOf q (passed .walk) l, whole (λ i. 8 + i) clearanceOf q (passed .clearance) l)

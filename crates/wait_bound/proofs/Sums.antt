@@ -54,7 +54,7 @@ module _
     (times : Times)
     (crossings longest : List ℕ)
     (few : size .phases ≤ 7)
-    (each : (p : ℕ) → p < 8 → (getD longest p 0 ≡ longestWalk size times crossings p) × (getD longest (8 + p) 0 ≡ longestClearance size times crossings p))
+    (each : (p : ℕ) → p < 8 → (getD longest p 0 ≡ longestWalk crossings (times .walks) (size .movements) p) × (getD longest (8 + p) 0 ≡ longestClearance crossings (times .walks) (size .movements) p))
   where
     abbrev shares : ℕ → ℕ
     shares = shareAt (times .phases) longest

@@ -9,10 +9,12 @@ ghost use lib.ListN.{getD};
 ghost use Rattle.rules.specs.Bytes.{bit};
 ghost use Rattle.rules.specs.Limits.{limits};
 ghost use Rattle.rules.specs.WaitBound.{phaseShare, longestWalk, longestClearance, waitBoundBy};
-ghost use Rattle.rules.specs.Laws.{SoundTimes};
+ghost use Rattle.rules.specs.Laws.{SoundWalkTimes, SoundTimes};
+ghost use Rattle.rules.specs.Site.{noWalkTimes};
 use rules::site::PhaseTimes;
 use rules::site::Size;
 use rules::site::Times;
+use rules::site::WalkTimes;
 
 fn greater(a: u16, b: u16) -> u16
     ensures { λ r. ⌜ r ≡ max a b ⌝ }
@@ -40,15 +42,14 @@ fn sets_of(crossings: [u8; 8], count: u8) -> u64
     all
 }
 
-// A and C of each phase: A of phase p at p, C at 8 + p. Each turn takes the lowest bit that is left, so a movement has a turn for each of
-// its phases.
-fn longest_of(size: Size, times: Times, crossings: [u8; 8]) -> [u16; 16]
-    requires { ⌜ (size .movements ≤ 8) × SoundTimes limits size times ⌝ }
-    ensures { λ r. ⌜ ((p : ℕ) → p < 8 → (getD r p 0 ≡ longestWalk size times crossings p) × (getD r (8 + p) 0 ≡ longestClearance size times crossings p)) ⌝ }
+// A and C of each phase among the first count movements: A of phase p at p, C at 8 + p. Each turn takes the lowest bit that is left, so a
+// movement has a turn for each of its phases.
+fn longest_of(crossings: [u8; 8], walks: [WalkTimes; 8], count: u8) -> [u16; 16]
+    requires { ⌜ (count ≤ 8) × ((k : ℕ) → k < count → SoundWalkTimes limits (getD walks k noWalkTimes)) ⌝ }
+    ensures { λ r. ⌜ ((p : ℕ) → p < 8 → (getD r p 0 ≡ longestWalk crossings walks count p) × (getD r (8 + p) 0 ≡ longestClearance crossings walks count p)) ⌝ }
 {
-    let walks = times.walks;
     let mut longest = [0u16; 16];
-    let mut rest = sets_of(crossings, size.movements);
+    let mut rest = sets_of(crossings, count);
     while rest != 0 {
         let i = u64::trailing_zeros(rest) as usize;
         let own = walks[i / 8];
@@ -77,7 +78,8 @@ pub fn wait_bound_of(size: Size, times: Times, crossings: [u8; 8]) -> u32
 {
     let owns = times.phases;
     let phases = size.phases;
-    let longest = longest_of(size, times, crossings);
+    let walks = times.walks;
+    let longest = longest_of(crossings, walks, size.movements);
     let mut sum: u16 = times.start;
     let mut phase: u8 = 0;
     while phase < phases {

@@ -6,8 +6,9 @@ use native.Mathlib.Omega.{arith}
 use Prim.Native.Nat.{_-_, _/_, _<_}
 use lib.Bits.{and-le-r}
 use lib.Count.{trailingZeros}
+use lib.ListN.{getD}
 use Rattle.rules.specs.Limits.{limits}
-use Rattle.rules.specs.Site.{walkTimes}
+use Rattle.rules.specs.Site.{noWalkTimes}
 use Rattle.rules.proofs.Settings.{Reached, table-is-usable, walk-told}
 use Rattle.wait_bound.proofs.Passes.{Passed, passed-none, passed-more, passed-all, at-within, movement-below}
 use Rattle.wait_bound.proofs.longest_of.Statement.{statement}
@@ -18,33 +19,32 @@ use Rattle.wait_bound.proofs.greater.Reads as greater-reads
 use Rattle.wait_bound.proofs.sets_of.Reads as sets-of-reads
 
 abbrev Inv-loop : tie.InvT-loop
-Inv-loop walks longest₀ rest₀ longest rest = Passed walks rest₀ rest longest
+Inv-loop count walks longest₀ rest₀ longest rest = Passed walks rest₀ rest longest
 
 abbrev μ-loop : tie.MeasureT-loop
-μ-loop walks longest₀ rest₀ longest rest = rest
+μ-loop count walks longest₀ rest₀ longest rest = rest
 
 sets-of-requires : tie.Need-sets-of-requires Inv-loop μ-loop
 sets-of-requires c κs = search needs
 
 loop-holds : tie.Need-loop-holds Inv-loop μ-loop
-loop-holds c = passed-none (c .before .before .args .times .walks) (c .sets-of .result) (search needs)
+loop-holds c = passed-none (c .before .args .t2) (c .sets-of .result) (search needs)
 
 abbrev Turn : Type 0
 Turn = lts.In-loop (sets-of-reads.Asked, sets-of-reads.Learnt, greater-reads.Asked, greater-reads.Learnt) reads.Pre reads.Post Inv-loop μ-loop
 
 -- the bit of a turn is one of the 64
 turn-within : (c : Turn) → trailingZeros 64 (c .before .loop .rest) < 64
-turn-within c =
-    at-within (c .before .before .before .before .args .times .walks) (c .before .loop .inv) (omega (arith, c .loop-test .taken))
+turn-within c = at-within (c .before .before .before .args .t2) (c .before .loop .inv) (omega (arith, c .loop-test .taken))
 
--- W and C1 of its movement are those of one of the site's, so an age can reach each
-turn-reached : (c : Turn) → Reached (walkTimes (c .before .before .before .before .args .times) (trailingZeros 64 (c .before .loop .rest) / 8))
+-- its movement is one of the first count, so an age can reach each of its times
+turn-reached : (c : Turn) → Reached (getD (c .before .before .before .args .t2) (trailingZeros 64 (c .before .loop .rest) / 8) noWalkTimes)
 turn-reached c =
-    let start = c .before .before .before .before in
+    let start = c .before .before .before in
     let a = start .args in
     walk-told limits table-is-usable
-    (start .pre .1 .walk _
-    (movement-below (a .size) (a .times) (a .crossings) (c .before .loop .inv) (c .before .before .sets-of .ensures)
+    (start .pre .1 _
+    (movement-below (a .t2) (a .crossings) (a .count) (c .before .loop .inv) (c .before .before .sets-of .ensures)
     (omega (arith, c .loop-test .taken))))
 
 cast-i : tie.Need-cast-i Inv-loop μ-loop
@@ -63,7 +63,6 @@ array-read-greater : tie.Need-array-read-greater Inv-loop μ-loop
 array-read-greater c = search needs
 
 add-greater : tie.Need-add-greater Inv-loop μ-loop
-unfolding walkTimes
 add-greater c = let times = turn-reached (c .before .before) in search needs
 
 greater-requires : tie.Need-greater-requires Inv-loop μ-loop
@@ -108,16 +107,15 @@ loop-less c =
 loop-again : tie.Need-loop-again Inv-loop μ-loop
 loop-again c =
     let turn = c .before .before .before .before in
-    passed-more (turn .before .before .before .before .args .times .walks) (turn .before .loop .inv)
-    (omega (arith, turn .loop-test .taken))
+    passed-more (turn .before .before .before .args .t2) (turn .before .loop .inv) (omega (arith, turn .loop-test .taken))
     (c .before .greater .ensures)
     (c .greater2 .ensures)
 
 returns : tie.Need-returns Inv-loop μ-loop
 returns c =
     let start = c .before .before in
-    let a = start .before .before .args in
-    passed-all (a .size) (a .times) (a .crossings) (c .before .loop .inv) (start .sets-of .ensures) (c .loop-test .left) (start .before .before .pre .0)
+    let a = start .before .args in
+    passed-all (a .t2) (a .crossings) (a .count) (c .before .loop .inv) (start .sets-of .ensures) (c .loop-test .left) (start .before .pre .0)
 
 pub longest-of-spec : {M : Type 1} → statement M
 longest-of-spec =

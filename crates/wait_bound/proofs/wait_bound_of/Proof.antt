@@ -6,6 +6,7 @@ use native.Mathlib.Numerals.{add-one}
 use native.Mathlib.Omega.{arith}
 use borrow.Author.Needs.{needs}
 use Rattle.rules.specs.Rows.{sumOf}
+use Rattle.rules.specs.Site.{walkTimes}
 use Rattle.rules.specs.WaitBound.{waitBoundBy}
 use Rattle.wait_bound.proofs.Sums.{shareAt, all-shares, bound-fits, shares-fit}
 use Rattle.wait_bound.proofs.wait_bound_of.Statement.{statement}
@@ -22,6 +23,7 @@ abbrev μ-loop : tie.MeasureT-loop
 μ-loop owns phases longest sum₀ phase₀ sum phase = phases - phase
 
 longest-of-requires : tie.Need-longest-of-requires Inv-loop μ-loop
+unfolding walkTimes
 longest-of-requires c κs = search needs
 
 loop-holds : tie.Need-loop-holds Inv-loop μ-loop
@@ -60,11 +62,11 @@ turn-fits :
     (c : Turn) →
     let at = c .before .before in
     c .before .loop .sum
-    + shareAt (at .before .before .args .times .phases) (at .longest-of .result) (c .before .loop .phase)
+    + shareAt (at .before .before .before .args .times .phases) (at .longest-of .result) (c .before .loop .phase)
     ≤ 65535
 turn-fits c =
     let at = c .before .before in
-    let start = at .before .before in
+    let start = at .before .before .before in
     let a = start .args in
     omega (
       arith,
@@ -94,11 +96,11 @@ loop-again c =
 -- once every phase is passed the sum is the bound
 summed :
     (c : tie.After-loop Inv-loop μ-loop) →
-    let a = c .before .before .before .before .args in
+    let a = c .before .before .before .before .before .args in
     c .before .loop .sum ≡ waitBoundBy (a .size) (a .times) (a .crossings)
 summed c =
     let at = c .before .before in
-    let start = at .before .before in
+    let start = at .before .before .before in
     let a = start .args in
     c .before .loop .inv .1
     ∙ all-shares (a .size) (a .times) (a .crossings) (at .longest-of .result) (start .pre .0) (at .longest-of .ensures)
@@ -106,7 +108,7 @@ summed c =
 
 cast-result : tie.Need-cast-result Inv-loop μ-loop
 cast-result c =
-    let start = c .before .before .before .before in
+    let start = c .before .before .before .before .before in
     let a = start .args in
     omega (arith, summed c, bound-fits (a .size) (a .times) (a .crossings) (start .pre .0) (start .pre .2))
 
