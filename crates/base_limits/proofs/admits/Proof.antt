@@ -16,7 +16,7 @@ array-copy-out-range c = search needs
 
 returns : tie.Need-returns
 unfolding within limitOf
-returns c = simp (c .before .before .before .before .table .ensures)
+returns c = rw (c .before .before .before .before .table .ensures)
 
 returns-2 : tie.Need-returns-2
 unfolding limits
