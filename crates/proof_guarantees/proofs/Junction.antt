@@ -7,17 +7,16 @@ use mathlib.Core.Path.{_≡_, refl, sym, subst, _∙_}
 use lib.ListN.{length}
 use Rattle.rules.specs.declared.answer.Verdict.the-variants.{Accepted}
 use Rattle.rules.specs.declared.state.State.{State}
-use Rattle.rules.specs.Rows.{listOf, countOf, indicesOf}
-use Rattle.rules.specs.Bytes.{byteAt, twoAt, fourAt, bit}
-use Rattle.rules.specs.Personality.{verdictOf, groupCount, phaseCount, bodyAt, recordAt, groupsHead, conflictsHead, conflictSet}
-use Rattle.rules.specs.Site.{siteOf, rowOf, conflict}
+use Rattle.rules.specs.Personality.{verdictOf}
+use Rattle.rules.specs.Site.{siteOf, conflict}
 use Rattle.rules.specs.State.{fresh}
 use Rattle.rules.specs.Verdicts.{waitOf}
 use Rattle.rules.specs.WaitBound.{waitBound}
 use Rattle.rules.specs.Runs.{ruled, Call, Taken, takenFrom, accepted, NoConflictingGreens, DemandsMet, DemandThreeOf, DemandThree, comesWithin, minimumGreenBegins}
-use Rattle.rules.specs.Junctions.{junction, two, four, twos, fours, section, sections, shortPhase}
+use Rattle.rules.specs.Junctions.{junction}
 use Rattle.rules.specs.Cases.{CasesHold, cases, starred}
 use Rattle.rules.proofs.Cases.{cases-hold}
+use Rattle.rules.proofs.Opened.{opened}
 use Rattle.proof_runs.proofs.Chains.{Chain, chained, always}
 use Rattle.proof_guarantees.specs.Junction.{NeverTogether, MetIn270}
 use Rattle.proof_guarantees.proofs.DemandThree.{demand-three}
@@ -31,9 +30,7 @@ unfolding CasesHold cases starred
 junction-bound = cases-hold .0
 
 groups-conflict : conflict (siteOf junction) 0 1 ≡ true
-unfolding
-    conflict siteOf rowOf listOf conflictSet conflictsHead groupsHead bodyAt recordAt groupCount phaseCount byteAt twoAt fourAt bit junction
-    sections section shortPhase two four twos fours
+unfolding opened
 groups-conflict = refl
 
 told-270 :

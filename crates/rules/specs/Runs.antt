@@ -23,19 +23,21 @@ use Rattle.rules.specs.Call.{strayInput, answerOf, bufferOf}
 
 -- ── Controllers ──
 
--- What the demand is said of: a fresh state and a step call, by its outcome, the state that it hands back and the colour buffer as it
--- returns. It may keep its state in any form; `seen` is the state of document 01 that a form stands for.
+-- What the demand is said of: a reader of personalities, a fresh state, and a step call by its outcome, the state that it hands back
+-- and the colour buffer as it returns. The state may have any form; `seen` gives the state of document 01 that a form stands for.
 pub record Controller (S : Type 0) : Type 0 where
+  pub verdict : List ℕ → Verdict
   pub fresh : S
   pub outcome : List ℕ → S → ℕ → ℕ → Outcome
   pub next : List ℕ → S → ℕ → ℕ → S
   pub buffer : List ℕ → S → ℕ → List ℕ → List ℕ
   pub seen : S → State
 
--- The controller of the rules: its calls are those that the contract of `step` cites.
+-- The controller of the rules: its calls are those that the contracts of `read`, `fresh` and `step` cite.
 unfoldable pub ruled : Controller State
 ruled =
     record {
+      verdict = verdictOf;
       fresh = fresh;
       outcome = λ b s inputs room. answerOf b s inputs room .outcome;
       next = λ b s inputs room. answerOf b s inputs room .state;
@@ -65,15 +67,10 @@ unfoldable pub takenFrom : {S : Type 0} → Controller S → List ℕ → S → 
 takenFrom controller b s [] = []
 takenFrom controller b s (c ∷ calls) =
     let room = length (c .buffer) in
+    let outcome = controller .outcome b s (c .inputs) room in
     let next = controller .next b s (c .inputs) room in
-    record {
-      before = controller .seen s;
-      inputs = c .inputs;
-      room = room;
-      outcome = controller .outcome b s (c .inputs) room;
-      after = controller .seen next;
-      shown = controller .buffer b s (c .inputs) (c .buffer);
-    }
+    let shown = controller .buffer b s (c .inputs) (c .buffer) in
+    record { before = controller .seen s; inputs = c .inputs; room = room; outcome = outcome; after = controller .seen next; shown = shown }
     ∷ takenFrom controller b next calls
 
 -- a refused call shows and registers nothing and isn't counted
@@ -226,7 +223,10 @@ pub record SafeRun (site : Site) (calls : List Taken) : Type 0 where
 -- every list of calls on every accepted personality, from the fresh state
 unfoldable pub DemandThreeOf : {S : Type 0} → Controller S → Type 0
 DemandThreeOf controller =
-    (b : List ℕ) → verdictOf b ≡ Accepted → (calls : List Call) → SafeRun (siteOf b) (takenFrom controller b (controller .fresh) calls)
+    (b : List ℕ) →
+    controller .verdict b ≡ Accepted →
+    (calls : List Call) →
+    SafeRun (siteOf b) (takenFrom controller b (controller .fresh) calls)
 
 unfoldable pub DemandThree : Type 0
 DemandThree = DemandThreeOf ruled
