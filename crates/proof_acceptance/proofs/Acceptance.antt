@@ -52,19 +52,19 @@ sound-walk-times b s k l =
 
 -- ── Groups ──
 
-group-phase : (b : List ℕ) → GroupsAccepted b → (g p : ℕ) → inPhase (siteOf b) g p ≡ true → (g < groupCount b) × (p < phaseCount b)
+group-phase : (b : List ℕ) → GroupsAccepted b → (g p : ℕ) → inPhase (siteOf b .groups) g p ≡ true → (g < groupCount b) × (p < phaseCount b)
 group-phase b s g p e =
-    let l = passes-below (inPhase (siteOf b) g p) g (groupCount b) (in-phase-past b g p) e in
+    let l = passes-below (inPhase (siteOf b .groups) g p) g (groupCount b) (in-phase-past b g p) e in
     (l, bit-below (groupSet b g) (phaseCount b) p (s .set g l) (sym (in-phase-at b g p l) ∙ e))
 
-group-mark : (b : List ℕ) → GroupsAccepted b → (g : ℕ) → groupOf (siteOf b) g .mark ≤ 2
+group-mark : (b : List ℕ) → GroupsAccepted b → (g : ℕ) → groupOf (siteOf b .groups) g .mark ≤ 2
 group-mark b s g =
     ⊎-elim
     (λ (l : g < groupCount b). subst (λ (x : Group). x .mark ≤ 2) (sym (group-at b g l)) (s .mark g l))
     (λ (l : groupCount b ≤ g). subst (λ (x : Group). x .mark ≤ 2) (sym (group-past b g l)) (omega arith))
     (below-or-past g (groupCount b))
 
-phase-group : (b : List ℕ) → GroupsAccepted b → (p : ℕ) → p < phaseCount b → (g : ℕ) × (g < groupCount b) × (inPhase (siteOf b) g p ≡ true)
+phase-group : (b : List ℕ) → GroupsAccepted b → (p : ℕ) → p < phaseCount b → (g : ℕ) × (g < groupCount b) × (inPhase (siteOf b .groups) g p ≡ true)
 phase-group b s p l =
     let w = s .served p l in
     (w .0, w .1, in-phase-at b (w .0) p (w .1) ∙ w .2)
@@ -96,8 +96,8 @@ one-phase b s k l =
 movement-of-group :
     (b : List ℕ) (g : ℕ) →
     g < groupCount b →
-    isPedestrian (siteOf b) g ≡ true →
-    movementOf (siteOf b) g < movementCount b
+    isPedestrian (siteOf b .groups) g ≡ true →
+    movementOf (siteOf b .groups) g < movementCount b
 unfolding movementCount pedestriansBefore
 movement-of-group b g l e =
     omega (arith, movement-at b g l, count-before (pedestrian b) g (groupCount b) l (sym (pedestrian-at b g l) ∙ e))
@@ -105,12 +105,12 @@ movement-of-group b g l e =
 crossing-of-group :
     (b : List ℕ) (g : ℕ) →
     g < groupCount b →
-    isPedestrian (siteOf b) g ≡ true →
+    isPedestrian (siteOf b .groups) g ≡ true →
     (p : ℕ) →
-    crosses (siteOf b) (movementOf (siteOf b) g) p ≡ inPhase (siteOf b) g p
+    crosses (siteOf b .crossings) (movementOf (siteOf b .groups) g) p ≡ inPhase (siteOf b .groups) g p
 unfolding crossingAt pedestriansBefore
 crossing-of-group b g l e p =
-    let k = movementOf (siteOf b) g in
+    let k = movementOf (siteOf b .groups) g in
     let m = movement-of-group b g l e in
     let found = movement-group b k m in
     let same =
@@ -148,8 +148,8 @@ conflict-phase :
     (g j : ℕ) →
     conflict (siteOf b) g j ≡ true →
     (p : ℕ) →
-    inPhase (siteOf b) g p ≡ true →
-    inPhase (siteOf b) j p ≡ true →
+    inPhase (siteOf b .groups) g p ≡ true →
+    inPhase (siteOf b .groups) j p ≡ true →
     ⊥
 conflict-phase b t s g j e p q r =
     let w = conflict-groups b s g j e in

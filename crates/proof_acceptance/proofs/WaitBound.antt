@@ -31,12 +31,12 @@ module _ (site : Site) (sound : Sound site) where
       greatest-most _ (site .size .movements) _
       (λ k l.
       let times = sound .walkTime k l in
-      chosen-within (crosses site k p) _ _ (omega (arith, times .walk .1, times .first .1)))
+      chosen-within (crosses (site .crossings) k p) _ _ (omega (arith, times .walk .1, times .first .1)))
 
   clearance-within : (p : ℕ) → longestClearance site p ≤ highest (walkSettings + 2)
   unfolding longestClearance highest
   clearance-within p =
-      greatest-most _ (site .size .movements) _ (λ k l. chosen-within (crosses site k p) _ _ (sound .walkTime k l .second .1))
+      greatest-most _ (site .size .movements) _ (λ k l. chosen-within (crosses (site .crossings) k p) _ _ (sound .walkTime k l .second .1))
 
   share-within : (p : ℕ) → p < site .size .phases → phaseShare site p ≤ greatestShare
   unfolding phaseShare greatestShare highest

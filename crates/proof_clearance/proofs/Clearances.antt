@@ -36,7 +36,7 @@ module _
 
   -- ── Vehicle groups ──
 
-  module _ (kind : isPedestrian site j ≡ false) (p : ℕ) (times : SoundPhaseTimes (phaseTimes (site .times) p)) where
+  module _ (kind : isPedestrian (site .groups) j ≡ false) (p : ℕ) (times : SoundPhaseTimes (phaseTimes (site .times) p)) where
     abbrev Yellows : ℕ → State → Type 0
     Yellows n s = YellowsLeft site j p n (s .position)
 
@@ -125,30 +125,30 @@ module _
 
   -- ── Pedestrian groups ──
 
-  module _ (kind : isPedestrian site j ≡ true) where
+  module _ (kind : isPedestrian (site .groups) j ≡ true) where
     abbrev mine : State → Movement
-    mine s = movement s (movementOf site j)
+    mine s = movement s (movementOf (site .groups) j)
 
     abbrev times : WalkTimes
-    times = walkTimes (site .times) (movementOf site j)
+    times = walkTimes (site .times) (movementOf (site .groups) j)
 
     abbrev Flashes : ℕ → State → Type 0
     Flashes n s = FlashesLeft times n (mine s)
 
-    below : movementOf site j < site .size .movements
+    below : movementOf (site .groups) j < site .size .movements
     below = sound .movementOfGroup j within kind
 
     -- a step that does not show green begins no walk
     mine-after : (s : State) (step : Taken) → Link site s step → (shows step j ≡ green → ⊥) → mine (step .after) ≡ next times (mine s)
     mine-after s step link other =
-        movement-after site s step link (movementOf site j) (omega (arith, below, sound .movements))
+        movement-after site s step link (movementOf (site .groups) j) (omega (arith, below, sound .movements))
         (λ e. other (pedestrian-shows site s step link j within kind ∙ e))
 
     flashing-falls : (n : ℕ) → Leads site j (Flashes (suc n)) (Flashes n) flashing
     flashing-falls n s step link other left =
         let here = mine-after s step link other in
         let shown = rw here at (pedestrian-shows site s step link j within kind) in
-        let fall = flashes-fall times (sound .walkTime (movementOf site j) below) n (mine s) left (λ e. other (shown ∙ e)) in
+        let fall = flashes-fall times (sound .walkTime (movementOf (site .groups) j) below) n (mine s) left (λ e. other (shown ∙ e)) in
         (rw here (fall .0), shown ∙ fall .1)
 
     -- idle, or in the last step of C2
@@ -176,7 +176,7 @@ module _
         steps
         (in-walk (green-walks (mine s .stage) e) refl)
         since in
-        let idles = flashes-over times (sound .walkTime (movementOf site j) below) (mine (down .0)) (down .2) in
+        let idles = flashes-over times (sound .walkTime (movementOf (site .groups) j) below) (mine (down .0)) (down .2) in
         let reds = only-red site j start later Idles idle-rests (down .0) (down .1) idles (down .3) in
         (length (down .1), rw (← reds) (down .4))
 
@@ -190,9 +190,9 @@ module _
       Since site j start later (last .after) steps →
       Cleared site j last steps
   unfolding Cleared VehicleCleared PedestrianCleared
-  cleared s last steps link e since = by-kind (isPedestrian site j) refl
+  cleared s last steps link e since = by-kind (isPedestrian (site .groups) j) refl
     where
-      by-kind : (test : Bool) → isPedestrian site j ≡ test → Cleared site j last steps
+      by-kind : (test : Bool) → isPedestrian (site .groups) j ≡ test → Cleared site j last steps
       by-kind true kind =
           rw kind (pedestrian-cleared kind (last .after) steps (sym (pedestrian-shows site s last link j within kind) ∙ e) since)
       by-kind false kind =

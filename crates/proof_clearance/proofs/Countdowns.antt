@@ -48,7 +48,7 @@ module _ (site : Site) (j : ℕ) (start : Taken) (later : List Taken) (Rests : S
 module _ (keeps : StepKeepsValid) (site : Site) (sound : Sound site) (g j : ℕ) (apart : conflict site g j ≡ true) where
   -- group g is not green while the phase is one of the conflicting group's
   pub blocked :
-      (s : State) (step : Taken) → Link site s step → inPhase site j (step .after .position .phase) ≡ true → shows step g ≡ green → ⊥
+      (s : State) (step : Taken) → Link site s step → inPhase (site .groups) j (step .after .position .phase) ≡ true → shows step g ≡ green → ⊥
   blocked s step link member e =
       sound .conflictPhase g j apart (step .after .position .phase)
       (shown-has-phase keeps site sound s step link g (sound .conflictGroups g j apart .0) e)
@@ -57,7 +57,7 @@ module _ (keeps : StepKeepsValid) (site : Site) (sound : Sound site) (g j : ℕ)
   module _
       (start : Taken) (later : List Taken) (greenG : shows start g ≡ green)
       (Left : ℕ → State → Type 0) (colour : ℕ)
-      (member : (n : ℕ) (s : State) → valid site s ≡ true → Left n s → inPhase site j (s .position .phase) ≡ true)
+      (member : (n : ℕ) (s : State) → valid site s ≡ true → Left n s → inPhase (site .groups) j (s .position .phase) ≡ true)
       (falls : (n : ℕ) → Leads site j (Left (suc n)) (Left n) colour) where
     -- Where n steps of a colour are left in state s, they come first and in a row; none is left in the state that they lead to.
     pub counts-down :

@@ -22,22 +22,22 @@ use Rattle.proof_clearance.proofs.Shown.{vehicle-colour, pedestrian-col
 module _ (site : Site) (sound : Sound site) (s : State) (sane : valid site s ≡ true) (g : ℕ) (within : g < site .size .groups) where
   -- a pedestrian group whose movement is not idle is of the phase
   pub busy-has-phase :
-      isPedestrian site g ≡ true → isIdle (movement s (movementOf site g) .stage) ≡ false → inPhase site g (s .position .phase) ≡ true
+      isPedestrian (site .groups) g ≡ true → isIdle (movement s (movementOf (site .groups) g) .stage) ≡ false → inPhase (site .groups) g (s .position .phase) ≡ true
   busy-has-phase kind busy =
       let below = sound .movementOfGroup g within kind in
-      let told = state-told site s sane .movements (movementOf site g) (omega (arith, below, sound .movements)) in
+      let told = state-told site s sane .movements (movementOf (site .groups) g) (omega (arith, below, sound .movements)) in
       sym (sound .crossingOfGroup g within kind (s .position .phase)) ∙ told .ofPhase busy .1
 
   -- In a valid state a group that shows green has the phase in its set.
-  pub green-has-phase : colourOf site s g ≡ green → inPhase site g (s .position .phase) ≡ true
+  pub green-has-phase : colourOf (site .groups) (s .position) (s .movements) g ≡ green → inPhase (site .groups) g (s .position .phase) ≡ true
   unfolding isIdle
-  green-has-phase e = by-kind (isPedestrian site g) refl
+  green-has-phase e = by-kind (isPedestrian (site .groups) g) refl
     where
-      by-kind : (test : Bool) → isPedestrian site g ≡ test → inPhase site g (s .position .phase) ≡ true
+      by-kind : (test : Bool) → isPedestrian (site .groups) g ≡ test → inPhase (site .groups) g (s .position .phase) ≡ true
       by-kind true kind =
           busy-has-phase kind
-          (rw (green-walks (movement s (movementOf site g) .stage) (sym (pedestrian-colour site s g kind) ∙ e)))
-      by-kind false kind = green-of-phase (inPhase site g (s .position .phase)) _ (sym (vehicle-colour site s g kind) ∙ e)
+          (rw (green-walks (movement s (movementOf (site .groups) g) .stage) (sym (pedestrian-colour site s g kind) ∙ e)))
+      by-kind false kind = green-of-phase (inPhase (site .groups) g (s .position .phase)) _ (sym (vehicle-colour site s g kind) ∙ e)
 
 -- ── Accepted steps ──
 
@@ -50,7 +50,7 @@ module _ (keeps : StepKeepsValid) (site : Site) (sound : Sound site) where
       (g : ℕ) →
       g < site .size .groups →
       shows step g ≡ green →
-      inPhase site g (step .after .position .phase) ≡ true
+      inPhase (site .groups) g (step .after .position .phase) ≡ true
   shown-has-phase s step link g within e =
       green-has-phase site sound (step .after) (valid-after keeps site sound s step link) g within (sym (link .shown g within) ∙ e)
 

@@ -57,7 +57,7 @@ module _ (site : Site) (s : State) (step : Taken) (link : Link site s step) wher
     unfolding staying
     yellow-begins e =
         let p = s .position .phase in
-        let member = green-of-phase (inPhase site j p) _ e in
+        let member = green-of-phase (inPhase (site .groups) j p) _ e in
         by-end (λ (q : Position). (vehicleAt site j q ≡ green → ⊥) → Leaving site j p Yellow 1 q)
         (λ over other.
         ⊎-elim
@@ -147,8 +147,8 @@ pub data YellowsLeft (site : Site) (j p n : ℕ) (position : Position) : Type 0 
 
 module _ (site : Site) (j p : ℕ) where
   -- the phase is still one of the group's
-  pub yellows-member : (n : ℕ) (position : Position) → YellowsLeft site j p n position → inPhase site j (position .phase) ≡ true
-  yellows-member n position (in-green here e c) = green-of-phase (inPhase site j (position .phase)) _ e
+  pub yellows-member : (n : ℕ) (position : Position) → YellowsLeft site j p n position → inPhase (site .groups) j (position .phase) ≡ true
+  yellows-member n position (in-green here e c) = green-of-phase (inPhase (site .groups) j (position .phase)) _ e
   yellows-member n position (in-yellow a row c) = leaving-member site j p a position Yellow row
 
   module _ (times : SoundPhaseTimes (phaseTimes (site .times) p)) (s : State) (step : Taken) (link : Link site s step) where

@@ -64,7 +64,7 @@ module _ (site : Site) (s : State) (inputs : ℕ) where
   -- the walk of movement k begins in this step
   unfoldable pub begun : ℕ → Bool
   begun k =
-      askedNow k && crosses site k (now .phase) && (started || (isRunning (now .interval) && not another && isIdle (moved k .stage)))
+      askedNow k && crosses (site .crossings) k (now .phase) && (started || (isRunning (now .interval) && not another && isIdle (moved k .stage)))
 
   pub position-of : stepped site s inputs .position ≡ now
   unfolding stepped timesNow another counted ended now
@@ -88,7 +88,7 @@ module _ (site : Site) (s : State) (inputs : ℕ) where
 
   -- what part 5 asks of index k
   begins-at : ℕ → Bool
-  begins-at k = begins site started another now (demandsAfter site s inputs .buttons) (movementsAfter (site .times) s) k
+  begins-at k = begins (site .crossings) started another now (demandsAfter site s inputs .buttons) (movementsAfter (site .times) s) k
 
   begun-at : (k : ℕ) → k < 8 → begins-at k ≡ begun k
   unfolding begins begins-at begun

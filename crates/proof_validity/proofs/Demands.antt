@@ -32,7 +32,7 @@ module _ (site : Site) (sound : Sound site) where
   detected-below kind inputs p h =
       let found = any-found _ _ h in
       let d = found .0 in
-      let ofPhase = and-right (occupied inputs d) _ (and-left _ (kind (detectorOf site d .mode)) (found .2)) in
+      let ofPhase = and-right (occupied inputs d) _ (and-left _ (kind (detectorOf (site .detectors) d .mode)) (found .2)) in
       subst (λ (q : ℕ). q < site .size .phases) (eqb-true _ p ofPhase) (sound .detectorPhase d (found .1))
 
   -- a phase that is locked after part 1 exists

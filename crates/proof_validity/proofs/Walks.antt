@@ -30,7 +30,7 @@ use Rattle.proof_validity.proofs.Positions.{new-aged, Open, start-open}
 use Rattle.proof_validity.proofs.Movements.{moved-valid}
 
 -- a movement that crosses a phase exists
-crossing-exists : (site : Site) → Sound site → (k p : ℕ) → crosses site k p ≡ true → k < site .size .movements
+crossing-exists : (site : Site) → Sound site → (k p : ℕ) → crosses (site .crossings) k p ≡ true → k < site .size .movements
 crossing-exists site sound k p c = step (ltb k (site .size .movements)) refl
   where
     step : (t : Bool) → ltb k (site .size .movements) ≡ t → k < site .size .movements
@@ -42,7 +42,7 @@ walk-valid :
     (site : Site) →
     Sound site →
     (position : Position) (k : ℕ) →
-    crosses site k (position .phase) ≡ true →
+    crosses (site .crossings) k (position .phase) ≡ true →
     Open (position .interval) →
     ValidMovement site position k (record { stage = Walk; age = 1 })
 unfolding isIdle
@@ -90,7 +90,7 @@ module _ (site : Site) (sound : Sound site) (s : State) (inputs k : ℕ) where
   begun-valid : begun site s inputs k ≡ true → ValidMovement site (now site s inputs) k (record { stage = Walk; age = 1 })
   unfolding begun started now
   begun-valid h =
-      let ofPhase = crosses site k (now site s inputs .phase) in
+      let ofPhase = crosses (site .crossings) k (now site s inputs .phase) in
       let rests = isRunning (now site s inputs .interval) && not (another site s inputs) in
       let idles = isIdle (moved site s inputs k .stage) in
       let start = started site s inputs in

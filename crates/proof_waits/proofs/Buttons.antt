@@ -53,8 +53,8 @@ module _
     (q m : ℕ)
     (below : q < site .size .phases)
     (exists : m < site .size .movements)
-    (crossing : crosses site m q ≡ true)
-    (only : (p : ℕ) → crosses site m p ≡ true → p ≡ q)
+    (crossing : crosses (site .crossings) m q ≡ true)
+    (only : (p : ℕ) → crosses (site .crossings) m p ≡ true → p ≡ q)
   where
     button-below : m < 8
     button-below = omega (arith, sound .movements)
@@ -78,7 +78,7 @@ module _
       button-demands =
           or-left (calls site s inputs q)
           (or-right (getD (demandsAfter site s inputs .locks) q false)
-          (any-at (λ (k : ℕ). getD (demandsAfter site s inputs .buttons) k false && crosses site k q) (site .size .movements) m exists
+          (any-at (λ (k : ℕ). getD (demandsAfter site s inputs .buttons) k false && crosses (site .crossings) k q) (site .size .movements) m exists
           (and-both (list-at (λ (k : ℕ). asked s k || registersButton s inputs k) 8 m false button-below ∙ standing) crossing)))
 
       walk-entered : begun site s inputs m ≡ true → inWalk next m ≡ true
@@ -98,7 +98,7 @@ module _
         -- the phase does not start: the walk would begin
         not-started : started site s inputs ≡ true → now site s inputs .phase ≡ q → ⊥
         unfolding begun
-        not-started h e = never-both (and-both (and-both standing (ap (crosses site m) e ∙ crossing)) (or-left _ h)) quiet
+        not-started h e = never-both (and-both (and-both standing (ap (crosses (site .crossings) m) e ∙ crossing)) (or-left _ h)) quiet
 
         -- nor does it run with the movement idle and no other phase demanded
         not-alone : s .position .interval ≡ Running → s .position .phase ≡ q → idles site s m ≡ 0 → another site s inputs ≡ false → ⊥
@@ -111,7 +111,7 @@ module _
             let still =
             idle-kept times (movement s m .age) (movement s m .stage) (idle-told times (movement s m .age) (movement s m .stage) z) in
             never-both
-            (and-both (and-both standing (ap (crosses site m) phase ∙ crossing))
+            (and-both (and-both standing (ap (crosses (site .crossings) m) phase ∙ crossing))
             (or-right (started site s inputs) (and-both (and-both running (ap not a)) still)))
             quiet
 

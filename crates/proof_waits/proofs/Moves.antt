@@ -126,14 +126,14 @@ module _ (site : Site) (s : State) (inputs : ℕ) where
       isRunning (now site s inputs .interval) ≡ false → begun site s inputs k ≡ false
   unfolding begun
   quiet-leaving k h r =
-      and-false-right (askedNow site s inputs k && crosses site k (now site s inputs .phase))
+      and-false-right (askedNow site s inputs k && crosses (site .crossings) k (now site s inputs .phase))
       (or-false-both h
       (and-false-left (isIdle (moved site s inputs k .stage)) (and-false-left (not (another site s inputs)) r)))
 
   pub quiet-demanded : (k : ℕ) → started site s inputs ≡ false → another site s inputs ≡ true → begun site s inputs k ≡ false
   unfolding begun
   quiet-demanded k h a =
-      and-false-right (askedNow site s inputs k && crosses site k (now site s inputs .phase))
+      and-false-right (askedNow site s inputs k && crosses (site .crossings) k (now site s inputs .phase))
       (or-false-both h
       (and-false-left (isIdle (moved site s inputs k .stage)) (and-false-right (isRunning (now site s inputs .interval)) (ap not a))))
 

@@ -211,10 +211,10 @@ module _ (site : Site) (sound : Sound site) (position : Position) (k : ℕ) (m :
       (f : WalkTimes → ℕ) →
       isIdle (m .stage) ≡ false →
       f (walkTimes (site .times) k)
-      ≤ greatestOf (λ k. if crosses site k (position .phase) then f (walkTimes (site .times) k) else 0) (site .size .movements)
+      ≤ greatestOf (λ k. if crosses (site .crossings) k (position .phase) then f (walkTimes (site .times) k) else 0) (site .size .movements)
   phase-limit f h =
       rw (v .ofPhase h .1) at (greatest-at
-      (λ (k : ℕ). if crosses site k (position .phase) then f (walkTimes (site .times) k) else 0)
+      (λ (k : ℕ). if crosses (site .crossings) k (position .phase) then f (walkTimes (site .times) k) else 0)
       (site .size .movements)
       k
       (v .ofPhase h .0))

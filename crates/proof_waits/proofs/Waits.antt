@@ -27,14 +27,14 @@ use Rattle.proof_waits.proofs.Buttons.{ButtonWaits, button-registers, b
 lock-exists : (site : Site) → Sound site → (s : State) (inputs p : ℕ) → registersLock site s inputs p ≡ true → p < site .size .phases
 unfolding registersLock detected
 lock-exists site sound s inputs p r =
-    let of : ℕ → Bool = λ d. occupied inputs d && eqb (detectorOf site d .phase) p in
+    let of : ℕ → Bool = λ d. occupied inputs d && eqb (detectorOf (site .detectors) d .phase) p in
     let found =
-    any-found (λ (d : ℕ). of d && locking (detectorOf site d .mode)) (site .size .detectors)
+    any-found (λ (d : ℕ). of d && locking (detectorOf (site .detectors) d .mode)) (site .size .detectors)
     (and-left (detected locking site inputs p) (not (inGreen s p)) r) in
     let d = found .0 in
     subst (λ (x : ℕ). x < site .size .phases)
-    (eqb-true (detectorOf site d .phase) p
-    (and-right (occupied inputs d) (eqb (detectorOf site d .phase) p) (and-left (of d) (locking (detectorOf site d .mode)) (found .2))))
+    (eqb-true (detectorOf (site .detectors) d .phase) p
+    (and-right (occupied inputs d) (eqb (detectorOf (site .detectors) d .phase) p) (and-left (of d) (locking (detectorOf (site .detectors) d .mode)) (found .2))))
     (sound .detectorPhase d (found .1))
 
 module _ (keeps : StepKeepsValid) (site : Site) (sound : Sound site) where
@@ -97,5 +97,6 @@ demands-met keeps site sound steps chain earlier later step e h =
     let reached =
     always site (λ (s : State). Unit {0}) (λ s step link u. tt) earlier (step ∷ later) fresh tt
     (subst (λ (l : List Taken). Chain site fresh l) e chain) in
-    let both = met keeps site sound (reached .0) step later (reached .2) h in
-    (λ p r. both .0 p (sym (lock-same site step p) ∙ r), λ k l r. both .1 k l (sym (button-same step k) ∙ r))
+    let told = reached .2 .0 .wait in
+    let both = met keeps site sound (reached .0) step later (reached .2) (rw told at h) in
+    (λ p r. rw told (both .0 p (sym (lock-same site step p) ∙ r)), λ k l r. rw told (both .1 k l (sym (button-same step k) ∙ r)))

@@ -40,7 +40,7 @@ pub record SoundWalkTimes (times : WalkTimes) : Type 0 where
 
 -- the one phase of a movement
 abbrev pub OnePhase : Site → ℕ → Type 0
-OnePhase site k = (p : ℕ) × (p < site .size .phases) × (crosses site k p ≡ true) × ((q : ℕ) → crosses site k q ≡ true → q ≡ p)
+OnePhase site k = (p : ℕ) × (p < site .size .phases) × (crosses (site .crossings) k p ≡ true) × ((q : ℕ) → crosses (site .crossings) k q ≡ true → q ≡ p)
 
 pub record Sound (site : Site) : Type 0 where
   pub phases : (2 ≤ site .size .phases) × (site .size .phases ≤ 7)
@@ -52,25 +52,25 @@ pub record Sound (site : Site) : Type 0 where
   pub phaseTime : (p : ℕ) → p < site .size .phases → SoundPhaseTimes (phaseTimes (site .times) p)
   pub walkTime : (k : ℕ) → k < site .size .movements → SoundWalkTimes (walkTimes (site .times) k)
   -- groups, detectors and movements are of phases that exist, and each phase has a group
-  pub groupPhase : (g p : ℕ) → inPhase site g p ≡ true → (g < site .size .groups) × (p < site .size .phases)
-  pub groupMark : (g : ℕ) → groupOf site g .mark ≤ 2
-  pub phaseGroup : (p : ℕ) → p < site .size .phases → (g : ℕ) × (g < site .size .groups) × (inPhase site g p ≡ true)
-  pub detectorPhase : (d : ℕ) → d < site .size .detectors → detectorOf site d .phase < site .size .phases
+  pub groupPhase : (g p : ℕ) → inPhase (site .groups) g p ≡ true → (g < site .size .groups) × (p < site .size .phases)
+  pub groupMark : (g : ℕ) → groupOf (site .groups) g .mark ≤ 2
+  pub phaseGroup : (p : ℕ) → p < site .size .phases → (g : ℕ) × (g < site .size .groups) × (inPhase (site .groups) g p ≡ true)
+  pub detectorPhase : (d : ℕ) → d < site .size .detectors → detectorOf (site .detectors) d .phase < site .size .phases
   pub crossing : (k : ℕ) → k < site .size .movements → OnePhase site k
-  pub noCrossing : (k p : ℕ) → site .size .movements ≤ k → crosses site k p ≡ false
+  pub noCrossing : (k p : ℕ) → site .size .movements ≤ k → crosses (site .crossings) k p ≡ false
   -- a pedestrian group has a movement, which is of the group's phase
-  pub movementOfGroup : (g : ℕ) → g < site .size .groups → isPedestrian site g ≡ true → movementOf site g < site .size .movements
+  pub movementOfGroup : (g : ℕ) → g < site .size .groups → isPedestrian (site .groups) g ≡ true → movementOf (site .groups) g < site .size .movements
   pub crossingOfGroup :
       (g : ℕ) →
       g < site .size .groups →
-      isPedestrian site g ≡ true →
+      isPedestrian (site .groups) g ≡ true →
       (p : ℕ) →
-      crosses site (movementOf site g) p ≡ inPhase site g p
+      crosses (site .crossings) (movementOf (site .groups) g) p ≡ inPhase (site .groups) g p
   -- conflicts are between groups that exist, never of a group with itself, symmetric, and share no phase
   pub conflictGroups : (g j : ℕ) → conflict site g j ≡ true → (g < site .size .groups) × (j < site .size .groups)
   pub conflictOther : (g j : ℕ) → conflict site g j ≡ true → g ≡ j → ⊥
   pub conflictBack : (g j : ℕ) → conflict site g j ≡ true → conflict site j g ≡ true
-  pub conflictPhase : (g j : ℕ) → conflict site g j ≡ true → (p : ℕ) → inPhase site g p ≡ true → inPhase site j p ≡ true → ⊥
+  pub conflictPhase : (g j : ℕ) → conflict site g j ≡ true → (p : ℕ) → inPhase (site .groups) g p ≡ true → inPhase (site .groups) j p ≡ true → ⊥
 
 unfoldable pub AcceptedIsSound : Type 0
 AcceptedIsSound = (b : List ℕ) → verdictOf b ≡ Accepted → Sound (siteOf b)

@@ -9,11 +9,11 @@ use Rattle.rules.specs.Site.{phaseTimes, walkTimes, crosses}
 -- A: the greatest W + C1 among the phase's movements, 0 without movements
 unfoldable pub longestWalk : Site → ℕ → ℕ
 longestWalk site p =
-    greatestOf (λ k. if crosses site k p then walkTimes (site .times) k .walk + walkTimes (site .times) k .first else 0) (site .size .movements)
+    greatestOf (λ k. if crosses (site .crossings) k p then walkTimes (site .times) k .walk + walkTimes (site .times) k .first else 0) (site .size .movements)
 
 -- C: the greatest C2 among the phase's movements, 0 without movements
 unfoldable pub longestClearance : Site → ℕ → ℕ
-longestClearance site p = greatestOf (λ k. if crosses site k p then walkTimes (site .times) k .second else 0) (site .size .movements)
+longestClearance site p = greatestOf (λ k. if crosses (site .crossings) k p then walkTimes (site .times) k .second else 0) (site .size .movements)
 
 unfoldable pub phaseShare : Site → ℕ → ℕ
 phaseShare site p =
