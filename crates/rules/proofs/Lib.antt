@@ -4,3 +4,4 @@ pub mod Rows
 pub mod Verdicts
 pub mod Counts
 pub mod Bits
+pub mod Intervals
