@@ -13,7 +13,7 @@ use Rattle.proof_runs.proofs.Chains.{Link, Chain}
 -- A link between valid states of the sound site whose times rule in the step.
 pub record ValidLink (site : Site) (s : State) (step : Taken) : Type 0 where
   pub sound : Sound site
-  pub link : Link site s step
+  pub taken : Link site s step
   pub here : ValidState site s
   pub there : ValidState site (step .after)
 
@@ -27,7 +27,7 @@ run-of keeps site sound =
     (λ s step link.
     record {
       sound = sound;
-      link = link;
+      taken = link;
       here = state-told site s (link .valid);
       there =
           rw (link .after) (state-told site (stepped site s (step .inputs)) (keeps site sound s (step .inputs) (link .valid) (link .wired)));
