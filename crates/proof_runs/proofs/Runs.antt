@@ -1,6 +1,5 @@
 -- The accepted steps of a run on a sound site link valid states: a call is accepted in a valid state only, and a step keeps it valid.
 use mathlib.Core.List.{List}
-use mathlib.Core.Path.{_≡_}
 use Rattle.rules.specs.declared.site.Site.{Site}
 use Rattle.rules.specs.declared.state.State.{State}
 use Rattle.rules.specs.Step.{stepped}

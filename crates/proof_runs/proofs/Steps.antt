@@ -12,7 +12,7 @@ use Rattle.rules.specs.declared.state.Movement.{Movement}
 use Rattle.rules.specs.declared.state.Position.{Position}
 use Rattle.rules.specs.declared.state.Stage.the-variants.{Walk}
 use Rattle.rules.specs.declared.state.State.{State}
-use Rattle.rules.specs.Rows.{if_then_else_, listOf}
+use Rattle.rules.specs.Rows.{if_then_else_}
 use Rattle.rules.specs.Site.{phaseTimes, walkTimes, crosses}
 use Rattle.rules.specs.Intervals.{isHeld, isIdle, isRunning}
 use Rattle.rules.specs.State.{idle, locked, asked, movement}

@@ -1,7 +1,7 @@
 -- Demands after a step are of phases and movements that exist: a lock comes from a detector, whose phase exists, and a button that
 -- is pressed in an accepted step is wired, so that its movement exists.
 use Prim.Native.Nat.{ℕ, _+_, _<_}
-use mathlib.Core.Bool.{Bool, true, false, not, _&&_}
+use mathlib.Core.Bool.{true, false, not, _&&_}
 use mathlib.Core.Logic.{⊎-elim}
 use mathlib.Core.Path.{_≡_, sym, _∙_}
 use native.Mathlib.Omega.{arith}

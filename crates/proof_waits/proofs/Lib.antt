@@ -8,6 +8,7 @@ pub mod Bound
 pub mod Paths
 pub mod Registers
 pub mod Demand
+pub mod Away
 pub mod Locks
 pub mod Buttons
 pub mod Waits
