@@ -93,7 +93,7 @@ module _
     leaving-within :
         isLeaving (s .position .interval) ≡ true →
         (timer : ℕ) →
-        timer ≤ timesNow site s .yellow + timesNow site s .red →
+        timer ≤ site .times .start + timesNow site s .yellow + timesNow site s .red →
         Each timer (ahead (phaseHeld (s .position .target))) (idles site s) (waitBound site)
     unfolding again
     leaving-within h timer most = (omega (arith, bound, target-far h), λ k l. omega (arith, bound, target-far h, idles-clear h k l))

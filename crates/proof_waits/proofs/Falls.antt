@@ -96,16 +96,6 @@ running-stays zero (suc own') maximum count count' walk more out out' n some bel
 running-stays (suc own) own' maximum count count' walk more out out' n some below most fewer rises falls held h =
     running-whole own' maximum count' walk more out' n some most (omega arith)
 
--- the whole of yellow and all-red, and the longest clearance, are enough from yellow on
-pub yellow-whole :
-    (yellow red clearance far more : ℕ) (idle : ℕ → ℕ) (n : ℕ) →
-    1 ≤ yellow →
-    ((k : ℕ) → k < 8 → idle k ≤ clearance) →
-    far ≤ more →
-    yellow + red + clearance + more ≤ n →
-    Each (yellow - 1 + 1 + red) far idle n
-yellow-whole yellow red clearance far more idle n some most near h = (omega arith, λ k l. omega (arith, most k l))
-
 -- ── A phase starts ──
 
 module _ (site : Site) (ahead onward : ℕ → ℕ) (n own' count' : ℕ) (out' idle' : ℕ → ℕ) where

@@ -32,7 +32,7 @@ use Rattle.proof_runs.proofs.Ends.{ended-in, next-in, started-in, running-ends}
 use Rattle.proof_waits.proofs.Stages.{outs, idles, out-most, clear-most}
 use Rattle.proof_waits.proofs.Settings.{Timed, phase-timed, start-timed}
 use Rattle.proof_waits.proofs.Left.{Each, visit, fromYellow, fromRunning, LeftIn, Left}
-use Rattle.proof_waits.proofs.Falls.{timer-falls, timer-waits, yellow-whole, each-falls, running-whole, running-more, running-stays, starts-left}
+use Rattle.proof_waits.proofs.Falls.{timer-falls, timer-waits, each-falls, running-whole, running-more, running-stays, starts-left}
 use Rattle.proof_waits.proofs.Moves.{maximum-rises, quiet-in, quiet-demanded, outs-fall, idles-fall, running-held, red-held}
 
 -- What a demand of phase q gives in a step, where the demanded movement takes `own` steps to be idle before it and `own'` after it.
@@ -140,30 +140,50 @@ module _
 
     -- ── The movements ──
 
-    -- in the position that follows they take no longer than the settings of its phase
-    outs-within :
-        (position : Position) →
-        next .position ≡ position →
-        (k : ℕ) →
-        k < 8 →
-        outs site next k ≤ longestWalk site (position .phase)
+    -- in the same phase they are out of walk and C1 within its longest
+    outs-within : next .position .phase ≡ s .position .phase → (k : ℕ) → k < 8 → outs site next k ≤ walk
     unfolding outs
-    outs-within position e k l =
-        subst (λ (p : Position). outs site next k ≤ longestWalk site (p .phase)) e
+    outs-within e k l =
+        subst (λ (p : ℕ). outs site next k ≤ longestWalk site p) e
         (out-most site sound (next .position) k (movement next k) (v' .movements k l))
 
-    idles-within :
-        (position : Position) →
-        next .position ≡ position →
-        isLeaving (position .interval) ≡ true →
-        (k : ℕ) →
-        k < 8 →
-        idles site next k ≤ longestClearance site (position .phase)
-    unfolding idles
-    idles-within position e leaving k l =
-        subst (λ (p : Position). idles site next k ≤ longestClearance site (p .phase)) e
-        (clear-most site sound (next .position) k (movement next k) (v' .movements k l)
-        (ap (λ (p : Position). isLeaving (p .interval)) e ∙ leaving))
+    -- where the phase begins to be left they are idle within its longest clearance, and the timers are given
+    leaves :
+        (i : Interval) (target : Held) →
+        isLeaving i ≡ true →
+        next .position ≡ entering i target (s .position) →
+        ahead (phaseHeld target) ≤ onward (s .position .phase) →
+        after ≤ n →
+        (timer : ℕ) →
+        timer ≤ settings .yellow + settings .red →
+        Each timer (ahead (phaseHeld target)) (idles site next) n
+    unfolding entering idles fromYellow
+    leaves i target leaving e near h timer most = (
+      omega arith,
+      λ k l.
+          let told = clear-most site sound (next .position) k (movement next k) (v' .movements k l) in
+          omega (
+            arith,
+            subst
+                (λ (p : Position). isLeaving (p .interval) ≡ true → idles site next k ≤ longestClearance site (p .phase))
+                e
+                told
+                leaving,
+          ),
+    )
+
+    -- while it goes on being left no walk begins, so they come nearer to be idle, and the timers are given
+    leaves-on :
+        (i : Interval) (e : s .position .interval ≡ i) (t : Bool) (b : ended site s inputs ≡ t) →
+        (t && isBeforeStart i) ≡ false →
+        isRunning ((if t then following i (site .times) (nextDemanded site s inputs) (s .position) else staying (s .position)) .interval) ≡ false →
+        (timer timer' more : ℕ) →
+        timer' + more ≤ n →
+        Each timer more (idles site s) (suc n) →
+        Each timer' more (idles site next) n
+    leaves-on i e t b none stops timer timer' more h =
+        each-falls timer timer' more n (idles site s) (idles site next) h (omega arith)
+        (λ k l. idles-fall site s inputs sound v k l (quiet-in site s inputs i e t b none stops k))
 
     -- ── Timers ──
 
@@ -181,19 +201,6 @@ module _
     timer-stays i setting more more' e b same most =
         timer-falls setting (s .position .age) more more' n most
         (leb-false setting (s .position .age) (sym same ∙ sym (ended-in site s inputs i e) ∙ b))
-
-    -- A phase that is being left goes on being left: no walk begins, so the movements come nearer to be idle, and the timers are given.
-    leaves-on :
-        (i : Interval) (e : s .position .interval ≡ i) (t : Bool) (b : ended site s inputs ≡ t) →
-        (t && isBeforeStart i) ≡ false →
-        isRunning ((if t then following i (site .times) (nextDemanded site s inputs) (s .position) else staying (s .position)) .interval) ≡ false →
-        (timer timer' more : ℕ) →
-        timer' + more ≤ n →
-        Each timer more (idles site s) (suc n) →
-        Each timer' more (idles site next) n
-    leaves-on i e t b none stops timer timer' more h =
-        each-falls timer timer' more n (idles site s) (idles site next) h (omega arith)
-        (λ k l. idles-fall site s inputs sound v k l (quiet-in site s inputs i e t b none stops k))
 
     -- ── By interval ──
 
@@ -218,7 +225,7 @@ module _
         let entered = next-in site s inputs MinimumGreen e true b in
         enters Running Nothing entered
         (running-whole own' (settings .maximum) (next .counts .maximum) walk after (outs site next) n (times .maximum)
-        (outs-within (entering Running Nothing (s .position)) entered)
+        (outs-within (ap (λ (p : Position). p .phase) entered))
         (omega (arith, stand .fewer)))
     step MinimumGreen false e b h =
         stays MinimumGreen e b
@@ -227,20 +234,16 @@ module _
         let entered = next-in site s inputs Running e true b in
         let target = nextDemanded site s inputs in
         enters Yellow target entered
-        (yellow-whole (settings .yellow) (settings .red) (longestClearance site (s .position .phase)) (ahead (phaseHeld target))
-        (onward (s .position .phase))
-        (idles site next)
-        n
-        (times .yellow .0)
-        (idles-within (entering Yellow target (s .position)) entered refl)
-        (stand .found (running-ends site s inputs e b))
-        (running-more own (settings .maximum) (s .counts .maximum) walk after (outs site s) n h))
+        (leaves Yellow target refl entered (stand .found (running-ends site s inputs e b))
+        (running-more own (settings .maximum) (s .counts .maximum) walk after (outs site s) n h)
+        _
+        (omega (arith, times .yellow)))
     step Running false e b h =
         stays Running e b
         (running-stays own own' (settings .maximum) (s .counts .maximum) (next .counts .maximum) walk after (outs site s) (outs site next) n
         (times .maximum)
         (v .maximum)
-        (outs-within (staying (s .position)) (next-in site s inputs Running e false b))
+        (outs-within (ap (λ (p : Position). p .phase) (next-in site s inputs Running e false b)))
         (stand .fewer)
         (λ z. maximum-rises site s inputs e (stand .held e z) b)
         (λ z k l. outs-fall site s inputs sound v k l (quiet-demanded site s inputs e (stand .held e z) b k))
