@@ -64,7 +64,9 @@ module _ (site : Site) (s : State) (step : Taken) (later : List Taken) (run : Ru
 pub demands-met : (site : Site) (steps : List Taken) → Run site fresh steps → DemandsMet site steps
 unfolding DemandsMet
 demands-met site steps run earlier later step e long =
-    let cut = reached (ValidLink site) steps earlier (step ∷ later) fresh e run in (
-      λ p r. lock-met site (cut .0) step later (cut .1) long p (sym (lock-same site step p) ∙ r),
-      λ k l r. button-met site (cut .0) step later (cut .1) long k l (sym (button-same step k) ∙ r),
+    let cut = reached (ValidLink site) steps earlier (step ∷ later) fresh e run in
+    let told = cut .1 .0 .taken .wait in
+    let enough = rw told at long in (
+      λ p r. rw told (lock-met site (cut .0) step later (cut .1) enough p (sym (lock-same site step p) ∙ r)),
+      λ k l r. rw told (button-met site (cut .0) step later (cut .1) enough k l (sym (button-same step k) ∙ r)),
     )
