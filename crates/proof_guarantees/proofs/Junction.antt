@@ -6,7 +6,6 @@ use mathlib.Core.List.{List, _∷_, _++_}
 use mathlib.Core.Path.{_≡_, refl, sym, subst, _∙_}
 use lib.ListN.{length}
 use Rattle.rules.specs.declared.answer.Verdict.the-variants.{Accepted}
-use Rattle.rules.specs.declared.state.State.{State}
 use Rattle.rules.specs.Personality.{verdictOf}
 use Rattle.rules.specs.Site.{siteOf, conflict}
 use Rattle.rules.specs.State.{fresh}
@@ -17,7 +16,8 @@ use Rattle.rules.specs.Junctions.{junction}
 use Rattle.rules.specs.Cases.{CasesHold, cases, starred}
 use Rattle.rules.proofs.Cases.{cases-hold}
 use Rattle.rules.proofs.Opened.{opened}
-use Rattle.proof_runs.proofs.Chains.{Chain, chained, always}
+use Rattle.proof_runs.proofs.Linked.{reached}
+use Rattle.proof_runs.proofs.Chains.{Link, chained}
 use Rattle.proof_guarantees.specs.Junction.{NeverTogether, MetIn270}
 use Rattle.proof_guarantees.proofs.DemandThree.{demand-three}
 
@@ -38,9 +38,8 @@ told-270 :
     accepted (takenFrom ruled junction fresh calls) ≡ earlier ++ step ∷ later →
     waitOf (step .outcome) ≡ 270
 told-270 calls earlier later step e =
-    let chain = subst (Chain (siteOf junction) fresh) e (chained junction fresh calls) in
-    let reached = always (siteOf junction) (λ (s : State). Unit {0}) (λ s step link u. tt) earlier (step ∷ later) fresh tt chain in
-    reached .2 .0 .wait ∙ junction-bound
+    let steps = accepted (takenFrom ruled junction fresh calls) in
+    reached (Link (siteOf junction)) steps earlier (step ∷ later) fresh e (chained junction fresh calls) .1 .0 .wait ∙ junction-bound
 
 pub never-together : NeverTogether
 unfolding NeverTogether DemandThree DemandThreeOf NoConflictingGreens ruled
