@@ -1,20 +1,23 @@
 -- Demand 3 applied to the junction of two phases. That the rules accept it, with a wait bound of 270, are two of the worked cases;
--- that its two groups conflict is computed.
+-- that its two groups conflict is computed. Every accepted step answers that wait bound.
 use Prim.Native.Nat.{ℕ, _≤_}
 use mathlib.Core.Bool.{true}
-use mathlib.Core.List.{List}
-use mathlib.Core.Path.{_≡_, refl, sym, subst}
+use mathlib.Core.List.{List, _∷_, _++_}
+use mathlib.Core.Path.{_≡_, refl, sym, subst, _∙_}
 use lib.ListN.{length}
 use Rattle.rules.specs.declared.answer.Verdict.the-variants.{Accepted}
-use Rattle.rules.specs.Rows.{listOf, countOf, indicesOf}
-use Rattle.rules.specs.Bytes.{byteAt, twoAt, fourAt, bit}
-use Rattle.rules.specs.Personality.{verdictOf, groupCount, phaseCount, bodyAt, recordAt, groupsHead, conflictsHead, conflictSet}
-use Rattle.rules.specs.Site.{siteOf, rowOf, conflict}
+use Rattle.rules.specs.Personality.{verdictOf}
+use Rattle.rules.specs.Site.{siteOf, conflict}
+use Rattle.rules.specs.State.{fresh}
+use Rattle.rules.specs.Verdicts.{waitOf}
 use Rattle.rules.specs.WaitBound.{waitBound}
-use Rattle.rules.specs.Runs.{NoConflictingGreens, DemandsMet, DemandThree, comesWithin, minimumGreenBegins}
-use Rattle.rules.specs.Junctions.{junction, two, four, twos, fours, section, sections, shortPhase}
+use Rattle.rules.specs.Runs.{ruled, Call, Taken, takenFrom, accepted, NoConflictingGreens, DemandsMet, DemandThreeOf, DemandThree, comesWithin, minimumGreenBegins}
+use Rattle.rules.specs.Junctions.{junction}
 use Rattle.rules.specs.Cases.{CasesHold, cases, starred}
 use Rattle.rules.proofs.Cases.{cases-hold}
+use Rattle.rules.proofs.Opened.{opened}
+use Rattle.proof_runs.proofs.Linked.{reached}
+use Rattle.proof_runs.proofs.Chains.{Link, chained}
 use Rattle.proof_guarantees.specs.Junction.{NeverTogether, MetIn270}
 use Rattle.proof_guarantees.proofs.DemandThree.{demand-three}
 
@@ -27,20 +30,27 @@ unfolding CasesHold cases starred
 junction-bound = cases-hold .0
 
 groups-conflict : conflict (siteOf junction) 0 1 ≡ true
-unfolding
-    conflict siteOf rowOf listOf conflictSet conflictsHead groupsHead bodyAt recordAt groupCount phaseCount byteAt twoAt fourAt bit junction
-    sections section shortPhase two four twos fours
+unfolding opened
 groups-conflict = refl
 
+told-270 :
+    (calls : List Call) (earlier later : List Taken) (step : Taken) →
+    accepted (takenFrom ruled junction fresh calls) ≡ earlier ++ step ∷ later →
+    waitOf (step .outcome) ≡ 270
+told-270 calls earlier later step e =
+    let steps = accepted (takenFrom ruled junction fresh calls) in
+    reached (Link (siteOf junction)) steps earlier (step ∷ later) fresh e (chained junction fresh calls) .1 .0 .wait ∙ junction-bound
+
 pub never-together : NeverTogether
-unfolding NeverTogether DemandThree NoConflictingGreens
+unfolding NeverTogether DemandThree DemandThreeOf NoConflictingGreens ruled
 never-together calls earlier later step e =
     demand-three junction junction-accepted calls .noConflictingGreens earlier later step e 0 1 groups-conflict
 
 pub met-in-270 : MetIn270
-unfolding MetIn270 DemandThree DemandsMet
+unfolding MetIn270 DemandThree DemandThreeOf DemandsMet ruled
 met-in-270 calls earlier later step e long registered =
+    let told = told-270 calls earlier later step e in
     let met =
     demand-three junction junction-accepted calls .demandsMet earlier later step e
-    (subst (λ (n : ℕ). n ≤ length later) (sym junction-bound) long) in
-    subst (λ (n : ℕ). comesWithin n (minimumGreenBegins 1) step later ≡ true) junction-bound (met .0 1 registered)
+    (subst (λ (n : ℕ). n ≤ length later) (sym told) long) in
+    subst (λ (n : ℕ). comesWithin n (minimumGreenBegins 1) step later ≡ true) told (met .0 1 registered)

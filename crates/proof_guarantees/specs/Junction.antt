@@ -7,14 +7,14 @@ use lib.ListN.{length}
 use Rattle.rules.specs.Site.{siteOf}
 use Rattle.rules.specs.State.{fresh}
 use Rattle.rules.specs.Colours.{green}
-use Rattle.rules.specs.Runs.{Call, Taken, stepsFrom, shows, comesWithin, minimumGreenBegins, registersLocked}
+use Rattle.rules.specs.Runs.{ruled, Call, Taken, takenFrom, accepted, shows, comesWithin, minimumGreenBegins, registersLocked}
 use Rattle.rules.specs.Junctions.{junction}
 
 -- Whatever the calls: the two groups are never green together.
 unfoldable pub NeverTogether : Type 0
 NeverTogether =
     (calls : List Call) (earlier later : List Taken) (step : Taken) →
-    stepsFrom junction fresh calls ≡ earlier ++ step ∷ later →
+    accepted (takenFrom ruled junction fresh calls) ≡ earlier ++ step ∷ later →
     shows step 0 ≡ green →
     shows step 1 ≡ green →
     ⊥
@@ -23,7 +23,7 @@ NeverTogether =
 unfoldable pub MetIn270 : Type 0
 MetIn270 =
     (calls : List Call) (earlier later : List Taken) (step : Taken) →
-    stepsFrom junction fresh calls ≡ earlier ++ step ∷ later →
+    accepted (takenFrom ruled junction fresh calls) ≡ earlier ++ step ∷ later →
     270 ≤ length later →
     registersLocked (siteOf junction) step 1 ≡ true →
     comesWithin 270 (minimumGreenBegins 1) step later ≡ true

@@ -31,7 +31,8 @@ Counted time = (1 ≤ time) × (time ≤ highestAge)
 pub record Timed (times : PhaseTimes) : Type 0 where
   pub late : times .late ≤ highestAge
   pub minimum : Counted (times .minimum)
-  pub maximum : 1 ≤ times .maximum
+  pub maximum : Counted (times .maximum)
+  pub gap : times .gap ≤ highestAge
   pub yellow : Counted (times .yellow)
   pub red : Counted (times .red)
 
@@ -69,7 +70,8 @@ module _ (table : List Range) (passed : usable table ≡ true) where
       record {
         late = reached phaseSettings (omega arith) (h .late);
         minimum = counted (phaseSettings + 1) (omega arith) refl (h .minimum);
-        maximum = counted (phaseSettings + 2) (omega arith) refl (h .maximum) .0;
+        maximum = counted (phaseSettings + 2) (omega arith) refl (h .maximum);
+        gap = reached (phaseSettings + 3) (omega arith) (h .gap);
         yellow = counted (phaseSettings + 4) (omega arith) refl (h .yellow);
         red = counted (phaseSettings + 5) (omega arith) refl (h .red);
       }
