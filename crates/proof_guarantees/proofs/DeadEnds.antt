@@ -3,7 +3,7 @@
 use Prim.Native.Nat.{ℕ}
 use mathlib.Core.Bool.{Bool, true}
 use mathlib.Core.List.{List, [], _∷_, _++_}
-use mathlib.Core.Path.{_≡_, refl, sym, subst, _∙_}
+use mathlib.Core.Path.{_≡_, refl, ap, subst, _∙_}
 use lib.Dec.{ltb}
 use lib.ListN.{length}
 use Rattle.rules.specs.declared.answer.Verdict.{Verdict}
@@ -13,9 +13,9 @@ use Rattle.rules.specs.Verdicts.{refuseIf, _orElse_}
 use Rattle.rules.specs.Personality.{verdictOf}
 use Rattle.rules.specs.Site.{siteOf}
 use Rattle.rules.specs.State.{valid}
-use Rattle.rules.specs.Call.{strayInput, stepVerdict, callVerdict, answerFor, answerOf}
+use Rattle.rules.specs.Call.{strayInput, stepVerdict, callVerdict, answerFor, answerOf, boundFor}
 use Rattle.rules.specs.Laws.{Sound, StepKeepsValid}
-use Rattle.rules.specs.Runs.{ruled, Call, Taken, takenFrom, verdictIn, NoDeadEnd}
+use Rattle.rules.specs.Runs.{ruled, Call, Taken, takenFrom, NoDeadEnd}
 use Rattle.proof_runs.proofs.Chains.{accepted-told}
 
 module _ (keeps : StepKeepsValid) (b : List ℕ) (sound : Sound (siteOf b)) (known : verdictOf b ≡ Accepted) where
@@ -29,8 +29,8 @@ module _ (keeps : StepKeepsValid) (b : List ℕ) (sound : Sound (siteOf b)) (kno
     unfolding callVerdict stepVerdict refuseIf _orElse_
     own-verdict = rw (known, sane)
 
-    told : (v : Verdict) → verdictIn (answerFor v (siteOf b) s inputs .outcome) ≡ v
-    unfolding answerFor verdictIn
+    told : (v : Verdict) → answerFor v (siteOf b) s inputs .outcome ≡ boundFor v (siteOf b)
+    unfolding answerFor boundFor
     told Accepted = refl
     told (Refused number place) = refl
 
@@ -42,7 +42,7 @@ module _ (keeps : StepKeepsValid) (b : List ℕ) (sound : Sound (siteOf b)) (kno
   -- every call of a list is refused for its own inputs and buffer, or not at all
   abbrev Own : List Taken → Type 0
   Own [] = Unit {0}
-  Own (call ∷ later) = (verdictIn (call .outcome) ≡ own (call .inputs) (call .room)) × Own later
+  Own (call ∷ later) = (call .outcome ≡ boundFor (own (call .inputs) (call .room)) (siteOf b)) × Own later
 
   own-from : (calls : List Call) (s : State) → valid (siteOf b) s ≡ true → Own (takenFrom ruled b s calls)
   unfolding takenFrom ruled answerOf
@@ -50,11 +50,11 @@ module _ (keeps : StepKeepsValid) (b : List ℕ) (sound : Sound (siteOf b)) (kno
   own-from (c ∷ calls) s sane =
       let room = length (c .buffer) in
       let v = callVerdict b s (c .inputs) room in (
-        told s sane (c .inputs) room v ∙ own-verdict s sane (c .inputs) room,
+        told s sane (c .inputs) room v ∙ ap (λ (w : Verdict). boundFor w (siteOf b)) (own-verdict s sane (c .inputs) room),
         own-from calls (answerFor v (siteOf b) s (c .inputs) .state) (valid-for s sane (c .inputs) room v refl),
       )
 
-  own-at : (earlier later : List Taken) (call : Taken) → Own (earlier ++ call ∷ later) → verdictIn (call .outcome) ≡ own (call .inputs) (call .room)
+  own-at : (earlier later : List Taken) (call : Taken) → Own (earlier ++ call ∷ later) → call .outcome ≡ boundFor (own (call .inputs) (call .room)) (siteOf b)
   own-at [] later call each = each .0
   own-at (first ∷ earlier) later call each = own-at earlier later call (each .1)
 

@@ -1,23 +1,19 @@
 -- Demand 3 applied to the junction of two phases. That the rules accept it, with a wait bound of 270, are two of the worked cases;
--- that its two groups conflict is computed. Every accepted step answers that wait bound.
+-- that its two groups conflict is computed.
 use Prim.Native.Nat.{ℕ, _≤_}
 use mathlib.Core.Bool.{true}
-use mathlib.Core.List.{List, _∷_, _++_}
-use mathlib.Core.Path.{_≡_, refl, sym, subst, _∙_}
+use mathlib.Core.List.{List}
+use mathlib.Core.Path.{_≡_, refl, sym, subst}
 use lib.ListN.{length}
 use Rattle.rules.specs.declared.answer.Verdict.the-variants.{Accepted}
-use Rattle.rules.specs.declared.state.State.{State}
 use Rattle.rules.specs.Personality.{verdictOf}
 use Rattle.rules.specs.Site.{siteOf, conflict}
-use Rattle.rules.specs.State.{fresh}
-use Rattle.rules.specs.Verdicts.{waitOf}
 use Rattle.rules.specs.WaitBound.{waitBound}
-use Rattle.rules.specs.Runs.{ruled, Call, Taken, takenFrom, accepted, NoConflictingGreens, DemandsMet, DemandThreeOf, DemandThree, comesWithin, minimumGreenBegins}
+use Rattle.rules.specs.Runs.{ruled, NoConflictingGreens, DemandsMet, DemandThreeOf, DemandThree, comesWithin, minimumGreenBegins}
 use Rattle.rules.specs.Junctions.{junction}
 use Rattle.rules.specs.Cases.{CasesHold, cases, starred}
 use Rattle.rules.proofs.Cases.{cases-hold}
 use Rattle.rules.proofs.Opened.{opened}
-use Rattle.proof_runs.proofs.Chains.{Chain, chained, always}
 use Rattle.proof_guarantees.specs.Junction.{NeverTogether, MetIn270}
 use Rattle.proof_guarantees.proofs.DemandThree.{demand-three}
 
@@ -33,15 +29,6 @@ groups-conflict : conflict (siteOf junction) 0 1 ≡ true
 unfolding opened
 groups-conflict = refl
 
-told-270 :
-    (calls : List Call) (earlier later : List Taken) (step : Taken) →
-    accepted (takenFrom ruled junction fresh calls) ≡ earlier ++ step ∷ later →
-    waitOf (step .outcome) ≡ 270
-told-270 calls earlier later step e =
-    let chain = subst (Chain (siteOf junction) fresh) e (chained junction fresh calls) in
-    let reached = always (siteOf junction) (λ (s : State). Unit {0}) (λ s step link u. tt) earlier (step ∷ later) fresh tt chain in
-    reached .2 .0 .wait ∙ junction-bound
-
 pub never-together : NeverTogether
 unfolding NeverTogether DemandThree DemandThreeOf NoConflictingGreens ruled
 never-together calls earlier later step e =
@@ -50,8 +37,7 @@ never-together calls earlier later step e =
 pub met-in-270 : MetIn270
 unfolding MetIn270 DemandThree DemandThreeOf DemandsMet ruled
 met-in-270 calls earlier later step e long registered =
-    let told = told-270 calls earlier later step e in
     let met =
     demand-three junction junction-accepted calls .demandsMet earlier later step e
-    (subst (λ (n : ℕ). n ≤ length later) (sym told) long) in
-    subst (λ (n : ℕ). comesWithin n (minimumGreenBegins 1) step later ≡ true) told (met .0 1 registered)
+    (subst (λ (n : ℕ). n ≤ length later) (sym junction-bound) long) in
+    subst (λ (n : ℕ). comesWithin n (minimumGreenBegins 1) step later ≡ true) junction-bound (met .0 1 registered)

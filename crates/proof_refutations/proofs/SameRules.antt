@@ -13,10 +13,9 @@ use Rattle.rules.specs.State.{fresh}
 use Rattle.rules.specs.Interval.{ends, following, positionAfter}
 use Rattle.rules.specs.Step.{stepped}
 use Rattle.rules.specs.Colours.{coloursOf}
-use Rattle.rules.specs.WaitBound.{waitBound}
-use Rattle.rules.specs.Call.{callVerdict, answerFor, bufferFor, answerOf, bufferOf}
+use Rattle.rules.specs.Call.{callVerdict, answerFor, bufferFor, answerOf, bufferOf, boundFor}
 use Rattle.rules.specs.Runs.{ruled}
-use Rattle.proof_refutations.specs.Faults.{checksBy, outcomeFor, ifAccepted, controllerBy, steppedBy}
+use Rattle.proof_refutations.specs.Faults.{checksBy, ifAccepted, controllerBy, steppedBy}
 use Rattle.proof_refutations.specs.Refutations.{SameRules}
 
 same-step : steppedBy ends following ≡ stepped
@@ -24,8 +23,8 @@ unfolding steppedBy stepped positionAfter
 same-step = refl
 
 module _ (site : Site) (s : State) (inputs : ℕ) where
-  same-outcome : (v : Verdict) → outcomeFor v (waitBound site) ≡ answerFor v site s inputs .outcome
-  unfolding outcomeFor answerFor
+  same-outcome : (v : Verdict) → boundFor v site ≡ answerFor v site s inputs .outcome
+  unfolding boundFor answerFor
   same-outcome Accepted = refl
   same-outcome (Refused number place) = refl
 

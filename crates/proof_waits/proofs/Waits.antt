@@ -91,12 +91,11 @@ module _ (keeps : StepKeepsValid) (site : Site) (sound : Sound site) where
         (button-registers site sound (of .0) k (of .1) l (of .2) (of .3) keeps s step (chain .0) here),
   )
 
-pub demands-met : StepKeepsValid → (site : Site) → Sound site → (steps : List Taken) → Chain site fresh steps → DemandsMet site steps
+pub demands-met : StepKeepsValid → (site : Site) → Sound site → (steps : List Taken) → Chain site fresh steps → DemandsMet site (waitBound site) steps
 unfolding DemandsMet
 demands-met keeps site sound steps chain earlier later step e h =
     let reached =
     always site (λ (s : State). Unit {0}) (λ s step link u. tt) earlier (step ∷ later) fresh tt
     (subst (λ (l : List Taken). Chain site fresh l) e chain) in
-    let told = reached .2 .0 .wait in
-    let both = met keeps site sound (reached .0) step later (reached .2) (rw told at h) in
-    (λ p r. rw told (both .0 p (sym (lock-same site step p) ∙ r)), λ k l r. rw told (both .1 k l (sym (button-same step k) ∙ r)))
+    let both = met keeps site sound (reached .0) step later (reached .2) h in
+    (λ p r. both .0 p (sym (lock-same site step p) ∙ r), λ k l r. both .1 k l (sym (button-same step k) ∙ r))
