@@ -5,7 +5,7 @@ use native.Mathlib.Omega.{arith}
 use mathlib.Core.Bool.{Bool, true, false}
 use mathlib.Core.List.{List, [], _∷_, _++_, append-assoc}
 use mathlib.Core.Logic.{⊎-elim}
-use mathlib.Core.Path.{_≡_, refl, sym, subst, ap, ap₂, _∙_}
+use mathlib.Core.Path.{_≡_, refl, sym, ap, ap₂, _∙_}
 use lib.ListN.{length, replicate}
 use Rattle.rules.specs.declared.site.Site.{Site}
 use Rattle.rules.specs.declared.site.WalkTimes.{WalkTimes}
@@ -18,18 +18,18 @@ use Rattle.rules.specs.State.{fresh, movement}
 use Rattle.rules.specs.Movements.{older}
 use Rattle.rules.specs.Colours.{red, yellow, green, flashing, movementColour}
 use Rattle.rules.specs.Runs.{Taken, shows, shownBy, StartsGreen, VehicleCleared, PedestrianCleared, Cleared, FullClearances}
-use Rattle.rules.specs.Laws.{Sound, SoundPhaseTimes, StepKeepsValid}
-use Rattle.proof_runs.proofs.ValidStates.{state-told}
-use Rattle.proof_runs.proofs.Chains.{Link, Chain, always, valid-after}
+use Rattle.rules.specs.Laws.{Sound, SoundPhaseTimes}
+use Rattle.proof_runs.proofs.Linked.{reached}
+use Rattle.proof_runs.proofs.Runs.{ValidLink, Run}
 use Rattle.proof_clearance.proofs.Shown.{vehicleAt, vehicle-shows, pedestrian-shows, green-walks}
 use Rattle.proof_clearance.proofs.Greens.{busy-has-phase}
 use Rattle.proof_clearance.proofs.VehicleColours.{Leaving, leaving-member, leaving-all-red}
 use Rattle.proof_clearance.proofs.Vehicles.{YellowsLeft, in-green, yellows-member, yellows-fall, yellows-over, all-red-goes-on, red-stays}
 use Rattle.proof_clearance.proofs.Pedestrians.{next, FlashesLeft, in-walk, flashes-busy, flashes-fall, flashes-over, idle-stays, movement-after}
-use Rattle.proof_clearance.proofs.Countdowns.{Since, since-next, Leads, only-red, blocked, counts-down}
+use Rattle.proof_clearance.proofs.Countdowns.{Since, since-next, Leads, only-red, barred, counts-down}
 
 module _
-    (keeps : StepKeepsValid) (site : Site) (sound : Sound site) (g j : ℕ) (apart : conflict site g j ≡ true)
+    (site : Site) (sound : Sound site) (g j : ℕ) (apart : conflict site g j ≡ true)
     (start : Taken) (later : List Taken) (greenG : shows start g ≡ green) where
   within : j < site .size .groups
   within = sound .conflictGroups g j apart .1
@@ -37,6 +37,9 @@ module _
   -- ── Vehicle groups ──
 
   module _ (kind : isPedestrian (site .groups) j ≡ false) (p : ℕ) (times : SoundPhaseTimes (phaseTimes (site .times) p)) where
+    shown : (s : State) (step : Taken) → ValidLink site s step → shows step j ≡ vehicleAt site j (step .after .position)
+    shown s step link = vehicle-shows site s step (link .taken) j within kind
+
     abbrev Yellows : ℕ → State → Type 0
     Yellows n s = YellowsLeft site j p n (s .position)
 
@@ -45,15 +48,13 @@ module _
 
     yellow-falls : (n : ℕ) → Leads site j (Yellows (suc n)) (Yellows n) yellow
     yellow-falls n s step link other left =
-        let shown = vehicle-shows site s step link j within kind in
-        let fall = yellows-fall site j p times s step link n left (λ e. other (shown ∙ e)) in
-        (fall .0, shown ∙ fall .1)
+        let fall = yellows-fall site j p times s step (link .taken) n left (λ e. other (shown s step link ∙ e)) in
+        (fall .0, shown s step link ∙ fall .1)
 
     red-rests : Leads site j Red Red red
     red-rests s step link other e =
-        let shown = vehicle-shows site s step link j within kind in
-        let kept = red-stays site s step link j e (λ e. other (shown ∙ e)) in
-        (kept, shown ∙ kept)
+        let kept = red-stays site s step (link .taken) j e (λ e. other (shown s step link ∙ e)) in
+        (kept, shown s step link ∙ kept)
 
     -- from an age of all-red on, R is reached before the start
     all-red-lasts :
@@ -63,43 +64,36 @@ module _
         phaseTimes (site .times) p .red ≤ a + length steps
     unfolding older
     all-red-lasts a s [] row since =
-        let link = since .chain .0 in
         ⊎-elim
         (λ (h : phaseTimes (site .times) p .red ≤ a). omega arith)
         (λ (row′ : Leaving site j p AllRed (older a) (start .after .position)).
-        absurd
-        (blocked keeps site sound g j apart s start link
-        (leaving-member site j p (older a) (start .after .position) AllRed row′)
-        greenG))
-        (all-red-goes-on site s start link j p a row)
+        absurd (barred site g j apart start later greenG s since (leaving-member site j p (older a) (start .after .position) AllRed row′)))
+        (all-red-goes-on site s start (since .run .0 .taken) j p a row)
     all-red-lasts a s (step ∷ steps) row since =
         ⊎-elim
         (λ (h : phaseTimes (site .times) p .red ≤ a). omega arith)
         (λ (row′ : Leaving site j p AllRed (older a) (step .after .position)).
-        omega (arith, all-red-lasts (older a) (step .after) steps row′ (since-next site j start later s step steps since)))
-        (all-red-goes-on site s step (since .chain .0) j p a row)
+        omega (arith, all-red-lasts (older a) (step .after) steps row′ (since-next since)))
+        (all-red-goes-on site s step (since .run .0 .taken) j p a row)
 
     -- once the yellow is over, at least R red steps follow
     red-clears :
         (s : State) (steps : List Taken) →
-        YellowsLeft site j p 0 (s .position) →
+        Yellows 0 s →
         Since site j start later s steps →
         (n : ℕ) × (phaseTimes (site .times) p .red ≤ n) × (shownBy j steps ≡ replicate n red)
     unfolding shownBy
     red-clears s [] left since =
-        let link = since .chain .0 in
-        let row = yellows-over site j p times s start link left in
-        absurd (blocked keeps site sound g j apart s start link (leaving-member site j p 1 (start .after .position) AllRed row) greenG)
+        let row = yellows-over site j p times s start (since .run .0 .taken) left in
+        absurd (barred site g j apart start later greenG s since (leaving-member site j p 1 (start .after .position) AllRed row))
     red-clears s (step ∷ steps) left since =
-        let link = since .chain .0 in
-        let row = yellows-over site j p times s step link left in
-        let e = leaving-all-red site j p 1 (step .after .position) row in
-        let since′ = since-next site j start later s step steps since in (
+        let row = yellows-over site j p times s step (since .run .0 .taken) left in
+        let e = leaving-all-red site j p 1 (step .after .position) row in (
           suc (length steps),
-          omega (arith, all-red-lasts 1 (step .after) steps row since′),
+          omega (arith, all-red-lasts 1 (step .after) steps row (since-next since)),
           ap₂ _∷_
-              (vehicle-shows site s step link j within kind ∙ e)
-              (only-red site j start later Red red-rests (step .after) steps e since′),
+              (shown s step (since .run .0) ∙ e)
+              (only-red site j start later Red red-rests (step .after) steps e (since-next since)),
         )
 
     vehicle-cleared :
@@ -112,7 +106,7 @@ module _
         × (shownBy j steps ≡ replicate (phaseTimes (site .times) p .yellow) yellow ++ replicate n red)
     vehicle-cleared s steps here e since =
         let down =
-        counts-down keeps site sound g j apart start later greenG Yellows yellow
+        counts-down site g j apart start later greenG Yellows yellow
         (λ n s sane left. yellows-member site j p n (s .position) left)
         yellow-falls
         (phaseTimes (site .times) p .yellow)
@@ -138,16 +132,19 @@ module _
     below : movementOf (site .groups) j < site .size .movements
     below = sound .movementOfGroup j within kind
 
+    walk-shown : (s : State) (step : Taken) → ValidLink site s step → shows step j ≡ movementColour (mine (step .after) .stage)
+    walk-shown s step link = pedestrian-shows site s step (link .taken) j within kind
+
     -- a step that does not show green begins no walk
-    mine-after : (s : State) (step : Taken) → Link site s step → (shows step j ≡ green → ⊥) → mine (step .after) ≡ next times (mine s)
+    mine-after : (s : State) (step : Taken) → ValidLink site s step → (shows step j ≡ green → ⊥) → mine (step .after) ≡ next times (mine s)
     mine-after s step link other =
-        movement-after site s step link (movementOf (site .groups) j) (omega (arith, below, sound .movements))
-        (λ e. other (pedestrian-shows site s step link j within kind ∙ e))
+        movement-after site s step (link .taken) (movementOf (site .groups) j) (omega (arith, below, sound .movements))
+        (λ e. other (walk-shown s step link ∙ e))
 
     flashing-falls : (n : ℕ) → Leads site j (Flashes (suc n)) (Flashes n) flashing
     flashing-falls n s step link other left =
         let here = mine-after s step link other in
-        let shown = rw here at (pedestrian-shows site s step link j within kind) in
+        let shown = rw here at (walk-shown s step link) in
         let fall = flashes-fall times (sound .walkTime (movementOf (site .groups) j) below) n (mine s) left (λ e. other (shown ∙ e)) in
         (rw here (fall .0), shown ∙ fall .1)
 
@@ -159,7 +156,7 @@ module _
     unfolding movementColour
     idle-rests s step link other e =
         let idle = ap (λ (m : Movement). m .stage) (mine-after s step link other) ∙ e in
-        (idle-stays times (mine (step .after)) idle, pedestrian-shows site s step link j within kind ∙ ap movementColour idle)
+        (idle-stays times (mine (step .after)) idle, walk-shown s step link ∙ ap movementColour idle)
 
     pedestrian-cleared :
         (s : State) (steps : List Taken) →
@@ -168,7 +165,7 @@ module _
         (n : ℕ) × (shownBy j steps ≡ replicate (times .first + times .second) flashing ++ replicate n red)
     pedestrian-cleared s steps e since =
         let down =
-        counts-down keeps site sound g j apart start later greenG Flashes flashing
+        counts-down site g j apart start later greenG Flashes flashing
         (λ n s sane left. busy-has-phase site sound s sane j within kind (flashes-busy times n (mine s) left))
         flashing-falls
         (times .first + times .second)
@@ -185,7 +182,7 @@ module _
   -- a group that showed green last after one step, and conflicts with one that is green at the start, has been cleared between them
   cleared :
       (s : State) (last : Taken) (steps : List Taken) →
-      Link site s last →
+      ValidLink site s last →
       shows last j ≡ green →
       Since site j start later (last .after) steps →
       Cleared site j last steps
@@ -193,24 +190,18 @@ module _
   cleared s last steps link e since = by-kind (isPedestrian (site .groups) j) refl
     where
       by-kind : (test : Bool) → isPedestrian (site .groups) j ≡ test → Cleared site j last steps
-      by-kind true kind =
-          rw kind (pedestrian-cleared kind (last .after) steps (sym (pedestrian-shows site s last link j within kind) ∙ e) since)
+      by-kind true kind = rw kind (pedestrian-cleared kind (last .after) steps (sym (walk-shown kind s last link) ∙ e) since)
       by-kind false kind =
-          let sane = valid-after keeps site sound s last link in
-          let times = sound .phaseTime (last .after .position .phase) (state-told site (last .after) sane .phase) in
-          rw kind
-          (vehicle-cleared kind (last .after .position .phase) times (last .after) steps refl
-          (sym (vehicle-shows site s last link j within kind) ∙ e)
-          since)
+          let p = last .after .position .phase in
+          let times = sound .phaseTime p (link .there .phase) in
+          rw kind (vehicle-cleared kind p times (last .after) steps refl (sym (shown kind p times s last link) ∙ e) since)
 
 -- ── Runs ──
 
-pub full-clearances :
-    StepKeepsValid → (site : Site) → Sound site → (steps : List Taken) → Chain site fresh steps → FullClearances site steps
+pub full-clearances : (site : Site) (steps : List Taken) → Run site fresh steps → FullClearances site steps
 unfolding FullClearances StartsGreen
-full-clearances keeps site sound steps chain earlier since later last start split g j apart starts greenJ never =
-    let rest = (last ∷ since) ++ start ∷ later in
-    let whole = subst (λ (xs : List Taken). Chain site fresh xs) (split ∙ append-assoc earlier (last ∷ since) (start ∷ later)) chain in
-    let reached = always site (λ (s : State). Unit {0}) (λ s step link u. tt) earlier rest fresh tt whole in
-    cleared keeps site sound g j apart start later (starts .0) (reached .0) last since (reached .2 .0) greenJ
-    (record { chain = reached .2 .1; never = never })
+full-clearances site steps run earlier since later last start split g j apart starts greenJ never =
+    let rest = since ++ start ∷ later in
+    let cut = reached (ValidLink site) steps earlier (last ∷ rest) fresh (split ∙ append-assoc earlier (last ∷ since) (start ∷ later)) run in
+    let link = cut .1 .0 in
+    cleared site (link .sound) g j apart start later (starts .0) (cut .0) last since link greenJ (record { run = cut .1 .1; never = never })

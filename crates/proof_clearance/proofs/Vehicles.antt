@@ -2,9 +2,9 @@
 -- with each step that does not show green; all-red follows, for at least R; and red is followed by red unless by green.
 use Prim.Native.Nat.{ℕ, suc, _+_, _≤_, _<_}
 use native.Mathlib.Omega.{arith}
-use mathlib.Core.Bool.{Bool, true, false, not}
+use mathlib.Core.Bool.{true, false}
 use mathlib.Core.Logic.{_⊎_, inl, inr, ⊎-elim}
-use mathlib.Core.Path.{_≡_, refl, sym, _∙_}
+use mathlib.Core.Path.{_≡_, sym, _∙_}
 use lib.Dec.{leb}
 use borrow.Author.Tests.{leb-true, leb-false}
 use Rattle.rules.specs.declared.site.Site.{Site}
@@ -13,16 +13,15 @@ use Rattle.rules.specs.declared.state.Position.{Position}
 use Rattle.rules.specs.declared.state.State.{State}
 use Rattle.rules.specs.Limits.{limits, limitOf}
 use Rattle.rules.specs.Site.{inPhase, phaseTimes}
-use Rattle.rules.specs.Intervals.{isSecond}
-use Rattle.rules.specs.State.{movement}
 use Rattle.rules.specs.Demands.{nextDemanded}
-use Rattle.rules.specs.Movements.{older, movementsAfter}
-use Rattle.rules.specs.Interval.{ends, someMovement, following, staying, positionAfter}
+use Rattle.rules.specs.Movements.{older}
+use Rattle.rules.specs.Interval.{ends, staying}
 use Rattle.rules.specs.Colours.{red, yellow, green}
 use Rattle.rules.specs.Runs.{Taken}
 use Rattle.rules.specs.Laws.{SoundPhaseTimes}
 use Rattle.rules.proofs.Tests.{and-left}
-use Rattle.proof_runs.proofs.Steps.{timesNow, ended, now, position-of}
+use Rattle.proof_runs.proofs.Steps.{ended, position-of}
+use Rattle.proof_runs.proofs.Ends.{followed, by-end, ended-in}
 use Rattle.proof_runs.proofs.Chains.{Link}
 use Rattle.proof_clearance.proofs.Shown.{vehicleAt, green-of-phase}
 use Rattle.proof_clearance.proofs.VehicleColours.{Leaving, leaving-member, leaving-yellow, leaving-stays, leaving-follows, green-follows, red-follows}
@@ -30,23 +29,13 @@ use Rattle.proof_clearance.proofs.VehicleColours.{Leaving, leaving-memb
 -- ── Steps ──
 
 module _ (site : Site) (s : State) (step : Taken) (link : Link site s step) where
-  -- What holds of the position after the step, shown by whether the interval ends.
-  by-end :
+  -- what holds of the position after the step, by whether the interval ends
+  at-end :
       (P : Position → Type 0) →
-      (ended site s (step .inputs) ≡ true →
-      P (following (s .position .interval) (site .times) (nextDemanded site s (step .inputs)) (s .position))) →
+      (ended site s (step .inputs) ≡ true → P (followed site s (step .inputs))) →
       (ended site s (step .inputs) ≡ false → P (staying (s .position))) →
       P (step .after .position)
-  unfolding now positionAfter
-  by-end P over still =
-      rw (link .after, position-of site s (step .inputs)) (decide (ended site s (step .inputs)) refl)
-    where
-      decide :
-          (test : Bool) →
-          ended site s (step .inputs) ≡ test →
-          P (positionAfter test (site .times) (nextDemanded site s (step .inputs)) (s .position))
-      decide true e = over e
-      decide false e = still e
+  at-end P over still = rw (link .after, position-of site s (step .inputs)) (by-end site s (step .inputs) P over still)
 
   module _ (j : ℕ) where
     -- a group stops being green where yellow begins
@@ -58,7 +47,7 @@ module _ (site : Site) (s : State) (step : Taken) (link : Link site s step) wher
     yellow-begins e =
         let p = s .position .phase in
         let member = green-of-phase (inPhase (site .groups) j p) _ e in
-        by-end (λ (q : Position). (vehicleAt site j q ≡ green → ⊥) → Leaving site j p Yellow 1 q)
+        at-end (λ (q : Position). (vehicleAt site j q ≡ green → ⊥) → Leaving site j p Yellow 1 q)
         (λ over other.
         ⊎-elim
         (λ green-again. absurd (other green-again))
@@ -77,7 +66,7 @@ module _ (site : Site) (s : State) (step : Taken) (link : Link site s step) wher
         vehicleAt site j (step .after .position) ≡ red
     unfolding staying
     red-stays e =
-        by-end (λ (q : Position). (vehicleAt site j q ≡ green → ⊥) → vehicleAt site j q ≡ red)
+        at-end (λ (q : Position). (vehicleAt site j q ≡ green → ⊥) → vehicleAt site j q ≡ red)
         (λ over other.
         ⊎-elim
         (λ red-again. red-again)
@@ -90,17 +79,15 @@ module _ (site : Site) (s : State) (step : Taken) (link : Link site s step) wher
 
     module _ (p a : ℕ) where
       yellow-ends : Leaving site j p Yellow a (s .position) → ended site s (step .inputs) ≡ leb (phaseTimes (site .times) p .yellow) a
-      unfolding ended ends timesNow
-      yellow-ends row = rw (row .interval, row .phase, row .age)
+      unfolding ends
+      yellow-ends row = ended-in site s (step .inputs) Yellow (row .interval) ∙ rw (row .phase, row .age)
 
-      all-red-ends :
-          Leaving site j p AllRed a (s .position) →
-          ended site s (step .inputs) ≡ true →
-          leb (phaseTimes (site .times) p .red) a ≡ true
-      unfolding ended ends timesNow movementsAfter movement
+      all-red-ends : Leaving site j p AllRed a (s .position) → ended site s (step .inputs) ≡ true → phaseTimes (site .times) p .red ≤ a
+      unfolding ends
       all-red-ends row over =
-          and-left (leb (phaseTimes (site .times) p .red) a) (not (someMovement isSecond (movementsAfter (site .times) s)))
-          (rw (row .interval, row .phase, row .age) at over)
+          leb-true (phaseTimes (site .times) p .red) a
+          (and-left (leb (phaseTimes (site .times) p .red) a) _
+          (rw (row .phase, row .age) at (sym (ended-in site s (step .inputs) AllRed (row .interval)) ∙ over)))
 
       -- yellow goes on below the age Y, then all-red begins
       yellow-goes-on :
@@ -108,7 +95,7 @@ module _ (site : Site) (s : State) (step : Taken) (link : Link site s step) wher
           a < phaseTimes (site .times) p .yellow →
           Leaving site j p Yellow (older a) (step .after .position)
       yellow-goes-on row h =
-          by-end (λ (q : Position). Leaving site j p Yellow (older a) q)
+          at-end (λ (q : Position). Leaving site j p Yellow (older a) q)
           (λ over. absurd (omega (arith, leb-true (phaseTimes (site .times) p .yellow) a (sym (yellow-ends row) ∙ over))))
           (λ still. leaving-stays site j p a (s .position) Yellow row)
 
@@ -117,7 +104,7 @@ module _ (site : Site) (s : State) (step : Taken) (link : Link site s step) wher
           phaseTimes (site .times) p .yellow ≤ a →
           Leaving site j p AllRed 1 (step .after .position)
       all-red-begins row h =
-          by-end (λ (q : Position). Leaving site j p AllRed 1 q)
+          at-end (λ (q : Position). Leaving site j p AllRed 1 q)
           (λ over. leaving-follows site j p a (s .position) (site .times) (nextDemanded site s (step .inputs)) row)
           (λ still. absurd (omega (arith, leb-false (phaseTimes (site .times) p .yellow) a (sym (yellow-ends row) ∙ still))))
 
@@ -126,8 +113,8 @@ module _ (site : Site) (s : State) (step : Taken) (link : Link site s step) wher
           Leaving site j p AllRed a (s .position) →
           (phaseTimes (site .times) p .red ≤ a) ⊎ Leaving site j p AllRed (older a) (step .after .position)
       all-red-goes-on row =
-          by-end (λ (q : Position). (phaseTimes (site .times) p .red ≤ a) ⊎ Leaving site j p AllRed (older a) q)
-          (λ over. inl (leb-true (phaseTimes (site .times) p .red) a (all-red-ends row over)))
+          at-end (λ (q : Position). (phaseTimes (site .times) p .red ≤ a) ⊎ Leaving site j p AllRed (older a) q)
+          (λ over. inl (all-red-ends row over))
           (λ still. inr (leaving-stays site j p a (s .position) AllRed row))
 
 -- ── Yellow steps still to come ──

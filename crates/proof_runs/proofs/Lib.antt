@@ -1,3 +1,7 @@
 pub mod ValidStates
 pub mod Steps
+pub mod Demanded
+pub mod Ends
+pub mod Linked
 pub mod Chains
+pub mod Runs

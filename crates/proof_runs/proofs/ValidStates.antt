@@ -6,11 +6,13 @@ use mathlib.Core.Path.{_≡_, refl, sym, ap, _∙_}
 use lib.Dec.{leb, ltb, eqb}
 use borrow.Author.Tests.{ltb-true, leb-true, eqb-true, lt-ltb, le-leb, eq-eqb}
 use Rattle.rules.specs.declared.site.Site.{Site}
+use Rattle.rules.specs.declared.state.Held.{Held}
+use Rattle.rules.specs.declared.state.Held.the-variants.{Nothing, Phase}
 use Rattle.rules.specs.declared.state.Movement.{Movement}
 use Rattle.rules.specs.declared.state.Position.{Position}
 use Rattle.rules.specs.declared.state.State.{State}
 use Rattle.rules.specs.Site.{phaseTimes, crosses}
-use Rattle.rules.specs.Intervals.{isIdle, isWalkOrFirst, isStartRed, isLeaving}
+use Rattle.rules.specs.Intervals.{isIdle, isWalkOrFirst, isStartRed, isLeaving, phaseHeld}
 use Rattle.rules.specs.State.{highestAge, locked, asked, movement, targetValid, cameValid, ageValid, every, demandExists, movementValid, movementIn, valid}
 use Rattle.rules.proofs.Tests.{and-left, and-right, and-both, or-left, or-right}
 use Rattle.rules.proofs.Rows.{all-at, all-each}
@@ -170,3 +172,11 @@ state-holds site s v =
     (all-each (λ (k : ℕ). movementValid (movementIn site (s .position .phase) k) (s .position .interval) (movement s k)) 8
     (λ k l. movement-holds site (s .position) k (movement s k) (v .movements k l)))
     refl))))))))
+
+-- ── The target ──
+
+-- the target of a phase that is being left exists
+pub target-below : (count phase : ℕ) (target : Held) → targetValid count phase true target ≡ true → phaseHeld target < count
+unfolding targetValid phaseHeld
+target-below count phase Nothing h = absurd (true≢false (sym h))
+target-below count phase (Phase t) h = ltb-true t count (and-left (ltb t count) (not (eqb t phase)) h)

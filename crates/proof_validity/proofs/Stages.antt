@@ -14,17 +14,15 @@ use Rattle.rules.specs.Rows.{if_then_else_}
 use Rattle.rules.specs.Intervals.{isIdle, isWalkOrFirst, isSecond}
 use Rattle.rules.specs.Movements.{older, lasting, advanced}
 use Rattle.rules.proofs.Tests.{never-both}
+use Rattle.rules.proofs.Intervals.{idle-only}
 use Rattle.proof_runs.proofs.ValidStates.{Aged, ValidMovement}
 use Rattle.proof_validity.proofs.Positions.{older-aged, new-aged}
 
 -- ── Stages ──
 
 idle-not-walking : (stage : Stage) → isIdle stage ≡ true → isWalkOrFirst stage ≡ false
-unfolding isIdle isWalkOrFirst
-idle-not-walking Idle h = refl
-idle-not-walking Walk h = sym h
-idle-not-walking ClearanceOne h = sym h
-idle-not-walking ClearanceTwo h = refl
+unfolding isWalkOrFirst
+idle-not-walking stage h = rw (idle-only stage h)
 
 -- a movement in no walk and no clearance is idle
 pub cleared-idle : (stage : Stage) → isWalkOrFirst stage ≡ false → isSecond stage ≡ false → isIdle stage ≡ true

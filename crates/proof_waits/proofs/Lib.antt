@@ -6,7 +6,9 @@ pub mod Moves
 pub mod Progress
 pub mod Bound
 pub mod Paths
+pub mod Registers
+pub mod Demand
+pub mod Away
 pub mod Locks
 pub mod Buttons
-pub mod Registers
 pub mod Waits

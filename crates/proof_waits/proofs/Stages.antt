@@ -23,17 +23,10 @@ use Rattle.rules.specs.Movements.{older, lasting, advanced}
 use Rattle.rules.specs.WaitBound.{longestWalk, longestClearance}
 use Rattle.rules.specs.Laws.{Sound}
 use Rattle.rules.proofs.Tests.{decided, never-both}
+use Rattle.rules.proofs.Intervals.{idle-only}
 use Rattle.rules.proofs.Rows.{greatest-at}
 use Rattle.proof_runs.proofs.ValidStates.{Aged, ValidMovement}
 use Rattle.proof_waits.proofs.Settings.{Reached, walk-reached}
-
--- what is so of the idle stage is so of one that is idle
-idle-only : (P : Stage → Type 0) → P Idle → (stage : Stage) → isIdle stage ≡ true → P stage
-unfolding isIdle
-idle-only P p Idle h = p
-idle-only P p Walk h = absurd (never-both h refl)
-idle-only P p ClearanceOne h = absurd (never-both h refl)
-idle-only P p ClearanceTwo h = absurd (never-both h refl)
 
 -- ── The counts ──
 
@@ -76,10 +69,10 @@ lasting-falls :
     Aged setting →
     ((a : ℕ) → count stage a ≡ setting - a + 1 + more) →
     count next 1 ≡ more →
-    count (lasting setting stage next age .stage) (lasting setting stage next age .age) ≡ setting - age + 1 + more - 1
+    count (lasting setting stage next age .stage) (lasting setting stage next age .age) ≤ setting - age + 1 + more - 1
 unfolding older
 lasting-falls count setting more stage next age r now later =
-    lasting-cases (λ (stage : Stage) (a : ℕ). count stage a ≡ setting - age + 1 + more - 1) setting stage next age
+    lasting-cases (λ (stage : Stage) (a : ℕ). count stage a ≤ setting - age + 1 + more - 1) setting stage next age
     (λ h. omega arith)
     (λ h. omega (arith, now (min (age + 1) highestAge)))
 
@@ -87,9 +80,9 @@ module _ (times : WalkTimes) (age : ℕ) where
   pub out-falls :
       (stage : Stage) →
       (isIdle stage ≡ false → Reached times) →
-      untilOut (advanced stage times age .stage) times (advanced stage times age .age) ≡ untilOut stage times age - 1
+      untilOut (advanced stage times age .stage) times (advanced stage times age .age) ≤ untilOut stage times age - 1
   unfolding untilOut advanced isIdle
-  out-falls Idle r = refl
+  out-falls Idle r = omega arith
   out-falls Walk r =
       lasting-falls (λ stage a. untilOut stage times a) (times .walk) (times .first) Walk ClearanceOne age (r refl .walk)
       (λ a. refl)
@@ -97,14 +90,15 @@ module _ (times : WalkTimes) (age : ℕ) where
   out-falls ClearanceOne r =
       lasting-falls (λ stage a. untilOut stage times a) (times .first) 0 ClearanceOne ClearanceTwo age (r refl .first) (λ a. refl) refl
   out-falls ClearanceTwo r =
-      lasting-cases (λ (stage : Stage) (a : ℕ). untilOut stage times a ≡ 0) (times .second) ClearanceTwo Idle age (λ h. refl) (λ h. refl)
+      lasting-cases (λ (stage : Stage) (a : ℕ). untilOut stage times a ≤ 0) (times .second) ClearanceTwo Idle age (λ h. omega arith)
+      (λ h. omega arith)
 
   pub idle-falls :
       (stage : Stage) →
       (isIdle stage ≡ false → Reached times) →
-      untilIdle (advanced stage times age .stage) times (advanced stage times age .age) ≡ untilIdle stage times age - 1
+      untilIdle (advanced stage times age .stage) times (advanced stage times age .age) ≤ untilIdle stage times age - 1
   unfolding untilIdle advanced isIdle
-  idle-falls Idle r = refl
+  idle-falls Idle r = omega arith
   idle-falls Walk r =
       lasting-falls (λ stage a. untilIdle stage times a) (times .walk) (times .first + times .second) Walk ClearanceOne age
       (r refl .walk)
@@ -144,13 +138,13 @@ module _ (times : WalkTimes) (age : ℕ) where
   idle-some ClearanceOne h = absurd (never-both h refl)
   idle-some ClearanceTwo h = omega arith
 
-  pub idle-out : (stage : Stage) → isIdle stage ≡ true → untilOut stage times age ≡ 0
+  idle-out : (stage : Stage) → isIdle stage ≡ true → untilOut stage times age ≡ 0
   unfolding untilOut
-  idle-out = idle-only (λ (stage : Stage). untilOut stage times age ≡ 0) refl
+  idle-out stage h = rw (idle-only stage h)
 
   pub idle-none : (stage : Stage) → isIdle stage ≡ true → untilIdle stage times age ≡ 0
   unfolding untilIdle
-  idle-none = idle-only (λ (stage : Stage). untilIdle stage times age ≡ 0) refl
+  idle-none stage h = rw (idle-only stage h)
 
   pub idle-told : (stage : Stage) → untilIdle stage times age ≡ 0 → isIdle stage ≡ true
   unfolding isIdle untilIdle
@@ -162,18 +156,18 @@ module _ (times : WalkTimes) (age : ℕ) where
   -- an idle movement stays so in part 2
   pub idle-kept : (stage : Stage) → isIdle stage ≡ true → isIdle (advanced stage times age .stage) ≡ true
   unfolding isIdle advanced
-  idle-kept = idle-only (λ (stage : Stage). isIdle (advanced stage times age .stage) ≡ true) refl
+  idle-kept stage h = rw (idle-only stage h)
 
   -- ── What bounds them ──
 
-  pub out-limit : (stage : Stage) → 1 ≤ age → (isIdle stage ≡ false → Reached times) → untilOut stage times age ≤ times .walk + times .first
+  out-limit : (stage : Stage) → 1 ≤ age → (isIdle stage ≡ false → Reached times) → untilOut stage times age ≤ times .walk + times .first
   unfolding untilOut isIdle
   out-limit Idle a r = omega arith
   out-limit Walk a r = omega (arith, r refl .walk)
   out-limit ClearanceOne a r = omega (arith, r refl .first)
   out-limit ClearanceTwo a r = omega arith
 
-  pub idle-limit :
+  idle-limit :
       (stage : Stage) →
       1 ≤ age →
       (isIdle stage ≡ false → Reached times) →
@@ -184,7 +178,7 @@ module _ (times : WalkTimes) (age : ℕ) where
   idle-limit ClearanceOne a r = omega (arith, r refl .first)
   idle-limit ClearanceTwo a r = omega (arith, r refl .second)
 
-  pub clear-limit :
+  clear-limit :
       (stage : Stage) →
       1 ≤ age →
       (isIdle stage ≡ false → Reached times) →

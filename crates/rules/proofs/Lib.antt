@@ -5,3 +5,4 @@ pub mod Rows
 pub mod Verdicts
 pub mod Counts
 pub mod Bits
+pub mod Intervals
