@@ -22,7 +22,7 @@ use Rattle.rules.specs.State.{fresh, valid}
 use Rattle.rules.specs.Step.{stepped}
 use Rattle.rules.specs.WaitBound.{waitBound}
 use Rattle.rules.specs.Call.{callVerdict, answerFor, answerOf, bufferOf}
-use Rattle.rules.specs.Laws.{Sound, AcceptedIsSound, FreshIsValid, StepKeepsValid, Written, RefusalIsWritten}
+use Rattle.rules.specs.Laws.{Sound, AcceptedIsSound, FreshIsValid, Written, RefusalIsWritten}
 use Rattle.rules.specs.Runs.{ruled, Call, Taken, takenFrom, SafeRun, DemandThreeOf, DemandThree}
 use Rattle.board_state.specs.Layout.{stateBytes, isState, decoded, encoded, encodedOver, Proper}
 use Rattle.board_state.proofs.RoundTrips.{encoded-is-state, decoded-encoded}
@@ -32,6 +32,7 @@ use Rattle.proof_acceptance.proofs.Acceptance.{accepted-is-sound}
 use Rattle.proof_acceptance.proofs.Refusals.{refusal-is-written}
 use Rattle.proof_validity.proofs.Fresh.{fresh-is-valid}
 use Rattle.proof_validity.proofs.Validity.{step-keeps-valid}
+use Rattle.proof_guarantees.proofs.DeadEnds.{valid-for}
 use Rattle.proof_guarantees.proofs.DemandThree.{demand-three}
 use Rattle.proof_board.specs.BoardRuns.{outcomeIn, verdictIn, board, BoardDemandThree, StepIsProper}
 use Rattle.proof_board.proofs.Proper.{step-is-proper, fresh-is-proper}
@@ -115,20 +116,17 @@ module _ (b : List ℕ) (s : State) (proper : Proper s) (inputs : ℕ) where
 -- ── A list of calls ──
 
 module _ (b : List ℕ) (sound : Sound (siteOf b)) (buffer : List ℕ) where
-  -- a call leads from a valid state that the types hold to another
-  kept :
-      (s : State) (inputs room : ℕ) →
+  -- a call leads to a state that the types hold
+  proper-for :
+      (s : State) →
       valid (siteOf b) s ≡ true →
       Proper s →
-      (v : Verdict) →
+      (inputs room : ℕ) (v : Verdict) →
       callVerdict b s inputs room ≡ v →
-      let next = answerFor v (siteOf b) s inputs .state in
-      (valid (siteOf b) next ≡ true) × Proper next
-  unfolding answerFor StepKeepsValid StepIsProper
-  kept s inputs room sane proper Accepted e =
-      let wired = accepted-told b s inputs room e .1 in
-      (step-keeps-valid (siteOf b) sound s inputs sane wired, step-is-proper (siteOf b) sound s inputs sane wired)
-  kept s inputs room sane proper (Refused number place) e = (sane, proper)
+      Proper (answerFor v (siteOf b) s inputs .state)
+  unfolding answerFor StepIsProper
+  proper-for s sane proper inputs room Accepted e = step-is-proper (siteOf b) sound s inputs sane (accepted-told b s inputs room e .1)
+  proper-for s sane proper inputs room (Refused number place) e = proper
 
   same-run :
       (calls : List Call) (s : State) →
@@ -141,10 +139,10 @@ module _ (b : List ℕ) (sound : Sound (siteOf b)) (buffer : List ℕ) where
       let room = length (c .buffer) in
       let v = callVerdict b s (c .inputs) room in
       let next = answerFor v (siteOf b) s (c .inputs) .state in
-      let there = kept s (c .inputs) room sane proper v refl in
+      let there = proper-for s sane proper (c .inputs) room v refl in
       let bytes = same-next b s proper (c .inputs) room in
-      let later = ap (λ (state : List ℕ). takenFrom (board buffer) b state calls) bytes ∙ same-run calls next (there .0) (there .1) in
-      let after = ap decoded bytes ∙ decoded-encoded next (there .1) in
+      let later = ap (λ (state : List ℕ). takenFrom (board buffer) b state calls) bytes ∙ same-run calls next (valid-for step-keeps-valid b sound s sane (c .inputs) room v refl) there in
+      let after = ap decoded bytes ∙ decoded-encoded next there in
       λ i.
       record {
         before = decoded-encoded s proper i;
