@@ -1,15 +1,14 @@
 -- A run of the library's calls is a run of the rules. An answer reads back as the outcome that it was packed from; the bytes of a state
 -- read back as the state; and each call leaves the bytes of the state that the rules hand back, so call by call nothing differs.
-use Prim.Native.Nat.{ℕ, _+_, _*_, _/_, _%_, _≤_, _<_}
+use Prim.Native.Nat.{ℕ, _/_, _%_, _≤_, _<_}
 use mathlib.Core.Bool.{Bool, true, false}
 use mathlib.Core.List.{List, [], _∷_}
-use mathlib.Core.Logic.{_⊎_, ⊎-elim}
+use mathlib.Core.Logic.{⊎-elim}
 use mathlib.Core.Path.{_≡_, refl, sym, subst, ap, _∙_}
 use native.Mathlib.Omega.{arith}
-use borrow.Author.Tests.{eqb-true, ne-eqb}
+use borrow.Author.Tests.{ne-eqb}
 use lib.Dec.{eqb}
 use lib.ListN.{length}
-use Rattle.rules.specs.declared.answer.Outcome.{Outcome}
 use Rattle.rules.specs.declared.answer.Outcome.the-variants.{Stepped, Declined}
 use Rattle.rules.specs.declared.answer.Verdict.{Verdict}
 use Rattle.rules.specs.declared.answer.Verdict.the-variants.{Accepted, Refused}
@@ -19,12 +18,11 @@ use Rattle.rules.specs.Verdicts.{_orElse_}
 use Rattle.rules.specs.Personality.{verdictOf}
 use Rattle.rules.specs.Site.{siteOf}
 use Rattle.rules.specs.State.{fresh, valid}
-use Rattle.rules.specs.Step.{stepped}
 use Rattle.rules.specs.WaitBound.{waitBound}
 use Rattle.rules.specs.Call.{callVerdict, answerFor, answerOf, bufferOf}
 use Rattle.rules.specs.Laws.{Sound, AcceptedIsSound, FreshIsValid, Written, RefusalIsWritten}
-use Rattle.rules.specs.Runs.{ruled, Call, Taken, takenFrom, SafeRun, DemandThreeOf, DemandThree}
-use Rattle.board_state.specs.Layout.{stateBytes, isState, decoded, encoded, encodedOver, Proper}
+use Rattle.rules.specs.Runs.{ruled, Call, takenFrom, SafeRun, DemandThreeOf, DemandThree}
+use Rattle.board_state.specs.Layout.{stateBytes, decoded, encoded, encodedOver, Proper}
 use Rattle.board_state.proofs.RoundTrips.{encoded-is-state, decoded-encoded}
 use Rattle.willowera.specs.Board.{packed, packedVerdict, packedOutcome, freshAnswer, stepAnswer, stateFor, stateAfter, coloursAfter}
 use Rattle.proof_runs.proofs.Chains.{accepted-told}

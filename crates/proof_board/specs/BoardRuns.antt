@@ -1,7 +1,7 @@
 -- Demand 3 of the library that a buyer links: the same demand, said of the numbers that its calls answer and of the bytes that they
 -- leave in the caller's buffers.
 use Prim.Native.Nat.{ℕ, _/_, _%_}
-use mathlib.Core.Bool.{Bool, true, false}
+use mathlib.Core.Bool.{true, false}
 use mathlib.Core.List.{List}
 use mathlib.Core.Path.{_≡_}
 use lib.Dec.{eqb}

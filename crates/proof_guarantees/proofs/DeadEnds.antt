@@ -1,7 +1,7 @@
 -- No call is refused for the state that the calls before it left. The fresh state is valid, an accepted step keeps a state valid and a
 -- refused call hands it on; in a valid state of an accepted personality the checks that are left are 15 and 14.
 use Prim.Native.Nat.{ℕ}
-use mathlib.Core.Bool.{Bool, true}
+use mathlib.Core.Bool.{true}
 use mathlib.Core.List.{List, [], _∷_}
 use mathlib.Core.Path.{_≡_, refl, ap, _∙_}
 use lib.Dec.{ltb}
