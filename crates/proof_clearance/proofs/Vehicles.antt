@@ -99,7 +99,7 @@ module _ (site : Site) (s : State) (step : Taken) (link : Link site s step) wher
           leb (phaseTimes (site .times) p .red) a ≡ true
       unfolding ended ends timesNow movementsAfter movement
       all-red-ends row over =
-          and-left (leb (phaseTimes (site .times) p .red) a) (not (someMovement isSecond (movementsAfter (site .times) s)))
+          and-left (leb (phaseTimes (site .times) p .red) a) (not (someMovement isSecond (movementsAfter (site .times) (s .movements))))
           (rw (row .interval, row .phase, row .age) at over)
 
       -- yellow goes on below the age Y, then all-red begins

@@ -19,7 +19,7 @@ use Rattle.rules.specs.State.{idle, locked, asked, movement}
 use Rattle.rules.specs.Demands.{demandsAfter, nextDemanded, detected, extending, registersLock, registersButton}
 use Rattle.rules.specs.Movements.{advanced, movementsAfter}
 use Rattle.rules.specs.Counts.{countsAfter}
-use Rattle.rules.specs.Interval.{ends, positionAfter, countsChanged, clearsLock, starts}
+use Rattle.rules.specs.Interval.{ends, positionAfter, countsChanged, clearsLock, locksLeft, starts}
 use Rattle.rules.specs.Walks.{begins, walksBegun, buttonsLeft}
 use Rattle.rules.specs.Step.{stepped}
 use Rattle.rules.proofs.Rows.{list-at}
@@ -41,7 +41,7 @@ module _ (site : Site) (s : State) (inputs : ℕ) where
   -- the interval ends in this step
   unfoldable pub ended : Bool
   ended =
-      ends (s .position .interval) (site .times .start) timesNow (s .position .age) another (movementsAfter (site .times) s) counted
+      ends (s .position .interval) (site .times .start) timesNow (s .position .age) another (movementsAfter (site .times) (s .movements)) counted
 
   -- the position after part 4
   unfoldable pub now : Position
@@ -56,7 +56,7 @@ module _ (site : Site) (s : State) (inputs : ℕ) where
   moved k = advanced (movement s k .stage) (walkTimes (site .times) k) (movement s k .age)
 
   unfoldable pub askedNow : ℕ → Bool
-  askedNow k = asked s k || registersButton s inputs k
+  askedNow k = asked s k || registersButton (s .movements) inputs k
 
   unfoldable pub lockedNow : ℕ → Bool
   lockedNow p = locked s p || registersLock site s inputs p
@@ -74,13 +74,13 @@ module _ (site : Site) (s : State) (inputs : ℕ) where
   unfolding stepped timesNow another counted ended now
   counts-of = refl
 
-  pub moved-at : (k : ℕ) → k < 8 → getD (movementsAfter (site .times) s) k idle ≡ moved k
-  unfolding movementsAfter moved
+  pub moved-at : (k : ℕ) → k < 8 → getD (movementsAfter (site .times) (s .movements)) k idle ≡ moved k
+  unfolding movementsAfter moved movement
   moved-at k h = list-at (λ (k : ℕ). advanced (movement s k .stage) (walkTimes (site .times) k) (movement s k .age)) 8 k idle h
 
   pub asked-at : (k : ℕ) → k < 8 → getD (demandsAfter site s inputs .buttons) k false ≡ askedNow k
   unfolding demandsAfter askedNow
-  asked-at k h = list-at (λ (k : ℕ). asked s k || registersButton s inputs k) 8 k false h
+  asked-at k h = list-at (λ (k : ℕ). asked s k || registersButton (s .movements) inputs k) 8 k false h
 
   pub locked-at : (p : ℕ) → p < 7 → getD (demandsAfter site s inputs .locks) p false ≡ lockedNow p
   unfolding demandsAfter lockedNow
@@ -88,14 +88,14 @@ module _ (site : Site) (s : State) (inputs : ℕ) where
 
   -- what part 5 asks of index k
   begins-at : ℕ → Bool
-  begins-at k = begins (site .crossings) started another now (demandsAfter site s inputs .buttons) (movementsAfter (site .times) s) k
+  begins-at k = begins (site .crossings) started another now (demandsAfter site s inputs .buttons) (movementsAfter (site .times) (s .movements)) k
 
   begun-at : (k : ℕ) → k < 8 → begins-at k ≡ begun k
   unfolding begins begins-at begun
   begun-at k h = rw (asked-at k h, moved-at k h)
 
   pub locked-of : (p : ℕ) → p < 7 → locked (stepped site s inputs) p ≡ (lockedNow p && not (clearsLock ended now p))
-  unfolding stepped timesNow another counted ended now locked
+  unfolding stepped timesNow another counted ended now locked locksLeft
   locked-of p h =
       list-at (λ (p : ℕ). getD (demandsAfter site s inputs .locks) p false && not (clearsLock ended now p)) 7 p false h
       ∙ ap (λ (t : Bool). t && not (clearsLock ended now p)) (locked-at p h)
@@ -110,7 +110,7 @@ module _ (site : Site) (s : State) (inputs : ℕ) where
   unfolding stepped timesNow another counted ended now started movement walksBegun begins-at
   movement-of k h =
       list-at
-      (λ (k : ℕ). if begins-at k then record { stage = Walk; age = 1 } else getD (movementsAfter (site .times) s) k idle)
+      (λ (k : ℕ). if begins-at k then record { stage = Walk; age = 1 } else getD (movementsAfter (site .times) (s .movements)) k idle)
       8
       k
       idle

@@ -13,7 +13,7 @@ use Rattle.rules.specs.Bytes.{bit}
 use Rattle.rules.specs.Site.{detectorOf}
 use Rattle.rules.specs.Intervals.{isWalk}
 use Rattle.rules.specs.State.{locked, asked, movement}
-use Rattle.rules.specs.Demands.{occupied, pressed, locking, detected, inGreen, registersLock, registersButton}
+use Rattle.rules.specs.Demands.{occupied, pressed, locking, detectedAmong, detected, inGreen, registersLock, registersButton}
 use Rattle.rules.specs.Interval.{clearsLock}
 use Rattle.rules.specs.Step.{stepped}
 use Rattle.rules.specs.Call.{wired, strayInput}
@@ -28,7 +28,7 @@ module _ (site : Site) (sound : Sound site) where
 
   -- a phase of which a detector is occupied exists
   detected-below : (kind : ℕ → Bool) (inputs p : ℕ) → detected kind site inputs p ≡ true → p < site .size .phases
-  unfolding detected
+  unfolding detected detectedAmong
   detected-below kind inputs p h =
       let found = any-found _ _ h in
       let d = found .0 in
@@ -40,7 +40,7 @@ module _ (site : Site) (sound : Sound site) where
   unfolding lockedNow registersLock
   locked-below s inputs p v l h =
       let seen = detected locking site inputs p in
-      let free = not (inGreen s p) in
+      let free = not (inGreen (s .position) p) in
       ⊎-elim
       (λ (e : locked s p ≡ true). v .locks p l e)
       (λ (e : (seen && free) ≡ true). detected-below locking inputs p (and-left seen free e))
@@ -83,7 +83,7 @@ module _ (site : Site) (sound : Sound site) where
       k < 8 →
       askedNow site s inputs k ≡ true →
       k < site .size .movements
-  unfolding askedNow registersButton pressed
+  unfolding askedNow registersButton pressed movement
   asked-below s inputs k v stray l h =
       let press = bit (48 + k) inputs in
       let free = not (isWalk (movement s k .stage)) in

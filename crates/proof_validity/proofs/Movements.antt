@@ -119,7 +119,7 @@ pub moved-valid :
     k < 8 →
     ValidState site s →
     ValidMovement site (now site s inputs) k (moved site s inputs k)
-unfolding now moved ended movementsAfter
+unfolding now moved ended movementsAfter movement
 moved-valid site s inputs k l v =
     after-movement site (site .times) (nextDemanded site s inputs) (s .position) k (moved site s inputs k)
     (advanced-valid site (s .position) k (movement s k .stage) (walkTimes (site .times) k) (movement s k .age) (v .movements k l))
@@ -133,7 +133,7 @@ moved-valid site s inputs k l v =
     (timesNow site s inputs)
     (s .position .age)
     (another site s inputs)
-    (movementsAfter (site .times) s)
+    (movementsAfter (site .times) (s .movements))
     (counted site s inputs)
     k
     l

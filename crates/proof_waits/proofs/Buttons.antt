@@ -16,7 +16,7 @@ use Rattle.rules.specs.declared.state.State.{State}
 use Rattle.rules.specs.Site.{walkTimes, crosses}
 use Rattle.rules.specs.Intervals.{isIdle, isWalk, isRunning}
 use Rattle.rules.specs.State.{asked, movement, valid}
-use Rattle.rules.specs.Demands.{pressed, registersButton, calls, demandsAfter, stands, demanded}
+use Rattle.rules.specs.Demands.{pressed, registersButton, calls, demandsAfter, movementDemands, stands, demanded}
 use Rattle.rules.specs.Interval.{ends, starting, staying}
 use Rattle.rules.specs.Step.{stepped}
 use Rattle.rules.specs.WaitBound.{waitBound}
@@ -74,12 +74,12 @@ module _
       next = stepped site s inputs
 
       button-demands : demanded site s inputs q ≡ true
-      unfolding demanded stands demandsAfter askedNow
+      unfolding demanded stands movementDemands demandsAfter askedNow
       button-demands =
           or-left (calls site s inputs q)
           (or-right (getD (demandsAfter site s inputs .locks) q false)
           (any-at (λ (k : ℕ). getD (demandsAfter site s inputs .buttons) k false && crosses (site .crossings) k q) (site .size .movements) m exists
-          (and-both (list-at (λ (k : ℕ). asked s k || registersButton s inputs k) 8 m false button-below ∙ standing) crossing)))
+          (and-both (list-at (λ (k : ℕ). asked s k || registersButton (s .movements) inputs k) 8 m false button-below ∙ standing) crossing)))
 
       walk-entered : begun site s inputs m ≡ true → inWalk next m ≡ true
       unfolding inWalk isWalk
@@ -193,9 +193,9 @@ module _
           (decided (begun site s (step .inputs) m))
 
       pub button-registers :
-          registersButton s (step .inputs) m ≡ true →
+          registersButton (s .movements) (step .inputs) m ≡ true →
           (walkBegins m step ≡ true) ⊎ ButtonWaits site q m (waitBound site) (step .after)
-      unfolding registersButton askedNow inWalk
+      unfolding registersButton askedNow inWalk movement
       button-registers r =
           button-step (not-true (isWalk (movement s m .stage)) (and-right (pressed (step .inputs) m) _ r)) (or-right (asked s m) r)
           (waitBound site)
@@ -204,7 +204,7 @@ module _
       pub button-waits : (n : ℕ) → ButtonWaits site q m (suc n) s → (walkBegins m step ≡ true) ⊎ ButtonWaits site q m n (step .after)
       unfolding askedNow
       button-waits n w =
-          let standing = or-left (registersButton s (step .inputs) m) (w .asked) in
+          let standing = or-left (registersButton (s .movements) (step .inputs) m) (w .asked) in
           button-step (w .still) standing n
           (λ b.
           button-progress s (step .inputs) standing b (state-told site s (link .valid)) (state-told site after now-valid) n (w .left))

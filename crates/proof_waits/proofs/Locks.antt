@@ -72,7 +72,7 @@ green-from true AllRed times next position e m g =
 abbrev pub Away : State → ℕ → Type 0
 Away s q = s .position .phase ≡ q → isGreen (s .position .interval) ≡ false
 
-pub away-told : (s : State) (q : ℕ) → inGreen s q ≡ false → Away s q
+pub away-told : (s : State) (q : ℕ) → inGreen (s .position) q ≡ false → Away s q
 unfolding inGreen
 away-told s q h e = rw (eq-eqb q (s .position .phase) (sym e)) at h
 
@@ -303,7 +303,7 @@ module _ (site : Site) (sound : Sound site) (q : ℕ) (below : q < site .size .p
         (minimumGreenBegins q step ≡ true) ⊎ LockWaits site q (waitBound site) (step .after)
     unfolding registersLock lockedNow
     lock-registers r =
-        let away = away-told s q (not-true (inGreen s q) (and-right (detected locking site (step .inputs) q) (not (inGreen s q)) r)) in
+        let away = away-told s q (not-true (inGreen (s .position) q) (and-right (detected locking site (step .inputs) q) (not (inGreen (s .position) q)) r)) in
         let standing = or-right (locked s q) r in
         lock-step away standing (waitBound site)
         (λ m. lock-within after (state-told site after now-valid) (away-kept s (step .inputs) standing m away))

@@ -66,7 +66,7 @@ module _ (site : Site) (s : State) (inputs : ℕ) where
       s .position .interval ≡ i →
       ended site s inputs
       ≡ ends i (site .times .start) (phaseTimes (site .times) (s .position .phase)) (s .position .age) (another site s inputs)
-      (movementsAfter (site .times) s)
+      (movementsAfter (site .times) (s .movements))
       (counted site s inputs)
   unfolding ended timesNow
   ended-in i e = rw e
@@ -83,8 +83,8 @@ module _ (site : Site) (s : State) (inputs : ℕ) where
   pub ends-for-another : s .position .interval ≡ Running → ended site s inputs ≡ true → another site s inputs ≡ true
   unfolding ends
   ends-for-another e h =
-      and-left (another site s inputs) (not (someMovement isWalkOrFirst (movementsAfter (site .times) s)))
-      (and-left (another site s inputs && not (someMovement isWalkOrFirst (movementsAfter (site .times) s))) _
+      and-left (another site s inputs) (not (someMovement isWalkOrFirst (movementsAfter (site .times) (s .movements))))
+      (and-left (another site s inputs && not (someMovement isWalkOrFirst (movementsAfter (site .times) (s .movements)))) _
       (sym (ended-in Running e) ∙ h))
 
   -- ── The maximum count ──
@@ -108,11 +108,11 @@ module _ (site : Site) (s : State) (inputs : ℕ) where
 
   some-moved :
       (test : Stage → Bool) →
-      someMovement test (movementsAfter (site .times) s) ≡ true →
+      someMovement test (movementsAfter (site .times) (s .movements)) ≡ true →
       (k : ℕ) × (k < 8) × (test (moved site s inputs k .stage) ≡ true)
-  unfolding someMovement movementsAfter moved
+  unfolding someMovement movementsAfter moved movement
   some-moved test h =
-      let w = any-found (λ (k : ℕ). test (getD (movementsAfter (site .times) s) k idle .stage)) 8 h in (
+      let w = any-found (λ (k : ℕ). test (getD (movementsAfter (site .times) (s .movements)) k idle .stage)) 8 h in (
         w .0,
         w .1,
         rw (list-at (λ (k : ℕ). advanced (movement s k .stage) (walkTimes (site .times) k) (movement s k .age)) 8 (w .0) idle (w .1))
@@ -162,7 +162,7 @@ module _ (site : Site) (s : State) (inputs : ℕ) where
       (count : Stage → WalkTimes → ℕ → ℕ) (test : Stage → Bool) →
       ((times : WalkTimes) (age : ℕ) (stage : Stage) → test stage ≡ true → 1 ≤ count stage times age) →
       ((k : ℕ) → begun site s inputs k ≡ false) →
-      someMovement test (movementsAfter (site .times) s) ≡ true →
+      someMovement test (movementsAfter (site .times) (s .movements)) ≡ true →
       (k : ℕ)
       × (k < 8)
       × (1 ≤ count (movement (stepped site s inputs) k .stage) (walkTimes (site .times) k) (movement (stepped site s inputs) k .age))
@@ -186,7 +186,7 @@ module _ (site : Site) (s : State) (inputs : ℕ) where
       let begins : (k : ℕ) → begun site s inputs k ≡ false = λ k. quiet-demanded k (started-in Running false e h) a in
       let counts = counts-stay h in
       ⊎-elim
-      (λ (b : (true && not (someMovement isWalkOrFirst (movementsAfter (site .times) s))) ≡ false).
+      (λ (b : (true && not (someMovement isWalkOrFirst (movementsAfter (site .times) (s .movements)))) ≡ false).
       inl (some-counted untilOut isWalkOrFirst out-some begins (not-false _ b)))
       (λ (b :
       (eqb (counted site s inputs .gap) 0
@@ -207,7 +207,7 @@ module _ (site : Site) (s : State) (inputs : ℕ) where
       λ k. quiet-leaving k (started-in AllRed false e h) (ap isRunning (stays-in AllRed e h)) in
       ⊎-elim
       (λ (b : leb (phaseTimes (site .times) (s .position .phase) .red) (s .position .age) ≡ false). inl (leb-false _ _ b))
-      (λ (b : not (someMovement isSecond (movementsAfter (site .times) s)) ≡ false).
+      (λ (b : not (someMovement isSecond (movementsAfter (site .times) (s .movements))) ≡ false).
       inr (some-counted untilIdle isSecond idle-some begins (not-false _ b)))
       (and-false-cases _ _ (rw (ended-in AllRed e) at h))
 

@@ -173,7 +173,7 @@ module _
         s .position .interval ≡ i →
         ended site s inputs ≡ false →
         ends i (site .times .start) settings (s .position .age) (another site s inputs)
-        (movementsAfter (site .times) s)
+        (movementsAfter (site .times) (s .movements))
         (counted site s inputs)
         ≡ leb setting (s .position .age) →
         s .position .age < setting

@@ -11,6 +11,7 @@ use Rattle.rules.specs.declared.state.Interval.{Interval}
 use Rattle.rules.specs.declared.state.Interval.the-variants.{StartRed, LateStart, MinimumGreen, Running, Yellow, AllRed}
 use Rattle.rules.specs.declared.state.State.{State}
 use Rattle.rules.specs.Intervals.{isMinimumGreen, isRunning, isGreen}
+use Rattle.rules.specs.State.{movement}
 use Rattle.rules.specs.Demands.{locking, detected, inGreen, registersLock, registersButton}
 use Rattle.rules.specs.Runs.{Taken, inMinimumGreen, inRunning, inWalk, registersLocked, registersPressed}
 use Rattle.rules.proofs.Tests.{decided}
@@ -32,7 +33,7 @@ either-green true Running = refl
 either-green true Yellow = refl
 either-green true AllRed = refl
 
-green-same : (s : State) (p : ℕ) → inGreen s p ≡ (inMinimumGreen s p || inRunning s p)
+green-same : (s : State) (p : ℕ) → inGreen (s .position) p ≡ (inMinimumGreen s p || inRunning s p)
 unfolding inGreen inMinimumGreen inRunning
 green-same s p =
     ap (λ (t : Bool). t && isGreen (s .position .interval)) (turned p (s .position .phase))
@@ -43,6 +44,6 @@ unfolding registersLocked registersLock
 lock-same site step p =
     ap (λ (t : Bool). detected locking site (step .inputs) p && not t) (sym (green-same (step .before) p))
 
-pub button-same : (step : Taken) (k : ℕ) → registersPressed step k ≡ registersButton (step .before) (step .inputs) k
-unfolding registersPressed registersButton inWalk
+pub button-same : (step : Taken) (k : ℕ) → registersPressed step k ≡ registersButton (step .before .movements) (step .inputs) k
+unfolding registersPressed registersButton inWalk movement
 button-same step k = refl

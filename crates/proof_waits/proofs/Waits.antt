@@ -12,7 +12,7 @@ use Rattle.rules.specs.declared.site.Site.{Site}
 use Rattle.rules.specs.declared.state.State.{State}
 use Rattle.rules.specs.Site.{detectorOf}
 use Rattle.rules.specs.State.{fresh}
-use Rattle.rules.specs.Demands.{occupied, locking, detected, inGreen, registersLock, registersButton}
+use Rattle.rules.specs.Demands.{occupied, locking, detectedAmong, detected, inGreen, registersLock, registersButton}
 use Rattle.rules.specs.WaitBound.{waitBound}
 use Rattle.rules.specs.Laws.{Sound, StepKeepsValid}
 use Rattle.rules.specs.Runs.{Taken, minimumGreenBegins, walkBegins, someStep, comesWithin, DemandsMet}
@@ -25,12 +25,12 @@ use Rattle.proof_waits.proofs.Buttons.{ButtonWaits, button-registers, b
 
 -- an occupied locking detector is one of a phase that exists
 lock-exists : (site : Site) → Sound site → (s : State) (inputs p : ℕ) → registersLock site s inputs p ≡ true → p < site .size .phases
-unfolding registersLock detected
+unfolding registersLock detected detectedAmong
 lock-exists site sound s inputs p r =
     let of : ℕ → Bool = λ d. occupied inputs d && eqb (detectorOf (site .detectors) d .phase) p in
     let found =
     any-found (λ (d : ℕ). of d && locking (detectorOf (site .detectors) d .mode)) (site .size .detectors)
-    (and-left (detected locking site inputs p) (not (inGreen s p)) r) in
+    (and-left (detected locking site inputs p) (not (inGreen (s .position) p)) r) in
     let d = found .0 in
     subst (λ (x : ℕ). x < site .size .phases)
     (eqb-true (detectorOf (site .detectors) d .phase) p
@@ -64,7 +64,7 @@ module _ (keeps : StepKeepsValid) (site : Site) (sound : Sound site) where
       comesWithin (waitBound site) (minimumGreenBegins p) step later ≡ true)
       × ((k : ℕ) →
       k < site .size .movements →
-      registersButton (step .before) (step .inputs) k ≡ true →
+      registersButton (step .before .movements) (step .inputs) k ≡ true →
       comesWithin (waitBound site) (walkBegins k) step later ≡ true)
   met s step later chain h = (
     λ p r.
