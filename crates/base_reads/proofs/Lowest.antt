@@ -1,17 +1,19 @@
--- A power of two has one bit; and a number without its lowest bit has all its others.
-use Prim.Native.Nat.{ℕ, zero, suc, _-_, _*_, _/_, _%_, _^_, _<_}
-use mathlib.Core.Bool.{true, false, not, _&&_, and-true}
+-- A power of two has one bit; a number without its lowest bit has all its others; and a pass that takes the lowest bit of what is left
+-- takes each bit once.
+use Prim.Native.Nat.{ℕ, zero, suc, _-_, _*_, _/_, _%_, _^_, _≤_, _<_}
+use mathlib.Core.Bool.{Bool, true, false, not, _&&_, and-true}
 use mathlib.Core.Logic.{⊎-elim}
 use mathlib.Core.Path.{_≡_, refl, sym, ap, _∙_}
-use native.Mathlib.Nat.{pow-succ'}
+use native.Mathlib.Nat.{pow-succ', lt-of-lt-of-le}
 use native.Mathlib.Omega.{arith}
-use lib.Bits.{bitAnd, and-step, and-self, shifted-half, shifted-even}
+use lib.Bits.{bitAnd, and-step, and-self, and-le-r, shifted-half, shifted-even}
 use lib.Count.{trailingZeros, under}
 use lib.Dec.{eqb}
+use lib.Pow.{pow-mono}
 use borrow.Author.Tests.{eqb-true, eqb-false, ne-eqb, eq-eqb}
 use Rattle.rules.specs.Bytes.{bit}
-use Rattle.rules.proofs.Bits.{bit-blank}
-use Rattle.rules.proofs.Tests.{decided}
+use Rattle.rules.proofs.Bits.{bit-blank, bit-below}
+use Rattle.rules.proofs.Tests.{and-left, decided}
 use Rattle.base_reads.proofs.Shifts.{half-bit}
 
 even-bit : (x : ℕ) → x % 2 ≡ 0 → bit 0 x ≡ false
@@ -116,3 +118,65 @@ module _ (rest : ℕ) (some : 0 < rest) (room : rest < 2 ^ 64) where
 
   pub others-same : (i : ℕ) → (i ≡ lowest → ⊥) → bit i others ≡ bit i rest
   others-same i apart = others-in i ∙ rw (ne-eqb i lowest apart) (and-true (bit i rest))
+
+-- ── A pass over the bits of a word, the lowest first ──
+
+-- bit i of the word is taken: it is no longer in the rest
+unfoldable pub taken : ℕ → ℕ → ℕ → Bool
+taken word rest i = bit i word && not (bit i rest)
+
+-- the rest has n bits, each of them one of the word's
+pub record Left (word n rest : ℕ) : Type 0 where
+  pub within : rest < 2 ^ n
+  pub left : (i : ℕ) → bit i rest ≡ true → bit i word ≡ true
+
+pub left-all : (word n : ℕ) → word < 2 ^ n → Left word n word
+left-all word n within = record { within = within; left = λ i e. e }
+
+pub taken-none : (word i : ℕ) → taken word word i ≡ false
+unfolding taken
+taken-none word i = neither (bit i word)
+  where
+    neither : (t : Bool) → (t && not t) ≡ false
+    neither true = refl
+    neither false = refl
+
+pub taken-all : (word i : ℕ) {rest : ℕ} → rest ≡ 0 → taken word rest i ≡ bit i word
+unfolding taken
+taken-all word i e = rw (e, bit-blank i) (and-true (bit i word))
+
+-- a turn takes the lowest bit of the rest
+module _ {word n rest : ℕ} (known : Left word n rest) (some : 0 < rest) (few : n ≤ 64) where
+  room : rest < 2 ^ 64
+  room = lt-of-lt-of-le (known .within) (pow-mono few)
+
+  abbrev next : ℕ
+  next = trailingZeros 64 rest
+
+  abbrev rest′ : ℕ
+  rest′ = bitAnd rest (rest - 1)
+
+  pub next-within : next < n
+  next-within = bit-below rest n next (known .within) (lowest-in rest some room)
+
+  pub left-less : rest′ < rest
+  left-less = omega (arith, and-le-r rest (rest - 1))
+
+  pub left-more : Left word n rest′
+  left-more =
+      record {
+        within = lt-of-lt-of-le left-less (omega (arith, known .within));
+        left = λ i e. known .left i (and-left (bit i rest) (not (eqb i next)) (sym (others-in rest some room i) ∙ e));
+      }
+
+  pub next-untaken : taken word rest next ≡ false
+  unfolding taken
+  next-untaken = rw (lowest-in rest some room, known .left next (lowest-in rest some room))
+
+  pub next-taken : taken word rest′ next ≡ true
+  unfolding taken
+  next-taken = rw (lowest-gone rest some room, known .left next (lowest-in rest some room))
+
+  pub taken-other : (i : ℕ) → (i ≡ next → ⊥) → taken word rest′ i ≡ taken word rest i
+  unfolding taken
+  taken-other i apart = rw (others-same rest some room i apart)

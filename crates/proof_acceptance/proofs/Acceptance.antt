@@ -13,7 +13,7 @@ use Rattle.rules.specs.declared.site.Group.{Group}
 use Rattle.rules.specs.Rows.{indicesOf}
 use Rattle.rules.specs.Bytes.{twoAt, bit}
 use Rattle.rules.specs.Limits.{limits, phaseSettings, walkSettings}
-use Rattle.rules.specs.Personality.{recordAt, phasesHead, pedestriansHead, phaseCount, groupCount, movementCount, groupSet, groupMark, conflictSet, detectorPhase, pedestrian, pedestriansBefore}
+use Rattle.rules.specs.Personality.{recordAt, phasesHead, pedestriansHead, phaseCount, groupCount, movementCount, groupSet, groupMark, conflictSet, detectorPhase, knownMode, pedestrian, pedestriansBefore}
 use Rattle.rules.specs.Site.{phaseTimesAt, walkTimesAt, timesIn, crossingAt, siteOf, groupOf, inPhase, crosses, isPedestrian, movementOf, conflict}
 use Rattle.rules.specs.Laws.{InTable, SoundPhaseTimes, SoundWalkTimes, OnePhase, Sound, AcceptedIsSound}
 use Rattle.rules.proofs.Tests.{never-both}
@@ -178,6 +178,7 @@ sound b s =
       phaseGroup = phase-group b (s .groups);
       detectorPhase =
           λ d l. subst (λ (x : Detector). x .phase < phaseCount b) (sym (detector-at b d l)) (s .detectors .phase d l);
+      detectorMode = λ d l. subst (λ (x : Detector). knownMode (x .mode) ≡ true) (sym (detector-at b d l)) (s .detectors .mode d l);
       crossing = one-phase b (s .groups);
       noCrossing = crosses-past b;
       movementOfGroup = movement-of-group b;

@@ -14,7 +14,7 @@ use Rattle.rules.specs.Rows.{anyOf, countOf}
 use Rattle.rules.specs.Bytes.{twoAt, bit}
 use Rattle.rules.specs.Limits.{limits, within, startRedSetting, phaseSettings, walkSettings}
 use Rattle.rules.specs.Verdicts.{firstOf}
-use Rattle.rules.specs.Personality.{bodyLength, bodyAt, recordAt, phaseCount, groupCount, siteHead, phasesHead, groupsHead, conflictsHead, detectorsHead, pedestriansHead, groupSet, groupMark, pedestrian, pedestriansBefore, movementCount, conflictSet, detectorCount, detectorPhase, sectionAt, timeAt, timesAt, siteSection, phasesSection, badGroup, ninthPedestrian, groupRecord, phaseWithoutGroup, groupsSection, badConflict, sharePhase, conflictInPhase, conflictsSection, badDetector, detectorsSection, pedestriansSection, afterPedestrians, endOf, verdictOf}
+use Rattle.rules.specs.Personality.{bodyLength, bodyAt, recordAt, phaseCount, groupCount, siteHead, phasesHead, groupsHead, conflictsHead, detectorsHead, pedestriansHead, groupSet, groupMark, pedestrian, pedestriansBefore, movementCount, conflictSet, detectorCount, detectorPhase, sectionAt, timeAt, timesAt, siteSection, phasesSection, badGroup, ninthPedestrian, groupRecord, phaseWithoutGroup, groupsSection, badConflict, sharePhase, conflictInPhase, conflictsSection, badDetector, detectorsSection, pedestriansSection, afterPedestrians, endOf, verdictOf, detectorMode, knownMode}
 use Rattle.rules.specs.Laws.{InTable}
 use Rattle.rules.proofs.Tests.{and-left, and-right, or-false-left, or-false-right}
 use Rattle.rules.proofs.Rows.{any-false, any-found}
@@ -128,6 +128,7 @@ pub record DetectorsAccepted (b : List ℕ) : Type 0 where
   pub short : bodyLength b (detectorsHead b) ≤ 96
   pub count : detectorCount b ≤ 48
   pub phase : (d : ℕ) → d < detectorCount b → detectorPhase b d < phaseCount b
+  pub mode : (d : ℕ) → d < detectorCount b → knownMode (detectorMode b d) ≡ true
 
 pub record PedestriansAccepted (b : List ℕ) : Type 0 where
   pub next : endOf b ≤ length b
@@ -224,6 +225,9 @@ detectors-accepted b h =
       short = body .1;
       count = omega (arith, body .1);
       phase = λ d l. leb-false _ _ (or-false-left _ _ (refuse-passed _ _ _ (first-each _ _ d (or-later _ _ h) l)));
+      mode = λ d l.
+          not-false _
+          (or-false-right (leb (phaseCount b) (detectorPhase b d)) _ (refuse-passed _ _ _ (first-each _ _ d (or-later _ _ h) l)));
     }
 
 pub pedestrians-accepted : (b : List ℕ) → pedestriansSection b ≡ Accepted → PedestriansAccepted b

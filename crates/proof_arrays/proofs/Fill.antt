@@ -1,6 +1,6 @@
--- Arrays that are written by index: a list with f in front of its old entries has one more of f after a store at the seam, and a
--- list that has f at every index is the list of f.
-use Prim.Native.Nat.{ℕ, zero, suc, _+_, _≤_, _<_}
+-- Arrays that are written by index: a list with f in front of its old entries has one more of f after a store at the seam, or where the
+-- old entry is as f has it; and a list that has f at every index is the list of f.
+use Prim.Native.Nat.{ℕ, zero, suc, _+_, _-_, _≤_, _<_}
 use mathlib.Core.Bool.{true, false}
 use mathlib.Core.List.{List, [], _∷_, _++_, append-nil}
 use mathlib.Core.Logic.{⊎-elim}
@@ -11,7 +11,7 @@ use native.Mathlib.Nat.{le-of-eq, le-of-suc-le-suc, not-suc-le-zero}
 use borrow.Author.Tests.{eqb-true, eqb-false}
 use lib.Dec.{eqb}
 use lib.ListN.{length, getD, drop, set, length-append, length-drop, length-set, drop-of-length-le}
-use lib.Seq.{drop-cons, set-at, append-snoc, ext-getD, getD-set-same, getD-set-other}
+use lib.Seq.{drop-cons, set-at, append-snoc, ext-getD, getD-at, getD-set-same, getD-set-other}
 use Rattle.rules.specs.Rows.{listOf}
 use Rattle.rules.proofs.Tests.{decided}
 use Rattle.rules.proofs.Rows.{list-length, list-at}
@@ -64,6 +64,67 @@ module _ {ℓ} {A : Type ℓ} where
   fill-done {f} {old} {out} {k} {n} filled len a b =
       let last : k ≡ n = omega arith in
       rw (filled .told, last) (fill-all f old n len)
+
+  -- the entry at the seam is the old one
+  pub fill-seam :
+      {f : ℕ → A} {old out : List A} (d : A) (k : ℕ) → Filled f old out k → k < length old → getD out k d ≡ getD old k d
+  fill-seam {f} {old} {out} d k filled h =
+      rw (filled .told, drop-cons old k d h) (getD-at (listOf f k) (getD old k d) (drop (suc k) old) d k (list-length f k))
+
+  -- an entry that is as f has it counts as written
+  fill-one :
+      {f : ℕ → A} {old out : List A} (d : A) (k : ℕ) →
+      Filled f old out k →
+      k < length old →
+      getD old k d ≡ f k →
+      Filled f old out (suc k)
+  unfolding listOf
+  fill-one {f} {old} {out} d k filled h same =
+      record { told = filled .told ∙ rw (drop-cons old k d h, same) (sym (append-snoc (listOf f k) (f k) (drop (suc k) old))) }
+
+  fill-more :
+      {f : ℕ → A} {old out : List A} (d : A) (k m : ℕ) →
+      Filled f old out k →
+      k + m ≤ length old →
+      ((i : ℕ) → k ≤ i → i < k + m → getD old i d ≡ f i) →
+      Filled f old out (k + m)
+  fill-more d k zero filled h same = let last : k + 0 ≡ k = omega arith in rw last filled
+  fill-more d k (suc m) filled h same =
+      let next : k + suc m ≡ suc (k + m) = omega arith in
+      rw next
+      (fill-one d (k + m) (fill-more d k m filled (omega arith) (λ i a b. same i a (omega arith))) (omega arith)
+      (same (k + m) (omega arith) (omega arith)))
+
+  -- one entry more, where a store is made and where none is needed
+  pub fill-set :
+      {f : ℕ → A} {old out next : List A} {k : ℕ} {a : A} →
+      next ≡ set out k a →
+      Filled f old out k →
+      k < length old →
+      a ≡ f k →
+      Filled f old next (k + 1)
+  fill-set e filled h same = rw e (fill-step filled h same)
+
+  pub fill-skip :
+      {f : ℕ → A} {old out next : List A} {k : ℕ} (d : A) →
+      next ≡ out →
+      Filled f old out k →
+      k < length old →
+      getD old k d ≡ f k →
+      Filled f old next (k + 1)
+  fill-skip {k = k} d e filled h same = rw (e, add-one k) (fill-one d k filled h same)
+
+  -- the rest is as f has it
+  pub fill-kept :
+      {f : ℕ → A} {old out : List A} (d : A) (k n : ℕ) →
+      Filled f old out k →
+      length old ≡ n →
+      k ≤ n →
+      ((i : ℕ) → k ≤ i → i < n → getD old i d ≡ f i) →
+      out ≡ listOf f n
+  fill-kept d k n filled len h same =
+      let rest : k + (n - k) ≡ n = omega arith in
+      fill-done (rw rest at (fill-more d k (n - k) filled (omega arith) (λ i a b. same i a (omega arith)))) len (omega arith) (omega arith)
 
   -- ── By entries ──
 

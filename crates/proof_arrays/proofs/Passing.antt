@@ -1,10 +1,16 @@
 -- A test of every index, asked one index at a time: whether some index passes, and whether all do.
-use Prim.Native.Nat.{ℕ, _+_, _≤_, _<_}
-use mathlib.Core.Bool.{Bool, true, false, _&&_, _||_}
-use mathlib.Core.Path.{_≡_, refl}
+use Prim.Native.Nat.{ℕ, zero, suc, _+_, _≤_, _<_}
+use mathlib.Core.Bool.{Bool, true, false, _&&_, _||_, or-false}
+use mathlib.Core.Logic.{⊎-elim}
+use mathlib.Core.Path.{_≡_, refl, sym, _∙_}
+use native.Mathlib.Nat.{eq-or-lt-of-le}
 use native.Mathlib.Numerals.{add-one}
 use native.Mathlib.Omega.{arith}
+use borrow.Author.Tests.{eqb-true, eqb-false}
+use lib.Dec.{eqb}
 use Rattle.rules.specs.Rows.{anyOf, allOf}
+use Rattle.rules.proofs.Rows.{any-at}
+use Rattle.rules.proofs.Tests.{decided, or-right}
 
 -- ── Some index passes ──
 
@@ -15,6 +21,44 @@ none-passes f = refl
 pub one-more : (f : ℕ → Bool) (k : ℕ) {t u : Bool} → t ≡ anyOf f k → u ≡ f k → (t || u) ≡ anyOf f (k + 1)
 unfolding anyOf
 one-more f k e same = rw (e, same, add-one k)
+
+pub any-same : (f g : ℕ → Bool) (n : ℕ) → ((i : ℕ) → i < n → f i ≡ g i) → anyOf f n ≡ anyOf g n
+unfolding anyOf
+any-same f g zero h = refl
+any-same f g (suc n) h = rw (any-same f g n (λ i l. h i (omega arith)), h n (omega arith))
+
+-- a test that passes at t as well, where the other does not
+pub any-with :
+    (f g : ℕ → Bool) (n t : ℕ) (s : Bool) →
+    t < n →
+    f t ≡ false →
+    g t ≡ s →
+    ((i : ℕ) → (i ≡ t → ⊥) → g i ≡ f i) →
+    (anyOf f n || s) ≡ anyOf g n
+any-with f g n t s l out own same =
+    ⊎-elim
+    (λ (e : s ≡ true). or-right (anyOf f n) e ∙ sym (any-at g n t l (own ∙ e)))
+    (λ (e : s ≡ false).
+    rw e (or-false (anyOf f n))
+    ∙ any-same f g n
+    (λ i k.
+    ⊎-elim
+    (λ (i-is : eqb i t ≡ true). rw (eqb-true i t i-is) (out ∙ sym (own ∙ e)))
+    (λ (i-not : eqb i t ≡ false). sym (same i (eqb-false i t i-not)))
+    (decided (eqb i t))))
+    (decided s)
+
+-- indices from n on that fail add nothing
+pub any-past : (f : ℕ → Bool) (n m : ℕ) → n ≤ m → ((k : ℕ) → n ≤ k → k < m → f k ≡ false) → anyOf f n ≡ anyOf f m
+unfolding anyOf
+any-past f n zero h fails = let last : n ≡ 0 = omega arith in rw last
+any-past f n (suc m) h fails =
+    ⊎-elim
+    (λ (e : n ≡ suc m). rw e)
+    (λ (l : n < suc m).
+    any-past f n m (omega arith) (λ k a b. fails k a (omega arith))
+    ∙ rw (fails m (omega arith) (omega arith)) (sym (or-false (anyOf f m))))
+    (eq-or-lt-of-le h)
 
 -- ── All indices pass ──
 

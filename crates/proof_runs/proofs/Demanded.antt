@@ -7,7 +7,7 @@ use borrow.Author.Tests.{eqb-true}
 use Rattle.rules.specs.declared.site.Site.{Site}
 use Rattle.rules.specs.declared.state.State.{State}
 use Rattle.rules.specs.Site.{detectorOf, crosses}
-use Rattle.rules.specs.Demands.{occupied, detected, calls, demandsAfter, stands, demanded}
+use Rattle.rules.specs.Demands.{occupied, detectedAmong, detected, calls, demandsAfter, movementDemands, stands, demanded}
 use Rattle.rules.specs.Laws.{Sound}
 use Rattle.rules.proofs.Tests.{and-left, and-right, and-both, or-left, or-right}
 use Rattle.rules.proofs.Rows.{any-found, any-at}
@@ -16,7 +16,7 @@ use Rattle.proof_runs.proofs.Steps.{askedNow, lockedNow, asked-at, lock
 -- a phase of which a detector is occupied exists
 pub detected-below :
     (site : Site) → Sound site → (kind : ℕ → Bool) (inputs p : ℕ) → detected kind site inputs p ≡ true → p < site .size .phases
-unfolding detected
+unfolding detected detectedAmong
 detected-below site sound kind inputs p h =
     let found = any-found _ _ h in
     let d = found .0 in
@@ -35,7 +35,7 @@ module _ (site : Site) (s : State) (inputs : ℕ) where
       crosses (site .crossings) k p ≡ true →
       askedNow site s inputs k ≡ true →
       demanded site s inputs p ≡ true
-  unfolding demanded stands
+  unfolding demanded stands movementDemands
   button-demands k p room exists crossing h =
       or-left (calls site s inputs p)
       (or-right (getD (demandsAfter site s inputs .locks) p false)

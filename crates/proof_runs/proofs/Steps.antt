@@ -19,7 +19,7 @@ use Rattle.rules.specs.State.{idle, locked, asked, movement}
 use Rattle.rules.specs.Demands.{demandsAfter, nextDemanded, detected, extending, registersLock, registersButton}
 use Rattle.rules.specs.Movements.{advanced, movementsAfter}
 use Rattle.rules.specs.Counts.{countsAfter}
-use Rattle.rules.specs.Interval.{ends, positionAfter, countsChanged, clearsLock, starts}
+use Rattle.rules.specs.Interval.{ends, positionAfter, countsChanged, clearsLock, locksLeft, starts}
 use Rattle.rules.specs.Walks.{begins, walksBegun, buttonsLeft}
 use Rattle.rules.specs.Step.{stepped}
 use Rattle.rules.proofs.Rows.{list-at}
@@ -40,7 +40,7 @@ module _ (site : Site) (s : State) (inputs : ℕ) where
 
   -- the movements after part 2
   unfoldable pub moving : List Movement
-  moving = movementsAfter (site .times) s
+  moving = movementsAfter (site .times) (s .movements)
 
   -- the interval ends in this step
   unfoldable pub ended : Bool
@@ -59,7 +59,7 @@ module _ (site : Site) (s : State) (inputs : ℕ) where
   moved k = advanced (movement s k .stage) (walkTimes (site .times) k) (movement s k .age)
 
   unfoldable pub askedNow : ℕ → Bool
-  askedNow k = asked s k || registersButton s inputs k
+  askedNow k = asked s k || registersButton (s .movements) inputs k
 
   unfoldable pub lockedNow : ℕ → Bool
   lockedNow p = locked s p || registersLock site s inputs p
@@ -78,12 +78,12 @@ module _ (site : Site) (s : State) (inputs : ℕ) where
   counts-of = refl
 
   pub moved-at : (k : ℕ) → k < 8 → getD moving k idle ≡ moved k
-  unfolding moving movementsAfter moved
+  unfolding moving movementsAfter moved movement
   moved-at k h = list-at (λ (k : ℕ). advanced (movement s k .stage) (walkTimes (site .times) k) (movement s k .age)) 8 k idle h
 
   pub asked-at : (k : ℕ) → k < 8 → getD (demandsAfter site s inputs .buttons) k false ≡ askedNow k
   unfolding demandsAfter askedNow
-  asked-at k h = list-at (λ (k : ℕ). asked s k || registersButton s inputs k) 8 k false h
+  asked-at k h = list-at (λ (k : ℕ). asked s k || registersButton (s .movements) inputs k) 8 k false h
 
   pub locked-at : (p : ℕ) → p < 7 → getD (demandsAfter site s inputs .locks) p false ≡ lockedNow p
   unfolding demandsAfter lockedNow
@@ -98,7 +98,7 @@ module _ (site : Site) (s : State) (inputs : ℕ) where
   begun-at k h = rw (asked-at k h, moved-at k h)
 
   pub locked-of : (p : ℕ) → p < 7 → locked (stepped site s inputs) p ≡ (lockedNow p && not (clearsLock ended now p))
-  unfolding stepped another counted moving ended now locked
+  unfolding stepped another counted moving ended now locked locksLeft
   locked-of p h =
       list-at (λ (p : ℕ). getD (demandsAfter site s inputs .locks) p false && not (clearsLock ended now p)) 7 p false h
       ∙ ap (λ (t : Bool). t && not (clearsLock ended now p)) (locked-at p h)

@@ -13,7 +13,7 @@ use Rattle.rules.specs.declared.state.Position.{Position}
 use Rattle.rules.specs.declared.state.State.{State}
 use Rattle.rules.specs.Site.{phaseTimes, crosses}
 use Rattle.rules.specs.Intervals.{isIdle, isWalkOrFirst, isStartRed, isLeaving, phaseHeld}
-use Rattle.rules.specs.State.{highestAge, locked, asked, movement, targetValid, cameValid, ageValid, every, demandExists, movementValid, movementIn, valid}
+use Rattle.rules.specs.State.{highestAge, locked, asked, movement, targetValid, cameValid, ageValid, every, positionValid, countsValid, demandExists, movementIn, movementValid, movementsValid, valid}
 use Rattle.rules.proofs.Tests.{and-left, and-right, and-both, or-left, or-right}
 use Rattle.rules.proofs.Rows.{all-at, all-each}
 
@@ -89,7 +89,7 @@ unfolding every
 every-tail test tests h = and-right test (every tests) h
 
 pub movement-told :
-    (site : Site) (position : Position) (k : ℕ) (m : Movement) → movementValid (movementIn site (position .phase) k) (position .interval) m ≡ true → ValidMovement site position k m
+    (site : Site) (position : Position) (k : ℕ) (m : Movement) → movementValid (movementIn (site .size .movements) (site .crossings) (position .phase) k) (position .interval) m ≡ true → ValidMovement site position k m
 unfolding movementValid movementIn
 movement-told site position k m h =
     let h1 = every-tail _ _ h in
@@ -109,7 +109,7 @@ movement-told site position k m h =
     }
 
 pub movement-holds :
-    (site : Site) (position : Position) (k : ℕ) (m : Movement) → ValidMovement site position k m → movementValid (movementIn site (position .phase) k) (position .interval) m ≡ true
+    (site : Site) (position : Position) (k : ℕ) (m : Movement) → ValidMovement site position k m → movementValid (movementIn (site .size .movements) (site .crossings) (position .phase) k) (position .interval) m ≡ true
 unfolding movementValid movementIn every
 movement-holds site position k m v =
     and-both (age-holds (m .age) (v .age))
@@ -121,47 +121,53 @@ movement-holds site position k m v =
     (and-both (implies (isIdle (m .stage)) (eqb (m .age) 1) (λ q. eq-eqb (m .age) 1 (v .idleAge q))) refl))))
 
 pub state-told : (site : Site) (s : State) → valid site s ≡ true → ValidState site s
-unfolding valid demandExists locked asked
+unfolding valid positionValid countsValid movementsValid demandExists locked asked movement
 state-told site s h =
+    let times = phaseTimes (site .times) (s .position .phase) in
+    let gap = leb (s .counts .gap) (times .gap) in
+    let maximum = leb (s .counts .maximum) (times .maximum) in
+    let position = every-head _ _ h in
+    let p1 = every-tail _ _ position in
+    let p2 = every-tail _ _ p1 in
+    let p3 = every-tail _ _ p2 in
     let h1 = every-tail _ _ h in
     let h2 = every-tail _ _ h1 in
     let h3 = every-tail _ _ h2 in
     let h4 = every-tail _ _ h3 in
-    let h5 = every-tail _ _ h4 in
-    let h6 = every-tail _ _ h5 in
-    let h7 = every-tail _ _ h6 in
-    let h8 = every-tail _ _ h7 in
     record {
-      phase = ltb-true _ _ (every-head _ _ h);
-      target = every-head _ _ h1;
-      came = every-head _ _ h2;
-      age = age-told (s .position .age) (every-head _ _ h3);
-      gap = leb-true _ _ (every-head _ _ h4);
-      maximum = leb-true _ _ (every-head _ _ h5);
+      phase = ltb-true _ _ (every-head _ _ position);
+      target = every-head _ _ p1;
+      came = every-head _ _ p2;
+      age = age-told (s .position .age) (every-head _ _ p3);
+      gap = leb-true _ _ (and-left gap maximum (every-head _ _ h1));
+      maximum = leb-true _ _ (and-right gap maximum (every-head _ _ h1));
       locks = λ p l q.
           ltb-true p (site .size .phases)
           (implied (locked s p) (ltb p (site .size .phases))
-          (all-at (demandExists (s .demands .locks) (site .size .phases)) 7 p (every-head _ _ h6) l)
+          (all-at (demandExists (s .demands .locks) (site .size .phases)) 7 p (every-head _ _ h2) l)
           q);
       buttons = λ k l q.
           ltb-true k (site .size .movements)
           (implied (asked s k) (ltb k (site .size .movements))
-          (all-at (demandExists (s .demands .buttons) (site .size .movements)) 8 k (every-head _ _ h7) l)
+          (all-at (demandExists (s .demands .buttons) (site .size .movements)) 8 k (every-head _ _ h3) l)
           q);
       movements = λ k l.
           movement-told site (s .position) k (movement s k)
-          (all-at (λ (k : ℕ). movementValid (movementIn site (s .position .phase) k) (s .position .interval) (movement s k)) 8 k (every-head _ _ h8) l);
+          (all-at
+          (λ (k : ℕ).
+          movementValid (movementIn (site .size .movements) (site .crossings) (s .position .phase) k) (s .position .interval) (movement s k))
+          8 k (every-head _ _ h4) l);
     }
 
 pub state-holds : (site : Site) (s : State) → ValidState site s → valid site s ≡ true
-unfolding valid demandExists locked asked every
+unfolding valid positionValid countsValid movementsValid demandExists locked asked movement every
 state-holds site s v =
-    and-both (lt-ltb (s .position .phase) (site .size .phases) (v .phase))
-    (and-both (v .target)
-    (and-both (v .came)
-    (and-both (age-holds (s .position .age) (v .age))
+    and-both
+    (and-both (lt-ltb (s .position .phase) (site .size .phases) (v .phase))
+    (and-both (v .target) (and-both (v .came) (and-both (age-holds (s .position .age) (v .age)) refl))))
+    (and-both
     (and-both (le-leb (s .counts .gap) (phaseTimes (site .times) (s .position .phase) .gap) (v .gap))
-    (and-both (le-leb (s .counts .maximum) (phaseTimes (site .times) (s .position .phase) .maximum) (v .maximum))
+    (le-leb (s .counts .maximum) (phaseTimes (site .times) (s .position .phase) .maximum) (v .maximum)))
     (and-both
     (all-each (demandExists (s .demands .locks) (site .size .phases)) 7
     (λ p l. implies (locked s p) (ltb p (site .size .phases)) (λ q. lt-ltb p (site .size .phases) (v .locks p l q))))
@@ -169,9 +175,11 @@ state-holds site s v =
     (all-each (demandExists (s .demands .buttons) (site .size .movements)) 8
     (λ k l. implies (asked s k) (ltb k (site .size .movements)) (λ q. lt-ltb k (site .size .movements) (v .buttons k l q))))
     (and-both
-    (all-each (λ (k : ℕ). movementValid (movementIn site (s .position .phase) k) (s .position .interval) (movement s k)) 8
-    (λ k l. movement-holds site (s .position) k (movement s k) (v .movements k l)))
-    refl))))))))
+    (all-each
+    (λ (k : ℕ).
+    movementValid (movementIn (site .size .movements) (site .crossings) (s .position .phase) k) (s .position .interval) (movement s k))
+    8 (λ k l. movement-holds site (s .position) k (movement s k) (v .movements k l)))
+    refl))))
 
 -- ── The target ──
 

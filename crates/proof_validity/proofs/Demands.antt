@@ -31,7 +31,7 @@ module _ (site : Site) (sound : Sound site) where
   unfolding lockedNow registersLock
   locked-below s inputs p v l h =
       let seen = detected locking site inputs p in
-      let free = not (inGreen s p) in
+      let free = not (inGreen (s .position) p) in
       ⊎-elim
       (λ (e : locked s p ≡ true). v .locks p l e)
       (λ (e : (seen && free) ≡ true). detected-below site sound locking inputs p (and-left seen free e))
@@ -74,7 +74,7 @@ module _ (site : Site) (sound : Sound site) where
       k < 8 →
       askedNow site s inputs k ≡ true →
       k < site .size .movements
-  unfolding askedNow registersButton pressed
+  unfolding askedNow registersButton pressed movement
   asked-below s inputs k v stray l h =
       let press = bit (48 + k) inputs in
       let free = not (isWalk (movement s k .stage)) in

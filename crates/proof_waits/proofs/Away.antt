@@ -52,14 +52,14 @@ following-away q AllRed times next position e away none same =
 
 -- ── In a state ──
 
-pub away-told : (s : State) (q : ℕ) → inGreen s q ≡ false → AwayAt q (s .position)
+pub away-told : (s : State) (q : ℕ) → inGreen (s .position) q ≡ false → AwayAt q (s .position)
 unfolding inGreen
 away-told s q h e = rw (eq-eqb q (s .position .phase) (sym e)) at h
 
-pub away-green : (s : State) (q : ℕ) → AwayAt q (s .position) → inGreen s q ≡ false
+pub away-green : (s : State) (q : ℕ) → AwayAt q (s .position) → inGreen (s .position) q ≡ false
 unfolding inGreen
 away-green s q away =
-    not-true-false (inGreen s q)
+    not-true-false (inGreen (s .position) q)
     (λ h.
     never-both (and-right (eqb q (s .position .phase)) _ h)
     (away (sym (eqb-true q (s .position .phase) (and-left _ (isGreen (s .position .interval)) h)))))

@@ -158,16 +158,16 @@ module _
           (decided (begun site s (step .inputs) m))
 
       pub button-registers :
-          registersButton s (step .inputs) m ≡ true →
+          registersButton (s .movements) (step .inputs) m ≡ true →
           (walkBegins m step ≡ true) ⊎ Waits (ButtonStands m) (ButtonLeft site q m) s step
-      unfolding registersButton askedNow inWalk
+      unfolding registersButton askedNow inWalk movement
       button-registers r =
           button-step (or-right (asked s m) r)
           (not-true (isWalk (movement s m .stage)) (and-right (pressed (step .inputs) m) _ r))
 
       pub button-goes : ButtonStands m s → (walkBegins m step ≡ true) ⊎ Waits (ButtonStands m) (ButtonLeft site q m) s step
       unfolding askedNow
-      button-goes stands = button-step (or-left (registersButton s (step .inputs) m) (stands .asked)) (stands .still)
+      button-goes stands = button-step (or-left (registersButton (s .movements) (step .inputs) m) (stands .asked)) (stands .still)
 
     -- ── No more is left than the wait bound ──
 

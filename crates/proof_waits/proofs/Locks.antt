@@ -190,7 +190,7 @@ module _ (site : Site) (sound : Sound site) (q : ℕ) (below : q < site .size .p
     unfolding registersLock lockedNow
     lock-registers r =
         lock-step (or-right (locked s q) r)
-        (away-told s q (not-true (inGreen s q) (and-right (detected locking site (step .inputs) q) (not (inGreen s q)) r)))
+        (away-told s q (not-true (inGreen (s .position) q) (and-right (detected locking site (step .inputs) q) (not (inGreen (s .position) q)) r)))
 
     pub lock-goes : LockStands q s → (minimumGreenBegins q step ≡ true) ⊎ Waits (LockStands q) (LockLeft site q) s step
     unfolding lockedNow

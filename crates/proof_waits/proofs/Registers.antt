@@ -8,6 +8,7 @@ use lib.Dec.{eqb}
 use borrow.Author.Tests.{ne-eqb}
 use Rattle.rules.specs.declared.site.Site.{Site}
 use Rattle.rules.specs.declared.state.State.{State}
+use Rattle.rules.specs.State.{movement}
 use Rattle.rules.specs.Intervals.{isMinimumGreen, isRunning}
 use Rattle.rules.specs.Demands.{locking, detected, inGreen, registersLock, registersButton}
 use Rattle.rules.specs.Runs.{Taken, inMinimumGreen, inRunning, inWalk, registersLocked, registersPressed}
@@ -25,7 +26,7 @@ both-ways : (t a b : Bool) → (t && (a || b)) ≡ ((t && a) || (t && b))
 both-ways true a b = refl
 both-ways false a b = refl
 
-pub green-same : (s : State) (p : ℕ) → inGreen s p ≡ (inMinimumGreen s p || inRunning s p)
+pub green-same : (s : State) (p : ℕ) → inGreen (s .position) p ≡ (inMinimumGreen s p || inRunning s p)
 unfolding inGreen inMinimumGreen inRunning
 green-same s p =
     rw (turned p (s .position .phase), green-either (s .position .interval))
@@ -36,6 +37,6 @@ unfolding registersLocked registersLock
 lock-same site step p =
     ap (λ (t : Bool). detected locking site (step .inputs) p && not t) (sym (green-same (step .before) p))
 
-pub button-same : (step : Taken) (k : ℕ) → registersPressed step k ≡ registersButton (step .before) (step .inputs) k
-unfolding registersPressed registersButton inWalk
+pub button-same : (step : Taken) (k : ℕ) → registersPressed step k ≡ registersButton (step .before .movements) (step .inputs) k
+unfolding registersPressed registersButton inWalk movement
 button-same step k = refl

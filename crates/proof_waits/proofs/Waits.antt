@@ -30,7 +30,7 @@ module _ (site : Site) (s : State) (step : Taken) (later : List Taken) (run : Ru
   unfolding registersLock
   lock-met p r =
       let here = rw (run .0 .taken .before) at r in
-      let below = detected-below site sound locking (step .inputs) p (and-left (detected locking site (step .inputs) p) (not (inGreen s p)) here) in
+      let below = detected-below site sound locking (step .inputs) p (and-left (detected locking site (step .inputs) p) (not (inGreen (s .position) p)) here) in
       met-within site (minimumGreenBegins p) (LockStands p) (LockLeft site p)
       (lock-goes site sound p below)
       (lock-within site sound p below)
@@ -45,7 +45,7 @@ module _ (site : Site) (s : State) (step : Taken) (later : List Taken) (run : Ru
   button-met :
       (k : ℕ) →
       k < site .size .movements →
-      registersButton (step .before) (step .inputs) k ≡ true →
+      registersButton (step .before .movements) (step .inputs) k ≡ true →
       comesWithin (waitBound site) (walkBegins k) step later ≡ true
   button-met k l r =
       let here = rw (run .0 .taken .before) at r in

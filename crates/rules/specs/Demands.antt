@@ -4,16 +4,19 @@ use mathlib.Core.Bool.{Bool, false, not, _&&_, _||_}
 use mathlib.Core.List.{List, [], _∷_, _++_}
 use lib.Dec.{leb, eqb}
 use lib.ListN.{getD}
+use Rattle.rules.specs.declared.site.Detector.{Detector}
 use Rattle.rules.specs.declared.site.Site.{Site}
 use Rattle.rules.specs.declared.state.Demands.{Demands}
 use Rattle.rules.specs.declared.state.Held.{Held}
 use Rattle.rules.specs.declared.state.Held.the-variants.{Nothing, Phase}
+use Rattle.rules.specs.declared.state.Movement.{Movement}
+use Rattle.rules.specs.declared.state.Position.{Position}
 use Rattle.rules.specs.declared.state.State.{State}
 use Rattle.rules.specs.Rows.{if_then_else_, anyOf, listOf}
 use Rattle.rules.specs.Bytes.{bit}
 use Rattle.rules.specs.Site.{detectorOf, crosses, ring}
 use Rattle.rules.specs.Intervals.{isWalk, isGreen}
-use Rattle.rules.specs.State.{locked, asked, movement}
+use Rattle.rules.specs.State.{idle, locked, asked}
 
 -- ── Inputs: bits 0 to 47 are the detectors, 48 to 55 the buttons ──
 
@@ -34,43 +37,50 @@ locking mode = eqb (mode % 4) 2
 unfoldable pub extending : ℕ → Bool
 extending mode = leb 4 mode
 
--- a detector of the phase that has such a mode is occupied
+-- one of count detectors is occupied, is of the phase and has such a mode
+unfoldable pub detectedAmong : List Detector → ℕ → (ℕ → Bool) → ℕ → ℕ → Bool
+detectedAmong detectors count kind inputs p =
+    anyOf (λ d. occupied inputs d && eqb (detectorOf detectors d .phase) p && kind (detectorOf detectors d .mode)) count
+
 unfoldable pub detected : (ℕ → Bool) → Site → ℕ → ℕ → Bool
-detected kind site inputs p =
-    anyOf (λ d. occupied inputs d && eqb (detectorOf (site .detectors) d .phase) p && kind (detectorOf (site .detectors) d .mode)) (site .size .detectors)
+detected kind site inputs p = detectedAmong (site .detectors) (site .size .detectors) kind inputs p
 
 -- ── What the inputs demand ──
 
 -- the phase is in minimum green or running
-unfoldable pub inGreen : State → ℕ → Bool
-inGreen s p = eqb p (s .position .phase) && isGreen (s .position .interval)
+unfoldable pub inGreen : Position → ℕ → Bool
+inGreen position p = eqb p (position .phase) && isGreen (position .interval)
 
 -- an occupied locking detector locks its phase's demand, unless that phase is in minimum green or running
 unfoldable pub registersLock : Site → State → ℕ → ℕ → Bool
-registersLock site s inputs p = detected locking site inputs p && not (inGreen s p)
+registersLock site s inputs p = detected locking site inputs p && not (inGreen (s .position) p)
 
 -- a pressed button demands its movement unless that movement is in walk
-unfoldable pub registersButton : State → ℕ → ℕ → Bool
-registersButton s inputs k = pressed inputs k && not (isWalk (movement s k .stage))
+unfoldable pub registersButton : List Movement → ℕ → ℕ → Bool
+registersButton movements inputs k = pressed inputs k && not (isWalk (getD movements k idle .stage))
 
 -- a non-locking detector demands its phase in this step only, under the same exception
 unfoldable pub calls : Site → State → ℕ → ℕ → Bool
-calls site s inputs p = detected calling site inputs p && not (inGreen s p)
+calls site s inputs p = detected calling site inputs p && not (inGreen (s .position) p)
 
 -- the demands that stand after part 1
 unfoldable pub demandsAfter : Site → State → ℕ → Demands
 demandsAfter site s inputs =
     record {
       locks = listOf (λ p. locked s p || registersLock site s inputs p) 7;
-      buttons = listOf (λ k. asked s k || registersButton s inputs k) 8;
+      buttons = listOf (λ k. asked s k || registersButton (s .movements) inputs k) 8;
     }
 
 -- ── The phases demanded ──
 
+-- a demanded movement, one of count, demands its phase
+unfoldable pub movementDemands : List ℕ → ℕ → List Bool → ℕ → Bool
+movementDemands crossings count buttons p = anyOf (λ k. getD buttons k false && crosses crossings k p) count
+
 -- demanded by its lock or by a demanded movement
 unfoldable pub stands : Site → Demands → ℕ → Bool
 stands site demands p =
-    getD (demands .locks) p false || anyOf (λ k. getD (demands .buttons) k false && crosses (site .crossings) k p) (site .size .movements)
+    getD (demands .locks) p false || movementDemands (site .crossings) (site .size .movements) (demands .buttons) p
 
 unfoldable pub demanded : Site → State → ℕ → ℕ → Bool
 demanded site s inputs p = stands site (demandsAfter site s inputs) p || calls site s inputs p

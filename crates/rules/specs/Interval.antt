@@ -14,9 +14,9 @@ use Rattle.rules.specs.declared.state.Interval.the-variants.{StartRed, L
 use Rattle.rules.specs.declared.state.Movement.{Movement}
 use Rattle.rules.specs.declared.state.Position.{Position}
 use Rattle.rules.specs.declared.state.Stage.{Stage}
-use Rattle.rules.specs.Rows.{if_then_else_, anyOf}
+use Rattle.rules.specs.Rows.{if_then_else_, anyOf, listOf}
 use Rattle.rules.specs.Site.{phaseTimes}
-use Rattle.rules.specs.Intervals.{isWalkOrFirst, isSecond, isBeforeStart, isMinimumGreen, phaseHeld}
+use Rattle.rules.specs.Intervals.{isWalkOrFirst, isSecond, isMinimumGreen, isRunning, isLeaving, isBeforeStart, phaseHeld}
 use Rattle.rules.specs.State.{idle}
 use Rattle.rules.specs.Movements.{older}
 
@@ -81,23 +81,17 @@ positionAfter ended times next position =
 
 -- ── What a change does to the counts and the lock ──
 
--- both counts are 0 when all-red ends
+-- both counts are 0 when all-red ends: the interval that leaves a phase and comes before a start
 unfoldable pub countsLeaving : Interval → Counts → Counts
-countsLeaving StartRed counts = counts
-countsLeaving LateStart counts = counts
-countsLeaving MinimumGreen counts = counts
-countsLeaving Running counts = counts
-countsLeaving Yellow counts = counts
-countsLeaving AllRed counts = record { gap = 0; maximum = 0 }
+countsLeaving interval counts = if isLeaving interval && isBeforeStart interval then record { gap = 0; maximum = 0 } else counts
 
 -- entering minimum green sets the gap count to G; entering running sets the maximum count to 0
 unfoldable pub countsEntering : Interval → PhaseTimes → Counts → Counts
-countsEntering StartRed times counts = counts
-countsEntering LateStart times counts = counts
-countsEntering MinimumGreen times counts = record { gap = times .gap; maximum = counts .maximum }
-countsEntering Running times counts = record { gap = counts .gap; maximum = 0 }
-countsEntering Yellow times counts = counts
-countsEntering AllRed times counts = counts
+countsEntering interval times counts =
+    record {
+      gap = if isMinimumGreen interval then times .gap else counts .gap;
+      maximum = if isRunning interval then 0 else counts .maximum;
+    }
 
 unfoldable pub countsChanged : Bool → Times → Position → Position → Counts → Counts
 countsChanged ended times old new counts =
@@ -106,6 +100,9 @@ countsChanged ended times old new counts =
 -- entering minimum green clears the lock of the phase
 unfoldable pub clearsLock : Bool → Position → ℕ → Bool
 clearsLock ended new p = ended && isMinimumGreen (new .interval) && eqb p (new .phase)
+
+unfoldable pub locksLeft : Bool → Position → List Bool → List Bool
+locksLeft ended new locks = listOf (λ p. getD locks p false && not (clearsLock ended new p)) 7
 
 -- start red or all-red has ended: a phase starts
 unfoldable pub starts : Bool → Position → Bool

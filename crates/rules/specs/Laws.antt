@@ -17,7 +17,7 @@ use Rattle.rules.specs.declared.site.WalkTimes.{WalkTimes}
 use Rattle.rules.specs.declared.state.State.{State}
 use Rattle.rules.specs.Rows.{allOf}
 use Rattle.rules.specs.Limits.{limits, limitOf, startRedSetting, phaseSettings, walkSettings, settingCount}
-use Rattle.rules.specs.Personality.{verdictOf}
+use Rattle.rules.specs.Personality.{knownMode, verdictOf}
 use Rattle.rules.specs.Site.{siteOf, groupOf, detectorOf, phaseTimes, walkTimes, inPhase, crosses, isPedestrian, movementOf, conflict}
 use Rattle.rules.specs.State.{highestAge, fresh, valid}
 use Rattle.rules.specs.Step.{stepped}
@@ -64,6 +64,7 @@ pub record Sound (site : Site) : Type 0 where
   pub groupMark : (g : ℕ) → groupOf (site .groups) g .mark ≤ 2
   pub phaseGroup : (p : ℕ) → p < site .size .phases → (g : ℕ) × (g < site .size .groups) × (inPhase (site .groups) g p ≡ true)
   pub detectorPhase : (d : ℕ) → d < site .size .detectors → detectorOf (site .detectors) d .phase < site .size .phases
+  pub detectorMode : (d : ℕ) → d < site .size .detectors → knownMode (detectorOf (site .detectors) d .mode) ≡ true
   pub crossing : (k : ℕ) → k < site .size .movements → OnePhase site k
   pub noCrossing : (k p : ℕ) → site .size .movements ≤ k → crosses (site .crossings) k p ≡ false
   -- a pedestrian group has a movement, which is of the group's phase

@@ -3,15 +3,15 @@ use Prim.Native.Nat.{ℕ, _+_, min}
 use mathlib.Core.Bool.{Bool}
 use mathlib.Core.List.{List}
 use lib.Dec.{leb}
+use lib.ListN.{getD}
 use Rattle.rules.specs.declared.site.Times.{Times}
 use Rattle.rules.specs.declared.site.WalkTimes.{WalkTimes}
 use Rattle.rules.specs.declared.state.Movement.{Movement}
 use Rattle.rules.specs.declared.state.Stage.{Stage}
 use Rattle.rules.specs.declared.state.Stage.the-variants.{Idle, Walk, ClearanceOne, ClearanceTwo}
-use Rattle.rules.specs.declared.state.State.{State}
-use Rattle.rules.specs.Rows.{if_then_else_, anyOf, listOf}
+use Rattle.rules.specs.Rows.{if_then_else_, listOf}
 use Rattle.rules.specs.Site.{walkTimes}
-use Rattle.rules.specs.State.{highestAge, movement}
+use Rattle.rules.specs.State.{highestAge, idle}
 
 -- ages rise by one and stop at 2,000
 unfoldable pub older : ℕ → ℕ
@@ -28,5 +28,6 @@ advanced Walk times age = lasting (times .walk) Walk ClearanceOne age
 advanced ClearanceOne times age = lasting (times .first) ClearanceOne ClearanceTwo age
 advanced ClearanceTwo times age = lasting (times .second) ClearanceTwo Idle age
 
-unfoldable pub movementsAfter : Times → State → List Movement
-movementsAfter times s = listOf (λ k. advanced (movement s k .stage) (walkTimes times k) (movement s k .age)) 8
+unfoldable pub movementsAfter : Times → List Movement → List Movement
+movementsAfter times movements =
+    listOf (λ k. advanced (getD movements k idle .stage) (walkTimes times k) (getD movements k idle .age)) 8

@@ -4,12 +4,15 @@ use mathlib.Core.Bool.{Bool, true, false, not, _&&_, _||_}
 use mathlib.Core.List.{List, [], _∷_}
 use lib.Dec.{leb, ltb, eqb}
 use lib.ListN.{getD, replicate}
+use Rattle.rules.specs.declared.site.PhaseTimes.{PhaseTimes}
 use Rattle.rules.specs.declared.site.Site.{Site}
+use Rattle.rules.specs.declared.state.Counts.{Counts}
 use Rattle.rules.specs.declared.state.Held.{Held}
 use Rattle.rules.specs.declared.state.Held.the-variants.{Nothing, Phase}
 use Rattle.rules.specs.declared.state.Interval.{Interval}
 use Rattle.rules.specs.declared.state.Interval.the-variants.{StartRed}
 use Rattle.rules.specs.declared.state.Movement.{Movement}
+use Rattle.rules.specs.declared.state.Position.{Position}
 use Rattle.rules.specs.declared.state.Stage.the-variants.{Idle}
 use Rattle.rules.specs.declared.state.State.{State}
 use Rattle.rules.specs.Rows.{allOf}
@@ -45,6 +48,10 @@ movement s k = getD (s .movements) k idle
 
 -- ── The valid state ──
 
+unfoldable pub every : List Bool → Bool
+every [] = true
+every (test ∷ tests) = test && every tests
+
 -- a target unlike the phase, held in yellow and all-red only
 unfoldable pub targetValid : ℕ → ℕ → Bool → Held → Bool
 targetValid count phase leaving Nothing = not leaving
@@ -58,13 +65,27 @@ cameValid count (Phase q) = ltb q count
 unfoldable pub ageValid : ℕ → Bool
 ageValid age = leb 1 age && leb age highestAge
 
-unfoldable pub every : List Bool → Bool
-every [] = true
-every (test ∷ tests) = test && every tests
+-- the phase below P, the target, came-from and the age
+unfoldable pub positionValid : ℕ → Position → Bool
+positionValid phases position =
+    every
+    (ltb (position .phase) phases
+    ∷ targetValid phases (position .phase) (isLeaving (position .interval)) (position .target)
+    ∷ cameValid phases (position .came)
+    ∷ ageValid (position .age)
+    ∷ [])
+
+-- gap count at most G and maximum count at most X of the phase
+unfoldable pub countsValid : PhaseTimes → Counts → Bool
+countsValid times counts = leb (counts .gap) (times .gap) && leb (counts .maximum) (times .maximum)
 
 -- demand i is of a phase or movement that exists, there being count of them
 unfoldable pub demandExists : List Bool → ℕ → ℕ → Bool
 demandExists demands count i = not (getD demands i false) || ltb i count
+
+-- movement k is one of phase p, and one of the count that the site has
+unfoldable pub movementIn : ℕ → List ℕ → ℕ → ℕ → Bool
+movementIn count crossings p k = ltb k count && crosses crossings k p
 
 -- One movement record, by whether it is a movement of the phase: any other, or one that the site doesn't have, idle; none in walk or
 -- C1 in yellow and all-red; idle in start red; idle ones at age 1.
@@ -78,20 +99,16 @@ movementValid ofPhase interval m =
     ∷ (not (isIdle (m .stage)) || eqb (m .age) 1)
     ∷ [])
 
--- the site has movement k, and it is one of phase p
-unfoldable pub movementIn : Site → ℕ → ℕ → Bool
-movementIn site p k = ltb k (site .size .movements) && crosses (site .crossings) k p
+unfoldable pub movementsValid : ℕ → List ℕ → Position → List Movement → Bool
+movementsValid count crossings position movements =
+    allOf (λ k. movementValid (movementIn count crossings (position .phase) k) (position .interval) (getD movements k idle)) 8
 
 unfoldable pub valid : Site → State → Bool
 valid site s =
     every
-    (ltb (s .position .phase) (site .size .phases)
-    ∷ targetValid (site .size .phases) (s .position .phase) (isLeaving (s .position .interval)) (s .position .target)
-    ∷ cameValid (site .size .phases) (s .position .came)
-    ∷ ageValid (s .position .age)
-    ∷ leb (s .counts .gap) (phaseTimes (site .times) (s .position .phase) .gap)
-    ∷ leb (s .counts .maximum) (phaseTimes (site .times) (s .position .phase) .maximum)
+    (positionValid (site .size .phases) (s .position)
+    ∷ countsValid (phaseTimes (site .times) (s .position .phase)) (s .counts)
     ∷ allOf (demandExists (s .demands .locks) (site .size .phases)) 7
     ∷ allOf (demandExists (s .demands .buttons) (site .size .movements)) 8
-    ∷ allOf (λ k. movementValid (movementIn site (s .position .phase) k) (s .position .interval) (movement s k)) 8
+    ∷ movementsValid (site .size .movements) (site .crossings) (s .position) (s .movements)
     ∷ [])

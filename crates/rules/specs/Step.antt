@@ -1,17 +1,13 @@
 -- One step: the five parts, in order.
 use Prim.Native.Nat.{ℕ}
-use mathlib.Core.Bool.{Bool, false, not, _&&_}
-use mathlib.Core.List.{List}
-use lib.ListN.{getD}
 use Rattle.rules.specs.declared.site.Site.{Site}
 use Rattle.rules.specs.declared.state.State.{State}
-use Rattle.rules.specs.Rows.{listOf}
 use Rattle.rules.specs.Site.{phaseTimes}
 use Rattle.rules.specs.Intervals.{isHeld}
 use Rattle.rules.specs.Demands.{demandsAfter, nextDemanded, detected, extending}
 use Rattle.rules.specs.Movements.{movementsAfter}
 use Rattle.rules.specs.Counts.{countsAfter}
-use Rattle.rules.specs.Interval.{ends, positionAfter, countsChanged, clearsLock, starts}
+use Rattle.rules.specs.Interval.{ends, positionAfter, countsChanged, locksLeft, starts}
 use Rattle.rules.specs.Walks.{begins, walksBegun, buttonsLeft}
 
 unfoldable pub stepped : Site → State → ℕ → State
@@ -23,7 +19,7 @@ stepped site s inputs =
     let next = nextDemanded site s inputs in
     let another = isHeld next in
     -- 2. movements
-    let movements = movementsAfter (site .times) s in
+    let movements = movementsAfter (site .times) (s .movements) in
     -- 3. counts
     let extended = detected extending site inputs (old .phase) in
     let counts = countsAfter (old .interval) times extended another (s .counts) in
@@ -35,10 +31,6 @@ stepped site s inputs =
     record {
       position = now;
       counts = countsChanged ended (site .times) old now counts;
-      demands =
-          record {
-            locks = listOf (λ p. getD (demands .locks) p false && not (clearsLock ended now p)) 7;
-            buttons = buttonsLeft begun (demands .buttons);
-          };
+      demands = record { locks = locksLeft ended now (demands .locks); buttons = buttonsLeft begun (demands .buttons) };
       movements = walksBegun begun movements;
     }

@@ -10,11 +10,12 @@ use borrow.Author.Tests.{le-ltb, lt-leb, ltb-false, leb-false, eq-eqb, ne-eqb, n
 use Rattle.rules.specs.declared.site.Site.{Site}
 use Rattle.rules.specs.Bytes.{bit}
 use Rattle.rules.specs.Call.{wired, strayInput}
+use Rattle.rules.specs.Laws.{Sound}
 use Rattle.rules.proofs.Counts.{below-or-past}
 use Rattle.rules.proofs.Rows.{any-found, any-false}
 use Rattle.rules.proofs.Tests.{and-left, and-right, and-false-cases, and-false-left, and-false-right, or-left, or-right, or-false-left, or-false-right, or-false-both, decided, never-both}
-use Rattle.step_checks.specs.Parts.{Wired}
-use Rattle.step_checks.proofs.Fields.{bit-of-rest, no-bits-from, bit-from}
+use Rattle.base_reads.proofs.Shifts.{bit-lower}
+use Rattle.step_checks.proofs.Fields.{no-bits-from, bit-from}
 
 module _ (site : Site) where
   -- ── Bits without a detector or button ──
@@ -44,7 +45,7 @@ module _ (site : Site) where
       (and-false-cases (leb 48 i) (ltb i (48 + site .size .movements))
       (or-false-right (ltb i (site .size .detectors)) (leb 48 i && ltb i (48 + site .size .movements)) e))
 
-module _ (site : Site) (sizes : Wired site) (x : ℕ) (h : x < 2 ^ 64) where
+module _ (site : Site) (sound : Sound site) (x : ℕ) (h : x < 2 ^ 64) where
   -- ── No bit is stray ──
 
   clear : strayInput site x ≡ false → (i : ℕ) → i < 64 → wired site i ≡ false → bit i x ≡ false
@@ -58,13 +59,13 @@ module _ (site : Site) (sizes : Wired site) (x : ℕ) (h : x < 2 ^ 64) where
   detectors-clear : strayInput site x ≡ false → x % 2 ^ 48 / 2 ^ (site .size .detectors) ≡ 0
   detectors-clear none =
       no-bits-from (site .size .detectors) 48 (x % 2 ^ 48) (omega arith)
-      (λ i d l. bit-of-rest 48 i x l ∙ clear none i (omega arith) (unwired-low site i d l))
+      (λ i d l. bit-lower 48 i x l ∙ clear none i (omega arith) (unwired-low site i d l))
 
   buttons-clear : strayInput site x ≡ false → x / 2 ^ 48 / 2 ^ (site .size .movements) ≡ 0
   buttons-clear none =
       shr-shr x 48 (site .size .movements)
       ∙ no-bits-from (48 + site .size .movements) 64 x h
-      (λ i d l. clear none i l (unwired-high site i (omega (arith, sizes .detectors)) d))
+      (λ i d l. clear none i l (unwired-high site i (omega (arith, sound .detectors)) d))
 
   -- ── A bit is stray ──
 
@@ -80,7 +81,7 @@ module _ (site : Site) (sizes : Wired site) (x : ℕ) (h : x < 2 ^ 64) where
 
   detector-stray : (i : ℕ) → bit i x ≡ true → wired site i ≡ false → i < 48 → x % 2 ^ 48 / 2 ^ (site .size .detectors) ≡ 0 → ⊥
   detector-stray i set u l =
-      bit-from (site .size .detectors) i (x % 2 ^ 48) (past-detectors site i u) (bit-of-rest 48 i x l ∙ set)
+      bit-from (site .size .detectors) i (x % 2 ^ 48) (past-detectors site i u) (bit-lower 48 i x l ∙ set)
 
   button-stray : (i : ℕ) → bit i x ≡ true → wired site i ≡ false → 48 ≤ i → x / 2 ^ 48 / 2 ^ (site .size .movements) ≡ 0 → ⊥
   button-stray i set u l empty =

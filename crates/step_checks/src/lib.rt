@@ -1,17 +1,15 @@
 // The checks of a step call on its state and on its input bits.
-ghost use Prim.Native.Nat.{_<_};
-ghost use mathlib.Core.Bool.{_&&_};
 ghost use mathlib.Core.Path.{_≡_};
 ghost use lib.ListN.{length};
-ghost use Rattle.rules.specs.Bytes.{bit};
 ghost use Rattle.rules.specs.Call.{strayInput};
+ghost use Rattle.rules.specs.Laws.{Sound};
 ghost use Rattle.rules.specs.Rows.{allOf};
-ghost use Rattle.rules.specs.State.{demandExists, ageValid, cameValid, targetValid, valid};
-ghost use Rattle.step_checks.specs.Parts.{positionValid, countsValid, recordValid, recordAt, Phased, Wired};
+ghost use Rattle.rules.specs.State.{targetValid, cameValid, ageValid, positionValid, countsValid, demandExists, movementValid, movementsValid, valid};
 use rules::site::PhaseTimes;
 use rules::site::Site;
 use rules::state::Counts;
 use rules::state::Held;
+use rules::state::Interval;
 use rules::state::Movement;
 use rules::state::Position;
 use rules::state::State;
@@ -48,20 +46,17 @@ fn target_valid(phases: u8, phase: u8, leaving: bool, target: Held) -> bool
     }
 }
 
-// Target, came-from and age.
+// The phase below P, the target, came-from and the age.
 fn position_valid(phases: u8, position: Position) -> bool
     ensures { λ r. ⌜ r ≡ positionValid phases position ⌝ }
 {
+    let phase = position.phase;
     let interval = position.interval;
     let target = position.target;
     let came = position.came;
     let age = position.age;
-    target_valid(
-        phases,
-        position.phase,
-        base_intervals::leaving(interval),
-        target,
-    )
+    (phase < phases)
+        & target_valid(phases, phase, base_intervals::leaving(interval), target)
         & came_valid(phases, came)
         & age_valid(age)
 }
@@ -87,18 +82,10 @@ fn demands_valid(demands: &[bool], count: u8) -> bool
     last <= count as usize
 }
 
-// One movement record: an idle one is at age 1. Any other has a valid age, is of the phase, is not in walk or C1 in yellow and all-red,
-// and is not in start red. A movement that doesn't exist is of no phase.
-fn record_valid(
-    exists: bool,
-    set: u8,
-    phase: u8,
-    leaving: bool,
-    start_red: bool,
-    movement: Movement,
-) -> bool
-    requires { ⌜ phase < 8 ⌝ }
-    ensures { λ r. ⌜ r ≡ recordValid (exists && bit phase set) leaving «start_red» movement ⌝ }
+// One movement record, by whether it is a movement of the phase: an idle one is at age 1. Any other has a valid age, is of the phase, is
+// not in walk or C1 in yellow and all-red, and is not in start red.
+fn movement_valid(of_phase: bool, interval: Interval, movement: Movement) -> bool
+    ensures { λ r. ⌜ r ≡ movementValid «of_phase» interval movement ⌝ }
 {
     let stage = movement.stage;
     let age = movement.age;
@@ -106,29 +93,27 @@ fn record_valid(
         return age == 1;
     }
     age_valid(age)
-        & (exists & ((set >> phase) % 2 == 1))
-        & !(leaving & base_intervals::walk_or_first(stage))
-        & !start_red
+        & of_phase
+        & !(base_intervals::leaving(interval) & base_intervals::walk_or_first(stage))
+        & !base_intervals::start_red(interval)
 }
 
-// All movement records, up to the first that is not valid.
+// All movement records, up to the first that is not valid. A movement past the count is one that the site doesn't have, and of no phase.
 fn movements_valid(
     count: u8,
     crossings: [u8; 8],
-    phase: u8,
-    leaving: bool,
-    start_red: bool,
+    position: Position,
     movements: [Movement; 8],
 ) -> bool
-    requires { ⌜ phase < 8 ⌝ }
-    ensures { λ r. ⌜ r ≡ allOf (recordAt count crossings phase leaving «start_red» movements) 8 ⌝ }
+    ensures { λ r. ⌜ r ≡ movementsValid count crossings position movements ⌝ }
 {
+    let interval = position.interval;
     let mut k: u8 = 0;
     while k < 8 {
         let i = k as usize;
-        let set = crossings[i];
         let own = movements[i];
-        if !record_valid(k < count, set, phase, leaving, start_red, own) {
+        let of_phase = (k < count) & base_reads::bit8(position.phase, crossings[i]);
+        if !movement_valid(of_phase, interval, own) {
             return false;
         }
         k += 1;
@@ -138,38 +123,30 @@ fn movements_valid(
 
 // Whether the state is valid for the site.
 pub fn valid_state(site: Site, state: State) -> bool
-    requires { ⌜ Phased site ⌝ }
     ensures { λ r. ⌜ r ≡ valid site state ⌝ }
 {
     let phases = site.size.phases;
     let count = site.size.movements;
     let position = state.position;
-    let phase = position.phase;
-    if phase >= phases {
-        return false;
-    }
+    let times = site.times;
+    let settings = times.phases;
+    let own = step_counts::times_of(settings, position.phase);
     let counts = state.counts;
     let demands = state.demands;
     let locks = demands.locks;
     let buttons = demands.buttons;
-    let times = site.times;
-    let rows = times.phases;
-    let own = rows[phase as usize];
     let crossings = site.crossings;
     let movements = state.movements;
-    let interval = position.interval;
-    let leaving = base_intervals::leaving(interval);
-    let start_red = base_intervals::start_red(interval);
     position_valid(phases, position)
         & counts_valid(own, counts)
         & demands_valid(&locks, phases)
         & demands_valid(&buttons, count)
-        & movements_valid(count, crossings, phase, leaving, start_red, movements)
+        & movements_valid(count, crossings, position, movements)
 }
 
 // Whether an input bit is set without a detector or button there.
 pub fn stray(site: Site, inputs: u64) -> bool
-    requires { ⌜ Wired site ⌝ }
+    requires { ⌜ Sound site ⌝ }
     ensures { λ r. ⌜ r ≡ strayInput site inputs ⌝ }
 {
     let detectors = site.size.detectors;

@@ -1,4 +1,3 @@
 pub mod Choices
-pub mod Parts
 pub mod Shown
 pub mod Sizes

@@ -13,34 +13,35 @@ use Rattle.rules.specs.declared.state.Movement.{Movement}
 use Rattle.rules.specs.declared.state.Position.{Position}
 use Rattle.rules.specs.declared.state.Stage.the-variants.{Idle}
 use Rattle.rules.specs.Rows.{countOf, listOf}
+use Rattle.rules.specs.Site.{groupOf, isPedestrian, movementOf}
 use Rattle.rules.specs.State.{idle}
-use Rattle.rules.specs.Colours.{movementColour}
+use Rattle.rules.specs.Colours.{movementColour, vehicleShown, colourOf}
 use Rattle.rules.proofs.Counts.{count-passed, count-failed}
-use Rattle.proof_arrays.proofs.Fill.{Filled, fill-none, fill-length, fill-step}
-use Rattle.step_colours.specs.Parts.{groupAt, pedestrianAt, movementAt, vehicleShown, shownAt}
+use Rattle.proof_arrays.proofs.Fill.{Filled, fill-none, fill-length, fill-set}
+use Rattle.step_colours.specs.Pass.{PassedTo}
 
 -- ── What a group shows, by its mark ──
 
 module _ (groups : List Group) (g : ℕ) where
-  pub pedestrian-mark : groupAt groups g .mark ≡ 2 → pedestrianAt groups g ≡ true
-  unfolding pedestrianAt
-  pedestrian-mark m = eq-eqb (groupAt groups g .mark) 2 m
+  pub pedestrian-mark : groupOf groups g .mark ≡ 2 → isPedestrian groups g ≡ true
+  unfolding isPedestrian
+  pedestrian-mark m = eq-eqb (groupOf groups g .mark) 2 m
 
-  vehicle-mark : (groupAt groups g .mark ≡ 2 → ⊥) → pedestrianAt groups g ≡ false
-  unfolding pedestrianAt
-  vehicle-mark m = ne-eqb (groupAt groups g .mark) 2 m
+  vehicle-mark : (groupOf groups g .mark ≡ 2 → ⊥) → isPedestrian groups g ≡ false
+  unfolding isPedestrian
+  vehicle-mark m = ne-eqb (groupOf groups g .mark) 2 m
 
 module _ (groups : List Group) (position : Position) (movements : List Movement) (g : ℕ) where
   pedestrian-shows :
-      groupAt groups g .mark ≡ 2 →
-      shownAt groups position movements g ≡ movementColour (getD movements (movementAt groups g) idle .stage)
-  unfolding shownAt
+      groupOf groups g .mark ≡ 2 →
+      colourOf groups position movements g ≡ movementColour (getD movements (movementOf groups g) idle .stage)
+  unfolding colourOf
   pedestrian-shows m = rw (pedestrian-mark groups g m)
 
   vehicle-shows :
-      (groupAt groups g .mark ≡ 2 → ⊥) →
-      shownAt groups position movements g ≡ vehicleShown position (groupAt groups g)
-  unfolding shownAt
+      (groupOf groups g .mark ≡ 2 → ⊥) →
+      colourOf groups position movements g ≡ vehicleShown position (groupOf groups g)
+  unfolding colourOf
   vehicle-shows m = rw (vehicle-mark groups g m)
 
 -- the stage that the code reads of a movement record: past the array it is idle, whatever the age there
@@ -53,25 +54,12 @@ stage-read movements k =
 
 -- ── The groups passed ──
 
--- the g groups passed have their colours, every other byte is the old one, and the next pedestrian group has the movement k
-pub record Passed
-    (groups : List Group)
-    (count : ℕ)
-    (position : Position)
-    (movements : List Movement)
-    (old buffer : List ℕ)
-    (k g : ℕ)
-    : Type 0 where
-  pub within : g ≤ count
-  pub next : k ≡ movementAt groups g
-  pub shown : Filled (shownAt groups position movements) old buffer g
-
 pub none-passed :
     (groups : List Group) (count : ℕ) (position : Position) (movements : List Movement) (old : List ℕ) →
-    Passed groups count position movements old old 0 0
-unfolding movementAt countOf
+    PassedTo groups count position movements old old 0 0
+unfolding movementOf countOf
 none-passed groups count position movements old =
-    record { within = omega arith; next = refl; shown = fill-none (shownAt groups position movements) old }
+    record { within = omega arith; next = refl; shown = fill-none (colourOf groups position movements) old .told }
 
 module _
     {groups : List Group}
@@ -80,13 +68,16 @@ module _
     {movements : List Movement}
     {old buffer : List ℕ}
     {k g : ℕ}
-    (p : Passed groups count position movements old buffer k g)
+    (p : PassedTo groups count position movements old buffer k g)
   where
-    pub all-passed : count ≤ g → buffer ≡ listOf (shownAt groups position movements) count ++ drop count old
-    all-passed l = let e : g ≡ count = omega arith in rw e at (p .shown .told)
+    filled : Filled (colourOf groups position movements) old buffer g
+    filled = record { told = p .shown }
+
+    pub all-passed : count ≤ g → buffer ≡ listOf (colourOf groups position movements) count ++ drop count old
+    all-passed l = let e : g ≡ count = omega arith in rw e at (p .shown)
 
     pub passed-length : count ≤ length old → length buffer ≡ length old
-    passed-length room = fill-length (p .shown) (omega arith)
+    passed-length room = fill-length filled (omega arith)
 
     module _
         (room : count ≤ length old)
@@ -96,36 +87,36 @@ module _
         (stored : after ≡ set buffer g colour)
       where
         one-passed :
-            colour ≡ shownAt groups position movements g →
-            next ≡ movementAt groups (suc g) →
-            Passed groups count position movements old after next (g + 1)
+            colour ≡ colourOf groups position movements g →
+            next ≡ movementOf groups (suc g) →
+            PassedTo groups count position movements old after next (g + 1)
         one-passed e n =
             record {
               within = omega arith;
               next = rw add-one n;
-              shown = rw stored (fill-step (p .shown) (omega arith) e);
+              shown = fill-set stored filled (omega arith) e .told;
             }
 
         pub pedestrian-passed :
-            groupAt groups g .mark ≡ 2 →
+            groupOf groups g .mark ≡ 2 →
             colour ≡ movementColour (getD movements k idle .stage) →
             next ≡ k + 1 →
-            Passed groups count position movements old after next (g + 1)
-        unfolding movementAt
+            PassedTo groups count position movements old after next (g + 1)
+        unfolding movementOf
         pedestrian-passed m e n =
             one-passed
             (e
             ∙ ap (λ (j : ℕ). movementColour (getD movements j idle .stage)) (p .next)
             ∙ sym (pedestrian-shows groups position movements g m))
-            (omega (arith, count-passed (pedestrianAt groups) g (pedestrian-mark groups g m)))
+            (omega (arith, count-passed (isPedestrian groups) g (pedestrian-mark groups g m)))
 
         pub vehicle-passed :
-            (groupAt groups g .mark ≡ 2 → ⊥) →
-            colour ≡ vehicleShown position (groupAt groups g) →
+            (groupOf groups g .mark ≡ 2 → ⊥) →
+            colour ≡ vehicleShown position (groupOf groups g) →
             next ≡ k →
-            Passed groups count position movements old after next (g + 1)
-        unfolding movementAt
+            PassedTo groups count position movements old after next (g + 1)
+        unfolding movementOf
         vehicle-passed m e n =
             one-passed
             (e ∙ sym (vehicle-shows groups position movements g m))
-            (omega (arith, count-failed (pedestrianAt groups) g (vehicle-mark groups g m)))
+            (omega (arith, count-failed (isPedestrian groups) g (vehicle-mark groups g m)))

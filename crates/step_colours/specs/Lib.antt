@@ -1,2 +1,2 @@
-pub mod Parts
-pub mod Sized
+pub mod Showable
+pub mod Pass

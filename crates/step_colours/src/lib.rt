@@ -1,12 +1,13 @@
 // The colours that the signal groups show in a state, one byte a group.
+ghost use Prim.Native.Nat.{_≤_};
 ghost use mathlib.Core.List.{_++_};
 ghost use mathlib.Core.Path.{_≡_};
 ghost use lib.ListN.{length, drop};
 ghost use Rattle.rules.specs.Intervals.{heldIn};
 ghost use Rattle.rules.specs.Rows.{listOf};
-ghost use Rattle.rules.specs.Colours.{vehicleColour, movementColour, coloursOf};
-ghost use Rattle.step_colours.specs.Parts.{vehicleShown, shownAt, Within};
-ghost use Rattle.step_colours.specs.Sized.{Sized};
+ghost use Rattle.rules.specs.Colours.{vehicleColour, movementColour, vehicleShown, colourOf, coloursOf};
+ghost use Rattle.rules.specs.Laws.{Sound};
+ghost use Rattle.step_colours.specs.Showable.{Showable};
 use rules::site::Group;
 use rules::site::Site;
 use rules::state::Held;
@@ -109,8 +110,8 @@ fn show(
     movements: [Movement; 8],
     buffer: &mut [u8],
 )
-    requires { ⌜ Within groups count (length (now buffer)) ⌝ }
-    ensures { λ _. ⌜ now (buffer .exit) ≡ listOf (shownAt groups position movements) count ++ drop count (now (buffer .entry)) ⌝ }
+    requires { ⌜ Showable groups count (length (now buffer)) ⌝ }
+    ensures { λ _. ⌜ now (buffer .exit) ≡ listOf (colourOf groups position movements) count ++ drop count (now (buffer .entry)) ⌝ }
 {
     let mut movement: usize = 0;
     let mut g: usize = 0;
@@ -130,7 +131,7 @@ fn show(
 
 // Writes the colours of all groups from the buffer's start on; the bytes past them stay as they are.
 pub fn write(site: Site, state: State, buffer: &mut [u8])
-    requires { ⌜ Sized site (length (now buffer)) ⌝ }
+    requires { ⌜ Sound site × (site .size .groups ≤ length (now buffer)) ⌝ }
     ensures { λ _. ⌜ now (buffer .exit) ≡ coloursOf site state ++ drop (site .size .groups) (now (buffer .entry)) ⌝ }
 {
     let groups = site.groups;

@@ -1,9 +1,7 @@
-pub mod Marks
 pub mod Letters
 pub mod Crossed
 pub mod Bits
-pub mod Places
+pub mod Table
 pub mod Modes
 pub mod Presses
 pub mod PartOne
-pub mod Sizes

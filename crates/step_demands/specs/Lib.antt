@@ -1,4 +1,3 @@
-pub mod Seen
+pub mod Sensed
 pub mod Asked
-pub mod Sized
 pub mod Letters

@@ -1,14 +1,10 @@
 // One pass over the occupied detectors.
-ghost use mathlib.Core.Bool.{false, _&&_};
 ghost use mathlib.Core.Path.{_≡_};
-ghost use Prim.Native.Nat.{ℕ, _+_, _*_, _≤_, _<_};
-ghost use lib.Dec.{ltb};
-ghost use lib.ListN.{getD};
+ghost use Prim.Native.Nat.{ℕ, _+_, _*_, _<_};
+ghost use lib.Dec.{eqb};
 ghost use Rattle.rules.specs.Bytes.{bit};
-ghost use Rattle.rules.specs.Rows.{anyOf};
-ghost use Rattle.rules.specs.Site.{noDetector};
-ghost use Rattle.rules.specs.Demands.{occupied};
-ghost use Rattle.step_demands.specs.Seen.{placed, SensedIn};
+ghost use Rattle.rules.specs.Demands.{detectedAmong};
+ghost use Rattle.step_demands.specs.Sensed.{Tabled, SensedBy};
 use rules::site::Detector;
 
 // What the occupied detectors ask for, as sets of phases: a demand with lock, a demand in this step only; and whether one of them
@@ -19,45 +15,24 @@ pub struct Sensed {
     pub extended: bool,
 }
 
-// The place of a detector with a phase or a mode from 8 on, which no accepted personality has. Such a phase has no place, and such a
-// mode stands with the one of 4 to 7 that asks the same.
-fn past(detector: Detector) -> u64
-    requires { ⌜ (ltb (detector .phase) 8 && ltb (detector .mode) 8) ≡ false ⌝ }
-    ensures { λ r. ⌜ ((q : ℕ) → bit q r ≡ placed detector q) ⌝ }
-{
-    let phase = detector.phase;
-    let mode = detector.mode;
-    if phase < 8 {
-        return 1u64 << (8 * (mode % 4 + 4) + phase);
-    }
-    0
-}
-
-// The places of the occupied detectors among the first count: eight places for each mode, one of them for each phase. Each turn takes
-// the lowest input that is left. What `past` gives is gathered apart, which keeps the turn of any other detector short.
-fn places(detectors: [Detector; 48], count: u8, inputs: u64) -> u64
-    requires { ⌜ count ≤ 48 ⌝ }
-    ensures { λ r. ⌜ ((q : ℕ) → bit q r ≡ anyOf (λ d. occupied inputs d && placed (getD detectors d noDetector) q) count) ⌝ }
+// The occupied detectors among the first count as a table of modes by phases: bit 8 * m + p where one of phase p has mode m. Each turn
+// takes the lowest input that is left.
+fn table(detectors: [Detector; 48], count: u8, inputs: u64) -> u64
+    requires { ⌜ Tabled detectors count ⌝ }
+    ensures { λ r. ⌜ ((m p : ℕ) → p < 8 → bit (8 * m + p) r ≡ detectedAmong detectors count (λ mode. eqb mode m) inputs p) ⌝ }
 {
     let mut rest = inputs % (1u64 << count);
     let mut set: u64 = 0;
-    let mut more: u64 = 0;
     while rest != 0 {
         let d = u64::trailing_zeros(rest) as usize;
         let detector = detectors[d];
-        let phase = detector.phase;
-        let mode = detector.mode;
-        if (phase < 8) & (mode < 8) {
-            set = set | (1u64 << (8 * mode + phase));
-        } else {
-            more = more | past(detector);
-        }
+        set = set | (1u64 << (8 * detector.mode + detector.phase));
         rest = rest & (rest - 1);
     }
-    set | more
+    set
 }
 
-// The phases of the occupied detectors with a mode.
+// The row of a mode in the table: the phases of the occupied detectors with that mode.
 fn with_mode(set: u64, mode: u8) -> u8
     requires { ⌜ mode < 8 ⌝ }
     ensures { λ r. ⌜ ((p : ℕ) → p < 8 → bit p r ≡ bit (8 * mode + p) set) ⌝ }
@@ -65,13 +40,13 @@ fn with_mode(set: u64, mode: u8) -> u8
     ((set >> (8 * mode)) % 256) as u8
 }
 
-// What the first count detectors ask for.
+// What the first count detectors ask for, by their modes: 1 calling without lock, 2 calling with lock; plus 4 where it extends.
 pub fn scan(detectors: [Detector; 48], count: u8, inputs: u64, phase: u8) -> Sensed
-    requires { ⌜ (count ≤ 48) × (phase < 8) ⌝ }
-    ensures { λ r. ⌜ SensedIn detectors inputs phase count r ⌝ }
+    requires { ⌜ Tabled detectors count × (phase < 8) ⌝ }
+    ensures { λ r. ⌜ SensedBy detectors count inputs phase r ⌝ }
 {
-    let set = places(detectors, count, inputs);
-    let extending = with_mode(set, 4) | with_mode(set, 5) | with_mode(set, 6) | with_mode(set, 7);
+    let set = table(detectors, count, inputs);
+    let extending = with_mode(set, 4) | with_mode(set, 5) | with_mode(set, 6);
     Sensed {
         locks: with_mode(set, 2) | with_mode(set, 6),
         calls: with_mode(set, 1) | with_mode(set, 5),

@@ -1,29 +1,15 @@
 // Marks by phase, and sets of phases.
-ghost use mathlib.Core.Bool.{false, not, _&&_, _||_};
+ghost use mathlib.Core.Bool.{false, not, _||_};
 ghost use mathlib.Core.Path.{_≡_};
 ghost use Prim.Native.Nat.{ℕ, _<_};
-ghost use lib.Dec.{eqb};
 ghost use lib.ListN.{getD};
 ghost use Rattle.rules.specs.Bytes.{bit};
 ghost use Rattle.rules.specs.Rows.{listOf};
-ghost use Rattle.rules.specs.Intervals.{isGreen};
+ghost use Rattle.rules.specs.Demands.{inGreen};
 use rules::state::Position;
 
-// The marks without the one at a phase where it is to go.
-pub fn cleared(marks: [bool; 7], phase: u8, gone: bool) -> [bool; 7]
-    ensures { λ r. ⌜ r ≡ listOf (λ p. getD marks p false && not (eqb p phase && gone)) 7 ⌝ }
-{
-    let i = phase as usize;
-    if i < 7 {
-        let mut out = marks;
-        out[i] = marks[i] & !gone;
-        return out;
-    }
-    marks
-}
-
 // The marks, and the phases of a set.
-pub(crate) fn joined(marks: [bool; 7], set: u8) -> [bool; 7]
+pub fn joined(marks: [bool; 7], set: u8) -> [bool; 7]
     ensures { λ r. ⌜ r ≡ listOf (λ p. getD marks p false || bit p set) 7 ⌝ }
 {
     let mut out = marks;
@@ -37,9 +23,9 @@ pub(crate) fn joined(marks: [bool; 7], set: u8) -> [bool; 7]
 }
 
 // The phases that detectors may demand: all but one that is in minimum green or running.
-pub(crate) fn waiting(position: Position) -> u8
+pub fn waiting(position: Position) -> u8
     requires { ⌜ position .phase < 8 ⌝ }
-    ensures { λ r. ⌜ ((p : ℕ) → p < 8 → bit p r ≡ not (eqb p (position .phase) && isGreen (position .interval))) ⌝ }
+    ensures { λ r. ⌜ ((p : ℕ) → p < 8 → bit p r ≡ not (inGreen position p)) ⌝ }
 {
     let interval = position.interval;
     if base_intervals::green(interval) {

@@ -1,2 +1,2 @@
-pub mod Maximum
 pub mod Some
+pub mod Locks

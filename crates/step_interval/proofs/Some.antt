@@ -1,12 +1,10 @@
 -- The end of an interval by the movements: records that are idle add nothing to the question whether some movement is in a stage, and
 -- running waits for it only where it is due.
-use Prim.Native.Nat.{ℕ, zero, suc, _≤_, _<_}
-use mathlib.Core.Bool.{Bool, true, false, not, _&&_, _||_}
+use Prim.Native.Nat.{ℕ}
+use mathlib.Core.Bool.{Bool, true, false, not, _&&_, and-true}
 use mathlib.Core.List.{List}
 use mathlib.Core.Logic.{⊎-elim}
 use mathlib.Core.Path.{_≡_, refl, sym, ap, _∙_}
-use native.Mathlib.Nat.{eq-or-lt-of-le}
-use native.Mathlib.Omega.{arith}
 use borrow.Author.Tests.{not-true, not-false}
 use lib.ListN.{getD}
 use Rattle.rules.specs.declared.state.Movement.{Movement}
@@ -16,26 +14,8 @@ use Rattle.rules.specs.Rows.{anyOf}
 use Rattle.rules.specs.State.{idle}
 use Rattle.rules.specs.Interval.{someMovement}
 use Rattle.rules.proofs.Tests.{and-left, and-right, and-false-right, decided}
-use Rattle.step_interval.specs.IdlePast.{IdlePast}
-
-pub and-true : (a : Bool) → (a && true) ≡ a
-and-true true = refl
-and-true false = refl
-
-or-none : (a : Bool) → (a || false) ≡ a
-or-none true = refl
-or-none false = refl
-
-rest-fails : (f : ℕ → Bool) (n m : ℕ) → n ≤ m → ((k : ℕ) → n ≤ k → k < m → f k ≡ false) → anyOf f n ≡ anyOf f m
-unfolding anyOf
-rest-fails f n zero h fails = let last : n ≡ 0 = omega arith in rw last
-rest-fails f n (suc m) h fails =
-    ⊎-elim
-    (λ (e : n ≡ suc m). rw e)
-    (λ (l : n < suc m).
-    rest-fails f n m (omega arith) (λ k a b. fails k a (omega arith))
-    ∙ rw (fails m (omega arith) (omega arith)) (sym (or-none (anyOf f m))))
-    (eq-or-lt-of-le h)
+use Rattle.proof_arrays.proofs.Passing.{any-past}
+use Rattle.step_movements.specs.IdlePast.{IdlePast}
 
 -- a test that an idle movement fails is settled by the movements that the site has
 pub some-counted :
@@ -45,7 +25,7 @@ pub some-counted :
     anyOf (λ k. test (getD movements k idle .stage)) count ≡ someMovement test movements
 unfolding someMovement
 some-counted test movements count known fails =
-    rest-fails (λ k. test (getD movements k idle .stage)) count 8 (known .room) (λ k a b. ap test (known .past k a b) ∙ fails)
+    any-past (λ k. test (getD movements k idle .stage)) count 8 (known .room) (λ k a b. ap test (known .past k a b) ∙ fails)
 
 -- ── Running ends if another phase is demanded, no movement is in the way, and it is due ──
 

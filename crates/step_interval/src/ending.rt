@@ -2,7 +2,7 @@
 ghost use mathlib.Core.Path.{_≡_};
 ghost use Rattle.rules.specs.Intervals.{isWalkOrFirst, isSecond};
 ghost use Rattle.rules.specs.Interval.{someMovement, ends};
-ghost use Rattle.step_interval.specs.IdlePast.{IdlePast};
+ghost use Rattle.step_movements.specs.IdlePast.{IdlePast};
 use rules::site::PhaseTimes;
 use rules::state::Counts;
 use rules::state::Interval;

@@ -1,5 +1,1 @@
-pub mod FiveParts
-pub mod Kept
-pub mod Locks
-pub mod Spare
-pub mod Walking
+pub mod Ready

@@ -5,8 +5,6 @@ use borrow.Author.Tests.{not-true, not-false}
 use mathlib.Core.Path.{sym, _∙_}
 use lib.ListN.{length}
 use Rattle.rules.specs.Call.{stepVerdict}
-use Rattle.step_whole.proofs.Spare.{ready}
-use Rattle.step_colours.proofs.Sizes.{sound-sized}
 use Rattle.board_controller.proofs.Calls.{invalid, strays, short, passes, declines, goes-on}
 use Rattle.board_controller.proofs.step_on.Statement.{statement}
 use Rattle.board_controller.proofs.step_on.Tie as tie
@@ -65,15 +63,13 @@ advance-requires : tie.Need-advance-requires
 advance-requires c κs =
     let wired = c .before .before in
     let told = wired .before .before .before in
-    let a = told .before .before .args in
     let yes = sym (told .valid-state .ensures) ∙ not-false (told .valid-state .result) (wired .before .before .if1 .left) in
-    ready (a .site) (a .state) (told .before .before .pre) yes
+    (told .before .before .pre, yes)
 
 write-requires : tie.Need-write-requires
 write-requires c κs =
     let told = c .before .before .before .before .before .before .before in
-    let a = told .before .before .args in
-    sound-sized (a .site) (told .before .before .pre) (length (a .colours .now)) (c .before .before .if3 .left)
+    (told .before .before .pre, c .before .before .if3 .left)
 
 wait-bound-of-requires : tie.Need-wait-bound-of-requires
 wait-bound-of-requires c κs = search needs

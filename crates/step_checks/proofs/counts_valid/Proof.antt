@@ -1,6 +1,6 @@
 -- `step_checks::counts_valid` meets its contract: its two tests are the rule's.
 use mathlib.Core.Path.{refl}
-use Rattle.step_checks.specs.Parts.{countsValid}
+use Rattle.rules.specs.State.{countsValid}
 use Rattle.step_checks.proofs.counts_valid.Statement.{statement}
 use Rattle.step_checks.proofs.counts_valid.Tie as tie
 

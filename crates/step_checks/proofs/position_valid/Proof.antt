@@ -1,6 +1,10 @@
--- `step_checks::position_valid` meets its contract: its three tests are the rule's.
+-- `step_checks::position_valid` meets its contract: its four tests are those of the rule's list.
 use borrow.Author.Needs.{needs}
-use Rattle.step_checks.specs.Parts.{positionValid}
+use mathlib.Core.List.{[], _∷_}
+use lib.Dec.{ltb}
+use Rattle.rules.specs.Intervals.{isLeaving}
+use Rattle.rules.specs.State.{targetValid, cameValid, ageValid, positionValid}
+use Rattle.step_checks.proofs.Records.{joined-every}
 use Rattle.step_checks.proofs.position_valid.Statement.{statement}
 use Rattle.step_checks.proofs.position_valid.Tie as tie
 
@@ -20,7 +24,14 @@ returns : tie.Need-returns
 unfolding positionValid
 returns c =
     let called = c .before .before in
+    let a = called .before .before .args in
+    let position = a .position in
     rw (called .target-valid .ensures, called .before .leaving .ensures, c .before .came-valid .ensures, c .age-valid .ensures)
+    (joined-every (ltb (position .phase) (a .phases))
+    (targetValid (a .phases) (position .phase) (isLeaving (position .interval)) (position .target)
+    ∷ cameValid (a .phases) (position .came)
+    ∷ ageValid (position .age)
+    ∷ []))
 
 pub position-valid-spec : {M : Type 1} → statement M
 position-valid-spec =

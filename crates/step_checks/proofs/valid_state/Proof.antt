@@ -1,15 +1,18 @@
--- `step_checks::valid_state` meets its contract: where the phase exists, its tests are those of the parts of a valid state.
+-- `step_checks::valid_state` meets its contract: its tests are those of the rule's list.
+use mathlib.Core.List.{[], _∷_}
 use mathlib.Core.Path.{_≡_, sym}
 use lib.ListN.{length, length-map}
-use Rattle.rules.specs.Site.{phaseTimes}
-use Rattle.step_checks.proofs.States.{valid-of-parts, no-such-phase}
 use borrow.Author.Needs.{needs}
+use Rattle.rules.specs.Rows.{allOf}
+use Rattle.rules.specs.Site.{phaseTimes}
+use Rattle.rules.specs.State.{positionValid, countsValid, demandExists, movementsValid, valid}
+use Rattle.step_checks.proofs.Records.{joined-every}
 use Rattle.step_checks.proofs.valid_state.Statement.{statement}
 use Rattle.step_checks.proofs.valid_state.Tie as tie
 
--- from the parts read, back to the test of the phase
-abbrev tested : tie.After-movements → tie.Else1
-tested c = c .before .before .before .before .before .before .before .before .before
+-- the start, from where the parts are read
+abbrev start : tie.After-movements → tie.Start
+start c = c .before .before .before .before .before .before .before .before .before .before
 
 -- the arrays of the state have their lengths
 locks-seven : (c : tie.Start) → length (c .args .state .demands .locks) ≡ 7
@@ -18,23 +21,8 @@ locks-seven c = simp length-map at (c .good .1 .0 .1 .1 .1 .1 .0 .1 .1 .0 .1 .0 
 buttons-eight : (c : tie.Start) → length (c .args .state .demands .buttons) ≡ 8
 buttons-eight c = simp length-map at (c .good .1 .0 .1 .1 .1 .1 .0 .1 .1 .1 .0 .1 .0 .1)
 
-returns : tie.Need-returns
-returns c = no-such-phase (c .before .before .args .site) (c .before .before .args .state) (c .if1 .taken)
-
-cast-own : tie.Need-cast-own
-cast-own c = search needs
-
-mul-own : tie.Need-mul-own
-mul-own c = search needs
-
-array-copy-out-own : tie.Need-array-copy-out-own
-array-copy-out-own c = search needs
-
-leaving-requires : tie.Need-leaving-requires
-leaving-requires c κs = search needs
-
-start-red-requires : tie.Need-start-red-requires
-start-red-requires c κs = search needs
+times-of-requires : tie.Need-times-of-requires
+times-of-requires c κs = search needs
 
 position-valid-requires : tie.Need-position-valid-requires
 position-valid-requires c κs = search needs
@@ -43,13 +31,13 @@ counts-valid-requires : tie.Need-counts-valid-requires
 counts-valid-requires c κs = search needs
 
 slice-aggregate-demands-valid : tie.Need-slice-aggregate-demands-valid
-slice-aggregate-demands-valid c = sym (locks-seven (tested (c .before .before .before .before .before) .before .before))
+slice-aggregate-demands-valid c = sym (locks-seven (start (c .before .before .before)))
 
 demands-valid-requires : tie.Need-demands-valid-requires
 demands-valid-requires c κs = search needs
 
 slice-aggregate-demands-valid-2 : tie.Need-slice-aggregate-demands-valid-2
-slice-aggregate-demands-valid-2 c = sym (buttons-eight (tested (c .before .before .before .before .before .before .before) .before .before))
+slice-aggregate-demands-valid-2 c = sym (buttons-eight (start (c .before .before .before .before .before)))
 
 demands-valid-requires-2 : tie.Need-demands-valid-requires-2
 demands-valid-requires-2 c κs = search needs
@@ -57,36 +45,37 @@ demands-valid-requires-2 c κs = search needs
 movements-valid-requires : tie.Need-movements-valid-requires
 movements-valid-requires c κs = search needs
 
-returns-2 : tie.Need-returns-2
-unfolding phaseTimes
-returns-2 c =
+returns : tie.Need-returns
+unfolding valid phaseTimes
+returns c =
     let counted = c .before .before .before .before .before in
-    let asked = counted .before .before in
-    let passed = tested (asked .before .before) in
-    let start = passed .before .before in
+    let read = counted .before .before in
+    let entry = start read in
+    let site = entry .args .site in
+    let s = entry .args .state in
+    let own = read .before .before .before .before .before .before in
     rw (
       counted .before .position-valid .ensures,
       counted .counts-valid .ensures,
       c .before .before .before .demands-valid .ensures,
       c .before .demands-valid2 .ensures,
       c .movements-valid .ensures,
-      asked .start-red .ensures,
-      asked .before .leaving .ensures,
-      locks-seven start,
-      buttons-eight start,
+      own .times-of .ensures,
+      locks-seven entry,
+      buttons-eight entry,
     )
-    (valid-of-parts (start .args .site) (start .args .state) (passed .if1 .left))
+    (joined-every (positionValid (site .size .phases) (s .position))
+    (countsValid (phaseTimes (site .times) (s .position .phase)) (s .counts)
+    ∷ allOf (demandExists (s .demands .locks) (site .size .phases)) 7
+    ∷ allOf (demandExists (s .demands .buttons) (site .size .movements)) 8
+    ∷ movementsValid (site .size .movements) (site .crossings) (s .position) (s .movements)
+    ∷ []))
 
 pub valid-state-spec : {M : Type 1} → statement M
 valid-state-spec =
     tie.close
     (tie.spec
-    returns
-    cast-own
-    mul-own
-    array-copy-out-own
-    leaving-requires
-    start-red-requires
+    times-of-requires
     position-valid-requires
     counts-valid-requires
     slice-aggregate-demands-valid
@@ -94,4 +83,4 @@ valid-state-spec =
     slice-aggregate-demands-valid-2
     demands-valid-requires-2
     movements-valid-requires
-    returns-2)
+    returns)

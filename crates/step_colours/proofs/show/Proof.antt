@@ -6,14 +6,16 @@ use mathlib.Core.Path.{ap, _∙_}
 use native.Mathlib.Omega.{arith}
 use lib.ListN.{length}
 use borrow.Author.Needs.{needs}
+use Rattle.rules.specs.Site.{groupOf}
 use Rattle.rules.specs.Colours.{movementColour}
-use Rattle.step_colours.proofs.Shown.{pedestrian-mark, stage-read, Passed, none-passed, all-passed, passed-length, pedestrian-passed, vehicle-passed}
+use Rattle.step_colours.specs.Pass.{PassedTo}
+use Rattle.step_colours.proofs.Shown.{pedestrian-mark, stage-read, none-passed, all-passed, passed-length, pedestrian-passed, vehicle-passed}
 use Rattle.step_colours.proofs.show.Statement.{statement}
 use Rattle.step_colours.proofs.show.Tie as tie
 
 abbrev Inv-loop : tie.InvT-loop
 Inv-loop count position buffer₀ groups movements movement₀ g₀ buffer movement g =
-    Passed groups count position movements buffer₀ buffer movement g
+    PassedTo groups count position movements buffer₀ buffer movement g
 
 abbrev μ-loop : tie.MeasureT-loop
 μ-loop count position buffer₀ groups movements movement₀ g₀ buffer movement g = count - g
@@ -31,6 +33,7 @@ room c =
 
 -- a pedestrian group has a movement record
 own : (c : tie.Then1 Inv-loop μ-loop) → c .before .before .before .before .loop .movement < 8
+unfolding groupOf
 own c =
     let turn = c .before .before .before in
     let start = turn .before .before .before in
@@ -75,6 +78,7 @@ loop-less : tie.Need-loop-less Inv-loop μ-loop
 loop-less c = omega (arith, c .before .before .before .loop-test)
 
 loop-again : tie.Need-loop-again Inv-loop μ-loop
+unfolding groupOf
 loop-again c =
     let turn = c .before .before .before in
     let head = turn .before in

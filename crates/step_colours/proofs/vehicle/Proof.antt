@@ -1,7 +1,7 @@
 -- `step_colours::vehicle` meets its contract: the two ways are those of the choice by the bit.
 use mathlib.Core.Path.{refl, sym, _∙_}
 use borrow.Author.Needs.{needs}
-use Rattle.rules.specs.Colours.{red, vehicleColour}
+use Rattle.rules.specs.Colours.{red, vehicleColour, vehicleShown}
 use Rattle.step_colours.proofs.Choices.{chosen, passed-by}
 use Rattle.step_colours.proofs.vehicle.Statement.{statement}
 use Rattle.step_colours.proofs.vehicle.Tie as tie
@@ -13,9 +13,11 @@ of-group-requires : tie.Need-of-group-requires
 of-group-requires c κs = search needs
 
 returns : tie.Need-returns
+unfolding vehicleShown
 returns c = chosen red (sym (c .before .before .bit8 .ensures) ∙ c .before .if1 .taken) (c .of-group .ensures)
 
 returns-2 : tie.Need-returns-2
+unfolding vehicleShown
 returns-2 c =
     let position = c .before .before .args .position in
     passed-by (vehicleColour (position .interval) (position .came) (position .target) (c .before .before .args .group))

@@ -1,7 +1,8 @@
 -- `step_colours::write` meets its contract: what the site's groups show of the state's position and movements is the colours of the state.
 use lib.ListN.{length}
 use borrow.Author.Needs.{needs}
-use Rattle.step_colours.proofs.Parts.{parts-shown, parts-within}
+use Rattle.rules.specs.Colours.{coloursOf}
+use Rattle.step_colours.proofs.Sizes.{showable}
 use Rattle.step_colours.proofs.write.Statement.{statement}
 use Rattle.step_colours.proofs.write.Tie as tie
 
@@ -11,15 +12,14 @@ cast-count c = search needs
 show-requires : tie.Need-show-requires
 show-requires c κs =
     let start = c .before .before .before .before .before .before in
-    parts-within (start .args .site) (length (start .args .buffer .now)) (start .pre)
+    showable (start .args .site) (length (start .args .buffer .now)) (start .pre .0) (start .pre .1)
 
 same-length : tie.Need-same-length
 same-length c = search needs
 
 returns : tie.Need-returns
-returns c =
-    let start = c .before .before .before .before .before .before .before .before .before in
-    parts-shown (start .args .site) (start .args .state) (start .args .buffer .now) (c .before .before .show .ensures)
+unfolding coloursOf
+returns c = c .before .before .show .ensures
 
 pub write-spec : {M : Type 1} → statement M
 write-spec = tie.close (tie.spec cast-count show-requires same-length returns)

@@ -1,17 +1,23 @@
 -- `step_demands::register` meets its contract: the sets that the scan gives are those of the rules, and the parts of part 1 follow from them.
 use borrow.Author.Needs.{needs}
+use native.Mathlib.Omega.{arith}
+use Rattle.step_demands.proofs.Modes.{tabled}
 use Rattle.step_demands.proofs.PartOne.{asked-told}
 use Rattle.step_demands.proofs.register.Statement.{statement}
 use Rattle.step_demands.proofs.register.Tie as tie
 
 scan-requires : tie.Need-scan-requires
-scan-requires c κs = search needs
+scan-requires c κs =
+    let start = c .before .before .before in (tabled (start .args .site) (start .pre .0), omega (arith, start .pre .1, start .pre .0 .phases .1))
 
 waiting-requires : tie.Need-waiting-requires
 waiting-requires c κs = search needs
 
-registered-requires : tie.Need-registered-requires
-registered-requires c κs = search needs
+joined-requires : tie.Need-joined-requires
+joined-requires c κs = search needs
+
+press-requires : tie.Need-press-requires
+press-requires c κs = search needs
 
 crossed-requires : tie.Need-crossed-requires
 crossed-requires c κs = search needs
@@ -22,14 +28,15 @@ next-requires c κs = search needs
 returns : tie.Need-returns
 returns c =
     let crossed = c .before .before in
-    let registered = crossed .before .before .before in
-    let tested = registered .before .before in
-    let scanned = tested .before in
-    let start = scanned .before .before .before .before .before in
-    asked-told (start .args .site) (start .args .state) (start .args .inputs) (scanned .scan .result) (tested .waiting .result)
-    (scanned .scan .ensures) (tested .waiting .ensures)
-    (registered .registered .result) (crossed .crossed .result) (c .next .result)
-    (registered .registered .ensures) (crossed .crossed .ensures) (c .next .ensures) (start .pre)
+    let pressed = crossed .before .before in
+    let joined = pressed .before .before .before in
+    let waiting = joined .before .before .before .before in
+    let scanned = waiting .before in
+    let start = scanned .before .before .before .before in
+    asked-told (start .args .site) (start .args .state) (start .args .inputs) (scanned .scan .result) (waiting .waiting .result)
+    (scanned .scan .ensures) (waiting .waiting .ensures)
+    (joined .joined .result) (pressed .press .result) (crossed .crossed .result) (c .next .result)
+    (joined .joined .ensures) (pressed .press .ensures) (crossed .crossed .ensures) (c .next .ensures) (start .pre .0) (start .pre .1)
 
 pub register-spec : {M : Type 1} → statement M
 register-spec =
@@ -37,7 +44,8 @@ register-spec =
     (tie.spec
     scan-requires
     waiting-requires
-    registered-requires
+    joined-requires
+    press-requires
     crossed-requires
     next-requires
     returns)

@@ -3,6 +3,7 @@ use borrow.Author.Needs.{needs}
 use mathlib.Core.Bool.{not, and-true}
 use mathlib.Core.Path.{sym, ap, _∙_}
 use lib.Dec.{eqb}
+use Rattle.rules.specs.Demands.{inGreen}
 use Rattle.rules.proofs.Tests.{and-false-right}
 use Rattle.step_demands.proofs.Bits.{bit-all, bit-others}
 use Rattle.step_demands.proofs.phases.waiting.Statement.{statement}
@@ -18,6 +19,7 @@ sub-result : tie.Need-sub-result
 sub-result c = search needs
 
 returns : tie.Need-returns
+unfolding inGreen
 returns c p l =
     let tested = c .before .before in
     let start = tested .before in
@@ -26,6 +28,7 @@ returns c p l =
     bit-others phase p (start .pre) l ∙ sym (rw green (ap not (and-true (eqb p phase))))
 
 returns-2 : tie.Need-returns-2
+unfolding inGreen
 returns-2 c p l =
     let tested = c .before in
     let phase = tested .before .args .position .phase in

@@ -1,0 +1,74 @@
+// Part 3 of a step: the gap count and the maximum count; and the settings of the phase that they go by.
+ghost use mathlib.Core.Path.{_≡_};
+ghost use lib.ListN.{getD};
+ghost use Rattle.rules.specs.Site.{noPhaseTimes};
+ghost use Rattle.rules.specs.Counts.{gapAfter, maximumAfter, countsAfter};
+use rules::site::PhaseTimes;
+use rules::state::Counts;
+use rules::state::Interval;
+
+// The settings of a phase; a phase that there is no room for has none.
+pub fn times_of(settings: [PhaseTimes; 7], phase: u8) -> PhaseTimes
+    ensures { λ r. ⌜ r ≡ getD settings phase noPhaseTimes ⌝ }
+{
+    let p = phase as usize;
+    if p < 7 {
+        return settings[p];
+    }
+    PhaseTimes {
+        late: 0,
+        minimum: 0,
+        maximum: 0,
+        gap: 0,
+        yellow: 0,
+        red: 0,
+    }
+}
+
+// In minimum green and running an occupied extending detector sets the gap count to G, else it falls by one, not below 0.
+fn gap_counted(interval: Interval, times: PhaseTimes, extended: bool, gap: u16) -> u16
+    ensures { λ r. ⌜ r ≡ gapAfter interval times extended gap ⌝ }
+{
+    if base_intervals::green(interval) {
+        if extended {
+            return times.gap;
+        }
+        if 0 < gap {
+            return gap - 1;
+        }
+        return 0;
+    }
+    gap
+}
+
+// In running the maximum count rises by one, up to X, if another phase is demanded or it is already above 0.
+fn maximum_counted(interval: Interval, times: PhaseTimes, another: bool, maximum: u16) -> u16
+    ensures { λ r. ⌜ r ≡ maximumAfter interval times another maximum ⌝ }
+{
+    if base_intervals::running(interval) {
+        if another | (0 < maximum) {
+            if maximum < times.maximum {
+                return maximum + 1;
+            }
+            return times.maximum;
+        }
+        return 0;
+    }
+    maximum
+}
+
+// Both counts, by the interval and the settings of the phase that is on.
+pub fn counted(
+    interval: Interval,
+    times: PhaseTimes,
+    extended: bool,
+    another: bool,
+    before: Counts,
+) -> Counts
+    ensures { λ r. ⌜ r ≡ countsAfter interval times extended another before ⌝ }
+{
+    Counts {
+        gap: gap_counted(interval, times, extended, before.gap),
+        maximum: maximum_counted(interval, times, another, before.maximum),
+    }
+}

@@ -1,0 +1,92 @@
+-- `step_demands::buttons::press` meets its contract. The loop's invariant: the buttons that are taken have their demands, and the bits of the
+-- rest are those that are left. The measure is the rest, which loses a bit a turn.
+use borrow.Author.Needs.{needs}
+use native.Mathlib.Omega.{arith}
+use Prim.Native.Nat.{_<_}
+use mathlib.Core.Path.{ap, _∙_}
+use lib.Count.{trailingZeros}
+use lib.ListN.{length}
+use Rattle.rules.specs.declared.state.Movement.{Movement}
+use Rattle.rules.specs.declared.state.Stage.the-variants.{Idle}
+use Rattle.rules.specs.Intervals.{isWalk}
+use Rattle.rules.specs.State.{idle}
+use Rattle.proof_arrays.proofs.Fill.{entry-same}
+use Rattle.base_reads.proofs.Lowest.{left-less}
+use Rattle.step_demands.proofs.Presses.{Pressed, none-pressed, one-pressed, all-pressed, turn-within}
+use Rattle.step_demands.proofs.buttons.press.Statement.{statement}
+use Rattle.step_demands.proofs.buttons.press.Tie as tie
+
+abbrev Inv-loop : tie.InvT-loop
+Inv-loop inputs movements out₀ rest₀ out rest = Pressed out₀ movements inputs rest out
+
+abbrev μ-loop : tie.MeasureT-loop
+μ-loop inputs movements out₀ rest₀ out rest = rest
+
+loop-holds : tie.Need-loop-holds Inv-loop μ-loop
+loop-holds c = none-pressed (c .args .buttons) (c .args .t2) (c .args .inputs) (c .good .0 .1 .0 .1)
+
+-- the button of a turn is one of the eight
+own-within : (c : tie.In-loop Inv-loop μ-loop) → trailingZeros 64 (c .before .loop .rest) < 8
+own-within c =
+    let a = c .before .before .args in
+    turn-within (a .buttons) (a .t2) (a .inputs) (c .before .loop .inv) (omega (arith, c .loop-test .taken))
+
+cast-k : tie.Need-cast-k Inv-loop μ-loop
+cast-k c = omega (arith, own-within c)
+
+mul-movement : tie.Need-mul-movement Inv-loop μ-loop
+mul-movement c = omega (arith, own-within c)
+
+array-copy-out-movement : tie.Need-array-copy-out-movement Inv-loop μ-loop
+array-copy-out-movement c = own-within c
+
+array-read-out : tie.Need-array-read-out Inv-loop μ-loop
+array-read-out c = own-within (c .before)
+
+walking-requires : tie.Need-walking-requires Inv-loop μ-loop
+walking-requires c κs = search needs
+
+array-write-out : tie.Need-array-write-out Inv-loop μ-loop
+array-write-out c = own-within (c .before .before)
+
+sub-rest : tie.Need-sub-rest Inv-loop μ-loop
+sub-rest c = search needs
+
+loop-less : tie.Need-loop-less Inv-loop μ-loop
+loop-less c =
+    let turn = c .before .before in
+    left-less (turn .before .loop .inv .left) (omega (arith, turn .loop-test .taken)) (omega arith)
+
+loop-again : tie.Need-loop-again Inv-loop μ-loop
+loop-again c =
+    let turn = c .before .before in
+    let at = turn .before .loop in
+    let start = turn .before .before in
+    let a = start .args in
+    let k = trailingZeros 64 (at .rest) in
+    let inside : k < length (a .t2) = omega (arith, own-within turn, start .good .1 .0 .1 .0 .1) in
+    one-pressed (a .buttons) (a .t2) (a .inputs) (at .inv) (omega (arith, turn .loop-test .taken))
+    (c .walking .ensures ∙ ap (λ (m : Movement). isWalk (m .stage)) (entry-same (a .t2) k (record { stage = Idle; age = 0 }) idle inside))
+
+returns : tie.Need-returns Inv-loop μ-loop
+returns c =
+    let a = c .before .before .args in
+    all-pressed (a .buttons) (a .t2) (a .inputs) (c .before .loop .inv) (c .loop-test .left)
+
+pub press-spec : {M : Type 1} → statement M
+press-spec =
+    tie.close
+    (tie.spec
+    Inv-loop
+    μ-loop
+    loop-holds
+    cast-k
+    mul-movement
+    array-copy-out-movement
+    array-read-out
+    walking-requires
+    array-write-out
+    sub-rest
+    loop-less
+    loop-again
+    returns)

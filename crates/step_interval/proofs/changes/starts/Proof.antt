@@ -1,0 +1,15 @@
+-- `step_interval::changes::starts` meets its contract: its test is what the call ensures.
+use borrow.Author.Needs.{needs}
+use Rattle.rules.specs.Interval.{starts}
+use Rattle.step_interval.proofs.changes.starts.Statement.{statement}
+use Rattle.step_interval.proofs.changes.starts.Tie as tie
+
+before-start-requires : tie.Need-before-start-requires
+before-start-requires c κs = search needs
+
+returns : tie.Need-returns
+unfolding starts
+returns c = rw (c .before-start .ensures)
+
+pub starts-spec : {M : Type 1} → statement M
+starts-spec = tie.close (tie.spec before-start-requires returns)

@@ -1,0 +1,77 @@
+// What a change of interval does to the counts and to the lock of the phase, and whether a phase starts with it.
+ghost use mathlib.Core.Path.{_≡_};
+ghost use Rattle.rules.specs.Interval.{countsLeaving, countsEntering, countsChanged, locksLeft, starts as startsAt};
+use rules::site::PhaseTimes;
+use rules::site::Times;
+use rules::state::Counts;
+use rules::state::Interval;
+use rules::state::Position;
+
+// Both counts are 0 when all-red ends: the interval that leaves a phase and comes before a start.
+fn counts_left(interval: Interval, before: Counts) -> Counts
+    ensures { λ r. ⌜ r ≡ countsLeaving interval before ⌝ }
+{
+    if base_intervals::leaving(interval) & base_intervals::before_start(interval) {
+        return Counts { gap: 0, maximum: 0 };
+    }
+    before
+}
+
+// Entering minimum green sets the gap count to G; entering running sets the maximum count to 0.
+fn counts_entered(interval: Interval, times: PhaseTimes, before: Counts) -> Counts
+    ensures { λ r. ⌜ r ≡ countsEntering interval times before ⌝ }
+{
+    let gap = if base_intervals::minimum_green(interval) {
+        times.gap
+    } else {
+        before.gap
+    };
+    let maximum = if base_intervals::running(interval) {
+        0
+    } else {
+        before.maximum
+    };
+    Counts { gap, maximum }
+}
+
+// A change of interval sets counts, by what is left and by what is entered.
+pub fn counts_changed(
+    ended: bool,
+    times: Times,
+    old: Position,
+    now: Position,
+    counted: Counts,
+) -> Counts
+    ensures { λ r. ⌜ r ≡ countsChanged ended times old now counted ⌝ }
+{
+    let before = old.interval;
+    let after = now.interval;
+    if ended {
+        let settings = times.phases;
+        let left = counts_left(before, counted);
+        return counts_entered(after, step_counts::times_of(settings, now.phase), left);
+    }
+    counted
+}
+
+// Entering minimum green clears the lock of the phase.
+pub fn locks_left(ended: bool, now: Position, locks: [bool; 7]) -> [bool; 7]
+    ensures { λ r. ⌜ r ≡ locksLeft ended now locks ⌝ }
+{
+    let interval = now.interval;
+    let p = now.phase as usize;
+    if ended & base_intervals::minimum_green(interval) & (p < 7) {
+        let mut left = locks;
+        left[p] = false;
+        return left;
+    }
+    locks
+}
+
+// Start red or all-red has ended: a phase starts.
+pub fn starts(ended: bool, old: Position) -> bool
+    ensures { λ r. ⌜ r ≡ startsAt ended old ⌝ }
+{
+    let interval = old.interval;
+    ended & base_intervals::before_start(interval)
+}

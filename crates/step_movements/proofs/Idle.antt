@@ -1,0 +1,52 @@
+-- The records past the movements that a site has are idle, and a step leaves them as they are.
+use Prim.Native.Nat.{ℕ, _≤_, _<_}
+use mathlib.Core.Bool.{true}
+use mathlib.Core.List.{List}
+use mathlib.Core.Path.{_≡_, refl, sym, ap, _∙_}
+use lib.ListN.{getD}
+use Rattle.rules.specs.declared.site.Times.{Times}
+use Rattle.rules.specs.declared.site.WalkTimes.{WalkTimes}
+use Rattle.rules.specs.declared.state.Movement.{Movement}
+use Rattle.rules.specs.declared.state.Stage.{Stage}
+use Rattle.rules.specs.declared.state.Stage.the-variants.{Idle, Walk, ClearanceOne, ClearanceTwo}
+use Rattle.rules.specs.Site.{noWalkTimes, walkTimes}
+use Rattle.rules.specs.Intervals.{isIdle}
+use Rattle.rules.specs.State.{idle}
+use Rattle.rules.specs.Movements.{advanced, movementsAfter}
+use Rattle.rules.proofs.Rows.{list-at}
+use Rattle.rules.proofs.Tests.{never-both}
+use Rattle.step_movements.specs.IdlePast.{IdlePast}
+
+pub idle-only : (stage : Stage) → isIdle stage ≡ true → stage ≡ Idle
+unfolding isIdle
+idle-only Idle e = refl
+idle-only Walk e = absurd (never-both e refl)
+idle-only ClearanceOne e = absurd (never-both e refl)
+idle-only ClearanceTwo e = absurd (never-both e refl)
+
+stays : (m : Movement) (times : WalkTimes) → m .stage ≡ Idle → m ≡ advanced (m .stage) times (m .age)
+unfolding advanced
+stays m times e = rw e
+
+module _ (settings : List WalkTimes) (movements : List Movement) where
+  -- movement k, a step on
+  abbrev pub after : ℕ → Movement
+  after k = advanced (getD movements k idle .stage) (getD settings k noWalkTimes) (getD movements k idle .age)
+
+  pub idle-stays : (k : ℕ) → getD movements k idle .stage ≡ Idle → getD movements k idle ≡ after k
+  idle-stays k e = stays (getD movements k idle) (getD settings k noWalkTimes) e
+
+  pub past-stays : (count : ℕ) → IdlePast count movements → (k : ℕ) → count ≤ k → k < 8 → getD movements k idle ≡ after k
+  past-stays count known k a b = idle-stays k (known .past k a b)
+
+pub still-past :
+    (times : Times) (movements : List Movement) (count : ℕ) → IdlePast count movements → IdlePast count (movementsAfter times movements)
+unfolding movementsAfter walkTimes
+still-past times movements count known =
+    record {
+      room = known .room;
+      past = λ k a b.
+          ap (λ (m : Movement). m .stage)
+          (list-at (after (times .walks) movements) 8 k idle b ∙ sym (past-stays (times .walks) movements count known k a b))
+          ∙ known .past k a b;
+    }
