@@ -25,7 +25,7 @@ use Rattle.rules.specs.State.{fresh, movement}
 use Rattle.rules.specs.Demands.{pressed, demandsAfter, nextDemanded, detected, extending}
 use Rattle.rules.specs.Movements.{movementsAfter}
 use Rattle.rules.specs.Counts.{countsAfter}
-use Rattle.rules.specs.Interval.{ends, following, entering, staying, countsChanged, clearsLock, starts}
+use Rattle.rules.specs.Interval.{ends, following, entering, staying, countsChanged, locksLeft, starts}
 use Rattle.rules.specs.Walks.{begins, walksBegun, buttonsLeft}
 use Rattle.rules.specs.Step.{stepped}
 use Rattle.rules.specs.Colours.{coloursOf}
@@ -79,11 +79,7 @@ steppedBy ending follow site s inputs =
     record {
       position = now;
       counts = countsChanged ended (site .times) old now counts;
-      demands =
-          record {
-            locks = listOf (λ p. getD (demands .locks) p false && not (clearsLock ended now p)) 7;
-            buttons = buttonsLeft begun (demands .buttons);
-          };
+      demands = record { locks = locksLeft ended now (demands .locks); buttons = buttonsLeft begun (demands .buttons) };
       movements = walksBegun begun movements;
     }
 
