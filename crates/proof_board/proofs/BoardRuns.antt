@@ -3,7 +3,6 @@
 use Prim.Native.Nat.{ℕ, _+_, _*_, _/_, _%_, _≤_, _<_}
 use mathlib.Core.Bool.{Bool, true, false}
 use mathlib.Core.List.{List, [], _∷_}
-use mathlib.Core.Logic.{_⊎_, ⊎-elim}
 use mathlib.Core.Path.{_≡_, refl, sym, subst, ap, _∙_}
 use native.Mathlib.Omega.{arith}
 use borrow.Author.Tests.{eqb-true, ne-eqb}
@@ -21,7 +20,7 @@ use Rattle.rules.specs.Site.{siteOf}
 use Rattle.rules.specs.State.{fresh, valid}
 use Rattle.rules.specs.Step.{stepped}
 use Rattle.rules.specs.Call.{callVerdict, answerFor, answerOf, bufferOf}
-use Rattle.rules.specs.Laws.{Sound, AcceptedIsSound, FreshIsValid, StepKeepsValid, Written, RefusalIsWritten}
+use Rattle.rules.specs.Laws.{Sound, AcceptedIsSound, FreshIsValid, StepKeepsValid, RefusalIsWritten}
 use Rattle.rules.specs.Runs.{ruled, Call, Taken, takenFrom, verdictIn, SafeRun, DemandThreeOf, DemandThree}
 use Rattle.board_state.specs.Layout.{stateBytes, isState, decoded, encoded, encodedOver, Proper}
 use Rattle.board_state.proofs.RoundTrips.{encoded-is-state, decoded-encoded}
@@ -29,6 +28,7 @@ use Rattle.willowera.specs.Board.{packed, packedVerdict, packedOutcome, freshAn
 use Rattle.proof_runs.proofs.Chains.{accepted-told}
 use Rattle.proof_acceptance.proofs.Acceptance.{accepted-is-sound}
 use Rattle.proof_acceptance.proofs.Refusals.{refusal-is-written}
+use Rattle.proof_acceptance.proofs.Places.{number-fits}
 use Rattle.proof_validity.proofs.Fresh.{fresh-is-valid}
 use Rattle.proof_validity.proofs.Validity.{step-keeps-valid}
 use Rattle.proof_guarantees.proofs.DemandThree.{demand-three}
@@ -51,11 +51,6 @@ wait-back wait =
     let low : (0 + 256 * wait) % 256 ≡ 0 = omega arith in
     let high : (0 + 256 * wait) / 256 ≡ wait = omega arith in
     rw (low, high)
-
--- the numbers of the refusals that are written fit a byte
-number-fits : (b : List ℕ) (number place : ℕ) → Written b number place → (1 ≤ number) × (number < 256)
-number-fits b number place =
-    ⊎-elim (λ (w : (1 ≤ number) × (number ≤ 12) × (place ≤ length b)). omega arith) (λ (w : (13 ≤ number) × (number ≤ 15) × (place ≡ 0)). omega arith)
 
 module _ (b : List ℕ) (s : State) (inputs room : ℕ) where
   -- the outcome of a call reads back
