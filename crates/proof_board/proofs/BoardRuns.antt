@@ -1,14 +1,13 @@
 -- A run of the library's calls is a run of the rules. An answer reads back as the outcome that it was packed from; the bytes of a state
 -- read back as the state; and each call leaves the bytes of the state that the rules hand back, so call by call nothing differs.
-use Prim.Native.Nat.{ℕ, _+_, _*_, _/_, _%_, _≤_, _<_}
+use Prim.Native.Nat.{ℕ, _/_, _%_, _≤_, _<_}
 use mathlib.Core.Bool.{Bool, true, false}
 use mathlib.Core.List.{List, [], _∷_}
 use mathlib.Core.Path.{_≡_, refl, sym, subst, ap, _∙_}
 use native.Mathlib.Omega.{arith}
-use borrow.Author.Tests.{eqb-true, ne-eqb}
+use borrow.Author.Tests.{ne-eqb}
 use lib.Dec.{eqb}
 use lib.ListN.{length}
-use Rattle.rules.specs.declared.answer.Outcome.{Outcome}
 use Rattle.rules.specs.declared.answer.Outcome.the-variants.{Stepped, Declined}
 use Rattle.rules.specs.declared.answer.Verdict.{Verdict}
 use Rattle.rules.specs.declared.answer.Verdict.the-variants.{Accepted, Refused}
@@ -18,11 +17,11 @@ use Rattle.rules.specs.Verdicts.{_orElse_}
 use Rattle.rules.specs.Personality.{verdictOf}
 use Rattle.rules.specs.Site.{siteOf}
 use Rattle.rules.specs.State.{fresh, valid}
-use Rattle.rules.specs.Step.{stepped}
+use Rattle.rules.specs.WaitBound.{waitBound}
 use Rattle.rules.specs.Call.{callVerdict, answerFor, answerOf, bufferOf}
-use Rattle.rules.specs.Laws.{Sound, AcceptedIsSound, FreshIsValid, StepKeepsValid, RefusalIsWritten}
-use Rattle.rules.specs.Runs.{ruled, Call, Taken, takenFrom, verdictIn, SafeRun, DemandThreeOf, DemandThree}
-use Rattle.board_state.specs.Layout.{stateBytes, isState, decoded, encoded, encodedOver, Proper}
+use Rattle.rules.specs.Laws.{Sound, AcceptedIsSound, FreshIsValid, RefusalIsWritten}
+use Rattle.rules.specs.Runs.{ruled, Call, takenFrom, SafeRun, DemandThreeOf, DemandThree}
+use Rattle.board_state.specs.Layout.{stateBytes, decoded, encoded, encodedOver, Proper}
 use Rattle.board_state.proofs.RoundTrips.{encoded-is-state, decoded-encoded}
 use Rattle.willowera.specs.Board.{packed, packedVerdict, packedOutcome, freshAnswer, stepAnswer, stateFor, stateAfter, coloursAfter}
 use Rattle.proof_runs.proofs.Chains.{accepted-told}
@@ -31,26 +30,37 @@ use Rattle.proof_acceptance.proofs.Refusals.{refusal-is-written}
 use Rattle.proof_acceptance.proofs.Places.{number-fits}
 use Rattle.proof_validity.proofs.Fresh.{fresh-is-valid}
 use Rattle.proof_validity.proofs.Validity.{step-keeps-valid}
+use Rattle.proof_guarantees.proofs.DeadEnds.{valid-for}
 use Rattle.proof_guarantees.proofs.DemandThree.{demand-three}
-use Rattle.proof_board.specs.BoardRuns.{outcomeIn, board, BoardDemandThree, StepIsProper}
+use Rattle.proof_board.specs.BoardRuns.{outcomeIn, verdictIn, board, BoardDemandThree, StepIsProper}
 use Rattle.proof_board.proofs.Proper.{step-is-proper, fresh-is-proper}
 
 -- ── Answers ──
 
--- a number and a value read back, where the number is that of a refusal
-refusal-back : (number value : ℕ) → 1 ≤ number → number < 256 → outcomeIn (packed number value) ≡ Declined number value
-unfolding outcomeIn packed
-refusal-back number value some small =
-    let low : (number + 256 * value) % 256 ≡ number = omega arith in
-    let high : (number + 256 * value) / 256 ≡ value = omega arith in
-    rw (low, high, ne-eqb number 0 (λ e. omega arith))
+-- the two parts of a packed answer
+module _ (number value : ℕ) (small : number < 256) where
+  low-part : packed number value % 256 ≡ number
+  unfolding packed
+  low-part = omega arith
 
-wait-back : (wait : ℕ) → outcomeIn (packed 0 wait) ≡ Stepped wait
-unfolding outcomeIn packed
-wait-back wait =
-    let low : (0 + 256 * wait) % 256 ≡ 0 = omega arith in
-    let high : (0 + 256 * wait) / 256 ≡ wait = omega arith in
-    rw (low, high)
+  high-part : packed number value / 256 ≡ value
+  unfolding packed
+  high-part = omega arith
+
+-- a refusal reads back
+module _ (number place : ℕ) (fits : (1 ≤ number) × (number < 256)) where
+  outcome-refused : outcomeIn (packed number place) ≡ Declined number place
+  unfolding outcomeIn
+  outcome-refused = rw (low-part number place (fits .1), high-part number place (fits .1), ne-eqb number 0 (λ e. omega (arith, fits .0)))
+
+  verdict-refused : verdictIn (packed number place) ≡ Refused number place
+  unfolding verdictIn
+  verdict-refused = rw (low-part number place (fits .1), high-part number place (fits .1), ne-eqb number 0 (λ e. omega (arith, fits .0)))
+
+-- a wait bound reads back
+outcome-stepped : (wait : ℕ) → outcomeIn (packed 0 wait) ≡ Stepped wait
+unfolding outcomeIn
+outcome-stepped wait = rw (low-part 0 wait (omega arith), high-part 0 wait (omega arith))
 
 module _ (b : List ℕ) (s : State) (inputs room : ℕ) where
   -- the outcome of a call reads back
@@ -59,22 +69,19 @@ module _ (b : List ℕ) (s : State) (inputs room : ℕ) where
       callVerdict b s inputs room ≡ v →
       outcomeIn (packedOutcome (answerFor v (siteOf b) s inputs .outcome)) ≡ answerFor v (siteOf b) s inputs .outcome
   unfolding answerFor packedOutcome RefusalIsWritten
-  outcome-for Accepted e = wait-back _
-  outcome-for (Refused number place) e =
-      let fits = number-fits b number place (refusal-is-written b s inputs room number place e) in
-      refusal-back number place (fits .0) (fits .1)
+  outcome-for Accepted e = outcome-stepped (waitBound (siteOf b))
+  outcome-for (Refused number place) e = outcome-refused number place (number-fits b number place (refusal-is-written b s inputs room number place e))
 
   outcome-back : outcomeIn (packedOutcome (answerOf b s inputs room .outcome)) ≡ answerOf b s inputs room .outcome
   unfolding answerOf
   outcome-back = outcome-for (callVerdict b s inputs room) refl
 
 -- the answer to reading a personality reads back
-read-for : (b : List ℕ) (v : Verdict) → verdictOf b ≡ v → verdictIn (outcomeIn (packedVerdict v)) ≡ v
-unfolding packed packedVerdict verdictIn RefusalIsWritten callVerdict _orElse_
-read-for b Accepted e = ap verdictIn (wait-back 0)
+read-for : (b : List ℕ) (v : Verdict) → verdictOf b ≡ v → verdictIn (packedVerdict v) ≡ v
+unfolding packedVerdict verdictIn RefusalIsWritten callVerdict _orElse_
+read-for b Accepted e = refl
 read-for b (Refused number place) e =
-    let fits = number-fits b number place (refusal-is-written b fresh 0 0 number place (rw e)) in
-    ap verdictIn (refusal-back number place (fits .0) (fits .1))
+    verdict-refused number place (number-fits b number place (refusal-is-written b fresh 0 0 number place (rw e)))
 
 -- ── One call ──
 
@@ -102,20 +109,17 @@ module _ (b : List ℕ) (s : State) (proper : Proper s) (inputs : ℕ) where
 -- ── A list of calls ──
 
 module _ (b : List ℕ) (sound : Sound (siteOf b)) (buffer : List ℕ) where
-  -- a call leads from a valid state that the types hold to another
-  kept :
-      (s : State) (inputs room : ℕ) →
+  -- a call leads to a state that the types hold
+  proper-for :
+      (s : State) →
       valid (siteOf b) s ≡ true →
       Proper s →
-      (v : Verdict) →
+      (inputs room : ℕ) (v : Verdict) →
       callVerdict b s inputs room ≡ v →
-      let next = answerFor v (siteOf b) s inputs .state in
-      (valid (siteOf b) next ≡ true) × Proper next
-  unfolding answerFor StepKeepsValid StepIsProper
-  kept s inputs room sane proper Accepted e =
-      let wired = accepted-told b s inputs room e .1 in
-      (step-keeps-valid (siteOf b) sound s inputs sane wired, step-is-proper (siteOf b) sound s inputs sane wired)
-  kept s inputs room sane proper (Refused number place) e = (sane, proper)
+      Proper (answerFor v (siteOf b) s inputs .state)
+  unfolding answerFor StepIsProper
+  proper-for s sane proper inputs room Accepted e = step-is-proper (siteOf b) sound s inputs sane (accepted-told b s inputs room e .1)
+  proper-for s sane proper inputs room (Refused number place) e = proper
 
   same-run :
       (calls : List Call) (s : State) →
@@ -128,10 +132,10 @@ module _ (b : List ℕ) (sound : Sound (siteOf b)) (buffer : List ℕ) where
       let room = length (c .buffer) in
       let v = callVerdict b s (c .inputs) room in
       let next = answerFor v (siteOf b) s (c .inputs) .state in
-      let there = kept s (c .inputs) room sane proper v refl in
+      let there = proper-for s sane proper (c .inputs) room v refl in
       let bytes = same-next b s proper (c .inputs) room in
-      let later = ap (λ (state : List ℕ). takenFrom (board buffer) b state calls) bytes ∙ same-run calls next (there .0) (there .1) in
-      let after = ap decoded bytes ∙ decoded-encoded next (there .1) in
+      let later = ap (λ (state : List ℕ). takenFrom (board buffer) b state calls) bytes ∙ same-run calls next (valid-for step-keeps-valid b sound s sane (c .inputs) room v refl) there in
+      let after = ap decoded bytes ∙ decoded-encoded next there in
       λ i.
       record {
         before = decoded-encoded s proper i;

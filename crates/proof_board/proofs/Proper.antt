@@ -1,8 +1,8 @@
 -- States that the machine's types hold. The numbers of a valid state of a sound site are within the table of limits or below the
 -- counts, and a step makes its rows anew, at their lengths.
 use Prim.Native.Nat.{ℕ, _≤_, _<_}
-use mathlib.Core.Bool.{Bool, true, false, not, _&&_}
-use mathlib.Core.Path.{_≡_, refl, sym}
+use mathlib.Core.Bool.{Bool, true, not, _&&_}
+use mathlib.Core.Path.{_≡_, refl}
 use native.Mathlib.Omega.{arith}
 use borrow.Author.Tests.{ltb-true}
 use lib.Dec.{ltb, eqb}
@@ -13,7 +13,7 @@ use Rattle.rules.specs.declared.state.Held.the-variants.{Nothing, Phase}
 use Rattle.rules.specs.declared.state.State.{State}
 use Rattle.rules.specs.Site.{phaseTimes}
 use Rattle.rules.specs.Intervals.{isLeaving, phaseHeld}
-use Rattle.rules.specs.State.{fresh, targetValid, cameValid, valid}
+use Rattle.rules.specs.State.{fresh, targetValid, cameValid}
 use Rattle.rules.specs.Step.{stepped}
 use Rattle.rules.specs.Walks.{walksBegun, buttonsLeft}
 use Rattle.rules.specs.Laws.{Sound, FreshIsValid, StepKeepsValid}

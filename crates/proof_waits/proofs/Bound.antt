@@ -19,18 +19,14 @@ use Rattle.proof_runs.proofs.ValidStates.{ValidState, target-below}
 use Rattle.proof_runs.proofs.Steps.{timesNow}
 use Rattle.proof_waits.proofs.Stages.{longestWalk, longestClearance, outs, idles, out-most, clear-most}
 use Rattle.rules.proofs.Settings.{Timed, phase-timed, start-timed}
-use Rattle.proof_waits.proofs.Left.{Each, visit, fromYellow, fromRunning, LeftIn, Left}
+use Rattle.proof_waits.proofs.Left.{Each, leavingTime, visit, fromLeaving, fromRunning, LeftIn, Left}
 use Rattle.proof_waits.proofs.Falls.{running-whole}
 
 -- ── The bound's two parts ──
 
 -- what the bound counts a second time
-unfoldable pub again : Site → ℕ → ℕ
-again site p =
-    longestWalk site p
-    + phaseTimes (site .times) p .yellow
-    + phaseTimes (site .times) p .red
-    + longestClearance site p
+pub again : Site → ℕ → ℕ
+again site p = longestWalk site p + leavingTime (phaseTimes (site .times) p) + longestClearance site p
 
 -- all visits
 unfoldable pub visits : Site → ℕ
@@ -97,7 +93,7 @@ module _
     leaving-within :
         isLeaving (s .position .interval) ≡ true →
         (timer : ℕ) →
-        timer ≤ site .times .start + timesNow site s .yellow + timesNow site s .red →
+        timer ≤ site .times .start + leavingTime (timesNow site s) →
         Each timer (ahead (phaseHeld (s .position .target))) (idles site s) (waitBound site)
     unfolding again
     leaving-within h timer most = (omega (arith, bound, target-far h), λ k l. omega (arith, bound, target-far h, idles-clear h k l))
@@ -106,14 +102,14 @@ module _
         (i : Interval) →
         s .position .interval ≡ i →
         LeftIn site ahead onward i own (s .position) (s .counts .maximum) (outs site s) (idles site s) (waitBound site)
-    unfolding isLeaving isStartRed again fromRunning fromYellow visit outs
+    unfolding isLeaving isStartRed again fromRunning fromLeaving visit outs
     within StartRed e = omega (arith, bound, far (s .position .phase) (v .phase), start-timed site sound, v .age)
     within LateStart e = omega (arith, bound, fits (rw e refl) (rw e refl), clear, times, v .age)
     within MinimumGreen e = omega (arith, bound, fits (rw e refl) (rw e refl), clear, times, v .age)
     within Running e =
         running-whole own (timesNow site s .maximum) (s .counts .maximum)
         (longestWalk site (s .position .phase))
-        (fromYellow site ahead onward (s .position .phase))
+        (fromLeaving site ahead onward (s .position .phase))
         (outs site s)
         (waitBound site)
         (times .maximum .0)

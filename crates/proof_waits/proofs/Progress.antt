@@ -30,7 +30,7 @@ use Rattle.proof_runs.proofs.Steps.{timesNow, another, counted, moving, ended, 
 use Rattle.proof_runs.proofs.Ends.{ended-in, next-in, started-in, running-ends}
 use Rattle.proof_waits.proofs.Stages.{longestWalk, longestClearance, outs, idles, out-most, clear-most}
 use Rattle.rules.proofs.Settings.{Timed, phase-timed, start-timed}
-use Rattle.proof_waits.proofs.Left.{Each, visit, fromYellow, fromRunning, LeftIn, Left}
+use Rattle.proof_waits.proofs.Left.{Each, leavingTime, visit, fromLeaving, fromRunning, LeftIn, Left}
 use Rattle.proof_waits.proofs.Falls.{timer-falls, timer-waits, each-falls, running-whole, running-more, running-stays, starts-left}
 use Rattle.proof_waits.proofs.Moves.{maximum-rises, quiet-in, quiet-demanded, outs-fall, idles-fall, running-held, red-held}
 
@@ -83,7 +83,7 @@ module _
     walk = longestWalk site (s .position .phase)
 
     abbrev after : ℕ
-    after = fromYellow site ahead onward (s .position .phase)
+    after = fromLeaving site ahead onward (s .position .phase)
 
     times : Timed settings
     times = phase-timed site sound (s .position .phase) (v .phase)
@@ -154,9 +154,9 @@ module _
         ahead (phaseHeld target) ≤ onward (s .position .phase) →
         after ≤ n →
         (timer : ℕ) →
-        timer ≤ settings .yellow + settings .red →
+        timer ≤ leavingTime settings →
         Each timer (ahead (phaseHeld target)) (idles site next) n
-    unfolding entering idles fromYellow
+    unfolding entering idles fromLeaving
     leaves i target leaving e near h timer most = (
       omega arith,
       λ k l.
@@ -209,7 +209,7 @@ module _
         ended site s inputs ≡ b →
         LeftIn site ahead onward i own (s .position) (s .counts .maximum) (outs site s) (idles site s) (suc n) →
         Outcome
-    unfolding following entering staying isBeforeStart isRunning isLeaving ends fromRunning fromYellow
+    unfolding following entering staying isBeforeStart isRunning isLeaving ends fromRunning fromLeaving
     step StartRed true e b h =
         begins (s .position .phase) (s .position .came) (started-in site s inputs StartRed e true b)
         (next-in site s inputs StartRed e true b)
