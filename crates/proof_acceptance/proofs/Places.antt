@@ -1,18 +1,43 @@
--- Every refusal has a number from 1 on, and a place that is no further on than the longest personality goes, so that both fit one answer
--- beside each other: the walk over the checks, for a step call and a lookup too.
-use Prim.Native.Nat.{ℕ, zero, suc, _≤_}
-use mathlib.Core.Bool.{Bool, true, false}
+-- Every refusal has a number of one byte that is not 0, and a place that is no further on than the longest personality goes, so that both
+-- fit one answer beside each other: the walk over the checks, for a step call and a lookup too.
+use Prim.Native.Nat.{ℕ, _≤_, _<_}
+use mathlib.Core.Bool.{true, _&&_}
 use mathlib.Core.List.{List}
-use mathlib.Core.Path.{_≡_, refl}
+use mathlib.Core.Logic.{⊎-elim}
+use mathlib.Core.Path.{_≡_}
+use lib.Dec.{leb}
 use native.Mathlib.Omega.{arith}
+use borrow.Author.Tests.{leb-true}
 use Rattle.rules.specs.declared.answer.Verdict.{Verdict}
 use Rattle.rules.specs.declared.state.State.{State}
 use Rattle.rules.specs.Personality.{verdictOf}
 use Rattle.rules.specs.Call.{callVerdict}
 use Rattle.rules.specs.Lookup.{lookupVerdict}
-use Rattle.rules.specs.Laws.{readingNumber, stepNumber, greatestLength, PlaceIn}
-use Rattle.rules.proofs.Tests.{never-both}
+use Rattle.rules.specs.Laws.{readingNumber, stepNumber, greatestLength, PlaceIn, Written}
+use Rattle.rules.proofs.Tests.{and-left, and-right}
 use Rattle.proof_acceptance.proofs.Refusals.{Refusals, if-refusals, or-refusals, personality-refusals, call-refusals}
+
+-- ── Numbers ──
+
+in-range : (low high number : ℕ) → (leb low number && leb number high) ≡ true → (low ≤ number) × (number ≤ high)
+in-range low high number known = (
+  leb-true low number (and-left (leb low number) (leb number high) known),
+  leb-true number high (and-right (leb low number) (leb number high) known),
+)
+
+reading-fits : (number : ℕ) → readingNumber number ≡ true → (1 ≤ number) × (number < 256)
+reading-fits number known = omega (arith, in-range 1 12 number known)
+
+step-fits : (number : ℕ) → stepNumber number ≡ true → (1 ≤ number) × (number < 256)
+step-fits number known = omega (arith, in-range 13 15 number known)
+
+pub number-fits : (b : List ℕ) (number place : ℕ) → Written b number place → (1 ≤ number) × (number < 256)
+number-fits b number place =
+    ⊎-elim
+    (λ (w : (readingNumber number ≡ true) × PlaceIn b place). reading-fits number (w .0))
+    (λ (w : (stepNumber number ≡ true) × (place ≡ 0)). step-fits number (w .0))
+
+-- ── Places ──
 
 abbrev pub lastPlace : ℕ
 lastPlace = greatestLength
@@ -23,21 +48,15 @@ Near number place = (1 ≤ number) × (place ≤ lastPlace)
 abbrev pub Named : Verdict → Type 0
 Named = Refusals Near
 
--- numbers among which 0 is not are from 1 on
-from-one : (known : ℕ → Bool) → known 0 ≡ false → (number : ℕ) → known number ≡ true → 1 ≤ number
-from-one known none zero e = absurd (never-both e none)
-from-one known none (suc number) e = omega arith
-
 module _ (b : List ℕ) where
   near : (number place : ℕ) → readingNumber number ≡ true → PlaceIn b place → Near number place
-  near number place known l = (from-one readingNumber refl number known, l .1)
+  near number place known l = (reading-fits number known .0, l .1)
 
   pub personality-named : Named (verdictOf b)
   personality-named = personality-refusals b Near near
 
   pub call-named : (s : State) (inputs room : ℕ) → Named (callVerdict b s inputs room)
-  call-named s inputs room =
-      call-refusals b Near near s inputs room (λ number known. (from-one stepNumber refl number known, omega arith))
+  call-named s inputs room = call-refusals b Near near s inputs room (λ number known. (step-fits number known .0, omega arith))
 
   pub lookup-named : (kind : ℕ) → Named (lookupVerdict b kind)
   unfolding lookupVerdict

@@ -3,7 +3,6 @@
 use Prim.Native.Nat.{ℕ, _/_, _%_, _≤_, _<_}
 use mathlib.Core.Bool.{Bool, true, false}
 use mathlib.Core.List.{List, [], _∷_}
-use mathlib.Core.Logic.{⊎-elim}
 use mathlib.Core.Path.{_≡_, refl, sym, subst, ap, _∙_}
 use native.Mathlib.Omega.{arith}
 use borrow.Author.Tests.{ne-eqb}
@@ -20,7 +19,7 @@ use Rattle.rules.specs.Site.{siteOf}
 use Rattle.rules.specs.State.{fresh, valid}
 use Rattle.rules.specs.WaitBound.{waitBound}
 use Rattle.rules.specs.Call.{callVerdict, answerFor, answerOf, bufferOf}
-use Rattle.rules.specs.Laws.{Sound, AcceptedIsSound, FreshIsValid, Written, RefusalIsWritten}
+use Rattle.rules.specs.Laws.{Sound, AcceptedIsSound, FreshIsValid, RefusalIsWritten}
 use Rattle.rules.specs.Runs.{ruled, Call, takenFrom, SafeRun, DemandThreeOf, DemandThree}
 use Rattle.board_state.specs.Layout.{stateBytes, decoded, encoded, encodedOver, Proper}
 use Rattle.board_state.proofs.RoundTrips.{encoded-is-state, decoded-encoded}
@@ -28,6 +27,7 @@ use Rattle.willowera.specs.Board.{packed, packedVerdict, packedOutcome, freshAn
 use Rattle.proof_runs.proofs.Chains.{accepted-told}
 use Rattle.proof_acceptance.proofs.Acceptance.{accepted-is-sound}
 use Rattle.proof_acceptance.proofs.Refusals.{refusal-is-written}
+use Rattle.proof_acceptance.proofs.Places.{number-fits}
 use Rattle.proof_validity.proofs.Fresh.{fresh-is-valid}
 use Rattle.proof_validity.proofs.Validity.{step-keeps-valid}
 use Rattle.proof_guarantees.proofs.DeadEnds.{valid-for}
@@ -61,11 +61,6 @@ module _ (number place : ℕ) (fits : (1 ≤ number) × (number < 256)) where
 outcome-stepped : (wait : ℕ) → outcomeIn (packed 0 wait) ≡ Stepped wait
 unfolding outcomeIn
 outcome-stepped wait = rw (low-part 0 wait (omega arith), high-part 0 wait (omega arith))
-
--- the numbers of the refusals that are written fit a byte
-number-fits : (b : List ℕ) (number place : ℕ) → Written b number place → (1 ≤ number) × (number < 256)
-number-fits b number place =
-    ⊎-elim (λ (w : (1 ≤ number) × (number ≤ 12) × (place ≤ length b)). omega arith) (λ (w : (13 ≤ number) × (number ≤ 15) × (place ≡ 0)). omega arith)
 
 module _ (b : List ℕ) (s : State) (inputs room : ℕ) where
   -- the outcome of a call reads back
