@@ -16,7 +16,8 @@ use Rattle.rules.specs.Site.{phaseTimes, walkTimes, isPedestrian, movementOf, c
 use Rattle.rules.specs.State.{fresh, movement}
 use Rattle.rules.specs.Colours.{red, yellow, green, flashing, movementColour}
 use Rattle.rules.specs.Runs.{Taken, shows, shownBy, StartsGreen, VehicleCleared, PedestrianCleared, Cleared, FullClearances}
-use Rattle.rules.specs.Laws.{Sound, SoundPhaseTimes}
+use Rattle.rules.specs.Laws.{Sound}
+use Rattle.rules.proofs.Settings.{Timed, phase-timed, walk-reached}
 use Rattle.proof_runs.proofs.Linked.{reached}
 use Rattle.proof_runs.proofs.Runs.{ValidLink, Run}
 use Rattle.proof_clearance.proofs.Shown.{vehicleAt, vehicle-shows, pedestrian-shows, green-walks}
@@ -33,7 +34,7 @@ module _
 
   -- ── Vehicle groups ──
 
-  module _ (kind : isPedestrian (site .groups) j ≡ false) (p : ℕ) (times : SoundPhaseTimes (phaseTimes (site .times) p)) where
+  module _ (kind : isPedestrian (site .groups) j ≡ false) (p : ℕ) (times : Timed (phaseTimes (site .times) p)) where
     shown : (s : State) (step : Taken) → ValidLink site s step → shows step j ≡ vehicleAt site j (step .after .position)
     shown s step link = vehicle-shows site s step (link .taken) j within kind
 
@@ -130,7 +131,7 @@ module _
     flashing-falls n s step link other left =
         let here = mine-after s step link other in
         let shown = rw here at (walk-shown s step link) in
-        let fall = flashes-fall times (sound .walkTime (movementOf (site .groups) j) below) n (mine s) left (λ e. other (shown ∙ e)) in
+        let fall = flashes-fall times (walk-reached site sound (movementOf (site .groups) j) below) n (mine s) left (λ e. other (shown ∙ e)) in
         (rw here (fall .0), shown ∙ fall .1)
 
     -- idle, or in the last step of C2
@@ -158,7 +159,7 @@ module _
         steps
         (in-walk (green-walks (mine s .stage) e) refl)
         since in
-        let idles = flashes-over times (sound .walkTime (movementOf (site .groups) j) below) (mine (down .0)) (down .2) in
+        let idles = flashes-over times (walk-reached site sound (movementOf (site .groups) j) below) (mine (down .0)) (down .2) in
         let reds = only-red site j start later Idles idle-rests (down .0) (down .1) idles (down .3) in
         (length (down .1), rw (← reds) (down .4))
 
@@ -178,7 +179,7 @@ module _
       by-kind true kind = rw kind (pedestrian-cleared kind (last .after) steps (sym (walk-shown kind s last link) ∙ e) since)
       by-kind false kind =
           let p = last .after .position .phase in
-          let times = sound .phaseTime p (link .there .phase) in
+          let times = phase-timed site sound p (link .there .phase) in
           rw kind (vehicle-cleared kind p times (last .after) steps refl (sym (shown kind p times s last link) ∙ e) since)
 
 -- ── Runs ──

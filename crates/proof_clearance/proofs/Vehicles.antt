@@ -11,15 +11,14 @@ use Rattle.rules.specs.declared.site.Site.{Site}
 use Rattle.rules.specs.declared.state.Interval.the-variants.{Yellow, AllRed}
 use Rattle.rules.specs.declared.state.Position.{Position}
 use Rattle.rules.specs.declared.state.State.{State}
-use Rattle.rules.specs.Limits.{limits, limitOf}
 use Rattle.rules.specs.Site.{inPhase, phaseTimes}
 use Rattle.rules.specs.Demands.{nextDemanded}
 use Rattle.rules.specs.Interval.{ends, staying}
 use Rattle.rules.specs.Colours.{red, yellow, green}
 use Rattle.rules.specs.Runs.{Taken}
-use Rattle.rules.specs.Laws.{SoundPhaseTimes}
 use Rattle.rules.proofs.Tests.{and-left}
 use Rattle.rules.proofs.Counts.{below-or-past}
+use Rattle.rules.proofs.Settings.{Timed}
 use Rattle.proof_runs.proofs.Steps.{ended, position-of}
 use Rattle.proof_runs.proofs.Ends.{followed, by-end, ended-in}
 use Rattle.proof_runs.proofs.Chains.{Link}
@@ -103,7 +102,7 @@ module _ (site : Site) (j p c : ℕ) (position : Position) where
   stopped-red (in-yellow row h) more = absurd (omega arith)
   stopped-red (in-red a row some e) more = leaving-all-red site j p a position row
 
-module _ (site : Site) (j p : ℕ) (times : SoundPhaseTimes (phaseTimes (site .times) p)) where
+module _ (site : Site) (j p : ℕ) (times : Timed (phaseTimes (site .times) p)) where
   module _ (s : State) (step : Taken) (link : Link site s step) where
     yellow-ends : (a : ℕ) → Leaving site j p Yellow a (s .position) → ended site s (step .inputs) ≡ leb (phaseTimes (site .times) p .yellow) a
     unfolding ends
@@ -122,7 +121,6 @@ module _ (site : Site) (j p : ℕ) (times : SoundPhaseTimes (phaseTimes (site .t
         Stopped site j p c (s .position) →
         Stopped site j p (suc c) (step .after .position)
         ⊎ ((phaseTimes (site .times) p .yellow + phaseTimes (site .times) p .red ≤ c) × (vehicleAt site j (s .position) ≡ red))
-    unfolding limitOf limits
     stopped-on c (in-yellow row h) =
         inl (at-end site s step link (λ (q : Position). Stopped site j p (suc c) q)
         (λ over.
@@ -157,7 +155,7 @@ module _ (site : Site) (j p : ℕ) where
   yellows-member n position (in-green here e c) = green-of-phase (inPhase (site .groups) j (position .phase)) _ e
   yellows-member n position (stopped c row e) = stopped-member site j p c position row
 
-  module _ (times : SoundPhaseTimes (phaseTimes (site .times) p)) where
+  module _ (times : Timed (phaseTimes (site .times) p)) where
     -- a step that does not show green is one of the yellow ones
     pub yellows-fall :
         (s : State) (step : Taken) →
@@ -178,7 +176,6 @@ module _ (site : Site) (j p : ℕ) where
 
     -- where none is to come, it has been stopped for Y
     pub yellows-over : (position : Position) → YellowsLeft site j p 0 position → Stopped site j p (phaseTimes (site .times) p .yellow) position
-    unfolding limitOf limits
     yellows-over position (in-green here e c) = absurd (omega arith)
     yellows-over position (stopped c row e) =
         let same : c ≡ phaseTimes (site .times) p .yellow = omega arith in

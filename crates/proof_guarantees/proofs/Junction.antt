@@ -1,24 +1,25 @@
 -- Demand 3 applied to the junction of two phases. That the rules accept it, with a wait bound of 270, are two of the worked cases;
--- that its two groups conflict is computed. Every accepted step answers that wait bound.
-use Prim.Native.Nat.{ℕ, _≤_}
-use mathlib.Core.Bool.{true}
-use mathlib.Core.List.{List, _∷_, _++_}
-use mathlib.Core.Path.{_≡_, refl, sym, subst, _∙_}
+-- that its two groups conflict is computed.
+use Prim.Native.Nat.{ℕ, zero, suc, _≤_, _<_}
+use mathlib.Core.Bool.{true, false}
+use mathlib.Core.Path.{_≡_, refl, sym, ap, subst, _∙_}
+use native.Mathlib.Omega.{arith}
+use borrow.Author.Tests.{le-ltb}
+use lib.Dec.{ltb}
 use lib.ListN.{length}
+use Rattle.rules.specs.declared.answer.Outcome.the-variants.{Stepped}
 use Rattle.rules.specs.declared.answer.Verdict.the-variants.{Accepted}
 use Rattle.rules.specs.Personality.{verdictOf}
 use Rattle.rules.specs.Site.{siteOf, conflict}
-use Rattle.rules.specs.State.{fresh}
-use Rattle.rules.specs.Verdicts.{waitOf}
+use Rattle.rules.specs.Verdicts.{_orElse_, refuseIf}
 use Rattle.rules.specs.WaitBound.{waitBound}
-use Rattle.rules.specs.Runs.{ruled, Call, Taken, takenFrom, accepted, NoConflictingGreens, DemandsMet, DemandThreeOf, DemandThree, comesWithin, minimumGreenBegins}
+use Rattle.rules.specs.Call.{strayInput, boundFor}
+use Rattle.rules.specs.Runs.{ruled, NoConflictingGreens, DemandsMet, NoDeadEnd, DemandThreeOf, DemandThree, comesWithin, minimumGreenBegins}
 use Rattle.rules.specs.Junctions.{junction}
 use Rattle.rules.specs.Cases.{CasesHold, cases, starred}
 use Rattle.rules.proofs.Cases.{cases-hold}
 use Rattle.rules.proofs.Opened.{opened}
-use Rattle.proof_runs.proofs.Linked.{reached}
-use Rattle.proof_runs.proofs.Chains.{Link, chained}
-use Rattle.proof_guarantees.specs.Junction.{NeverTogether, MetIn270}
+use Rattle.proof_guarantees.specs.Junction.{NeverTogether, MetIn270, AlwaysAnswered}
 use Rattle.proof_guarantees.proofs.DemandThree.{demand-three}
 
 junction-accepted : verdictOf junction ≡ Accepted
@@ -33,14 +34,6 @@ groups-conflict : conflict (siteOf junction) 0 1 ≡ true
 unfolding opened
 groups-conflict = refl
 
-told-270 :
-    (calls : List Call) (earlier later : List Taken) (step : Taken) →
-    accepted (takenFrom ruled junction fresh calls) ≡ earlier ++ step ∷ later →
-    waitOf (step .outcome) ≡ 270
-told-270 calls earlier later step e =
-    let steps = accepted (takenFrom ruled junction fresh calls) in
-    reached (Link (siteOf junction)) steps earlier (step ∷ later) fresh e (chained junction fresh calls) .1 .0 .wait ∙ junction-bound
-
 pub never-together : NeverTogether
 unfolding NeverTogether DemandThree DemandThreeOf NoConflictingGreens ruled
 never-together calls earlier later step e =
@@ -49,8 +42,26 @@ never-together calls earlier later step e =
 pub met-in-270 : MetIn270
 unfolding MetIn270 DemandThree DemandThreeOf DemandsMet ruled
 met-in-270 calls earlier later step e long registered =
-    let told = told-270 calls earlier later step e in
     let met =
     demand-three junction junction-accepted calls .demandsMet earlier later step e
-    (subst (λ (n : ℕ). n ≤ length later) (sym told) long) in
-    subst (λ (n : ℕ). comesWithin n (minimumGreenBegins 1) step later ≡ true) told (met .0 1 registered)
+    (subst (λ (n : ℕ). n ≤ length later) (sym junction-bound) long) in
+    subst (λ (n : ℕ). comesWithin n (minimumGreenBegins 1) step later ≡ true) junction-bound (met .0 1 registered)
+
+-- the two detectors and no buttons
+inputs-wired : (inputs : ℕ) → inputs < 4 → strayInput (siteOf junction) inputs ≡ false
+unfolding opened
+inputs-wired zero h = refl
+inputs-wired (suc zero) h = refl
+inputs-wired (suc (suc zero)) h = refl
+inputs-wired (suc (suc (suc zero))) h = refl
+inputs-wired (suc (suc (suc (suc n)))) h = absurd (omega (arith, h))
+
+room-enough : (room : ℕ) → 2 ≤ room → ltb room (siteOf junction .size .groups) ≡ false
+unfolding opened
+room-enough room h = le-ltb room 2 h
+
+pub always-answered : AlwaysAnswered
+unfolding AlwaysAnswered DemandThree DemandThreeOf NoDeadEnd ruled refuseIf _orElse_ boundFor
+always-answered calls earlier later call e few enough =
+    demand-three junction junction-accepted calls .noDeadEnd earlier later call e
+    ∙ rw (inputs-wired (call .inputs) few, room-enough (call .room) enough) (ap Stepped junction-bound)

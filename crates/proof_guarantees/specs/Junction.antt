@@ -1,9 +1,10 @@
 -- Demand 3 read at the junction of two phases of document 01: what it says of a real site, in numbers.
-use Prim.Native.Nat.{ℕ, _≤_}
+use Prim.Native.Nat.{_≤_, _<_}
 use mathlib.Core.Bool.{true}
 use mathlib.Core.List.{List, _∷_, _++_}
 use mathlib.Core.Path.{_≡_}
 use lib.ListN.{length}
+use Rattle.rules.specs.declared.answer.Outcome.the-variants.{Stepped}
 use Rattle.rules.specs.Site.{siteOf}
 use Rattle.rules.specs.State.{fresh}
 use Rattle.rules.specs.Colours.{green}
@@ -27,3 +28,13 @@ MetIn270 =
     270 ≤ length later →
     registersLocked (siteOf junction) step 1 ≡ true →
     comesWithin 270 (minimumGreenBegins 1) step later ≡ true
+
+-- Whatever the calls: one whose input bits are those of the two detectors, with a buffer of two bytes or more, is accepted, and its answer
+-- has the wait bound of 270.
+unfoldable pub AlwaysAnswered : Type 0
+AlwaysAnswered =
+    (calls : List Call) (earlier later : List Taken) (call : Taken) →
+    takenFrom ruled junction fresh calls ≡ earlier ++ call ∷ later →
+    call .inputs < 4 →
+    2 ≤ call .room →
+    call .outcome ≡ Stepped 270

@@ -1,7 +1,7 @@
 -- With the rules' own parts the controllers of `Faults` are the rules: by the verdict on a call, each answer is the same.
 use Prim.Native.Nat.{ℕ}
 use mathlib.Core.List.{List, _++_}
-use mathlib.Core.Path.{_≡_, refl}
+use mathlib.Core.Path.{_≡_, refl, sym}
 use lib.ListN.{length, drop}
 use Rattle.rules.specs.declared.answer.Verdict.{Verdict}
 use Rattle.rules.specs.declared.answer.Verdict.the-variants.{Accepted, Refused}
@@ -13,10 +13,10 @@ use Rattle.rules.specs.State.{fresh}
 use Rattle.rules.specs.Interval.{ends, following, positionAfter}
 use Rattle.rules.specs.Step.{stepped}
 use Rattle.rules.specs.Colours.{coloursOf}
-use Rattle.rules.specs.WaitBound.{waitBound}
 use Rattle.rules.specs.Call.{callVerdict, answerFor, bufferFor, answerOf, bufferOf}
 use Rattle.rules.specs.Runs.{ruled}
-use Rattle.proof_refutations.specs.Faults.{checksBy, outcomeFor, ifAccepted, controllerBy, steppedBy}
+use Rattle.rules.proofs.Calls.{answer-bound}
+use Rattle.proof_refutations.specs.Faults.{checksBy, ifAccepted, controllerBy, steppedBy}
 use Rattle.proof_refutations.specs.Refutations.{SameRules}
 
 same-step : steppedBy ends following ≡ stepped
@@ -24,11 +24,6 @@ unfolding steppedBy stepped positionAfter
 same-step = refl
 
 module _ (site : Site) (s : State) (inputs : ℕ) where
-  same-outcome : (v : Verdict) → outcomeFor v (waitBound site) ≡ answerFor v site s inputs .outcome
-  unfolding outcomeFor answerFor
-  same-outcome Accepted = refl
-  same-outcome (Refused number place) = refl
-
   same-next : (v : Verdict) → ifAccepted v (stepped site s inputs) s ≡ answerFor v site s inputs .state
   unfolding ifAccepted answerFor
   same-next Accepted = refl
@@ -51,7 +46,7 @@ same-rules =
           record {
             verdict = verdictOf;
             fresh = fresh;
-            outcome = λ b s inputs room. same-outcome (siteOf b) s inputs (callVerdict b s inputs room) i;
+            outcome = λ b s inputs room. sym (answer-bound (callVerdict b s inputs room) (siteOf b) s inputs) i;
             next = λ b s inputs room. same-next (siteOf b) s inputs (callVerdict b s inputs room) i;
             buffer = λ b s inputs buffer. same-buffer (siteOf b) s inputs buffer (callVerdict b s inputs (length buffer)) i;
             seen = λ s. s;

@@ -9,18 +9,19 @@ use borrow.Author.Tests.{ltb-true, leb-true, eqb-false}
 use lib.Dec.{leb, ltb, eqb}
 use lib.ListN.{length, getD, take, drop, replicate, length-append, length-replicate, length-map}
 use lib.Seq.{split-at}
-use Rattle.rules.specs.declared.answer.Outcome.the-variants.{Declined}
+use Rattle.rules.specs.declared.answer.Outcome.{Outcome}
+use Rattle.rules.specs.declared.answer.Outcome.the-variants.{Stepped, Declined}
 use Rattle.rules.specs.declared.answer.Verdict.{Verdict}
-use Rattle.rules.specs.declared.answer.Verdict.the-variants.{Accepted, Refused}
+use Rattle.rules.specs.declared.answer.Verdict.the-variants.{Accepted}
 use Rattle.rules.specs.declared.state.State.{State}
-use Rattle.rules.specs.Verdicts.{_orElse_, refuseIf, waitOf}
+use Rattle.rules.specs.Verdicts.{_orElse_, refuseIf}
 use Rattle.rules.specs.Site.{siteOf, phaseTimes, walkTimes, isPedestrian, movementOf, conflict}
 use Rattle.rules.specs.State.{fresh}
 use Rattle.rules.specs.Colours.{red, yellow, green}
-use Rattle.rules.specs.Call.{strayInput}
-use Rattle.rules.specs.Runs.{Controller, Call, Taken, takenFrom, accepted, shows, shownBy, NeverGreen, lastGreen, StartsGreen, NoConflictingGreens, VehicleCleared, PedestrianCleared, Cleared, FullClearances, registersLocked, registersPressed, minimumGreenBegins, walkBegins, someStep, comesWithin, DemandsMet, verdictIn, NoDeadEnd, DemandThreeOf}
+use Rattle.rules.specs.WaitBound.{waitBound}
+use Rattle.rules.specs.Call.{strayInput, boundFor}
+use Rattle.rules.specs.Runs.{Controller, Call, Taken, takenFrom, accepted, shows, shownBy, NeverGreen, lastGreen, StartsGreen, NoConflictingGreens, VehicleCleared, PedestrianCleared, Cleared, FullClearances, registersLocked, registersPressed, minimumGreenBegins, walkBegins, someStep, comesWithin, DemandsMet, NoDeadEnd, DemandThreeOf}
 use Rattle.rules.proofs.Tests.{never-both, or-false-left, or-false-right}
-use Rattle.rules.proofs.Verdicts.{refused-not-accepted}
 
 -- what is read past the end of a list
 abbrev nowhere : Taken
@@ -37,6 +38,9 @@ never-green g (step ∷ later) h =
 yellow-first : (y r : ℕ) → 0 < y → getD (replicate y yellow ++ replicate r red) 0 red ≡ yellow
 yellow-first zero r h = absurd (not-suc-le-zero h)
 yellow-first (suc y) r h = refl
+
+declined-not-stepped : {number place wait : ℕ} → Declined number place ≡ Stepped wait → ⊥
+declined-not-stepped h = let z : _≡_ {A = ℕ} 0 1 = cc in omega arith
 
 module _ (controller : Controller State) (b : List ℕ) (known : controller .verdict b ≡ Accepted) (calls : List Call) where
   abbrev made : List Taken
@@ -149,68 +153,67 @@ module _ (controller : Controller State) (b : List ℕ) (known : controller .ver
 
   -- ── Part c ──
 
-  -- of step n: it is there, the list goes on as long as its wait, it registers, and the event comes within that wait
-  unfoldable pub met : ℕ → (Taken → Bool) → (Taken → Bool) → Bool × Bool × Bool × Bool
-  met n registers event =
+  -- of step n: it is there, the list goes on as long as the wait, the step registers, and the event comes within the wait
+  unfoldable pub met : ℕ → ℕ → (Taken → Bool) → (Taken → Bool) → Bool × Bool × Bool × Bool
+  met wait n registers event =
       let step = getD steps n nowhere in
       let later = drop (suc n) steps in
-      let wait = waitOf (step .outcome) in
       (ltb n (length steps), leb wait (length later), registers step, comesWithin wait event step later)
 
   unmet :
-      (n : ℕ) (registers event : Taken → Bool) →
-      met n registers event ≡ (true, true, true, false) →
+      (wait n : ℕ) (registers event : Taken → Bool) →
+      met wait n registers event ≡ (true, true, true, false) →
       let step = getD steps n nowhere in
       let later = drop (suc n) steps in
-      let wait = waitOf (step .outcome) in
       (steps ≡ take n steps ++ step ∷ later → wait ≤ length later → registers step ≡ true → comesWithin wait event step later ≡ true) →
       ⊥
   unfolding met
-  unmet n registers event facts says =
+  unmet wait n registers event facts says =
       never-both
       (says
       (split-at steps n nowhere (ltb-true n (length steps) (λ i. facts i .0)))
-      (leb-true (waitOf (getD steps n nowhere .outcome)) (length (drop (suc n) steps)) (λ i. facts i .1))
+      (leb-true wait (length (drop (suc n) steps)) (λ i. facts i .1))
       (λ i. facts i .2))
       (λ i. facts i .3)
 
-  pub refuted-by-lock :
-      (n p : ℕ) →
-      met n (λ step. registersLocked (siteOf b) step p) (minimumGreenBegins p) ≡ (true, true, true, false) →
-      ¬ DemandThreeOf controller
-  unfolding DemandThreeOf DemandsMet
-  refuted-by-lock n p facts holds =
-      unmet n (λ step. registersLocked (siteOf b) step p) (minimumGreenBegins p) facts
-      (λ split long. holds b known calls .demandsMet (take n steps) (drop (suc n) steps) (getD steps n nowhere) split long .0 p)
+  pub unmet-by-lock :
+      (wait n p : ℕ) →
+      met wait n (λ step. registersLocked (siteOf b) step p) (minimumGreenBegins p) ≡ (true, true, true, false) →
+      ¬ DemandsMet (siteOf b) wait steps
+  unfolding DemandsMet
+  unmet-by-lock wait n p facts all =
+      unmet wait n (λ step. registersLocked (siteOf b) step p) (minimumGreenBegins p) facts
+      (λ split long. all (take n steps) (drop (suc n) steps) (getD steps n nowhere) split long .0 p)
 
-  pub refuted-by-button :
-      (n k : ℕ) →
+  pub unmet-by-button :
+      (wait n k : ℕ) →
       ltb k (siteOf b .size .movements) ≡ true →
-      met n (λ step. registersPressed step k) (walkBegins k) ≡ (true, true, true, false) →
-      ¬ DemandThreeOf controller
-  unfolding DemandThreeOf DemandsMet
-  refuted-by-button n k below facts holds =
-      unmet n (λ step. registersPressed step k) (walkBegins k) facts
-      (λ split long.
-      holds b known calls .demandsMet (take n steps) (drop (suc n) steps) (getD steps n nowhere) split long .1 k
-      (ltb-true k (siteOf b .size .movements) below))
+      met wait n (λ step. registersPressed step k) (walkBegins k) ≡ (true, true, true, false) →
+      ¬ DemandsMet (siteOf b) wait steps
+  unfolding DemandsMet
+  unmet-by-button wait n k below facts all =
+      unmet wait n (λ step. registersPressed step k) (walkBegins k) facts
+      (λ split long. all (take n steps) (drop (suc n) steps) (getD steps n nowhere) split long .1 k (ltb-true k (siteOf b .size .movements) below))
+
+  pub refuted-by-wait : ¬ DemandsMet (siteOf b) (waitBound (siteOf b)) steps → ¬ DemandThreeOf controller
+  unfolding DemandThreeOf
+  refuted-by-wait broken holds = broken (holds b known calls .demandsMet)
 
   -- ── Part d ──
 
-  -- of call n: it is there, its verdict, and the one that its inputs and its buffer call for
-  unfoldable pub verdicts : ℕ → Bool × Verdict × Verdict
-  verdicts n =
+  -- of call n: it is there, its outcome, and the verdict that its inputs and its buffer call for
+  unfoldable pub answers : ℕ → Bool × Outcome × Verdict
+  answers n =
       let call = getD made n nowhere in (
         ltb n (length made),
-        verdictIn (call .outcome),
+        call .outcome,
         refuseIf (strayInput (siteOf b) (call .inputs)) 15 0 orElse refuseIf (ltb (call .room) (siteOf b .size .groups)) 14 0,
       )
 
-  pub refuted-by-refusal : (n number place : ℕ) → verdicts n ≡ (true, Refused number place, Accepted) → ¬ DemandThreeOf controller
-  unfolding verdicts DemandThreeOf NoDeadEnd
+  pub refuted-by-refusal : (n number place : ℕ) → answers n ≡ (true, Declined number place, Accepted) → ¬ DemandThreeOf controller
+  unfolding answers DemandThreeOf NoDeadEnd boundFor
   refuted-by-refusal n number place facts holds =
-      refused-not-accepted
-      (sym (λ i. facts i .1)
-      ∙ holds b known calls .noDeadEnd (take n made) (drop (suc n) made) (getD made n nowhere)
-      (split-at made n nowhere (ltb-true n (length made) (λ i. facts i .0)))
-      ∙ (λ i. facts i .2))
+      let says =
+      holds b known calls .noDeadEnd (take n made) (drop (suc n) made) (getD made n nowhere)
+      (split-at made n nowhere (ltb-true n (length made) (λ i. facts i .0))) in
+      declined-not-stepped (sym (λ i. facts i .1) ∙ says ∙ (λ i. boundFor (facts i .2) (siteOf b)))

@@ -1,11 +1,9 @@
 -- Controllers that must not pass: each is the controller of the rules with one part replaced.
 use Prim.Native.Nat.{ℕ, _+_, _-_, _^_}
-use mathlib.Core.Bool.{Bool, true, false, not, _&&_, _||_}
+use mathlib.Core.Bool.{Bool, false, not, _&&_, _||_}
 use mathlib.Core.List.{List, _++_}
 use lib.Dec.{leb, eqb}
 use lib.ListN.{length, getD, drop}
-use Rattle.rules.specs.declared.answer.Outcome.{Outcome}
-use Rattle.rules.specs.declared.answer.Outcome.the-variants.{Stepped, Declined}
 use Rattle.rules.specs.declared.answer.Verdict.{Verdict}
 use Rattle.rules.specs.declared.answer.Verdict.the-variants.{Accepted, Refused}
 use Rattle.rules.specs.declared.site.PhaseTimes.{PhaseTimes}
@@ -21,7 +19,6 @@ use Rattle.rules.specs.declared.state.Position.{Position}
 use Rattle.rules.specs.declared.state.State.{State}
 use Rattle.rules.specs.Rows.{if_then_else_, listOf, sumOf}
 use Rattle.rules.specs.Verdicts.{_orElse_}
-use Rattle.rules.specs.Personality.{verdictOf}
 use Rattle.rules.specs.Site.{siteOf, phaseTimes}
 use Rattle.rules.specs.Intervals.{isIdle, isWalk, isStartRed, isHeld}
 use Rattle.rules.specs.State.{fresh, movement}
@@ -32,8 +29,8 @@ use Rattle.rules.specs.Interval.{ends, following, entering, staying, countsChan
 use Rattle.rules.specs.Walks.{begins, walksBegun, buttonsLeft}
 use Rattle.rules.specs.Step.{stepped}
 use Rattle.rules.specs.Colours.{coloursOf}
-use Rattle.rules.specs.WaitBound.{longestWalk, longestClearance, phaseShare, waitBound}
-use Rattle.rules.specs.Call.{stepVerdict}
+use Rattle.rules.specs.WaitBound.{phaseShare, longestWalk, longestClearance}
+use Rattle.rules.specs.Call.{stepVerdict, boundFor}
 use Rattle.rules.specs.Runs.{Controller}
 
 -- ── The rules with parts replaced ──
@@ -42,21 +39,17 @@ use Rattle.rules.specs.Runs.{Controller}
 unfoldable pub checksBy : (List ℕ → Verdict) → List ℕ → State → ℕ → ℕ → Verdict
 checksBy reads b s inputs room = reads b orElse stepVerdict (siteOf b) s inputs room
 
-unfoldable pub outcomeFor : Verdict → ℕ → Outcome
-outcomeFor Accepted wait = Stepped wait
-outcomeFor (Refused number place) wait = Declined number place
-
 unfoldable pub ifAccepted : {A : Type 0} → Verdict → A → A → A
 ifAccepted Accepted new old = new
 ifAccepted (Refused number place) new old = old
 
--- The controller of the rules with a reader, a step and a wait bound of its own.
-unfoldable pub controllerBy : (List ℕ → Verdict) → (Site → State → ℕ → State) → (Site → ℕ) → Controller State
-controllerBy reads step wait =
+-- The controller of the rules with a reader and a step of its own.
+unfoldable pub controllerBy : (List ℕ → Verdict) → (Site → State → ℕ → State) → Controller State
+controllerBy reads step =
     record {
       verdict = reads;
       fresh = fresh;
-      outcome = λ b s inputs room. outcomeFor (checksBy reads b s inputs room) (wait (siteOf b));
+      outcome = λ b s inputs room. boundFor (checksBy reads b s inputs room) (siteOf b);
       next = λ b s inputs room. ifAccepted (checksBy reads b s inputs room) (step (siteOf b) s inputs) s;
       buffer =
           λ b s inputs buffer.
@@ -65,10 +58,6 @@ controllerBy reads step wait =
           buffer;
       seen = λ s. s;
     }
-
--- the rules with another step
-unfoldable pub stepping : (Site → State → ℕ → State) → Controller State
-stepping step = controllerBy verdictOf step waitBound
 
 -- `stepped` with another test of when an interval ends, and another rule of what follows it
 unfoldable pub steppedBy :
@@ -149,7 +138,9 @@ dropsPresses site s inputs = stepped site s (inputs - sumOf (λ k. if pressed in
 -- A and C once: start red plus, summed over phases, L + M + X + A + C + 2 × (Y + R)
 unfoldable pub smallBound : Site → ℕ
 smallBound site =
-    site .times .start + sumOf (λ p. phaseShare site p - (longestWalk site p + longestClearance site p)) (site .size .phases)
+    let a = longestWalk (site .crossings) (site .times .walks) (site .size .movements) in
+    let c = longestClearance (site .crossings) (site .times .walks) (site .size .movements) in
+    site .times .start + sumOf (λ p. phaseShare (phaseTimes (site .times) p) (a p) (c p) - (a p + c p)) (site .size .phases)
 
 -- number 10 is passed over: conflicting groups may share a phase
 unfoldable pub passesTen : Verdict → Verdict

@@ -11,13 +11,12 @@ use Rattle.rules.specs.declared.answer.Verdict.{Verdict}
 use Rattle.rules.specs.declared.answer.Verdict.the-variants.{Accepted, Refused}
 use Rattle.rules.specs.declared.site.Site.{Site}
 use Rattle.rules.specs.declared.state.State.{State}
-use Rattle.rules.specs.Verdicts.{refuseIf, waitOf, _orElse_}
+use Rattle.rules.specs.Verdicts.{refuseIf, _orElse_}
 use Rattle.rules.specs.Personality.{verdictOf}
 use Rattle.rules.specs.Site.{siteOf}
 use Rattle.rules.specs.State.{valid}
 use Rattle.rules.specs.Step.{stepped}
 use Rattle.rules.specs.Colours.{colourOf, coloursOf}
-use Rattle.rules.specs.WaitBound.{waitBound}
 use Rattle.rules.specs.Call.{strayInput, stepVerdict, callVerdict, answerFor, bufferFor, answerOf, bufferOf}
 use Rattle.rules.specs.Runs.{ruled, Call, Taken, takenFrom, ifStepped, accepted, shows}
 use Rattle.rules.proofs.Rows.{list-length, list-at}
@@ -31,7 +30,6 @@ pub record Link (site : Site) (s : State) (step : Taken) : Type 0 where
   pub before : step .before ≡ s
   pub valid : valid site s ≡ true
   pub wired : strayInput site (step .inputs) ≡ false
-  pub wait : waitOf (step .outcome) ≡ waitBound site
   pub after : step .after ≡ stepped site s (step .inputs)
   pub shown : (g : ℕ) → g < site .size .groups → shows step g ≡ colourOf (site .groups) (step .after .position) (step .after .movements) g
 
@@ -73,14 +71,13 @@ module _ (b : List ℕ) (s : State) (c : Call) where
       }
 
   accepted-link : callVerdict b s (c .inputs) (length (c .buffer)) ≡ Accepted → Link (siteOf b) s (takenFor Accepted)
-  unfolding takenFor answerFor bufferFor shows waitOf
+  unfolding takenFor answerFor bufferFor shows
   accepted-link e =
       let told = accepted-told b s (c .inputs) (length (c .buffer)) e in
       record {
         before = refl;
         valid = told .0;
         wired = told .1;
-        wait = refl;
         after = refl;
         shown = front-shown (siteOf b) (stepped (siteOf b) s (c .inputs)) (drop (siteOf b .size .groups) (c .buffer));
       }

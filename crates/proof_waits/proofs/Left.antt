@@ -10,8 +10,7 @@ use Rattle.rules.specs.declared.state.Position.{Position}
 use Rattle.rules.specs.declared.state.State.{State}
 use Rattle.rules.specs.Site.{phaseTimes}
 use Rattle.rules.specs.Intervals.{phaseHeld}
-use Rattle.rules.specs.WaitBound.{longestWalk, longestClearance}
-use Rattle.proof_waits.proofs.Stages.{outs, idles}
+use Rattle.proof_waits.proofs.Stages.{longestWalk, longestClearance, outs, idles}
 
 -- a timer, and the count of each movement, each with what follows it
 abbrev pub Each : (timer more : ℕ) → (ℕ → ℕ) → ℕ → Type 0

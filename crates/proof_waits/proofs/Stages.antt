@@ -18,14 +18,14 @@ use Rattle.rules.specs.Site.{walkTimes, crosses}
 use Rattle.rules.specs.Intervals.{isIdle, isWalk, isWalkOrFirst, isSecond, isLeaving}
 use Rattle.rules.specs.State.{highestAge, movement}
 use Rattle.rules.specs.Movements.{older, lasting, advanced}
-use Rattle.rules.specs.WaitBound.{longestWalk, longestClearance}
+use Rattle.rules.specs.WaitBound.{longestWalk as walkBy, longestClearance as clearanceBy}
 use Rattle.rules.specs.Laws.{Sound}
 use Rattle.rules.proofs.Tests.{decided, never-both}
 use Rattle.rules.proofs.Intervals.{idle-only}
 use Rattle.rules.proofs.Rows.{greatest-at}
 use Rattle.proof_runs.proofs.ValidStates.{Aged, ValidMovement}
 use Rattle.proof_runs.proofs.Lasting.{lasting-cases}
-use Rattle.proof_waits.proofs.Settings.{Reached, walk-reached}
+use Rattle.rules.proofs.Settings.{Reached, walk-reached}
 
 -- ── The counts ──
 
@@ -174,9 +174,16 @@ module _ (times : WalkTimes) (age : ℕ) where
 
 -- ── The movements of a site in a valid state ──
 
+-- A and C of a phase of the site
+abbrev pub longestWalk : Site → ℕ → ℕ
+longestWalk site = walkBy (site .crossings) (site .times .walks) (site .size .movements)
+
+abbrev pub longestClearance : Site → ℕ → ℕ
+longestClearance site = clearanceBy (site .crossings) (site .times .walks) (site .size .movements)
+
 module _ (site : Site) (sound : Sound site) (position : Position) (k : ℕ) (m : Movement) (v : ValidMovement site position k m) where
   pub stage-reached : isIdle (m .stage) ≡ false → Reached (walkTimes (site .times) k)
-  stage-reached h = walk-reached (sound .walkTime k (v .ofPhase h .0))
+  stage-reached h = walk-reached site sound k (v .ofPhase h .0)
 
   unless-idle : (count limit : ℕ) → (isIdle (m .stage) ≡ true → count ≡ 0) → (isIdle (m .stage) ≡ false → count ≤ limit) → count ≤ limit
   unless-idle count limit none most =
@@ -198,11 +205,11 @@ module _ (site : Site) (sound : Sound site) (position : Position) (k : ℕ) (m :
   walk-limit :
       isIdle (m .stage) ≡ false →
       walkTimes (site .times) k .walk + walkTimes (site .times) k .first ≤ longestWalk site (position .phase)
-  unfolding longestWalk
+  unfolding walkBy walkTimes
   walk-limit = phase-limit (λ (times : WalkTimes). times .walk + times .first)
 
   clearance-limit : isIdle (m .stage) ≡ false → walkTimes (site .times) k .second ≤ longestClearance site (position .phase)
-  unfolding longestClearance
+  unfolding clearanceBy walkTimes
   clearance-limit = phase-limit (λ (times : WalkTimes). times .second)
 
   pub out-most : untilOut (m .stage) (walkTimes (site .times) k) (m .age) ≤ longestWalk site (position .phase)

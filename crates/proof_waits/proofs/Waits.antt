@@ -61,12 +61,10 @@ module _ (site : Site) (s : State) (step : Taken) (later : List Taken) (run : Ru
       long
       (button-registers site sound (of .0) k (of .1) l (of .2) (of .3) s step (run .0) here)
 
-pub demands-met : (site : Site) (steps : List Taken) → Run site fresh steps → DemandsMet site steps
+pub demands-met : (site : Site) (steps : List Taken) → Run site fresh steps → DemandsMet site (waitBound site) steps
 unfolding DemandsMet
 demands-met site steps run earlier later step e long =
-    let cut = reached (ValidLink site) steps earlier (step ∷ later) fresh e run in
-    let told = cut .1 .0 .taken .wait in
-    let enough = rw told at long in (
-      λ p r. rw told (lock-met site (cut .0) step later (cut .1) enough p (sym (lock-same site step p) ∙ r)),
-      λ k l r. rw told (button-met site (cut .0) step later (cut .1) enough k l (sym (button-same step k) ∙ r)),
+    let cut = reached (ValidLink site) steps earlier (step ∷ later) fresh e run in (
+      λ p r. lock-met site (cut .0) step later (cut .1) long p (sym (lock-same site step p) ∙ r),
+      λ k l r. button-met site (cut .0) step later (cut .1) long k l (sym (button-same step k) ∙ r),
     )

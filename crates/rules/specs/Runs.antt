@@ -8,23 +8,25 @@ use lib.ListN.{length, getD, take, replicate}
 use Rattle.rules.specs.declared.answer.Outcome.{Outcome}
 use Rattle.rules.specs.declared.answer.Outcome.the-variants.{Stepped, Declined}
 use Rattle.rules.specs.declared.answer.Verdict.{Verdict}
-use Rattle.rules.specs.declared.answer.Verdict.the-variants.{Accepted, Refused}
+use Rattle.rules.specs.declared.answer.Verdict.the-variants.{Accepted}
 use Rattle.rules.specs.declared.site.Site.{Site}
 use Rattle.rules.specs.declared.state.State.{State}
 use Rattle.rules.specs.Rows.{if_then_else_}
-use Rattle.rules.specs.Verdicts.{_orElse_, refuseIf, waitOf}
+use Rattle.rules.specs.Verdicts.{_orElse_, refuseIf}
 use Rattle.rules.specs.Personality.{verdictOf}
 use Rattle.rules.specs.Site.{siteOf, phaseTimes, walkTimes, isPedestrian, movementOf, conflict}
 use Rattle.rules.specs.Intervals.{isMinimumGreen, isRunning, isWalk}
 use Rattle.rules.specs.State.{fresh, movement}
 use Rattle.rules.specs.Demands.{pressed, locking, detected}
 use Rattle.rules.specs.Colours.{red, yellow, green, flashing}
-use Rattle.rules.specs.Call.{strayInput, answerOf, bufferOf}
+use Rattle.rules.specs.WaitBound.{waitBound}
+use Rattle.rules.specs.Call.{strayInput, answerOf, bufferOf, boundFor}
 
 -- ── Controllers ──
 
--- What the demand is said of: a reader of personalities, a fresh state, and a step call by its outcome, the state that it hands back
--- and the colour buffer as it returns. The state may have any form; `seen` gives the state of document 01 that a form stands for.
+-- What the demand is said of: a reader of personalities, a fresh state, and a step call on bytes, a state, 64 input bits and a colour
+-- buffer, or its length: the outcome, the state handed back, and the buffer as the call returns. States may have any form; `seen` is the
+-- state of document 01 that one stands for.
 pub record Controller (S : Type 0) : Type 0 where
   pub verdict : List ℕ → Verdict
   pub fresh : S
@@ -187,37 +189,32 @@ unfoldable pub comesWithin : ℕ → (Taken → Bool) → Taken → List Taken �
 comesWithin n event step later = someStep event (step ∷ take n later)
 
 -- For each locked demand that a step registers its phase's minimum green, and for each button demand its walk, begins in that
--- step or within as many further steps as the wait bound of its answer says, if the list goes on so long.
-unfoldable pub DemandsMet : Site → List Taken → Type 0
-DemandsMet site steps =
+-- step or within so many further steps, if the list goes on so long.
+unfoldable pub DemandsMet : Site → ℕ → List Taken → Type 0
+DemandsMet site wait steps =
     (earlier later : List Taken) (step : Taken) →
     steps ≡ earlier ++ step ∷ later →
-    let wait = waitOf (step .outcome) in
     wait ≤ length later →
     ((p : ℕ) → registersLocked site step p ≡ true → comesWithin wait (minimumGreenBegins p) step later ≡ true)
     × ((k : ℕ) → k < site .size .movements → registersPressed step k ≡ true → comesWithin wait (walkBegins k) step later ≡ true)
 
 -- ── Part d: no call is refused for the state that the calls before it left ──
 
-unfoldable pub verdictIn : Outcome → Verdict
-verdictIn (Stepped wait) = Accepted
-verdictIn (Declined number place) = Refused number place
-
 -- Each call is refused with 15 at 0 where an input bit is set without a detector or button there, else with 14 at 0 where its buffer is
--- shorter than N; any other is accepted.
+-- shorter than N; any other is accepted, and its answer has the wait bound.
 unfoldable pub NoDeadEnd : Site → List Taken → Type 0
 NoDeadEnd site calls =
     (earlier later : List Taken) (call : Taken) →
     calls ≡ earlier ++ call ∷ later →
-    verdictIn (call .outcome)
-    ≡ refuseIf (strayInput site (call .inputs)) 15 0 orElse refuseIf (ltb (call .room) (site .size .groups)) 14 0
+    call .outcome
+    ≡ boundFor (refuseIf (strayInput site (call .inputs)) 15 0 orElse refuseIf (ltb (call .room) (site .size .groups)) 14 0) site
 
 -- ── The demand ──
 
 pub record SafeRun (site : Site) (calls : List Taken) : Type 0 where
   pub noConflictingGreens : NoConflictingGreens site (accepted calls)
   pub fullClearances : FullClearances site (accepted calls)
-  pub demandsMet : DemandsMet site (accepted calls)
+  pub demandsMet : DemandsMet site (waitBound site) (accepted calls)
   pub noDeadEnd : NoDeadEnd site calls
 
 -- every list of calls on every accepted personality, from the fresh state
