@@ -17,7 +17,7 @@ use Rattle.proof_validity.proofs.Counts.{next-counts}
 use Rattle.proof_validity.proofs.Demands.{next-locks, next-buttons}
 use Rattle.proof_validity.proofs.Walks.{next-movement}
 
-pub next-state :
+next-state :
     (site : Site) →
     Sound site →
     (s : State) (inputs : ℕ) →

@@ -24,8 +24,8 @@ use Rattle.rules.proofs.Tests.{decided, never-both}
 use Rattle.rules.proofs.Intervals.{idle-only}
 use Rattle.rules.proofs.Rows.{greatest-at}
 use Rattle.proof_runs.proofs.ValidStates.{Aged, ValidMovement}
-use Rattle.rules.proofs.Settings.{Reached, walk-reached}
 use Rattle.proof_runs.proofs.Lasting.{lasting-cases}
+use Rattle.rules.proofs.Settings.{Reached, walk-reached}
 
 -- ── The counts ──
 
