@@ -12,7 +12,7 @@ use Rattle.rules.specs.declared.site.Detector.{Detector}
 use Rattle.rules.specs.declared.site.Group.{Group}
 use Rattle.rules.specs.Rows.{indicesOf}
 use Rattle.rules.specs.Bytes.{twoAt, bit}
-use Rattle.rules.specs.Limits.{phaseSettings, walkSettings}
+use Rattle.rules.specs.Limits.{limits, phaseSettings, walkSettings}
 use Rattle.rules.specs.Personality.{recordAt, phasesHead, pedestriansHead, phaseCount, groupCount, movementCount, groupSet, groupMark, conflictSet, detectorPhase, pedestrian, pedestriansBefore}
 use Rattle.rules.specs.Site.{phaseTimesAt, walkTimesAt, timesIn, crossingAt, siteOf, groupOf, inPhase, crosses, isPedestrian, movementOf, conflict}
 use Rattle.rules.specs.Laws.{InTable, SoundPhaseTimes, SoundWalkTimes, OnePhase, Sound, AcceptedIsSound}
@@ -26,10 +26,10 @@ use Rattle.proof_acceptance.proofs.Entries.{phase-times-at, walk-times-
 -- ── Times ──
 
 -- the first field of a record stands at the record's own place
-first-field : (b : List ℕ) (place setting : ℕ) → InTable setting (twoAt b (place + 0)) → InTable setting (twoAt b place)
+first-field : (b : List ℕ) (place setting : ℕ) → InTable limits setting (twoAt b (place + 0)) → InTable limits setting (twoAt b place)
 first-field b place setting h = rw add-zero at h
 
-sound-phase-times : (b : List ℕ) → PhasesAccepted b → (p : ℕ) → p < phaseCount b → SoundPhaseTimes (phaseTimesAt b p)
+sound-phase-times : (b : List ℕ) → PhasesAccepted b → (p : ℕ) → p < phaseCount b → SoundPhaseTimes limits (phaseTimesAt b p)
 unfolding phaseTimesAt
 sound-phase-times b s p l =
     record {
@@ -41,7 +41,7 @@ sound-phase-times b s p l =
       red = s .time p l 5 (omega arith);
     }
 
-sound-walk-times : (b : List ℕ) → PedestriansAccepted b → (k : ℕ) → k < movementCount b → SoundWalkTimes (walkTimesAt b k)
+sound-walk-times : (b : List ℕ) → PedestriansAccepted b → (k : ℕ) → k < movementCount b → SoundWalkTimes limits (walkTimesAt b k)
 unfolding walkTimesAt
 sound-walk-times b s k l =
     record {
@@ -167,9 +167,12 @@ sound b s =
       groups = s .site .groups;
       detectors = s .detectors .count;
       movements = s .groups .movements;
-      startTime = s .site .start;
-      phaseTime = λ p l. subst SoundPhaseTimes (sym (phase-times-at b p l)) (sound-phase-times b (s .phases) p l);
-      walkTime = λ k l. subst SoundWalkTimes (sym (walk-times-at b k l)) (sound-walk-times b (s .pedestrians) k l);
+      times =
+          record {
+            start = s .site .start;
+            phase = λ p l. subst (SoundPhaseTimes limits) (sym (phase-times-at b p l)) (sound-phase-times b (s .phases) p l);
+            walk = λ k l. subst (SoundWalkTimes limits) (sym (walk-times-at b k l)) (sound-walk-times b (s .pedestrians) k l);
+          };
       groupPhase = group-phase b (s .groups);
       groupMark = group-mark b (s .groups);
       phaseGroup = phase-group b (s .groups);

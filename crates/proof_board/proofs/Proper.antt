@@ -11,7 +11,7 @@ use Rattle.rules.specs.declared.site.Site.{Site}
 use Rattle.rules.specs.declared.state.Held.{Held}
 use Rattle.rules.specs.declared.state.Held.the-variants.{Nothing, Phase}
 use Rattle.rules.specs.declared.state.State.{State}
-use Rattle.rules.specs.Limits.{limits, limitOf}
+use Rattle.rules.specs.Site.{phaseTimes}
 use Rattle.rules.specs.Intervals.{isLeaving, phaseHeld}
 use Rattle.rules.specs.State.{fresh, targetValid, cameValid}
 use Rattle.rules.specs.Step.{stepped}
@@ -19,6 +19,7 @@ use Rattle.rules.specs.Walks.{walksBegun, buttonsLeft}
 use Rattle.rules.specs.Laws.{Sound, FreshIsValid, StepKeepsValid}
 use Rattle.rules.proofs.Tests.{and-left, and-right}
 use Rattle.rules.proofs.Rows.{list-length}
+use Rattle.rules.proofs.Settings.{phase-timed}
 use Rattle.board_state.specs.Layout.{Proper}
 use Rattle.proof_runs.proofs.ValidStates.{ValidState, state-told}
 use Rattle.proof_validity.proofs.Fresh.{fresh-is-valid}
@@ -45,16 +46,15 @@ proper-of :
     length (s .demands .buttons) ≡ 8 →
     length (s .movements) ≡ 8 →
     Proper s
-unfolding limitOf limits
 proper-of site sound s told locks buttons movements =
     let count = sound .phases in
-    let times = sound .phaseTime (s .position .phase) (told .phase) in
+    let times = phase-timed site sound (s .position .phase) (told .phase) in
     record {
       phase = omega (arith, told .phase);
       age = omega (arith, told .age);
       came = omega (arith, came-below (site .size .phases) (s .position .came) (told .came) (omega arith));
       target = omega (arith, target-below (site .size .phases) (s .position .phase) (isLeaving (s .position .interval)) (s .position .target) (told .target) (omega arith));
-      gap = omega (arith, told .gap, times .gap .1);
+      gap = omega (arith, told .gap, times .gap);
       maximum = omega (arith, told .maximum, times .maximum .1);
       locks = locks;
       buttons = buttons;

@@ -9,22 +9,20 @@ use mathlib.Core.Path.{_≡_, refl, sym, ap, ap₂, _∙_}
 use lib.ListN.{length, replicate}
 use Rattle.rules.specs.declared.site.Site.{Site}
 use Rattle.rules.specs.declared.site.WalkTimes.{WalkTimes}
-use Rattle.rules.specs.declared.state.Interval.the-variants.{AllRed}
 use Rattle.rules.specs.declared.state.Movement.{Movement}
 use Rattle.rules.specs.declared.state.Stage.the-variants.{Idle}
 use Rattle.rules.specs.declared.state.State.{State}
 use Rattle.rules.specs.Site.{phaseTimes, walkTimes, isPedestrian, movementOf, conflict}
 use Rattle.rules.specs.State.{fresh, movement}
-use Rattle.rules.specs.Movements.{older}
 use Rattle.rules.specs.Colours.{red, yellow, green, flashing, movementColour}
 use Rattle.rules.specs.Runs.{Taken, shows, shownBy, StartsGreen, VehicleCleared, PedestrianCleared, Cleared, FullClearances}
-use Rattle.rules.specs.Laws.{Sound, SoundPhaseTimes}
+use Rattle.rules.specs.Laws.{Sound}
+use Rattle.rules.proofs.Settings.{Timed, phase-timed, walk-reached}
 use Rattle.proof_runs.proofs.Linked.{reached}
 use Rattle.proof_runs.proofs.Runs.{ValidLink, Run}
 use Rattle.proof_clearance.proofs.Shown.{vehicleAt, vehicle-shows, pedestrian-shows, green-walks}
 use Rattle.proof_clearance.proofs.Greens.{busy-has-phase}
-use Rattle.proof_clearance.proofs.VehicleColours.{Leaving, leaving-member, leaving-all-red}
-use Rattle.proof_clearance.proofs.Vehicles.{YellowsLeft, in-green, yellows-member, yellows-fall, yellows-over, all-red-goes-on, red-stays}
+use Rattle.proof_clearance.proofs.Vehicles.{Stopped, stopped-member, stopped-red, stopped-on, YellowsLeft, in-green, yellows-member, yellows-fall, yellows-over, red-stays}
 use Rattle.proof_clearance.proofs.Pedestrians.{next, FlashesLeft, in-walk, flashes-busy, flashes-fall, flashes-over, idle-stays, movement-after}
 use Rattle.proof_clearance.proofs.Countdowns.{Since, since-next, Leads, only-red, barred, counts-down}
 
@@ -36,7 +34,7 @@ module _
 
   -- ── Vehicle groups ──
 
-  module _ (kind : isPedestrian (site .groups) j ≡ false) (p : ℕ) (times : SoundPhaseTimes (phaseTimes (site .times) p)) where
+  module _ (kind : isPedestrian (site .groups) j ≡ false) (p : ℕ) (times : Timed (phaseTimes (site .times) p)) where
     shown : (s : State) (step : Taken) → ValidLink site s step → shows step j ≡ vehicleAt site j (step .after .position)
     shown s step link = vehicle-shows site s step (link .taken) j within kind
 
@@ -56,45 +54,32 @@ module _
         let kept = red-stays site s step (link .taken) j e (λ e. other (shown s step link ∙ e)) in
         (kept, shown s step link ∙ kept)
 
-    -- from an age of all-red on, R is reached before the start
-    all-red-lasts :
-        (a : ℕ) (s : State) (steps : List Taken) →
-        Leaving site j p AllRed a (s .position) →
-        Since site j start later s steps →
-        phaseTimes (site .times) p .red ≤ a + length steps
-    unfolding older
-    all-red-lasts a s [] row since =
-        ⊎-elim
-        (λ (h : phaseTimes (site .times) p .red ≤ a). omega arith)
-        (λ (row′ : Leaving site j p AllRed (older a) (start .after .position)).
-        absurd (barred site g j apart start later greenG s since (leaving-member site j p (older a) (start .after .position) AllRed row′)))
-        (all-red-goes-on site s start (since .run .0 .taken) j p a row)
-    all-red-lasts a s (step ∷ steps) row since =
-        ⊎-elim
-        (λ (h : phaseTimes (site .times) p .red ≤ a). omega arith)
-        (λ (row′ : Leaving site j p AllRed (older a) (step .after .position)).
-        omega (arith, all-red-lasts (older a) (step .after) steps row′ (since-next since)))
-        (all-red-goes-on site s step (since .run .0 .taken) j p a row)
-
-    -- once the yellow is over, at least R red steps follow
+    -- from Y on it shows red, and has been stopped for Y + R before the start
     red-clears :
-        (s : State) (steps : List Taken) →
-        Yellows 0 s →
+        (c : ℕ) (s : State) (steps : List Taken) →
+        phaseTimes (site .times) p .yellow ≤ c →
+        Stopped site j p c (s .position) →
         Since site j start later s steps →
-        (n : ℕ) × (phaseTimes (site .times) p .red ≤ n) × (shownBy j steps ≡ replicate n red)
+        (n : ℕ)
+        × (phaseTimes (site .times) p .yellow + phaseTimes (site .times) p .red ≤ c + n)
+        × (shownBy j steps ≡ replicate n red)
     unfolding shownBy
-    red-clears s [] left since =
-        let row = yellows-over site j p times s start (since .run .0 .taken) left in
-        absurd (barred site g j apart start later greenG s since (leaving-member site j p 1 (start .after .position) AllRed row))
-    red-clears s (step ∷ steps) left since =
-        let row = yellows-over site j p times s step (since .run .0 .taken) left in
-        let e = leaving-all-red site j p 1 (step .after .position) row in (
-          suc (length steps),
-          omega (arith, all-red-lasts 1 (step .after) steps row (since-next since)),
-          ap₂ _∷_
-              (shown s step (since .run .0) ∙ e)
-              (only-red site j start later Red red-rests (step .after) steps e (since-next since)),
-        )
+    red-clears c s [] h row since =
+        ⊎-elim
+        (λ (row′ : Stopped site j p (suc c) (start .after .position)).
+        absurd (barred site g j apart start later greenG s since (stopped-member site j p (suc c) (start .after .position) row′)))
+        (λ over. (0, omega (arith, over .0), refl))
+        (stopped-on site j p times s start (since .run .0 .taken) c row)
+    red-clears c s (step ∷ steps) h row since =
+        ⊎-elim
+        (λ (row′ : Stopped site j p (suc c) (step .after .position)).
+        let more = red-clears (suc c) (step .after) steps (omega arith) row′ (since-next since) in (
+          suc (more .0),
+          omega (arith, more .1),
+          ap₂ _∷_ (shown s step (since .run .0) ∙ stopped-red site j p (suc c) (step .after .position) row′ (omega arith)) (more .2),
+        ))
+        (λ over. (suc (length steps), omega (arith, over .0), only-red site j start later Red red-rests s (step ∷ steps) (over .1) since))
+        (stopped-on site j p times s step (since .run .0 .taken) c row)
 
     vehicle-cleared :
         (s : State) (steps : List Taken) →
@@ -114,8 +99,9 @@ module _
         steps
         (in-green here e refl)
         since in
-        let reds = red-clears (down .0) (down .1) (down .2) (down .3) in
-        (reds .0, reds .1, rw (← reds .2) (down .4))
+        let y = phaseTimes (site .times) p .yellow in
+        let reds = red-clears y (down .0) (down .1) (omega arith) (yellows-over site j p times (down .0 .position) (down .2)) (down .3) in
+        (reds .0, omega (arith, reds .1), rw (← reds .2) (down .4))
 
   -- ── Pedestrian groups ──
 
@@ -145,7 +131,7 @@ module _
     flashing-falls n s step link other left =
         let here = mine-after s step link other in
         let shown = rw here at (walk-shown s step link) in
-        let fall = flashes-fall times (sound .walkTime (movementOf (site .groups) j) below) n (mine s) left (λ e. other (shown ∙ e)) in
+        let fall = flashes-fall times (walk-reached site sound (movementOf (site .groups) j) below) n (mine s) left (λ e. other (shown ∙ e)) in
         (rw here (fall .0), shown ∙ fall .1)
 
     -- idle, or in the last step of C2
@@ -173,7 +159,7 @@ module _
         steps
         (in-walk (green-walks (mine s .stage) e) refl)
         since in
-        let idles = flashes-over times (sound .walkTime (movementOf (site .groups) j) below) (mine (down .0)) (down .2) in
+        let idles = flashes-over times (walk-reached site sound (movementOf (site .groups) j) below) (mine (down .0)) (down .2) in
         let reds = only-red site j start later Idles idle-rests (down .0) (down .1) idles (down .3) in
         (length (down .1), rw (← reds) (down .4))
 
@@ -193,7 +179,7 @@ module _
       by-kind true kind = rw kind (pedestrian-cleared kind (last .after) steps (sym (walk-shown kind s last link) ∙ e) since)
       by-kind false kind =
           let p = last .after .position .phase in
-          let times = sound .phaseTime p (link .there .phase) in
+          let times = phase-timed site sound p (link .there .phase) in
           rw kind (vehicle-cleared kind p times (last .after) steps refl (sym (shown kind p times s last link) ∙ e) since)
 
 -- ── Runs ──

@@ -1,10 +1,10 @@
 -- The colours of a vehicle group from one interval to the next. Green is followed by green, unless running ends for a target that is
 -- not in the group's set: then yellow and all-red of the phase are shown as such. Red is followed by red or green.
-use Prim.Native.Nat.{ℕ}
+use Prim.Native.Nat.{ℕ, suc, _<_}
 use native.Mathlib.Omega.{arith}
 use mathlib.Core.Bool.{Bool, true, false, not, _&&_, true≢false}
 use mathlib.Core.Logic.{_⊎_, inl, inr, ⊎-elim}
-use mathlib.Core.Path.{_≡_, refl, sym, ap}
+use mathlib.Core.Path.{_≡_, refl, sym}
 use lib.Dec.{eqb}
 use Rattle.rules.specs.declared.site.Group.{Group}
 use Rattle.rules.specs.declared.site.Site.{Site}
@@ -17,6 +17,7 @@ use Rattle.rules.specs.declared.state.Position.{Position}
 use Rattle.rules.specs.Rows.{if_then_else_}
 use Rattle.rules.specs.Site.{groupOf, inPhase, phaseTimes}
 use Rattle.rules.specs.Intervals.{heldIn, phaseHeld}
+use Rattle.rules.specs.State.{highestAge}
 use Rattle.rules.specs.Movements.{older}
 use Rattle.rules.specs.Interval.{entering, starting, following, staying}
 use Rattle.rules.specs.Colours.{red, yellow, green, vehicleColour}
@@ -97,10 +98,10 @@ module _ (site : Site) (j p a : ℕ) (position : Position) where
   unfolding vehicleColour
   leaving-all-red row = rw (row .phase, row .member, row .interval, row .apart)
 
-  pub leaving-stays : (i : Interval) → Leaving site j p i a position → Leaving site j p i (older a) (staying position)
-  unfolding staying
-  leaving-stays i row =
-      record { phase = row .phase; interval = row .interval; age = ap older (row .age); member = row .member; apart = row .apart }
+  pub leaving-stays : (i : Interval) → a < highestAge → Leaving site j p i a position → Leaving site j p i (suc a) (staying position)
+  unfolding staying older
+  leaving-stays i h row =
+      record { phase = row .phase; interval = row .interval; age = omega (arith, row .age); member = row .member; apart = row .apart }
 
   -- yellow is followed by all-red
   pub leaving-follows :

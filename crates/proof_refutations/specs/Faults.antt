@@ -29,7 +29,7 @@ use Rattle.rules.specs.Interval.{ends, following, entering, staying, countsChan
 use Rattle.rules.specs.Walks.{begins, walksBegun, buttonsLeft}
 use Rattle.rules.specs.Step.{stepped}
 use Rattle.rules.specs.Colours.{coloursOf}
-use Rattle.rules.specs.WaitBound.{longestWalk, longestClearance, phaseShare}
+use Rattle.rules.specs.WaitBound.{phaseShare, longestWalk, longestClearance}
 use Rattle.rules.specs.Call.{stepVerdict, boundFor}
 use Rattle.rules.specs.Runs.{Controller}
 
@@ -138,7 +138,9 @@ dropsPresses site s inputs = stepped site s (inputs - sumOf (λ k. if pressed in
 -- A and C once: start red plus, summed over phases, L + M + X + A + C + 2 × (Y + R)
 unfoldable pub smallBound : Site → ℕ
 smallBound site =
-    site .times .start + sumOf (λ p. phaseShare site p - (longestWalk site p + longestClearance site p)) (site .size .phases)
+    let a = longestWalk (site .crossings) (site .times .walks) (site .size .movements) in
+    let c = longestClearance (site .crossings) (site .times .walks) (site .size .movements) in
+    site .times .start + sumOf (λ p. phaseShare (phaseTimes (site .times) p) (a p) (c p) - (a p + c p)) (site .size .phases)
 
 -- number 10 is passed over: conflicting groups may share a phase
 unfoldable pub passesTen : Verdict → Verdict

@@ -1,5 +1,6 @@
 pub mod ValidStates
 pub mod Steps
+pub mod Lasting
 pub mod Demanded
 pub mod Ends
 pub mod Linked

@@ -12,25 +12,21 @@ use Rattle.rules.specs.Rows.{sumOf}
 use Rattle.rules.specs.Site.{phaseTimes}
 use Rattle.rules.specs.Intervals.{phaseHeld, isLeaving, isStartRed}
 use Rattle.rules.specs.State.{movement, targetValid}
-use Rattle.rules.specs.WaitBound.{longestWalk, longestClearance, phaseShare, waitBound}
+use Rattle.rules.specs.WaitBound.{phaseShare, waitBound, waitBoundBy}
 use Rattle.rules.specs.Laws.{Sound}
 use Rattle.rules.proofs.Counts.{sum-at, sum-both}
 use Rattle.proof_runs.proofs.ValidStates.{ValidState, target-below}
 use Rattle.proof_runs.proofs.Steps.{timesNow}
-use Rattle.proof_waits.proofs.Stages.{outs, idles, out-most, clear-most}
-use Rattle.proof_waits.proofs.Settings.{Timed, phase-timed, start-timed}
-use Rattle.proof_waits.proofs.Left.{Each, visit, fromYellow, fromRunning, LeftIn, Left}
+use Rattle.proof_waits.proofs.Stages.{longestWalk, longestClearance, outs, idles, out-most, clear-most}
+use Rattle.rules.proofs.Settings.{Timed, phase-timed, start-timed}
+use Rattle.proof_waits.proofs.Left.{Each, leavingTime, visit, fromLeaving, fromRunning, LeftIn, Left}
 use Rattle.proof_waits.proofs.Falls.{running-whole}
 
 -- ── The bound's two parts ──
 
 -- what the bound counts a second time
-unfoldable pub again : Site → ℕ → ℕ
-again site p =
-    longestWalk site p
-    + phaseTimes (site .times) p .yellow
-    + phaseTimes (site .times) p .red
-    + longestClearance site p
+pub again : Site → ℕ → ℕ
+again site p = longestWalk site p + leavingTime (phaseTimes (site .times) p) + longestClearance site p
 
 -- all visits
 unfoldable pub visits : Site → ℕ
@@ -40,16 +36,20 @@ pub visit-most : (site : Site) (p : ℕ) → p < site .size .phases → visit si
 unfolding visits
 visit-most site p h = sum-at (visit site) (site .size .phases) p h
 
-share : (site : Site) (p : ℕ) → phaseShare site p ≡ visit site p + again site p
+-- a phase's share
+abbrev shareOf : Site → ℕ → ℕ
+shareOf site p = phaseShare (phaseTimes (site .times) p) (longestWalk site p) (longestClearance site p)
+
+share : (site : Site) (p : ℕ) → shareOf site p ≡ visit site p + again site p
 unfolding phaseShare visit again
 share site p = omega arith
 
 pub bound-parts : (site : Site) (p : ℕ) → p < site .size .phases → site .times .start + visits site + again site p ≤ waitBound site
-unfolding waitBound visits
+unfolding waitBoundBy visits
 bound-parts site p h =
     omega (
       arith,
-      sum-both (visit site) (again site) (phaseShare site) (site .size .phases) (share site),
+      sum-both (visit site) (again site) (shareOf site) (site .size .phases) (share site),
       sum-at (again site) (site .size .phases) p h,
     )
 
@@ -70,7 +70,7 @@ module _
     (clear : own ≤ longestWalk site (s .position .phase) + longestClearance site (s .position .phase))
   where
     times : Timed (timesNow site s)
-    times = phase-timed (sound .phaseTime (s .position .phase) (v .phase))
+    times = phase-timed site sound (s .position .phase) (v .phase)
 
     bound : site .times .start + visits site + again site (s .position .phase) ≤ waitBound site
     bound = bound-parts site (s .position .phase) (v .phase)
@@ -93,7 +93,7 @@ module _
     leaving-within :
         isLeaving (s .position .interval) ≡ true →
         (timer : ℕ) →
-        timer ≤ site .times .start + timesNow site s .yellow + timesNow site s .red →
+        timer ≤ site .times .start + leavingTime (timesNow site s) →
         Each timer (ahead (phaseHeld (s .position .target))) (idles site s) (waitBound site)
     unfolding again
     leaving-within h timer most = (omega (arith, bound, target-far h), λ k l. omega (arith, bound, target-far h, idles-clear h k l))
@@ -102,17 +102,17 @@ module _
         (i : Interval) →
         s .position .interval ≡ i →
         LeftIn site ahead onward i own (s .position) (s .counts .maximum) (outs site s) (idles site s) (waitBound site)
-    unfolding isLeaving isStartRed again fromRunning fromYellow visit outs
+    unfolding isLeaving isStartRed again fromRunning fromLeaving visit outs
     within StartRed e = omega (arith, bound, far (s .position .phase) (v .phase), start-timed site sound, v .age)
     within LateStart e = omega (arith, bound, fits (rw e refl) (rw e refl), clear, times, v .age)
     within MinimumGreen e = omega (arith, bound, fits (rw e refl) (rw e refl), clear, times, v .age)
     within Running e =
         running-whole own (timesNow site s .maximum) (s .counts .maximum)
         (longestWalk site (s .position .phase))
-        (fromYellow site ahead onward (s .position .phase))
+        (fromLeaving site ahead onward (s .position .phase))
         (outs site s)
         (waitBound site)
-        (times .maximum)
+        (times .maximum .0)
         (λ k l. out-most site sound (s .position) k (movement s k) (v .movements k l))
         (omega (arith, bound, fits (rw e refl) (rw e refl), clear))
     within Yellow e = leaving-within (rw e refl) _ (omega (arith, times, v .age))

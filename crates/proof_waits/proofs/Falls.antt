@@ -14,7 +14,7 @@ use Rattle.rules.specs.Site.{phaseTimes}
 use Rattle.rules.specs.State.{highestAge}
 use Rattle.rules.specs.Movements.{older}
 use Rattle.rules.specs.Interval.{starting}
-use Rattle.proof_waits.proofs.Left.{Each, RunningLeft, visit, fromYellow, fromRunning, LeftIn}
+use Rattle.proof_waits.proofs.Left.{Each, RunningLeft, visit, fromLeaving, fromRunning, LeftIn}
 
 -- ── Timers and counts ──
 
@@ -107,7 +107,7 @@ module _ (site : Site) (ahead onward : ℕ → ℕ) (n own' count' : ℕ) (out' 
       visit site t + onward t ≤ ahead t →
       ahead t ≤ n →
       LeftIn site ahead onward (starting (site .times) t came .interval) own' (starting (site .times) t came) count' out' idle' n
-  unfolding starting visit fromRunning fromYellow
+  unfolding starting visit fromRunning fromLeaving
   starts-left t came some none far h = step (eqb (phaseTimes (site .times) t .late) 0) refl
     where
       step :

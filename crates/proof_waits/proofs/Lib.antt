@@ -1,4 +1,3 @@
-pub mod Settings
 pub mod Stages
 pub mod Left
 pub mod Falls

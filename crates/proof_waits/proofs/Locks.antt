@@ -29,7 +29,7 @@ use Rattle.proof_runs.proofs.Steps.{ended, now, lockedNow, position-of, locked-
 use Rattle.proof_runs.proofs.Demanded.{lock-demands}
 use Rattle.proof_runs.proofs.Ends.{by-end, ended-in, next-in}
 use Rattle.proof_runs.proofs.Runs.{ValidLink}
-use Rattle.proof_waits.proofs.Settings.{phase-timed, start-timed}
+use Rattle.rules.proofs.Settings.{phase-timed, start-timed}
 use Rattle.proof_waits.proofs.Left.{visit, Left, never-none}
 use Rattle.proof_waits.proofs.Falls.{timer-falls}
 use Rattle.proof_waits.proofs.Progress.{Standing, Starts, progress}
@@ -138,7 +138,7 @@ module _ (site : Site) (sound : Sound site) (q : ℕ) (below : q < site .size .p
             rw (next-in site s inputs LateStart (h .0) false e) (
               h .0,
               h .1,
-              timer-falls (late site q) (s .position .age) 0 0 n (phase-timed (sound .phaseTime q below) .late)
+              timer-falls (late site q) (s .position .age) 0 0 n (phase-timed site sound q below .late)
                   (subst (λ (p : ℕ). s .position .age < phaseTimes (site .times) p .late) (h .1) runs)
                   (omega arith)
                   (h .2),

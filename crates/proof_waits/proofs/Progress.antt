@@ -23,15 +23,14 @@ use Rattle.rules.specs.Demands.{nextDemanded}
 use Rattle.rules.specs.Movements.{older}
 use Rattle.rules.specs.Interval.{ends, following, entering, starting, staying}
 use Rattle.rules.specs.Step.{stepped}
-use Rattle.rules.specs.WaitBound.{longestWalk, longestClearance}
 use Rattle.rules.specs.Laws.{Sound}
 use Rattle.rules.proofs.Counts.{same-or-apart}
 use Rattle.proof_runs.proofs.ValidStates.{ValidState}
 use Rattle.proof_runs.proofs.Steps.{timesNow, another, counted, moving, ended, started}
 use Rattle.proof_runs.proofs.Ends.{ended-in, next-in, started-in, running-ends}
-use Rattle.proof_waits.proofs.Stages.{outs, idles, out-most, clear-most}
-use Rattle.proof_waits.proofs.Settings.{Timed, phase-timed, start-timed}
-use Rattle.proof_waits.proofs.Left.{Each, visit, fromYellow, fromRunning, LeftIn, Left}
+use Rattle.proof_waits.proofs.Stages.{longestWalk, longestClearance, outs, idles, out-most, clear-most}
+use Rattle.rules.proofs.Settings.{Timed, phase-timed, start-timed}
+use Rattle.proof_waits.proofs.Left.{Each, leavingTime, visit, fromLeaving, fromRunning, LeftIn, Left}
 use Rattle.proof_waits.proofs.Falls.{timer-falls, timer-waits, each-falls, running-whole, running-more, running-stays, starts-left}
 use Rattle.proof_waits.proofs.Moves.{maximum-rises, quiet-in, quiet-demanded, outs-fall, idles-fall, running-held, red-held}
 
@@ -84,10 +83,10 @@ module _
     walk = longestWalk site (s .position .phase)
 
     abbrev after : ℕ
-    after = fromYellow site ahead onward (s .position .phase)
+    after = fromLeaving site ahead onward (s .position .phase)
 
     times : Timed settings
-    times = phase-timed (sound .phaseTime (s .position .phase) (v .phase))
+    times = phase-timed site sound (s .position .phase) (v .phase)
 
     -- ── The three ways on ──
 
@@ -114,7 +113,7 @@ module _
         (λ (other : t ≡ q → ⊥).
         let phase : next .position .phase ≡ t = ap (λ (p : Position). p .phase) e in
         let sized : Timed (phaseTimes (site .times) t) =
-        phase-timed (sound .phaseTime t (subst (λ (p : ℕ). p < site .size .phases) phase (v' .phase))) in
+        phase-timed site sound t (subst (λ (p : ℕ). p < site .size .phases) phase (v' .phase)) in
         inr (becomes (starting (site .times) t came) e
         (starts-left site ahead onward n own' (next .counts .maximum) (outs site next) (idles site next) t came (sized .minimum .0)
         (stand .gone (λ same. other (sym phase ∙ same)))
@@ -155,9 +154,9 @@ module _
         ahead (phaseHeld target) ≤ onward (s .position .phase) →
         after ≤ n →
         (timer : ℕ) →
-        timer ≤ settings .yellow + settings .red →
+        timer ≤ leavingTime settings →
         Each timer (ahead (phaseHeld target)) (idles site next) n
-    unfolding entering idles fromYellow
+    unfolding entering idles fromLeaving
     leaves i target leaving e near h timer most = (
       omega arith,
       λ k l.
@@ -210,7 +209,7 @@ module _
         ended site s inputs ≡ b →
         LeftIn site ahead onward i own (s .position) (s .counts .maximum) (outs site s) (idles site s) (suc n) →
         Outcome
-    unfolding following entering staying isBeforeStart isRunning isLeaving ends fromRunning fromYellow
+    unfolding following entering staying isBeforeStart isRunning isLeaving ends fromRunning fromLeaving
     step StartRed true e b h =
         begins (s .position .phase) (s .position .came) (started-in site s inputs StartRed e true b)
         (next-in site s inputs StartRed e true b)
@@ -224,7 +223,7 @@ module _
     step MinimumGreen true e b h =
         let entered = next-in site s inputs MinimumGreen e true b in
         enters Running Nothing entered
-        (running-whole own' (settings .maximum) (next .counts .maximum) walk after (outs site next) n (times .maximum)
+        (running-whole own' (settings .maximum) (next .counts .maximum) walk after (outs site next) n (times .maximum .0)
         (outs-within (ap (λ (p : Position). p .phase) entered))
         (omega (arith, stand .fewer)))
     step MinimumGreen false e b h =
@@ -241,7 +240,7 @@ module _
     step Running false e b h =
         stays Running e b
         (running-stays own own' (settings .maximum) (s .counts .maximum) (next .counts .maximum) walk after (outs site s) (outs site next) n
-        (times .maximum)
+        (times .maximum .0)
         (v .maximum)
         (outs-within (ap (λ (p : Position). p .phase) (next-in site s inputs Running e false b)))
         (stand .fewer)

@@ -1,13 +1,11 @@
 -- How long a pedestrian movement still takes: the steps until it is out of walk and C1, and those until it is idle. Part 2 of a
 -- step lowers both by one, and the settings of the movement's phase bound them.
-use Prim.Native.Nat.{ℕ, _+_, _-_, _≤_, _<_, min}
-use mathlib.Core.Bool.{Bool, true, false}
+use Prim.Native.Nat.{ℕ, _+_, _-_, _≤_, min}
+use mathlib.Core.Bool.{true, false}
 use mathlib.Core.Logic.{⊎-elim}
 use mathlib.Core.Path.{_≡_, refl}
 use native.Mathlib.Nat.{le-trans}
 use native.Mathlib.Omega.{arith}
-use lib.Dec.{leb}
-use borrow.Author.Tests.{leb-true, leb-false}
 use Rattle.rules.specs.declared.site.Site.{Site}
 use Rattle.rules.specs.declared.site.WalkTimes.{WalkTimes}
 use Rattle.rules.specs.declared.state.Movement.{Movement}
@@ -20,13 +18,14 @@ use Rattle.rules.specs.Site.{walkTimes, crosses}
 use Rattle.rules.specs.Intervals.{isIdle, isWalk, isWalkOrFirst, isSecond, isLeaving}
 use Rattle.rules.specs.State.{highestAge, movement}
 use Rattle.rules.specs.Movements.{older, lasting, advanced}
-use Rattle.rules.specs.WaitBound.{longestWalk, longestClearance}
+use Rattle.rules.specs.WaitBound.{longestWalk as walkBy, longestClearance as clearanceBy}
 use Rattle.rules.specs.Laws.{Sound}
 use Rattle.rules.proofs.Tests.{decided, never-both}
 use Rattle.rules.proofs.Intervals.{idle-only}
 use Rattle.rules.proofs.Rows.{greatest-at}
 use Rattle.proof_runs.proofs.ValidStates.{Aged, ValidMovement}
-use Rattle.proof_waits.proofs.Settings.{Reached, walk-reached}
+use Rattle.rules.proofs.Settings.{Reached, walk-reached}
+use Rattle.proof_runs.proofs.Lasting.{lasting-cases}
 
 -- ── The counts ──
 
@@ -46,23 +45,6 @@ untilIdle ClearanceTwo times age = times .second - age + 1 + 0
 
 -- ── A step lowers them ──
 
--- what is so of a stage, at the age that it then has, and of the stage that follows it at age 1
-lasting-cases :
-    (P : Stage → ℕ → Type 0) (setting : ℕ) (stage next : Stage) (age : ℕ) →
-    (setting ≤ age → P next 1) →
-    (age < setting → P stage (older age)) →
-    P (lasting setting stage next age .stage) (lasting setting stage next age .age)
-unfolding lasting
-lasting-cases P setting stage next age ended stays = step (leb setting age) refl
-  where
-    step :
-        (t : Bool) →
-        leb setting age ≡ t →
-        let m : Movement = if t then record { stage = next; age = 1 } else record { stage = stage; age = older age } in
-        P (m .stage) (m .age)
-    step true e = ended (leb-true setting age e)
-    step false e = stays (leb-false setting age e)
-
 -- a count of a stage that lasts for the setting, and of what follows it
 lasting-falls :
     (count : Stage → ℕ → ℕ) (setting more : ℕ) (stage next : Stage) (age : ℕ) →
@@ -72,7 +54,7 @@ lasting-falls :
     count (lasting setting stage next age .stage) (lasting setting stage next age .age) ≤ setting - age + 1 + more - 1
 unfolding older
 lasting-falls count setting more stage next age r now later =
-    lasting-cases (λ (stage : Stage) (a : ℕ). count stage a ≤ setting - age + 1 + more - 1) setting stage next age
+    lasting-cases (λ (m : Movement). count (m .stage) (m .age) ≤ setting - age + 1 + more - 1) setting stage next age
     (λ h. omega arith)
     (λ h. omega (arith, now (min (age + 1) highestAge)))
 
@@ -90,7 +72,7 @@ module _ (times : WalkTimes) (age : ℕ) where
   out-falls ClearanceOne r =
       lasting-falls (λ stage a. untilOut stage times a) (times .first) 0 ClearanceOne ClearanceTwo age (r refl .first) (λ a. refl) refl
   out-falls ClearanceTwo r =
-      lasting-cases (λ (stage : Stage) (a : ℕ). untilOut stage times a ≤ 0) (times .second) ClearanceTwo Idle age (λ h. omega arith)
+      lasting-cases (λ (m : Movement). untilOut (m .stage) times (m .age) ≤ 0) (times .second) ClearanceTwo Idle age (λ h. omega arith)
       (λ h. omega arith)
 
   pub idle-falls :
@@ -118,9 +100,9 @@ module _ (times : WalkTimes) (age : ℕ) where
   walk-kept-out Idle h = refl
   walk-kept-out Walk h = absurd (never-both refl h)
   walk-kept-out ClearanceOne h =
-      lasting-cases (λ (stage : Stage) (a : ℕ). isWalk stage ≡ false) (times .first) ClearanceOne ClearanceTwo age (λ h. refl) (λ h. refl)
+      lasting-cases (λ (m : Movement). isWalk (m .stage) ≡ false) (times .first) ClearanceOne ClearanceTwo age (λ h. refl) (λ h. refl)
   walk-kept-out ClearanceTwo h =
-      lasting-cases (λ (stage : Stage) (a : ℕ). isWalk stage ≡ false) (times .second) ClearanceTwo Idle age (λ h. refl) (λ h. refl)
+      lasting-cases (λ (m : Movement). isWalk (m .stage) ≡ false) (times .second) ClearanceTwo Idle age (λ h. refl) (λ h. refl)
 
   -- ── What a count tells of the stage ──
 
@@ -192,9 +174,16 @@ module _ (times : WalkTimes) (age : ℕ) where
 
 -- ── The movements of a site in a valid state ──
 
+-- A and C of a phase of the site
+abbrev pub longestWalk : Site → ℕ → ℕ
+longestWalk site = walkBy (site .crossings) (site .times .walks) (site .size .movements)
+
+abbrev pub longestClearance : Site → ℕ → ℕ
+longestClearance site = clearanceBy (site .crossings) (site .times .walks) (site .size .movements)
+
 module _ (site : Site) (sound : Sound site) (position : Position) (k : ℕ) (m : Movement) (v : ValidMovement site position k m) where
   pub stage-reached : isIdle (m .stage) ≡ false → Reached (walkTimes (site .times) k)
-  stage-reached h = walk-reached (sound .walkTime k (v .ofPhase h .0))
+  stage-reached h = walk-reached site sound k (v .ofPhase h .0)
 
   unless-idle : (count limit : ℕ) → (isIdle (m .stage) ≡ true → count ≡ 0) → (isIdle (m .stage) ≡ false → count ≤ limit) → count ≤ limit
   unless-idle count limit none most =
@@ -216,11 +205,11 @@ module _ (site : Site) (sound : Sound site) (position : Position) (k : ℕ) (m :
   walk-limit :
       isIdle (m .stage) ≡ false →
       walkTimes (site .times) k .walk + walkTimes (site .times) k .first ≤ longestWalk site (position .phase)
-  unfolding longestWalk
+  unfolding walkBy walkTimes
   walk-limit = phase-limit (λ (times : WalkTimes). times .walk + times .first)
 
   clearance-limit : isIdle (m .stage) ≡ false → walkTimes (site .times) k .second ≤ longestClearance site (position .phase)
-  unfolding longestClearance
+  unfolding clearanceBy walkTimes
   clearance-limit = phase-limit (λ (times : WalkTimes). times .second)
 
   pub out-most : untilOut (m .stage) (walkTimes (site .times) k) (m .age) ≤ longestWalk site (position .phase)
