@@ -1,8 +1,7 @@
--- `run_text::interval_letter` meets its contract: each arm answers the letter of its interval.
+-- `base_intervals::interval_row` meets its contract, interval by interval.
 use borrow.Author.Needs.{needs}
-use Rattle.rules.specs.Intervals.{letterOf}
-use Rattle.run_text.proofs.interval_letter.Statement.{statement}
-use Rattle.run_text.proofs.interval_letter.Tie as tie
+use Rattle.base_intervals.proofs.interval_row.Statement.{statement}
+use Rattle.base_intervals.proofs.interval_row.Tie as tie
 
 enum-told : tie.Need-enum-told
 enum-told c = search needs
@@ -23,42 +22,22 @@ enum-told-6 : tie.Need-enum-told-6
 enum-told-6 c = search needs
 
 returns : tie.Need-returns
-unfolding letterOf
 returns c = rw (c .enum-told .given .1)
 
 returns-2 : tie.Need-returns-2
-unfolding letterOf
 returns-2 c = rw (c .enum-told2 .given .1)
 
 returns-3 : tie.Need-returns-3
-unfolding letterOf
 returns-3 c = rw (c .enum-told3 .given .1)
 
 returns-4 : tie.Need-returns-4
-unfolding letterOf
 returns-4 c = rw (c .enum-told4 .given .1)
 
 returns-5 : tie.Need-returns-5
-unfolding letterOf
 returns-5 c = rw (c .enum-told5 .given .1)
 
 returns-6 : tie.Need-returns-6
-unfolding letterOf
 returns-6 c = rw (c .enum-told6 .given .1)
 
-pub interval-letter-spec : {M : Type 1} → statement M
-interval-letter-spec =
-    tie.close
-    (tie.spec
-    enum-told
-    enum-told-2
-    enum-told-3
-    enum-told-4
-    enum-told-5
-    enum-told-6
-    returns
-    returns-2
-    returns-3
-    returns-4
-    returns-5
-    returns-6)
+pub interval-row-spec : {M : Type 1} → statement M
+interval-row-spec = tie.close (tie.spec enum-told enum-told-2 enum-told-3 enum-told-4 enum-told-5 enum-told-6 returns returns-2 returns-3 returns-4 returns-5 returns-6)
