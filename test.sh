@@ -1,7 +1,7 @@
 #!/usr/bin/env bash
 # Passes everything: layout; every crate proved from nothing, every must-fail edit refused and every program run; the edits of the
-# rules that a theorem must refuse; the example sites and their traces; the vectors; the tests of rust/ and the library against the
-# model.
+# rules that a theorem must refuse; the example sites, their traces and the ways a trace ends; the vectors; the tests of rust/ and the
+# library against the model; the library from C.
 # The last line is `N passed, M failed`; the exit status is 0 only where M is 0.
 set -u
 cd "$(dirname "$0")" || exit 2
@@ -37,14 +37,23 @@ else
 fi
 if [ "$status" -ne 0 ] && [ "$failed" -eq 0 ]; then failed=1; fi
 
-# The proved trace program prints for each example what the independent model prints.
-same_trace() { ./target/bin/run_trace <"$1" | cmp - "$2"; }
+# The proved trace program and the independent model's, both run here, print for each example the trace that is kept with it, and the
+# same in every way a trace can end.
+proved=./target/bin/run_trace
+model=./rust/target/release/trace
+build_model() { (cd rust && cargo build --quiet --release --offline -p trace); }
+same_trace() (
+    set -o pipefail
+    "$proved" <"$1" | cmp - "$2" && "$model" <"$1" | cmp - "$2"
+)
+check "the model's trace program" build_model
 
 check 'examples: bytes as their texts say' python3 examples/build.py --check
 for input in examples/*/stdin*.bin; do
     trace=$(dirname "$input")/$(basename "$input" .bin | sed 's/^stdin/trace/').txt
     check "$trace" same_trace "$input" "$trace"
 done
+check 'endings of a trace' python3 examples/endings.py "$proved" "$model"
 
 # The vectors of the reader are those that the script makes.
 same_vectors() { python3 vectors/make_reads.py "$log" && cmp "$log" crates/run_reads/data/reads; }
@@ -58,6 +67,11 @@ check 'rt staticlib willowera' rt staticlib willowera
 check 'tests of rust/' rust_tests
 check 'library and model agree' compare_with_model 1 50000
 check 'demand 3 watched' compare_with_model 1 watch 4000000
+
+# The library from C: what it needs, the conditions that its header states, and the example program.
+for part in needs conditions steps; do
+    check "examples/c/check.sh $part" examples/c/check.sh "$part"
+done
 
 for edit in edits/*.edit; do
     check "$edit" edits/run.sh "$(basename "$edit" .edit)"

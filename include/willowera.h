@@ -2,6 +2,30 @@
  *
  * Every function takes buffers of any content and any length, and ends. A refusal leaves every buffer as it was.
  * docs/DATA-SHEET.md has the personality's bytes, the limits, the refusals and the state's bytes.
+ *
+ * What C leaves to the caller, who sees to it:
+ *
+ * - A pointer has behind it as many bytes as the length beside it says. The length counts bytes, and all 64 bits of it count: bytes behind
+ *   a whole personality are refused with 12, a state of another length than WILLOWERA_STATE_BYTES with 13.
+ * - Nothing else writes a buffer while a call has it, and nothing else reads the state or the colours that it writes.
+ * - State and colours overlap neither each other nor the personality. They may touch it and each other.
+ *
+ * What the caller need not see to, which examples/c/conditions.c tries:
+ *
+ * - Length 0 is an empty buffer, with any pointer, null too: nothing is read or written there.
+ * - Buffers have any alignment. The personality may lie in memory that cannot be written. The colour buffer, and the one for a fresh
+ *   state, need not have been written before.
+ * - A call reads the personality and the state, and writes the state and the first bytes of the colours, one for each group, where it is
+ *   accepted. It touches nothing else but its stack. Where it is refused it writes nothing at all.
+ * - The library has no state of its own: no variables, no heap, no locks. Calls with states and colours of their own may run at
+ *   the same time, in several threads or in a signal handler that interrupts another call, and may share a personality.
+ * - A state has no pointers in it: it may be copied, moved and kept. An accepted step writes colours and state one after the other, so a
+ *   call that never returns (a reset, a thread ended from outside) can leave either half written; keep a copy of the last state where
+ *   that matters.
+ *
+ * The archive is for x86-64 Linux, System V calling convention, C or C++. It may be linked into programs and shared objects, and needs
+ * memcpy and memset. It uses the vector registers (SSE2) and the red zone, and leaves the floating-point environment alone.
+ * All numbers are unsigned; a byte is a uint8_t.
  */
 #ifndef WILLOWERA_H
 #define WILLOWERA_H
@@ -21,7 +45,7 @@ extern "C" {
 #define WILLOWERA_MOST_DETECTORS 48
 #define WILLOWERA_MOST_MOVEMENTS 8
 
-/* ── Inputs: bit d is detector d (0 to 47), bit 48 + k is the button of movement k (0 to 7) ── */
+/* ── Inputs: bit d is detector d (0 to 47), bit 48 + k is the button of movement k (0 to 7); the macros take no other d and k ── */
 
 #define WILLOWERA_DETECTOR(d) (UINT64_C(1) << (d))
 #define WILLOWERA_BUTTON(k) (UINT64_C(1) << (48 + (k)))

@@ -1,10 +1,11 @@
-// The one table of lowest and highest values of the time settings, in steps of 0.1 s. The reader asks it for every time.
+// The one table of lowest and highest values of the time settings, in steps of 0.1 s. The reader asks it for every time, and what the
+// wait bound's sums can come to is reckoned from it.
 ghost use mathlib.Core.Path.{_≡_};
-ghost use Rattle.rules.specs.Limits.{within};
+ghost use Rattle.rules.specs.Limits.{limits, within};
 use rules::site::Range;
 
 // By setting: start red; L, M, X, G, Y, R of a phase; W, C1, C2 of a movement.
-pub const LIMITS: [Range; 10] = [
+const LIMITS: [Range; 10] = [
     Range { low: 10, high: 150 },
     Range { low: 0, high: 200 },
     Range { low: 10, high: 400 },
@@ -20,12 +21,20 @@ pub const LIMITS: [Range; 10] = [
     Range { low: 1, high: 400 },
 ];
 
+// The table is the one that the rules have, entry by entry.
+pub fn table() -> [Range; 10]
+    ensures { λ r. ⌜ r ≡ limits ⌝ }
+{
+    LIMITS
+}
+
 // Whether the table admits the value for the setting. A setting that it has not admits 0 alone.
 pub fn admits(setting: usize, value: u16) -> bool
-    ensures { λ r. ⌜ r ≡ within setting value ⌝ }
+    ensures { λ r. ⌜ r ≡ within limits setting value ⌝ }
 {
-    if setting < LIMITS.len() {
-        let range = LIMITS[setting];
+    let ranges = table();
+    if setting < ranges.len() {
+        let range = ranges[setting];
         (range.low <= value) & (value <= range.high)
     } else {
         value == 0

@@ -12,7 +12,7 @@ use Rattle.rules.specs.declared.site.Detector.{Detector}
 use Rattle.rules.specs.declared.site.Group.{Group}
 use Rattle.rules.specs.Rows.{indicesOf}
 use Rattle.rules.specs.Bytes.{twoAt, bit}
-use Rattle.rules.specs.Limits.{phaseSettings, walkSettings}
+use Rattle.rules.specs.Limits.{limits, phaseSettings, walkSettings}
 use Rattle.rules.specs.Personality.{recordAt, phasesHead, pedestriansHead, phaseCount, groupCount, movementCount, groupSet, groupMark, conflictSet, detectorPhase, pedestrian, pedestriansBefore}
 use Rattle.rules.specs.Site.{phaseTimesAt, walkTimesAt, timesIn, crossingAt, siteOf, groupOf, inPhase, crosses, isPedestrian, movementOf, conflict}
 use Rattle.rules.specs.Laws.{InTable, SoundPhaseTimes, SoundWalkTimes, OnePhase, Sound, AcceptedIsSound}
@@ -26,10 +26,10 @@ use Rattle.proof_acceptance.proofs.Entries.{phase-times-at, walk-times-
 -- ── Times ──
 
 -- the first field of a record stands at the record's own place
-first-field : (b : List ℕ) (place setting : ℕ) → InTable setting (twoAt b (place + 0)) → InTable setting (twoAt b place)
+first-field : (b : List ℕ) (place setting : ℕ) → InTable limits setting (twoAt b (place + 0)) → InTable limits setting (twoAt b place)
 first-field b place setting h = rw add-zero at h
 
-sound-phase-times : (b : List ℕ) → PhasesAccepted b → (p : ℕ) → p < phaseCount b → SoundPhaseTimes (phaseTimesAt b p)
+sound-phase-times : (b : List ℕ) → PhasesAccepted b → (p : ℕ) → p < phaseCount b → SoundPhaseTimes limits (phaseTimesAt b p)
 unfolding phaseTimesAt
 sound-phase-times b s p l =
     record {
@@ -41,7 +41,7 @@ sound-phase-times b s p l =
       red = s .time p l 5 (omega arith);
     }
 
-sound-walk-times : (b : List ℕ) → PedestriansAccepted b → (k : ℕ) → k < movementCount b → SoundWalkTimes (walkTimesAt b k)
+sound-walk-times : (b : List ℕ) → PedestriansAccepted b → (k : ℕ) → k < movementCount b → SoundWalkTimes limits (walkTimesAt b k)
 unfolding walkTimesAt
 sound-walk-times b s k l =
     record {
@@ -52,19 +52,19 @@ sound-walk-times b s k l =
 
 -- ── Groups ──
 
-group-phase : (b : List ℕ) → GroupsAccepted b → (g p : ℕ) → inPhase (siteOf b) g p ≡ true → (g < groupCount b) × (p < phaseCount b)
+group-phase : (b : List ℕ) → GroupsAccepted b → (g p : ℕ) → inPhase (siteOf b .groups) g p ≡ true → (g < groupCount b) × (p < phaseCount b)
 group-phase b s g p e =
-    let l = passes-below (inPhase (siteOf b) g p) g (groupCount b) (in-phase-past b g p) e in
+    let l = passes-below (inPhase (siteOf b .groups) g p) g (groupCount b) (in-phase-past b g p) e in
     (l, bit-below (groupSet b g) (phaseCount b) p (s .set g l) (sym (in-phase-at b g p l) ∙ e))
 
-group-mark : (b : List ℕ) → GroupsAccepted b → (g : ℕ) → groupOf (siteOf b) g .mark ≤ 2
+group-mark : (b : List ℕ) → GroupsAccepted b → (g : ℕ) → groupOf (siteOf b .groups) g .mark ≤ 2
 group-mark b s g =
     ⊎-elim
     (λ (l : g < groupCount b). subst (λ (x : Group). x .mark ≤ 2) (sym (group-at b g l)) (s .mark g l))
     (λ (l : groupCount b ≤ g). subst (λ (x : Group). x .mark ≤ 2) (sym (group-past b g l)) (omega arith))
     (below-or-past g (groupCount b))
 
-phase-group : (b : List ℕ) → GroupsAccepted b → (p : ℕ) → p < phaseCount b → (g : ℕ) × (g < groupCount b) × (inPhase (siteOf b) g p ≡ true)
+phase-group : (b : List ℕ) → GroupsAccepted b → (p : ℕ) → p < phaseCount b → (g : ℕ) × (g < groupCount b) × (inPhase (siteOf b .groups) g p ≡ true)
 phase-group b s p l =
     let w = s .served p l in
     (w .0, w .1, in-phase-at b (w .0) p (w .1) ∙ w .2)
@@ -96,8 +96,8 @@ one-phase b s k l =
 movement-of-group :
     (b : List ℕ) (g : ℕ) →
     g < groupCount b →
-    isPedestrian (siteOf b) g ≡ true →
-    movementOf (siteOf b) g < movementCount b
+    isPedestrian (siteOf b .groups) g ≡ true →
+    movementOf (siteOf b .groups) g < movementCount b
 unfolding movementCount pedestriansBefore
 movement-of-group b g l e =
     omega (arith, movement-at b g l, count-before (pedestrian b) g (groupCount b) l (sym (pedestrian-at b g l) ∙ e))
@@ -105,12 +105,12 @@ movement-of-group b g l e =
 crossing-of-group :
     (b : List ℕ) (g : ℕ) →
     g < groupCount b →
-    isPedestrian (siteOf b) g ≡ true →
+    isPedestrian (siteOf b .groups) g ≡ true →
     (p : ℕ) →
-    crosses (siteOf b) (movementOf (siteOf b) g) p ≡ inPhase (siteOf b) g p
+    crosses (siteOf b .crossings) (movementOf (siteOf b .groups) g) p ≡ inPhase (siteOf b .groups) g p
 unfolding crossingAt pedestriansBefore
 crossing-of-group b g l e p =
-    let k = movementOf (siteOf b) g in
+    let k = movementOf (siteOf b .groups) g in
     let m = movement-of-group b g l e in
     let found = movement-group b k m in
     let same =
@@ -148,8 +148,8 @@ conflict-phase :
     (g j : ℕ) →
     conflict (siteOf b) g j ≡ true →
     (p : ℕ) →
-    inPhase (siteOf b) g p ≡ true →
-    inPhase (siteOf b) j p ≡ true →
+    inPhase (siteOf b .groups) g p ≡ true →
+    inPhase (siteOf b .groups) j p ≡ true →
     ⊥
 conflict-phase b t s g j e p q r =
     let w = conflict-groups b s g j e in
@@ -167,9 +167,12 @@ sound b s =
       groups = s .site .groups;
       detectors = s .detectors .count;
       movements = s .groups .movements;
-      startTime = s .site .start;
-      phaseTime = λ p l. subst SoundPhaseTimes (sym (phase-times-at b p l)) (sound-phase-times b (s .phases) p l);
-      walkTime = λ k l. subst SoundWalkTimes (sym (walk-times-at b k l)) (sound-walk-times b (s .pedestrians) k l);
+      times =
+          record {
+            start = s .site .start;
+            phase = λ p l. subst (SoundPhaseTimes limits) (sym (phase-times-at b p l)) (sound-phase-times b (s .phases) p l);
+            walk = λ k l. subst (SoundWalkTimes limits) (sym (walk-times-at b k l)) (sound-walk-times b (s .pedestrians) k l);
+          };
       groupPhase = group-phase b (s .groups);
       groupMark = group-mark b (s .groups);
       phaseGroup = phase-group b (s .groups);

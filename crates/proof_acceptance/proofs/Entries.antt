@@ -29,23 +29,23 @@ module _ (b : List ℕ) where
   abbrev groupAt : ℕ → Group
   groupAt g = record { phases = groupSet b g; mark = groupMark b g }
 
-  pub group-at : (g : ℕ) → g < groupCount b → groupOf (siteOf b) g ≡ groupAt g
+  pub group-at : (g : ℕ) → g < groupCount b → groupOf (siteOf b .groups) g ≡ groupAt g
   unfolding groupOf siteOf
   group-at g l = row-at groupAt (groupCount b) 32 g noGroup l
 
-  pub group-past : (g : ℕ) → groupCount b ≤ g → groupOf (siteOf b) g ≡ noGroup
+  pub group-past : (g : ℕ) → groupCount b ≤ g → groupOf (siteOf b .groups) g ≡ noGroup
   unfolding groupOf siteOf
   group-past g l = row-past groupAt (groupCount b) 32 g noGroup l
 
-  pub in-phase-at : (g p : ℕ) → g < groupCount b → inPhase (siteOf b) g p ≡ bit p (groupSet b g)
+  pub in-phase-at : (g p : ℕ) → g < groupCount b → inPhase (siteOf b .groups) g p ≡ bit p (groupSet b g)
   unfolding inPhase
   in-phase-at g p l = ap (λ (x : Group). bit p (x .phases)) (group-at g l)
 
-  pub in-phase-past : (g p : ℕ) → groupCount b ≤ g → inPhase (siteOf b) g p ≡ false
+  pub in-phase-past : (g p : ℕ) → groupCount b ≤ g → inPhase (siteOf b .groups) g p ≡ false
   unfolding inPhase
   in-phase-past g p l = ap (λ (x : Group). bit p (x .phases)) (group-past g l) ∙ bit-blank p
 
-  pub pedestrian-at : (g : ℕ) → g < groupCount b → isPedestrian (siteOf b) g ≡ pedestrian b g
+  pub pedestrian-at : (g : ℕ) → g < groupCount b → isPedestrian (siteOf b .groups) g ≡ pedestrian b g
   unfolding isPedestrian pedestrian
   pedestrian-at g l = ap (λ (x : Group). eqb (x .mark) 2) (group-at g l)
 
@@ -59,21 +59,21 @@ module _ (b : List ℕ) where
   unfolding conflict siteOf
   conflict-past g j l = ap (bit j) (row-past (conflictSet b) (groupCount b) 32 g 0 l) ∙ bit-blank j
 
-  pub detector-at : (d : ℕ) → d < detectorCount b → detectorOf (siteOf b) d ≡ record { phase = detectorPhase b d; mode = detectorMode b d }
+  pub detector-at : (d : ℕ) → d < detectorCount b → detectorOf (siteOf b .detectors) d ≡ record { phase = detectorPhase b d; mode = detectorMode b d }
   unfolding detectorOf siteOf
   detector-at d l =
       row-at (λ d. record { phase = detectorPhase b d; mode = detectorMode b d }) (detectorCount b) 48 d noDetector l
 
   -- ── Movements ──
 
-  pub crosses-at : (k p : ℕ) → k < movementCount b → crosses (siteOf b) k p ≡ bit p (crossingAt b k)
+  pub crosses-at : (k p : ℕ) → k < movementCount b → crosses (siteOf b .crossings) k p ≡ bit p (crossingAt b k)
   unfolding crosses siteOf
   crosses-at k p l = ap (bit p) (row-at (crossingAt b) (movementCount b) 8 k 0 l)
 
-  pub crosses-past : (k p : ℕ) → movementCount b ≤ k → crosses (siteOf b) k p ≡ false
+  pub crosses-past : (k p : ℕ) → movementCount b ≤ k → crosses (siteOf b .crossings) k p ≡ false
   unfolding crosses siteOf
   crosses-past k p l = ap (bit p) (row-past (crossingAt b) (movementCount b) 8 k 0 l) ∙ bit-blank p
 
-  pub movement-at : (g : ℕ) → g < groupCount b → movementOf (siteOf b) g ≡ pedestriansBefore b g
+  pub movement-at : (g : ℕ) → g < groupCount b → movementOf (siteOf b .groups) g ≡ pedestriansBefore b g
   unfolding movementOf pedestriansBefore
-  movement-at g l = count-same (isPedestrian (siteOf b)) (pedestrian b) g (λ i m. pedestrian-at i (omega arith))
+  movement-at g l = count-same (isPedestrian (siteOf b .groups)) (pedestrian b) g (λ i m. pedestrian-at i (omega arith))

@@ -1,154 +1,190 @@
--- Every refusal is a written one. A check's place lies within the bytes because the checks before it passed: a section that passed
--- ends at the next head, and a body that is there holds its records and their fields.
+-- Every refusal is a written one: one walk over the checks in their order, for whatever is allowed of a number and a place. A check's
+-- place is in the personality because the checks before it passed: a section that passed ends at the next head, a body that is there
+-- holds its records and their fields, and the counts bound where each section ends.
 use Prim.Native.Nat.{ℕ, _+_, _*_, _≤_, _<_}
-use mathlib.Core.Bool.{Bool}
+use mathlib.Core.Bool.{Bool, true}
 use mathlib.Core.List.{List}
 use mathlib.Core.Logic.{inl, inr, ⊎-elim}
-use mathlib.Core.Path.{_≡_}
+use mathlib.Core.Path.{_≡_, refl}
+use lib.Dec.{eqb}
 use lib.ListN.{length}
 use native.Mathlib.Omega.{arith}
 use Rattle.rules.specs.declared.answer.Verdict.{Verdict}
 use Rattle.rules.specs.declared.answer.Verdict.the-variants.{Accepted, Refused}
-use Rattle.rules.specs.declared.site.Site.{Site}
 use Rattle.rules.specs.declared.state.State.{State}
-use Rattle.rules.specs.Limits.{startRedSetting, phaseSettings, walkSettings}
+use Rattle.rules.specs.Limits.{phaseSettings, walkSettings}
 use Rattle.rules.specs.Verdicts.{_orElse_, refuseIf, firstOf}
-use Rattle.rules.specs.Personality.{bodyAt, recordAt, phaseCount, groupCount, siteHead, phasesHead, groupsHead, conflictsHead, detectorsHead, pedestriansHead, movementCount, detectorCount, endOf, sectionAt, timeAt, timesAt, siteSection, phasesSection, groupRecord, groupsSection, conflictsSection, detectorsSection, pedestriansSection, afterPedestrians, verdictOf}
-use Rattle.rules.specs.Site.{siteOf}
+use Rattle.rules.specs.Personality.{bodyAt, bodyLength, recordAt, phaseCount, groupCount, siteHead, phasesHead, groupsHead, conflictsHead, detectorsHead, pedestriansHead, movementCount, detectorCount, endOf, sectionAt, timeAt, timesAt, siteSection, phasesSection, groupRecord, groupsSection, conflictsSection, detectorsSection, pedestriansSection, afterPedestrians, verdictOf}
 use Rattle.rules.specs.Call.{stepVerdict, callVerdict}
-use Rattle.rules.specs.Laws.{Written, RefusalIsWritten}
+use Rattle.rules.specs.Laws.{readingNumber, stepNumber, greatestLength, AcceptedIsShort, PlaceIn, Written, RefusalIsWritten}
 use Rattle.rules.proofs.Verdicts.{or-refused, refuse-failed, first-refused}
-use Rattle.proof_acceptance.proofs.Sections.{body-held, records-held, record-within, site-accepted, phases-accepted, groups-accepted, conflicts-accepted, detectors-accepted, pedestrians-accepted}
+use Rattle.proof_acceptance.proofs.Sections.{SiteAccepted, GroupsAccepted, DetectorsAccepted, records-held, record-within, detectors-held, site-accepted, phases-accepted, groups-accepted, conflicts-accepted, detectors-accepted, pedestrians-accepted, sections-accepted}
 
-module _ (b : List ℕ) where
-  -- every refusal of the verdict is a written one
-  abbrev pub WrittenRefusals : Verdict → Type 0
-  WrittenRefusals v = (number place : ℕ) → v ≡ Refused number place → Written b number place
+-- ── A check, checks in order, and the first of a row ──
 
-  -- ── A check, checks in order, and the first of a row ──
+module _ (Allowed : ℕ → ℕ → Type 0) where
+  -- every refusal of the verdict is allowed
+  abbrev pub Refusals : Verdict → Type 0
+  Refusals v = (number place : ℕ) → v ≡ Refused number place → Allowed number place
 
-  if-written : (t : Bool) (number place : ℕ) → Written b number place → WrittenRefusals (refuseIf t number place)
-  if-written t number place written n p h =
+  pub if-refusals : (t : Bool) (number place : ℕ) → Allowed number place → Refusals (refuseIf t number place)
+  if-refusals t number place allowed n p h =
       let w = refuse-failed t number place h in
-      rw (w .1, w .2) written
+      rw (w .1, w .2) allowed
 
   -- the later check may rest on acceptance by the first
-  or-written : (v w : Verdict) → WrittenRefusals v → (v ≡ Accepted → WrittenRefusals w) → WrittenRefusals (v orElse w)
-  or-written v w first later n p h =
+  pub or-refusals : (v w : Verdict) → Refusals v → (v ≡ Accepted → Refusals w) → Refusals (v orElse w)
+  or-refusals v w first later n p h =
       ⊎-elim
       (λ (e : v ≡ Refused n p). first n p e)
       (λ (e : (v ≡ Accepted) × (w ≡ Refused n p)). later (e .0) n p (e .1))
       (or-refused v w h)
 
-  first-written : (f : ℕ → Verdict) (m : ℕ) → ((i : ℕ) → i < m → WrittenRefusals (f i)) → WrittenRefusals (firstOf f m)
-  first-written f m one n p h = let w = first-refused f m h in one (w .0) (w .1) n p (w .2)
+  first-refusals : (f : ℕ → Verdict) (m : ℕ) → ((i : ℕ) → i < m → Refusals (f i)) → Refusals (firstOf f m)
+  first-refusals f m one n p h = let w = first-refused f m h in one (w .0) (w .1) n p (w .2)
 
-  -- ── Sections and times, for any width ──
+-- ── How far the sections go ──
 
-  section-written : (head kind : ℕ) (lengthRight : Bool) → head ≤ length b → WrittenRefusals (sectionAt b head kind lengthRight)
-  unfolding sectionAt
-  section-written head kind right l =
-      or-written _ _ (if-written _ 1 head (inl (omega arith)))
-      (λ e. or-written _ _ (if-written _ 2 head (inl (omega arith)))
-      (λ e. or-written _ _ (if-written _ 3 head (inl (omega arith))) (λ e. if-written _ 1 head (inl (omega arith)))))
+module _ (b : List ℕ) where
+  end-near : SiteAccepted b → GroupsAccepted b → bodyLength b (detectorsHead b) ≤ 96 → endOf b ≤ greatestLength
+  unfolding endOf pedestriansHead detectorsHead conflictsHead groupsHead bodyAt
+  end-near counts groups short = omega arith
 
-  time-written : (place setting : ℕ) → place ≤ length b → WrittenRefusals (timeAt b place setting)
-  unfolding timeAt
-  time-written place setting l = if-written _ 5 place (inl (omega arith))
+-- ── The personality's checks ──
 
-  -- records of times, within a body that is there
-  times-written :
-      (head width setting fields n : ℕ) →
-      fields * 2 ≤ width →
-      bodyAt head + n * width ≤ length b →
-      WrittenRefusals (firstOf (λ i. timesAt b (recordAt head width i) setting fields) n)
-  unfolding timesAt
-  times-written head width setting fields n fit l =
-      first-written _ _ (λ i m. first-written _ _ (λ f k. time-written _ _ (omega (arith, record-within head width n i m))))
+module _
+    (b : List ℕ)
+    (Allowed : ℕ → ℕ → Type 0)
+    (allowed : (number place : ℕ) → readingNumber number ≡ true → PlaceIn b place → Allowed number place)
+  where
+    check : (t : Bool) (number place : ℕ) → readingNumber number ≡ true → PlaceIn b place → Refusals Allowed (refuseIf t number place)
+    check t number place known l = if-refusals Allowed t number place (allowed number place known l)
 
-  -- ── Section by section ──
+    section : (head kind : ℕ) (lengthRight : Bool) → PlaceIn b head → Refusals Allowed (sectionAt b head kind lengthRight)
+    unfolding sectionAt
+    section head kind right l =
+        or-refusals Allowed _ _ (check _ 1 head refl l)
+        (λ e. or-refusals Allowed _ _ (check _ 2 head refl l)
+        (λ e. or-refusals Allowed _ _ (check _ 3 head refl l) (λ e. check _ 1 head refl l)))
 
-  site-written : WrittenRefusals (siteSection b)
-  unfolding siteSection bodyAt
-  site-written =
-      or-written _ _ (section-written siteHead 1 _ (omega arith))
-      (λ e.
-      let l = records-held b siteHead 1 1 4 e in
-      or-written _ _ (if-written _ 4 4 (inl (omega arith)))
-      (λ f. or-written _ _ (if-written _ 4 5 (inl (omega arith))) (λ g. time-written 6 startRedSetting (omega arith))))
+    -- a section of n records, then what rests on its body being there
+    records :
+        (head kind n width : ℕ) (rest : Verdict) →
+        PlaceIn b head →
+        bodyAt head + n * width ≤ greatestLength →
+        (PlaceIn b (bodyAt head + n * width) → Refusals Allowed rest) →
+        Refusals Allowed (sectionAt b head kind (eqb (bodyLength b head) (n * width)) orElse rest)
+    records head kind n width rest l near later =
+        or-refusals Allowed _ rest (section head kind _ l) (λ e. later (records-held b head kind n width e, near))
 
-  phases-written : phasesHead ≤ length b → WrittenRefusals (phasesSection b)
-  unfolding phasesSection
-  phases-written l =
-      or-written _ _ (section-written phasesHead 2 _ l)
-      (λ e.
-      times-written phasesHead 12 phaseSettings 6 (phaseCount b) (omega arith)
-      (records-held b phasesHead 2 (phaseCount b) 12 e))
+    -- each of n records, in a body that is there
+    each :
+        (f : ℕ → Verdict) (head n width : ℕ) →
+        PlaceIn b (bodyAt head + n * width) →
+        ((i : ℕ) → PlaceIn b (recordAt head width i + width) → Refusals Allowed (f i)) →
+        Refusals Allowed (firstOf f n)
+    each f head n width l one = first-refusals Allowed f n (λ i m. one i (omega (arith, record-within head width n i m)))
 
-  groups-written : groupsHead b ≤ length b → WrittenRefusals (groupsSection b)
-  unfolding groupsSection groupRecord
-  groups-written l =
-      or-written _ _ (section-written (groupsHead b) 3 _ l)
-      (λ e.
-      let body = records-held b (groupsHead b) 3 (groupCount b) 2 e in
-      or-written _ _
-      (first-written _ _
-      (λ g m.
-      let place = record-within (groupsHead b) 2 (groupCount b) g m in
-      or-written _ _ (if-written _ 6 _ (inl (omega arith))) (λ f. if-written _ 7 _ (inl (omega arith)))))
-      (λ f. if-written _ 8 (groupsHead b) (inl (omega arith))))
+    times :
+        (head n width setting fields : ℕ) →
+        fields * 2 ≤ width →
+        PlaceIn b (bodyAt head + n * width) →
+        Refusals Allowed (firstOf (λ i. timesAt b (recordAt head width i) setting fields) n)
+    unfolding timesAt timeAt
+    times head n width setting fields fit l =
+        each _ head n width l (λ i m. first-refusals Allowed _ _ (λ f k. check _ 5 _ refl (omega arith)))
 
-  conflicts-written : conflictsHead b ≤ length b → WrittenRefusals (conflictsSection b)
-  unfolding conflictsSection
-  conflicts-written l =
-      or-written _ _ (section-written (conflictsHead b) 4 _ l)
-      (λ e.
-      let body = records-held b (conflictsHead b) 4 (groupCount b) 4 e in
-      let place = record-within (conflictsHead b) 4 (groupCount b) in
-      or-written _ _
-      (first-written _ _ (λ g m. if-written _ 9 _ (inl (omega (arith, place g m)))))
-      (λ f. first-written _ _ (λ g m. if-written _ 10 _ (inl (omega (arith, place g m))))))
+    site : Refusals Allowed (siteSection b)
+    unfolding siteSection timeAt bodyAt
+    site =
+        records siteHead 1 1 4 _ (omega arith) (omega arith)
+        (λ l. or-refusals Allowed _ _ (check _ 4 4 refl (omega arith))
+        (λ e. or-refusals Allowed _ _ (check _ 4 5 refl (omega arith)) (λ f. check _ 5 6 refl (omega arith))))
 
-  detectors-written : detectorsHead b ≤ length b → WrittenRefusals (detectorsSection b)
-  unfolding detectorsSection detectorCount
-  detectors-written l =
-      or-written _ _ (section-written (detectorsHead b) 5 _ l)
-      (λ e.
-      let body = body-held b (detectorsHead b) 5 _ e in
-      first-written _ _ (λ d m. if-written _ 11 _ (inl (omega (arith, body .1, record-within (detectorsHead b) 2 (detectorCount b) d m)))))
+    module _ (counts : SiteAccepted b) where
+      phases : Refusals Allowed (phasesSection b)
+      unfolding phasesSection bodyAt
+      phases =
+          records phasesHead 2 (phaseCount b) 12 _ (omega arith) (omega arith)
+          (times phasesHead (phaseCount b) 12 phaseSettings 6 (omega arith))
 
-  pedestrians-written : pedestriansHead b ≤ length b → WrittenRefusals (pedestriansSection b)
-  unfolding pedestriansSection
-  pedestrians-written l =
-      or-written _ _ (section-written (pedestriansHead b) 6 _ l)
-      (λ e.
-      times-written (pedestriansHead b) 6 walkSettings 3 (movementCount b) (omega arith)
-      (records-held b (pedestriansHead b) 6 (movementCount b) 6 e))
+      groups : groupsHead b ≤ length b → Refusals Allowed (groupsSection b)
+      unfolding groupsSection groupRecord groupsHead bodyAt
+      groups l =
+          records (groupsHead b) 3 (groupCount b) 2 _
+          (omega arith) (omega arith)
+          (λ body. or-refusals Allowed _ _
+          (each _ (groupsHead b) (groupCount b) 2 body
+          (λ g m. or-refusals Allowed _ _ (check _ 6 _ refl (omega arith)) (λ e. check _ 7 _ refl (omega arith))))
+          (λ e. check _ 8 (groupsHead b) refl (omega arith)))
 
-  after-written : endOf b ≤ length b → WrittenRefusals (afterPedestrians b)
-  unfolding afterPedestrians
-  after-written l = if-written _ 12 (endOf b) (inl (omega arith))
+      conflicts : conflictsHead b ≤ length b → Refusals Allowed (conflictsSection b)
+      unfolding conflictsSection conflictsHead groupsHead bodyAt
+      conflicts l =
+          records (conflictsHead b) 4 (groupCount b) 4 _
+          (omega arith) (omega arith)
+          (λ body. or-refusals Allowed _ _
+          (each _ (conflictsHead b) (groupCount b) 4 body (λ g m. check _ 9 _ refl (omega arith)))
+          (λ e. each _ (conflictsHead b) (groupCount b) 4 body (λ g m. check _ 10 _ refl (omega arith))))
 
-  pub personality-written : WrittenRefusals (verdictOf b)
-  unfolding verdictOf
-  personality-written =
-      or-written _ _ site-written
-      (λ e. or-written _ _ (phases-written (site-accepted b e .next))
-      (λ f. or-written _ _ (groups-written (phases-accepted b f .next))
-      (λ g. or-written _ _ (conflicts-written (groups-accepted b g .next))
-      (λ h. or-written _ _ (detectors-written (conflicts-accepted b h .next))
-      (λ i. or-written _ _ (pedestrians-written (detectors-accepted b i .next))
-      (λ j. after-written (pedestrians-accepted b j .next)))))))
+      detectors : detectorsHead b ≤ length b → Refusals Allowed (detectorsSection b)
+      unfolding detectorsSection detectorCount detectorsHead conflictsHead groupsHead bodyAt
+      detectors l =
+          or-refusals Allowed _ _ (section (detectorsHead b) 5 _ (omega arith))
+          (λ e.
+          let body = detectors-held b (detectorsHead b) e in
+          each _ (detectorsHead b) (detectorCount b) 2 (omega arith)
+          (λ d m. check _ 11 _ refl (omega arith)))
 
-  -- ── The step, after the personality ──
+      module _ (few : GroupsAccepted b) (short : DetectorsAccepted b) where
+        pedestrians : Refusals Allowed (pedestriansSection b)
+        unfolding pedestriansSection endOf bodyAt
+        pedestrians =
+            let near = end-near b counts few (short .short) in
+            records (pedestriansHead b) 6 (movementCount b) 6 _ (omega arith) near
+            (times (pedestriansHead b) (movementCount b) 6 walkSettings 3 (omega arith))
 
-  step-written : (site : Site) (s : State) (inputs room : ℕ) → WrittenRefusals (stepVerdict site s inputs room)
-  unfolding stepVerdict
-  step-written site s inputs room =
-      or-written _ _ (if-written _ 13 0 (inr (omega arith)))
-      (λ e. or-written _ _ (if-written _ 15 0 (inr (omega arith))) (λ f. if-written _ 14 0 (inr (omega arith))))
+        after : endOf b ≤ length b → Refusals Allowed (afterPedestrians b)
+        unfolding afterPedestrians
+        after l = check _ 12 (endOf b) refl (l, end-near b counts few (short .short))
+
+    pub personality-refusals : Refusals Allowed (verdictOf b)
+    unfolding verdictOf
+    personality-refusals =
+        or-refusals Allowed _ _ site
+        (λ e.
+        let counts = site-accepted b e in
+        or-refusals Allowed _ _ (phases counts)
+        (λ f. or-refusals Allowed _ _ (groups counts (phases-accepted b f .next))
+        (λ g.
+        let few = groups-accepted b g in
+        or-refusals Allowed _ _ (conflicts counts (few .next))
+        (λ h. or-refusals Allowed _ _ (detectors counts (conflicts-accepted b h .next))
+        (λ i.
+        let short = detectors-accepted b i in
+        or-refusals Allowed _ _ (pedestrians counts few short)
+        (λ j. after counts few short (pedestrians-accepted b j .next)))))))
+
+    -- a step's checks after them, at 0
+    pub call-refusals :
+        (s : State) (inputs room : ℕ) →
+        ((number : ℕ) → stepNumber number ≡ true → Allowed number 0) →
+        Refusals Allowed (callVerdict b s inputs room)
+    unfolding callVerdict stepVerdict
+    call-refusals s inputs room step =
+        or-refusals Allowed _ _ personality-refusals
+        (λ e. or-refusals Allowed _ _ (if-refusals Allowed _ 13 0 (step 13 refl))
+        (λ f. or-refusals Allowed _ _ (if-refusals Allowed _ 15 0 (step 15 refl)) (λ g. if-refusals Allowed _ 14 0 (step 14 refl))))
 
 pub refusal-is-written : RefusalIsWritten
-unfolding RefusalIsWritten callVerdict
-refusal-is-written b s inputs room number place h =
-    or-written b _ _ (personality-written b) (λ e. step-written b (siteOf b) s inputs room) number place h
+unfolding RefusalIsWritten
+refusal-is-written b s inputs room =
+    call-refusals b (Written b) (λ number place known l. inl (known, l)) s inputs room (λ number known. inr (known, refl))
+
+-- ── An accepted personality ──
+
+pub accepted-is-short : AcceptedIsShort
+unfolding AcceptedIsShort
+accepted-is-short b h =
+    let s = sections-accepted b h in
+    omega (arith, end-near b (s .site) (s .groups) (s .detectors .short))

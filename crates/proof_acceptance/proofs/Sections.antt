@@ -12,9 +12,9 @@ use borrow.Author.Tests.{ltb-false, leb-true, leb-false, eqb-true, eqb-false, no
 use Rattle.rules.specs.declared.answer.Verdict.the-variants.{Accepted}
 use Rattle.rules.specs.Rows.{anyOf, countOf}
 use Rattle.rules.specs.Bytes.{twoAt, bit}
-use Rattle.rules.specs.Limits.{within, startRedSetting, phaseSettings, walkSettings}
+use Rattle.rules.specs.Limits.{limits, within, startRedSetting, phaseSettings, walkSettings}
 use Rattle.rules.specs.Verdicts.{firstOf}
-use Rattle.rules.specs.Personality.{bodyLength, bodyAt, recordAt, phaseCount, groupCount, siteHead, phasesHead, groupsHead, conflictsHead, detectorsHead, pedestriansHead, groupSet, groupMark, pedestrian, pedestriansBefore, movementCount, conflictSet, detectorCount, detectorPhase, sectionAt, timeAt, timesAt, siteSection, phasesSection, badGroup, ninthPedestrian, groupRecord, phaseWithoutGroup, groupsSection, badConflict, sharePhase, conflictInPhase, conflictsSection, badDetector, detectorsSection, pedestriansSection, endOf, verdictOf}
+use Rattle.rules.specs.Personality.{bodyLength, bodyAt, recordAt, phaseCount, groupCount, siteHead, phasesHead, groupsHead, conflictsHead, detectorsHead, pedestriansHead, groupSet, groupMark, pedestrian, pedestriansBefore, movementCount, conflictSet, detectorCount, detectorPhase, sectionAt, timeAt, timesAt, siteSection, phasesSection, badGroup, ninthPedestrian, groupRecord, phaseWithoutGroup, groupsSection, badConflict, sharePhase, conflictInPhase, conflictsSection, badDetector, detectorsSection, pedestriansSection, afterPedestrians, endOf, verdictOf}
 use Rattle.rules.specs.Laws.{InTable}
 use Rattle.rules.proofs.Tests.{and-left, and-right, or-false-left, or-false-right}
 use Rattle.rules.proofs.Rows.{any-false, any-found}
@@ -67,7 +67,7 @@ record-within head width n i l = omega (arith, mul-le-mul-right width l, suc-mul
 
 -- ── Times ──
 
-pub time-passed : (b : List ℕ) (place setting : ℕ) → timeAt b place setting ≡ Accepted → InTable setting (twoAt b place)
+pub time-passed : (b : List ℕ) (place setting : ℕ) → timeAt b place setting ≡ Accepted → InTable limits setting (twoAt b place)
 unfolding timeAt within
 time-passed b place setting h =
     let passed = both-passed _ _ (refuse-passed _ _ _ h) in
@@ -81,7 +81,7 @@ pub times-passed :
     i < n →
     (f : ℕ) →
     f < fields →
-    InTable (setting + f) (twoAt b (recordAt head width i + f * 2))
+    InTable limits (setting + f) (twoAt b (recordAt head width i + f * 2))
 unfolding timesAt
 times-passed b head width setting fields n h i l f m =
     time-passed b (recordAt head width i + f * 2) (setting + f)
@@ -95,11 +95,11 @@ pub record SiteAccepted (b : List ℕ) : Type 0 where
   pub next : phasesHead ≤ length b
   pub phases : (2 ≤ phaseCount b) × (phaseCount b ≤ 7)
   pub groups : (1 ≤ groupCount b) × (groupCount b ≤ 32)
-  pub start : InTable startRedSetting (twoAt b 6)
+  pub start : InTable limits startRedSetting (twoAt b 6)
 
 pub record PhasesAccepted (b : List ℕ) : Type 0 where
   pub next : groupsHead b ≤ length b
-  pub time : (p : ℕ) → p < phaseCount b → (f : ℕ) → f < 6 → InTable (phaseSettings + f) (twoAt b (recordAt phasesHead 12 p + f * 2))
+  pub time : (p : ℕ) → p < phaseCount b → (f : ℕ) → f < 6 → InTable limits (phaseSettings + f) (twoAt b (recordAt phasesHead 12 p + f * 2))
 
 pub record GroupsAccepted (b : List ℕ) : Type 0 where
   pub next : conflictsHead b ≤ length b
@@ -125,6 +125,7 @@ pub record ConflictsAccepted (b : List ℕ) : Type 0 where
 
 pub record DetectorsAccepted (b : List ℕ) : Type 0 where
   pub next : pedestriansHead b ≤ length b
+  pub short : bodyLength b (detectorsHead b) ≤ 96
   pub count : detectorCount b ≤ 48
   pub phase : (d : ℕ) → d < detectorCount b → detectorPhase b d < phaseCount b
 
@@ -135,7 +136,7 @@ pub record PedestriansAccepted (b : List ℕ) : Type 0 where
       k < movementCount b →
       (f : ℕ) →
       f < 3 →
-      InTable (walkSettings + f) (twoAt b (recordAt (pedestriansHead b) 6 k + f * 2))
+      InTable limits (walkSettings + f) (twoAt b (recordAt (pedestriansHead b) 6 k + f * 2))
 
 pub site-accepted : (b : List ℕ) → siteSection b ≡ Accepted → SiteAccepted b
 unfolding siteSection bodyAt
@@ -205,14 +206,23 @@ conflicts-accepted b h =
     shares : (g : ℕ) → g < groupCount b → anyOf (λ j. bit j (conflictSet b g) && sharePhase b g j) (groupCount b) ≡ false
     shares g l = refuse-passed _ _ _ (first-each _ _ g (or-later _ _ (or-later _ _ h)) l)
 
+-- the detectors' body, where its head passed
+pub detectors-held :
+    (b : List ℕ) (head : ℕ) →
+    sectionAt b head 5 (eqb (bodyLength b head % 2) 0 && leb (bodyLength b head) 96) ≡ Accepted →
+    (bodyAt head + bodyLength b head ≤ length b) × (bodyLength b head ≤ 96)
+detectors-held b head h =
+    let body = body-held b head 5 _ h in
+    (body .1, leb-true _ _ (and-right (eqb (bodyLength b head % 2) 0) _ (body .0)))
+
 pub detectors-accepted : (b : List ℕ) → detectorsSection b ≡ Accepted → DetectorsAccepted b
 unfolding detectorsSection pedestriansHead detectorCount badDetector
 detectors-accepted b h =
-    let body = body-held b (detectorsHead b) 5 _ (or-first _ _ h) in
+    let body = detectors-held b (detectorsHead b) (or-first _ _ h) in
     record {
-      next = body .1;
-      count =
-          omega (arith, leb-true (bodyLength b (detectorsHead b)) 96 (and-right (eqb (bodyLength b (detectorsHead b) % 2) 0) _ (body .0)));
+      next = body .0;
+      short = body .1;
+      count = omega (arith, body .1);
       phase = λ d l. leb-false _ _ (or-false-left _ _ (refuse-passed _ _ _ (first-each _ _ d (or-later _ _ h) l)));
     }
 
@@ -224,7 +234,7 @@ pedestrians-accepted b h =
       time = times-passed b (pedestriansHead b) 6 walkSettings 3 (movementCount b) (or-later _ _ h);
     }
 
--- ── All six ──
+-- ── All six, with nothing after them ──
 
 pub record SectionsAccepted (b : List ℕ) : Type 0 where
   pub site : SiteAccepted b
@@ -233,9 +243,10 @@ pub record SectionsAccepted (b : List ℕ) : Type 0 where
   pub conflicts : ConflictsAccepted b
   pub detectors : DetectorsAccepted b
   pub pedestrians : PedestriansAccepted b
+  pub last : length b ≤ endOf b
 
 pub sections-accepted : (b : List ℕ) → verdictOf b ≡ Accepted → SectionsAccepted b
-unfolding verdictOf
+unfolding verdictOf afterPedestrians
 sections-accepted b h =
     let fromPhases = or-later _ _ h in
     let fromGroups = or-later _ _ fromPhases in
@@ -249,4 +260,5 @@ sections-accepted b h =
       conflicts = conflicts-accepted b (or-first _ _ fromConflicts);
       detectors = detectors-accepted b (or-first _ _ fromDetectors);
       pedestrians = pedestrians-accepted b (or-first _ _ fromPedestrians);
+      last = ltb-false _ _ (refuse-passed _ _ _ (or-later _ _ fromPedestrians));
     }

@@ -1,22 +1,25 @@
--- The wait bound of an accepted personality is at most that of seven phases with every setting the highest: each phase's share is
--- at most the highest share, and there are at most seven.
-use Prim.Native.Nat.{ℕ, _+_, _*_, _≤_, _<_}
+-- The wait bound of times in a table is at most that of seven phases with every setting the table's highest: each phase's share is at
+-- most the greatest share, and there are at most seven. So it is for an accepted personality's.
+use Prim.Native.Nat.{ℕ, _+_, _≤_, _<_}
 use mathlib.Core.Bool.{Bool, true, false}
+use mathlib.Core.List.{List}
 use mathlib.Core.Path.{_≡_, refl}
 use native.Mathlib.Nat.{mul-le-mul-right}
 use native.Mathlib.Omega.{arith}
-use Rattle.rules.specs.declared.site.Site.{Site}
+use Rattle.rules.specs.declared.site.Range.{Range}
+use Rattle.rules.specs.declared.site.Size.{Size}
+use Rattle.rules.specs.declared.site.Times.{Times}
 use Rattle.rules.specs.Rows.{if_then_else_}
-use Rattle.rules.specs.Limits.{limits, limitOf, phaseSettings, walkSettings}
-use Rattle.rules.specs.Site.{crosses, siteOf}
-use Rattle.rules.specs.WaitBound.{longestWalk, longestClearance, phaseShare, waitBound}
-use Rattle.rules.specs.Laws.{Sound, AcceptedIsSound, highest, greatestShare, greatestWait, WaitIsInTable}
+use Rattle.rules.specs.Limits.{limits, limitOf}
+use Rattle.rules.specs.Site.{phaseTimes, walkTimes, crosses, siteOf}
+use Rattle.rules.specs.WaitBound.{phaseShare, longestWalk, longestClearance, waitBoundBy}
+use Rattle.rules.specs.Laws.{SoundTimes, AcceptedIsSound, highest, highestPhase, highestWalk, greatestShare, greatestWait, WaitIsInTable}
 use Rattle.rules.proofs.Rows.{greatest-most}
 use Rattle.rules.proofs.Counts.{sum-within}
 use Rattle.proof_acceptance.proofs.Acceptance.{accepted-is-sound}
 
-pub greatest-wait : greatestWait ≡ 35150
-unfolding greatestWait greatestShare highest limitOf limits
+pub greatest-wait : greatestWait limits ≡ 35150
+unfolding greatestWait greatestShare phaseShare highestPhase highestWalk highest limitOf limits
 greatest-wait = refl
 
 -- a choice between a number within m and 0 is within m
@@ -24,45 +27,57 @@ chosen-within : (t : Bool) (n m : ℕ) → n ≤ m → (if t then n else 0) ≤ 
 chosen-within true n m l = l
 chosen-within false n m l = omega arith
 
-module _ (site : Site) (sound : Sound site) where
-  walk-within : (p : ℕ) → longestWalk site p ≤ highest walkSettings + highest (walkSettings + 1)
-  unfolding longestWalk highest
+module _ (table : List Range) (size : Size) (times : Times) (crossings : List ℕ) (sound : SoundTimes table size times) where
+  -- A and C of a phase
+  abbrev walkOf : ℕ → ℕ
+  walkOf = longestWalk crossings (times .walks) (size .movements)
+
+  abbrev clearanceOf : ℕ → ℕ
+  clearanceOf = longestClearance crossings (times .walks) (size .movements)
+
+  walk-within : (p : ℕ) → walkOf p ≤ highestWalk table .walk + highestWalk table .first
+  unfolding longestWalk walkTimes highestWalk highest
   walk-within p =
-      greatest-most _ (site .size .movements) _
+      greatest-most _ (size .movements) _
       (λ k l.
-      let times = sound .walkTime k l in
-      chosen-within (crosses site k p) _ _ (omega (arith, times .walk .1, times .first .1)))
+      let own = sound .walk k l in
+      chosen-within (crosses crossings k p) _ _ (omega (arith, own .walk .1, own .first .1)))
 
-  clearance-within : (p : ℕ) → longestClearance site p ≤ highest (walkSettings + 2)
-  unfolding longestClearance highest
+  clearance-within : (p : ℕ) → clearanceOf p ≤ highestWalk table .second
+  unfolding longestClearance walkTimes highestWalk highest
   clearance-within p =
-      greatest-most _ (site .size .movements) _ (λ k l. chosen-within (crosses site k p) _ _ (sound .walkTime k l .second .1))
+      greatest-most _ (size .movements) _ (λ k l. chosen-within (crosses crossings k p) _ _ (sound .walk k l .second .1))
 
-  share-within : (p : ℕ) → p < site .size .phases → phaseShare site p ≤ greatestShare
-  unfolding phaseShare greatestShare highest
+  abbrev shareOf : ℕ → ℕ
+  shareOf p = phaseShare (phaseTimes times p) (walkOf p) (clearanceOf p)
+
+  share-within : (p : ℕ) → p < size .phases → shareOf p ≤ greatestShare table
+  unfolding phaseShare greatestShare highestPhase highest
   share-within p l =
-      let times = sound .phaseTime p l in
+      let own = sound .phase p l in
       omega (
         arith,
-        times .late .1,
-        times .minimum .1,
-        times .maximum .1,
+        own .late .1,
+        own .minimum .1,
+        own .maximum .1,
         walk-within p,
-        times .yellow .1,
-        times .red .1,
+        own .yellow .1,
+        own .red .1,
         clearance-within p,
       )
 
-  pub wait-within : waitBound site ≤ greatestWait
-  unfolding waitBound greatestWait highest
-  wait-within =
+  pub wait-within : size .phases ≤ 7 → waitBoundBy size times crossings ≤ greatestWait table
+  unfolding waitBoundBy greatestWait highest
+  wait-within few =
       omega (
         arith,
-        sound .startTime .1,
-        sum-within (phaseShare site) (site .size .phases) greatestShare share-within,
-        mul-le-mul-right greatestShare (sound .phases .1),
+        sound .start .1,
+        sum-within shareOf (size .phases) (greatestShare table) share-within,
+        mul-le-mul-right (greatestShare table) few,
       )
 
 pub wait-is-in-table : WaitIsInTable
 unfolding WaitIsInTable AcceptedIsSound
-wait-is-in-table b h = wait-within (siteOf b) (accepted-is-sound b h)
+wait-is-in-table b h =
+    let sound = accepted-is-sound b h in
+    wait-within limits (siteOf b .size) (siteOf b .times) (siteOf b .crossings) (sound .times) (sound .phases .1)

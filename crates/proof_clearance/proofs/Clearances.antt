@@ -5,38 +5,39 @@ use native.Mathlib.Omega.{arith}
 use mathlib.Core.Bool.{Bool, true, false}
 use mathlib.Core.List.{List, [], _∷_, _++_, append-assoc}
 use mathlib.Core.Logic.{⊎-elim}
-use mathlib.Core.Path.{_≡_, refl, sym, subst, ap, ap₂, _∙_}
+use mathlib.Core.Path.{_≡_, refl, sym, ap, ap₂, _∙_}
 use lib.ListN.{length, replicate}
 use Rattle.rules.specs.declared.site.Site.{Site}
 use Rattle.rules.specs.declared.site.WalkTimes.{WalkTimes}
-use Rattle.rules.specs.declared.state.Interval.the-variants.{AllRed}
 use Rattle.rules.specs.declared.state.Movement.{Movement}
 use Rattle.rules.specs.declared.state.Stage.the-variants.{Idle}
 use Rattle.rules.specs.declared.state.State.{State}
 use Rattle.rules.specs.Site.{phaseTimes, walkTimes, isPedestrian, movementOf, conflict}
 use Rattle.rules.specs.State.{fresh, movement}
-use Rattle.rules.specs.Movements.{older}
 use Rattle.rules.specs.Colours.{red, yellow, green, flashing, movementColour}
 use Rattle.rules.specs.Runs.{Taken, shows, shownBy, StartsGreen, VehicleCleared, PedestrianCleared, Cleared, FullClearances}
-use Rattle.rules.specs.Laws.{Sound, SoundPhaseTimes, StepKeepsValid}
-use Rattle.proof_runs.proofs.ValidStates.{state-told}
-use Rattle.proof_runs.proofs.Chains.{Link, Chain, always, valid-after}
+use Rattle.rules.specs.Laws.{Sound}
+use Rattle.rules.proofs.Settings.{Timed, phase-timed, walk-reached}
+use Rattle.proof_runs.proofs.Linked.{reached}
+use Rattle.proof_runs.proofs.Runs.{ValidLink, Run}
 use Rattle.proof_clearance.proofs.Shown.{vehicleAt, vehicle-shows, pedestrian-shows, green-walks}
 use Rattle.proof_clearance.proofs.Greens.{busy-has-phase}
-use Rattle.proof_clearance.proofs.VehicleColours.{Leaving, leaving-member, leaving-all-red}
-use Rattle.proof_clearance.proofs.Vehicles.{YellowsLeft, in-green, yellows-member, yellows-fall, yellows-over, all-red-goes-on, red-stays}
+use Rattle.proof_clearance.proofs.Vehicles.{Stopped, stopped-member, stopped-red, stopped-on, YellowsLeft, in-green, yellows-member, yellows-fall, yellows-over, red-stays}
 use Rattle.proof_clearance.proofs.Pedestrians.{next, FlashesLeft, in-walk, flashes-busy, flashes-fall, flashes-over, idle-stays, movement-after}
-use Rattle.proof_clearance.proofs.Countdowns.{Since, since-next, Leads, only-red, blocked, counts-down}
+use Rattle.proof_clearance.proofs.Countdowns.{Since, since-next, Leads, only-red, barred, counts-down}
 
 module _
-    (keeps : StepKeepsValid) (site : Site) (sound : Sound site) (g j : ℕ) (apart : conflict site g j ≡ true)
+    (site : Site) (sound : Sound site) (g j : ℕ) (apart : conflict site g j ≡ true)
     (start : Taken) (later : List Taken) (greenG : shows start g ≡ green) where
   within : j < site .size .groups
   within = sound .conflictGroups g j apart .1
 
   -- ── Vehicle groups ──
 
-  module _ (kind : isPedestrian site j ≡ false) (p : ℕ) (times : SoundPhaseTimes (phaseTimes (site .times) p)) where
+  module _ (kind : isPedestrian (site .groups) j ≡ false) (p : ℕ) (times : Timed (phaseTimes (site .times) p)) where
+    shown : (s : State) (step : Taken) → ValidLink site s step → shows step j ≡ vehicleAt site j (step .after .position)
+    shown s step link = vehicle-shows site s step (link .taken) j within kind
+
     abbrev Yellows : ℕ → State → Type 0
     Yellows n s = YellowsLeft site j p n (s .position)
 
@@ -45,62 +46,40 @@ module _
 
     yellow-falls : (n : ℕ) → Leads site j (Yellows (suc n)) (Yellows n) yellow
     yellow-falls n s step link other left =
-        let shown = vehicle-shows site s step link j within kind in
-        let fall = yellows-fall site j p times s step link n left (λ e. other (shown ∙ e)) in
-        (fall .0, shown ∙ fall .1)
+        let fall = yellows-fall site j p times s step (link .taken) n left (λ e. other (shown s step link ∙ e)) in
+        (fall .0, shown s step link ∙ fall .1)
 
     red-rests : Leads site j Red Red red
     red-rests s step link other e =
-        let shown = vehicle-shows site s step link j within kind in
-        let kept = red-stays site s step link j e (λ e. other (shown ∙ e)) in
-        (kept, shown ∙ kept)
+        let kept = red-stays site s step (link .taken) j e (λ e. other (shown s step link ∙ e)) in
+        (kept, shown s step link ∙ kept)
 
-    -- from an age of all-red on, R is reached before the start
-    all-red-lasts :
-        (a : ℕ) (s : State) (steps : List Taken) →
-        Leaving site j p AllRed a (s .position) →
-        Since site j start later s steps →
-        phaseTimes (site .times) p .red ≤ a + length steps
-    unfolding older
-    all-red-lasts a s [] row since =
-        let link = since .chain .0 in
-        ⊎-elim
-        (λ (h : phaseTimes (site .times) p .red ≤ a). omega arith)
-        (λ (row′ : Leaving site j p AllRed (older a) (start .after .position)).
-        absurd
-        (blocked keeps site sound g j apart s start link
-        (leaving-member site j p (older a) (start .after .position) AllRed row′)
-        greenG))
-        (all-red-goes-on site s start link j p a row)
-    all-red-lasts a s (step ∷ steps) row since =
-        ⊎-elim
-        (λ (h : phaseTimes (site .times) p .red ≤ a). omega arith)
-        (λ (row′ : Leaving site j p AllRed (older a) (step .after .position)).
-        omega (arith, all-red-lasts (older a) (step .after) steps row′ (since-next site j start later s step steps since)))
-        (all-red-goes-on site s step (since .chain .0) j p a row)
-
-    -- once the yellow is over, at least R red steps follow
+    -- from Y on it shows red, and has been stopped for Y + R before the start
     red-clears :
-        (s : State) (steps : List Taken) →
-        YellowsLeft site j p 0 (s .position) →
+        (c : ℕ) (s : State) (steps : List Taken) →
+        phaseTimes (site .times) p .yellow ≤ c →
+        Stopped site j p c (s .position) →
         Since site j start later s steps →
-        (n : ℕ) × (phaseTimes (site .times) p .red ≤ n) × (shownBy j steps ≡ replicate n red)
+        (n : ℕ)
+        × (phaseTimes (site .times) p .yellow + phaseTimes (site .times) p .red ≤ c + n)
+        × (shownBy j steps ≡ replicate n red)
     unfolding shownBy
-    red-clears s [] left since =
-        let link = since .chain .0 in
-        let row = yellows-over site j p times s start link left in
-        absurd (blocked keeps site sound g j apart s start link (leaving-member site j p 1 (start .after .position) AllRed row) greenG)
-    red-clears s (step ∷ steps) left since =
-        let link = since .chain .0 in
-        let row = yellows-over site j p times s step link left in
-        let e = leaving-all-red site j p 1 (step .after .position) row in
-        let since′ = since-next site j start later s step steps since in (
-          suc (length steps),
-          omega (arith, all-red-lasts 1 (step .after) steps row since′),
-          ap₂ _∷_
-              (vehicle-shows site s step link j within kind ∙ e)
-              (only-red site j start later Red red-rests (step .after) steps e since′),
-        )
+    red-clears c s [] h row since =
+        ⊎-elim
+        (λ (row′ : Stopped site j p (suc c) (start .after .position)).
+        absurd (barred site g j apart start later greenG s since (stopped-member site j p (suc c) (start .after .position) row′)))
+        (λ over. (0, omega (arith, over .0), refl))
+        (stopped-on site j p times s start (since .run .0 .taken) c row)
+    red-clears c s (step ∷ steps) h row since =
+        ⊎-elim
+        (λ (row′ : Stopped site j p (suc c) (step .after .position)).
+        let more = red-clears (suc c) (step .after) steps (omega arith) row′ (since-next since) in (
+          suc (more .0),
+          omega (arith, more .1),
+          ap₂ _∷_ (shown s step (since .run .0) ∙ stopped-red site j p (suc c) (step .after .position) row′ (omega arith)) (more .2),
+        ))
+        (λ over. (suc (length steps), omega (arith, over .0), only-red site j start later Red red-rests s (step ∷ steps) (over .1) since))
+        (stopped-on site j p times s step (since .run .0 .taken) c row)
 
     vehicle-cleared :
         (s : State) (steps : List Taken) →
@@ -112,7 +91,7 @@ module _
         × (shownBy j steps ≡ replicate (phaseTimes (site .times) p .yellow) yellow ++ replicate n red)
     vehicle-cleared s steps here e since =
         let down =
-        counts-down keeps site sound g j apart start later greenG Yellows yellow
+        counts-down site g j apart start later greenG Yellows yellow
         (λ n s sane left. yellows-member site j p n (s .position) left)
         yellow-falls
         (phaseTimes (site .times) p .yellow)
@@ -120,35 +99,39 @@ module _
         steps
         (in-green here e refl)
         since in
-        let reds = red-clears (down .0) (down .1) (down .2) (down .3) in
-        (reds .0, reds .1, rw (← reds .2) (down .4))
+        let y = phaseTimes (site .times) p .yellow in
+        let reds = red-clears y (down .0) (down .1) (omega arith) (yellows-over site j p times (down .0 .position) (down .2)) (down .3) in
+        (reds .0, omega (arith, reds .1), rw (← reds .2) (down .4))
 
   -- ── Pedestrian groups ──
 
-  module _ (kind : isPedestrian site j ≡ true) where
+  module _ (kind : isPedestrian (site .groups) j ≡ true) where
     abbrev mine : State → Movement
-    mine s = movement s (movementOf site j)
+    mine s = movement s (movementOf (site .groups) j)
 
     abbrev times : WalkTimes
-    times = walkTimes (site .times) (movementOf site j)
+    times = walkTimes (site .times) (movementOf (site .groups) j)
 
     abbrev Flashes : ℕ → State → Type 0
     Flashes n s = FlashesLeft times n (mine s)
 
-    below : movementOf site j < site .size .movements
+    below : movementOf (site .groups) j < site .size .movements
     below = sound .movementOfGroup j within kind
 
+    walk-shown : (s : State) (step : Taken) → ValidLink site s step → shows step j ≡ movementColour (mine (step .after) .stage)
+    walk-shown s step link = pedestrian-shows site s step (link .taken) j within kind
+
     -- a step that does not show green begins no walk
-    mine-after : (s : State) (step : Taken) → Link site s step → (shows step j ≡ green → ⊥) → mine (step .after) ≡ next times (mine s)
+    mine-after : (s : State) (step : Taken) → ValidLink site s step → (shows step j ≡ green → ⊥) → mine (step .after) ≡ next times (mine s)
     mine-after s step link other =
-        movement-after site s step link (movementOf site j) (omega (arith, below, sound .movements))
-        (λ e. other (pedestrian-shows site s step link j within kind ∙ e))
+        movement-after site s step (link .taken) (movementOf (site .groups) j) (omega (arith, below, sound .movements))
+        (λ e. other (walk-shown s step link ∙ e))
 
     flashing-falls : (n : ℕ) → Leads site j (Flashes (suc n)) (Flashes n) flashing
     flashing-falls n s step link other left =
         let here = mine-after s step link other in
-        let shown = rw here at (pedestrian-shows site s step link j within kind) in
-        let fall = flashes-fall times (sound .walkTime (movementOf site j) below) n (mine s) left (λ e. other (shown ∙ e)) in
+        let shown = rw here at (walk-shown s step link) in
+        let fall = flashes-fall times (walk-reached site sound (movementOf (site .groups) j) below) n (mine s) left (λ e. other (shown ∙ e)) in
         (rw here (fall .0), shown ∙ fall .1)
 
     -- idle, or in the last step of C2
@@ -159,7 +142,7 @@ module _
     unfolding movementColour
     idle-rests s step link other e =
         let idle = ap (λ (m : Movement). m .stage) (mine-after s step link other) ∙ e in
-        (idle-stays times (mine (step .after)) idle, pedestrian-shows site s step link j within kind ∙ ap movementColour idle)
+        (idle-stays times (mine (step .after)) idle, walk-shown s step link ∙ ap movementColour idle)
 
     pedestrian-cleared :
         (s : State) (steps : List Taken) →
@@ -168,7 +151,7 @@ module _
         (n : ℕ) × (shownBy j steps ≡ replicate (times .first + times .second) flashing ++ replicate n red)
     pedestrian-cleared s steps e since =
         let down =
-        counts-down keeps site sound g j apart start later greenG Flashes flashing
+        counts-down site g j apart start later greenG Flashes flashing
         (λ n s sane left. busy-has-phase site sound s sane j within kind (flashes-busy times n (mine s) left))
         flashing-falls
         (times .first + times .second)
@@ -176,7 +159,7 @@ module _
         steps
         (in-walk (green-walks (mine s .stage) e) refl)
         since in
-        let idles = flashes-over times (sound .walkTime (movementOf site j) below) (mine (down .0)) (down .2) in
+        let idles = flashes-over times (walk-reached site sound (movementOf (site .groups) j) below) (mine (down .0)) (down .2) in
         let reds = only-red site j start later Idles idle-rests (down .0) (down .1) idles (down .3) in
         (length (down .1), rw (← reds) (down .4))
 
@@ -185,32 +168,26 @@ module _
   -- a group that showed green last after one step, and conflicts with one that is green at the start, has been cleared between them
   cleared :
       (s : State) (last : Taken) (steps : List Taken) →
-      Link site s last →
+      ValidLink site s last →
       shows last j ≡ green →
       Since site j start later (last .after) steps →
       Cleared site j last steps
   unfolding Cleared VehicleCleared PedestrianCleared
-  cleared s last steps link e since = by-kind (isPedestrian site j) refl
+  cleared s last steps link e since = by-kind (isPedestrian (site .groups) j) refl
     where
-      by-kind : (test : Bool) → isPedestrian site j ≡ test → Cleared site j last steps
-      by-kind true kind =
-          rw kind (pedestrian-cleared kind (last .after) steps (sym (pedestrian-shows site s last link j within kind) ∙ e) since)
+      by-kind : (test : Bool) → isPedestrian (site .groups) j ≡ test → Cleared site j last steps
+      by-kind true kind = rw kind (pedestrian-cleared kind (last .after) steps (sym (walk-shown kind s last link) ∙ e) since)
       by-kind false kind =
-          let sane = valid-after keeps site sound s last link in
-          let times = sound .phaseTime (last .after .position .phase) (state-told site (last .after) sane .phase) in
-          rw kind
-          (vehicle-cleared kind (last .after .position .phase) times (last .after) steps refl
-          (sym (vehicle-shows site s last link j within kind) ∙ e)
-          since)
+          let p = last .after .position .phase in
+          let times = phase-timed site sound p (link .there .phase) in
+          rw kind (vehicle-cleared kind p times (last .after) steps refl (sym (shown kind p times s last link) ∙ e) since)
 
 -- ── Runs ──
 
-pub full-clearances :
-    StepKeepsValid → (site : Site) → Sound site → (steps : List Taken) → Chain site fresh steps → FullClearances site steps
+pub full-clearances : (site : Site) (steps : List Taken) → Run site fresh steps → FullClearances site steps
 unfolding FullClearances StartsGreen
-full-clearances keeps site sound steps chain earlier since later last start split g j apart starts greenJ never =
-    let rest = (last ∷ since) ++ start ∷ later in
-    let whole = subst (λ (xs : List Taken). Chain site fresh xs) (split ∙ append-assoc earlier (last ∷ since) (start ∷ later)) chain in
-    let reached = always site (λ (s : State). Unit {0}) (λ s step link u. tt) earlier rest fresh tt whole in
-    cleared keeps site sound g j apart start later (starts .0) (reached .0) last since (reached .2 .0) greenJ
-    (record { chain = reached .2 .1; never = never })
+full-clearances site steps run earlier since later last start split g j apart starts greenJ never =
+    let rest = since ++ start ∷ later in
+    let cut = reached (ValidLink site) steps earlier (last ∷ rest) fresh (split ∙ append-assoc earlier (last ∷ since) (start ∷ later)) run in
+    let link = cut .1 .0 in
+    cleared site (link .sound) g j apart start later (starts .0) (cut .0) last since link greenJ (record { run = cut .1 .1; never = never })

@@ -8,29 +8,27 @@ use lib.ListN.{length, replicate}
 use Rattle.rules.specs.declared.site.Site.{Site}
 use Rattle.rules.specs.declared.state.State.{State}
 use Rattle.rules.specs.Site.{inPhase, conflict}
-use Rattle.rules.specs.State.{valid}
 use Rattle.rules.specs.Colours.{red, green}
 use Rattle.rules.specs.Runs.{Taken, shows, shownBy, NeverGreen}
-use Rattle.rules.specs.Laws.{Sound, StepKeepsValid}
-use Rattle.proof_runs.proofs.Chains.{Link, Chain, valid-after}
+use Rattle.proof_runs.proofs.ValidStates.{ValidState}
+use Rattle.proof_runs.proofs.Runs.{ValidLink, Run}
 use Rattle.proof_clearance.proofs.Greens.{shown-has-phase, never-both-green}
 
 -- From state s the steps lead up to `start`, and group j shows green after none of them.
 pub record Since (site : Site) (j : ℕ) (start : Taken) (later : List Taken) (s : State) (steps : List Taken) : Type 0 where
-  pub chain : Chain site s (steps ++ start ∷ later)
+  pub run : Run site s (steps ++ start ∷ later)
   pub never : NeverGreen j steps
 
-module _ (site : Site) (j : ℕ) (start : Taken) (later : List Taken) where
-  pub since-next :
-      (s : State) (step : Taken) (steps : List Taken) →
-      Since site j start later s (step ∷ steps) →
-      Since site j start later (step .after) steps
-  since-next s step steps since = record { chain = since .chain .1; never = since .never .1 }
+pub since-next :
+    {site : Site} {j : ℕ} {start : Taken} {later : List Taken} {s : State} {step : Taken} {steps : List Taken} →
+    Since site j start later s (step ∷ steps) →
+    Since site j start later (step .after) steps
+since-next since = record { run = since .run .1; never = since .never .1 }
 
--- A step that is linked to state s and does not show group j green leads from P to Q and shows the colour.
+-- A step from a state that does not show group j green leads from P to Q and shows the colour.
 abbrev pub Leads : Site → ℕ → (State → Type 0) → (State → Type 0) → ℕ → Type 0
 Leads site j P Q colour =
-    (s : State) (step : Taken) → Link site s step → (shows step j ≡ green → ⊥) → P s → Q (step .after) × (shows step j ≡ colour)
+    (s : State) (step : Taken) → ValidLink site s step → (shows step j ≡ green → ⊥) → P s → Q (step .after) × (shows step j ≡ colour)
 
 -- ── Red that lasts ──
 
@@ -40,24 +38,23 @@ module _ (site : Site) (j : ℕ) (start : Taken) (later : List Taken) (Rests : S
   unfolding shownBy
   only-red s [] rests since = refl
   only-red s (step ∷ steps) rests since =
-      let kept = stays s step (since .chain .0) (since .never .0) rests in
-      ap₂ _∷_ (kept .1) (only-red (step .after) steps (kept .0) (since-next site j start later s step steps since))
+      let kept = stays s step (since .run .0) (since .never .0) rests in
+      ap₂ _∷_ (kept .1) (only-red (step .after) steps (kept .0) (since-next since))
 
 -- ── A colour that counts down ──
 
-module _ (keeps : StepKeepsValid) (site : Site) (sound : Sound site) (g j : ℕ) (apart : conflict site g j ≡ true) where
-  -- group g is not green while the phase is one of the conflicting group's
-  pub blocked :
-      (s : State) (step : Taken) → Link site s step → inPhase site j (step .after .position .phase) ≡ true → shows step g ≡ green → ⊥
-  blocked s step link member e =
-      sound .conflictPhase g j apart (step .after .position .phase)
-      (shown-has-phase keeps site sound s step link g (sound .conflictGroups g j apart .0) e)
-      member
+module _
+    (site : Site) (g j : ℕ) (apart : conflict site g j ≡ true) (start : Taken) (later : List Taken) (greenG : shows start g ≡ green) where
+  -- at the start the phase is none of the conflicting group's
+  pub barred : (s : State) → Since site j start later s [] → inPhase (site .groups) j (start .after .position .phase) ≡ true → ⊥
+  barred s since =
+      let link = since .run .0 in
+      link .sound .conflictPhase g j apart (start .after .position .phase)
+      (shown-has-phase site s start link g (link .sound .conflictGroups g j apart .0) greenG)
 
   module _
-      (start : Taken) (later : List Taken) (greenG : shows start g ≡ green)
       (Left : ℕ → State → Type 0) (colour : ℕ)
-      (member : (n : ℕ) (s : State) → valid site s ≡ true → Left n s → inPhase site j (s .position .phase) ≡ true)
+      (member : (n : ℕ) (s : State) → ValidState site s → Left n s → inPhase (site .groups) j (s .position .phase) ≡ true)
       (falls : (n : ℕ) → Leads site j (Left (suc n)) (Left n) colour) where
     -- Where n steps of a colour are left in state s, they come first and in a row; none is left in the state that they lead to.
     pub counts-down :
@@ -72,10 +69,10 @@ module _ (keeps : StepKeepsValid) (site : Site) (sound : Sound site) (g j : ℕ)
     unfolding shownBy
     counts-down zero s steps left since = (s, steps, left, since, refl)
     counts-down (suc n) s [] left since =
-        let link = since .chain .0 in
-        let fall = falls n s start link (never-both-green keeps site sound s start link g j apart greenG) left in
-        absurd (blocked s start link (member n (start .after) (valid-after keeps site sound s start link) (fall .0)) greenG)
+        let link = since .run .0 in
+        let fall = falls n s start link (never-both-green site s start link g j apart greenG) left in
+        absurd (barred s since (member n (start .after) (link .there) (fall .0)))
     counts-down (suc n) s (step ∷ steps) left since =
-        let fall = falls n s step (since .chain .0) (since .never .0) left in
-        let more = counts-down n (step .after) steps (fall .0) (since-next site j start later s step steps since) in
+        let fall = falls n s step (since .run .0) (since .never .0) left in
+        let more = counts-down n (step .after) steps (fall .0) (since-next since) in
         (more .0, more .1, more .2, more .3, ap₂ _∷_ (fall .1) (more .4))

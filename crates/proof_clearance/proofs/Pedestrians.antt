@@ -12,15 +12,14 @@ use Rattle.rules.specs.declared.site.WalkTimes.{WalkTimes}
 use Rattle.rules.specs.declared.state.Movement.{Movement}
 use Rattle.rules.specs.declared.state.Stage.the-variants.{Idle, Walk, ClearanceOne, ClearanceTwo}
 use Rattle.rules.specs.declared.state.State.{State}
-use Rattle.rules.specs.Limits.{limits, limitOf}
 use Rattle.rules.specs.Site.{walkTimes}
 use Rattle.rules.specs.Intervals.{isIdle}
 use Rattle.rules.specs.State.{movement}
 use Rattle.rules.specs.Movements.{older, lasting, advanced}
 use Rattle.rules.specs.Colours.{green, flashing, movementColour}
 use Rattle.rules.specs.Runs.{Taken}
-use Rattle.rules.specs.Laws.{SoundWalkTimes}
 use Rattle.rules.proofs.Tests.{decided}
+use Rattle.rules.proofs.Settings.{Reached}
 use Rattle.proof_runs.proofs.Steps.{moved, begun, movement-of}
 use Rattle.proof_runs.proofs.Chains.{Link}
 
@@ -43,14 +42,14 @@ flashes-busy times n m (in-second e c) = rw e
 abbrev pub next : WalkTimes → Movement → Movement
 next times m = advanced (m .stage) times (m .age)
 
-module _ (times : WalkTimes) (sound : SoundWalkTimes times) where
+module _ (times : WalkTimes) (reached : Reached times) where
   -- a step that does not show green is one of the flashing ones
   pub flashes-fall :
       (n : ℕ) (m : Movement) →
       FlashesLeft times (suc n) m →
       (movementColour (next times m .stage) ≡ green → ⊥) →
       FlashesLeft times n (next times m) × (movementColour (next times m .stage) ≡ flashing)
-  unfolding advanced lasting movementColour older limitOf limits
+  unfolding advanced lasting movementColour older
   flashes-fall n m (in-walk e c) other =
       ⊎-elim
       (λ (h : leb (times .walk) (m .age) ≡ true). rw (e, h) (in-first refl (omega arith) (omega arith), refl))
@@ -67,7 +66,7 @@ module _ (times : WalkTimes) (sound : SoundWalkTimes times) where
 
   -- after the last flashing step the movement is idle
   pub flashes-over : (m : Movement) → FlashesLeft times 0 m → next times m .stage ≡ Idle
-  unfolding advanced lasting limitOf limits
+  unfolding advanced lasting
   flashes-over m (in-walk e c) = absurd (omega arith)
   flashes-over m (in-first e l c) = absurd (omega arith)
   flashes-over m (in-second e c) = rw (e, le-leb (times .second) (m .age) (omega arith))

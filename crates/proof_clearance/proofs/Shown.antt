@@ -11,35 +11,35 @@ use Rattle.rules.specs.declared.state.State.{State}
 use Rattle.rules.specs.Rows.{if_then_else_}
 use Rattle.rules.specs.Site.{groupOf, inPhase, isPedestrian, movementOf}
 use Rattle.rules.specs.State.{movement}
-use Rattle.rules.specs.Colours.{red, green, vehicleColour, movementColour, colourOf}
+use Rattle.rules.specs.Colours.{red, green, vehicleColour, movementColour, vehicleShown, colourOf}
 use Rattle.rules.specs.Runs.{Taken, shows}
 use Rattle.proof_runs.proofs.Chains.{Link}
 
 -- the colour of a vehicle group at a position
 abbrev pub vehicleAt : Site → ℕ → Position → ℕ
 vehicleAt site g position =
-    if inPhase site g (position .phase)
-    then vehicleColour (position .interval) (position .came) (position .target) (groupOf site g)
+    if inPhase (site .groups) g (position .phase)
+    then vehicleColour (position .interval) (position .came) (position .target) (groupOf (site .groups) g)
     else red
 
 -- ── In a state ──
 
 module _ (site : Site) (s : State) (g : ℕ) where
-  pub vehicle-colour : isPedestrian site g ≡ false → colourOf site s g ≡ vehicleAt site g (s .position)
-  unfolding colourOf
+  pub vehicle-colour : isPedestrian (site .groups) g ≡ false → colourOf (site .groups) (s .position) (s .movements) g ≡ vehicleAt site g (s .position)
+  unfolding colourOf vehicleShown inPhase
   vehicle-colour kind = rw kind
 
-  pub pedestrian-colour : isPedestrian site g ≡ true → colourOf site s g ≡ movementColour (movement s (movementOf site g) .stage)
-  unfolding colourOf
+  pub pedestrian-colour : isPedestrian (site .groups) g ≡ true → colourOf (site .groups) (s .position) (s .movements) g ≡ movementColour (movement s (movementOf (site .groups) g) .stage)
+  unfolding colourOf movement
   pedestrian-colour kind = rw kind
 
 -- ── After an accepted step ──
 
 module _ (site : Site) (s : State) (step : Taken) (link : Link site s step) (g : ℕ) (within : g < site .size .groups) where
-  pub vehicle-shows : isPedestrian site g ≡ false → shows step g ≡ vehicleAt site g (step .after .position)
+  pub vehicle-shows : isPedestrian (site .groups) g ≡ false → shows step g ≡ vehicleAt site g (step .after .position)
   vehicle-shows kind = link .shown g within ∙ vehicle-colour site (step .after) g kind
 
-  pub pedestrian-shows : isPedestrian site g ≡ true → shows step g ≡ movementColour (movement (step .after) (movementOf site g) .stage)
+  pub pedestrian-shows : isPedestrian (site .groups) g ≡ true → shows step g ≡ movementColour (movement (step .after) (movementOf (site .groups) g) .stage)
   pedestrian-shows kind = link .shown g within ∙ pedestrian-colour site (step .after) g kind
 
 -- ── Where green is shown ──

@@ -1,10 +1,10 @@
 -- The colours of a vehicle group from one interval to the next. Green is followed by green, unless running ends for a target that is
 -- not in the group's set: then yellow and all-red of the phase are shown as such. Red is followed by red or green.
-use Prim.Native.Nat.{ℕ}
+use Prim.Native.Nat.{ℕ, suc, _<_}
 use native.Mathlib.Omega.{arith}
 use mathlib.Core.Bool.{Bool, true, false, not, _&&_, true≢false}
 use mathlib.Core.Logic.{_⊎_, inl, inr, ⊎-elim}
-use mathlib.Core.Path.{_≡_, refl, sym, ap}
+use mathlib.Core.Path.{_≡_, refl, sym}
 use lib.Dec.{eqb}
 use Rattle.rules.specs.declared.site.Group.{Group}
 use Rattle.rules.specs.declared.site.Site.{Site}
@@ -17,6 +17,7 @@ use Rattle.rules.specs.declared.state.Position.{Position}
 use Rattle.rules.specs.Rows.{if_then_else_}
 use Rattle.rules.specs.Site.{groupOf, inPhase, phaseTimes}
 use Rattle.rules.specs.Intervals.{heldIn, phaseHeld}
+use Rattle.rules.specs.State.{highestAge}
 use Rattle.rules.specs.Movements.{older}
 use Rattle.rules.specs.Interval.{entering, starting, following, staying}
 use Rattle.rules.specs.Colours.{red, yellow, green, vehicleColour}
@@ -68,12 +69,12 @@ started-either false came group = chosen (eqb (group .mark) 1 && not (heldIn cam
 -- the target starts green where it and the phase that was left are in the set
 target-green :
     (site : Site) (j : ℕ) (times : Times) (p : ℕ) (target : Held) →
-    inPhase site j p ≡ true →
-    heldIn target (groupOf site j .phases) ≡ true →
+    inPhase (site .groups) j p ≡ true →
+    heldIn target (groupOf (site .groups) j .phases) ≡ true →
     vehicleAt site j (starting times (phaseHeld target) (Phase p)) ≡ green
 unfolding heldIn phaseHeld inPhase starting
 target-green site j times p Nothing m h = absurd (true≢false (sym h))
-target-green site j times p (Phase q) m h = rw h (started-green (eqb (phaseTimes times q .late) 0) (Phase p) (groupOf site j) m)
+target-green site j times p (Phase q) m h = rw h (started-green (eqb (phaseTimes times q .late) 0) (Phase p) (groupOf (site .groups) j) m)
 
 -- ── Leaving a phase ──
 
@@ -82,11 +83,11 @@ pub record Leaving (site : Site) (j p : ℕ) (i : Interval) (a : ℕ) (position 
   pub phase : position .phase ≡ p
   pub interval : position .interval ≡ i
   pub age : position .age ≡ a
-  pub member : inPhase site j p ≡ true
-  pub apart : heldIn (position .target) (groupOf site j .phases) ≡ false
+  pub member : inPhase (site .groups) j p ≡ true
+  pub apart : heldIn (position .target) (groupOf (site .groups) j .phases) ≡ false
 
 module _ (site : Site) (j p a : ℕ) (position : Position) where
-  pub leaving-member : (i : Interval) → Leaving site j p i a position → inPhase site j (position .phase) ≡ true
+  pub leaving-member : (i : Interval) → Leaving site j p i a position → inPhase (site .groups) j (position .phase) ≡ true
   leaving-member i row = rw (row .phase) (row .member)
 
   pub leaving-yellow : Leaving site j p Yellow a position → vehicleAt site j position ≡ yellow
@@ -97,10 +98,10 @@ module _ (site : Site) (j p a : ℕ) (position : Position) where
   unfolding vehicleColour
   leaving-all-red row = rw (row .phase, row .member, row .interval, row .apart)
 
-  pub leaving-stays : (i : Interval) → Leaving site j p i a position → Leaving site j p i (older a) (staying position)
-  unfolding staying
-  leaving-stays i row =
-      record { phase = row .phase; interval = row .interval; age = ap older (row .age); member = row .member; apart = row .apart }
+  pub leaving-stays : (i : Interval) → a < highestAge → Leaving site j p i a position → Leaving site j p i (suc a) (staying position)
+  unfolding staying older
+  leaving-stays i h row =
+      record { phase = row .phase; interval = row .interval; age = omega (arith, row .age); member = row .member; apart = row .apart }
 
   -- yellow is followed by all-red
   pub leaving-follows :
@@ -119,8 +120,8 @@ at p interval age came target = record { phase = p; interval = interval; age = a
 module _ (site : Site) (j : ℕ) (times : Times) (next : Held) (p age : ℕ) (came target : Held) where
   pub green-follows :
       (i : Interval) →
-      inPhase site j p ≡ true →
-      vehicleColour i came target (groupOf site j) ≡ green →
+      inPhase (site .groups) j p ≡ true →
+      vehicleColour i came target (groupOf (site .groups) j) ≡ green →
       let after = following i times next (at p i age came target) in
       (vehicleAt site j after ≡ green) ⊎ Leaving site j p Yellow 1 after
   unfolding following entering vehicleColour
@@ -129,14 +130,14 @@ module _ (site : Site) (j : ℕ) (times : Times) (next : Held) (p age : ℕ) (ca
   green-follows MinimumGreen m e = inl (rw m)
   green-follows Running m e =
       ⊎-elim
-      (λ (h : heldIn next (groupOf site j .phases) ≡ true). inl (rw (m, h)))
-      (λ (h : heldIn next (groupOf site j .phases) ≡ false).
+      (λ (h : heldIn next (groupOf (site .groups) j .phases) ≡ true). inl (rw (m, h)))
+      (λ (h : heldIn next (groupOf (site .groups) j .phases) ≡ false).
       inr (record { phase = refl; interval = refl; age = refl; member = m; apart = h }))
-      (decided (heldIn next (groupOf site j .phases)))
+      (decided (heldIn next (groupOf (site .groups) j .phases)))
   green-follows Yellow m e =
-      inl (rw (m, green-held (heldIn target (groupOf site j .phases)) yellow (λ (z : yellow ≡ green). omega arith) e))
+      inl (rw (m, green-held (heldIn target (groupOf (site .groups) j .phases)) yellow (λ (z : yellow ≡ green). omega arith) e))
   green-follows AllRed m e =
-      let held = green-held (heldIn target (groupOf site j .phases)) red (λ (z : red ≡ green). omega arith) e in
+      let held = green-held (heldIn target (groupOf (site .groups) j .phases)) red (λ (z : red ≡ green). omega arith) e in
       inl (target-green site j times p target m held)
 
   pub red-follows :
@@ -145,12 +146,12 @@ module _ (site : Site) (j : ℕ) (times : Times) (next : Held) (p age : ℕ) (ca
       RedOrGreen (vehicleAt site j (following i times next (at p i age came target)))
   unfolding following entering starting vehicleColour
   red-follows StartRed e =
-      chosen (inPhase site j p) (started-either (eqb (phaseTimes times p .late) 0) came (groupOf site j)) (inl refl)
-  red-follows LateStart e = chosen (inPhase site j p) (inr refl) (inl refl)
-  red-follows MinimumGreen e = chosen (inPhase site j p) (inr refl) (inl refl)
-  red-follows Running e = inl (red-outside (inPhase site j p) _ e)
+      chosen (inPhase (site .groups) j p) (started-either (eqb (phaseTimes times p .late) 0) came (groupOf (site .groups) j)) (inl refl)
+  red-follows LateStart e = chosen (inPhase (site .groups) j p) (inr refl) (inl refl)
+  red-follows MinimumGreen e = chosen (inPhase (site .groups) j p) (inr refl) (inl refl)
+  red-follows Running e = inl (red-outside (inPhase (site .groups) j p) _ e)
   red-follows Yellow e =
-      chosen (inPhase site j p) (chosen (heldIn target (groupOf site j .phases)) (inr refl) (inl refl)) (inl refl)
+      chosen (inPhase (site .groups) j p) (chosen (heldIn target (groupOf (site .groups) j .phases)) (inr refl) (inl refl)) (inl refl)
   red-follows AllRed e =
       let q = phaseHeld target in
-      chosen (inPhase site j q) (started-either (eqb (phaseTimes times q .late) 0) (Phase p) (groupOf site j)) (inl refl)
+      chosen (inPhase (site .groups) j q) (started-either (eqb (phaseTimes times q .late) 0) (Phase p) (groupOf (site .groups) j)) (inl refl)

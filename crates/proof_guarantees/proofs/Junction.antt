@@ -1,21 +1,25 @@
 -- Demand 3 applied to the junction of two phases. That the rules accept it, with a wait bound of 270, are two of the worked cases;
 -- that its two groups conflict is computed.
-use Prim.Native.Nat.{ℕ, _≤_}
-use mathlib.Core.Bool.{true}
-use mathlib.Core.List.{List}
-use mathlib.Core.Path.{_≡_, refl, sym, subst}
+use Prim.Native.Nat.{ℕ, zero, suc, _≤_, _<_}
+use mathlib.Core.Bool.{true, false}
+use mathlib.Core.Path.{_≡_, refl, sym, ap, subst, _∙_}
+use native.Mathlib.Omega.{arith}
+use borrow.Author.Tests.{le-ltb}
+use lib.Dec.{ltb}
 use lib.ListN.{length}
+use Rattle.rules.specs.declared.answer.Outcome.the-variants.{Stepped}
 use Rattle.rules.specs.declared.answer.Verdict.the-variants.{Accepted}
-use Rattle.rules.specs.Rows.{listOf, countOf, indicesOf}
-use Rattle.rules.specs.Bytes.{byteAt, twoAt, fourAt, bit}
-use Rattle.rules.specs.Personality.{verdictOf, groupCount, phaseCount, bodyAt, recordAt, groupsHead, conflictsHead, conflictSet}
-use Rattle.rules.specs.Site.{siteOf, rowOf, conflict}
+use Rattle.rules.specs.Personality.{verdictOf}
+use Rattle.rules.specs.Site.{siteOf, conflict}
+use Rattle.rules.specs.Verdicts.{_orElse_, refuseIf}
 use Rattle.rules.specs.WaitBound.{waitBound}
-use Rattle.rules.specs.Runs.{NoConflictingGreens, DemandsMet, DemandThree, comesWithin, minimumGreenBegins}
-use Rattle.rules.specs.Junctions.{junction, two, four, twos, fours, section, sections, shortPhase}
+use Rattle.rules.specs.Call.{strayInput, boundFor}
+use Rattle.rules.specs.Runs.{ruled, NoConflictingGreens, DemandsMet, NoDeadEnd, DemandThreeOf, DemandThree, comesWithin, minimumGreenBegins}
+use Rattle.rules.specs.Junctions.{junction}
 use Rattle.rules.specs.Cases.{CasesHold, cases, starred}
 use Rattle.rules.proofs.Cases.{cases-hold}
-use Rattle.proof_guarantees.specs.Junction.{NeverTogether, MetIn270}
+use Rattle.rules.proofs.Opened.{opened}
+use Rattle.proof_guarantees.specs.Junction.{NeverTogether, MetIn270, AlwaysAnswered}
 use Rattle.proof_guarantees.proofs.DemandThree.{demand-three}
 
 junction-accepted : verdictOf junction ≡ Accepted
@@ -27,20 +31,37 @@ unfolding CasesHold cases starred
 junction-bound = cases-hold .0
 
 groups-conflict : conflict (siteOf junction) 0 1 ≡ true
-unfolding
-    conflict siteOf rowOf listOf conflictSet conflictsHead groupsHead bodyAt recordAt groupCount phaseCount byteAt twoAt fourAt bit junction
-    sections section shortPhase two four twos fours
+unfolding opened
 groups-conflict = refl
 
 pub never-together : NeverTogether
-unfolding NeverTogether DemandThree NoConflictingGreens
+unfolding NeverTogether DemandThree DemandThreeOf NoConflictingGreens ruled
 never-together calls earlier later step e =
     demand-three junction junction-accepted calls .noConflictingGreens earlier later step e 0 1 groups-conflict
 
 pub met-in-270 : MetIn270
-unfolding MetIn270 DemandThree DemandsMet
+unfolding MetIn270 DemandThree DemandThreeOf DemandsMet ruled
 met-in-270 calls earlier later step e long registered =
     let met =
     demand-three junction junction-accepted calls .demandsMet earlier later step e
     (subst (λ (n : ℕ). n ≤ length later) (sym junction-bound) long) in
     subst (λ (n : ℕ). comesWithin n (minimumGreenBegins 1) step later ≡ true) junction-bound (met .0 1 registered)
+
+-- the two detectors and no buttons
+inputs-wired : (inputs : ℕ) → inputs < 4 → strayInput (siteOf junction) inputs ≡ false
+unfolding opened
+inputs-wired zero h = refl
+inputs-wired (suc zero) h = refl
+inputs-wired (suc (suc zero)) h = refl
+inputs-wired (suc (suc (suc zero))) h = refl
+inputs-wired (suc (suc (suc (suc n)))) h = absurd (omega (arith, h))
+
+room-enough : (room : ℕ) → 2 ≤ room → ltb room (siteOf junction .size .groups) ≡ false
+unfolding opened
+room-enough room h = le-ltb room 2 h
+
+pub always-answered : AlwaysAnswered
+unfolding AlwaysAnswered DemandThree DemandThreeOf NoDeadEnd ruled refuseIf _orElse_ boundFor
+always-answered calls earlier later call e few enough =
+    demand-three junction junction-accepted calls .noDeadEnd earlier later call e
+    ∙ rw (inputs-wired (call .inputs) few, room-enough (call .room) enough) (ap Stepped junction-bound)

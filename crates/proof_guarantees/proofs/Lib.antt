@@ -1,2 +1,3 @@
+pub mod DeadEnds
 pub mod DemandThree
 pub mod Junction

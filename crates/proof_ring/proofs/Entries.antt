@@ -1,6 +1,6 @@
 -- Lists of phases: sums over their entries, how often a phase stands in one, and its parts before and after a phase. How often is a
 -- sum too, so that what is counted of a list cut in parts follows from one law of sums.
-use Prim.Native.Nat.{ℕ, _+_, _≤_, _<_}
+use Prim.Native.Nat.{ℕ, zero, suc, _+_, _≤_, _<_}
 use mathlib.Core.Bool.{true, false}
 use mathlib.Core.List.{List, [], _∷_, _++_, append-nil}
 use mathlib.Core.Logic.{⊎-elim}
@@ -8,7 +8,8 @@ use mathlib.Core.Path.{_≡_, refl, ap, _∙_}
 use native.Mathlib.Omega.{arith}
 use borrow.Author.Tests.{eqb-true, eqb-false, eq-eqb, ne-eqb}
 use lib.Dec.{eqb}
-use Rattle.rules.specs.Rows.{if_then_else_}
+use lib.ListN.{length}
+use Rattle.rules.specs.Rows.{if_then_else_, sumOf}
 use Rattle.rules.specs.Demands.{after, before}
 use Rattle.rules.proofs.Tests.{decided}
 
@@ -31,10 +32,6 @@ places q l = total (one q) l
 pub record In (q : ℕ) (l : List ℕ) : Type 0 where
   pub found : 0 < places q l
 
--- no phase stands in the list twice
-pub record Once (l : List ℕ) : Type 0 where
-  pub each : (q : ℕ) → places q l ≤ 1
-
 pub one-own : (q : ℕ) → one q q ≡ 1
 unfolding one
 one-own q = rw (eq-eqb q q refl)
@@ -47,6 +44,17 @@ pub total-append : (f : ℕ → ℕ) (l m : List ℕ) → total f (l ++ m) ≡ t
 unfolding total
 total-append f [] m = omega arith
 total-append f (x ∷ l) m = omega (arith, total-append f l m)
+
+pub total-ones : (l : List ℕ) → total (λ x. 1) l ≡ length l
+unfolding total
+total-ones [] = refl
+total-ones (x ∷ l) = omega (arith, total-ones l)
+
+-- by index, a phase is not counted below itself
+pub sum-of-one : (q n : ℕ) → n ≤ q → sumOf (one q) n ≡ 0
+unfolding sumOf
+sum-of-one q zero h = refl
+sum-of-one q (suc n) h = omega (arith, sum-of-one q n (omega arith), one-other {q = q} {x = n} (omega arith))
 
 pub in-none : {q : ℕ} → In q [] → ⊥
 unfolding total

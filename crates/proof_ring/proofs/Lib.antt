@@ -1,3 +1,4 @@
 pub mod Entries
-pub mod Letters
+pub mod Turns
 pub mod Ring
+pub mod Letters

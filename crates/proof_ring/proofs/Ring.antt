@@ -1,25 +1,53 @@
--- How far a demanded phase is along the ring. The phases after p in cyclic order are the ring turned past p; turned on past one of them,
--- t, it is what stood there behind t, then p, then what stood before t. So where the search for a demanded phase stops at t, another
--- demanded phase is still ahead with the same phases before it.
-use Prim.Native.Nat.{ℕ, _+_, _≤_, _<_}
+-- A ring of phases, in whichever order, and how far a phase is along it. There are as many entries as phases, and each phase stands there once,
+-- so nothing else does, and a sum over the entries is the sum by index. Where the search for a demanded phase stops at t, another demanded
+-- phase is still ahead with the same phases before it.
+use Prim.Native.Nat.{ℕ, zero, suc, _+_, _≤_, _<_}
 use mathlib.Core.Bool.{Bool, true, false}
-use mathlib.Core.List.{List, [], _∷_, _++_, append-assoc}
+use mathlib.Core.List.{List, [], _∷_, _++_}
 use mathlib.Core.Logic.{⊎-elim}
-use mathlib.Core.Path.{_≡_, sym, ap, _∙_}
-use native.Mathlib.Nat.{eq-zero-or-pos}
+use mathlib.Core.Path.{_≡_, refl, sym, ap, _∙_}
 use native.Mathlib.Omega.{arith}
-use borrow.Author.Tests.{eqb-false, eq-eqb, ne-eqb}
+use borrow.Author.Tests.{eq-eqb, ne-eqb}
 use lib.Dec.{eqb}
+use lib.ListN.{length}
 use Rattle.rules.specs.declared.state.Held.the-variants.{Phase}
-use Rattle.rules.specs.Rows.{if_then_else_}
+use Rattle.rules.specs.Rows.{if_then_else_, sumOf}
 use Rattle.rules.specs.Intervals.{isHeld}
 use Rattle.rules.specs.Demands.{after, before, firstIn}
 use Rattle.rules.proofs.Tests.{decided, never-both}
-use Rattle.proof_ring.proofs.Entries.{total, one, places, In, Once, one-own, one-other, total-append, in-none, in-first, in-later, later-in, split, around, in-front, behind, uncut}
+use Rattle.rules.proofs.Counts.{below-or-past, same-or-apart}
+use Rattle.proof_ring.proofs.Entries.{total, one, places, In, one-own, one-other, total-ones, sum-of-one, in-none, in-first, in-later, later-in, around, in-front, uncut}
+use Rattle.proof_ring.proofs.Turns.{turn, turn-leaves, turn-keeps, turn-in, turn-on}
+
+-- A ring of n phases: n entries, and each phase below n stands in it once.
+pub record RingOf (n : ℕ) (ring : List ℕ) : Type 0 where
+  pub entries : length ring ≡ n
+  pub each : (p : ℕ) → p < n → places p ring ≡ 1
+
+-- ── What stands in it ──
+
+last-in : {n : ℕ} {ring : List ℕ} → RingOf (suc n) ring → In n ring
+last-in {n} ofn = record { found = omega (arith, ofn .each n (omega arith)) }
+
+-- without its last phase it is a ring of one phase less
+without-last : (n : ℕ) (ring : List ℕ) → RingOf (suc n) ring → RingOf n (turn ring n)
+without-last n ring ofn =
+    record {
+      entries = omega (arith, turn-leaves (λ p. 1) (last-in ofn), total-ones ring, total-ones (turn ring n), ofn .entries);
+      each = λ p h.
+          omega (arith, turn-leaves (one p) (last-in ofn), one-other {q = p} {x = n} (omega arith), ofn .each p (omega arith));
+    }
+
+ring-sum : (f : ℕ → ℕ) (n : ℕ) (ring : List ℕ) → RingOf n ring → total f ring ≡ sumOf f n
+unfolding total sumOf
+ring-sum f zero [] ofn = refl
+ring-sum f zero (p ∷ ring) ofn = absurd (omega (arith, ofn .entries))
+ring-sum f (suc n) ring ofn =
+    omega (arith, turn-leaves f (last-in ofn), ring-sum f n (turn ring n) (without-last n ring ofn))
 
 -- ── The search ──
 
-pub found-in : (d : ℕ → Bool) (l : List ℕ) {t : ℕ} → firstIn d l ≡ Phase t → In t l × (d t ≡ true)
+found-in : (d : ℕ → Bool) (l : List ℕ) {t : ℕ} → firstIn d l ≡ Phase t → In t l × (d t ≡ true)
 unfolding firstIn
 found-in d [] e = absurd (let z : _≡_ {A = ℕ} 0 1 = cc in omega arith)
 found-in d (x ∷ l) {t} e =
@@ -28,7 +56,7 @@ found-in d (x ∷ l) {t} e =
     (λ (a : d x ≡ false). let r = found-in d l (rw a at e) in (in-later x (r .0), r .1))
     (decided (d x))
 
-pub some-found : (d : ℕ → Bool) {q : ℕ} {l : List ℕ} → In q l → d q ≡ true → isHeld (firstIn d l) ≡ true
+some-found : (d : ℕ → Bool) {q : ℕ} {l : List ℕ} → In q l → d q ≡ true → isHeld (firstIn d l) ≡ true
 unfolding firstIn isHeld
 some-found d {l = []} i h = absurd (in-none i)
 some-found d {q} {l = x ∷ l} i h =
@@ -37,108 +65,31 @@ some-found d {q} {l = x ∷ l} i h =
     (λ (a : d x ≡ false). rw a (some-found d (later-in i (λ e. never-both h (rw e at a))) h))
     (decided (d x))
 
--- ── The ring turned past a phase ──
-
--- the phases after p in cyclic order
-unfoldable pub turn : List ℕ → ℕ → List ℕ
-turn ring p = after p ring ++ before p ring
-
--- turning past p leaves one p out where p stands in the ring
-turn-leaves : (f : ℕ → ℕ) {p : ℕ} {ring : List ℕ} → In p ring → f p + total f (turn ring p) ≡ total f ring
-unfolding turn
-turn-leaves f {p} {ring} i = omega (arith, around f i, total-append f (after p ring) (before p ring))
-
--- and nothing else anywhere
-turn-keeps :
-    (f : ℕ → ℕ) (ring : List ℕ) (p : ℕ) → (total f (turn ring p) ≤ total f ring) × (total f ring ≤ f p + total f (turn ring p))
-unfolding turn
-turn-keeps f ring p =
-    ⊎-elim
-    (λ (none : places p ring ≡ 0). rw (uncut p ring none .0, uncut p ring none .1) (omega arith))
-    (λ (some : 0 < places p ring). omega (arith, turn-leaves f {p = p} {ring = ring} (record { found = some })))
-    (eq-zero-or-pos (places p ring))
-
-pub turn-in : {q p : ℕ} {ring : List ℕ} → In q ring → (q ≡ p → ⊥) → In q (turn ring p)
-turn-in {q} {p} {ring} i ne =
-    record { found = omega (arith, turn-keeps (one q) ring p, one-other {q = q} {x = p} (λ e. ne (sym e))) }
-
--- past a phase that stands once, it stands no more
-own-gone : {q : ℕ} {ring : List ℕ} → Once ring → In q ring → places q (turn ring q) ≡ 0
-own-gone {q} {ring} once i = omega (arith, turn-leaves (one q) i, one-own q, once .each q)
-
-pub in-turn : {q : ℕ} {ring : List ℕ} (p : ℕ) → Once ring → In q (turn ring p) → In q ring × (q ≡ p → ⊥)
-in-turn {q} {ring} p once i = (kept, other)
-  where
-    kept : In q ring
-    kept = record { found = omega (arith, turn-keeps (one q) ring p) }
-
-    other : q ≡ p → ⊥
-    other e = omega (arith, own-gone once kept, ap (λ (x : ℕ). places q (turn ring x)) e)
-
--- a cyclic order may be cut anywhere
-turn-cut : {t : ℕ} (l m : List ℕ) → In t l → places t m ≡ 0 → turn (l ++ m) t ≡ turn (m ++ l) t
-unfolding turn
-turn-cut {t} l m i h =
-    rw (in-front m i .0, in-front m i .1, behind t m l h .0, behind t m l h .1) (append-assoc (after t l) m (before t l))
-
--- a cut before p
-turn-from : {p t : ℕ} {ring : List ℕ} → Once ring → In p ring → In t ring → turn ring t ≡ turn (p ∷ turn ring p) t
-unfolding turn total
-turn-from {p} {t} {ring} once i j =
-    ap (λ (l : List ℕ). turn l t) (split i)
-    ∙ ⊎-elim
-    (λ (none : places t (before p ring) ≡ 0).
-    sym (turn-cut (p ∷ after p ring) (before p ring) (record { found = omega (arith, around (one t) i) }) none))
-    (λ (some : 0 < places t (before p ring)).
-    turn-cut (before p ring) (p ∷ after p ring) (record { found = some }) (omega (arith, around (one t) i, once .each t)))
-    (eq-zero-or-pos (places t (before p ring)))
-
--- turned on from p past t
-turn-on :
-    {p t : ℕ} {ring : List ℕ} →
-    Once ring →
-    In p ring →
-    In t ring →
-    (t ≡ p → ⊥) →
-    turn ring t ≡ after t (turn ring p) ++ (p ∷ before t (turn ring p))
-unfolding turn after before
-turn-on {p} {t} once i j ne = turn-from once i j ∙ rw (ne-eqb p t (λ e. ne (sym e)))
-
 -- ── How far it is ──
 
 -- the sum of f over the entries before the first q
-unfoldable pub along : (ℕ → ℕ) → ℕ → List ℕ → ℕ
+along : (ℕ → ℕ) → ℕ → List ℕ → ℕ
 along f q l = total f (before q l)
 
 -- the sum over the phases after p in cyclic order, up to and without q
-unfoldable pub rest : (ℕ → ℕ) → List ℕ → ℕ → ℕ → ℕ
+pub rest : (ℕ → ℕ) → List ℕ → ℕ → ℕ → ℕ
 rest f ring q p = along f q (turn ring p)
 
 -- the sum over the phases from t on, up to and without q
-unfoldable pub from : (ℕ → ℕ) → List ℕ → ℕ → ℕ → ℕ
+pub from : (ℕ → ℕ) → List ℕ → ℕ → ℕ → ℕ
 from f ring q t = if eqb t q then 0 else f t + rest f ring q t
+
+pub from-own : (f : ℕ → ℕ) (ring : List ℕ) (q : ℕ) → from f ring q q ≡ 0
+unfolding from
+from-own f ring q = rw (eq-eqb q q refl)
+
+pub from-other : (f : ℕ → ℕ) (ring : List ℕ) {q t : ℕ} → (t ≡ q → ⊥) → from f ring q t ≡ f t + rest f ring q t
+unfolding from
+from-other f ring {q} {t} ne = rw (ne-eqb t q ne)
 
 along-most : (f : ℕ → ℕ) {q : ℕ} {l : List ℕ} → In q l → along f q l + f q ≤ total f l
 unfolding along
 along-most f i = omega (arith, around f i)
-
-pub rest-own : (f : ℕ → ℕ) {q : ℕ} {ring : List ℕ} → Once ring → In q ring → f q + rest f ring q q ≡ total f ring
-unfolding rest along
-rest-own f {q} {ring} once i = rw (uncut q (turn ring q) (own-gone once i) .0) (turn-leaves f i)
-
-pub rest-other :
-    (f : ℕ → ℕ) {p q : ℕ} {ring : List ℕ} → In p ring → In q ring → (q ≡ p → ⊥) → f p + rest f ring q p + f q ≤ total f ring
-unfolding rest
-rest-other f i j ne = omega (arith, turn-leaves f i, along-most f (turn-in j ne))
-
-pub from-most :
-    (f : ℕ → ℕ) {t q : ℕ} {ring : List ℕ} → In t ring → In q ring → from f ring q t + f q ≤ total f ring
-unfolding from
-from-most f {t} {q} i j =
-    ⊎-elim
-    (λ (e : eqb t q ≡ true). rw e (omega (arith, around f j)))
-    (λ (e : eqb t q ≡ false). rw e (rest-other f i j (λ same. eqb-false t q e (sym same))))
-    (decided (eqb t q))
 
 -- The search stops at q or before it, and what is left of the list past its find holds q behind the same entries.
 stops-before :
@@ -163,23 +114,90 @@ stops-before f d {q} {t} (x ∷ l) m i h e ne =
     (omega (arith, stops-before f d l m (later-in i other) h further ne)))
     (decided (d x))
 
--- The search for the next demanded phase never jumps over a demanded q.
-pub jump :
-    (f : ℕ → ℕ) {p q t : ℕ} {ring : List ℕ} →
-    Once ring →
-    In p ring →
-    In q ring →
-    (q ≡ p → ⊥) →
-    (d : ℕ → Bool) →
-    d q ≡ true →
-    firstIn d (turn ring p) ≡ Phase t →
-    from f ring q t ≤ rest f ring q p
-unfolding from rest
-jump f {p} {q} {t} {ring} once i j ne d h e =
-    let kept = in-turn p once (found-in d (turn ring p) e .0) in
-    ⊎-elim
-    (λ (s : eqb t q ≡ true). rw s (omega arith))
-    (λ (s : eqb t q ≡ false).
-    rw (s, turn-on once i (kept .0) (kept .1))
-    (stops-before f d (turn ring p) (p ∷ before t (turn ring p)) (turn-in j ne) h e (eqb-false t q s)))
-    (decided (eqb t q))
+module _ {n : ℕ} {ring : List ℕ} (ofn : RingOf n ring) where
+  stands : {p : ℕ} → p < n → In p ring
+  stands {p} h = record { found = omega (arith, ofn .each p h) }
+
+  below : {p : ℕ} → In p ring → p < n
+  below {p} i =
+      ⊎-elim
+      (λ (h : p < n). h)
+      (λ (h : n ≤ p). absurd (omega (arith, ring-sum (one p) n ring ofn, sum-of-one p n h, i .found)))
+      (below-or-past p n)
+
+  -- past a phase of the ring it stands no more
+  own-gone : {q : ℕ} → q < n → places q (turn ring q) ≡ 0
+  own-gone {q} h = omega (arith, turn-leaves (one q) (stands h), one-own q, ofn .each q h)
+
+  -- ── The search from a phase on ──
+
+  -- what it finds is a phase, and another one
+  pub found-other : (d : ℕ → Bool) {p t : ℕ} → firstIn d (turn ring p) ≡ Phase t → (t < n) × (t ≡ p → ⊥)
+  found-other d {p} {t} e =
+      let found = found-in d (turn ring p) e .0 in
+      let here : t < n = below (record { found = omega (arith, turn-keeps (one t) ring p, found .found) }) in
+      (here, λ same. omega (arith, found .found, own-gone here, ap (λ (x : ℕ). places t (turn ring x)) same))
+
+  -- and where another phase is demanded it finds one
+  pub other-found : (d : ℕ → Bool) {p q : ℕ} → q < n → (q ≡ p → ⊥) → d q ≡ true → isHeld (firstIn d (turn ring p)) ≡ true
+  other-found d h ne = some-found d (turn-in (stands h) ne)
+
+  -- ── What the way may sum up to ──
+
+  module _ (f : ℕ → ℕ) {q : ℕ} (hq : q < n) where
+    -- once round
+    pub rest-own : f q + rest f ring q q ≡ sumOf f n
+    unfolding rest along
+    rest-own =
+        rw (uncut q (turn ring q) (own-gone hq) .0) (omega (arith, turn-leaves f (stands hq), ring-sum f n ring ofn))
+
+    pub rest-other : {p : ℕ} → p < n → (p ≡ q → ⊥) → f p + rest f ring q p + f q ≤ sumOf f n
+    unfolding rest
+    rest-other hp ne =
+        omega (
+          arith,
+          turn-leaves f (stands hp),
+          along-most f (turn-in (stands hq) (λ e. ne (sym e))),
+          ring-sum f n ring ofn,
+        )
+
+    pub from-most : {t : ℕ} → t < n → from f ring q t + f q ≤ sumOf f n
+    from-most {t} ht =
+        ⊎-elim
+        (λ (same : t ≡ q). rw same (omega (arith, from-own f ring q, rest-own)))
+        (λ (other : t ≡ q → ⊥). omega (arith, from-other f ring other, rest-other ht other))
+        (same-or-apart t q)
+
+    -- The search for the next demanded phase never jumps over a demanded q.
+    jump :
+        {p t : ℕ} →
+        p < n →
+        (p ≡ q → ⊥) →
+        (d : ℕ → Bool) →
+        d q ≡ true →
+        firstIn d (turn ring p) ≡ Phase t →
+        (t ≡ q → ⊥) →
+        f t + rest f ring q t ≤ rest f ring q p
+    unfolding rest
+    jump {p} {t} hp ne d h e apart =
+        let other = found-other d e in
+        rw (turn-on (stands hp) (ofn .each t (other .0)) (other .1))
+        (stops-before f d (turn ring p) (p ∷ before t (turn ring p)) (turn-in (stands hq) (λ e. ne (sym e))) h e apart)
+
+    -- So from its find on it is no further than it was from the end of p on.
+    pub nearer :
+        {p t : ℕ} →
+        p < n →
+        (d : ℕ → Bool) →
+        d q ≡ true →
+        firstIn d (turn ring p) ≡ Phase t →
+        from f ring q t ≤ rest f ring q p
+    nearer {p} {t} hp d h e =
+        ⊎-elim
+        (λ (same : t ≡ q). rw same (omega (arith, from-own f ring q)))
+        (λ (apart : t ≡ q → ⊥).
+        ⊎-elim
+        (λ (own : p ≡ q). rw own (omega (arith, from-most (found-other d e .0), rest-own)))
+        (λ (ne : p ≡ q → ⊥). omega (arith, from-other f ring apart, jump hp ne d h e apart))
+        (same-or-apart p q))
+        (same-or-apart t q)

@@ -1,13 +1,12 @@
 -- A run of step calls as a chain of accepted steps. A refused call leaves the state as it was and adds no step, so the steps that
--- a list of calls takes are linked state by state; whatever is to be shown of a run is then shown of one link.
-use Prim.Native.Nat.{ℕ, zero, suc, _≤_, _<_}
-use mathlib.Core.Bool.{Bool, true, false, not, _||_}
+-- a list of calls takes are linked state by state.
+use Prim.Native.Nat.{ℕ, _<_}
+use mathlib.Core.Bool.{true, false, not}
 use mathlib.Core.List.{List, [], _∷_, _++_}
-use mathlib.Core.Logic.{_⊎_, ⊎-elim}
 use mathlib.Core.Path.{_≡_, refl, sym, subst, _∙_}
-use native.Mathlib.Nat.{not-suc-le-zero, le-of-suc-le-suc}
 use borrow.Author.Tests.{not-false}
-use lib.ListN.{length, getD, take, drop, List·getD-append}
+use lib.Dec.{ltb}
+use lib.ListN.{length, getD, drop, List·getD-append}
 use Rattle.rules.specs.declared.answer.Verdict.{Verdict}
 use Rattle.rules.specs.declared.answer.Verdict.the-variants.{Accepted, Refused}
 use Rattle.rules.specs.declared.site.Site.{Site}
@@ -19,11 +18,10 @@ use Rattle.rules.specs.State.{valid}
 use Rattle.rules.specs.Step.{stepped}
 use Rattle.rules.specs.Colours.{colourOf, coloursOf}
 use Rattle.rules.specs.Call.{strayInput, stepVerdict, callVerdict, answerFor, bufferFor, answerOf, bufferOf}
-use Rattle.rules.specs.Laws.{Sound, StepKeepsValid}
-use Rattle.rules.specs.Runs.{Call, Taken, ifStepped, stepsFrom, shows, someStep}
-use Rattle.rules.proofs.Tests.{or-left, or-right}
+use Rattle.rules.specs.Runs.{ruled, Call, Taken, takenFrom, ifStepped, accepted, shows}
 use Rattle.rules.proofs.Rows.{list-length, list-at}
 use Rattle.rules.proofs.Verdicts.{or-first, or-later, refuse-passed}
+use Rattle.proof_runs.proofs.Linked.{Linked}
 
 -- ── One link ──
 
@@ -33,50 +31,53 @@ pub record Link (site : Site) (s : State) (step : Taken) : Type 0 where
   pub valid : valid site s ≡ true
   pub wired : strayInput site (step .inputs) ≡ false
   pub after : step .after ≡ stepped site s (step .inputs)
-  pub shown : (g : ℕ) → g < site .size .groups → shows step g ≡ colourOf site (step .after) g
+  pub shown : (g : ℕ) → g < site .size .groups → shows step g ≡ colourOf (site .groups) (step .after .position) (step .after .movements) g
 
 abbrev pub Chain : Site → State → List Taken → Type 0
-Chain site s [] = Unit {0}
-Chain site s (step ∷ later) = Link site s step × Chain site (step .after) later
-
--- a step that keeps valid states leads to one
-pub valid-after :
-    StepKeepsValid → (site : Site) → Sound site → (s : State) (step : Taken) → Link site s step → valid site (step .after) ≡ true
-unfolding StepKeepsValid
-valid-after keeps site sound s step link = rw (link .after) (keeps site sound s (step .inputs) (link .valid) (link .wired))
+Chain site = Linked (Link site)
 
 -- the colours stand before the bytes that are left untouched
 front-shown :
-    (site : Site) (s : State) (rest : List ℕ) (g : ℕ) → g < site .size .groups → getD (coloursOf site s ++ rest) g 0 ≡ colourOf site s g
+    (site : Site) (s : State) (rest : List ℕ) (g : ℕ) → g < site .size .groups → getD (coloursOf site s ++ rest) g 0 ≡ colourOf (site .groups) (s .position) (s .movements) g
 unfolding coloursOf
 front-shown site s rest g h =
-    List·getD-append (coloursOf site s) rest 0 g (subst (λ (n : ℕ). g < n) (sym (list-length (colourOf site s) (site .size .groups))) h)
-    ∙ list-at (colourOf site s) (site .size .groups) g 0 h
+    List·getD-append (coloursOf site s) rest 0 g (subst (λ (n : ℕ). g < n) (sym (list-length (colourOf (site .groups) (s .position) (s .movements)) (site .size .groups))) h)
+    ∙ list-at (colourOf (site .groups) (s .position) (s .movements)) (site .size .groups) g 0 h
+
+module _ (b : List ℕ) (s : State) (inputs room : ℕ) where
+  -- a call that is accepted has a valid state and no stray input
+  pub accepted-told : callVerdict b s inputs room ≡ Accepted → (valid (siteOf b) s ≡ true) × (strayInput (siteOf b) inputs ≡ false)
+  unfolding callVerdict stepVerdict
+  accepted-told e =
+      let checks = or-later (verdictOf b) (stepVerdict (siteOf b) s inputs room) e in
+      let first = refuseIf (not (valid (siteOf b) s)) 13 0 in
+      let second = refuseIf (strayInput (siteOf b) inputs) 15 0 in
+      let third = refuseIf (ltb room (siteOf b .size .groups)) 14 0 in (
+        not-false (valid (siteOf b) s) (refuse-passed (not (valid (siteOf b) s)) 13 0 (or-first first (second orElse third) checks)),
+        refuse-passed (strayInput (siteOf b) inputs) 15 0 (or-first second third (or-later first (second orElse third) checks)),
+      )
 
 module _ (b : List ℕ) (s : State) (c : Call) where
-  -- the step that a call with such a verdict makes
-  stepFor : Verdict → Taken
-  stepFor v =
+  -- the call as it is taken where it has such a verdict
+  takenFor : Verdict → Taken
+  takenFor v =
       record {
         before = s;
         inputs = c .inputs;
+        room = length (c .buffer);
+        outcome = answerFor v (siteOf b) s (c .inputs) .outcome;
         after = answerFor v (siteOf b) s (c .inputs) .state;
         shown = bufferFor v (siteOf b) s (c .inputs) (c .buffer);
       }
 
-  accepted-link : callVerdict b s (c .inputs) (length (c .buffer)) ≡ Accepted → Link (siteOf b) s (stepFor Accepted)
-  unfolding callVerdict stepVerdict stepFor answerFor bufferFor shows
+  accepted-link : callVerdict b s (c .inputs) (length (c .buffer)) ≡ Accepted → Link (siteOf b) s (takenFor Accepted)
+  unfolding takenFor answerFor bufferFor shows
   accepted-link e =
-      let checks = or-later (verdictOf b) (stepVerdict (siteOf b) s (c .inputs) (length (c .buffer))) e in
-      let first = refuseIf (not (valid (siteOf b) s)) 13 0 in
-      let second = refuseIf (strayInput (siteOf b) (c .inputs)) 15 0 in
-      let third = refuseIf (lib.Dec.ltb (length (c .buffer)) (siteOf b .size .groups)) 14 0 in
+      let told = accepted-told b s (c .inputs) (length (c .buffer)) e in
       record {
         before = refl;
-        valid = not-false (valid (siteOf b) s) (refuse-passed (not (valid (siteOf b) s)) 13 0 (or-first first (second orElse third) checks));
-        wired =
-            refuse-passed (strayInput (siteOf b) (c .inputs)) 15 0
-            (or-first second third (or-later first (second orElse third) checks));
+        valid = told .0;
+        wired = told .1;
         after = refl;
         shown = front-shown (siteOf b) (stepped (siteOf b) s (c .inputs)) (drop (siteOf b .size .groups) (c .buffer));
       }
@@ -87,49 +88,14 @@ module _ (b : List ℕ) (s : State) (c : Call) where
       callVerdict b s (c .inputs) (length (c .buffer)) ≡ v →
       (later : State → List Taken) →
       ((t : State) → Chain (siteOf b) t (later t)) →
-      Chain (siteOf b) s (ifStepped (answerFor v (siteOf b) s (c .inputs) .outcome) (stepFor v) (later (stepFor v .after)))
-  unfolding ifStepped answerFor stepFor
+      Chain (siteOf b) s (ifStepped (takenFor v .outcome) (takenFor v) (later (takenFor v .after)))
+  unfolding ifStepped answerFor takenFor
   linked-for Accepted e later rest = (accepted-link e, rest (stepped (siteOf b) s (c .inputs)))
   linked-for (Refused number place) e later rest = rest s
 
 -- The accepted steps of any list of calls from any state are a chain.
-pub chained : (b : List ℕ) (s : State) (calls : List Call) → Chain (siteOf b) s (stepsFrom b s calls)
-unfolding stepsFrom answerOf bufferOf stepFor
+pub chained : (b : List ℕ) (s : State) (calls : List Call) → Chain (siteOf b) s (accepted (takenFrom ruled b s calls))
+unfolding ruled takenFrom accepted answerOf bufferOf takenFor
 chained b s [] = tt
 chained b s (c ∷ calls) =
-    linked-for b s c (callVerdict b s (c .inputs) (length (c .buffer))) refl (λ (t : State). stepsFrom b t calls) (λ t. chained b t calls)
-
--- ── Induction over a run, once ──
-
-module _ (site : Site) where
-  -- What an accepted step keeps holds of the state that a run has reached, and the steps that follow are a chain from there.
-  pub always :
-      (P : State → Type 0) →
-      ((s : State) (step : Taken) → Link site s step → P s → P (step .after)) →
-      (earlier later : List Taken) (s : State) →
-      P s →
-      Chain site s (earlier ++ later) →
-      (t : State) × P t × Chain site t later
-  always P keeps [] later s p chain = (s, p, chain)
-  always P keeps (step ∷ earlier) later s p chain =
-      always P keeps earlier later (step .after) (keeps s step (chain .0) p) (chain .1)
-
-  -- If each accepted step brings the event or lowers what is left to wait for by one, the event comes within as many steps.
-  pub reaches :
-      (event : Taken → Bool) (Waits : ℕ → State → Type 0) →
-      ((s : State) → Waits zero s → ⊥) →
-      ((n : ℕ) (s : State) (step : Taken) → Link site s step → Waits (suc n) s → (event step ≡ true) ⊎ Waits n (step .after)) →
-      (n : ℕ) (s : State) (steps : List Taken) →
-      Waits n s →
-      Chain site s steps →
-      n ≤ length steps →
-      someStep event (take n steps) ≡ true
-  unfolding someStep
-  reaches event Waits never one zero s steps w chain h = absurd (never s w)
-  reaches event Waits never one (suc n) s [] w chain h = absurd (not-suc-le-zero h)
-  reaches event Waits never one (suc n) s (step ∷ later) w chain h =
-      ⊎-elim
-      (λ (e : event step ≡ true). or-left (someStep event (take n later)) e)
-      (λ (v : Waits n (step .after)).
-      or-right (event step) (reaches event Waits never one n (step .after) later v (chain .1) (le-of-suc-le-suc h)))
-      (one n s step (chain .0) w)
+    linked-for b s c (callVerdict b s (c .inputs) (length (c .buffer))) refl (λ (t : State). accepted (takenFrom ruled b t calls)) (λ t. chained b t calls)

@@ -12,7 +12,7 @@ use Rattle.rules.specs.declared.state.Movement.{Movement}
 use Rattle.rules.specs.declared.state.Position.{Position}
 use Rattle.rules.specs.declared.state.Stage.the-variants.{Walk}
 use Rattle.rules.specs.declared.state.State.{State}
-use Rattle.rules.specs.Rows.{if_then_else_, listOf}
+use Rattle.rules.specs.Rows.{if_then_else_}
 use Rattle.rules.specs.Site.{phaseTimes, walkTimes, crosses}
 use Rattle.rules.specs.Intervals.{isHeld, isIdle, isRunning}
 use Rattle.rules.specs.State.{idle, locked, asked, movement}
@@ -24,11 +24,11 @@ use Rattle.rules.specs.Walks.{begins, walksBegun, buttonsLeft}
 use Rattle.rules.specs.Step.{stepped}
 use Rattle.rules.proofs.Rows.{list-at}
 
-module _ (site : Site) (s : State) (inputs : ℕ) where
-  -- the times of the phase that the state handed in has
-  unfoldable pub timesNow : PhaseTimes
-  timesNow = phaseTimes (site .times) (s .position .phase)
+-- the times of the phase that a state has
+abbrev pub timesNow : Site → State → PhaseTimes
+timesNow site s = phaseTimes (site .times) (s .position .phase)
 
+module _ (site : Site) (s : State) (inputs : ℕ) where
   -- another phase is demanded
   unfoldable pub another : Bool
   another = isHeld (nextDemanded site s inputs)
@@ -36,12 +36,15 @@ module _ (site : Site) (s : State) (inputs : ℕ) where
   -- the counts after part 3
   unfoldable pub counted : Counts
   counted =
-      countsAfter (s .position .interval) timesNow (detected extending site inputs (s .position .phase)) another (s .counts)
+      countsAfter (s .position .interval) (timesNow site s) (detected extending site inputs (s .position .phase)) another (s .counts)
+
+  -- the movements after part 2
+  unfoldable pub moving : List Movement
+  moving = movementsAfter (site .times) s
 
   -- the interval ends in this step
   unfoldable pub ended : Bool
-  ended =
-      ends (s .position .interval) (site .times .start) timesNow (s .position .age) another (movementsAfter (site .times) s) counted
+  ended = ends (s .position .interval) (site .times .start) (timesNow site s) (s .position .age) another moving counted
 
   -- the position after part 4
   unfoldable pub now : Position
@@ -64,18 +67,18 @@ module _ (site : Site) (s : State) (inputs : ℕ) where
   -- the walk of movement k begins in this step
   unfoldable pub begun : ℕ → Bool
   begun k =
-      askedNow k && crosses site k (now .phase) && (started || (isRunning (now .interval) && not another && isIdle (moved k .stage)))
+      askedNow k && crosses (site .crossings) k (now .phase) && (started || (isRunning (now .interval) && not another && isIdle (moved k .stage)))
 
   pub position-of : stepped site s inputs .position ≡ now
-  unfolding stepped timesNow another counted ended now
+  unfolding stepped another counted moving ended now
   position-of = refl
 
   pub counts-of : stepped site s inputs .counts ≡ countsChanged ended (site .times) (s .position) now counted
-  unfolding stepped timesNow another counted ended now
+  unfolding stepped another counted moving ended now
   counts-of = refl
 
-  pub moved-at : (k : ℕ) → k < 8 → getD (movementsAfter (site .times) s) k idle ≡ moved k
-  unfolding movementsAfter moved
+  pub moved-at : (k : ℕ) → k < 8 → getD moving k idle ≡ moved k
+  unfolding moving movementsAfter moved
   moved-at k h = list-at (λ (k : ℕ). advanced (movement s k .stage) (walkTimes (site .times) k) (movement s k .age)) 8 k idle h
 
   pub asked-at : (k : ℕ) → k < 8 → getD (demandsAfter site s inputs .buttons) k false ≡ askedNow k
@@ -88,31 +91,26 @@ module _ (site : Site) (s : State) (inputs : ℕ) where
 
   -- what part 5 asks of index k
   begins-at : ℕ → Bool
-  begins-at k = begins site started another now (demandsAfter site s inputs .buttons) (movementsAfter (site .times) s) k
+  begins-at k = begins (site .crossings) started another now (demandsAfter site s inputs .buttons) moving k
 
   begun-at : (k : ℕ) → k < 8 → begins-at k ≡ begun k
   unfolding begins begins-at begun
   begun-at k h = rw (asked-at k h, moved-at k h)
 
   pub locked-of : (p : ℕ) → p < 7 → locked (stepped site s inputs) p ≡ (lockedNow p && not (clearsLock ended now p))
-  unfolding stepped timesNow another counted ended now locked
+  unfolding stepped another counted moving ended now locked
   locked-of p h =
       list-at (λ (p : ℕ). getD (demandsAfter site s inputs .locks) p false && not (clearsLock ended now p)) 7 p false h
       ∙ ap (λ (t : Bool). t && not (clearsLock ended now p)) (locked-at p h)
 
   pub asked-of : (k : ℕ) → k < 8 → asked (stepped site s inputs) k ≡ (askedNow k && not (begun k))
-  unfolding stepped timesNow another counted ended now started asked buttonsLeft begins-at
+  unfolding stepped another counted moving ended now started asked buttonsLeft begins-at
   asked-of k h =
       list-at (λ (k : ℕ). getD (demandsAfter site s inputs .buttons) k false && not (begins-at k)) 8 k false h
       ∙ rw (asked-at k h, begun-at k h)
 
   pub movement-of : (k : ℕ) → k < 8 → movement (stepped site s inputs) k ≡ (if begun k then record { stage = Walk; age = 1 } else moved k)
-  unfolding stepped timesNow another counted ended now started movement walksBegun begins-at
+  unfolding stepped another counted moving ended now started movement walksBegun begins-at
   movement-of k h =
-      list-at
-      (λ (k : ℕ). if begins-at k then record { stage = Walk; age = 1 } else getD (movementsAfter (site .times) s) k idle)
-      8
-      k
-      idle
-      h
+      list-at (λ (k : ℕ). if begins-at k then record { stage = Walk; age = 1 } else getD moving k idle) 8 k idle h
       ∙ rw (moved-at k h, begun-at k h)

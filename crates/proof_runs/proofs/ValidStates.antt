@@ -6,12 +6,14 @@ use mathlib.Core.Path.{_≡_, refl, sym, ap, _∙_}
 use lib.Dec.{leb, ltb, eqb}
 use borrow.Author.Tests.{ltb-true, leb-true, eqb-true, lt-ltb, le-leb, eq-eqb}
 use Rattle.rules.specs.declared.site.Site.{Site}
+use Rattle.rules.specs.declared.state.Held.{Held}
+use Rattle.rules.specs.declared.state.Held.the-variants.{Nothing, Phase}
 use Rattle.rules.specs.declared.state.Movement.{Movement}
 use Rattle.rules.specs.declared.state.Position.{Position}
 use Rattle.rules.specs.declared.state.State.{State}
 use Rattle.rules.specs.Site.{phaseTimes, crosses}
-use Rattle.rules.specs.Intervals.{isIdle, isWalkOrFirst, isStartRed, isLeaving}
-use Rattle.rules.specs.State.{highestAge, locked, asked, movement, targetValid, cameValid, ageValid, every, movementValid, valid}
+use Rattle.rules.specs.Intervals.{isIdle, isWalkOrFirst, isStartRed, isLeaving, phaseHeld}
+use Rattle.rules.specs.State.{highestAge, locked, asked, movement, targetValid, cameValid, ageValid, every, demandExists, movementValid, movementIn, valid}
 use Rattle.rules.proofs.Tests.{and-left, and-right, and-both, or-left, or-right}
 use Rattle.rules.proofs.Rows.{all-at, all-each}
 
@@ -21,7 +23,7 @@ Aged age = (1 ≤ age) × (age ≤ highestAge)
 -- what the clauses tell of one movement record
 pub record ValidMovement (site : Site) (position : Position) (k : ℕ) (m : Movement) : Type 0 where
   pub age : Aged (m .age)
-  pub ofPhase : isIdle (m .stage) ≡ false → (k < site .size .movements) × (crosses site k (position .phase) ≡ true)
+  pub ofPhase : isIdle (m .stage) ≡ false → (k < site .size .movements) × (crosses (site .crossings) k (position .phase) ≡ true)
   pub leaving : isLeaving (position .interval) ≡ true → isWalkOrFirst (m .stage) ≡ false
   pub startRed : isStartRed (position .interval) ≡ true → isIdle (m .stage) ≡ true
   pub idleAge : isIdle (m .stage) ≡ true → m .age ≡ 1
@@ -87,8 +89,8 @@ unfolding every
 every-tail test tests h = and-right test (every tests) h
 
 pub movement-told :
-    (site : Site) (position : Position) (k : ℕ) (m : Movement) → movementValid site position k m ≡ true → ValidMovement site position k m
-unfolding movementValid
+    (site : Site) (position : Position) (k : ℕ) (m : Movement) → movementValid (movementIn site (position .phase) k) (position .interval) m ≡ true → ValidMovement site position k m
+unfolding movementValid movementIn
 movement-told site position k m h =
     let h1 = every-tail _ _ h in
     let h2 = every-tail _ _ h1 in
@@ -97,9 +99,9 @@ movement-told site position k m h =
     record {
       age = age-told (m .age) (every-head _ _ h);
       ofPhase = λ q.
-          let both = otherwise (ltb k (site .size .movements) && crosses site k (position .phase)) (isIdle (m .stage)) (every-head _ _ h1) q in (
-            ltb-true k (site .size .movements) (and-left (ltb k (site .size .movements)) (crosses site k (position .phase)) both),
-            and-right (ltb k (site .size .movements)) (crosses site k (position .phase)) both,
+          let both = otherwise (ltb k (site .size .movements) && crosses (site .crossings) k (position .phase)) (isIdle (m .stage)) (every-head _ _ h1) q in (
+            ltb-true k (site .size .movements) (and-left (ltb k (site .size .movements)) (crosses (site .crossings) k (position .phase)) both),
+            and-right (ltb k (site .size .movements)) (crosses (site .crossings) k (position .phase)) both,
           );
       leaving = not-both (isLeaving (position .interval)) (isWalkOrFirst (m .stage)) (every-head _ _ h2);
       startRed = implied (isStartRed (position .interval)) (isIdle (m .stage)) (every-head _ _ h3);
@@ -107,19 +109,19 @@ movement-told site position k m h =
     }
 
 pub movement-holds :
-    (site : Site) (position : Position) (k : ℕ) (m : Movement) → ValidMovement site position k m → movementValid site position k m ≡ true
-unfolding movementValid every
+    (site : Site) (position : Position) (k : ℕ) (m : Movement) → ValidMovement site position k m → movementValid (movementIn site (position .phase) k) (position .interval) m ≡ true
+unfolding movementValid movementIn every
 movement-holds site position k m v =
     and-both (age-holds (m .age) (v .age))
     (and-both
-    (else-holds (ltb k (site .size .movements) && crosses site k (position .phase)) (isIdle (m .stage))
+    (else-holds (ltb k (site .size .movements) && crosses (site .crossings) k (position .phase)) (isIdle (m .stage))
     (λ q. and-both (lt-ltb k (site .size .movements) (v .ofPhase q .0)) (v .ofPhase q .1)))
     (and-both (excludes (isLeaving (position .interval)) (isWalkOrFirst (m .stage)) (v .leaving))
     (and-both (implies (isStartRed (position .interval)) (isIdle (m .stage)) (v .startRed))
     (and-both (implies (isIdle (m .stage)) (eqb (m .age) 1) (λ q. eq-eqb (m .age) 1 (v .idleAge q))) refl))))
 
 pub state-told : (site : Site) (s : State) → valid site s ≡ true → ValidState site s
-unfolding valid
+unfolding valid demandExists locked asked
 state-told site s h =
     let h1 = every-tail _ _ h in
     let h2 = every-tail _ _ h1 in
@@ -139,20 +141,20 @@ state-told site s h =
       locks = λ p l q.
           ltb-true p (site .size .phases)
           (implied (locked s p) (ltb p (site .size .phases))
-          (all-at (λ (p : ℕ). not (locked s p) || ltb p (site .size .phases)) 7 p (every-head _ _ h6) l)
+          (all-at (demandExists (s .demands .locks) (site .size .phases)) 7 p (every-head _ _ h6) l)
           q);
       buttons = λ k l q.
           ltb-true k (site .size .movements)
           (implied (asked s k) (ltb k (site .size .movements))
-          (all-at (λ (k : ℕ). not (asked s k) || ltb k (site .size .movements)) 8 k (every-head _ _ h7) l)
+          (all-at (demandExists (s .demands .buttons) (site .size .movements)) 8 k (every-head _ _ h7) l)
           q);
       movements = λ k l.
           movement-told site (s .position) k (movement s k)
-          (all-at (λ (k : ℕ). movementValid site (s .position) k (movement s k)) 8 k (every-head _ _ h8) l);
+          (all-at (λ (k : ℕ). movementValid (movementIn site (s .position .phase) k) (s .position .interval) (movement s k)) 8 k (every-head _ _ h8) l);
     }
 
 pub state-holds : (site : Site) (s : State) → ValidState site s → valid site s ≡ true
-unfolding valid every
+unfolding valid demandExists locked asked every
 state-holds site s v =
     and-both (lt-ltb (s .position .phase) (site .size .phases) (v .phase))
     (and-both (v .target)
@@ -161,12 +163,20 @@ state-holds site s v =
     (and-both (le-leb (s .counts .gap) (phaseTimes (site .times) (s .position .phase) .gap) (v .gap))
     (and-both (le-leb (s .counts .maximum) (phaseTimes (site .times) (s .position .phase) .maximum) (v .maximum))
     (and-both
-    (all-each (λ (p : ℕ). not (locked s p) || ltb p (site .size .phases)) 7
+    (all-each (demandExists (s .demands .locks) (site .size .phases)) 7
     (λ p l. implies (locked s p) (ltb p (site .size .phases)) (λ q. lt-ltb p (site .size .phases) (v .locks p l q))))
     (and-both
-    (all-each (λ (k : ℕ). not (asked s k) || ltb k (site .size .movements)) 8
+    (all-each (demandExists (s .demands .buttons) (site .size .movements)) 8
     (λ k l. implies (asked s k) (ltb k (site .size .movements)) (λ q. lt-ltb k (site .size .movements) (v .buttons k l q))))
     (and-both
-    (all-each (λ (k : ℕ). movementValid site (s .position) k (movement s k)) 8
+    (all-each (λ (k : ℕ). movementValid (movementIn site (s .position .phase) k) (s .position .interval) (movement s k)) 8
     (λ k l. movement-holds site (s .position) k (movement s k) (v .movements k l)))
     refl))))))))
+
+-- ── The target ──
+
+-- the target of a phase that is being left exists
+pub target-below : (count phase : ℕ) (target : Held) → targetValid count phase true target ≡ true → phaseHeld target < count
+unfolding targetValid phaseHeld
+target-below count phase Nothing h = absurd (true≢false (sym h))
+target-below count phase (Phase t) h = ltb-true t count (and-left (ltb t count) (not (eqb t phase)) h)

@@ -20,7 +20,7 @@ use Rattle.rules.specs.Demands.{detected, extending, nextDemanded}
 use Rattle.rules.specs.Counts.{gapAfter, maximumAfter, countsAfter}
 use Rattle.rules.specs.Interval.{entering, starting, following, staying, positionAfter, countsLeaving, countsEntering, countsChanged}
 use Rattle.proof_runs.proofs.ValidStates.{ValidState}
-use Rattle.proof_runs.proofs.Steps.{timesNow, another, counted, ended, now}
+use Rattle.proof_runs.proofs.Steps.{another, counted, ended, now}
 
 -- the counts are at most G and X
 abbrev pub Within : PhaseTimes → Counts → Type 0
@@ -97,7 +97,7 @@ pub next-counts :
     Within
     (phaseTimes (site .times) (now site s inputs .phase))
     (countsChanged (ended site s inputs) (site .times) (s .position) (now site s inputs) (counted site s inputs))
-unfolding now counted timesNow
+unfolding now counted
 next-counts site s inputs v =
     changed-within (site .times) (nextDemanded site s inputs) (s .position) (counted site s inputs)
     (counted-within

@@ -1,39 +1,30 @@
 -- Demands after a step are of phases and movements that exist: a lock comes from a detector, whose phase exists, and a button that
 -- is pressed in an accepted step is wired, so that its movement exists.
 use Prim.Native.Nat.{ℕ, _+_, _<_}
-use mathlib.Core.Bool.{Bool, true, false, not, _&&_}
+use mathlib.Core.Bool.{true, false, not, _&&_}
 use mathlib.Core.Logic.{⊎-elim}
-use mathlib.Core.Path.{_≡_, sym, subst, _∙_}
+use mathlib.Core.Path.{_≡_, sym, _∙_}
 use native.Mathlib.Omega.{arith}
 use lib.Dec.{leb, ltb}
-use borrow.Author.Tests.{ltb-true, eqb-true, not-false}
+use borrow.Author.Tests.{ltb-true, not-false}
 use Rattle.rules.specs.declared.site.Site.{Site}
 use Rattle.rules.specs.declared.state.State.{State}
 use Rattle.rules.specs.Bytes.{bit}
-use Rattle.rules.specs.Site.{detectorOf}
 use Rattle.rules.specs.Intervals.{isWalk}
 use Rattle.rules.specs.State.{locked, asked, movement}
-use Rattle.rules.specs.Demands.{occupied, pressed, locking, detected, inGreen, registersLock, registersButton}
+use Rattle.rules.specs.Demands.{pressed, locking, detected, inGreen, registersLock, registersButton}
 use Rattle.rules.specs.Interval.{clearsLock}
 use Rattle.rules.specs.Step.{stepped}
 use Rattle.rules.specs.Call.{wired, strayInput}
 use Rattle.rules.specs.Laws.{Sound}
 use Rattle.rules.proofs.Tests.{and-left, and-right, and-false-cases, or-cases, never-both}
-use Rattle.rules.proofs.Rows.{any-found, any-false}
+use Rattle.rules.proofs.Rows.{any-false}
 use Rattle.proof_runs.proofs.ValidStates.{ValidState}
 use Rattle.proof_runs.proofs.Steps.{ended, now, askedNow, lockedNow, begun, locked-of, asked-of}
+use Rattle.proof_runs.proofs.Demanded.{detected-below}
 
 module _ (site : Site) (sound : Sound site) where
   -- ── Locks ──
-
-  -- a phase of which a detector is occupied exists
-  detected-below : (kind : ℕ → Bool) (inputs p : ℕ) → detected kind site inputs p ≡ true → p < site .size .phases
-  unfolding detected
-  detected-below kind inputs p h =
-      let found = any-found _ _ h in
-      let d = found .0 in
-      let ofPhase = and-right (occupied inputs d) _ (and-left _ (kind (detectorOf site d .mode)) (found .2)) in
-      subst (λ (q : ℕ). q < site .size .phases) (eqb-true _ p ofPhase) (sound .detectorPhase d (found .1))
 
   -- a phase that is locked after part 1 exists
   locked-below : (s : State) (inputs p : ℕ) → ValidState site s → p < 7 → lockedNow site s inputs p ≡ true → p < site .size .phases
@@ -43,7 +34,7 @@ module _ (site : Site) (sound : Sound site) where
       let free = not (inGreen s p) in
       ⊎-elim
       (λ (e : locked s p ≡ true). v .locks p l e)
-      (λ (e : (seen && free) ≡ true). detected-below locking inputs p (and-left seen free e))
+      (λ (e : (seen && free) ≡ true). detected-below site sound locking inputs p (and-left seen free e))
       (or-cases (locked s p) (seen && free) h)
 
   pub next-locks :

@@ -1,35 +1,34 @@
 -- The position after a step is valid. Where the interval ends, the phase stays and its next interval begins, or the target starts;
 -- the target is chosen when running ends, among the other phases of the ring. Where it does not end, only the age rises.
 use Prim.Native.Nat.{ℕ, _<_}
-use mathlib.Core.Bool.{Bool, true, false, not, false≢true}
-use mathlib.Core.List.{List}
+use mathlib.Core.Bool.{Bool, true, false}
 use mathlib.Core.Path.{_≡_, refl}
 use native.Mathlib.Omega.{arith}
-use lib.Dec.{ltb, eqb}
-use borrow.Author.Tests.{ltb-true, lt-ltb, ne-eqb}
-use Rattle.rules.specs.declared.site.PhaseTimes.{PhaseTimes}
+use lib.Dec.{eqb}
+use borrow.Author.Tests.{lt-ltb, ne-eqb}
 use Rattle.rules.specs.declared.site.Site.{Site}
 use Rattle.rules.specs.declared.site.Times.{Times}
-use Rattle.rules.specs.declared.state.Counts.{Counts}
 use Rattle.rules.specs.declared.state.Held.{Held}
 use Rattle.rules.specs.declared.state.Held.the-variants.{Nothing, Phase}
 use Rattle.rules.specs.declared.state.Interval.{Interval}
 use Rattle.rules.specs.declared.state.Interval.the-variants.{StartRed, LateStart, MinimumGreen, Running, Yellow, AllRed}
-use Rattle.rules.specs.declared.state.Movement.{Movement}
 use Rattle.rules.specs.declared.state.Position.{Position}
 use Rattle.rules.specs.declared.state.State.{State}
 use Rattle.rules.specs.Rows.{if_then_else_}
 use Rattle.rules.specs.Site.{phaseTimes, ring}
-use Rattle.rules.specs.Intervals.{isStartRed, isRunning, isLeaving, isHeld, phaseHeld}
+use Rattle.rules.specs.Intervals.{isStartRed, isLeaving, isHeld, phaseHeld}
 use Rattle.rules.specs.State.{targetValid, cameValid}
 use Rattle.rules.specs.Demands.{demanded, firstIn, nextDemanded}
 use Rattle.rules.specs.Movements.{older}
-use Rattle.rules.specs.Interval.{ends, entering, starting, following, staying, positionAfter}
-use Rattle.rules.proofs.Tests.{and-left, and-both}
-use Rattle.proof_runs.proofs.ValidStates.{Aged, ValidState}
-use Rattle.proof_runs.proofs.Steps.{another, ended, now}
-use Rattle.proof_ring.proofs.Letters.{letters-below, letters-once}
-use Rattle.proof_ring.proofs.Ring.{turn, found-in, in-turn}
+use Rattle.rules.specs.Interval.{entering, starting, following, staying}
+use Rattle.rules.specs.Laws.{Sound}
+use Rattle.rules.proofs.Tests.{and-both}
+use Rattle.proof_runs.proofs.ValidStates.{Aged, ValidState, target-below}
+use Rattle.proof_runs.proofs.Steps.{another, now}
+use Rattle.proof_runs.proofs.Ends.{by-end, running-ends}
+use Rattle.proof_ring.proofs.Turns.{turn}
+use Rattle.proof_ring.proofs.Ring.{found-other}
+use Rattle.proof_ring.proofs.Letters.{ring-of}
 
 -- what the clauses of a valid state tell of its position
 pub record ValidPosition (count : ℕ) (position : Position) : Type 0 where
@@ -58,31 +57,23 @@ module _ (count phase : ℕ) where
   unfolding targetValid
   held-valid t h u = and-both (lt-ltb t count h) (rw (ne-eqb t phase u))
 
-  -- the target of a phase that is being left exists
-  target-below : (target : Held) → targetValid count phase true target ≡ true → phaseHeld target < count
-  unfolding targetValid phaseHeld
-  target-below Nothing h = absurd (false≢true h)
-  target-below (Phase t) h = ltb-true t count (and-left (ltb t count) (not (eqb t phase)) h)
-
 -- the next demanded phase, if another phase is demanded, may be held as the target
 next-valid :
-    (site : Site) (s : State) (inputs : ℕ) →
+    (site : Site) →
+    Sound site →
+    (s : State) (inputs : ℕ) →
     targetValid (site .size .phases) (s .position .phase) (another site s inputs) (nextDemanded site s inputs) ≡ true
-unfolding nextDemanded another isHeld targetValid turn ring
-next-valid site s inputs = step (firstIn (demanded site s inputs) (turn (ring site) p)) refl
+unfolding nextDemanded another isHeld targetValid turn
+next-valid site sound s inputs = step (firstIn (demanded site s inputs) (turn (ring site) (s .position .phase))) refl
   where
-    p : ℕ
-    p = s .position .phase
-
     step :
         (next : Held) →
-        firstIn (demanded site s inputs) (turn (ring site) p) ≡ next →
-        targetValid (site .size .phases) p (isHeld next) next ≡ true
+        firstIn (demanded site s inputs) (turn (ring site) (s .position .phase)) ≡ next →
+        targetValid (site .size .phases) (s .position .phase) (isHeld next) next ≡ true
     step Nothing e = refl
     step (Phase t) e =
-        let found = found-in (demanded site s inputs) (turn (ring site) p) e in
-        let other = in-turn p (letters-once (site .size .phases)) (found .0) in
-        held-valid (site .size .phases) p t (letters-below (site .size .phases) t (other .0)) (other .1)
+        let other = found-other (ring-of site sound) (demanded site s inputs) e in
+        held-valid (site .size .phases) (s .position .phase) t (other .0) (other .1)
 
 -- ── The interval ends, or it stays ──
 
@@ -116,9 +107,9 @@ module _ (count : ℕ) (times : Times) (next : Held) (position : Position) (vali
   following-valid :
       (interval : Interval) →
       position .interval ≡ interval →
-      (isRunning interval ≡ true → targetValid count (position .phase) true next ≡ true) →
+      (interval ≡ Running → targetValid count (position .phase) true next ≡ true) →
       ValidPosition count (following interval times next position)
-  unfolding following targetValid cameValid isRunning isLeaving
+  unfolding following targetValid cameValid isLeaving
   following-valid StartRed e h = starting-valid (position .phase) (position .came) (valid .phase) (valid .came)
   following-valid LateStart e h = entering-valid MinimumGreen Nothing refl
   following-valid MinimumGreen e h = entering-valid Running Nothing refl
@@ -136,30 +127,14 @@ module _ (count : ℕ) (times : Times) (next : Held) (position : Position) (vali
   staying-valid =
       record { phase = valid .phase; target = valid .target; came = valid .came; age = older-aged (position .age) (valid .age) }
 
-  after-valid :
-      (ended : Bool) →
-      (ended ≡ true → isRunning (position .interval) ≡ true → targetValid count (position .phase) true next ≡ true) →
-      ValidPosition count (positionAfter ended times next position)
-  unfolding positionAfter
-  after-valid true h = following-valid (position .interval) refl (h refl)
-  after-valid false h = staying-valid
-
--- running ends only where another phase is demanded
-running-ends :
-    (interval : Interval) (start : ℕ) (times : PhaseTimes) (age : ℕ) (another : Bool) (movements : List Movement) (counts : Counts) →
-    isRunning interval ≡ true →
-    ends interval start times age another movements counts ≡ true →
-    another ≡ true
-unfolding isRunning ends
-running-ends Running start times age another movements counts r h = and-left another _ (and-left _ _ h)
-running-ends StartRed start times age another movements counts r h = absurd (false≢true r)
-running-ends LateStart start times age another movements counts r h = absurd (false≢true r)
-running-ends MinimumGreen start times age another movements counts r h = absurd (false≢true r)
-running-ends Yellow start times age another movements counts r h = absurd (false≢true r)
-running-ends AllRed start times age another movements counts r h = absurd (false≢true r)
-
-pub next-position : (site : Site) (s : State) (inputs : ℕ) → ValidState site s → ValidPosition (site .size .phases) (now site s inputs)
-unfolding now ended
-next-position site s inputs v =
-    after-valid (site .size .phases) (site .times) (nextDemanded site s inputs) (s .position) (position-told site s v) (ended site s inputs)
-    (λ e r. rw (running-ends _ _ _ _ (another site s inputs) _ _ r e) at (next-valid site s inputs))
+pub next-position :
+    (site : Site) → Sound site → (s : State) (inputs : ℕ) → ValidState site s → ValidPosition (site .size .phases) (now site s inputs)
+next-position site sound s inputs v =
+    let count = site .size .phases in
+    let next = nextDemanded site s inputs in
+    let told = position-told site s v in
+    by-end site s inputs (ValidPosition count)
+    (λ over.
+    following-valid count (site .times) next (s .position) told (s .position .interval) refl
+    (λ e. rw (running-ends site s inputs e over) at (next-valid site sound s inputs)))
+    (λ still. staying-valid count (site .times) next (s .position) told)

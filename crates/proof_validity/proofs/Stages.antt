@@ -1,30 +1,27 @@
 -- A movement record by its stage: an idle one at age 1 is valid at every position, and part 2, which lets a stage run on or gives
 -- way to the next, keeps a record valid at the position that the state has.
 use Prim.Native.Nat.{ℕ}
-use mathlib.Core.Bool.{Bool, true, false}
+use mathlib.Core.Bool.{true, false}
 use mathlib.Core.Path.{_≡_, refl, sym, subst}
-use lib.Dec.{leb}
 use Rattle.rules.specs.declared.site.Site.{Site}
 use Rattle.rules.specs.declared.site.WalkTimes.{WalkTimes}
 use Rattle.rules.specs.declared.state.Movement.{Movement}
 use Rattle.rules.specs.declared.state.Position.{Position}
 use Rattle.rules.specs.declared.state.Stage.{Stage}
 use Rattle.rules.specs.declared.state.Stage.the-variants.{Idle, Walk, ClearanceOne, ClearanceTwo}
-use Rattle.rules.specs.Rows.{if_then_else_}
 use Rattle.rules.specs.Intervals.{isIdle, isWalkOrFirst, isSecond}
 use Rattle.rules.specs.Movements.{older, lasting, advanced}
 use Rattle.rules.proofs.Tests.{never-both}
+use Rattle.rules.proofs.Intervals.{idle-only}
 use Rattle.proof_runs.proofs.ValidStates.{Aged, ValidMovement}
+use Rattle.proof_runs.proofs.Lasting.{lasting-cases}
 use Rattle.proof_validity.proofs.Positions.{older-aged, new-aged}
 
 -- ── Stages ──
 
 idle-not-walking : (stage : Stage) → isIdle stage ≡ true → isWalkOrFirst stage ≡ false
-unfolding isIdle isWalkOrFirst
-idle-not-walking Idle h = refl
-idle-not-walking Walk h = sym h
-idle-not-walking ClearanceOne h = sym h
-idle-not-walking ClearanceTwo h = refl
+unfolding isWalkOrFirst
+idle-not-walking stage h = rw (idle-only stage h)
 
 -- a movement in no walk and no clearance is idle
 pub cleared-idle : (stage : Stage) → isWalkOrFirst stage ≡ false → isSecond stage ≡ false → isIdle stage ≡ true
@@ -87,14 +84,9 @@ module _ (site : Site) (position : Position) (k : ℕ) where
       (isWalkOrFirst stage ≡ false → isWalkOrFirst next ≡ false) →
       ValidMovement site position k (record { stage = stage; age = age }) →
       ValidMovement site position k (lasting setting stage next age)
-  unfolding lasting
-  lasting-valid setting stage next age busy out v = step (leb setting age)
-    where
-      step :
-          (t : Bool) →
-          ValidMovement site position k (if t then record { stage = next; age = 1 } else record { stage = stage; age = older age })
-      step true = way-valid stage next age busy out v
-      step false = on-valid stage age busy v
+  lasting-valid setting stage next age busy out v =
+      lasting-cases (ValidMovement site position k) setting stage next age (λ over. way-valid stage next age busy out v)
+      (λ still. on-valid stage age busy v)
 
   -- part 2 keeps a movement valid at the position that the state has
   pub advanced-valid :

@@ -25,7 +25,7 @@ pub next-state :
     strayInput site inputs ≡ false →
     ValidState site (stepped site s inputs)
 next-state site sound s inputs v stray =
-    let position = next-position site s inputs v in
+    let position = next-position site sound s inputs v in
     let counts = next-counts site s inputs v in
     record {
       phase = rw (position-of site s inputs) (position .phase);

@@ -4,8 +4,6 @@ use Prim.Native.Nat.{ℕ, _<_}
 use mathlib.Core.Bool.{Bool, true, false, not, _&&_, _||_, false≢true}
 use mathlib.Core.Logic.{⊎-elim}
 use mathlib.Core.Path.{_≡_, refl}
-use lib.Dec.{ltb}
-use borrow.Author.Tests.{ltb-true, ltb-false}
 use Rattle.rules.specs.declared.site.Site.{Site}
 use Rattle.rules.specs.declared.site.Times.{Times}
 use Rattle.rules.specs.declared.state.Held.{Held}
@@ -20,29 +18,28 @@ use Rattle.rules.specs.Site.{crosses}
 use Rattle.rules.specs.Intervals.{isIdle, isStartRed, isRunning, isLeaving, isBeforeStart, phaseHeld}
 use Rattle.rules.specs.State.{movement}
 use Rattle.rules.specs.Demands.{nextDemanded}
-use Rattle.rules.specs.Interval.{following, positionAfter, starts}
+use Rattle.rules.specs.Interval.{following, starts}
 use Rattle.rules.specs.Step.{stepped}
 use Rattle.rules.specs.Laws.{Sound}
 use Rattle.rules.proofs.Tests.{and-left, and-right, or-cases, never-both}
+use Rattle.rules.proofs.Counts.{passes-below}
+use Rattle.rules.proofs.Intervals.{running-only}
 use Rattle.proof_runs.proofs.ValidStates.{ValidMovement, ValidState}
 use Rattle.proof_runs.proofs.Steps.{another, ended, now, started, moved, askedNow, begun, movement-of}
+use Rattle.proof_runs.proofs.Ends.{by-end}
 use Rattle.proof_validity.proofs.Positions.{new-aged, Open, start-open}
 use Rattle.proof_validity.proofs.Movements.{moved-valid}
 
 -- a movement that crosses a phase exists
-crossing-exists : (site : Site) → Sound site → (k p : ℕ) → crosses site k p ≡ true → k < site .size .movements
-crossing-exists site sound k p c = step (ltb k (site .size .movements)) refl
-  where
-    step : (t : Bool) → ltb k (site .size .movements) ≡ t → k < site .size .movements
-    step true e = ltb-true k (site .size .movements) e
-    step false e = absurd (never-both c (sound .noCrossing k p (ltb-false k (site .size .movements) e)))
+crossing-exists : (site : Site) → Sound site → (k p : ℕ) → crosses (site .crossings) k p ≡ true → k < site .size .movements
+crossing-exists site sound k p c = passes-below (crosses (site .crossings) k p) k (site .size .movements) (sound .noCrossing k p) c
 
 -- a walk that begins is valid in an open interval of a phase that the movement crosses
 walk-valid :
     (site : Site) →
     Sound site →
     (position : Position) (k : ℕ) →
-    crosses site k (position .phase) ≡ true →
+    crosses (site .crossings) k (position .phase) ≡ true →
     Open (position .interval) →
     ValidMovement site position k (record { stage = Walk; age = 1 })
 unfolding isIdle
@@ -57,13 +54,8 @@ walk-valid site sound position k c opens =
 
 -- running is open
 running-open : (interval : Interval) → isRunning interval ≡ true → Open interval
-unfolding isRunning isStartRed isLeaving
-running-open StartRed h = absurd (false≢true h)
-running-open LateStart h = absurd (false≢true h)
-running-open MinimumGreen h = absurd (false≢true h)
-running-open Running h = (refl, refl)
-running-open Yellow h = absurd (false≢true h)
-running-open AllRed h = absurd (false≢true h)
+unfolding isStartRed isLeaving
+running-open interval h = rw (running-only interval h) (refl, refl)
 
 -- what follows start red or all-red is open
 following-open :
@@ -78,26 +70,28 @@ following-open Running times next position h = absurd (false≢true h)
 following-open Yellow times next position h = absurd (false≢true h)
 following-open AllRed times next position h = start-open times (phaseHeld (position .target)) (Phase (position .phase))
 
-started-open :
-    (ended : Bool) (times : Times) (next : Held) (position : Position) →
-    starts ended position ≡ true →
-    Open (positionAfter ended times next position .interval)
-unfolding starts positionAfter
-started-open true times next position h = following-open (position .interval) times next position h
-started-open false times next position h = absurd (false≢true h)
-
 module _ (site : Site) (sound : Sound site) (s : State) (inputs k : ℕ) where
+  started-open : started site s inputs ≡ true → Open (now site s inputs .interval)
+  unfolding started starts
+  started-open h =
+      let before = isBeforeStart (s .position .interval) in
+      by-end site s inputs (λ (p : Position). Open (p .interval))
+      (λ over.
+      following-open (s .position .interval) (site .times) (nextDemanded site s inputs) (s .position)
+      (and-right (ended site s inputs) before h))
+      (λ still. absurd (never-both (and-left (ended site s inputs) before h) still))
+
   begun-valid : begun site s inputs k ≡ true → ValidMovement site (now site s inputs) k (record { stage = Walk; age = 1 })
-  unfolding begun started now
+  unfolding begun
   begun-valid h =
-      let ofPhase = crosses site k (now site s inputs .phase) in
+      let ofPhase = crosses (site .crossings) k (now site s inputs .phase) in
       let rests = isRunning (now site s inputs .interval) && not (another site s inputs) in
       let idles = isIdle (moved site s inputs k .stage) in
       let start = started site s inputs in
       walk-valid site sound (now site s inputs) k
       (and-right (askedNow site s inputs k) ofPhase (and-left (askedNow site s inputs k && ofPhase) (start || (rests && idles)) h))
       (⊎-elim
-      (λ (e : start ≡ true). started-open (ended site s inputs) (site .times) (nextDemanded site s inputs) (s .position) e)
+      (λ (e : start ≡ true). started-open e)
       (λ (e : (rests && idles) ≡ true).
       running-open (now site s inputs .interval) (and-left _ (not (another site s inputs)) (and-left rests idles e)))
       (or-cases start (rests && idles) (and-right (askedNow site s inputs k && ofPhase) (start || (rests && idles)) h)))

@@ -14,7 +14,7 @@ use Rattle.rules.specs.Site.{phaseTimes}
 use Rattle.rules.specs.State.{highestAge}
 use Rattle.rules.specs.Movements.{older}
 use Rattle.rules.specs.Interval.{starting}
-use Rattle.proof_waits.proofs.Left.{Each, RunningLeft, visit, fromYellow, fromRunning, LeftIn}
+use Rattle.proof_waits.proofs.Left.{Each, RunningLeft, visit, fromLeaving, fromRunning, LeftIn}
 
 -- ── Timers and counts ──
 
@@ -44,7 +44,7 @@ pub each-falls :
     (timer timer' more n : ℕ) (count count' : ℕ → ℕ) →
     (timer' + more ≤ n) →
     more ≤ n →
-    ((k : ℕ) → k < 8 → count' k ≡ count k - 1) →
+    ((k : ℕ) → k < 8 → count' k ≤ count k - 1) →
     Each timer more count (suc n) →
     Each timer' more count' n
 each-falls timer timer' more n count count' first some falls h = (first, λ k l. omega (arith, falls k l, h .1 k l))
@@ -71,9 +71,9 @@ pub running-stays :
     1 ≤ maximum →
     count ≤ maximum →
     ((k : ℕ) → k < 8 → out' k ≤ walk) →
-    own' ≡ own - 1 →
+    own' ≤ own - 1 →
     (own ≡ 0 → count' ≡ min (count + 1) maximum) →
-    (own ≡ 0 → (k : ℕ) → k < 8 → out' k ≡ out k - 1) →
+    (own ≡ 0 → (k : ℕ) → k < 8 → out' k ≤ out k - 1) →
     (own ≡ 0 → ((k : ℕ) × (k < 8) × (1 ≤ out' k)) ⊎ (count' ≡ maximum → ⊥)) →
     RunningLeft own maximum count walk more out (suc n) →
     RunningLeft own' maximum count' walk more out' n
@@ -96,16 +96,6 @@ running-stays zero (suc own') maximum count count' walk more out out' n some bel
 running-stays (suc own) own' maximum count count' walk more out out' n some below most fewer rises falls held h =
     running-whole own' maximum count' walk more out' n some most (omega arith)
 
--- the whole of yellow and all-red, and the longest clearance, are enough from yellow on
-pub yellow-whole :
-    (yellow red clearance far more : ℕ) (idle : ℕ → ℕ) (n : ℕ) →
-    1 ≤ yellow →
-    ((k : ℕ) → k < 8 → idle k ≤ clearance) →
-    far ≤ more →
-    yellow + red + clearance + more ≤ n →
-    Each (yellow - 1 + 1 + red) far idle n
-yellow-whole yellow red clearance far more idle n some most near h = (omega arith, λ k l. omega (arith, most k l))
-
 -- ── A phase starts ──
 
 module _ (site : Site) (ahead onward : ℕ → ℕ) (n own' count' : ℕ) (out' idle' : ℕ → ℕ) where
@@ -117,7 +107,7 @@ module _ (site : Site) (ahead onward : ℕ → ℕ) (n own' count' : ℕ) (out' 
       visit site t + onward t ≤ ahead t →
       ahead t ≤ n →
       LeftIn site ahead onward (starting (site .times) t came .interval) own' (starting (site .times) t came) count' out' idle' n
-  unfolding starting visit fromRunning fromYellow
+  unfolding starting visit fromRunning fromLeaving
   starts-left t came some none far h = step (eqb (phaseTimes (site .times) t .late) 0) refl
     where
       step :

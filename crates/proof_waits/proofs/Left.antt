@@ -10,8 +10,7 @@ use Rattle.rules.specs.declared.state.Position.{Position}
 use Rattle.rules.specs.declared.state.State.{State}
 use Rattle.rules.specs.Site.{phaseTimes}
 use Rattle.rules.specs.Intervals.{phaseHeld}
-use Rattle.rules.specs.WaitBound.{longestWalk, longestClearance}
-use Rattle.proof_waits.proofs.Stages.{outs, idles}
+use Rattle.proof_waits.proofs.Stages.{longestWalk, longestClearance, outs, idles}
 
 -- a timer, and the count of each movement, each with what follows it
 abbrev pub Each : (timer more : ℕ) → (ℕ → ℕ) → ℕ → Type 0
@@ -23,29 +22,25 @@ abbrev pub RunningLeft : (own maximum count walk more : ℕ) → (ℕ → ℕ) �
 RunningLeft zero maximum count walk more out n = (1 + more ≤ n) × Each (maximum - count) more out n
 RunningLeft (suc own) maximum count walk more out n = suc own + (maximum + walk + more) ≤ n
 
+-- the timers of a phase that is being left: yellow, then all-red
+abbrev pub leavingTime : PhaseTimes → ℕ
+leavingTime times = times .yellow + times .red
+
 -- the most that passes from the phase's start to the next start
 unfoldable pub visit : Site → ℕ → ℕ
 visit site p =
     let times = phaseTimes (site .times) p in
-    times .late
-    + times .minimum
-    + times .maximum
-    + longestWalk site p
-    + times .yellow
-    + times .red
-    + longestClearance site p
+    times .late + times .minimum + times .maximum + longestWalk site p + leavingTime times + longestClearance site p
 
 -- `ahead t` is the most that passes from the start of phase t until the demand is met, and `onward p` that from the end of phase p.
 module _ (site : Site) (ahead onward : ℕ → ℕ) where
-  -- from yellow of the phase on
-  unfoldable pub fromYellow : ℕ → ℕ
-  fromYellow p =
-      let times = phaseTimes (site .times) p in
-      times .yellow + times .red + longestClearance site p + onward p
+  -- from where the phase begins to be left
+  unfoldable pub fromLeaving : ℕ → ℕ
+  fromLeaving p = leavingTime (phaseTimes (site .times) p) + longestClearance site p + onward p
 
   -- from running of the phase on, if all of its walks begin there
   unfoldable pub fromRunning : ℕ → ℕ
-  fromRunning p = phaseTimes (site .times) p .maximum + longestWalk site p + fromYellow p
+  fromRunning p = phaseTimes (site .times) p .maximum + longestWalk site p + fromLeaving p
 
   abbrev settings : Position → PhaseTimes
   settings position = phaseTimes (site .times) (position .phase)
@@ -62,7 +57,7 @@ module _ (site : Site) (ahead onward : ℕ → ℕ) where
       settings position .minimum - position .age + 1 + (own + fromRunning (position .phase)) ≤ n
   LeftIn Running own position count out idle n =
       RunningLeft own (settings position .maximum) count (longestWalk site (position .phase))
-      (fromYellow (position .phase))
+      (fromLeaving (position .phase))
       out
       n
   LeftIn Yellow own position count out idle n =

@@ -1,4 +1,3 @@
-pub mod Settings
 pub mod Stages
 pub mod Left
 pub mod Falls
@@ -6,7 +5,9 @@ pub mod Moves
 pub mod Progress
 pub mod Bound
 pub mod Paths
+pub mod Registers
+pub mod Demand
+pub mod Away
 pub mod Locks
 pub mod Buttons
-pub mod Registers
 pub mod Waits

@@ -5,38 +5,31 @@ use mathlib.Core.Bool.{Bool, true, false, not, _&&_, _||_}
 use mathlib.Core.Logic.{⊎-elim}
 use mathlib.Core.Path.{_≡_, refl, sym, ap, _∙_}
 use lib.Dec.{eqb}
-use borrow.Author.Tests.{eqb-true, eqb-false, eq-eqb, ne-eqb}
+use borrow.Author.Tests.{ne-eqb}
 use Rattle.rules.specs.declared.site.Site.{Site}
-use Rattle.rules.specs.declared.state.Interval.{Interval}
-use Rattle.rules.specs.declared.state.Interval.the-variants.{StartRed, LateStart, MinimumGreen, Running, Yellow, AllRed}
 use Rattle.rules.specs.declared.state.State.{State}
-use Rattle.rules.specs.Intervals.{isMinimumGreen, isRunning, isGreen}
+use Rattle.rules.specs.Intervals.{isMinimumGreen, isRunning}
 use Rattle.rules.specs.Demands.{locking, detected, inGreen, registersLock, registersButton}
 use Rattle.rules.specs.Runs.{Taken, inMinimumGreen, inRunning, inWalk, registersLocked, registersPressed}
-use Rattle.rules.proofs.Tests.{decided}
+use Rattle.rules.proofs.Counts.{same-or-apart}
+use Rattle.rules.proofs.Intervals.{green-either}
 
 turned : (a b : ℕ) → eqb a b ≡ eqb b a
 turned a b =
     ⊎-elim
-    (λ (e : eqb a b ≡ true). e ∙ sym (eq-eqb b a (sym (eqb-true a b e))))
-    (λ (e : eqb a b ≡ false). e ∙ sym (ne-eqb b a (λ q. eqb-false a b e (sym q))))
-    (decided (eqb a b))
+    (λ (e : a ≡ b). rw e)
+    (λ (ne : a ≡ b → ⊥). ne-eqb a b ne ∙ sym (ne-eqb b a (λ e. ne (sym e))))
+    (same-or-apart a b)
 
-either-green : (t : Bool) (interval : Interval) → (t && isGreen interval) ≡ ((t && isMinimumGreen interval) || (t && isRunning interval))
-unfolding isGreen isMinimumGreen isRunning
-either-green false interval = refl
-either-green true StartRed = refl
-either-green true LateStart = refl
-either-green true MinimumGreen = refl
-either-green true Running = refl
-either-green true Yellow = refl
-either-green true AllRed = refl
+both-ways : (t a b : Bool) → (t && (a || b)) ≡ ((t && a) || (t && b))
+both-ways true a b = refl
+both-ways false a b = refl
 
-green-same : (s : State) (p : ℕ) → inGreen s p ≡ (inMinimumGreen s p || inRunning s p)
+pub green-same : (s : State) (p : ℕ) → inGreen s p ≡ (inMinimumGreen s p || inRunning s p)
 unfolding inGreen inMinimumGreen inRunning
 green-same s p =
-    ap (λ (t : Bool). t && isGreen (s .position .interval)) (turned p (s .position .phase))
-    ∙ either-green (eqb (s .position .phase) p) (s .position .interval)
+    rw (turned p (s .position .phase), green-either (s .position .interval))
+    (both-ways (eqb (s .position .phase) p) (isMinimumGreen (s .position .interval)) (isRunning (s .position .interval)))
 
 pub lock-same : (site : Site) (step : Taken) (p : ℕ) → registersLocked site step p ≡ registersLock site (step .before) (step .inputs) p
 unfolding registersLocked registersLock

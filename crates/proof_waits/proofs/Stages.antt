@@ -1,13 +1,11 @@
 -- How long a pedestrian movement still takes: the steps until it is out of walk and C1, and those until it is idle. Part 2 of a
 -- step lowers both by one, and the settings of the movement's phase bound them.
-use Prim.Native.Nat.{ℕ, _+_, _-_, _≤_, _<_, min}
-use mathlib.Core.Bool.{Bool, true, false}
+use Prim.Native.Nat.{ℕ, _+_, _-_, _≤_, min}
+use mathlib.Core.Bool.{true, false}
 use mathlib.Core.Logic.{⊎-elim}
 use mathlib.Core.Path.{_≡_, refl}
 use native.Mathlib.Nat.{le-trans}
 use native.Mathlib.Omega.{arith}
-use lib.Dec.{leb}
-use borrow.Author.Tests.{leb-true, leb-false}
 use Rattle.rules.specs.declared.site.Site.{Site}
 use Rattle.rules.specs.declared.site.WalkTimes.{WalkTimes}
 use Rattle.rules.specs.declared.state.Movement.{Movement}
@@ -20,20 +18,14 @@ use Rattle.rules.specs.Site.{walkTimes, crosses}
 use Rattle.rules.specs.Intervals.{isIdle, isWalk, isWalkOrFirst, isSecond, isLeaving}
 use Rattle.rules.specs.State.{highestAge, movement}
 use Rattle.rules.specs.Movements.{older, lasting, advanced}
-use Rattle.rules.specs.WaitBound.{longestWalk, longestClearance}
+use Rattle.rules.specs.WaitBound.{longestWalk as walkBy, longestClearance as clearanceBy}
 use Rattle.rules.specs.Laws.{Sound}
 use Rattle.rules.proofs.Tests.{decided, never-both}
+use Rattle.rules.proofs.Intervals.{idle-only}
 use Rattle.rules.proofs.Rows.{greatest-at}
 use Rattle.proof_runs.proofs.ValidStates.{Aged, ValidMovement}
-use Rattle.proof_waits.proofs.Settings.{Reached, walk-reached}
-
--- what is so of the idle stage is so of one that is idle
-idle-only : (P : Stage → Type 0) → P Idle → (stage : Stage) → isIdle stage ≡ true → P stage
-unfolding isIdle
-idle-only P p Idle h = p
-idle-only P p Walk h = absurd (never-both h refl)
-idle-only P p ClearanceOne h = absurd (never-both h refl)
-idle-only P p ClearanceTwo h = absurd (never-both h refl)
+use Rattle.rules.proofs.Settings.{Reached, walk-reached}
+use Rattle.proof_runs.proofs.Lasting.{lasting-cases}
 
 -- ── The counts ──
 
@@ -53,33 +45,16 @@ untilIdle ClearanceTwo times age = times .second - age + 1 + 0
 
 -- ── A step lowers them ──
 
--- what is so of a stage, at the age that it then has, and of the stage that follows it at age 1
-lasting-cases :
-    (P : Stage → ℕ → Type 0) (setting : ℕ) (stage next : Stage) (age : ℕ) →
-    (setting ≤ age → P next 1) →
-    (age < setting → P stage (older age)) →
-    P (lasting setting stage next age .stage) (lasting setting stage next age .age)
-unfolding lasting
-lasting-cases P setting stage next age ended stays = step (leb setting age) refl
-  where
-    step :
-        (t : Bool) →
-        leb setting age ≡ t →
-        let m : Movement = if t then record { stage = next; age = 1 } else record { stage = stage; age = older age } in
-        P (m .stage) (m .age)
-    step true e = ended (leb-true setting age e)
-    step false e = stays (leb-false setting age e)
-
 -- a count of a stage that lasts for the setting, and of what follows it
 lasting-falls :
     (count : Stage → ℕ → ℕ) (setting more : ℕ) (stage next : Stage) (age : ℕ) →
     Aged setting →
     ((a : ℕ) → count stage a ≡ setting - a + 1 + more) →
     count next 1 ≡ more →
-    count (lasting setting stage next age .stage) (lasting setting stage next age .age) ≡ setting - age + 1 + more - 1
+    count (lasting setting stage next age .stage) (lasting setting stage next age .age) ≤ setting - age + 1 + more - 1
 unfolding older
 lasting-falls count setting more stage next age r now later =
-    lasting-cases (λ (stage : Stage) (a : ℕ). count stage a ≡ setting - age + 1 + more - 1) setting stage next age
+    lasting-cases (λ (m : Movement). count (m .stage) (m .age) ≤ setting - age + 1 + more - 1) setting stage next age
     (λ h. omega arith)
     (λ h. omega (arith, now (min (age + 1) highestAge)))
 
@@ -87,9 +62,9 @@ module _ (times : WalkTimes) (age : ℕ) where
   pub out-falls :
       (stage : Stage) →
       (isIdle stage ≡ false → Reached times) →
-      untilOut (advanced stage times age .stage) times (advanced stage times age .age) ≡ untilOut stage times age - 1
+      untilOut (advanced stage times age .stage) times (advanced stage times age .age) ≤ untilOut stage times age - 1
   unfolding untilOut advanced isIdle
-  out-falls Idle r = refl
+  out-falls Idle r = omega arith
   out-falls Walk r =
       lasting-falls (λ stage a. untilOut stage times a) (times .walk) (times .first) Walk ClearanceOne age (r refl .walk)
       (λ a. refl)
@@ -97,14 +72,15 @@ module _ (times : WalkTimes) (age : ℕ) where
   out-falls ClearanceOne r =
       lasting-falls (λ stage a. untilOut stage times a) (times .first) 0 ClearanceOne ClearanceTwo age (r refl .first) (λ a. refl) refl
   out-falls ClearanceTwo r =
-      lasting-cases (λ (stage : Stage) (a : ℕ). untilOut stage times a ≡ 0) (times .second) ClearanceTwo Idle age (λ h. refl) (λ h. refl)
+      lasting-cases (λ (m : Movement). untilOut (m .stage) times (m .age) ≤ 0) (times .second) ClearanceTwo Idle age (λ h. omega arith)
+      (λ h. omega arith)
 
   pub idle-falls :
       (stage : Stage) →
       (isIdle stage ≡ false → Reached times) →
-      untilIdle (advanced stage times age .stage) times (advanced stage times age .age) ≡ untilIdle stage times age - 1
+      untilIdle (advanced stage times age .stage) times (advanced stage times age .age) ≤ untilIdle stage times age - 1
   unfolding untilIdle advanced isIdle
-  idle-falls Idle r = refl
+  idle-falls Idle r = omega arith
   idle-falls Walk r =
       lasting-falls (λ stage a. untilIdle stage times a) (times .walk) (times .first + times .second) Walk ClearanceOne age
       (r refl .walk)
@@ -124,9 +100,9 @@ module _ (times : WalkTimes) (age : ℕ) where
   walk-kept-out Idle h = refl
   walk-kept-out Walk h = absurd (never-both refl h)
   walk-kept-out ClearanceOne h =
-      lasting-cases (λ (stage : Stage) (a : ℕ). isWalk stage ≡ false) (times .first) ClearanceOne ClearanceTwo age (λ h. refl) (λ h. refl)
+      lasting-cases (λ (m : Movement). isWalk (m .stage) ≡ false) (times .first) ClearanceOne ClearanceTwo age (λ h. refl) (λ h. refl)
   walk-kept-out ClearanceTwo h =
-      lasting-cases (λ (stage : Stage) (a : ℕ). isWalk stage ≡ false) (times .second) ClearanceTwo Idle age (λ h. refl) (λ h. refl)
+      lasting-cases (λ (m : Movement). isWalk (m .stage) ≡ false) (times .second) ClearanceTwo Idle age (λ h. refl) (λ h. refl)
 
   -- ── What a count tells of the stage ──
 
@@ -144,13 +120,13 @@ module _ (times : WalkTimes) (age : ℕ) where
   idle-some ClearanceOne h = absurd (never-both h refl)
   idle-some ClearanceTwo h = omega arith
 
-  pub idle-out : (stage : Stage) → isIdle stage ≡ true → untilOut stage times age ≡ 0
+  idle-out : (stage : Stage) → isIdle stage ≡ true → untilOut stage times age ≡ 0
   unfolding untilOut
-  idle-out = idle-only (λ (stage : Stage). untilOut stage times age ≡ 0) refl
+  idle-out stage h = rw (idle-only stage h)
 
   pub idle-none : (stage : Stage) → isIdle stage ≡ true → untilIdle stage times age ≡ 0
   unfolding untilIdle
-  idle-none = idle-only (λ (stage : Stage). untilIdle stage times age ≡ 0) refl
+  idle-none stage h = rw (idle-only stage h)
 
   pub idle-told : (stage : Stage) → untilIdle stage times age ≡ 0 → isIdle stage ≡ true
   unfolding isIdle untilIdle
@@ -162,18 +138,18 @@ module _ (times : WalkTimes) (age : ℕ) where
   -- an idle movement stays so in part 2
   pub idle-kept : (stage : Stage) → isIdle stage ≡ true → isIdle (advanced stage times age .stage) ≡ true
   unfolding isIdle advanced
-  idle-kept = idle-only (λ (stage : Stage). isIdle (advanced stage times age .stage) ≡ true) refl
+  idle-kept stage h = rw (idle-only stage h)
 
   -- ── What bounds them ──
 
-  pub out-limit : (stage : Stage) → 1 ≤ age → (isIdle stage ≡ false → Reached times) → untilOut stage times age ≤ times .walk + times .first
+  out-limit : (stage : Stage) → 1 ≤ age → (isIdle stage ≡ false → Reached times) → untilOut stage times age ≤ times .walk + times .first
   unfolding untilOut isIdle
   out-limit Idle a r = omega arith
   out-limit Walk a r = omega (arith, r refl .walk)
   out-limit ClearanceOne a r = omega (arith, r refl .first)
   out-limit ClearanceTwo a r = omega arith
 
-  pub idle-limit :
+  idle-limit :
       (stage : Stage) →
       1 ≤ age →
       (isIdle stage ≡ false → Reached times) →
@@ -184,7 +160,7 @@ module _ (times : WalkTimes) (age : ℕ) where
   idle-limit ClearanceOne a r = omega (arith, r refl .first)
   idle-limit ClearanceTwo a r = omega (arith, r refl .second)
 
-  pub clear-limit :
+  clear-limit :
       (stage : Stage) →
       1 ≤ age →
       (isIdle stage ≡ false → Reached times) →
@@ -198,9 +174,16 @@ module _ (times : WalkTimes) (age : ℕ) where
 
 -- ── The movements of a site in a valid state ──
 
+-- A and C of a phase of the site
+abbrev pub longestWalk : Site → ℕ → ℕ
+longestWalk site = walkBy (site .crossings) (site .times .walks) (site .size .movements)
+
+abbrev pub longestClearance : Site → ℕ → ℕ
+longestClearance site = clearanceBy (site .crossings) (site .times .walks) (site .size .movements)
+
 module _ (site : Site) (sound : Sound site) (position : Position) (k : ℕ) (m : Movement) (v : ValidMovement site position k m) where
   pub stage-reached : isIdle (m .stage) ≡ false → Reached (walkTimes (site .times) k)
-  stage-reached h = walk-reached (sound .walkTime k (v .ofPhase h .0))
+  stage-reached h = walk-reached site sound k (v .ofPhase h .0)
 
   unless-idle : (count limit : ℕ) → (isIdle (m .stage) ≡ true → count ≡ 0) → (isIdle (m .stage) ≡ false → count ≤ limit) → count ≤ limit
   unless-idle count limit none most =
@@ -211,10 +194,10 @@ module _ (site : Site) (sound : Sound site) (position : Position) (k : ℕ) (m :
       (f : WalkTimes → ℕ) →
       isIdle (m .stage) ≡ false →
       f (walkTimes (site .times) k)
-      ≤ greatestOf (λ k. if crosses site k (position .phase) then f (walkTimes (site .times) k) else 0) (site .size .movements)
+      ≤ greatestOf (λ k. if crosses (site .crossings) k (position .phase) then f (walkTimes (site .times) k) else 0) (site .size .movements)
   phase-limit f h =
       rw (v .ofPhase h .1) at (greatest-at
-      (λ (k : ℕ). if crosses site k (position .phase) then f (walkTimes (site .times) k) else 0)
+      (λ (k : ℕ). if crosses (site .crossings) k (position .phase) then f (walkTimes (site .times) k) else 0)
       (site .size .movements)
       k
       (v .ofPhase h .0))
@@ -222,11 +205,11 @@ module _ (site : Site) (sound : Sound site) (position : Position) (k : ℕ) (m :
   walk-limit :
       isIdle (m .stage) ≡ false →
       walkTimes (site .times) k .walk + walkTimes (site .times) k .first ≤ longestWalk site (position .phase)
-  unfolding longestWalk
+  unfolding walkBy walkTimes
   walk-limit = phase-limit (λ (times : WalkTimes). times .walk + times .first)
 
   clearance-limit : isIdle (m .stage) ≡ false → walkTimes (site .times) k .second ≤ longestClearance site (position .phase)
-  unfolding longestClearance
+  unfolding clearanceBy walkTimes
   clearance-limit = phase-limit (λ (times : WalkTimes). times .second)
 
   pub out-most : untilOut (m .stage) (walkTimes (site .times) k) (m .age) ≤ longestWalk site (position .phase)

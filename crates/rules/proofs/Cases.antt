@@ -1,26 +1,8 @@
 -- Every worked case holds: what the rules compute is, case by case, what it must be.
 use mathlib.Core.Path.{refl}
-use Rattle.rules.specs.Rows.{anyOf, allOf, countOf, sumOf, greatestOf, listOf, indicesOf}
-use Rattle.rules.specs.Bytes.{byteAt, twoAt, fourAt, bit}
-use Rattle.rules.specs.Limits.{limits, limitOf, within}
-use Rattle.rules.specs.Verdicts.{_orElse_, refuseIf, firstOf}
-use Rattle.rules.specs.Personality.{bodyLength, kindAt, bodyAt, recordAt, phaseCount, groupCount, groupsHead, conflictsHead, detectorsHead, pedestriansHead, groupSet, groupMark, pedestrian, pedestriansBefore, movementCount, conflictSet, detectorCount, detectorPhase, detectorMode, endOf, sectionAt, timeAt, timesAt, siteSection, phasesSection, badGroup, ninthPedestrian, groupRecord, phaseWithoutGroup, groupsSection, badConflict, sharePhase, conflictInPhase, conflictsSection, knownMode, badDetector, detectorsSection, pedestriansSection, afterPedestrians, verdictOf}
-use Rattle.rules.specs.Site.{rowOf, phaseTimesAt, walkTimesAt, timesIn, crossingAt, siteOf, groupOf, detectorOf, phaseTimes, walkTimes, inPhase, crosses, isPedestrian, movementOf, conflict, ring}
-use Rattle.rules.specs.Intervals.{isIdle, isWalk, isWalkOrFirst, isSecond, isStartRed, isRunning, isMinimumGreen, isGreen, isLeaving, isBeforeStart, letterOf, isHeld, phaseHeld, heldIn}
-use Rattle.rules.specs.State.{fresh, locked, asked, movement, targetValid, cameValid, ageValid, every, movementValid, valid}
-use Rattle.rules.specs.Demands.{occupied, pressed, calling, locking, extending, detected, inGreen, registersLock, registersButton, calls, demandsAfter, stands, demanded, after, before, firstIn, nextDemanded}
-use Rattle.rules.specs.Movements.{older, lasting, advanced, movementsAfter}
-use Rattle.rules.specs.Counts.{gapAfter, maximumAfter, countsAfter}
-use Rattle.rules.specs.Interval.{someMovement, ends, entering, starting, following, staying, positionAfter, countsLeaving, countsEntering, countsChanged, clearsLock, starts}
-use Rattle.rules.specs.Walks.{begins, walksBegun, buttonsLeft}
-use Rattle.rules.specs.Step.{stepped}
-use Rattle.rules.specs.Colours.{vehicleColour, movementColour, colourOf, coloursOf}
-use Rattle.rules.specs.WaitBound.{longestWalk, longestClearance, phaseShare, waitBound}
-use Rattle.rules.specs.Call.{wired, strayInput, stepVerdict, callVerdict, answerFor, bufferFor, answerOf, bufferOf}
-use Rattle.rules.specs.Traces.{unlessDeclined, linesFrom, sameColours, sameButStep, changesAfter, changesIn, changes}
-use Rattle.rules.specs.Junctions.{two, four, twos, fours, section, sections, putTwo, shortPhase, junction, crossing, threePhases, callingB, overlap}
 use Rattle.rules.specs.Cases.{onceB, onceBAlwaysA, starred, walkTwice, laterB, pausing, ours, cases, CasesHold}
+use Rattle.rules.proofs.Opened.{opened}
 
 pub cases-hold : CasesHold
-unfolding CasesHold cases anyOf allOf countOf sumOf greatestOf listOf indicesOf byteAt twoAt fourAt bit limits limitOf within _orElse_ refuseIf firstOf bodyLength kindAt bodyAt recordAt phaseCount groupCount groupsHead conflictsHead detectorsHead pedestriansHead groupSet groupMark pedestrian pedestriansBefore movementCount conflictSet detectorCount detectorPhase detectorMode endOf sectionAt timeAt timesAt siteSection phasesSection badGroup ninthPedestrian groupRecord phaseWithoutGroup groupsSection badConflict sharePhase conflictInPhase conflictsSection knownMode badDetector detectorsSection pedestriansSection afterPedestrians verdictOf rowOf phaseTimesAt walkTimesAt timesIn crossingAt siteOf groupOf detectorOf phaseTimes walkTimes inPhase crosses isPedestrian movementOf conflict ring isIdle isWalk isWalkOrFirst isSecond isStartRed isRunning isMinimumGreen isGreen isLeaving isBeforeStart letterOf isHeld phaseHeld heldIn fresh locked asked movement targetValid cameValid ageValid every movementValid valid occupied pressed calling locking extending detected inGreen registersLock registersButton calls demandsAfter stands demanded after before firstIn nextDemanded older lasting advanced movementsAfter gapAfter maximumAfter countsAfter someMovement ends entering starting following staying positionAfter countsLeaving countsEntering countsChanged clearsLock starts begins walksBegun buttonsLeft stepped vehicleColour movementColour colourOf coloursOf longestWalk longestClearance phaseShare waitBound wired strayInput stepVerdict callVerdict answerFor bufferFor answerOf bufferOf unlessDeclined linesFrom sameColours sameButStep changesAfter changesIn changes two four twos fours section sections putTwo shortPhase junction crossing threePhases callingB overlap onceB onceBAlwaysA starred walkTwice laterB pausing ours
+unfolding opened CasesHold cases onceB onceBAlwaysA starred walkTwice laterB pausing ours
 cases-hold = (refl, (refl, (refl, (refl, (refl, (refl, (refl, (refl, (refl, (refl, (refl, (refl, (refl, (refl, (refl, (refl, (refl, (refl, (refl, (refl, tt))))))))))))))))))))

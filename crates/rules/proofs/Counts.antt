@@ -1,14 +1,14 @@
 -- More laws of rows: a count grows by one past each index that passes and past no other. So the count before such an index is its
 -- own number, a count of one is one index alone, and a count that stands at m before none of them is at most m.
-use Prim.Native.Nat.{ℕ, zero, suc, _*_, _≤_, _<_}
+use Prim.Native.Nat.{ℕ, zero, suc, _+_, _*_, _≤_, _<_}
 use mathlib.Core.Bool.{Bool, true, false}
 use mathlib.Core.Logic.{_⊎_, inl, inr, ⊎-elim}
 use mathlib.Core.Path.{_≡_, refl, sym}
-use lib.Dec.{ltb}
+use lib.Dec.{ltb, eqb}
 use lib.ListN.{getD}
 use native.Mathlib.Nat.{not-suc-le-zero, suc-mul, eq-or-lt-of-le}
 use native.Mathlib.Omega.{arith}
-use borrow.Author.Tests.{ltb-true, ltb-false}
+use borrow.Author.Tests.{ltb-true, ltb-false, eqb-true, eqb-false}
 use Rattle.rules.specs.Rows.{countOf, sumOf, indicesOf}
 use Rattle.rules.proofs.Tests.{decided, never-both}
 use Rattle.rules.proofs.Rows.{last-or-below, indices-at}
@@ -21,6 +21,13 @@ below-or-past i n =
     (λ (t : ltb i n ≡ true). inl (ltb-true i n t))
     (λ (t : ltb i n ≡ false). inr (ltb-false i n t))
     (decided (ltb i n))
+
+pub same-or-apart : (i j : ℕ) → (i ≡ j) ⊎ (i ≡ j → ⊥)
+same-or-apart i j =
+    ⊎-elim
+    (λ (t : eqb i j ≡ true). inl (eqb-true i j t))
+    (λ (t : eqb i j ≡ false). inr (eqb-false i j t))
+    (decided (eqb i j))
 
 -- a test that fails from n on passes below n only
 pub passes-below : (t : Bool) (i n : ℕ) → (n ≤ i → t ≡ false) → t ≡ true → i < n
@@ -103,3 +110,19 @@ pub sum-within : (f : ℕ → ℕ) (n m : ℕ) → ((i : ℕ) → i < n → f i 
 unfolding sumOf
 sum-within f zero m h = omega arith
 sum-within f (suc n) m h = omega (arith, sum-within f n m (λ i l. h i (omega arith)), h n (omega arith), suc-mul n m)
+
+-- one share is at most the sum
+pub sum-at : (f : ℕ → ℕ) (n i : ℕ) → i < n → f i ≤ sumOf f n
+unfolding sumOf
+sum-at f zero i h = absurd (not-suc-le-zero h)
+sum-at f (suc n) i h =
+    ⊎-elim
+    (λ (e : i ≡ n). rw e (omega arith))
+    (λ (l : i < n). omega (arith, sum-at f n i l))
+    (last-or-below h)
+
+-- shares in two parts
+pub sum-both : (f g h : ℕ → ℕ) (n : ℕ) → ((i : ℕ) → h i ≡ f i + g i) → sumOf h n ≡ sumOf f n + sumOf g n
+unfolding sumOf
+sum-both f g h zero e = refl
+sum-both f g h (suc n) e = omega (arith, sum-both f g h n e, e n)

@@ -1,6 +1,10 @@
+pub mod Opened
 pub mod Cases
 pub mod Tests
 pub mod Rows
 pub mod Verdicts
+pub mod Calls
 pub mod Counts
 pub mod Bits
+pub mod Intervals
+pub mod Settings

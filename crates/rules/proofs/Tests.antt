@@ -59,3 +59,7 @@ never-both p q = true≢false (sym p ∙ q)
 pub not-true-false : (a : Bool) → (a ≡ true → ⊥) → a ≡ false
 not-true-false true h = absurd (h refl)
 not-true-false false h = refl
+
+pub not-false-true : (a : Bool) → (a ≡ false → ⊥) → a ≡ true
+not-false-true true h = refl
+not-false-true false h = absurd (h refl)

@@ -3,18 +3,22 @@ use Prim.Native.Nat.{ℕ}
 use mathlib.Core.Bool.{Bool, not, _&&_}
 use mathlib.Core.List.{List}
 use lib.Dec.{eqb}
+use lib.ListN.{getD}
 use Rattle.rules.specs.declared.site.Group.{Group}
 use Rattle.rules.specs.declared.site.Site.{Site}
 use Rattle.rules.specs.declared.state.Held.{Held}
 use Rattle.rules.specs.declared.state.Interval.{Interval}
 use Rattle.rules.specs.declared.state.Interval.the-variants.{StartRed, LateStart, MinimumGreen, Running, Yellow, AllRed}
+use Rattle.rules.specs.declared.state.Movement.{Movement}
+use Rattle.rules.specs.declared.state.Position.{Position}
 use Rattle.rules.specs.declared.state.Stage.{Stage}
 use Rattle.rules.specs.declared.state.Stage.the-variants.{Idle, Walk, ClearanceOne, ClearanceTwo}
 use Rattle.rules.specs.declared.state.State.{State}
 use Rattle.rules.specs.Rows.{if_then_else_, listOf}
-use Rattle.rules.specs.Site.{groupOf, inPhase, isPedestrian, movementOf}
+use Rattle.rules.specs.Bytes.{bit}
+use Rattle.rules.specs.Site.{groupOf, isPedestrian, movementOf}
 use Rattle.rules.specs.Intervals.{heldIn}
-use Rattle.rules.specs.State.{movement}
+use Rattle.rules.specs.State.{idle}
 
 -- ── Codes ──
 
@@ -49,15 +53,19 @@ movementColour Walk = green
 movementColour ClearanceOne = flashing
 movementColour ClearanceTwo = flashing
 
--- what group g shows in a state; a vehicle group that is not of the phase is red
-unfoldable pub colourOf : Site → State → ℕ → ℕ
-colourOf site s g =
-    if isPedestrian site g
-    then movementColour (movement s (movementOf site g) .stage)
-    else
-    if inPhase site g (s .position .phase)
-    then vehicleColour (s .position .interval) (s .position .came) (s .position .target) (groupOf site g)
+-- what a vehicle group shows; one that is not of the phase is red
+unfoldable pub vehicleShown : Position → Group → ℕ
+vehicleShown position group =
+    if bit (position .phase) (group .phases)
+    then vehicleColour (position .interval) (position .came) (position .target) group
     else red
 
+-- what group g shows, by the position and the movements of a state
+unfoldable pub colourOf : List Group → Position → List Movement → ℕ → ℕ
+colourOf groups position movements g =
+    if isPedestrian groups g
+    then movementColour (getD movements (movementOf groups g) idle .stage)
+    else vehicleShown position (groupOf groups g)
+
 unfoldable pub coloursOf : Site → State → List ℕ
-coloursOf site s = listOf (colourOf site s) (site .size .groups)
+coloursOf site s = listOf (colourOf (site .groups) (s .position) (s .movements)) (site .size .groups)

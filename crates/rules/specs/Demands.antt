@@ -37,7 +37,7 @@ extending mode = leb 4 mode
 -- a detector of the phase that has such a mode is occupied
 unfoldable pub detected : (ℕ → Bool) → Site → ℕ → ℕ → Bool
 detected kind site inputs p =
-    anyOf (λ d. occupied inputs d && eqb (detectorOf site d .phase) p && kind (detectorOf site d .mode)) (site .size .detectors)
+    anyOf (λ d. occupied inputs d && eqb (detectorOf (site .detectors) d .phase) p && kind (detectorOf (site .detectors) d .mode)) (site .size .detectors)
 
 -- ── What the inputs demand ──
 
@@ -70,7 +70,7 @@ demandsAfter site s inputs =
 -- demanded by its lock or by a demanded movement
 unfoldable pub stands : Site → Demands → ℕ → Bool
 stands site demands p =
-    getD (demands .locks) p false || anyOf (λ k. getD (demands .buttons) k false && crosses site k p) (site .size .movements)
+    getD (demands .locks) p false || anyOf (λ k. getD (demands .buttons) k false && crosses (site .crossings) k p) (site .size .movements)
 
 unfoldable pub demanded : Site → State → ℕ → ℕ → Bool
 demanded site s inputs p = stands site (demandsAfter site s inputs) p || calls site s inputs p

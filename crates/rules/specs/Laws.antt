@@ -1,86 +1,122 @@
 -- Laws that show the rules fit together, stated: what acceptance tells of a site, which refusals there are, how large a wait bound
 -- can be, and that steps lead from valid states to valid states.
 use Prim.Native.Nat.{ℕ, _+_, _*_, _≤_, _<_}
-use mathlib.Core.Bool.{Bool, true, false}
+use mathlib.Core.Bool.{Bool, true, false, _&&_, _||_}
 use mathlib.Core.List.{List}
 use mathlib.Core.Logic.{_⊎_}
 use mathlib.Core.Path.{_≡_}
+use lib.Dec.{leb, eqb}
 use lib.ListN.{length}
 use Rattle.rules.specs.declared.answer.Verdict.the-variants.{Accepted, Refused}
 use Rattle.rules.specs.declared.site.PhaseTimes.{PhaseTimes}
+use Rattle.rules.specs.declared.site.Range.{Range}
 use Rattle.rules.specs.declared.site.Site.{Site}
+use Rattle.rules.specs.declared.site.Size.{Size}
+use Rattle.rules.specs.declared.site.Times.{Times}
 use Rattle.rules.specs.declared.site.WalkTimes.{WalkTimes}
 use Rattle.rules.specs.declared.state.State.{State}
-use Rattle.rules.specs.Limits.{limitOf, startRedSetting, phaseSettings, walkSettings}
+use Rattle.rules.specs.Rows.{allOf}
+use Rattle.rules.specs.Limits.{limits, limitOf, startRedSetting, phaseSettings, walkSettings, settingCount}
 use Rattle.rules.specs.Personality.{verdictOf}
 use Rattle.rules.specs.Site.{siteOf, groupOf, detectorOf, phaseTimes, walkTimes, inPhase, crosses, isPedestrian, movementOf, conflict}
-use Rattle.rules.specs.State.{fresh, valid}
+use Rattle.rules.specs.State.{highestAge, fresh, valid}
 use Rattle.rules.specs.Step.{stepped}
-use Rattle.rules.specs.WaitBound.{waitBound}
+use Rattle.rules.specs.WaitBound.{phaseShare, waitBound}
 use Rattle.rules.specs.Call.{strayInput, callVerdict}
 
 -- ── What acceptance tells ──
 
--- a value that the table of limits admits for the setting
-abbrev pub InTable : ℕ → ℕ → Type 0
-InTable setting value = (limitOf setting .low ≤ value) × (value ≤ limitOf setting .high)
+-- a value that the table admits for the setting
+abbrev pub InTable : List Range → ℕ → ℕ → Type 0
+InTable table setting value = (limitOf table setting .low ≤ value) × (value ≤ limitOf table setting .high)
 
-pub record SoundPhaseTimes (times : PhaseTimes) : Type 0 where
-  pub late : InTable phaseSettings (times .late)
-  pub minimum : InTable (phaseSettings + 1) (times .minimum)
-  pub maximum : InTable (phaseSettings + 2) (times .maximum)
-  pub gap : InTable (phaseSettings + 3) (times .gap)
-  pub yellow : InTable (phaseSettings + 4) (times .yellow)
-  pub red : InTable (phaseSettings + 5) (times .red)
+pub record SoundPhaseTimes (table : List Range) (times : PhaseTimes) : Type 0 where
+  pub late : InTable table phaseSettings (times .late)
+  pub minimum : InTable table (phaseSettings + 1) (times .minimum)
+  pub maximum : InTable table (phaseSettings + 2) (times .maximum)
+  pub gap : InTable table (phaseSettings + 3) (times .gap)
+  pub yellow : InTable table (phaseSettings + 4) (times .yellow)
+  pub red : InTable table (phaseSettings + 5) (times .red)
 
-pub record SoundWalkTimes (times : WalkTimes) : Type 0 where
-  pub walk : InTable walkSettings (times .walk)
-  pub first : InTable (walkSettings + 1) (times .first)
-  pub second : InTable (walkSettings + 2) (times .second)
+pub record SoundWalkTimes (table : List Range) (times : WalkTimes) : Type 0 where
+  pub walk : InTable table walkSettings (times .walk)
+  pub first : InTable table (walkSettings + 1) (times .first)
+  pub second : InTable table (walkSettings + 2) (times .second)
+
+-- every time setting of a site of that size is in the table
+pub record SoundTimes (table : List Range) (size : Size) (times : Times) : Type 0 where
+  pub start : InTable table startRedSetting (times .start)
+  pub phase : (p : ℕ) → p < size .phases → SoundPhaseTimes table (phaseTimes times p)
+  pub walk : (k : ℕ) → k < size .movements → SoundWalkTimes table (walkTimes times k)
 
 -- the one phase of a movement
 abbrev pub OnePhase : Site → ℕ → Type 0
-OnePhase site k = (p : ℕ) × (p < site .size .phases) × (crosses site k p ≡ true) × ((q : ℕ) → crosses site k q ≡ true → q ≡ p)
+OnePhase site k = (p : ℕ) × (p < site .size .phases) × (crosses (site .crossings) k p ≡ true) × ((q : ℕ) → crosses (site .crossings) k q ≡ true → q ≡ p)
 
 pub record Sound (site : Site) : Type 0 where
   pub phases : (2 ≤ site .size .phases) × (site .size .phases ≤ 7)
   pub groups : (1 ≤ site .size .groups) × (site .size .groups ≤ 32)
   pub detectors : site .size .detectors ≤ 48
   pub movements : site .size .movements ≤ 8
-  -- every time setting is in the table
-  pub startTime : InTable startRedSetting (site .times .start)
-  pub phaseTime : (p : ℕ) → p < site .size .phases → SoundPhaseTimes (phaseTimes (site .times) p)
-  pub walkTime : (k : ℕ) → k < site .size .movements → SoundWalkTimes (walkTimes (site .times) k)
+  pub times : SoundTimes limits (site .size) (site .times)
   -- groups, detectors and movements are of phases that exist, and each phase has a group
-  pub groupPhase : (g p : ℕ) → inPhase site g p ≡ true → (g < site .size .groups) × (p < site .size .phases)
-  pub groupMark : (g : ℕ) → groupOf site g .mark ≤ 2
-  pub phaseGroup : (p : ℕ) → p < site .size .phases → (g : ℕ) × (g < site .size .groups) × (inPhase site g p ≡ true)
-  pub detectorPhase : (d : ℕ) → d < site .size .detectors → detectorOf site d .phase < site .size .phases
+  pub groupPhase : (g p : ℕ) → inPhase (site .groups) g p ≡ true → (g < site .size .groups) × (p < site .size .phases)
+  pub groupMark : (g : ℕ) → groupOf (site .groups) g .mark ≤ 2
+  pub phaseGroup : (p : ℕ) → p < site .size .phases → (g : ℕ) × (g < site .size .groups) × (inPhase (site .groups) g p ≡ true)
+  pub detectorPhase : (d : ℕ) → d < site .size .detectors → detectorOf (site .detectors) d .phase < site .size .phases
   pub crossing : (k : ℕ) → k < site .size .movements → OnePhase site k
-  pub noCrossing : (k p : ℕ) → site .size .movements ≤ k → crosses site k p ≡ false
+  pub noCrossing : (k p : ℕ) → site .size .movements ≤ k → crosses (site .crossings) k p ≡ false
   -- a pedestrian group has a movement, which is of the group's phase
-  pub movementOfGroup : (g : ℕ) → g < site .size .groups → isPedestrian site g ≡ true → movementOf site g < site .size .movements
+  pub movementOfGroup : (g : ℕ) → g < site .size .groups → isPedestrian (site .groups) g ≡ true → movementOf (site .groups) g < site .size .movements
   pub crossingOfGroup :
       (g : ℕ) →
       g < site .size .groups →
-      isPedestrian site g ≡ true →
+      isPedestrian (site .groups) g ≡ true →
       (p : ℕ) →
-      crosses site (movementOf site g) p ≡ inPhase site g p
+      crosses (site .crossings) (movementOf (site .groups) g) p ≡ inPhase (site .groups) g p
   -- conflicts are between groups that exist, never of a group with itself, symmetric, and share no phase
   pub conflictGroups : (g j : ℕ) → conflict site g j ≡ true → (g < site .size .groups) × (j < site .size .groups)
   pub conflictOther : (g j : ℕ) → conflict site g j ≡ true → g ≡ j → ⊥
   pub conflictBack : (g j : ℕ) → conflict site g j ≡ true → conflict site j g ≡ true
-  pub conflictPhase : (g j : ℕ) → conflict site g j ≡ true → (p : ℕ) → inPhase site g p ≡ true → inPhase site j p ≡ true → ⊥
+  pub conflictPhase : (g j : ℕ) → conflict site g j ≡ true → (p : ℕ) → inPhase (site .groups) g p ≡ true → inPhase (site .groups) j p ≡ true → ⊥
 
 unfoldable pub AcceptedIsSound : Type 0
 AcceptedIsSound = (b : List ℕ) → verdictOf b ≡ Accepted → Sound (siteOf b)
 
 -- ── Refusals ──
 
--- a number of the personality's checks, with a place within the bytes or just past their end; or one of a step's, at 0
+-- the numbers of the personality's checks, and those of a step's
+abbrev pub readingNumber : ℕ → Bool
+readingNumber number = leb 1 number && leb number 12
+
+abbrev pub stepNumber : ℕ → Bool
+stepNumber number = leb 13 number && leb number 15
+
+-- a section's head and its records
+abbrev pub sectionLength : ℕ → ℕ → ℕ
+sectionLength count width = 4 + count * width
+
+-- the longest personality: the site, 7 phases, 32 groups, their conflicts, 48 detectors, 8 pedestrian groups
+abbrev pub greatestLength : ℕ
+greatestLength =
+    sectionLength 1 4
+    + sectionLength 7 12
+    + sectionLength 32 2
+    + sectionLength 32 4
+    + sectionLength 48 2
+    + sectionLength 8 6
+
+unfoldable pub AcceptedIsShort : Type 0
+AcceptedIsShort = (b : List ℕ) → verdictOf b ≡ Accepted → length b ≤ greatestLength
+
+-- a place of the personality: within the bytes or just past their end, and no further on than the longest personality goes
+abbrev pub PlaceIn : List ℕ → ℕ → Type 0
+PlaceIn b place = (place ≤ length b) × (place ≤ greatestLength)
+
+-- a number of the personality's checks, with such a place; or one of a step's, at 0
 abbrev pub Written : List ℕ → ℕ → ℕ → Type 0
 Written b number place =
-    ((1 ≤ number) × (number ≤ 12) × (place ≤ length b)) ⊎ ((13 ≤ number) × (number ≤ 15) × (place ≡ 0))
+    ((readingNumber number ≡ true) × PlaceIn b place) ⊎ ((stepNumber number ≡ true) × (place ≡ 0))
 
 unfoldable pub RefusalIsWritten : Type 0
 RefusalIsWritten =
@@ -90,27 +126,57 @@ RefusalIsWritten =
 
 -- ── The wait bound ──
 
-unfoldable pub highest : ℕ → ℕ
-highest setting = limitOf setting .high
+unfoldable pub highest : List Range → ℕ → ℕ
+highest table setting = limitOf table setting .high
 
--- the share of a phase where every setting that it counts is the highest
-unfoldable pub greatestShare : ℕ
-greatestShare =
-    highest phaseSettings
-    + highest (phaseSettings + 1)
-    + highest (phaseSettings + 2)
-    + 2
-    * ((highest walkSettings + highest (walkSettings + 1))
-    + highest (phaseSettings + 4)
-    + highest (phaseSettings + 5)
-    + highest (walkSettings + 2))
+-- the times of a phase and of a movement where every setting is the highest
+unfoldable pub highestPhase : List Range → PhaseTimes
+highestPhase table =
+    record {
+      late = highest table phaseSettings;
+      minimum = highest table (phaseSettings + 1);
+      maximum = highest table (phaseSettings + 2);
+      gap = highest table (phaseSettings + 3);
+      yellow = highest table (phaseSettings + 4);
+      red = highest table (phaseSettings + 5);
+    }
+
+unfoldable pub highestWalk : List Range → WalkTimes
+highestWalk table =
+    record {
+      walk = highest table walkSettings;
+      first = highest table (walkSettings + 1);
+      second = highest table (walkSettings + 2);
+    }
+
+unfoldable pub greatestShare : List Range → ℕ
+greatestShare table =
+    let longest = highestWalk table in
+    phaseShare (highestPhase table) (longest .walk + longest .first) (longest .second)
 
 -- the wait bound of seven such phases
-unfoldable pub greatestWait : ℕ
-greatestWait = highest startRedSetting + 7 * greatestShare
+unfoldable pub greatestWait : List Range → ℕ
+greatestWait table = highest table startRedSetting + 7 * greatestShare table
 
 unfoldable pub WaitIsInTable : Type 0
-WaitIsInTable = (b : List ℕ) → verdictOf b ≡ Accepted → waitBound (siteOf b) ≤ greatestWait
+WaitIsInTable = (b : List ℕ) → verdictOf b ≡ Accepted → waitBound (siteOf b) ≤ greatestWait limits
+
+-- ── The table of limits ──
+
+-- late start and gap
+unfoldable pub mayBeZero : ℕ → Bool
+mayBeZero setting = eqb setting phaseSettings || eqb setting (phaseSettings + 3)
+
+-- an age can reach the setting, and it is one step at least unless it may be 0
+unfoldable pub timely : List Range → ℕ → Bool
+timely table setting = leb (highest table setting) highestAge && (mayBeZero setting || leb 1 (limitOf table setting .low))
+
+-- What every guarantee needs of a table, as a test: each setting is such a one, and the greatest wait is a number of two bytes.
+unfoldable pub usable : List Range → Bool
+usable table = allOf (timely table) settingCount && leb (greatestWait table) 65535
+
+abbrev pub TableIsUsable : Type 0
+TableIsUsable = usable limits ≡ true
 
 -- ── Valid states ──
 

@@ -1,6 +1,6 @@
 -- The one table of lowest and highest values, for every time setting. Settings are numbered in the order of the paper's table:
 -- start red; L, M, X, G, Y, R of a phase; W, C1, C2 of a movement.
-use Prim.Native.Nat.{ℕ}
+use Prim.Native.Nat.{ℕ, _+_}
 use mathlib.Core.Bool.{Bool, _&&_}
 use mathlib.Core.List.{List, [], _∷_}
 use lib.Dec.{leb}
@@ -21,12 +21,12 @@ limits =
     ∷ record { low = 1; high = 400 }
     ∷ []
 
--- the setting's entry; a setting that the table has not admits 0 alone
-unfoldable pub limitOf : ℕ → Range
-limitOf setting = getD limits setting (record { low = 0; high = 0 })
+-- a table's entry for the setting; a setting that it has not admits 0 alone
+unfoldable pub limitOf : List Range → ℕ → Range
+limitOf table setting = getD table setting (record { low = 0; high = 0 })
 
-unfoldable pub within : ℕ → ℕ → Bool
-within setting value = leb (limitOf setting .low) value && leb value (limitOf setting .high)
+unfoldable pub within : List Range → ℕ → ℕ → Bool
+within table setting value = leb (limitOf table setting .low) value && leb value (limitOf table setting .high)
 
 -- the settings' numbers: that of start red, the first of a phase record (L) and the first of a pedestrian record (W)
 abbrev pub startRedSetting : ℕ
@@ -37,3 +37,7 @@ phaseSettings = 1
 
 abbrev pub walkSettings : ℕ
 walkSettings = 7
+
+-- how many settings there are
+abbrev pub settingCount : ℕ
+settingCount = walkSettings + 3

@@ -7,7 +7,7 @@ use lib.ListN.{length}
 use Rattle.rules.specs.declared.answer.Verdict.{Verdict}
 use Rattle.rules.specs.Rows.{anyOf, allOf, countOf}
 use Rattle.rules.specs.Bytes.{byteAt, twoAt, fourAt, bit}
-use Rattle.rules.specs.Limits.{within, startRedSetting, phaseSettings, walkSettings}
+use Rattle.rules.specs.Limits.{limits, within, startRedSetting, phaseSettings, walkSettings}
 use Rattle.rules.specs.Verdicts.{_orElse_, refuseIf, firstOf}
 
 -- ── Sections: a two-byte body length, a two-byte kind, then the body ──
@@ -97,7 +97,7 @@ sectionAt b head kind lengthRight =
 
 -- 5: a time outside its range
 unfoldable pub timeAt : List ℕ → ℕ → ℕ → Verdict
-timeAt b place setting = refuseIf (not (within setting (twoAt b place))) 5 place
+timeAt b place setting = refuseIf (not (within limits setting (twoAt b place))) 5 place
 
 -- A record of two-byte times, field by field, where the first is that of the setting given.
 unfoldable pub timesAt : List ℕ → ℕ → ℕ → ℕ → Verdict

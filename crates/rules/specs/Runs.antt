@@ -3,14 +3,16 @@ use Prim.Native.Nat.{ℕ, _+_, _≤_, _<_}
 use mathlib.Core.Bool.{Bool, true, false, not, _&&_, _||_}
 use mathlib.Core.Path.{_≡_}
 use mathlib.Core.List.{List, [], _∷_, _++_, map}
-use lib.Dec.{eqb}
+use lib.Dec.{ltb, eqb}
 use lib.ListN.{length, getD, take, replicate}
 use Rattle.rules.specs.declared.answer.Outcome.{Outcome}
 use Rattle.rules.specs.declared.answer.Outcome.the-variants.{Stepped, Declined}
+use Rattle.rules.specs.declared.answer.Verdict.{Verdict}
 use Rattle.rules.specs.declared.answer.Verdict.the-variants.{Accepted}
 use Rattle.rules.specs.declared.site.Site.{Site}
 use Rattle.rules.specs.declared.state.State.{State}
 use Rattle.rules.specs.Rows.{if_then_else_}
+use Rattle.rules.specs.Verdicts.{_orElse_, refuseIf}
 use Rattle.rules.specs.Personality.{verdictOf}
 use Rattle.rules.specs.Site.{siteOf, phaseTimes, walkTimes, isPedestrian, movementOf, conflict}
 use Rattle.rules.specs.Intervals.{isMinimumGreen, isRunning, isWalk}
@@ -18,7 +20,32 @@ use Rattle.rules.specs.State.{fresh, movement}
 use Rattle.rules.specs.Demands.{pressed, locking, detected}
 use Rattle.rules.specs.Colours.{red, yellow, green, flashing}
 use Rattle.rules.specs.WaitBound.{waitBound}
-use Rattle.rules.specs.Call.{answerOf, bufferOf}
+use Rattle.rules.specs.Call.{strayInput, answerOf, bufferOf, boundFor}
+
+-- ── Controllers ──
+
+-- What the demand is said of: a reader of personalities, a fresh state, and a step call on bytes, a state, 64 input bits and a colour
+-- buffer, or its length: the outcome, the state handed back, and the buffer as the call returns. States may have any form; `seen` is the
+-- state of document 01 that one stands for.
+pub record Controller (S : Type 0) : Type 0 where
+  pub verdict : List ℕ → Verdict
+  pub fresh : S
+  pub outcome : List ℕ → S → ℕ → ℕ → Outcome
+  pub next : List ℕ → S → ℕ → ℕ → S
+  pub buffer : List ℕ → S → ℕ → List ℕ → List ℕ
+  pub seen : S → State
+
+-- The controller of the rules: its calls are those that the contracts of `read`, `fresh` and `step` cite.
+unfoldable pub ruled : Controller State
+ruled =
+    record {
+      verdict = verdictOf;
+      fresh = fresh;
+      outcome = λ b s inputs room. answerOf b s inputs room .outcome;
+      next = λ b s inputs room. answerOf b s inputs room .state;
+      buffer = bufferOf;
+      seen = λ s. s;
+    }
 
 -- ── The list of calls ──
 
@@ -27,26 +54,36 @@ pub record Call : Type 0 where
   pub inputs : ℕ
   pub buffer : List ℕ
 
--- One accepted step: the state handed in, the input bits, the state handed back, and the buffer as the call returns.
+-- One call as a controller took it: the state handed in, the input bits and the length of the buffer; the outcome, the state handed
+-- back, and the buffer as the call returns.
 pub record Taken : Type 0 where
   pub before : State
   pub inputs : ℕ
+  pub room : ℕ
+  pub outcome : Outcome
   pub after : State
   pub shown : List ℕ
 
--- a refused call hands its state on; it shows and registers nothing and isn't counted
+-- A list of calls, in order. Each gets the same bytes and the state that the call before handed back.
+unfoldable pub takenFrom : {S : Type 0} → Controller S → List ℕ → S → List Call → List Taken
+takenFrom controller b s [] = []
+takenFrom controller b s (c ∷ calls) =
+    let room = length (c .buffer) in
+    let outcome = controller .outcome b s (c .inputs) room in
+    let next = controller .next b s (c .inputs) room in
+    let shown = controller .buffer b s (c .inputs) (c .buffer) in
+    record { before = controller .seen s; inputs = c .inputs; room = room; outcome = outcome; after = controller .seen next; shown = shown }
+    ∷ takenFrom controller b next calls
+
+-- a refused call shows and registers nothing and isn't counted
 unfoldable pub ifStepped : Outcome → Taken → List Taken → List Taken
 ifStepped (Stepped wait) step later = step ∷ later
 ifStepped (Declined number place) step later = later
 
--- The accepted steps of a list of calls, in order. Each call gets the same bytes and the state that the call before handed back.
-unfoldable pub stepsFrom : List ℕ → State → List Call → List Taken
-stepsFrom b s [] = []
-stepsFrom b s (c ∷ calls) =
-    let answer = answerOf b s (c .inputs) (length (c .buffer)) in
-    let shown = bufferOf b s (c .inputs) (c .buffer) in
-    let step : Taken = record { before = s; inputs = c .inputs; after = answer .state; shown = shown } in
-    ifStepped (answer .outcome) step (stepsFrom b (answer .state) calls)
+-- the accepted steps of a list of calls
+unfoldable pub accepted : List Taken → List Taken
+accepted [] = []
+accepted (call ∷ later) = ifStepped (call .outcome) call (accepted later)
 
 -- ── Colours ──
 
@@ -96,11 +133,11 @@ VehicleCleared site g last since =
 -- A pedestrian group shows first flashing red for C1 + C2 steps in a row; only red follows.
 unfoldable pub PedestrianCleared : Site → ℕ → List Taken → Type 0
 PedestrianCleared site g since =
-    let times = walkTimes (site .times) (movementOf site g) in
+    let times = walkTimes (site .times) (movementOf (site .groups) g) in
     (n : ℕ) × (shownBy g since ≡ replicate (times .first + times .second) flashing ++ replicate n red)
 
 unfoldable pub Cleared : Site → ℕ → Taken → List Taken → Type 0
-Cleared site g last since = if isPedestrian site g then PedestrianCleared site g since else VehicleCleared site g last since
+Cleared site g last since = if isPedestrian (site .groups) g then PedestrianCleared site g since else VehicleCleared site g last since
 
 -- Group g starts a green at `start`, and the conflicting group j was green for the last time after `last`.
 unfoldable pub FullClearances : Site → List Taken → Type 0
@@ -152,26 +189,41 @@ unfoldable pub comesWithin : ℕ → (Taken → Bool) → Taken → List Taken �
 comesWithin n event step later = someStep event (step ∷ take n later)
 
 -- For each locked demand that a step registers its phase's minimum green, and for each button demand its walk, begins in that
--- step or within as many further steps as the wait bound says, if the list goes on so long.
-unfoldable pub DemandsMet : Site → List Taken → Type 0
-DemandsMet site steps =
+-- step or within so many further steps, if the list goes on so long.
+unfoldable pub DemandsMet : Site → ℕ → List Taken → Type 0
+DemandsMet site wait steps =
     (earlier later : List Taken) (step : Taken) →
     steps ≡ earlier ++ step ∷ later →
-    waitBound site ≤ length later →
-    ((p : ℕ) →
-    registersLocked site step p ≡ true →
-    comesWithin (waitBound site) (minimumGreenBegins p) step later ≡ true)
-    × ((k : ℕ) →
-    k < site .size .movements →
-    registersPressed step k ≡ true →
-    comesWithin (waitBound site) (walkBegins k) step later ≡ true)
+    wait ≤ length later →
+    ((p : ℕ) → registersLocked site step p ≡ true → comesWithin wait (minimumGreenBegins p) step later ≡ true)
+    × ((k : ℕ) → k < site .size .movements → registersPressed step k ≡ true → comesWithin wait (walkBegins k) step later ≡ true)
+
+-- ── Part d: no call is refused for the state that the calls before it left ──
+
+-- Each call is refused with 15 at 0 where an input bit is set without a detector or button there, else with 14 at 0 where its buffer is
+-- shorter than N; any other is accepted, and its answer has the wait bound.
+unfoldable pub NoDeadEnd : Site → List Taken → Type 0
+NoDeadEnd site calls =
+    (earlier later : List Taken) (call : Taken) →
+    calls ≡ earlier ++ call ∷ later →
+    call .outcome
+    ≡ boundFor (refuseIf (strayInput site (call .inputs)) 15 0 orElse refuseIf (ltb (call .room) (site .size .groups)) 14 0) site
 
 -- ── The demand ──
 
-pub record SafeRun (site : Site) (steps : List Taken) : Type 0 where
-  pub noConflictingGreens : NoConflictingGreens site steps
-  pub fullClearances : FullClearances site steps
-  pub demandsMet : DemandsMet site steps
+pub record SafeRun (site : Site) (calls : List Taken) : Type 0 where
+  pub noConflictingGreens : NoConflictingGreens site (accepted calls)
+  pub fullClearances : FullClearances site (accepted calls)
+  pub demandsMet : DemandsMet site (waitBound site) (accepted calls)
+  pub noDeadEnd : NoDeadEnd site calls
+
+-- every list of calls on every accepted personality, from the fresh state
+unfoldable pub DemandThreeOf : {S : Type 0} → Controller S → Type 0
+DemandThreeOf controller =
+    (b : List ℕ) →
+    controller .verdict b ≡ Accepted →
+    (calls : List Call) →
+    SafeRun (siteOf b) (takenFrom controller b (controller .fresh) calls)
 
 unfoldable pub DemandThree : Type 0
-DemandThree = (b : List ℕ) → verdictOf b ≡ Accepted → (calls : List Call) → SafeRun (siteOf b) (stepsFrom b fresh calls)
+DemandThree = DemandThreeOf ruled

@@ -66,11 +66,11 @@ siteOf b =
 
 -- ── What the other rules ask of a site ──
 
-unfoldable pub groupOf : Site → ℕ → Group
-groupOf site g = getD (site .groups) g noGroup
+unfoldable pub groupOf : List Group → ℕ → Group
+groupOf groups g = getD groups g noGroup
 
-unfoldable pub detectorOf : Site → ℕ → Detector
-detectorOf site d = getD (site .detectors) d noDetector
+unfoldable pub detectorOf : List Detector → ℕ → Detector
+detectorOf detectors d = getD detectors d noDetector
 
 unfoldable pub phaseTimes : Times → ℕ → PhaseTimes
 phaseTimes times p = getD (times .phases) p noPhaseTimes
@@ -79,19 +79,19 @@ unfoldable pub walkTimes : Times → ℕ → WalkTimes
 walkTimes times k = getD (times .walks) k noWalkTimes
 
 -- group g has phase p in its set
-unfoldable pub inPhase : Site → ℕ → ℕ → Bool
-inPhase site g p = bit p (groupOf site g .phases)
+unfoldable pub inPhase : List Group → ℕ → ℕ → Bool
+inPhase groups g p = bit p (groupOf groups g .phases)
 
 -- movement k is one of phase p
-unfoldable pub crosses : Site → ℕ → ℕ → Bool
-crosses site k p = bit p (getD (site .crossings) k 0)
+unfoldable pub crosses : List ℕ → ℕ → ℕ → Bool
+crosses crossings k p = bit p (getD crossings k 0)
 
-unfoldable pub isPedestrian : Site → ℕ → Bool
-isPedestrian site g = eqb (groupOf site g .mark) 2
+unfoldable pub isPedestrian : List Group → ℕ → Bool
+isPedestrian groups g = eqb (groupOf groups g .mark) 2
 
 -- the movement of a pedestrian group: as many as there are pedestrian groups before it
-unfoldable pub movementOf : Site → ℕ → ℕ
-movementOf site g = countOf (isPedestrian site) g
+unfoldable pub movementOf : List Group → ℕ → ℕ
+movementOf groups g = countOf (isPedestrian groups) g
 
 -- section 4 has the bits of the two groups set
 unfoldable pub conflict : Site → ℕ → ℕ → Bool

@@ -7,9 +7,9 @@ use lib.ListN.{getD, replicate}
 use Rattle.rules.specs.declared.site.Site.{Site}
 use Rattle.rules.specs.declared.state.Held.{Held}
 use Rattle.rules.specs.declared.state.Held.the-variants.{Nothing, Phase}
+use Rattle.rules.specs.declared.state.Interval.{Interval}
 use Rattle.rules.specs.declared.state.Interval.the-variants.{StartRed}
 use Rattle.rules.specs.declared.state.Movement.{Movement}
-use Rattle.rules.specs.declared.state.Position.{Position}
 use Rattle.rules.specs.declared.state.Stage.the-variants.{Idle}
 use Rattle.rules.specs.declared.state.State.{State}
 use Rattle.rules.specs.Rows.{allOf}
@@ -62,17 +62,25 @@ unfoldable pub every : List Bool → Bool
 every [] = true
 every (test ∷ tests) = test && every tests
 
--- One movement record: of another phase, or one that the site doesn't have, idle; none in walk or C1 in yellow and all-red;
--- idle in start red; idle ones at age 1.
-unfoldable pub movementValid : Site → Position → ℕ → Movement → Bool
-movementValid site position k m =
+-- demand i is of a phase or movement that exists, there being count of them
+unfoldable pub demandExists : List Bool → ℕ → ℕ → Bool
+demandExists demands count i = not (getD demands i false) || ltb i count
+
+-- One movement record, by whether it is a movement of the phase: any other, or one that the site doesn't have, idle; none in walk or
+-- C1 in yellow and all-red; idle in start red; idle ones at age 1.
+unfoldable pub movementValid : Bool → Interval → Movement → Bool
+movementValid ofPhase interval m =
     every
     (ageValid (m .age)
-    ∷ ((ltb k (site .size .movements) && crosses site k (position .phase)) || isIdle (m .stage))
-    ∷ not (isLeaving (position .interval) && isWalkOrFirst (m .stage))
-    ∷ (not (isStartRed (position .interval)) || isIdle (m .stage))
+    ∷ (ofPhase || isIdle (m .stage))
+    ∷ not (isLeaving interval && isWalkOrFirst (m .stage))
+    ∷ (not (isStartRed interval) || isIdle (m .stage))
     ∷ (not (isIdle (m .stage)) || eqb (m .age) 1)
     ∷ [])
+
+-- the site has movement k, and it is one of phase p
+unfoldable pub movementIn : Site → ℕ → ℕ → Bool
+movementIn site p k = ltb k (site .size .movements) && crosses (site .crossings) k p
 
 unfoldable pub valid : Site → State → Bool
 valid site s =
@@ -83,7 +91,7 @@ valid site s =
     ∷ ageValid (s .position .age)
     ∷ leb (s .counts .gap) (phaseTimes (site .times) (s .position .phase) .gap)
     ∷ leb (s .counts .maximum) (phaseTimes (site .times) (s .position .phase) .maximum)
-    ∷ allOf (λ p. not (locked s p) || ltb p (site .size .phases)) 7
-    ∷ allOf (λ k. not (asked s k) || ltb k (site .size .movements)) 8
-    ∷ allOf (λ k. movementValid site (s .position) k (movement s k)) 8
+    ∷ allOf (demandExists (s .demands .locks) (site .size .phases)) 7
+    ∷ allOf (demandExists (s .demands .buttons) (site .size .movements)) 8
+    ∷ allOf (λ k. movementValid (movementIn site (s .position .phase) k) (s .position .interval) (movement s k)) 8
     ∷ [])

@@ -31,7 +31,7 @@ stepped site s inputs =
     let ended = ends (old .interval) (site .times .start) times (old .age) another movements counts in
     let now = positionAfter ended (site .times) next old in
     -- 5. walks
-    let begun = begins site (starts ended old) another now (demands .buttons) movements in
+    let begun = begins (site .crossings) (starts ended old) another now (demands .buttons) movements in
     record {
       position = now;
       counts = countsChanged ended (site .times) old now counts;

@@ -1,27 +1,36 @@
 -- The wait bound: start red plus, summed over phases, L + M + X + 2 × (A + Y + R + C).
 use Prim.Native.Nat.{ℕ, _+_, _*_}
-use mathlib.Core.Bool.{Bool}
+use mathlib.Core.List.{List}
+use lib.ListN.{getD}
 use Rattle.rules.specs.declared.site.PhaseTimes.{PhaseTimes}
 use Rattle.rules.specs.declared.site.Site.{Site}
+use Rattle.rules.specs.declared.site.Size.{Size}
+use Rattle.rules.specs.declared.site.Times.{Times}
+use Rattle.rules.specs.declared.site.WalkTimes.{WalkTimes}
 use Rattle.rules.specs.Rows.{if_then_else_, sumOf, greatestOf}
-use Rattle.rules.specs.Site.{phaseTimes, walkTimes, crosses}
+use Rattle.rules.specs.Site.{noWalkTimes, phaseTimes, crosses}
 
--- A: the greatest W + C1 among the phase's movements, 0 without movements
-unfoldable pub longestWalk : Site → ℕ → ℕ
-longestWalk site p =
-    greatestOf (λ k. if crosses site k p then walkTimes (site .times) k .walk + walkTimes (site .times) k .first else 0) (site .size .movements)
+-- a phase's share, by its times and its A and C
+unfoldable pub phaseShare : PhaseTimes → ℕ → ℕ → ℕ
+phaseShare times a c = times .late + times .minimum + times .maximum + 2 * (a + times .yellow + times .red + c)
 
--- C: the greatest C2 among the phase's movements, 0 without movements
-unfoldable pub longestClearance : Site → ℕ → ℕ
-longestClearance site p = greatestOf (λ k. if crosses site k p then walkTimes (site .times) k .second else 0) (site .size .movements)
+-- Among the first n movements, by the phase set and the times of each.
+module _ (crossings : List ℕ) (walks : List WalkTimes) (n : ℕ) where
+  -- A: the greatest W + C1 among the phase's movements, 0 without movements
+  unfoldable pub longestWalk : ℕ → ℕ
+  longestWalk p =
+      greatestOf (λ k. if crosses crossings k p then getD walks k noWalkTimes .walk + getD walks k noWalkTimes .first else 0) n
 
-unfoldable pub phaseShare : Site → ℕ → ℕ
-phaseShare site p =
-    let times = phaseTimes (site .times) p in
-    times .late
-    + times .minimum
-    + times .maximum
-    + 2 * (longestWalk site p + times .yellow + times .red + longestClearance site p)
+  -- C: the greatest C2 among the phase's movements, 0 without movements
+  unfoldable pub longestClearance : ℕ → ℕ
+  longestClearance p = greatestOf (λ k. if crosses crossings k p then getD walks k noWalkTimes .second else 0) n
 
-unfoldable pub waitBound : Site → ℕ
-waitBound site = site .times .start + sumOf (phaseShare site) (site .size .phases)
+-- of a site it needs the counts, the times and the phase set of each movement
+unfoldable pub waitBoundBy : Size → Times → List ℕ → ℕ
+waitBoundBy size times crossings =
+    let a = longestWalk crossings (times .walks) (size .movements) in
+    let c = longestClearance crossings (times .walks) (size .movements) in
+    times .start + sumOf (λ p. phaseShare (phaseTimes times p) (a p) (c p)) (size .phases)
+
+abbrev pub waitBound : Site → ℕ
+waitBound site = waitBoundBy (site .size) (site .times) (site .crossings)

@@ -3,7 +3,6 @@ use Prim.Native.Nat.{ℕ}
 use mathlib.Core.Bool.{Bool, false, not, _&&_, _||_}
 use mathlib.Core.List.{List}
 use lib.ListN.{getD}
-use Rattle.rules.specs.declared.site.Site.{Site}
 use Rattle.rules.specs.declared.state.Demands.{Demands}
 use Rattle.rules.specs.declared.state.Movement.{Movement}
 use Rattle.rules.specs.declared.state.Position.{Position}
@@ -15,10 +14,10 @@ use Rattle.rules.specs.State.{idle}
 
 -- When a phase starts, its demanded movements begin walk. When the interval is now running and no other phase is demanded, idle
 -- demanded movements of the phase begin walk.
-unfoldable pub begins : Site → Bool → Bool → Position → List Bool → List Movement → ℕ → Bool
-begins site started another now buttons movements k =
+unfoldable pub begins : List ℕ → Bool → Bool → Position → List Bool → List Movement → ℕ → Bool
+begins crossings started another now buttons movements k =
     getD buttons k false
-    && crosses site k (now .phase)
+    && crosses crossings k (now .phase)
     && (started || (isRunning (now .interval) && not another && isIdle (getD movements k idle .stage)))
 
 -- beginning sets the age to 1

@@ -11,7 +11,7 @@ use lib.ListN.{length, getD}
 use borrow.Author.Tests.{ltb-true, le-leb}
 use Rattle.rules.specs.Rows.{allOf}
 use Rattle.rules.proofs.Tests.{decided, and-both, and-false-right}
-use Rattle.step_checks.specs.Parts.{demandExists}
+use Rattle.rules.specs.State.{demandExists}
 
 -- the first i demands are passed, and last is the last one set among them, or 0
 pub record Passed (demands : List Bool) (count last i : ℕ) : Type 0 where

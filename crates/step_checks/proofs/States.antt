@@ -10,8 +10,8 @@ use Rattle.rules.specs.declared.state.State.{State}
 use Rattle.rules.specs.Intervals.{isLeaving, isStartRed}
 use Rattle.rules.specs.Rows.{allOf}
 use Rattle.rules.specs.Site.{phaseTimes, crosses}
-use Rattle.rules.specs.State.{locked, asked, movement, targetValid, cameValid, ageValid, every, movementValid, valid}
-use Rattle.step_checks.specs.Parts.{positionValid, countsValid, demandExists, recordValid, recordAt}
+use Rattle.rules.specs.State.{locked, asked, movement, targetValid, cameValid, ageValid, every, demandExists, movementValid, movementIn, valid}
+use Rattle.step_checks.specs.Parts.{positionValid, countsValid, recordValid, recordAt}
 use Rattle.step_checks.proofs.Records.{joined-every}
 
 -- the tests as the code groups them
@@ -44,7 +44,7 @@ module _ (site : Site) (s : State) where
       && allOf (demandExists (s .demands .buttons) (site .size .movements)) 8
       && allOf (recordOf site s) 8)
       ≡ valid site s
-  unfolding valid positionValid countsValid demandExists recordAt recordValid movementValid crosses movement locked asked
+  unfolding valid positionValid countsValid demandExists recordAt recordValid movementValid movementIn crosses movement locked asked
   valid-of-parts h =
       let count = site .size .phases in
       let position = s .position in

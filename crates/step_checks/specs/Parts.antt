@@ -24,10 +24,6 @@ positionValid count position =
 unfoldable pub countsValid : PhaseTimes → Counts → Bool
 countsValid times counts = leb (counts .gap) (times .gap) && leb (counts .maximum) (times .maximum)
 
--- demand i of a row is of a phase or movement that exists, there being count of them
-unfoldable pub demandExists : List Bool → ℕ → ℕ → Bool
-demandExists demands count i = not (getD demands i false) || ltb i count
-
 -- of the phase or not, in yellow or all-red or not, in start red or not
 unfoldable pub recordValid : Bool → Bool → Bool → Movement → Bool
 recordValid ofPhase leaving startRed m =

@@ -9,7 +9,7 @@ use Rattle.rules.specs.declared.state.State.{State}
 use Rattle.rules.specs.Rows.{listOf}
 use Rattle.rules.specs.Site.{groupOf, inPhase, isPedestrian, movementOf}
 use Rattle.rules.specs.State.{movement}
-use Rattle.rules.specs.Colours.{colourOf, coloursOf}
+use Rattle.rules.specs.Colours.{vehicleShown, colourOf, coloursOf}
 use Rattle.step_colours.specs.Parts.{pedestrianAt, movementAt, shownAt, Within}
 use Rattle.step_colours.specs.Sized.{Sized}
 
@@ -17,7 +17,7 @@ pub parts-shown :
     (site : Site) (s : State) (old : List ℕ) {buffer : List ℕ} →
     buffer ≡ listOf (shownAt (site .groups) (s .position) (s .movements)) (site .size .groups) ++ drop (site .size .groups) old →
     buffer ≡ coloursOf site s ++ drop (site .size .groups) old
-unfolding coloursOf colourOf isPedestrian movementOf movement inPhase groupOf shownAt pedestrianAt movementAt
+unfolding coloursOf colourOf vehicleShown isPedestrian movementOf movement inPhase groupOf shownAt pedestrianAt movementAt
 parts-shown site s old e = e
 
 pub parts-within : (site : Site) (room : ℕ) → Sized site room → Within (site .groups) (site .size .groups) room

@@ -8,5 +8,5 @@ use Rattle.rules.specs.Site.{isPedestrian, movementOf}
 
 pub record Sized (site : Site) (room : ℕ) : Type 0 where
   pub groups : site .size .groups ≤ 32
-  pub movement : (g : ℕ) → g < site .size .groups → isPedestrian site g ≡ true → movementOf site g < 8
+  pub movement : (g : ℕ) → g < site .size .groups → isPedestrian (site .groups) g ≡ true → movementOf (site .groups) g < 8
   pub fits : site .size .groups ≤ room

@@ -2,4 +2,3 @@ pub mod Packed
 pub mod Greatest
 pub mod Passes
 pub mod Sums
-pub mod Parts

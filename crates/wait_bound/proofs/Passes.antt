@@ -4,10 +4,10 @@ use Prim.Native.Nat.{ℕ, _+_, _-_, _*_, _/_, _%_, _^_, _≤_, _<_, max}
 use mathlib.Core.Bool.{Bool, true, false, not, _&&_, and-true}
 use mathlib.Core.List.{List}
 use mathlib.Core.Logic.{⊎-elim}
-use mathlib.Core.Path.{_≡_, refl, sym, ap, subst, _∙_}
+use mathlib.Core.Path.{_≡_, refl, sym, ap, _∙_}
 use native.Mathlib.Nat.{lt-of-le-of-lt}
 use native.Mathlib.Omega.{arith}
-use borrow.Author.Tests.{eqb-true, eqb-false, lt-ltb, le-ltb}
+use borrow.Author.Tests.{eqb-true, eqb-false, ltb-true, lt-ltb, le-ltb}
 use lib.Bits.{bitAnd, and-le-r}
 use lib.Count.{trailingZeros}
 use lib.Dec.{eqb, ltb}
@@ -16,10 +16,10 @@ use lib.Seq.{getD-set-same, getD-set-other}
 use Rattle.rules.specs.declared.site.WalkTimes.{WalkTimes}
 use Rattle.rules.specs.Bytes.{bit}
 use Rattle.rules.specs.Rows.{if_then_else_, greatestOf}
-use Rattle.rules.specs.Site.{noWalkTimes}
+use Rattle.rules.specs.Site.{noWalkTimes, crosses}
+use Rattle.rules.specs.WaitBound.{longestWalk, longestClearance}
 use Rattle.rules.proofs.Bits.{bit-blank, bit-below}
 use Rattle.rules.proofs.Tests.{decided, and-left}
-use Rattle.wait_bound.specs.Shares.{highest, walkIn, clearanceIn, LongestIn}
 use Rattle.wait_bound.proofs.Greatest.{greatest-same, greatest-none, greatest-with, greatest-past}
 use Rattle.base_reads.proofs.Lowest.{lowest-in, others-in, lowest-gone, others-same}
 
@@ -87,80 +87,52 @@ counts-all all n p b row few told =
 -- ── One entry for each phase ──
 
 -- the entry of a phase is the greatest of what counts for it
-pub record Row (place : ℕ → ℕ) (row : ℕ → ℕ) (most all rest : ℕ) (out : List ℕ) : Type 0 where
-  pub told : (p : ℕ) → p < 8 → getD out (place p) 0 ≡ greatestOf (counts all rest p row) 8
-  pub fits : (p : ℕ) → p < 8 → getD out (place p) 0 ≤ most
+abbrev Row : (place : ℕ → ℕ) (row : ℕ → ℕ) (all rest : ℕ) (out : List ℕ) → Type 0
+Row place row all rest out = (p : ℕ) → p < 8 → getD out (place p) 0 ≡ greatestOf (counts all rest p row) 8
 
-zeros-at : (i : ℕ) → i < 16 → getD (replicate {A = ℕ} 16 0) i 0 ≡ 0
-zeros-at i l = getD-replicate 16 i 0 0 l
-
-module _ (place : ℕ → ℕ) (row : ℕ → ℕ) (most all : ℕ) where
-  row-none : ((p : ℕ) → p < 8 → place p < 16) → Row place row most all all (replicate 16 0)
-  row-none inside =
-      record {
-        told = λ p l. zeros-at (place p) (inside p l) ∙ counts-none all p row;
-        fits = λ p l. omega (arith, zeros-at (place p) (inside p l));
-      }
+module _ (place : ℕ → ℕ) (row : ℕ → ℕ) (all : ℕ) where
+  row-none : ((p : ℕ) → p < 8 → place p < 16) → Row place row all all (replicate 16 0)
+  row-none inside p l = getD-replicate 16 (place p) 0 0 (inside p l) ∙ counts-none all p row
 
   -- the entry of one phase is raised, those of the others stay
   module _ (rest : ℕ) (some : 0 < rest) (room : rest < 2 ^ 64) (left : (i : ℕ) → bit i rest ≡ true → bit i all ≡ true) where
     abbrev raised : ℕ
     raised = trailingZeros 64 rest % 8
 
-    abbrev own : ℕ
-    own = row (trailingZeros 64 rest / 8)
-
     row-more :
         (out out′ : List ℕ) →
-        Row place row most all rest out →
-        own ≤ most →
-        getD out′ (place raised) 0 ≡ max (getD out (place raised) 0) own →
+        Row place row all rest out →
+        getD out′ (place raised) 0 ≡ max (getD out (place raised) 0) (row (trailingZeros 64 rest / 8)) →
         ((p : ℕ) → p < 8 → (p ≡ raised → ⊥) → getD out′ (place p) 0 ≡ getD out (place p) 0) →
-        Row place row most all (bitAnd rest (rest - 1)) out′
-    row-more out out′ before few new kept =
-        record {
-          told =
-              λ p l.
-              either p (λ n. n ≡ greatestOf (counts all (bitAnd rest (rest - 1)) p row) 8) l
-              (λ same.
-              rw same (ap (λ (n : ℕ). max n own) (before .told raised inside) ∙ counts-own all rest some room left row))
-              (λ apart. before .told p l ∙ counts-other all rest some room left p row l apart);
-          fits = λ p l. either p (λ n. n ≤ most) l (λ same. omega (arith, few, before .fits raised inside)) (λ apart. before .fits p l);
-        }
-      where
-        inside : raised < 8
-        inside = omega arith
-
-        either :
-            (p : ℕ) (P : ℕ → Type 0) →
-            p < 8 →
-            (p ≡ raised → P (max (getD out (place raised) 0) own)) →
-            ((p ≡ raised → ⊥) → P (getD out (place p) 0)) →
-            P (getD out′ (place p) 0)
-        either p P l this other =
-            ⊎-elim
-            (λ (t : eqb p raised ≡ true).
-            let same = eqb-true p raised t in
-            subst P (sym (ap (λ (i : ℕ). getD out′ (place i) 0) same ∙ new)) (this same))
-            (λ (t : eqb p raised ≡ false). let apart = eqb-false p raised t in subst P (sym (kept p l apart)) (other apart))
-            (decided (eqb p raised))
+        Row place row all (bitAnd rest (rest - 1)) out′
+    row-more out out′ before new kept p l =
+        ⊎-elim
+        (λ (t : eqb p raised ≡ true).
+        rw (eqb-true p raised t)
+        (new
+        ∙ ap (λ (n : ℕ). max n (row (trailingZeros 64 rest / 8))) (before raised (omega arith))
+        ∙ counts-own all rest some room left row))
+        (λ (t : eqb p raised ≡ false).
+        let apart = eqb-false p raised t in
+        kept p l apart ∙ before p l ∙ counts-other all rest some room left p row l apart)
+        (decided (eqb p raised))
 
 -- ── A and C ──
 
-module _ (times : List WalkTimes) where
+module _ (walks : List WalkTimes) where
   abbrev walkOf : ℕ → ℕ
-  walkOf k = getD times k noWalkTimes .walk + getD times k noWalkTimes .first
+  walkOf k = getD walks k noWalkTimes .walk + getD walks k noWalkTimes .first
 
   abbrev clearanceOf : ℕ → ℕ
-  clearanceOf k = getD times k noWalkTimes .second
+  clearanceOf k = getD walks k noWalkTimes .second
 
   -- the rest are bits of the whole, and A and C of each phase are those of the movements that are passed
   pub record Passed (all rest : ℕ) (out : List ℕ) : Type 0 where
     pub within : rest < 2 ^ 64
     pub left : (i : ℕ) → bit i rest ≡ true → bit i all ≡ true
     pub room : length out ≡ 16
-    pub walk : Row (λ p. p) walkOf (2 * highest) all rest out
-    pub clearance : Row (λ p. 8 + p) clearanceOf highest all rest out
+    pub walk : Row (λ p. p) walkOf all rest out
+    pub clearance : Row (λ p. 8 + p) clearanceOf all rest out
 
   pub passed-none : (all : ℕ) → all < 2 ^ 64 → Passed all all (replicate 16 0)
   passed-none all within =
@@ -168,8 +140,8 @@ module _ (times : List WalkTimes) where
         within = within;
         left = λ i e. e;
         room = refl;
-        walk = row-none (λ p. p) walkOf (2 * highest) all (λ p l. omega arith);
-        clearance = row-none (λ p. 8 + p) clearanceOf highest all (λ p l. omega arith);
+        walk = row-none (λ p. p) walkOf all (λ p l. omega arith);
+        clearance = row-none (λ p. 8 + p) clearanceOf all (λ p l. omega arith);
       }
 
   module _ {all rest : ℕ} {out : List ℕ} (passed : Passed all rest out) (some : 0 < rest) where
@@ -186,10 +158,8 @@ module _ (times : List WalkTimes) where
         {a c : ℕ} →
         a ≡ max (getD out p 0) (walkOf k) →
         c ≡ max (getD out (8 + p) 0) (clearanceOf k) →
-        walkOf k ≤ 2 * highest →
-        clearanceOf k ≤ highest →
         Passed all (bitAnd rest (rest - 1)) (set (set out p a) (8 + p) c)
-    passed-more {a} {c} walk clearance walkFits clearanceFits =
+    passed-more {a} {c} walk clearance =
         let first = set out p a in
         let both = set first (8 + p) c in
         let long : length first ≡ 16 = length-set out p a ∙ passed .room in
@@ -200,37 +170,50 @@ module _ (times : List WalkTimes) where
               passed .left i (and-left (bit i rest) (not (eqb i (trailingZeros 64 rest))) (sym (others-in rest some (passed .within) i) ∙ e));
           room = length-set first (8 + p) c ∙ long;
           walk =
-              row-more (λ q. q) walkOf (2 * highest) all rest some (passed .within) (passed .left) out both (passed .walk) walkFits
+              row-more (λ q. q) walkOf all rest some (passed .within) (passed .left) out both (passed .walk)
               (getD-set-other first (8 + p) p c 0 (λ e. omega (arith, e)) ∙ getD-set-same out p a 0 (omega (arith, passed .room)) ∙ walk)
               (λ q l apart. getD-set-other first (8 + p) q c 0 (λ e. omega (arith, e)) ∙ getD-set-other out p q a 0 apart);
           clearance =
-              row-more (λ q. 8 + q) clearanceOf highest all rest some (passed .within) (passed .left) out both (passed .clearance) clearanceFits
+              row-more (λ q. 8 + q) clearanceOf all rest some (passed .within) (passed .left) out both (passed .clearance)
               (getD-set-same first (8 + p) c 0 (omega (arith, long)) ∙ clearance)
               (λ q l apart.
               getD-set-other first (8 + p) (8 + q) c 0 (λ e. apart (omega (arith, e)))
               ∙ getD-set-other out p (8 + q) a 0 (λ e. omega (arith, e)));
         }
 
-  pub passed-all :
-      (sets : List ℕ) {all rest n : ℕ} {out : List ℕ} →
-      Passed all rest out →
-      rest ≡ 0 →
-      n ≤ 8 →
-      ((k p : ℕ) → k < 8 → p < 8 → bit (8 * k + p) all ≡ (ltb k n && bit p (getD sets k 0))) →
-      (p : ℕ) →
-      p < 8 →
-      LongestIn p sets times n (getD out p 0) (getD out (8 + p) 0)
-  unfolding walkIn clearanceIn
-  passed-all sets {all} {rest} {n} passed e few told p l =
-      record {
-        walk =
-            passed .walk .told p l
-            ∙ ap (λ (r : ℕ). greatestOf (counts all r p walkOf) 8) e
-            ∙ counts-all all n p (λ k. bit p (getD sets k 0)) walkOf few (λ k m. told k p m l);
-        clearance =
-            passed .clearance .told p l
-            ∙ ap (λ (r : ℕ). greatestOf (counts all r p clearanceOf) 8) e
-            ∙ counts-all all n p (λ k. bit p (getD sets k 0)) clearanceOf few (λ k m. told k p m l);
-        walkMost = passed .walk .fits p l;
-        clearanceMost = passed .clearance .fits p l;
-      }
+  -- bit 8 * k + p of the whole is set where movement k, one of the first n, is of phase p
+  module _
+      (crossings : List ℕ)
+      (n : ℕ)
+      {all rest : ℕ}
+      {out : List ℕ}
+      (passed : Passed all rest out)
+      (told : (k p : ℕ) → k < 8 → p < 8 → bit (8 * k + p) all ≡ (ltb k n && bit p (getD crossings k 0)))
+    where
+      -- the movement of the lowest bit of the rest is one of them
+      pub movement-below : 0 < rest → trailingZeros 64 rest / 8 < n
+      movement-below some =
+          let at = trailingZeros 64 rest in
+          let parts : 8 * (at / 8) + at % 8 ≡ at = omega arith in
+          let set = passed .left at (lowest-in rest some (passed .within)) in
+          let inside = at-within passed some in
+          ltb-true (at / 8) n
+          (and-left (ltb (at / 8) n) (bit (at % 8) (getD crossings (at / 8) 0))
+          (sym (told (at / 8) (at % 8) (omega arith) (omega arith)) ∙ ap (λ (i : ℕ). bit i all) parts ∙ set))
+
+      -- no bit is left
+      module _ (none : rest ≡ 0) (few : n ≤ 8) where
+        whole :
+            (place row : ℕ → ℕ) (q : ℕ) →
+            Row place row all rest out →
+            q < 8 →
+            getD out (place q) 0 ≡ greatestOf (λ k. if bit q (getD crossings k 0) then row k else 0) n
+        whole place row q entry l =
+            entry q l
+            ∙ ap (λ (r : ℕ). greatestOf (counts all r q row) 8) none
+            ∙ counts-all all n q (λ k. bit q (getD crossings k 0)) row few (λ k m. told k q m l)
+
+        pub passed-all :
+            (q : ℕ) → q < 8 → (getD out q 0 ≡ longestWalk crossings walks n q) × (getD out (8 + q) 0 ≡ longestClearance crossings walks n q)
+        unfolding longestWalk longestClearance crosses
+        passed-all q l = (whole (λ i. i) walkOf q (passed .walk) l, whole (λ i. 8 + i) clearanceOf q (passed .clearance) l)

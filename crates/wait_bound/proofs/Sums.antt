@@ -1,80 +1,75 @@
--- The shares of the phases passed, added up, and one phase more: its share is that of its times and of its A and C. A share
--- counts thirteen settings at most, each a number of two bytes, so seven shares and start red are below 2 ^ 32.
-use Prim.Native.Nat.{ℕ, _+_, _*_, _≤_, _<_}
+-- Start red and the shares of all phases are the bound, and no sum on the way is more than the bound: so each is at most the greatest wait
+-- that the table of limits admits, a number of two bytes.
+use Prim.Native.Nat.{ℕ, zero, suc, _+_, _≤_, _<_}
 use mathlib.Core.List.{List}
+use mathlib.Core.Logic.{⊎-elim}
 use mathlib.Core.Path.{_≡_, refl, ap, _∙_}
-use native.Mathlib.Nat.{le-of-eq}
-use native.Mathlib.Numerals.{add-one}
+use native.Mathlib.Nat.{le-trans, eq-or-lt-of-le}
 use native.Mathlib.Omega.{arith}
 use lib.ListN.{getD}
 use Rattle.rules.specs.declared.site.PhaseTimes.{PhaseTimes}
-use Rattle.rules.specs.declared.site.Site.{Site}
+use Rattle.rules.specs.declared.site.Size.{Size}
+use Rattle.rules.specs.declared.site.Times.{Times}
+use Rattle.rules.specs.Limits.{limits}
 use Rattle.rules.specs.Rows.{sumOf}
-use Rattle.rules.specs.Site.{noPhaseTimes, phaseTimes, walkTimes, crosses}
-use Rattle.rules.specs.WaitBound.{longestWalk, longestClearance, phaseShare, waitBound}
-use Rattle.rules.proofs.Rows.{sum-most}
-use Rattle.wait_bound.specs.Shares.{highest, walkIn, clearanceIn, LongestIn, shareOf}
+use Rattle.rules.specs.Site.{noPhaseTimes, phaseTimes}
+use Rattle.rules.specs.WaitBound.{phaseShare, longestWalk, longestClearance, waitBoundBy}
+use Rattle.rules.specs.Laws.{SoundTimes}
+use Rattle.rules.proofs.Settings.{table-is-usable, wait-two-bytes}
+use Rattle.proof_acceptance.proofs.WaitBound.{wait-within}
 
--- ── The shares passed ──
+-- ── Sums ──
 
-module _ (times : List PhaseTimes) (longest : List ℕ) where
-  -- the share of phase p, whose A and C stand at p and 8 + p
-  abbrev pub shareAt : ℕ → ℕ
-  shareAt p = shareOf (getD times p noPhaseTimes) (getD longest p 0) (getD longest (8 + p) 0)
+sum-same : (f g : ℕ → ℕ) (n : ℕ) → ((i : ℕ) → i < n → f i ≡ g i) → sumOf f n ≡ sumOf g n
+unfolding sumOf
+sum-same f g zero h = refl
+sum-same f g (suc n) h = omega (arith, sum-same f g n (λ i l. h i (omega arith)), h n (omega arith))
 
-  pub record Summed (phases sum p : ℕ) : Type 0 where
-    pub within : p ≤ phases
-    pub shares : sum ≡ sumOf shareAt p
-    pub most : sum ≤ 13 * highest * p
+-- a sum goes on to grow
+sum-part : (f : ℕ → ℕ) (i n : ℕ) → i < n → sumOf f i + f i ≤ sumOf f n
+unfolding sumOf
+sum-part f i zero l = omega arith
+sum-part f i (suc n) l =
+    ⊎-elim
+    (λ (e : suc i ≡ suc n). let same : i ≡ n = omega arith in rw same (omega arith))
+    (λ (m : suc i < suc n). omega (arith, sum-part f i n (omega arith)))
+    (eq-or-lt-of-le l)
 
-  pub summed-none : (phases : ℕ) → Summed phases 0 0
-  unfolding sumOf
-  summed-none phases = record { within = omega arith; shares = refl; most = omega arith }
+-- ── The shares ──
 
-  pub summed-more :
-      {phases sum p r : ℕ} →
-      Summed phases sum p →
-      p < phases →
-      (r ≡ shareAt p) × (r ≤ 13 * highest) →
-      Summed phases (sum + r) (p + 1)
-  unfolding sumOf
-  summed-more {phases} {sum} {p} {r} h l e =
-      rw add-one
-      (record {
-        within = l;
-        shares = ap (λ (n : ℕ). n + r) (h .shares) ∙ ap (λ (n : ℕ). sumOf shareAt p + n) (e .0);
-        most = omega arith;
-      })
+-- the share of phase p, whose A and C stand at p and 8 + p
+abbrev pub shareAt : List PhaseTimes → List ℕ → ℕ → ℕ
+shareAt owns longest p = phaseShare (getD owns p noPhaseTimes) (getD longest p 0) (getD longest (8 + p) 0)
 
--- ── All shares ──
+pub bound-fits :
+    (size : Size) (times : Times) (crossings : List ℕ) →
+    size .phases ≤ 7 →
+    SoundTimes limits size times →
+    waitBoundBy size times crossings ≤ 65535
+bound-fits size times crossings few sound =
+    le-trans (wait-within limits size times crossings sound few) (wait-two-bytes limits table-is-usable)
 
-sums-same : (f g : ℕ → ℕ) (n : ℕ) → ((i : ℕ) → i < n → f i ≡ g i) → sumOf f n ≡ sumOf g n
-sums-same f g n same =
-    omega (
-      arith,
-      sum-most f g n (λ i l. omega (arith, same i l)),
-      sum-most g f n (λ i l. omega (arith, same i l)),
-    )
+module _
+    (size : Size)
+    (times : Times)
+    (crossings longest : List ℕ)
+    (few : size .phases ≤ 7)
+    (each : (p : ℕ) → p < 8 → (getD longest p 0 ≡ longestWalk crossings (times .walks) (size .movements) p) × (getD longest (8 + p) 0 ≡ longestClearance crossings (times .walks) (size .movements) p))
+  where
+    abbrev shares : ℕ → ℕ
+    shares = shareAt (times .phases) longest
 
-share-of-phase :
-    (site : Site) (p a c : ℕ) →
-    LongestIn p (site .crossings) (site .times .walks) (site .size .movements) a c →
-    shareOf (phaseTimes (site .times) p) a c ≡ phaseShare site p
-unfolding phaseShare shareOf longestWalk longestClearance crosses walkTimes walkIn clearanceIn
-share-of-phase site p a c h = rw (h .walk, h .clearance)
+    pub all-shares : (p : ℕ) → p ≡ size .phases → times .start + sumOf shares p ≡ waitBoundBy size times crossings
+    unfolding waitBoundBy phaseTimes
+    all-shares p e =
+        ap (λ (n : ℕ). times .start + n)
+        (ap (sumOf shares) e ∙ sum-same shares _ (size .phases) (λ p l. let own = each p (omega arith) in rw (own .0, own .1)))
 
-pub summed-all :
-    (site : Site) (longest : List ℕ) {sum p : ℕ} →
-    ((q : ℕ) → q < 8 → LongestIn q (site .crossings) (site .times .walks) (site .size .movements) (getD longest q 0) (getD longest (8 + q) 0)) →
-    site .size .phases ≤ 7 →
-    Summed (site .times .phases) longest (site .size .phases) sum p →
-    site .size .phases ≤ p →
-    site .times .start + sum ≡ waitBound site
-unfolding waitBound phaseTimes
-summed-all site longest {sum} {p} each room h l =
-    let e : p ≡ site .size .phases = omega (arith, h .within) in
-    ap (λ (n : ℕ). site .times .start + n)
-    (h .shares
-    ∙ ap (sumOf (shareAt (site .times .phases) longest)) e
-    ∙ sums-same (shareAt (site .times .phases) longest) (phaseShare site) (site .size .phases)
-    (λ q m. share-of-phase site q (getD longest q 0) (getD longest (8 + q) 0) (each q (omega arith))))
+    pub shares-fit : SoundTimes limits size times → (p : ℕ) → p < size .phases → times .start + sumOf shares p + shares p ≤ 65535
+    shares-fit sound p l =
+        omega (
+          arith,
+          sum-part shares p (size .phases) l,
+          all-shares (size .phases) refl,
+          bound-fits size times crossings few sound,
+        )

@@ -1,19 +1,22 @@
 // The wait bound of a site: start red plus, summed over phases, L + M + X + 2 × (A + Y + R + C), in steps. A is the greatest W + C1 among
-// the phase's movements and C the greatest C2, both 0 without movements.
+// the phase's movements and C the greatest C2, both 0 without movements. Every time is in the table of limits, and the greatest wait that
+// the table admits is a number of two bytes: so is every sum here.
 ghost use Prim.Native.Nat.{ℕ, _+_, _*_, _≤_, _<_, max};
 ghost use mathlib.Core.Bool.{_&&_};
 ghost use mathlib.Core.Path.{_≡_};
 ghost use lib.Dec.{ltb};
 ghost use lib.ListN.{getD};
 ghost use Rattle.rules.specs.Bytes.{bit};
-ghost use Rattle.rules.specs.WaitBound.{waitBound};
-ghost use Rattle.wait_bound.specs.Shares.{highest, LongestIn, shareOf, siteWith, Counted};
+ghost use Rattle.rules.specs.Limits.{limits};
+ghost use Rattle.rules.specs.WaitBound.{phaseShare, longestWalk, longestClearance, waitBoundBy};
+ghost use Rattle.rules.specs.Laws.{SoundWalkTimes, SoundTimes};
+ghost use Rattle.rules.specs.Site.{noWalkTimes};
 use rules::site::PhaseTimes;
 use rules::site::Size;
 use rules::site::Times;
 use rules::site::WalkTimes;
 
-fn greater(a: u32, b: u32) -> u32
+fn greater(a: u16, b: u16) -> u16
     ensures { λ r. ⌜ r ≡ max a b ⌝ }
 {
     if a < b { b } else { a }
@@ -39,20 +42,20 @@ fn sets_of(crossings: [u8; 8], count: u8) -> u64
     all
 }
 
-// A and C of each phase among the first count movements, whose sets and times are given: A of phase p at p, C at 8 + p. Each turn takes
-// the lowest bit that is left, so a movement has a turn for each of its phases.
-fn longest_of(crossings: [u8; 8], times: [WalkTimes; 8], count: u8) -> [u32; 16]
-    requires { ⌜ count ≤ 8 ⌝ }
-    ensures { λ r. ⌜ ((p : ℕ) → p < 8 → LongestIn p crossings times count (getD r p 0) (getD r (8 + p) 0)) ⌝ }
+// A and C of each phase among the first count movements: A of phase p at p, C at 8 + p. Each turn takes the lowest bit that is left, so a
+// movement has a turn for each of its phases.
+fn longest_of(crossings: [u8; 8], walks: [WalkTimes; 8], count: u8) -> [u16; 16]
+    requires { ⌜ (count ≤ 8) × ((k : ℕ) → k < count → SoundWalkTimes limits (getD walks k noWalkTimes)) ⌝ }
+    ensures { λ r. ⌜ ((p : ℕ) → p < 8 → (getD r p 0 ≡ longestWalk crossings walks count p) × (getD r (8 + p) 0 ≡ longestClearance crossings walks count p)) ⌝ }
 {
-    let mut longest = [0u32; 16];
+    let mut longest = [0u16; 16];
     let mut rest = sets_of(crossings, count);
     while rest != 0 {
         let i = u64::trailing_zeros(rest) as usize;
-        let own = times[i / 8];
+        let own = walks[i / 8];
         let p = i % 8;
-        let walk = greater(longest[p], (own.walk as u32) + (own.first as u32));
-        let clearance = greater(longest[8 + p], own.second as u32);
+        let walk = greater(longest[p], own.walk + own.first);
+        let clearance = greater(longest[8 + p], own.second);
         longest[p] = walk;
         longest[8 + p] = clearance;
         rest = rest & (rest - 1);
@@ -61,30 +64,28 @@ fn longest_of(crossings: [u8; 8], times: [WalkTimes; 8], count: u8) -> [u32; 16]
 }
 
 // The share of a phase whose A and C are given.
-fn share(times: PhaseTimes, walk: u32, clearance: u32) -> u32
-    requires { ⌜ (walk ≤ 2 * highest) × (clearance ≤ highest) ⌝ }
-    ensures { λ r. ⌜ (r ≡ shareOf times walk clearance) × (r ≤ 13 * highest) ⌝ }
+fn share(times: PhaseTimes, walk: u16, clearance: u16) -> u16
+    requires { ⌜ phaseShare times walk clearance ≤ 65535 ⌝ }
+    ensures { λ r. ⌜ r ≡ phaseShare times walk clearance ⌝ }
 {
-    let held = walk + (times.yellow as u32) + (times.red as u32) + clearance;
-    (times.late as u32) + (times.minimum as u32) + (times.maximum as u32) + 2 * held
+    times.late + times.minimum + times.maximum + 2 * (walk + times.yellow + times.red + clearance)
 }
 
 // The bound of a site, by the three parts of it that it goes by.
 pub fn wait_bound_of(size: Size, times: Times, crossings: [u8; 8]) -> u32
-    requires { ⌜ Counted (siteWith size times crossings) ⌝ }
-    ensures { λ r. ⌜ r ≡ waitBound (siteWith size times crossings) ⌝ }
+    requires { ⌜ (size .phases ≤ 7) × (size .movements ≤ 8) × SoundTimes limits size times ⌝ }
+    ensures { λ r. ⌜ r ≡ waitBoundBy size times crossings ⌝ }
 {
     let owns = times.phases;
-    let walks = times.walks;
     let phases = size.phases;
+    let walks = times.walks;
     let longest = longest_of(crossings, walks, size.movements);
-    let mut sum: u32 = 0;
+    let mut sum: u16 = times.start;
     let mut phase: u8 = 0;
     while phase < phases {
         let p = phase as usize;
-        let own = owns[p];
-        sum += share(own, longest[p], longest[8 + p]);
+        sum += share(owns[p], longest[p], longest[8 + p]);
         phase += 1;
     }
-    (times.start as u32) + sum
+    sum as u32
 }

@@ -1,10 +1,12 @@
--- `base_limits::admits` meets its contract: inside the table the constant's entry is the definition's, past it only 0 is admitted.
+-- `base_limits::admits` meets its contract: what the table is comes from `table` alone; inside it the entry decides, past it only 0 is admitted.
 use borrow.Author.Needs.{needs}
-use mathlib.Core.Path.{sym}
 use Rattle.rules.specs.Limits.{limits, limitOf, within}
-use Rattle.base_limits.proofs.Table.{past-the-table}
+use Rattle.base_limits.proofs.Past.{past-the-table}
 use Rattle.base_limits.proofs.admits.Statement.{statement}
 use Rattle.base_limits.proofs.admits.Tie as tie
+
+table-requires : tie.Need-table-requires
+table-requires c κs = search needs
 
 mul-range : tie.Need-mul-range
 mul-range c = search needs
@@ -13,11 +15,12 @@ array-copy-out-range : tie.Need-array-copy-out-range
 array-copy-out-range c = search needs
 
 returns : tie.Need-returns
-unfolding within limitOf limits
-returns c = search needs
+unfolding within limitOf
+returns c = rw (c .before .before .before .before .table .ensures)
 
 returns-2 : tie.Need-returns-2
-returns-2 c = sym (past-the-table (c .before .args .setting) (c .before .args .value) (c .if1 .left))
+unfolding limits
+returns-2 c = past-the-table limits (c .before .before .args .setting) (c .before .before .args .value) (c .if1 .left)
 
 pub admits-spec : {M : Type 1} → statement M
-admits-spec = tie.close (tie.spec mul-range array-copy-out-range returns returns-2)
+admits-spec = tie.close (tie.spec table-requires mul-range array-copy-out-range returns returns-2)

@@ -2,12 +2,11 @@
 -- pass the step, the colours and the wait bound are those of the calls.
 use borrow.Author.Needs.{needs}
 use borrow.Author.Tests.{not-true, not-false}
-use mathlib.Core.Path.{sym, ap, _∙_}
+use mathlib.Core.Path.{sym, _∙_}
 use lib.ListN.{length}
 use Rattle.rules.specs.Call.{stepVerdict}
 use Rattle.step_whole.proofs.Spare.{ready}
 use Rattle.step_colours.proofs.Sizes.{sound-sized}
-use Rattle.wait_bound.proofs.Parts.{by-parts}
 use Rattle.board_controller.proofs.Calls.{invalid, strays, short, passes, declines, goes-on}
 use Rattle.board_controller.proofs.step_on.Statement.{statement}
 use Rattle.board_controller.proofs.step_on.Tie as tie
@@ -95,7 +94,7 @@ returns-4 c =
     goes-on (stepVerdict (a .site) (a .state) (a .inputs) room) (a .site) (a .state) (moved .advance .result) (a .inputs)
     (c .wait-bound-of .result) (a .colours .now) _
     (passes (a .site) (a .state) (a .inputs) room yes stray (moved .before .if3 .left))
-    (c .wait-bound-of .ensures ∙ by-parts (a .site)) (moved .advance .ensures) (written .write .ensures)
+    (c .wait-bound-of .ensures) (moved .advance .ensures) (written .write .ensures)
 
 pub step-on-spec : {M : Type 1} → statement M
 step-on-spec =

@@ -3,7 +3,6 @@ use borrow.Author.Needs.{needs}
 use mathlib.Core.Path.{_≡_, sym, _∙_}
 use Rattle.rules.specs.declared.answer.Verdict.the-variants.{Accepted}
 use Rattle.rules.specs.Personality.{verdictOf}
-use Rattle.wait_bound.proofs.Parts.{by-parts, sound-counted}
 use Rattle.board_controller.proofs.Calls.{sound-read, bound-refused, bound-given}
 use Rattle.board_controller.proofs.wait_bound.Statement.{statement}
 use Rattle.board_controller.proofs.wait_bound.Tie as tie
@@ -30,12 +29,13 @@ site-requires c κs = accepted c
 wait-bound-of-requires : tie.Need-wait-bound-of-requires
 wait-bound-of-requires c κs =
     let held = c .before .before .before in
-    sound-counted (held .site .result) (sound-read _ (held .site .result) (accepted (held .before)) (held .site .ensures))
+    let sound = sound-read _ (held .site .result) (accepted (held .before)) (held .site .ensures) in
+    (sound .phases .1, sound .movements, sound .times)
 
 returns-2 : tie.Need-returns-2
 returns-2 c =
     let held = c .before .before .before .before in
-    bound-given _ (held .site .result) (c .wait-bound-of .result) (accepted (held .before)) (held .site .ensures) (c .wait-bound-of .ensures ∙ by-parts (held .site .result))
+    bound-given _ (held .site .result) (c .wait-bound-of .result) (accepted (held .before)) (held .site .ensures) (c .wait-bound-of .ensures)
 
 pub wait-bound-spec : {M : Type 1} → statement M
 wait-bound-spec =

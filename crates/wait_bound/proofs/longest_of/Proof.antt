@@ -1,14 +1,16 @@
 -- `wait_bound::longest_of` meets its contract. The invariant: A and C of each phase are those of the movements that are passed, and the bits
--- of the rest are those that are left. The measure is the rest, which loses a bit a turn.
+-- of the rest are those that are left. The measure is the rest, which loses a bit a turn. W + C1 of a movement fits, since its times are
+-- in the table.
 use borrow.Author.Needs.{needs}
 use native.Mathlib.Omega.{arith}
-use Prim.Native.Nat.{_+_, _-_, _*_, _/_, _≤_, _<_}
+use Prim.Native.Nat.{_-_, _/_, _<_}
 use lib.Bits.{and-le-r}
 use lib.Count.{trailingZeros}
 use lib.ListN.{getD}
+use Rattle.rules.specs.Limits.{limits}
 use Rattle.rules.specs.Site.{noWalkTimes}
-use Rattle.wait_bound.specs.Shares.{highest}
-use Rattle.wait_bound.proofs.Passes.{Passed, passed-none, passed-more, passed-all, at-within}
+use Rattle.rules.proofs.Settings.{Reached, table-is-usable, walk-told}
+use Rattle.wait_bound.proofs.Passes.{Passed, passed-none, passed-more, passed-all, at-within, movement-below}
 use Rattle.wait_bound.proofs.longest_of.Statement.{statement}
 use Rattle.wait_bound.proofs.longest_of.Tie as tie
 use Rattle.wait_bound.proofs.longest_of.Reads as reads
@@ -17,10 +19,10 @@ use Rattle.wait_bound.proofs.greater.Reads as greater-reads
 use Rattle.wait_bound.proofs.sets_of.Reads as sets-of-reads
 
 abbrev Inv-loop : tie.InvT-loop
-Inv-loop count times longest₀ rest₀ longest rest = Passed times rest₀ rest longest
+Inv-loop count walks longest₀ rest₀ longest rest = Passed walks rest₀ rest longest
 
 abbrev μ-loop : tie.MeasureT-loop
-μ-loop count times longest₀ rest₀ longest rest = rest
+μ-loop count walks longest₀ rest₀ longest rest = rest
 
 sets-of-requires : tie.Need-sets-of-requires Inv-loop μ-loop
 sets-of-requires c κs = search needs
@@ -33,8 +35,17 @@ Turn = lts.In-loop (sets-of-reads.Asked, sets-of-reads.Learnt, greater-reads.Ask
 
 -- the bit of a turn is one of the 64
 turn-within : (c : Turn) → trailingZeros 64 (c .before .loop .rest) < 64
-turn-within c =
-    at-within (c .before .before .before .args .t2) (c .before .loop .inv) (omega (arith, c .loop-test .taken))
+turn-within c = at-within (c .before .before .before .args .t2) (c .before .loop .inv) (omega (arith, c .loop-test .taken))
+
+-- its movement is one of the first count, so an age can reach each of its times
+turn-reached : (c : Turn) → Reached (getD (c .before .before .before .args .t2) (trailingZeros 64 (c .before .loop .rest) / 8) noWalkTimes)
+turn-reached c =
+    let start = c .before .before .before in
+    let a = start .args in
+    walk-told limits table-is-usable
+    (start .pre .1 _
+    (movement-below (a .t2) (a .crossings) (a .count) (c .before .loop .inv) (c .before .before .sets-of .ensures)
+    (omega (arith, c .loop-test .taken))))
 
 cast-i : tie.Need-cast-i Inv-loop μ-loop
 cast-i c = omega (arith, turn-within c)
@@ -51,14 +62,8 @@ mul-greater c = search needs
 array-read-greater : tie.Need-array-read-greater Inv-loop μ-loop
 array-read-greater c = search needs
 
-cast-greater : tie.Need-cast-greater Inv-loop μ-loop
-cast-greater c = search needs
-
-cast-greater-2 : tie.Need-cast-greater-2 Inv-loop μ-loop
-cast-greater-2 c = search needs
-
 add-greater : tie.Need-add-greater Inv-loop μ-loop
-add-greater c = search needs
+add-greater c = let times = turn-reached (c .before .before) in search needs
 
 greater-requires : tie.Need-greater-requires Inv-loop μ-loop
 greater-requires c κs = search needs
@@ -71,9 +76,6 @@ mul-greater-2 c = search needs
 
 array-read-greater-2 : tie.Need-array-read-greater-2 Inv-loop μ-loop
 array-read-greater-2 c = search needs
-
-cast-greater-3 : tie.Need-cast-greater-3 Inv-loop μ-loop
-cast-greater-3 c = search needs
 
 greater-requires-2 : tie.Need-greater-requires-2 Inv-loop μ-loop
 greater-requires-2 c κs = search needs
@@ -98,26 +100,22 @@ sub-rest c = search needs
 
 loop-less : tie.Need-loop-less Inv-loop μ-loop
 loop-less c =
-    let turn = c .before .before .before .before .before .before in
+    let turn = c .before .before .before .before in
     let rest = turn .before .loop .rest in
     omega (arith, and-le-r rest (rest - 1), turn .loop-test .taken)
 
 loop-again : tie.Need-loop-again Inv-loop μ-loop
 loop-again c =
-    let raised = c .before .before in
-    let turn = raised .before .before .before .before in
-    let at = turn .before .loop in
-    let times = turn .before .before .before .args .t2 in
-    let own = getD times (trailingZeros 64 (at .rest) / 8) noWalkTimes in
-    let walk : own .walk + own .first ≤ 2 * highest = search needs in
-    let second : own .second ≤ highest = search needs in
-    passed-more times (at .inv) (omega (arith, turn .loop-test .taken)) (raised .greater .ensures) (c .greater2 .ensures) walk second
+    let turn = c .before .before .before .before in
+    passed-more (turn .before .before .before .args .t2) (turn .before .loop .inv) (omega (arith, turn .loop-test .taken))
+    (c .before .greater .ensures)
+    (c .greater2 .ensures)
 
 returns : tie.Need-returns Inv-loop μ-loop
 returns c =
     let start = c .before .before in
-    let args = start .before .args in
-    passed-all (args .t2) (args .crossings) (c .before .loop .inv) (c .loop-test .left) (start .before .pre) (start .sets-of .ensures)
+    let a = start .before .args in
+    passed-all (a .t2) (a .crossings) (a .count) (c .before .loop .inv) (start .sets-of .ensures) (c .loop-test .left) (start .before .pre .0)
 
 pub longest-of-spec : {M : Type 1} → statement M
 longest-of-spec =
@@ -132,14 +130,11 @@ longest-of-spec =
     array-copy-out-own
     mul-greater
     array-read-greater
-    cast-greater
-    cast-greater-2
     add-greater
     greater-requires
     add-greater-2
     mul-greater-2
     array-read-greater-2
-    cast-greater-3
     greater-requires-2
     mul-longest
     array-write-longest

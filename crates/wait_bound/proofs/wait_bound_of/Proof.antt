@@ -1,11 +1,14 @@
--- `wait_bound::wait_bound_of` meets its contract. The invariant: the sum is that of the shares of the phases passed. The measure is the number
--- of phases left.
-use Prim.Native.Nat.{_+_, _-_}
+-- `wait_bound::wait_bound_of` meets its contract. The invariant: the sum is start red and the shares of the phases passed. The measure is the
+-- number of phases left.
+use Prim.Native.Nat.{ℕ, _+_, _-_, _≤_, _<_}
+use mathlib.Core.Path.{_≡_, ap, _∙_}
+use native.Mathlib.Numerals.{add-one}
 use native.Mathlib.Omega.{arith}
 use borrow.Author.Needs.{needs}
-use lib.ListN.{getD}
-use Rattle.wait_bound.specs.Shares.{LongestIn, siteWith}
-use Rattle.wait_bound.proofs.Sums.{Summed, summed-none, summed-more, summed-all}
+use Rattle.rules.specs.Rows.{sumOf}
+use Rattle.rules.specs.Site.{walkTimes}
+use Rattle.rules.specs.WaitBound.{waitBoundBy}
+use Rattle.wait_bound.proofs.Sums.{shareAt, all-shares, bound-fits, shares-fit}
 use Rattle.wait_bound.proofs.wait_bound_of.Statement.{statement}
 use Rattle.wait_bound.proofs.wait_bound_of.Tie as tie
 use Rattle.wait_bound.proofs.wait_bound_of.Reads as reads
@@ -14,28 +17,30 @@ use Rattle.wait_bound.proofs.longest_of.Reads as longest-of-reads
 use Rattle.wait_bound.proofs.share.Reads as share-reads
 
 abbrev Inv-loop : tie.InvT-loop
-Inv-loop times owns phases longest sum₀ phase₀ sum phase = Summed owns longest phases sum phase
+Inv-loop owns phases longest sum₀ phase₀ sum phase = (phase ≤ phases) × (sum ≡ sum₀ + sumOf (shareAt owns longest) phase)
 
 abbrev μ-loop : tie.MeasureT-loop
-μ-loop times owns phases longest sum₀ phase₀ sum phase = phases - phase
+μ-loop owns phases longest sum₀ phase₀ sum phase = phases - phase
 
 longest-of-requires : tie.Need-longest-of-requires Inv-loop μ-loop
+unfolding walkTimes
 longest-of-requires c κs = search needs
 
 loop-holds : tie.Need-loop-holds Inv-loop μ-loop
-loop-holds c = summed-none _ _ (c .before .before .before .args .size .phases)
+unfolding sumOf
+loop-holds c = (omega arith, omega arith)
 
 cast-p : tie.Need-cast-p Inv-loop μ-loop
 cast-p c = search needs
 
-mul-own : tie.Need-mul-own Inv-loop μ-loop
-mul-own c = search needs
-
-array-copy-out-own : tie.Need-array-copy-out-own Inv-loop μ-loop
-array-copy-out-own c = search needs
-
 mul-share : tie.Need-mul-share Inv-loop μ-loop
 mul-share c = search needs
+
+array-copy-out-share : tie.Need-array-copy-out-share Inv-loop μ-loop
+array-copy-out-share c = search needs
+
+mul-share-2 : tie.Need-mul-share-2 Inv-loop μ-loop
+mul-share-2 c = search needs
 
 array-read-share : tie.Need-array-read-share Inv-loop μ-loop
 array-read-share c = search needs
@@ -43,8 +48,8 @@ array-read-share c = search needs
 add-share : tie.Need-add-share Inv-loop μ-loop
 add-share c = search needs
 
-mul-share-2 : tie.Need-mul-share-2 Inv-loop μ-loop
-mul-share-2 c = search needs
+mul-share-3 : tie.Need-mul-share-3 Inv-loop μ-loop
+mul-share-3 c = search needs
 
 array-read-share-2 : tie.Need-array-read-share-2 Inv-loop μ-loop
 array-read-share-2 c = search needs
@@ -52,24 +57,29 @@ array-read-share-2 c = search needs
 abbrev Turn : Type 0
 Turn = lts.In-loop (longest-of-reads.Asked, longest-of-reads.Learnt, share-reads.Asked, share-reads.Learnt) reads.Pre reads.Post Inv-loop μ-loop
 
--- A and C of a turn's phase
-turn-longest :
+-- the sum with the share of a turn's phase
+turn-fits :
     (c : Turn) →
     let at = c .before .before in
-    let a = at .before .before .before .args in
-    let p = c .before .loop .phase in
-    LongestIn p (a .crossings) (a .times .walks) (a .size .movements)
-    (getD (at .longest-of .result) p 0) (getD (at .longest-of .result) (8 + p) 0)
-turn-longest c =
+    c .before .loop .sum
+    + shareAt (at .before .before .before .args .times .phases) (at .longest-of .result) (c .before .loop .phase)
+    ≤ 65535
+turn-fits c =
     let at = c .before .before in
     let start = at .before .before .before in
-    at .longest-of .ensures (c .before .loop .phase) (omega (arith, c .loop-test .taken, start .pre .phases))
+    let a = start .args in
+    omega (
+      arith,
+      c .before .loop .inv .1,
+      shares-fit (a .size) (a .times) (a .crossings) (at .longest-of .result) (start .pre .0) (at .longest-of .ensures) (start .pre .2)
+          (c .before .loop .phase) (c .loop-test .taken),
+    )
 
 share-requires : tie.Need-share-requires Inv-loop μ-loop
-share-requires c κs = (turn-longest (c .before) .walkMost, turn-longest (c .before) .clearanceMost)
+share-requires c κs = omega (arith, turn-fits (c .before))
 
 add-sum : tie.Need-add-sum Inv-loop μ-loop
-add-sum c = search needs
+add-sum c = omega (arith, turn-fits (c .before .before), c .share .ensures)
 
 add-phase : tie.Need-add-phase Inv-loop μ-loop
 add-phase c = search needs
@@ -78,24 +88,32 @@ loop-less : tie.Need-loop-less Inv-loop μ-loop
 loop-less c = search needs
 
 loop-again : tie.Need-loop-again Inv-loop μ-loop
+unfolding sumOf
 loop-again c =
     let turn = c .before .before in
-    summed-more _ _ (turn .before .loop .inv) (turn .loop-test .taken) (c .share .ensures)
+    (omega (arith, turn .loop-test .taken), rw add-one (omega (arith, turn .before .loop .inv .1, c .share .ensures)))
 
-cast-result : tie.Need-cast-result Inv-loop μ-loop
-cast-result c = search needs
-
-add-result : tie.Need-add-result Inv-loop μ-loop
-add-result c = search needs
-
-returns : tie.Need-returns Inv-loop μ-loop
-returns c =
-    let at = c .before .before .before in
+-- once every phase is passed the sum is the bound
+summed :
+    (c : tie.After-loop Inv-loop μ-loop) →
+    let a = c .before .before .before .before .before .args in
+    c .before .loop .sum ≡ waitBoundBy (a .size) (a .times) (a .crossings)
+summed c =
+    let at = c .before .before in
     let start = at .before .before .before in
     let a = start .args in
-    summed-all (siteWith (a .size) (a .times) (a .crossings)) (at .longest-of .result) (at .longest-of .ensures) (start .pre .phases)
-    (c .before .before .loop .inv)
-    (c .before .loop-test .left)
+    c .before .loop .inv .1
+    ∙ all-shares (a .size) (a .times) (a .crossings) (at .longest-of .result) (start .pre .0) (at .longest-of .ensures)
+    (c .before .loop .phase) (omega (arith, c .before .loop .inv .0, c .loop-test .left))
+
+cast-result : tie.Need-cast-result Inv-loop μ-loop
+cast-result c =
+    let start = c .before .before .before .before .before in
+    let a = start .args in
+    omega (arith, summed c, bound-fits (a .size) (a .times) (a .crossings) (start .pre .0) (start .pre .2))
+
+returns : tie.Need-returns Inv-loop μ-loop
+returns c = summed c
 
 pub wait-bound-of-spec : {M : Type 1} → statement M
 wait-bound-of-spec =
@@ -106,12 +124,12 @@ wait-bound-of-spec =
     longest-of-requires
     loop-holds
     cast-p
-    mul-own
-    array-copy-out-own
     mul-share
+    array-copy-out-share
+    mul-share-2
     array-read-share
     add-share
-    mul-share-2
+    mul-share-3
     array-read-share-2
     share-requires
     add-sum
@@ -119,5 +137,4 @@ wait-bound-of-spec =
     loop-less
     loop-again
     cast-result
-    add-result
     returns)

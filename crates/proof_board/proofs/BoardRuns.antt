@@ -1,0 +1,172 @@
+-- A run of the library's calls is a run of the rules. An answer reads back as the outcome that it was packed from; the bytes of a state
+-- read back as the state; and each call leaves the bytes of the state that the rules hand back, so call by call nothing differs.
+use Prim.Native.Nat.{ℕ, _/_, _%_, _≤_, _<_}
+use mathlib.Core.Bool.{Bool, true, false}
+use mathlib.Core.List.{List, [], _∷_}
+use mathlib.Core.Logic.{⊎-elim}
+use mathlib.Core.Path.{_≡_, refl, sym, subst, ap, _∙_}
+use native.Mathlib.Omega.{arith}
+use borrow.Author.Tests.{ne-eqb}
+use lib.Dec.{eqb}
+use lib.ListN.{length}
+use Rattle.rules.specs.declared.answer.Outcome.the-variants.{Stepped, Declined}
+use Rattle.rules.specs.declared.answer.Verdict.{Verdict}
+use Rattle.rules.specs.declared.answer.Verdict.the-variants.{Accepted, Refused}
+use Rattle.rules.specs.declared.state.State.{State}
+use Rattle.rules.specs.Rows.{if_then_else_}
+use Rattle.rules.specs.Verdicts.{_orElse_}
+use Rattle.rules.specs.Personality.{verdictOf}
+use Rattle.rules.specs.Site.{siteOf}
+use Rattle.rules.specs.State.{fresh, valid}
+use Rattle.rules.specs.WaitBound.{waitBound}
+use Rattle.rules.specs.Call.{callVerdict, answerFor, answerOf, bufferOf}
+use Rattle.rules.specs.Laws.{Sound, AcceptedIsSound, FreshIsValid, Written, RefusalIsWritten}
+use Rattle.rules.specs.Runs.{ruled, Call, takenFrom, SafeRun, DemandThreeOf, DemandThree}
+use Rattle.board_state.specs.Layout.{stateBytes, decoded, encoded, encodedOver, Proper}
+use Rattle.board_state.proofs.RoundTrips.{encoded-is-state, decoded-encoded}
+use Rattle.willowera.specs.Board.{packed, packedVerdict, packedOutcome, freshAnswer, stepAnswer, stateFor, stateAfter, coloursAfter}
+use Rattle.proof_runs.proofs.Chains.{accepted-told}
+use Rattle.proof_acceptance.proofs.Acceptance.{accepted-is-sound}
+use Rattle.proof_acceptance.proofs.Refusals.{refusal-is-written}
+use Rattle.proof_validity.proofs.Fresh.{fresh-is-valid}
+use Rattle.proof_validity.proofs.Validity.{step-keeps-valid}
+use Rattle.proof_guarantees.proofs.DeadEnds.{valid-for}
+use Rattle.proof_guarantees.proofs.DemandThree.{demand-three}
+use Rattle.proof_board.specs.BoardRuns.{outcomeIn, verdictIn, board, BoardDemandThree, StepIsProper}
+use Rattle.proof_board.proofs.Proper.{step-is-proper, fresh-is-proper}
+
+-- ── Answers ──
+
+-- the two parts of a packed answer
+module _ (number value : ℕ) (small : number < 256) where
+  low-part : packed number value % 256 ≡ number
+  unfolding packed
+  low-part = omega arith
+
+  high-part : packed number value / 256 ≡ value
+  unfolding packed
+  high-part = omega arith
+
+-- a refusal reads back
+module _ (number place : ℕ) (fits : (1 ≤ number) × (number < 256)) where
+  outcome-refused : outcomeIn (packed number place) ≡ Declined number place
+  unfolding outcomeIn
+  outcome-refused = rw (low-part number place (fits .1), high-part number place (fits .1), ne-eqb number 0 (λ e. omega (arith, fits .0)))
+
+  verdict-refused : verdictIn (packed number place) ≡ Refused number place
+  unfolding verdictIn
+  verdict-refused = rw (low-part number place (fits .1), high-part number place (fits .1), ne-eqb number 0 (λ e. omega (arith, fits .0)))
+
+-- a wait bound reads back
+outcome-stepped : (wait : ℕ) → outcomeIn (packed 0 wait) ≡ Stepped wait
+unfolding outcomeIn
+outcome-stepped wait = rw (low-part 0 wait (omega arith), high-part 0 wait (omega arith))
+
+-- the numbers of the refusals that are written fit a byte
+number-fits : (b : List ℕ) (number place : ℕ) → Written b number place → (1 ≤ number) × (number < 256)
+number-fits b number place =
+    ⊎-elim (λ (w : (1 ≤ number) × (number ≤ 12) × (place ≤ length b)). omega arith) (λ (w : (13 ≤ number) × (number ≤ 15) × (place ≡ 0)). omega arith)
+
+module _ (b : List ℕ) (s : State) (inputs room : ℕ) where
+  -- the outcome of a call reads back
+  outcome-for :
+      (v : Verdict) →
+      callVerdict b s inputs room ≡ v →
+      outcomeIn (packedOutcome (answerFor v (siteOf b) s inputs .outcome)) ≡ answerFor v (siteOf b) s inputs .outcome
+  unfolding answerFor packedOutcome RefusalIsWritten
+  outcome-for Accepted e = outcome-stepped (waitBound (siteOf b))
+  outcome-for (Refused number place) e = outcome-refused number place (number-fits b number place (refusal-is-written b s inputs room number place e))
+
+  outcome-back : outcomeIn (packedOutcome (answerOf b s inputs room .outcome)) ≡ answerOf b s inputs room .outcome
+  unfolding answerOf
+  outcome-back = outcome-for (callVerdict b s inputs room) refl
+
+-- the answer to reading a personality reads back
+read-for : (b : List ℕ) (v : Verdict) → verdictOf b ≡ v → verdictIn (packedVerdict v) ≡ v
+unfolding packedVerdict verdictIn RefusalIsWritten callVerdict _orElse_
+read-for b Accepted e = refl
+read-for b (Refused number place) e =
+    verdict-refused number place (number-fits b number place (refusal-is-written b fresh 0 0 number place (rw e)))
+
+-- ── One call ──
+
+module _ (b : List ℕ) (s : State) (proper : Proper s) (inputs : ℕ) where
+  same-outcome : (room : ℕ) → outcomeIn (stepAnswer b (encoded s) inputs room) ≡ answerOf b s inputs room .outcome
+  unfolding stepAnswer
+  same-outcome room = rw (encoded-is-state s proper, decoded-encoded s proper) (outcome-back b s inputs room)
+
+  next-for :
+      (v : Verdict) →
+      stateFor (answerFor v (siteOf b) s inputs .outcome) (answerFor v (siteOf b) s inputs .state) (encoded s)
+      ≡ encoded (answerFor v (siteOf b) s inputs .state)
+  unfolding answerFor stateFor
+  next-for Accepted = refl
+  next-for (Refused number place) = refl
+
+  same-next : (room : ℕ) → stateAfter b (encoded s) inputs room ≡ encoded (answerOf b s inputs room .state)
+  unfolding stateAfter answerOf
+  same-next room = rw (encoded-is-state s proper, decoded-encoded s proper) (next-for (callVerdict b s inputs room))
+
+  same-buffer : (buffer : List ℕ) → coloursAfter b (encoded s) inputs buffer ≡ bufferOf b s inputs buffer
+  unfolding coloursAfter
+  same-buffer buffer = rw (encoded-is-state s proper, decoded-encoded s proper)
+
+-- ── A list of calls ──
+
+module _ (b : List ℕ) (sound : Sound (siteOf b)) (buffer : List ℕ) where
+  -- a call leads to a state that the types hold
+  proper-for :
+      (s : State) →
+      valid (siteOf b) s ≡ true →
+      Proper s →
+      (inputs room : ℕ) (v : Verdict) →
+      callVerdict b s inputs room ≡ v →
+      Proper (answerFor v (siteOf b) s inputs .state)
+  unfolding answerFor StepIsProper
+  proper-for s sane proper inputs room Accepted e = step-is-proper (siteOf b) sound s inputs sane (accepted-told b s inputs room e .1)
+  proper-for s sane proper inputs room (Refused number place) e = proper
+
+  same-run :
+      (calls : List Call) (s : State) →
+      valid (siteOf b) s ≡ true →
+      Proper s →
+      takenFrom (board buffer) b (encoded s) calls ≡ takenFrom ruled b s calls
+  unfolding takenFrom board ruled answerOf
+  same-run [] s sane proper = refl
+  same-run (c ∷ calls) s sane proper =
+      let room = length (c .buffer) in
+      let v = callVerdict b s (c .inputs) room in
+      let next = answerFor v (siteOf b) s (c .inputs) .state in
+      let there = proper-for s sane proper (c .inputs) room v refl in
+      let bytes = same-next b s proper (c .inputs) room in
+      let later = ap (λ (state : List ℕ). takenFrom (board buffer) b state calls) bytes ∙ same-run calls next (valid-for step-keeps-valid b sound s sane (c .inputs) room v refl) there in
+      let after = ap decoded bytes ∙ decoded-encoded next there in
+      λ i.
+      record {
+        before = decoded-encoded s proper i;
+        inputs = c .inputs;
+        room = room;
+        outcome = same-outcome b s proper (c .inputs) room i;
+        after = after i;
+        shown = same-buffer b s proper (c .inputs) (c .buffer) i;
+      }
+      ∷ later i
+
+-- ── The demand ──
+
+-- a buffer that `willowera_fresh` accepts then holds the bytes of the fresh state
+fresh-bytes : (fits : Bool) → (if fits then 0 else packed 13 0) ≡ 0 → (old : List ℕ) → (if fits then encoded fresh else old) ≡ encoded fresh
+unfolding packed
+fresh-bytes true e old = refl
+fresh-bytes false e old = absurd (omega (arith, e))
+
+pub board-demand-three : BoardDemandThree
+unfolding BoardDemandThree DemandThree DemandThreeOf AcceptedIsSound FreshIsValid freshAnswer encodedOver ruled board
+board-demand-three buffer written b read calls =
+    let known = sym (read-for b (verdictOf b) refl) ∙ read in
+    let sound = accepted-is-sound b known in
+    let bytes = fresh-bytes (eqb (length buffer) stateBytes) written buffer in
+    let same =
+    ap (λ (state : List ℕ). takenFrom (board buffer) b state calls) bytes
+    ∙ same-run b sound buffer calls fresh (fresh-is-valid (siteOf b) sound) (fresh-is-proper (siteOf b) sound) in
+    subst (SafeRun (siteOf b)) (sym same) (demand-three b known calls)

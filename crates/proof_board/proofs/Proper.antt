@@ -1,0 +1,75 @@
+-- States that the machine's types hold. The numbers of a valid state of a sound site are within the table of limits or below the
+-- counts, and a step makes its rows anew, at their lengths.
+use Prim.Native.Nat.{ℕ, _≤_, _<_}
+use mathlib.Core.Bool.{Bool, true, not, _&&_}
+use mathlib.Core.Path.{_≡_, refl}
+use native.Mathlib.Omega.{arith}
+use borrow.Author.Tests.{ltb-true}
+use lib.Dec.{ltb, eqb}
+use lib.ListN.{length}
+use Rattle.rules.specs.declared.site.Site.{Site}
+use Rattle.rules.specs.declared.state.Held.{Held}
+use Rattle.rules.specs.declared.state.Held.the-variants.{Nothing, Phase}
+use Rattle.rules.specs.declared.state.State.{State}
+use Rattle.rules.specs.Site.{phaseTimes}
+use Rattle.rules.specs.Intervals.{isLeaving, phaseHeld}
+use Rattle.rules.specs.State.{fresh, targetValid, cameValid}
+use Rattle.rules.specs.Step.{stepped}
+use Rattle.rules.specs.Walks.{walksBegun, buttonsLeft}
+use Rattle.rules.specs.Laws.{Sound, FreshIsValid, StepKeepsValid}
+use Rattle.rules.proofs.Tests.{and-left, and-right}
+use Rattle.rules.proofs.Rows.{list-length}
+use Rattle.rules.proofs.Settings.{phase-timed}
+use Rattle.board_state.specs.Layout.{Proper}
+use Rattle.proof_runs.proofs.ValidStates.{ValidState, state-told}
+use Rattle.proof_validity.proofs.Fresh.{fresh-is-valid}
+use Rattle.proof_validity.proofs.Validity.{step-keeps-valid}
+use Rattle.proof_board.specs.BoardRuns.{StepIsProper}
+
+target-below : (count phase : ℕ) (leaving : Bool) (target : Held) → targetValid count phase leaving target ≡ true → 1 ≤ count → phaseHeld target < count
+unfolding targetValid phaseHeld
+target-below count phase leaving Nothing h some = some
+target-below count phase leaving (Phase t) h some =
+    ltb-true t count (and-right leaving (ltb t count) (and-left (leaving && ltb t count) (not (eqb t phase)) h))
+
+came-below : (count : ℕ) (came : Held) → cameValid count came ≡ true → 1 ≤ count → phaseHeld came < count
+unfolding cameValid phaseHeld
+came-below count Nothing h some = some
+came-below count (Phase q) h some = ltb-true q count h
+
+-- a valid state is one that the types hold, if its rows have their lengths
+proper-of :
+    (site : Site) → Sound site →
+    (s : State) →
+    ValidState site s →
+    length (s .demands .locks) ≡ 7 →
+    length (s .demands .buttons) ≡ 8 →
+    length (s .movements) ≡ 8 →
+    Proper s
+proper-of site sound s told locks buttons movements =
+    let count = sound .phases in
+    let times = phase-timed site sound (s .position .phase) (told .phase) in
+    record {
+      phase = omega (arith, told .phase);
+      age = omega (arith, told .age);
+      came = omega (arith, came-below (site .size .phases) (s .position .came) (told .came) (omega arith));
+      target = omega (arith, target-below (site .size .phases) (s .position .phase) (isLeaving (s .position .interval)) (s .position .target) (told .target) (omega arith));
+      gap = omega (arith, told .gap, times .gap);
+      maximum = omega (arith, told .maximum, times .maximum .1);
+      locks = locks;
+      buttons = buttons;
+      movements = movements;
+      ages = λ k below. omega (arith, told .movements k below .age);
+    }
+
+pub step-is-proper : StepIsProper
+unfolding StepIsProper StepKeepsValid stepped walksBegun buttonsLeft
+step-is-proper site sound s inputs sane wired =
+    proper-of site sound (stepped site s inputs) (state-told site (stepped site s inputs) (step-keeps-valid site sound s inputs sane wired))
+    (list-length _ 7)
+    (list-length _ 8)
+    (list-length _ 8)
+
+pub fresh-is-proper : (site : Site) → Sound site → Proper fresh
+unfolding FreshIsValid fresh
+fresh-is-proper site sound = proper-of site sound fresh (state-told site fresh (fresh-is-valid site sound)) refl refl refl

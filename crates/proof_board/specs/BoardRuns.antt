@@ -1,0 +1,60 @@
+-- Demand 3 of the library that a buyer links: the same demand, said of the numbers that its calls answer and of the bytes that they
+-- leave in the caller's buffers.
+use Prim.Native.Nat.{ℕ, _/_, _%_}
+use mathlib.Core.Bool.{true, false}
+use mathlib.Core.List.{List}
+use mathlib.Core.Path.{_≡_}
+use lib.Dec.{eqb}
+use Rattle.rules.specs.declared.answer.Outcome.{Outcome}
+use Rattle.rules.specs.declared.answer.Outcome.the-variants.{Stepped, Declined}
+use Rattle.rules.specs.declared.answer.Verdict.{Verdict}
+use Rattle.rules.specs.declared.answer.Verdict.the-variants.{Accepted, Refused}
+use Rattle.rules.specs.declared.site.Site.{Site}
+use Rattle.rules.specs.declared.state.State.{State}
+use Rattle.rules.specs.Rows.{if_then_else_}
+use Rattle.rules.specs.Personality.{verdictOf}
+use Rattle.rules.specs.State.{fresh, valid}
+use Rattle.rules.specs.Step.{stepped}
+use Rattle.rules.specs.Call.{strayInput}
+use Rattle.rules.specs.Laws.{Sound}
+use Rattle.rules.specs.Runs.{Controller, DemandThreeOf}
+use Rattle.board_state.specs.Layout.{decoded, encodedOver, Proper}
+use Rattle.willowera.specs.Board.{packedVerdict, freshAnswer, stepAnswer, stateAfter, coloursAfter}
+
+-- An answer as a caller reads it: the lowest byte is the number of the refusal, 0 where the call is accepted, and the rest is the
+-- place or the wait bound.
+unfoldable pub outcomeIn : ℕ → Outcome
+outcomeIn answer = if eqb (answer % 256) 0 then Stepped (answer / 256) else Declined (answer % 256) (answer / 256)
+
+-- the same of an answer to reading
+unfoldable pub verdictIn : ℕ → Verdict
+verdictIn answer = if eqb (answer % 256) 0 then Accepted else Refused (answer % 256) (answer / 256)
+
+-- The library as a controller, its state the caller's bytes: what `willowera_read` and `willowera_step` answer, and what
+-- `willowera_fresh` and `willowera_step` leave in a buffer, by their contracts.
+unfoldable pub board : List ℕ → Controller (List ℕ)
+board buffer =
+    record {
+      verdict = λ b. verdictIn (packedVerdict (verdictOf b));
+      fresh = encodedOver fresh buffer;
+      outcome = λ b state inputs room. outcomeIn (stepAnswer b state inputs room);
+      next = stateAfter;
+      buffer = coloursAfter;
+      seen = decoded;
+    }
+
+-- whatever buffer `willowera_fresh` accepts and writes the fresh state into
+unfoldable pub BoardDemandThree : Type 0
+BoardDemandThree = (buffer : List ℕ) → freshAnswer buffer ≡ 0 → DemandThreeOf (board buffer)
+
+-- ── A law of states as bytes ──
+
+-- a step leads to a state that the machine's types hold
+unfoldable pub StepIsProper : Type 0
+StepIsProper =
+    (site : Site) →
+    Sound site →
+    (s : State) (inputs : ℕ) →
+    valid site s ≡ true →
+    strayInput site inputs ≡ false →
+    Proper (stepped site s inputs)

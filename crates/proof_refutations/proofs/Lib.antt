@@ -1,0 +1,4 @@
+pub mod Violations
+pub mod Witnesses
+pub mod SameRules
+pub mod Refutations

@@ -1,0 +1,95 @@
+-- Each controller that must not pass is refuted by one list of calls on one personality: the facts at which a part of the demand fails
+-- are computed, once. What follows the calls are the places of steps in the list, counted from 0, and the phase, movement or groups.
+use Prim.Native.Nat.{ℕ}
+use mathlib.Core.List.{List}
+use mathlib.Core.Path.{_≡_, refl}
+use lib.ListN.{set}
+use Rattle.rules.specs.declared.answer.Verdict.the-variants.{Accepted}
+use Rattle.rules.specs.Personality.{verdictOf}
+use Rattle.rules.specs.Site.{siteOf}
+use Rattle.rules.specs.State.{fresh}
+use Rattle.rules.specs.Interval.{ends, following}
+use Rattle.rules.specs.Step.{stepped}
+use Rattle.rules.specs.Junctions.{junction}
+use Rattle.rules.specs.Runs.{ruled, Call, takenFrom, accepted, DemandsMet, DemandThreeOf}
+use Rattle.rules.proofs.Opened.{opened}
+use Rattle.proof_refutations.specs.Faults.{checksBy, ifAccepted, controllerBy, steppedBy, moved, agesOnly, neverAlters, leavesTheSite, endsOnTimer, choosesAgain, clearing, dropsPresses, smallBound, passesTen}
+use Rattle.proof_refutations.specs.Refutations.{Refutations}
+use Rattle.proof_refutations.proofs.Violations.{together, starts, cut, skipped, met, answers, refuted-by-greens, refuted-by-clearance, refuted-by-yellow, unmet-by-lock, unmet-by-button, refuted-by-wait, refuted-by-refusal}
+use Rattle.proof_refutations.proofs.Witnesses.{callsFrom, crossings, shared, atOnce, walkThenB, laterB, pressedAgain, longestWait}
+
+-- what the runs compute with
+unfoldable computing : Unit {0}
+unfolding
+    opened checksBy ifAccepted controllerBy steppedBy moved agesOnly neverAlters leavesTheSite endsOnTimer choosesAgain clearing dropsPresses
+    smallBound passesTen together starts cut skipped met answers callsFrom crossings shared atOnce walkThenB laterB pressedAgain longestWait
+computing = tt
+
+-- Group 1 of the junction is made one of A too: both groups are green in step 10.
+passes-ten : ¬ DemandThreeOf (controllerBy (λ b. passesTen (verdictOf b)) stepped)
+unfolding computing
+passes-ten = refuted-by-greens (controllerBy (λ b. passesTen (verdictOf b)) stepped) (set junction 42 3) refl (callsFrom atOnce 2 1 10) 9 0 1 refl
+
+-- B starts its green in step 110. The crossing was green in step 19 for the last time, and 90 steps are less than 50 + 50.
+ends-on-timer : ¬ DemandThreeOf (controllerBy verdictOf (steppedBy endsOnTimer following))
+unfolding computing
+ends-on-timer =
+    refuted-by-clearance (controllerBy verdictOf (steppedBy endsOnTimer following)) (crossings 50) refl (callsFrom walkThenB 4 1 110) 18 109 1 2 refl refl
+
+-- A's group stays green in yellow for C, up to step 60; then the target is B, the group goes to red, and B starts in step 71.
+chooses-again : ¬ DemandThreeOf (controllerBy verdictOf (steppedBy ends choosesAgain))
+unfolding computing
+chooses-again = refuted-by-yellow (controllerBy verdictOf (steppedBy ends choosesAgain)) shared refl (callsFrom laterB 2 1 71) 59 70 1 0 refl refl
+
+-- B's detector in the first step: the bound of the junction is 270, and B does not start in 270 further steps.
+ages-only : ¬ DemandThreeOf (controllerBy verdictOf agesOnly)
+unfolding computing
+ages-only =
+    let controller = controllerBy verdictOf agesOnly in
+    let calls = callsFrom atOnce 2 1 271 in
+    refuted-by-wait controller junction refl calls (unmet-by-lock controller junction refl calls 270 0 1 refl)
+
+never-alters : ¬ DemandThreeOf (controllerBy verdictOf neverAlters)
+unfolding computing
+never-alters =
+    let controller = controllerBy verdictOf neverAlters in
+    let calls = callsFrom atOnce 2 1 271 in
+    refuted-by-wait controller junction refl calls (unmet-by-lock controller junction refl calls 270 0 1 refl)
+
+-- The press in step 21 is dropped; the bound is 270, and no walk begins in 270 further steps.
+drops-presses : ¬ DemandThreeOf (controllerBy verdictOf dropsPresses)
+unfolding computing
+drops-presses =
+    let controller = controllerBy verdictOf dropsPresses in
+    let calls = callsFrom pressedAgain 4 1 291 in
+    refuted-by-wait controller (crossings 10) refl calls (unmet-by-button controller (crossings 10) refl calls 270 20 0 refl refl)
+
+-- The press in step 21 waits for its own movement's clearances, then for the walk and clearances of the other crossing, then for B: 468
+-- further steps, where the smaller bound says 420. (The bound itself says 630.)
+small-bound :
+    ¬ ((b : List ℕ) →
+    verdictOf b ≡ Accepted →
+    (calls : List Call) →
+    DemandsMet (siteOf b) (smallBound (siteOf b)) (accepted (takenFrom ruled b fresh calls)))
+unfolding computing
+small-bound holds =
+    let calls = callsFrom longestWait 4 1 441 in
+    unmet-by-button ruled (crossings 100) refl calls 420 20 0 refl refl (holds (crossings 100) refl calls)
+
+-- The second call is refused with 13.
+leaves-the-site : ¬ DemandThreeOf (controllerBy verdictOf leavesTheSite)
+unfolding computing
+leaves-the-site = refuted-by-refusal (controllerBy verdictOf leavesTheSite) junction refl (callsFrom atOnce 2 1 2) 1 13 0 refl
+
+pub refutations : Refutations
+refutations =
+    record {
+      passesTen = passes-ten;
+      endsOnTimer = ends-on-timer;
+      choosesAgain = chooses-again;
+      agesOnly = ages-only;
+      neverAlters = never-alters;
+      dropsPresses = drops-presses;
+      smallBound = small-bound;
+      leavesTheSite = leaves-the-site;
+    }

@@ -1,0 +1,64 @@
+-- The personality and the list of calls by which each controller that must not pass is refuted. Steps are counted from 1.
+use Prim.Native.Nat.{ℕ, zero, suc, _+_, _^_}
+use mathlib.Core.Bool.{_||_}
+use mathlib.Core.List.{List, [], _∷_, _++_}
+use lib.Dec.{leb, eqb}
+use lib.ListN.{replicate}
+use Rattle.rules.specs.Rows.{if_then_else_}
+use Rattle.rules.specs.Junctions.{two, twos, fours, sections, shortPhase}
+use Rattle.rules.specs.Runs.{Call}
+
+-- n calls from a step on, whose input bits are given by the step, with a buffer for so many groups
+unfoldable pub callsFrom : (ℕ → ℕ) → ℕ → ℕ → ℕ → List Call
+callsFrom inputs groups step zero = []
+callsFrom inputs groups step (suc n) =
+    record { inputs = inputs step; buffer = replicate groups 0 } ∷ callsFrom inputs groups (step + 1) n
+
+-- ── Sites ──
+
+-- A and B, and two crossings beside A with a walk of 10 and clearances that are given: groups 2 and 3. All groups of A conflict with
+-- group 1, that of B, which has a detector. The greens are as short as they can be.
+unfoldable pub crossings : ℕ → List ℕ
+crossings clearance =
+    let phase = twos (0 ∷ 10 ∷ 10 ∷ 5 ∷ 30 ∷ 10 ∷ []) in
+    let walk = twos (10 ∷ clearance ∷ clearance ∷ []) in
+    sections
+    (2 ∷ 4 ∷ two 10)
+    (phase ++ phase)
+    (1 ∷ 0 ∷ 2 ∷ 0 ∷ 1 ∷ 2 ∷ 1 ∷ 2 ∷ [])
+    (fours (2 ∷ 13 ∷ 2 ∷ 2 ∷ []))
+    (1 ∷ 6 ∷ [])
+    (walk ++ walk)
+
+-- A, B and C: group 0 is of A and C, group 1 of B; detector 0 is of B, detector 1 of C
+unfoldable pub shared : List ℕ
+shared =
+    sections
+    (3 ∷ 2 ∷ two 10)
+    (shortPhase ++ shortPhase ++ shortPhase)
+    (5 ∷ 0 ∷ 2 ∷ 0 ∷ [])
+    (fours (2 ∷ 1 ∷ []))
+    (1 ∷ 6 ∷ 2 ∷ 6 ∷ [])
+    []
+
+-- ── Inputs ──
+
+-- detector 1 in the first step only
+unfoldable pub atOnce : ℕ → ℕ
+atOnce step = if eqb step 1 then 2 else 0
+
+-- the first crossing in step 1, so that it walks from step 10 on and clears from step 20 on; detector 0 from step 30 on
+unfoldable pub walkThenB : ℕ → ℕ
+walkThenB step = if eqb step 1 then 2 ^ 48 else if leb 30 step then 1 else 0
+
+-- the detector of C in step 12, and that of B in step 40, when A is in yellow for C
+unfoldable pub laterB : ℕ → ℕ
+laterB step = if eqb step 12 then 2 else if eqb step 40 then 1 else 0
+
+-- the first crossing in step 1, and in step 21, when it clears
+unfoldable pub pressedAgain : ℕ → ℕ
+pressedAgain step = if eqb step 1 || eqb step 21 then 2 ^ 48 else 0
+
+-- the same; the second crossing in step 219, the last of the first one's clearances, so that it walks; B from then on
+unfoldable pub longestWait : ℕ → ℕ
+longestWait step = if eqb step 219 then 2 ^ 49 else if leb 220 step then 1 else pressedAgain step

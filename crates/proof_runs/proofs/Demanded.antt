@@ -1,0 +1,43 @@
+-- Part 1 of a step: what is detected is a phase that exists, and a lock or a demanded movement demands its phase.
+use Prim.Native.Nat.{ℕ, _<_}
+use mathlib.Core.Bool.{Bool, true, false, _&&_}
+use mathlib.Core.Path.{_≡_, _∙_}
+use lib.ListN.{getD}
+use borrow.Author.Tests.{eqb-true}
+use Rattle.rules.specs.declared.site.Site.{Site}
+use Rattle.rules.specs.declared.state.State.{State}
+use Rattle.rules.specs.Site.{detectorOf, crosses}
+use Rattle.rules.specs.Demands.{occupied, detected, calls, demandsAfter, stands, demanded}
+use Rattle.rules.specs.Laws.{Sound}
+use Rattle.rules.proofs.Tests.{and-left, and-right, and-both, or-left, or-right}
+use Rattle.rules.proofs.Rows.{any-found, any-at}
+use Rattle.proof_runs.proofs.Steps.{askedNow, lockedNow, asked-at, locked-at}
+
+-- a phase of which a detector is occupied exists
+pub detected-below :
+    (site : Site) → Sound site → (kind : ℕ → Bool) (inputs p : ℕ) → detected kind site inputs p ≡ true → p < site .size .phases
+unfolding detected
+detected-below site sound kind inputs p h =
+    let found = any-found _ _ h in
+    let d = found .0 in
+    let ofPhase = and-right (occupied inputs d) _ (and-left _ (kind (detectorOf (site .detectors) d .mode)) (found .2)) in
+    rw (eqb-true (detectorOf (site .detectors) d .phase) p ofPhase) at (sound .detectorPhase d (found .1))
+
+module _ (site : Site) (s : State) (inputs : ℕ) where
+  pub lock-demands : (p : ℕ) → p < 7 → lockedNow site s inputs p ≡ true → demanded site s inputs p ≡ true
+  unfolding demanded stands
+  lock-demands p room h = or-left (calls site s inputs p) (or-left _ (locked-at site s inputs p room ∙ h))
+
+  pub button-demands :
+      (k p : ℕ) →
+      k < 8 →
+      k < site .size .movements →
+      crosses (site .crossings) k p ≡ true →
+      askedNow site s inputs k ≡ true →
+      demanded site s inputs p ≡ true
+  unfolding demanded stands
+  button-demands k p room exists crossing h =
+      or-left (calls site s inputs p)
+      (or-right (getD (demandsAfter site s inputs .locks) p false)
+      (any-at (λ (k : ℕ). getD (demandsAfter site s inputs .buttons) k false && crosses (site .crossings) k p) (site .size .movements) k exists
+      (and-both (asked-at site s inputs k room ∙ h) crossing)))

@@ -1,0 +1,105 @@
+-- What the times of a sound site give every proof: each is one that an age can reach, and all but late start and gap are one step at
+-- least. Shown for any table of limits by the one test that it is usable, read off at each setting; today's table passes it.
+use Prim.Native.Nat.{ℕ, _+_, _≤_, _<_}
+use mathlib.Core.Bool.{true, false, _||_}
+use mathlib.Core.List.{List}
+use mathlib.Core.Path.{_≡_, refl}
+use lib.Dec.{leb}
+use native.Mathlib.Omega.{arith}
+use borrow.Author.Tests.{leb-true}
+use Rattle.rules.specs.declared.site.PhaseTimes.{PhaseTimes}
+use Rattle.rules.specs.declared.site.Range.{Range}
+use Rattle.rules.specs.declared.site.Site.{Site}
+use Rattle.rules.specs.declared.site.WalkTimes.{WalkTimes}
+use Rattle.rules.specs.Rows.{allOf}
+use Rattle.rules.specs.Limits.{limits, limitOf, startRedSetting, phaseSettings, walkSettings, settingCount}
+use Rattle.rules.specs.Site.{phaseTimes, walkTimes}
+use Rattle.rules.specs.State.{highestAge}
+use Rattle.rules.specs.WaitBound.{phaseShare}
+use Rattle.rules.specs.Laws.{InTable, SoundPhaseTimes, SoundWalkTimes, Sound, highest, highestPhase, highestWalk, greatestShare, greatestWait, mayBeZero, timely, usable, TableIsUsable}
+use Rattle.rules.proofs.Tests.{and-left, and-right}
+use Rattle.rules.proofs.Rows.{all-at}
+
+pub table-is-usable : TableIsUsable
+unfolding usable timely allOf mayBeZero highest highestPhase highestWalk greatestShare greatestWait phaseShare limitOf limits
+table-is-usable = refl
+
+-- a setting that is counted: one step at least, and an age can reach it
+abbrev pub Counted : ℕ → Type 0
+Counted time = (1 ≤ time) × (time ≤ highestAge)
+
+pub record Timed (times : PhaseTimes) : Type 0 where
+  pub late : times .late ≤ highestAge
+  pub minimum : Counted (times .minimum)
+  pub maximum : Counted (times .maximum)
+  pub gap : times .gap ≤ highestAge
+  pub yellow : Counted (times .yellow)
+  pub red : Counted (times .red)
+
+pub record Reached (times : WalkTimes) : Type 0 where
+  pub walk : Counted (times .walk)
+  pub first : Counted (times .first)
+  pub second : Counted (times .second)
+
+-- ── Any usable table ──
+
+module _ (table : List Range) (passed : usable table ≡ true) where
+  tested : (allOf (timely table) settingCount ≡ true) × (leb (greatestWait table) 65535 ≡ true)
+  unfolding usable
+  tested = (and-left (allOf (timely table) settingCount) _ passed, and-right (allOf (timely table) settingCount) _ passed)
+
+  told :
+      (setting : ℕ) →
+      setting < settingCount →
+      (leb (highest table setting) highestAge ≡ true) × ((mayBeZero setting || leb 1 (limitOf table setting .low)) ≡ true)
+  unfolding timely
+  told setting l =
+      let test = all-at (timely table) settingCount setting (tested .0) l in
+      (and-left (leb (highest table setting) highestAge) _ test, and-right (leb (highest table setting) highestAge) _ test)
+
+  reached : (setting : ℕ) {time : ℕ} → setting < settingCount → InTable table setting time → time ≤ highestAge
+  unfolding highest
+  reached setting l h = omega (arith, leb-true (highest table setting) highestAge (told setting l .0))
+
+  counted : (setting : ℕ) {time : ℕ} → setting < settingCount → mayBeZero setting ≡ false → InTable table setting time → Counted time
+  counted setting l some h = (omega (arith, leb-true 1 (limitOf table setting .low) (rw some at (told setting l .1))), reached setting l h)
+
+  pub phase-told : {times : PhaseTimes} → SoundPhaseTimes table times → Timed times
+  unfolding mayBeZero
+  phase-told h =
+      record {
+        late = reached phaseSettings (omega arith) (h .late);
+        minimum = counted (phaseSettings + 1) (omega arith) refl (h .minimum);
+        maximum = counted (phaseSettings + 2) (omega arith) refl (h .maximum);
+        gap = reached (phaseSettings + 3) (omega arith) (h .gap);
+        yellow = counted (phaseSettings + 4) (omega arith) refl (h .yellow);
+        red = counted (phaseSettings + 5) (omega arith) refl (h .red);
+      }
+
+  pub walk-told : {times : WalkTimes} → SoundWalkTimes table times → Reached times
+  unfolding mayBeZero
+  walk-told h =
+      record {
+        walk = counted walkSettings (omega arith) refl (h .walk);
+        first = counted (walkSettings + 1) (omega arith) refl (h .first);
+        second = counted (walkSettings + 2) (omega arith) refl (h .second);
+      }
+
+  pub start-told : {time : ℕ} → InTable table startRedSetting time → Counted time
+  unfolding mayBeZero
+  start-told h = counted startRedSetting (omega arith) refl h
+
+  pub wait-two-bytes : greatestWait table ≤ 65535
+  wait-two-bytes = leb-true (greatestWait table) 65535 (tested .1)
+
+-- ── A sound site ──
+
+module _ (site : Site) (sound : Sound site) where
+  pub phase-timed : (p : ℕ) → p < site .size .phases → Timed (phaseTimes (site .times) p)
+  phase-timed p l = phase-told limits table-is-usable (sound .times .phase p l)
+
+  pub walk-reached : (k : ℕ) → k < site .size .movements → Reached (walkTimes (site .times) k)
+  walk-reached k l = walk-told limits table-is-usable (sound .times .walk k l)
+
+  pub start-timed : Counted (site .times .start)
+  start-timed = start-told limits table-is-usable (sound .times .start)

@@ -1,0 +1,44 @@
+#!/usr/bin/env bash
+# Checks the static library from C, one part at a time:
+#
+#     check.sh needs         it needs memcpy and memset, and has no data that could be written
+#     check.sh conditions    what include/willowera.h says of buffers and threads, tried by conditions.c
+#     check.sh steps         steps.c prints the colours of the trace of the junction of two phases
+#
+# The programs are built with gcc's address and undefined-behaviour sanitizers, which watch the caller's side.
+set -u -o pipefail
+cd "$(dirname "$0")/../.." || exit 2
+
+library=target/staticlib/libwillowera.a
+built=$(mktemp -d)
+trap 'rm -rf "$built"' EXIT
+
+# Builds a program and runs it. The library takes nothing from the heap, so that leaks are not looked for.
+run() { # NAME WORDS..
+    name=$1
+    shift
+    cc -std=c11 -Wall -Wextra -Wconversion -g -O1 -fsanitize=address,undefined -fno-sanitize-recover=all -pthread -Iinclude \
+        "examples/c/$name.c" "$library" -o "$built/$name" && ASAN_OPTIONS=detect_leaks=0 "$built/$name" "$@"
+}
+
+undefined_names() { nm -u "$library" | awk '$1 == "U" { print $2 }' | sort | xargs; }
+writable_sections() { readelf -SW "$library" | sed 's/^ *\[ *[0-9]*\]//' | awk '$7 ~ /W/ { print $1 }'; }
+changes() { awk 'NR > 1 && $4 != last { print $1, $4; last = $4 }' "$1"; }
+
+case "${1:-}" in
+needs)
+    echo "needs: $(undefined_names); sections that can be written: $(writable_sections | wc -w)"
+    [ "$(undefined_names)" = 'memcpy memset' ] && [ -z "$(writable_sections)" ]
+    ;;
+conditions)
+    run conditions examples/*/personality.bin
+    ;;
+steps)
+    run steps examples/two_phases/personality.bin 80 12-12:1 |
+        cmp - <(echo 'wait bound 270 steps' && changes examples/two_phases/trace_call.txt)
+    ;;
+*)
+    sed -n '2,8s/^# \{0,1\}//p' "$0"
+    exit 2
+    ;;
+esac

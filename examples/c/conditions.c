@@ -1,0 +1,376 @@
+/* Holds the library to the conditions that include/willowera.h states: where buffers may lie, what a call touches, threads.
+ *
+ *     examples/c/check.sh conditions
+ *
+ * builds it with gcc's sanitizers and runs it on the example sites. They watch this file, the caller's side, and not the library, which
+ * is compiled without them. What the library touches is seen by pages that cannot be read or written, right beside each buffer: a byte
+ * too far is a fault. valgrind watches both sides, and bytes that were never written, in a build without sanitizers:
+ *
+ *     cc -g -pthread -Iinclude examples/c/conditions.c target/staticlib/libwillowera.a -o conditions
+ *     valgrind --error-exitcode=1 ./conditions examples/largest/personality.bin
+ */
+#define _DEFAULT_SOURCE
+#include <pthread.h>
+#include <signal.h>
+#include <stdio.h>
+#include <stdlib.h>
+#include <string.h>
+#include <sys/mman.h>
+#include <sys/time.h>
+
+#include "willowera.h"
+
+enum { PAGE = 4096, STEPS = 600, THREADS = 8, RUNS = 40, ALIGNMENTS = 16, HANDLED = 100, MOST_KINDS = 10 };
+
+struct site {
+    const uint8_t *personality;
+    size_t length;
+    size_t groups;
+    uint64_t known; /* the input bits that have a detector or a button */
+};
+
+static void need(int truth, const char *what)
+{
+    if (!truth) {
+        printf("FAILED: %s\n", what);
+        exit(1);
+    }
+}
+
+/* ── Runs ── */
+
+static uint64_t draw(uint64_t *random)
+{
+    *random ^= *random << 13;
+    *random ^= *random >> 7;
+    *random ^= *random << 17;
+    return *random;
+}
+
+static uint64_t digest(uint64_t sum, const uint8_t *bytes, size_t length)
+{
+    for (size_t i = 0; i < length; i++)
+        sum = (sum ^ bytes[i]) * UINT64_C(1099511628211);
+    return sum;
+}
+
+/* Steps a site from the fresh state with random inputs in these buffers; the answer tells every answer, state and colour apart. */
+static uint64_t run(const struct site *site, uint64_t seed, uint8_t *state, uint8_t *colours)
+{
+    uint64_t random = seed * UINT64_C(0x9e3779b97f4a7c15) + 1, sum = 0;
+
+    need(willowera_fresh(state, WILLOWERA_STATE_BYTES) == 0, "a fresh state");
+    for (int step = 0; step < STEPS; step++) {
+        uint64_t inputs = draw(&random) & draw(&random) & draw(&random) & site->known;
+        uint64_t answer = willowera_step(site->personality, site->length, state, WILLOWERA_STATE_BYTES, inputs, colours,
+                                         site->groups);
+        need(WILLOWERA_NUMBER(answer) == WILLOWERA_ACCEPTED, "a step");
+        sum = digest(sum ^ answer, state, WILLOWERA_STATE_BYTES);
+        sum = digest(sum, colours, site->groups);
+    }
+    return sum;
+}
+
+/* The run in buffers of its own; the colour buffer was never written. */
+static uint64_t run_alone(const struct site *site, uint64_t seed)
+{
+    uint8_t *state = malloc(WILLOWERA_STATE_BYTES), *colours = malloc(site->groups);
+
+    need(state != NULL && colours != NULL, "memory");
+    uint64_t sum = run(site, seed, state, colours);
+    free(state);
+    free(colours);
+    return sum;
+}
+
+/* ── Fences: a page for a buffer, between two that cannot be touched ── */
+
+static uint8_t *fenced_page(void)
+{
+    uint8_t *pages = mmap(NULL, 3 * PAGE, PROT_NONE, MAP_PRIVATE | MAP_ANONYMOUS, -1, 0);
+
+    need(pages != MAP_FAILED, "pages");
+    need(mprotect(pages + PAGE, PAGE, PROT_READ | PROT_WRITE) == 0, "a page for a buffer");
+    return pages + PAGE;
+}
+
+static void free_page(uint8_t *page)
+{
+    munmap(page - PAGE, 3 * PAGE);
+}
+
+/* The place of a buffer of a length: right behind the first fence, or right before the second. */
+static uint8_t *place(uint8_t *page, size_t length, int at_end)
+{
+    return at_end ? page + PAGE - length : page;
+}
+
+static void only_read(uint8_t *page)
+{
+    need(mprotect(page, PAGE, PROT_READ) == 0, "a page that is only read");
+}
+
+static void writable(uint8_t *page)
+{
+    need(mprotect(page, PAGE, PROT_READ | PROT_WRITE) == 0, "a page that is written");
+}
+
+/* The site with its personality in such a page, which cannot be written. */
+static struct site fenced_site(const struct site *site, uint8_t *page, int at_end)
+{
+    struct site fenced = *site;
+    uint8_t *personality = place(page, site->length, at_end);
+
+    memcpy(personality, site->personality, site->length);
+    only_read(page);
+    fenced.personality = personality;
+    return fenced;
+}
+
+/* ── What is touched ── */
+
+/* An accepted step reads and writes nothing beside its buffers, and never writes the personality. */
+static void steps_between_fences(const struct site *site)
+{
+    for (int at_end = 0; at_end < 2; at_end++) {
+        uint8_t *pages[3] = {fenced_page(), fenced_page(), fenced_page()};
+        struct site fenced = fenced_site(site, pages[0], at_end);
+        uint8_t *state = place(pages[1], WILLOWERA_STATE_BYTES, at_end);
+        uint8_t *colours = place(pages[2], site->groups, at_end);
+
+        need(run(&fenced, 1, state, colours) == run_alone(site, 1), "a run between fences");
+        for (int i = 0; i < 3; i++)
+            free_page(pages[i]);
+    }
+}
+
+/* The calls that read, on a personality cut at every length, with a fence at the cut. */
+static void cut_personalities(const struct site *site)
+{
+    uint8_t *page = fenced_page();
+
+    for (size_t length = 0; length < site->length; length++) {
+        uint8_t *cut = place(page, length, 1);
+        writable(page);
+        memcpy(cut, site->personality, length);
+        only_read(page);
+        uint64_t answer = willowera_read(cut, length);
+        need(WILLOWERA_NUMBER(answer) == WILLOWERA_CUT_SHORT, "a cut personality");
+        need(willowera_wait_bound(cut, length) == answer, "the wait bound of a cut personality");
+        for (unsigned kind = 0; kind <= MOST_KINDS; kind++)
+            need(willowera_section(cut, length, (uint16_t)kind) == answer, "a section of a cut personality");
+        need(willowera_step(cut, length, NULL, 0, 0, NULL, 0) == answer, "a step on a cut personality");
+    }
+    free_page(page);
+}
+
+/* A refused call writes nothing, not even the bytes that were there: its buffers cannot be written. */
+static void refusals_write_nothing(const struct site *site)
+{
+    uint8_t *pages[3] = {fenced_page(), fenced_page(), fenced_page()};
+    struct site fenced = fenced_site(site, pages[0], 1);
+    uint8_t *state = place(pages[1], WILLOWERA_STATE_BYTES, 1), *colours = place(pages[2], site->groups, 1);
+    const uint8_t *bytes = fenced.personality;
+    const size_t length = site->length, groups = site->groups, states = WILLOWERA_STATE_BYTES;
+    const uint64_t stray = ~site->known;
+
+    need(willowera_fresh(state, states) == 0, "a fresh state");
+    only_read(pages[1]);
+    only_read(pages[2]);
+    need(willowera_step(bytes, length - 1, state, states, 0, colours, groups) % 256 == WILLOWERA_CUT_SHORT, "1");
+    need(willowera_step(bytes, length, state + 1, states - 1, 0, colours, groups) == WILLOWERA_STATE_NOT_VALID, "13");
+    need(willowera_step(bytes, length, state, states, stray, colours, groups) == WILLOWERA_STRAY_INPUT, "15");
+    need(willowera_step(bytes, length, state, states, 0, colours + 1, groups - 1) == WILLOWERA_BUFFER_SHORT, "14");
+    need(willowera_fresh(state + 1, states - 1) == WILLOWERA_STATE_NOT_VALID, "a fresh state in a shorter buffer");
+
+    writable(pages[1]);
+    memset(state, 255, states);
+    only_read(pages[1]);
+    need(willowera_step(bytes, length, state, states, 0, colours, groups) == WILLOWERA_STATE_NOT_VALID, "13 for bytes that are no state");
+    for (int i = 0; i < 3; i++)
+        free_page(pages[i]);
+}
+
+/* ── Where buffers may lie ── */
+
+/* Any alignment; state and colours right behind the personality, without a byte between. */
+static void alignments(const struct site *site)
+{
+    static uint8_t room[PAGE];
+    uint64_t expected = run_alone(site, 2);
+
+    for (size_t shift = 0; shift < ALIGNMENTS; shift++) {
+        uint8_t *personality = room + shift, *state = personality + site->length;
+        uint8_t *colours = state + WILLOWERA_STATE_BYTES, *behind = colours + site->groups;
+        struct site touching = *site;
+
+        memset(room, 0xc5, sizeof room);
+        memcpy(personality, site->personality, site->length);
+        touching.personality = personality;
+        need(run(&touching, 2, state, colours) == expected, "buffers that touch, at any alignment");
+        need(memcmp(personality, site->personality, site->length) == 0, "the personality stays");
+        while (behind < room + sizeof room)
+            need(*behind++ == 0xc5, "bytes behind the colours stay");
+    }
+}
+
+/* A length of 0 is an empty buffer, whatever the pointer: null, or one at which nothing can be read. */
+static void empty_buffers(const struct site *site)
+{
+    uint8_t *page = fenced_page(), *nowhere[2] = {NULL, page + PAGE};
+    uint8_t state[WILLOWERA_STATE_BYTES], colours[WILLOWERA_MOST_GROUPS];
+    const uint8_t *bytes = site->personality;
+
+    need(willowera_fresh(state, sizeof state) == 0, "a fresh state");
+    for (int i = 0; i < 2; i++) {
+        uint8_t *none = nowhere[i];
+        need(willowera_read(none, 0) == WILLOWERA_CUT_SHORT, "an empty personality");
+        need(willowera_wait_bound(none, 0) == WILLOWERA_CUT_SHORT, "the wait bound of an empty personality");
+        need(willowera_section(none, 0, 1) == WILLOWERA_CUT_SHORT, "a section of an empty personality");
+        need(willowera_fresh(none, 0) == WILLOWERA_STATE_NOT_VALID, "a fresh state in an empty buffer");
+        need(willowera_step(none, 0, none, 0, 0, none, 0) == WILLOWERA_CUT_SHORT, "a step with nothing");
+        need(willowera_step(bytes, site->length, none, 0, 0, colours, sizeof colours) == WILLOWERA_STATE_NOT_VALID, "an empty state");
+        need(willowera_step(bytes, site->length, state, sizeof state, 0, none, 0) == WILLOWERA_BUFFER_SHORT, "no colours");
+    }
+    free_page(page);
+}
+
+/* Lengths are taken whole: one of 2^32 and a little is not taken for a little. Only the first page of each buffer is there. */
+static void long_lengths(const struct site *site)
+{
+    const size_t over = (size_t)1 << 32;
+    uint8_t *room = mmap(NULL, over + PAGE, PROT_NONE, MAP_PRIVATE | MAP_ANONYMOUS | MAP_NORESERVE, -1, 0);
+    uint8_t state[WILLOWERA_STATE_BYTES];
+
+    need(room != MAP_FAILED, "4 GiB of addresses");
+    writable(room);
+    memcpy(room, site->personality, site->length);
+    need(willowera_read(room, over + site->length) == (site->length << 8 | WILLOWERA_LEFT_OVER), "a long personality");
+    need(willowera_fresh(room, over + sizeof state) == WILLOWERA_STATE_NOT_VALID, "a fresh state in a long buffer");
+    need(willowera_fresh(state, sizeof state) == 0, "a fresh state");
+    memcpy(room, state, sizeof state);
+    need(willowera_step(site->personality, site->length, room, over + sizeof state, 0, room, 0) == WILLOWERA_STATE_NOT_VALID,
+         "a long state");
+    uint64_t answer = willowera_step(site->personality, site->length, state, sizeof state, 0, room, over);
+    need(WILLOWERA_NUMBER(answer) == WILLOWERA_ACCEPTED, "a long colour buffer");
+    munmap(room, over + PAGE);
+}
+
+/* ── Threads and signal handlers ── */
+
+struct stepper {
+    const struct site *site;
+    uint64_t seed;
+    uint64_t expected;
+    pthread_barrier_t *start;
+};
+
+static void *step_often(void *argument)
+{
+    const struct stepper *stepper = argument;
+    uint8_t state[WILLOWERA_STATE_BYTES], colours[WILLOWERA_MOST_GROUPS];
+
+    pthread_barrier_wait(stepper->start);
+    for (int i = 0; i < RUNS; i++)
+        need(run(stepper->site, stepper->seed, state, colours) == stepper->expected, "a run beside other threads");
+    return NULL;
+}
+
+/* Threads that step their own states at the same time, on one personality. */
+static void threads(const struct site *site)
+{
+    pthread_t running[THREADS];
+    struct stepper steppers[THREADS];
+    pthread_barrier_t start;
+    uint8_t *page = fenced_page();
+    struct site shared = fenced_site(site, page, 1);
+
+    need(pthread_barrier_init(&start, NULL, THREADS) == 0, "a barrier");
+    for (int i = 0; i < THREADS; i++) {
+        uint64_t seed = (uint64_t)i + 10;
+        steppers[i] = (struct stepper){&shared, seed, run_alone(site, seed), &start};
+        need(pthread_create(&running[i], NULL, step_often, &steppers[i]) == 0, "a thread");
+    }
+    for (int i = 0; i < THREADS; i++)
+        pthread_join(running[i], NULL);
+    pthread_barrier_destroy(&start);
+    free_page(page);
+}
+
+/* What the handler steps: a state of its own. */
+static struct {
+    const struct site *site;
+    uint8_t state[WILLOWERA_STATE_BYTES];
+    uint8_t colours[WILLOWERA_MOST_GROUPS];
+    volatile sig_atomic_t steps;
+} handled;
+
+static void step_handled(int signal)
+{
+    (void)signal;
+    willowera_step(handled.site->personality, handled.site->length, handled.state, sizeof handled.state, 0, handled.colours,
+                   sizeof handled.colours);
+    handled.steps++;
+}
+
+/* A handler that steps its own state in the middle of other steps. */
+static void handlers(const struct site *site)
+{
+    const struct itimerval often = {{0, 200}, {0, 200}}, never = {{0, 0}, {0, 0}};
+    uint64_t expected = run_alone(site, 3);
+    uint8_t state[WILLOWERA_STATE_BYTES], colours[WILLOWERA_MOST_GROUPS];
+
+    handled.site = site;
+    handled.steps = 0;
+    need(willowera_fresh(handled.state, sizeof handled.state) == 0, "a fresh state");
+    need(signal(SIGALRM, step_handled) != SIG_ERR && setitimer(ITIMER_REAL, &often, NULL) == 0, "a timer");
+    while (handled.steps < HANDLED)
+        need(run_alone(site, 3) == expected, "a run with a handler that steps");
+    need(setitimer(ITIMER_REAL, &never, NULL) == 0 && signal(SIGALRM, SIG_IGN) != SIG_ERR, "the timer's end");
+
+    need(willowera_fresh(state, sizeof state) == 0, "a fresh state");
+    for (int step = 0; step < handled.steps; step++)
+        willowera_step(site->personality, site->length, state, sizeof state, 0, colours, sizeof colours);
+    need(memcmp(state, handled.state, sizeof state) == 0, "the handler's own state");
+}
+
+/* ── Sites ── */
+
+static struct site site_of(const char *path, uint8_t *room, size_t size)
+{
+    struct site site = {room, 0, 0, 0};
+    FILE *file = fopen(path, "rb");
+
+    need(file != NULL, path);
+    site.length = fread(room, 1, size, file);
+    fclose(file);
+    need(willowera_read(room, site.length) == 0, "an accepted personality");
+    site.groups = WILLOWERA_LENGTH(willowera_section(room, site.length, 3)) / 2;
+    size_t detectors = WILLOWERA_LENGTH(willowera_section(room, site.length, 5)) / 2;
+    size_t buttons = WILLOWERA_LENGTH(willowera_section(room, site.length, 6)) / 6;
+    for (size_t d = 0; d < detectors; d++)
+        site.known |= WILLOWERA_DETECTOR(d);
+    for (size_t k = 0; k < buttons; k++)
+        site.known |= WILLOWERA_BUTTON(k);
+    return site;
+}
+
+int main(int count, char **paths)
+{
+    static uint8_t room[PAGE / 2];
+
+    need(count > 1, "usage: conditions PERSONALITY ..");
+    for (int i = 1; i < count; i++) {
+        struct site site = site_of(paths[i], room, sizeof room);
+        steps_between_fences(&site);
+        cut_personalities(&site);
+        refusals_write_nothing(&site);
+        alignments(&site);
+        empty_buffers(&site);
+        long_lengths(&site);
+        threads(&site);
+        handlers(&site);
+        printf("%s: the conditions hold\n", paths[i]);
+    }
+    return 0;
+}
