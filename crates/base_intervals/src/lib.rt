@@ -1,119 +1,229 @@
-// Tests of an interval and of a stage, and what is asked of a phase that may be held.
+// The intervals and the stages, a row for each, the tests of them, and what is asked of a phase that may be held.
+ghost use Prim.Native.Nat.{_<_};
 ghost use mathlib.Core.Path.{_≡_};
-ghost use Rattle.rules.specs.Intervals.{isRunning, isMinimumGreen, isGreen, isLeaving, isBeforeStart, isStartRed, isIdle, isWalk, isWalkOrFirst, isSecond, isHeld, phaseHeld};
+ghost use lib.Dec.{ltb};
+ghost use lib.ListN.{length, getD};
+ghost use Rattle.rules.specs.declared.state.Interval.the-variants.{StartRed};
+ghost use Rattle.rules.specs.declared.state.Stage.the-variants.{Idle};
+ghost use Rattle.rules.specs.Intervals.{intervalRow, intervals, isRunning, isMinimumGreen, isGreen, isLeaving, isBeforeStart, isStartRed, stageRow, stages, isIdle, isWalk, isWalkOrFirst, isSecond, isHeld, phaseHeld};
 use rules::state::Held;
 use rules::state::Interval;
+use rules::state::IntervalRow;
 use rules::state::Stage;
+use rules::state::StageRow;
 
-pub fn running(interval: Interval) -> bool
-    ensures { λ r. ⌜ r ≡ isRunning interval ⌝ }
+// ---- Intervals ----
+
+pub fn interval_row(interval: Interval) -> IntervalRow
+    ensures { λ r. ⌜ r ≡ intervalRow interval ⌝ }
 {
     match interval {
-        Interval::StartRed => false,
-        Interval::LateStart => false,
-        Interval::MinimumGreen => false,
-        Interval::Running => true,
-        Interval::Yellow => false,
-        Interval::AllRed => false,
+        Interval::StartRed => IntervalRow {
+            code: 0,
+            letter: 83,
+            start: true,
+            minimum: false,
+            running: false,
+            green: false,
+            leaving: false,
+            before: true,
+        },
+        Interval::LateStart => IntervalRow {
+            code: 1,
+            letter: 76,
+            start: false,
+            minimum: false,
+            running: false,
+            green: false,
+            leaving: false,
+            before: false,
+        },
+        Interval::MinimumGreen => IntervalRow {
+            code: 2,
+            letter: 77,
+            start: false,
+            minimum: true,
+            running: false,
+            green: true,
+            leaving: false,
+            before: false,
+        },
+        Interval::Running => IntervalRow {
+            code: 3,
+            letter: 71,
+            start: false,
+            minimum: false,
+            running: true,
+            green: true,
+            leaving: false,
+            before: false,
+        },
+        Interval::Yellow => IntervalRow {
+            code: 4,
+            letter: 89,
+            start: false,
+            minimum: false,
+            running: false,
+            green: false,
+            leaving: true,
+            before: false,
+        },
+        Interval::AllRed => IntervalRow {
+            code: 5,
+            letter: 82,
+            start: false,
+            minimum: false,
+            running: false,
+            green: false,
+            leaving: true,
+            before: true,
+        },
     }
+}
+
+// A code stands for an interval.
+pub fn interval_known(code: u8) -> bool
+    ensures { λ r. ⌜ r ≡ ltb code (length intervals) ⌝ }
+{
+    code < 6
+}
+
+// The interval of a code.
+pub fn interval_of(code: u8) -> Interval
+    requires { ⌜ code < length intervals ⌝ }
+    ensures { λ r. ⌜ r ≡ getD intervals code StartRed ⌝ }
+{
+    match code {
+        1 => Interval::LateStart,
+        2 => Interval::MinimumGreen,
+        3 => Interval::Running,
+        4 => Interval::Yellow,
+        5 => Interval::AllRed,
+        _ => Interval::StartRed,
+    }
+}
+
+pub fn start_red(interval: Interval) -> bool
+    ensures { λ r. ⌜ r ≡ isStartRed interval ⌝ }
+{
+    interval_row(interval).start
 }
 
 pub fn minimum_green(interval: Interval) -> bool
     ensures { λ r. ⌜ r ≡ isMinimumGreen interval ⌝ }
 {
-    match interval {
-        Interval::StartRed => false,
-        Interval::LateStart => false,
-        Interval::MinimumGreen => true,
-        Interval::Running => false,
-        Interval::Yellow => false,
-        Interval::AllRed => false,
-    }
+    interval_row(interval).minimum
 }
 
-// Minimum green or running.
+pub fn running(interval: Interval) -> bool
+    ensures { λ r. ⌜ r ≡ isRunning interval ⌝ }
+{
+    interval_row(interval).running
+}
+
 pub fn green(interval: Interval) -> bool
     ensures { λ r. ⌜ r ≡ isGreen interval ⌝ }
 {
-    minimum_green(interval) | running(interval)
+    interval_row(interval).green
 }
 
-// Yellow or all-red: the phase is being left.
 pub fn leaving(interval: Interval) -> bool
     ensures { λ r. ⌜ r ≡ isLeaving interval ⌝ }
 {
-    match interval {
-        Interval::StartRed => false,
-        Interval::LateStart => false,
-        Interval::MinimumGreen => false,
-        Interval::Running => false,
-        Interval::Yellow => true,
-        Interval::AllRed => true,
-    }
+    interval_row(interval).leaving
 }
 
-// Start red or all-red: a phase starts when it ends.
 pub fn before_start(interval: Interval) -> bool
     ensures { λ r. ⌜ r ≡ isBeforeStart interval ⌝ }
 {
-    match interval {
-        Interval::StartRed => true,
-        Interval::LateStart => false,
-        Interval::MinimumGreen => false,
-        Interval::Running => false,
-        Interval::Yellow => false,
-        Interval::AllRed => true, // the target starts
+    interval_row(interval).before
+}
+
+// ---- Stages ----
+
+pub fn stage_row(stage: Stage) -> StageRow
+    ensures { λ r. ⌜ r ≡ stageRow stage ⌝ }
+{
+    match stage {
+        Stage::Idle => StageRow {
+            code: 0,
+            idle: true,
+            walk: false,
+            holding: false,
+            second: false,
+        },
+        Stage::Walk => StageRow {
+            code: 1,
+            idle: false,
+            walk: true,
+            holding: true,
+            second: false,
+        },
+        Stage::ClearanceOne => StageRow {
+            code: 2,
+            idle: false,
+            walk: false,
+            holding: true,
+            second: false,
+        },
+        Stage::ClearanceTwo => StageRow {
+            code: 3,
+            idle: false,
+            walk: false,
+            holding: false,
+            second: true,
+        },
     }
 }
 
-// The one interval before a start in which no phase is being left.
-pub fn start_red(interval: Interval) -> bool
-    ensures { λ r. ⌜ r ≡ isStartRed interval ⌝ }
+// A code stands for a stage.
+pub fn stage_known(code: u8) -> bool
+    ensures { λ r. ⌜ r ≡ ltb code (length stages) ⌝ }
 {
-    before_start(interval) & !leaving(interval)
+    code < 4
 }
 
-pub fn walking(stage: Stage) -> bool
-    ensures { λ r. ⌜ r ≡ isWalk stage ⌝ }
+// The stage of a code. The remainder is the code itself, and has no value but four.
+pub fn stage_of(code: u8) -> Stage
+    requires { ⌜ code < length stages ⌝ }
+    ensures { λ r. ⌜ r ≡ getD stages code Idle ⌝ }
 {
-    match stage {
-        Stage::Idle => false,
-        Stage::Walk => true,
-        Stage::ClearanceOne => false,
-        Stage::ClearanceTwo => false,
-    }
-}
-
-pub fn second(stage: Stage) -> bool
-    ensures { λ r. ⌜ r ≡ isSecond stage ⌝ }
-{
-    match stage {
-        Stage::Idle => false,
-        Stage::Walk => false,
-        Stage::ClearanceOne => false,
-        Stage::ClearanceTwo => true,
+    let known = code % 4;
+    match known {
+        1 => Stage::Walk,
+        2 => Stage::ClearanceOne,
+        3 => Stage::ClearanceTwo,
+        _ => Stage::Idle,
     }
 }
 
 pub fn idle(stage: Stage) -> bool
     ensures { λ r. ⌜ r ≡ isIdle stage ⌝ }
 {
-    match stage {
-        Stage::Idle => true,
-        Stage::Walk => false,
-        Stage::ClearanceOne => false,
-        Stage::ClearanceTwo => false,
-    }
+    stage_row(stage).idle
 }
 
-// Walk or C1: neither idle nor in C2.
+pub fn walking(stage: Stage) -> bool
+    ensures { λ r. ⌜ r ≡ isWalk stage ⌝ }
+{
+    stage_row(stage).walk
+}
+
+// Walk or C1.
 pub fn walk_or_first(stage: Stage) -> bool
     ensures { λ r. ⌜ r ≡ isWalkOrFirst stage ⌝ }
 {
-    !(idle(stage) | second(stage))
+    stage_row(stage).holding
 }
 
-// Whether a phase is held.
+pub fn second(stage: Stage) -> bool
+    ensures { λ r. ⌜ r ≡ isSecond stage ⌝ }
+{
+    stage_row(stage).second
+}
+
+// ---- A phase that may be held ----
+
 pub fn held(h: Held) -> bool
     ensures { λ r. ⌜ r ≡ isHeld h ⌝ }
 {

@@ -1,97 +1,83 @@
--- Tests of an interval and of a stage, the interval's letter, and what is asked of a phase that may be held.
+-- The intervals and the stages, a row for each, the tests of them that the rules make, and what is asked of a phase that may be held.
 use Prim.Native.Nat.{ℕ}
 use mathlib.Core.Bool.{Bool, true, false}
+use mathlib.Core.List.{List, [], _∷_}
 use Rattle.rules.specs.declared.state.Held.{Held}
 use Rattle.rules.specs.declared.state.Held.the-variants.{Nothing, Phase}
 use Rattle.rules.specs.declared.state.Interval.{Interval}
 use Rattle.rules.specs.declared.state.Interval.the-variants.{StartRed, LateStart, MinimumGreen, Running, Yellow, AllRed}
+use Rattle.rules.specs.declared.state.IntervalRow.{IntervalRow}
 use Rattle.rules.specs.declared.state.Stage.{Stage}
 use Rattle.rules.specs.declared.state.Stage.the-variants.{Idle, Walk, ClearanceOne, ClearanceTwo}
+use Rattle.rules.specs.declared.state.StageRow.{StageRow}
 use Rattle.rules.specs.Bytes.{bit}
 
-unfoldable pub isIdle : Stage → Bool
-isIdle Idle = true
-isIdle Walk = false
-isIdle ClearanceOne = false
-isIdle ClearanceTwo = false
+-- ── Intervals ──
 
-unfoldable pub isWalk : Stage → Bool
-isWalk Idle = false
-isWalk Walk = true
-isWalk ClearanceOne = false
-isWalk ClearanceTwo = false
+-- The letters are S, L, M, G, Y and R.
+abbrev pub intervalRow : Interval → IntervalRow
+intervalRow StartRed = record { code = 0; letter = 83; start = true; minimum = false; running = false; green = false; leaving = false; before = true }
+intervalRow LateStart = record { code = 1; letter = 76; start = false; minimum = false; running = false; green = false; leaving = false; before = false }
+intervalRow MinimumGreen = record { code = 2; letter = 77; start = false; minimum = true; running = false; green = true; leaving = false; before = false }
+intervalRow Running = record { code = 3; letter = 71; start = false; minimum = false; running = true; green = true; leaving = false; before = false }
+intervalRow Yellow = record { code = 4; letter = 89; start = false; minimum = false; running = false; green = false; leaving = true; before = false }
+intervalRow AllRed = record { code = 5; letter = 82; start = false; minimum = false; running = false; green = false; leaving = true; before = true }
 
-unfoldable pub isWalkOrFirst : Stage → Bool
-isWalkOrFirst Idle = false
-isWalkOrFirst Walk = true
-isWalkOrFirst ClearanceOne = true
-isWalkOrFirst ClearanceTwo = false
-
-unfoldable pub isSecond : Stage → Bool
-isSecond Idle = false
-isSecond Walk = false
-isSecond ClearanceOne = false
-isSecond ClearanceTwo = true
+-- all of them, in the order of their codes
+abbrev pub intervals : List Interval
+intervals = StartRed ∷ LateStart ∷ MinimumGreen ∷ Running ∷ Yellow ∷ AllRed ∷ []
 
 unfoldable pub isStartRed : Interval → Bool
-isStartRed StartRed = true
-isStartRed LateStart = false
-isStartRed MinimumGreen = false
-isStartRed Running = false
-isStartRed Yellow = false
-isStartRed AllRed = false
-
-unfoldable pub isRunning : Interval → Bool
-isRunning StartRed = false
-isRunning LateStart = false
-isRunning MinimumGreen = false
-isRunning Running = true
-isRunning Yellow = false
-isRunning AllRed = false
+isStartRed interval = intervalRow interval .start
 
 unfoldable pub isMinimumGreen : Interval → Bool
-isMinimumGreen StartRed = false
-isMinimumGreen LateStart = false
-isMinimumGreen MinimumGreen = true
-isMinimumGreen Running = false
-isMinimumGreen Yellow = false
-isMinimumGreen AllRed = false
+isMinimumGreen interval = intervalRow interval .minimum
+
+unfoldable pub isRunning : Interval → Bool
+isRunning interval = intervalRow interval .running
 
 -- minimum green or running
 unfoldable pub isGreen : Interval → Bool
-isGreen StartRed = false
-isGreen LateStart = false
-isGreen MinimumGreen = true
-isGreen Running = true
-isGreen Yellow = false
-isGreen AllRed = false
+isGreen interval = intervalRow interval .green
 
 -- yellow or all-red: the phase is being left
 unfoldable pub isLeaving : Interval → Bool
-isLeaving StartRed = false
-isLeaving LateStart = false
-isLeaving MinimumGreen = false
-isLeaving Running = false
-isLeaving Yellow = true
-isLeaving AllRed = true
+isLeaving interval = intervalRow interval .leaving
 
 -- start red or all-red: a phase starts when it ends
 unfoldable pub isBeforeStart : Interval → Bool
-isBeforeStart StartRed = true
-isBeforeStart LateStart = false
-isBeforeStart MinimumGreen = false
-isBeforeStart Running = false
-isBeforeStart Yellow = false
-isBeforeStart AllRed = true
+isBeforeStart interval = intervalRow interval .before
 
--- the interval's letter in a trace, S L M G Y R, as its ASCII code
+-- the interval's letter in a trace, as its ASCII code
 unfoldable pub letterOf : Interval → ℕ
-letterOf StartRed = 83
-letterOf LateStart = 76
-letterOf MinimumGreen = 77
-letterOf Running = 71
-letterOf Yellow = 89
-letterOf AllRed = 82
+letterOf interval = intervalRow interval .letter
+
+-- ── Stages ──
+
+abbrev pub stageRow : Stage → StageRow
+stageRow Idle = record { code = 0; idle = true; walk = false; holding = false; second = false }
+stageRow Walk = record { code = 1; idle = false; walk = true; holding = true; second = false }
+stageRow ClearanceOne = record { code = 2; idle = false; walk = false; holding = true; second = false }
+stageRow ClearanceTwo = record { code = 3; idle = false; walk = false; holding = false; second = true }
+
+-- all of them, in the order of their codes
+abbrev pub stages : List Stage
+stages = Idle ∷ Walk ∷ ClearanceOne ∷ ClearanceTwo ∷ []
+
+unfoldable pub isIdle : Stage → Bool
+isIdle stage = stageRow stage .idle
+
+unfoldable pub isWalk : Stage → Bool
+isWalk stage = stageRow stage .walk
+
+-- walk or C1
+unfoldable pub isWalkOrFirst : Stage → Bool
+isWalkOrFirst stage = stageRow stage .holding
+
+unfoldable pub isSecond : Stage → Bool
+isSecond stage = stageRow stage .second
+
+-- ── A phase that may be held ──
 
 unfoldable pub isHeld : Held → Bool
 isHeld Nothing = false

@@ -18,6 +18,37 @@ pub enum Stage {
     ClearanceTwo,
 }
 
+// An interval's row: its code in a state's bytes, its letter in a trace as its ASCII code, and what the rules ask of it.
+pub struct IntervalRow {
+    pub code: u8,
+    pub letter: u8,
+    // it is start red
+    pub start: bool,
+    // it is minimum green
+    pub minimum: bool,
+    // it is running
+    pub running: bool,
+    // the phase has its green: minimum green or running
+    pub green: bool,
+    // the phase is being left
+    pub leaving: bool,
+    // a phase starts when it ends
+    pub before: bool,
+}
+
+// A stage's row: its code in a state's bytes, and what the rules ask of it.
+pub struct StageRow {
+    pub code: u8,
+    // the movement is idle
+    pub idle: bool,
+    // it is in walk
+    pub walk: bool,
+    // it is in walk or C1, and the phase stays
+    pub holding: bool,
+    // it is in C2
+    pub second: bool,
+}
+
 // A phase that the state holds, or none.
 pub enum Held {
     Nothing,

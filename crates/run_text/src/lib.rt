@@ -3,10 +3,8 @@
 ghost use Prim.Native.Nat.{_+_, _*_};
 ghost use mathlib.Core.Path.{_≡_};
 ghost use lib.ListN.{length, getD};
-ghost use Rattle.rules.specs.Intervals.{letterOf};
 ghost use Rattle.rules.specs.TraceText.{phaseLetter, colourLetter, lineTail};
 ghost use Rattle.run_text.specs.Lines.{inputsOf, leading, shown, tailLength, tailOf, Counted};
-use rules::state::Interval;
 use rules::state::Position;
 
 const PHASES: [u8; 7] = [65, 66, 67, 68, 69, 70, 71];
@@ -29,20 +27,6 @@ fn colour_letter(code: u8) -> u8
     if at < COLOURS.len() { COLOURS[at] } else { 82 }
 }
 
-// S, L, M, G, Y or R.
-fn interval_letter(interval: Interval) -> u8
-    ensures { λ r. ⌜ r ≡ letterOf interval ⌝ }
-{
-    match interval {
-        Interval::StartRed => 83,
-        Interval::LateStart => 76,
-        Interval::MinimumGreen => 77,
-        Interval::Running => 71,
-        Interval::Yellow => 89,
-        Interval::AllRed => 82,
-    }
-}
-
 // Letter i of a line up to the groups: a space, the phase, a space, the interval, a space.
 fn leading_letter(position: Position, i: usize) -> u8
     ensures { λ r. ⌜ r ≡ getD (leading position) i 32 ⌝ }
@@ -52,7 +36,7 @@ fn leading_letter(position: Position, i: usize) -> u8
     }
     if i == 3 {
         let interval = position.interval;
-        return interval_letter(interval);
+        return base_intervals::interval_row(interval).letter;
     }
     32
 }

@@ -1,17 +1,15 @@
--- `base_intervals::green` meets its contract: one of the two tests.
+-- `base_intervals::green` meets its contract: the test is a field of the interval's row.
 use borrow.Author.Needs.{needs}
-use Rattle.base_intervals.proofs.Variants.{green-told}
+use Rattle.rules.specs.Intervals.{isGreen}
 use Rattle.base_intervals.proofs.green.Statement.{statement}
 use Rattle.base_intervals.proofs.green.Tie as tie
 
-minimum-green-requires : tie.Need-minimum-green-requires
-minimum-green-requires c κs = search needs
-
-running-requires : tie.Need-running-requires
-running-requires c κs = search needs
+interval-row-requires : tie.Need-interval-row-requires
+interval-row-requires c κs = search needs
 
 returns : tie.Need-returns
-returns c = rw (c .running .ensures, c .before .minimum-green .ensures) (green-told (c .before .before .args .interval))
+unfolding isGreen
+returns c = rw (c .interval-row .ensures)
 
 pub green-spec : {M : Type 1} → statement M
-green-spec = tie.close (tie.spec minimum-green-requires running-requires returns)
+green-spec = tie.close (tie.spec interval-row-requires returns)

@@ -1,17 +1,15 @@
--- `base_intervals::start_red` meets its contract: before a start, and not leaving.
+-- `base_intervals::start_red` meets its contract: the test is a field of the interval's row.
 use borrow.Author.Needs.{needs}
-use Rattle.base_intervals.proofs.Variants.{start-red-told}
+use Rattle.rules.specs.Intervals.{isStartRed}
 use Rattle.base_intervals.proofs.start_red.Statement.{statement}
 use Rattle.base_intervals.proofs.start_red.Tie as tie
 
-before-start-requires : tie.Need-before-start-requires
-before-start-requires c κs = search needs
-
-leaving-requires : tie.Need-leaving-requires
-leaving-requires c κs = search needs
+interval-row-requires : tie.Need-interval-row-requires
+interval-row-requires c κs = search needs
 
 returns : tie.Need-returns
-returns c = rw (c .leaving .ensures, c .before .before-start .ensures) (start-red-told (c .before .before .args .interval))
+unfolding isStartRed
+returns c = rw (c .interval-row .ensures)
 
 pub start-red-spec : {M : Type 1} → statement M
-start-red-spec = tie.close (tie.spec before-start-requires leaving-requires returns)
+start-red-spec = tie.close (tie.spec interval-row-requires returns)

@@ -1,17 +1,15 @@
--- `base_intervals::walk_or_first` meets its contract: neither of the two others.
+-- `base_intervals::walk_or_first` meets its contract: the test is a field of the stage's row.
 use borrow.Author.Needs.{needs}
-use Rattle.base_intervals.proofs.Variants.{walk-or-first-told}
+use Rattle.rules.specs.Intervals.{isWalkOrFirst}
 use Rattle.base_intervals.proofs.walk_or_first.Statement.{statement}
 use Rattle.base_intervals.proofs.walk_or_first.Tie as tie
 
-idle-requires : tie.Need-idle-requires
-idle-requires c κs = search needs
-
-second-requires : tie.Need-second-requires
-second-requires c κs = search needs
+stage-row-requires : tie.Need-stage-row-requires
+stage-row-requires c κs = search needs
 
 returns : tie.Need-returns
-returns c = rw (c .second .ensures, c .before .idle .ensures) (walk-or-first-told (c .before .before .args .stage))
+unfolding isWalkOrFirst
+returns c = rw (c .stage-row .ensures)
 
 pub walk-or-first-spec : {M : Type 1} → statement M
-walk-or-first-spec = tie.close (tie.spec idle-requires second-requires returns)
+walk-or-first-spec = tie.close (tie.spec stage-row-requires returns)

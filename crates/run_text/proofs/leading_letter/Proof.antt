@@ -15,12 +15,12 @@ returns : tie.Need-returns
 unfolding leading
 returns c = rw (c .before .if1 .taken) (c .phase-letter .ensures)
 
-interval-letter-requires : tie.Need-interval-letter-requires
-interval-letter-requires c κs = search needs
+interval-row-requires : tie.Need-interval-row-requires
+interval-row-requires c κs = search needs
 
 returns-2 : tie.Need-returns-2
-unfolding leading
-returns-2 c = rw (c .before .if2 .taken) (c .interval-letter .ensures)
+unfolding leading letterOf
+returns-2 c = rw (c .before .if2 .taken, c .interval-row .ensures)
 
 returns-3 : tie.Need-returns-3
 unfolding leading
@@ -30,4 +30,4 @@ returns-3 c =
 
 pub leading-letter-spec : {M : Type 1} → statement M
 leading-letter-spec =
-    tie.close (tie.spec phase-letter-requires returns interval-letter-requires returns-2 returns-3)
+    tie.close (tie.spec phase-letter-requires returns interval-row-requires returns-2 returns-3)
