@@ -1,4 +1,10 @@
-pub mod Laws
+pub mod BytesFirst
+pub mod Joined
+pub mod Known
+pub mod Lists
+pub mod Meanings
+pub mod Movements
 pub mod RoundTrips
-pub mod Told
+pub mod StateFirst
+pub mod Stores
 pub mod Written

@@ -1,5 +1,0 @@
-pub mod Joined
-pub mod Lawful
-pub mod Parts
-pub mod Places
-pub mod Stores
