@@ -19,7 +19,7 @@ use Rattle.rules.specs.Call.{stepVerdict, callVerdict}
 use Rattle.rules.specs.Lookup.{lookupVerdict}
 use Rattle.rules.proofs.Tests.{and-right}
 use Rattle.rules.proofs.Verdicts.{or-first, or-refused, refuse-failed, first-refused}
-use Rattle.proof_acceptance.proofs.Sections.{SiteAccepted, body-held, record-within, site-accepted, groups-accepted}
+use Rattle.proof_acceptance.proofs.Sections.{SiteAccepted, PedestriansAccepted, body-held, record-within, site-accepted, groups-accepted, pedestrians-accepted}
 
 abbrev pub lastPlace : ℕ
 lastPlace = 448
@@ -142,9 +142,9 @@ module _ (b : List ℕ) where
       or-named _ _ (section-named (pedestriansHead b) 6 _ (omega arith))
       (λ e. times-named (pedestriansHead b) 6 walkSettings 3 (movementCount b) (omega arith) (omega arith))
 
-  after-named : pedestriansHead b ≤ 396 → movementCount b ≤ 8 → Named (afterPedestrians b)
+  after-named : pedestriansHead b ≤ 396 → movementCount b ≤ 8 → PedestriansAccepted b → Named (afterPedestrians b)
   unfolding afterPedestrians endOf bodyAt
-  after-named near few = if-named _ 12 _ (omega arith) (omega arith)
+  after-named near few told = if-named _ 12 _ (omega arith) (omega (arith, told .body))
 
   -- ── The personality, a step call and a lookup ──
 
@@ -162,7 +162,7 @@ module _ (b : List ℕ) where
       (λ h. or-named _ _ (detectors-named counts)
       (λ i.
       let near = pedestrians-near counts i in
-      or-named _ _ (pedestrians-named near few) (λ j. after-named near few))))))
+      or-named _ _ (pedestrians-named near few) (λ j. after-named near few (pedestrians-accepted b j)))))))
 
   pub call-named : (s : State) (inputs room : ℕ) → Named (callVerdict b s inputs room)
   unfolding callVerdict stepVerdict
