@@ -8,12 +8,14 @@ use native.Mathlib.Nat.{pow-succ'}
 use native.Mathlib.Omega.{arith}
 use lib.Bits.{bitAnd, and-step, and-shr, and-lt}
 use lib.Dec.{eqb}
+use lib.Pow.{pow-pos}
 use borrow.Author.Tests.{eqb-true, eqb-false, ne-eqb, eq-eqb}
 use Rattle.rules.specs.Bytes.{bit}
 use Rattle.rules.specs.Rows.{anyOf}
 use Rattle.rules.proofs.Tests.{decided, never-both}
 use Rattle.rules.proofs.Rows.{any-found, any-false}
 use Rattle.rules.proofs.Bits.{bit-blank}
+use Rattle.base_reads.proofs.Parity.{same-parity}
 use Rattle.base_reads.proofs.Shifts.{half-bit}
 
 -- ── The bits of a conjunction ──
@@ -40,20 +42,21 @@ bit-and p a b =
     rw (and-shr a b p, lowest (a / 2 ^ p) (b / 2 ^ p))
     (both-one (a / 2 ^ p % 2) (b / 2 ^ p % 2) (omega arith) (omega arith))
 
--- ── A number without bits ──
+-- ── Numbers of n bits ──
 
-lowest-bit : (x : ℕ) → bit 0 x ≡ false → x % 2 ≡ 0
-unfolding bit
-lowest-bit x h = let odd = eqb-false (x / 2 ^ 0 % 2) 1 h in omega (arith, odd)
-
-pub no-bits : (n x : ℕ) → x < 2 ^ n → ((p : ℕ) → p < n → bit p x ≡ false) → x ≡ 0
-no-bits zero x h none = omega arith
-no-bits (suc n) x h none =
+-- those with the same bits are the same
+pub same-bits : (n x y : ℕ) → x < 2 ^ n → y < 2 ^ n → ((p : ℕ) → p < n → bit p x ≡ bit p y) → x ≡ y
+same-bits zero x y h k same = omega arith
+same-bits (suc n) x y h k same =
     omega (
       arith,
-      no-bits n (x / 2) (omega (arith, pow-succ' 2 n)) (λ p l. sym (half-bit p x) ∙ none (suc p) (omega arith)),
-      lowest-bit x (none 0 (omega arith)),
+      same-bits n (x / 2) (y / 2) (omega (arith, pow-succ' 2 n)) (omega (arith, pow-succ' 2 n))
+          (λ p l. sym (half-bit p x) ∙ same (suc p) (omega arith) ∙ half-bit p y),
+      same-parity x y (same 0 (omega arith)),
     )
+
+pub no-bits : (n x : ℕ) → x < 2 ^ n → ((p : ℕ) → p < n → bit p x ≡ false) → x ≡ 0
+no-bits n x h none = same-bits n x 0 h (pow-pos n) (λ p l. none p l ∙ sym (bit-blank p))
 
 -- ── Together ──
 

@@ -1,3 +1,4 @@
+pub mod Parity
 pub mod Past
 pub mod Shifts
 pub mod Lowest

@@ -14,15 +14,8 @@ use borrow.Author.Tests.{eqb-true, eqb-false, ne-eqb, eq-eqb}
 use Rattle.rules.specs.Bytes.{bit}
 use Rattle.rules.proofs.Bits.{bit-blank, bit-below}
 use Rattle.rules.proofs.Tests.{and-left, decided}
+use Rattle.base_reads.proofs.Parity.{even-bit, odd-bit}
 use Rattle.base_reads.proofs.Shifts.{half-bit}
-
-even-bit : (x : ℕ) → x % 2 ≡ 0 → bit 0 x ≡ false
-unfolding bit
-even-bit x e = ne-eqb (x / 2 ^ 0 % 2) 1 (λ z. omega (arith, z))
-
-odd-bit : (x : ℕ) → x % 2 ≡ 1 → bit 0 x ≡ true
-unfolding bit
-odd-bit x e = eq-eqb (x / 2 ^ 0 % 2) 1 (omega (arith, e))
 
 -- ── One bit ──
 

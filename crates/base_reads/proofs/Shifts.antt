@@ -27,11 +27,14 @@ moved-bit : (x s d : ℕ) → bit (s + d) (x * 2 ^ s) ≡ bit d x
 unfolding bit
 moved-bit x s d = rw (← shr-shr (x * 2 ^ s) s d, shl-shr x s)
 
--- to the left, below the shift
-vacated-bit : (x d k : ℕ) → bit k (x * 2 ^ (suc d + k)) ≡ false
+vacated : (x d k : ℕ) → bit k (x * 2 ^ (suc d + k)) ≡ false
 unfolding bit
-vacated-bit x d k =
+vacated x d k =
     rw (pow-add 2 (suc d) k, ← mul-assoc x (2 ^ suc d) (2 ^ k), shl-shr (x * 2 ^ suc d) k, shifted-even x d)
+
+-- to the left, below the shift
+pub vacated-bit : (x s k : ℕ) → k < s → bit k (x * 2 ^ s) ≡ false
+vacated-bit x s k h = subst (λ (t : ℕ). bit k (x * 2 ^ t) ≡ false) (omega arith) (vacated x (s - k - 1) k)
 
 kept-bit : (d k x : ℕ) → bit k (x % 2 ^ (d + 1 + k)) ≡ bit k x
 unfolding bit
@@ -50,6 +53,5 @@ bit-up x s w k h =
     rw e
     (subst (λ (j : ℕ). bit j (x * 2 ^ s) ≡ bit (k - s) x) (omega (arith, leb-true s k e)) (moved-bit x s (k - s))))
     (λ (e : leb s k ≡ false).
-    rw e
-    (subst (λ (t : ℕ). bit k (x * 2 ^ t) ≡ false) (omega (arith, leb-false s k e)) (vacated-bit x (s - k - 1) k)))
+    rw e (vacated-bit x s k (leb-false s k e)))
     (decided (leb s k))

@@ -132,6 +132,7 @@ pub record DetectorsAccepted (b : List ℕ) : Type 0 where
 
 pub record PedestriansAccepted (b : List ℕ) : Type 0 where
   pub next : endOf b ≤ length b
+  pub body : bodyLength b (pedestriansHead b) ≡ movementCount b * 6
   pub time :
       (k : ℕ) →
       k < movementCount b →
@@ -233,8 +234,10 @@ detectors-accepted b h =
 pub pedestrians-accepted : (b : List ℕ) → pedestriansSection b ≡ Accepted → PedestriansAccepted b
 unfolding pedestriansSection endOf
 pedestrians-accepted b h =
+    let body = body-held b (pedestriansHead b) 6 _ (or-first _ _ h) in
     record {
-      next = records-held b (pedestriansHead b) 6 (movementCount b) 6 (or-first _ _ h);
+      next = body .1;
+      body = eqb-true _ _ (body .0);
       time = times-passed b (pedestriansHead b) 6 walkSettings 3 (movementCount b) (or-later _ _ h);
     }
 

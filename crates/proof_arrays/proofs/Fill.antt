@@ -167,10 +167,3 @@ module _ {ℓ} {A : Type ℓ} where
       let apart = eqb-false j i t in
       getD-set-other l i j a d apart ∙ sym (other j k apart))
       (decided (eqb j i)))
-
--- a row that reads another of the same length by index
-pub row-of-row :
-    {A B : Type 0} (h : ℕ → A → B) (f : ℕ → A) (n : ℕ) (d : A) →
-    listOf (λ i. h i (getD (listOf f n) i d)) n ≡ listOf (λ i. h i (f i)) n
-row-of-row h f n d =
-    list-same (λ i. h i (getD (listOf f n) i d)) (λ i. h i (f i)) n (λ i l. rw (list-at f n i d l))

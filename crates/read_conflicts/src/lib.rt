@@ -3,34 +3,30 @@
 ghost use mathlib.Core.Path.{_≡_};
 ghost use Rattle.rules.specs.declared.answer.Verdict.the-variants.{Accepted};
 ghost use Rattle.rules.specs.Personality.{siteSection, groupsSection, conflictsSection};
-use crate::phases::phase_conflicts;
-use crate::records::conflict_records;
-use read_matrix::matrix::laid_out;
+ghost use Rattle.read_sections.specs.Laid.{Laid};
+use crate::records::first_refused;
 use read_matrix::quick::sound;
+use read_sections::layout::Layout;
 use read_sections::sized_section;
 use rules::answer::Verdict;
 
-mod phases;
 mod records;
 
 // Kinds 1 and 3 have been accepted before it.
-pub fn conflicts_section(s: &[u8]) -> Verdict
-    requires { ⌜ (siteSection (now s) ≡ Accepted) × (groupsSection (now s) ≡ Accepted) ⌝ }
+pub fn conflicts_section(s: &[u8], layout: Layout) -> Verdict
+    requires { ⌜ Laid (now s) layout × (siteSection (now s) ≡ Accepted) × (groupsSection (now s) ≡ Accepted) ⌝ }
     ensures { λ r. ⌜ r ≡ conflictsSection (now (s .entry)) ⌝ }
 {
-    let layout = laid_out(s);
-    let groups = layout.groups;
-    let place = layout.conflicts - 4;
-    let head = sized_section(s, place, 4, groups * 4);
+    let head = sized_section(s, layout.conflicts, 4, (layout.n as usize) * 4);
     if let Verdict::Refused { .. } = head {
         return head;
     }
     if sound(s, layout) {
         return Verdict::Accepted;
     }
-    let records = conflict_records(s);
+    let records = first_refused(s, layout, 9);
     if let Verdict::Refused { .. } = records {
         return records;
     }
-    phase_conflicts(s)
+    first_refused(s, layout, 10)
 }

@@ -1,39 +1,54 @@
-// Number 9, record by record: the first bad one.
-ghost use Prim.Native.Nat.{_≤_};
-ghost use mathlib.Core.Bool.{_&&_, not};
+// The search for the first record of kind 4 that is refused with a number, 9 or 10.
+ghost use Prim.Native.Nat.{_<_, _≤_};
+ghost use mathlib.Core.Bool.{_&&_};
 ghost use mathlib.Core.Path.{_≡_};
 ghost use Rattle.rules.specs.Bytes.{bit};
 ghost use Rattle.rules.specs.Rows.{anyOf};
 ghost use Rattle.rules.specs.Verdicts.{refuseIf, firstOf};
-ghost use Rattle.rules.specs.Personality.{recordAt, groupCount, conflictsHead, conflictSet, badConflict};
+ghost use Rattle.rules.specs.declared.answer.Verdict.the-variants.{Accepted};
+ghost use Rattle.rules.specs.Personality.{recordAt, groupCount, conflictsHead, conflictSet, groupsSection};
+ghost use Rattle.read_sections.specs.Laid.{Laid};
+ghost use Rattle.read_conflicts.specs.Refused.{refusedPair, refusedRecord};
 use base_reads::bit32;
 use base_reads::four;
+use base_reads::share;
+use read_groups::sets::group_set;
 use read_groups::sets::reaches32;
-use read_sections::heads::conflicts_head;
-use read_sections::heads::group_count;
+use read_sections::layout::Layout;
 use rules::answer::Verdict;
 
 // The groups that group g conflicts with.
-pub fn conflict_set(s: &[u8], g: usize) -> u32
-    requires { ⌜ g ≤ 255 ⌝ }
+fn conflict_set(s: &[u8], layout: Layout, g: usize) -> u32
+    requires { ⌜ Laid (now s) layout × (g ≤ 255) ⌝ }
     ensures { λ r. ⌜ r ≡ conflictSet (now (s .entry)) g ⌝ }
 {
-    four(s, conflicts_head(s) + 4 + g * 4)
+    four(s, layout.conflicts + 4 + g * 4)
 }
 
-// Whether the set of group g has a group whose own set lacks g.
-fn one_sided(s: &[u8], g: usize) -> bool
-    requires { ⌜ g ≤ 255 ⌝ }
+// Whether a conflict of group g with group j is refused: with 9 where the set of j lacks g, with 10 where the two share a phase.
+fn refused_pair(s: &[u8], layout: Layout, number: u8, g: usize, j: usize) -> bool
+    requires { ⌜ Laid (now s) layout × (groupsSection (now s) ≡ Accepted) × (g ≤ 255) × (j < layout .n) ⌝ }
+    ensures { λ r. ⌜ r ≡ refusedPair (now (s .entry)) number g j ⌝ }
+{
+    if number == 9 {
+        return !bit32(g, conflict_set(s, layout, j));
+    }
+    share(group_set(s, layout, g), group_set(s, layout, j))
+}
+
+// Whether group g has such a conflict.
+fn refused_conflict(s: &[u8], layout: Layout, number: u8, g: usize) -> bool
+    requires { ⌜ Laid (now s) layout × (groupsSection (now s) ≡ Accepted) × (g ≤ 255) ⌝ }
     ensures { λ r. ⌜ r ≡ anyOf
-        (λ j. bit j (conflictSet (now (s .entry)) g) && not (bit g (conflictSet (now (s .entry)) j)))
+        (λ j. bit j (conflictSet (now (s .entry)) g) && refusedPair (now (s .entry)) number g j)
         (groupCount (now (s .entry))) ⌝ }
 {
-    let count = group_count(s) as usize;
-    let set = conflict_set(s, g);
+    let count = layout.n as usize;
+    let set = conflict_set(s, layout, g);
     let mut j: usize = 0;
     while j < count {
         if bit32(j, set) {
-            if !bit32(g, conflict_set(s, j)) {
+            if refused_pair(s, layout, number, g, j) {
                 return true;
             }
         }
@@ -42,34 +57,33 @@ fn one_sided(s: &[u8], g: usize) -> bool
     false
 }
 
-// Own bit set, a bit at or above N set, or a set bit j whose record j lacks the bit back.
-fn bad_conflict(s: &[u8], g: usize) -> bool
-    requires { ⌜ g ≤ 255 ⌝ }
-    ensures { λ r. ⌜ r ≡ badConflict (now (s .entry)) g ⌝ }
+// Whether the record of group g is refused with the number; with 9 also where its own bit or a bit at or above N is set.
+fn refused_record(s: &[u8], layout: Layout, number: u8, g: usize) -> bool
+    requires { ⌜ Laid (now s) layout × (groupsSection (now s) ≡ Accepted) × (g ≤ 255) ⌝ }
+    ensures { λ r. ⌜ r ≡ refusedRecord (now (s .entry)) number g ⌝ }
 {
-    let set = conflict_set(s, g);
-    if bit32(g, set) {
-        return true;
+    let conflict = refused_conflict(s, layout, number, g);
+    if number != 9 {
+        return conflict;
     }
-    if reaches32(group_count(s), set) {
-        return true;
-    }
-    one_sided(s, g)
+    let set = conflict_set(s, layout, g);
+    bit32(g, set) | reaches32(layout.n, set) | conflict
 }
 
-// 9: the first bad conflict record.
-pub fn conflict_records(s: &[u8]) -> Verdict
+// The first record that is refused with the number.
+pub fn first_refused(s: &[u8], layout: Layout, number: u8) -> Verdict
+    requires { ⌜ Laid (now s) layout × (groupsSection (now s) ≡ Accepted) ⌝ }
     ensures { λ r. ⌜ r ≡ firstOf
-        (λ g. refuseIf (badConflict (now (s .entry)) g) 9 (recordAt (conflictsHead (now (s .entry))) 4 g))
+        (λ g. refuseIf (refusedRecord (now (s .entry)) number g) number (recordAt (conflictsHead (now (s .entry))) 4 g))
         (groupCount (now (s .entry))) ⌝ }
 {
-    let count = group_count(s) as usize;
-    let head = conflicts_head(s);
+    let count = layout.n as usize;
+    let head = layout.conflicts;
     let mut g: usize = 0;
     while g < count {
-        if bad_conflict(s, g) {
+        if refused_record(s, layout, number, g) {
             return Verdict::Refused {
-                number: 9,
+                number,
                 place: head + 4 + g * 4,
             };
         }

@@ -6,9 +6,10 @@ use mathlib.Core.Logic.{⊎-elim}
 use mathlib.Core.Path.{_≡_, refl, sym, _∙_}
 use native.Mathlib.Nat.{div-eq-of-lt, div-eq-sub-div, lt-of-lt-of-le}
 use native.Mathlib.Omega.{arith}
+use lib.Bits.{bitOr, or-add-and, or-lt, and-le-l, and-le-r}
 use lib.Dec.{leb, eqb}
 use lib.Pow.{pow-mono, pow-pos}
-use borrow.Author.Tests.{leb-true, leb-false, lt-leb, ne-eqb}
+use borrow.Author.Tests.{leb-true, leb-false, le-leb, lt-leb, ne-eqb}
 use Rattle.rules.specs.Bytes.{bit}
 use Rattle.rules.specs.Rows.{anyOf}
 use Rattle.rules.proofs.Bits.{bit-above}
@@ -34,6 +35,24 @@ reaches n x =
 -- a number below 2 ^ m reaches no higher power
 pub reaches-none : (m n x : ℕ) → x < 2 ^ m → m ≤ n → leb (2 ^ n) x ≡ false
 reaches-none m n x h l = lt-leb (2 ^ n) x (lt-of-lt-of-le h (pow-mono l))
+
+pub reaches-nothing : (n : ℕ) → leb (2 ^ n) 0 ≡ false
+reaches-nothing n = lt-leb (2 ^ n) 0 (pow-pos n)
+
+-- a union reaches 2 ^ n exactly where one of the two sets does
+pub union-reaches : (n x y : ℕ) → leb (2 ^ n) (bitOr x y) ≡ (leb (2 ^ n) x || leb (2 ^ n) y)
+union-reaches n x y =
+    ⊎-elim
+    (λ (e : leb (2 ^ n) x ≡ true).
+    rw e (le-leb (2 ^ n) (bitOr x y) (omega (arith, leb-true (2 ^ n) x e, or-add-and x y, and-le-r x y))))
+    (λ (e : leb (2 ^ n) x ≡ false).
+    ⊎-elim
+    (λ (f : leb (2 ^ n) y ≡ true).
+    rw (e, f) (le-leb (2 ^ n) (bitOr x y) (omega (arith, leb-true (2 ^ n) y f, or-add-and x y, and-le-l x y))))
+    (λ (f : leb (2 ^ n) y ≡ false).
+    rw (e, f) (lt-leb _ _ (or-lt n x y (leb-false (2 ^ n) x e) (leb-false (2 ^ n) y f))))
+    (decided (leb (2 ^ n) y)))
+    (decided (leb (2 ^ n) x))
 
 -- ── Bits in common ──
 

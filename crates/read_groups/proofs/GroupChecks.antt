@@ -11,7 +11,7 @@ use Rattle.rules.specs.Rows.{anyOf}
 use Rattle.rules.specs.declared.answer.Verdict.the-variants.{Accepted}
 use Rattle.rules.proofs.Tests.{or-false-left}
 use Rattle.rules.proofs.Verdicts.{or-first, or-later, refuse-passed, first-each}
-use Rattle.read_sections.proofs.Firsts.{refuse-no, or-next}
+use Rattle.rules.proofs.Verdicts.{refuse-no, or-next}
 use Rattle.read_groups.proofs.Bits.{common-below}
 
 pub group-passed : (b : List ℕ) (g : ℕ) → badGroup b g ≡ false → ninthPedestrian b g ≡ false → groupRecord b g ≡ Accepted

@@ -1,11 +1,11 @@
 -- Phase sets as numbers. A set below 2 ^ P has as many phases as its number has ones, and has them all exactly where it is one less than
 -- 2 ^ P. So a record is bad by its two bytes, and the union of the sets tells whether a phase is in none.
-use Prim.Native.Nat.{ℕ, zero, suc, _+_, _/_, _%_, _^_, _<_, min}
+use Prim.Native.Nat.{ℕ, zero, suc, _+_, _-_, _/_, _%_, _^_, _<_, min}
 use mathlib.Core.Bool.{true, false, not, _&&_, _||_}
 use mathlib.Core.List.{List}
 use mathlib.Core.Logic.{⊎-elim}
 use mathlib.Core.Path.{_≡_, refl, sym, ap, _∙_}
-use native.Mathlib.Nat.{div-div-eq-div-mul, mod-eq-of-lt, mod-lt, mod-one, pow-succ', zero-lt-suc}
+use native.Mathlib.Nat.{mod-eq-of-lt, mod-lt, mod-one, pow-succ', zero-lt-suc}
 use native.Mathlib.Numerals.{add-one}
 use native.Mathlib.Omega.{arith}
 use lib.Arith.{mod-mul}
@@ -13,13 +13,16 @@ use lib.Bits.{bitOr, or-lt}
 use lib.Count.{onesIn, ones, ones-cat}
 use lib.Dec.{leb, ltb, eqb}
 use lib.Pow.{pow-pos}
-use borrow.Author.Tests.{leb-true, leb-false, le-leb, lt-leb, eqb-true, eq-eqb, not-false}
+use borrow.Author.Tests.{leb-true, leb-false, le-leb, lt-leb, not-false}
 use Rattle.rules.specs.Bytes.{bit}
 use Rattle.rules.specs.Personality.{phaseCount, groupCount, groupSet, groupMark, pedestrian, badGroup, phaseWithoutGroup}
 use Rattle.rules.specs.Rows.{if_then_else_, anyOf, countOf}
 use Rattle.rules.proofs.Bits.{bit-blank}
 use Rattle.rules.proofs.Rows.{any-none, any-false}
 use Rattle.rules.proofs.Tests.{decided, or-false-left}
+use Rattle.base_reads.proofs.Common.{same-bits}
+use Rattle.base_reads.proofs.Parity.{odd-bit}
+use Rattle.base_reads.proofs.Shifts.{half-bit}
 use Rattle.base_reads.proofs.Union.{bit-or}
 
 -- ── How many phases a set has ──
@@ -50,32 +53,16 @@ ones-counted n x h = lowest-ones n x ∙ ap ones (mod-eq-of-lt h)
 
 -- ── A set of all phases ──
 
-half-bit : (p x : ℕ) → bit p (x / 2) ≡ bit (suc p) x
-unfolding bit
-half-bit p x = rw (div-div-eq-div-mul x 2 (2 ^ p), pow-succ' 2 p)
-
-odd-bit : (x : ℕ) → x % 2 ≡ 1 → bit 0 x ≡ true
-unfolding bit
-odd-bit x e = eq-eqb (x / 2 ^ 0 % 2) 1 (omega arith)
-
-bit-odd : (x : ℕ) → bit 0 x ≡ true → x % 2 ≡ 1
-unfolding bit
-bit-odd x e = let odd = eqb-true (x / 2 ^ 0 % 2) 1 e in omega arith
-
-pub all-full : (n x : ℕ) → x < 2 ^ n → ((p : ℕ) → p < n → bit p x ≡ true) → x + 1 ≡ 2 ^ n
-all-full zero x h all = omega arith
-all-full (suc n) x h all =
-    omega (
-      arith,
-      pow-succ' 2 n,
-      all-full n (x / 2) (omega (arith, pow-succ' 2 n)) (λ p l. half-bit p x ∙ all (suc p) (omega arith)),
-      bit-odd x (all 0 (omega arith)),
-    )
-
 pub full-each : (n x p : ℕ) → x + 1 ≡ 2 ^ n → p < n → bit p x ≡ true
 full-each zero x p e l = absurd (omega arith)
 full-each (suc n) x zero e l = odd-bit x (omega (arith, pow-succ' 2 n))
-full-each (suc n) x (suc p) e l = sym (half-bit p x) ∙ full-each n (x / 2) p (omega (arith, pow-succ' 2 n)) (omega arith)
+full-each (suc n) x (suc p) e l = half-bit p x ∙ full-each n (x / 2) p (omega (arith, pow-succ' 2 n)) (omega arith)
+
+pub all-full : (n x : ℕ) → x < 2 ^ n → ((p : ℕ) → p < n → bit p x ≡ true) → x + 1 ≡ 2 ^ n
+all-full n x h all =
+    let full = 2 ^ n - 1 in
+    let whole : full + 1 ≡ 2 ^ n = omega (arith, pow-pos n) in
+    omega (arith, whole, same-bits n x full h (omega arith) (λ p l. all p l ∙ sym (full-each n full p whole l)))
 
 -- ── The records of a personality ──
 

@@ -6,11 +6,10 @@ ghost use lib.Count.{ones};
 ghost use lib.Dec.{leb, ltb, eqb};
 ghost use lib.ListN.{length};
 ghost use Rattle.rules.specs.Verdicts.{_orElse_, refuseIf, firstOf};
-ghost use Rattle.rules.specs.Personality.{phaseCount, groupCount, groupsHead, groupRecord, phaseWithoutGroup, groupsSection};
-use base_reads::byte_in;
-use read_sections::heads::group_count;
-use read_sections::heads::groups_head;
-use read_sections::heads::phase_count;
+ghost use Rattle.rules.specs.Personality.{bodyAt, groupCount, groupsHead, groupRecord, phaseWithoutGroup, groupsSection};
+ghost use Rattle.read_sections.specs.Laid.{Laid};
+use read_sections::layout::Layout;
+use read_sections::records::pair_at;
 use read_sections::sized_section;
 use rules::answer::Verdict;
 
@@ -36,20 +35,22 @@ fn bad_group(set: u8, mark: u8, bound: u32) -> bool
 
 // One pass over the records: each is checked for 6 and then for 7, the ninth pedestrian group. The union of the sets tells 8, a phase
 // in no group's set.
-fn group_records(s: &[u8], head: usize, count: u8, bound: u32) -> Verdict
-    requires { ⌜ (head ≡ groupsHead (now s)) × (count ≡ groupCount (now s)) × (bound ≡ min (2 ^ phaseCount (now s)) 512) ⌝ }
-    requires { ⌜ head + 4 + count * 2 ≤ length (now s) ⌝ }
+fn group_records(s: &[u8], layout: Layout) -> Verdict
+    requires { ⌜ Laid (now s) layout × (bodyAt (layout .groups) + layout .n * 2 ≤ length (now s)) ⌝ }
     ensures { λ r. ⌜ r ≡ (firstOf (groupRecord (now (s .entry))) (groupCount (now (s .entry)))
         orElse refuseIf (phaseWithoutGroup (now (s .entry))) 8 (groupsHead (now (s .entry)))) ⌝ }
 {
-    let n = count as usize;
+    let bound = set_bound(layout.p);
+    let head = layout.groups;
+    let count = layout.n as usize;
     let mut pedestrians: usize = 0;
     let mut served: u8 = 0;
     let mut g: usize = 0;
-    while g < n {
+    while g < count {
+        let group = pair_at(s, head, g);
+        let set = group.first;
+        let mark = group.second;
         let place = head + 4 + g * 2;
-        let set = byte_in(s, place);
-        let mark = byte_in(s, place + 1);
         if bad_group(set, mark, bound) {
             return Verdict::Refused { number: 6, place };
         }
@@ -71,14 +72,13 @@ fn group_records(s: &[u8], head: usize, count: u8, bound: u32) -> Verdict
     }
 }
 
-pub fn groups_section(s: &[u8]) -> Verdict
+pub fn groups_section(s: &[u8], layout: Layout) -> Verdict
+    requires { ⌜ Laid (now s) layout ⌝ }
     ensures { λ r. ⌜ r ≡ groupsSection (now (s .entry)) ⌝ }
 {
-    let place = groups_head(s);
-    let count = group_count(s);
-    let head = sized_section(s, place, 3, (count as usize) * 2);
+    let head = sized_section(s, layout.groups, 3, (layout.n as usize) * 2);
     if let Verdict::Refused { .. } = head {
         return head;
     }
-    group_records(s, place, count, set_bound(phase_count(s)))
+    group_records(s, layout)
 }

@@ -5,21 +5,25 @@ use mathlib.Core.Path.{_≡_}
 use native.Mathlib.Omega.{arith}
 use lib.ListN.{length}
 use Rattle.rules.specs.declared.answer.Verdict.the-variants.{Accepted}
-use Rattle.rules.specs.Personality.{bodyAt, bodyLength, siteHead, phasesHead, groupsHead, conflictsHead, detectorsHead, pedestriansHead, siteSection, phasesSection, groupsSection, conflictsSection, detectorsSection, pedestriansSection, verdictOf}
+use Rattle.rules.specs.Personality.{bodyAt, bodyLength, siteHead, phasesHead, groupsHead, conflictsHead, detectorsHead, pedestriansHead, endOf, siteSection, phasesSection, groupsSection, conflictsSection, detectorsSection, pedestriansSection, verdictOf}
 use Rattle.rules.specs.Lookup.{headOf}
 use Rattle.rules.proofs.Verdicts.{or-first, or-later}
 use Rattle.proof_acceptance.proofs.Sections.{body-held, sections-accepted}
+use Rattle.read_sections.specs.declared.layout.Layout.{Layout}
+use Rattle.read_sections.specs.Laid.{Laid}
 use Rattle.read_site.specs.Decoding.{Fitting}
 
-pub accepted-fits : (b : List ℕ) → verdictOf b ≡ Accepted → Fitting b
-accepted-fits b h =
+pub accepted-fits : {b : List ℕ} {w : Layout} → verdictOf b ≡ Accepted → Laid b w → Fitting b w
+unfolding endOf
+accepted-fits {b} h laid =
     let told = sections-accepted b h in
     record {
-      phases = told .site .phases .1;
-      groups = told .site .groups .1;
+      laid = laid;
+      phases = omega (arith, laid .p, told .site .phases .1);
+      groups = omega (arith, laid .n, told .site .groups .1);
       detectors = told .detectors .count;
       movements = told .groups .movements;
-      whole = told .pedestrians .next;
+      whole = rw (laid .pedestrians, ← told .pedestrians .body) (told .pedestrians .next);
     }
 
 -- the section with this head ends within the bytes

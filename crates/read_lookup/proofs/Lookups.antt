@@ -1,21 +1,20 @@
 -- The lookup by cases: a refused personality refuses every kind, an accepted one those that are not held.
-use Prim.Native.Nat.{ℕ, _+_, _-_, _≤_, _<_}
-use mathlib.Core.Bool.{true, false, _&&_}
+use Prim.Native.Nat.{ℕ, zero, suc, _+_, _-_, _≤_}
+use mathlib.Core.Bool.{true, false}
 use mathlib.Core.List.{List, [], _∷_}
 use mathlib.Core.Logic.{⊎-elim}
 use mathlib.Core.Path.{_≡_, ap, _∙_}
 use native.Mathlib.Omega.{arith}
 use lib.Dec.{leb}
-use lib.ListN.{length, take, drop, List·getD-eq-default}
-use borrow.Author.Tests.{leb-true, not-false}
+use lib.ListN.{length, getD, take, drop, List·getD-eq-default}
+use borrow.Author.Tests.{leb-true, leb-false, not-false}
 use Rattle.rules.specs.declared.answer.Verdict.the-variants.{Accepted, Refused}
 use Rattle.rules.specs.Bytes.{twoAt}
 use Rattle.rules.specs.Verdicts.{_orElse_, refuseIf, reportOf}
-use Rattle.rules.specs.Personality.{bodyAt, bodyLength, siteHead, phasesHead, groupsHead, conflictsHead, detectorsHead, pedestriansHead, verdictOf}
-use Rattle.rules.specs.Lookup.{heldKind, headOf, lookupVerdict, lookupReport, sectionPart, partFor, sectionOf}
-use Rattle.rules.proofs.Tests.{and-left, and-right}
+use Rattle.rules.specs.Personality.{bodyAt, bodyLength, verdictOf}
+use Rattle.rules.specs.Lookup.{heldKind, heads, headOf, lookupVerdict, lookupReport, sectionPart, partFor, sectionOf}
+use Rattle.rules.proofs.Tests.{and-left, and-right, and-false-cases}
 use Rattle.rules.proofs.Verdicts.{or-first, or-later, refuse-passed}
-use Rattle.rules.proofs.Counts.{below-or-past}
 use Rattle.read_lookup.proofs.Accepted.{section-within}
 
 -- ── Verdicts ──
@@ -32,15 +31,17 @@ pub lookup-unheld : (b : List ℕ) (kind : ℕ) → verdictOf b ≡ Accepted →
 unfolding lookupVerdict _orElse_ refuseIf
 lookup-unheld b kind e h = rw (e, h)
 
+pub held-told : (kind : ℕ) → heldKind kind ≡ true → (1 ≤ kind) × (kind ≤ 6)
+unfolding heldKind
+held-told kind h =
+    (leb-true 1 kind (and-left (leb 1 kind) (leb kind 6) h), leb-true kind 6 (and-right (leb 1 kind) (leb kind 6) h))
+
 -- where the section is found, the personality is accepted and the kind is held
 pub lookup-told : (b : List ℕ) (kind : ℕ) → lookupVerdict b kind ≡ Accepted → (verdictOf b ≡ Accepted) × (1 ≤ kind) × (kind ≤ 6)
-unfolding lookupVerdict heldKind
+unfolding lookupVerdict
 lookup-told b kind h =
-    let held = not-false (leb 1 kind && leb kind 6) (refuse-passed _ _ _ (or-later _ _ h)) in (
-      or-first _ _ h,
-      leb-true 1 kind (and-left (leb 1 kind) (leb kind 6) held),
-      leb-true kind 6 (and-right (leb 1 kind) (leb kind 6) held),
-    )
+    let held = held-told kind (not-false (heldKind kind) (refuse-passed _ _ _ (or-later _ _ h))) in
+    (or-first _ _ h, held .0, held .1)
 
 -- ── The report and the part ──
 
@@ -70,25 +71,25 @@ module _ (b : List ℕ) (kind : ℕ) where
 
 -- ── Heads ──
 
--- the heads in the order of the kinds
-abbrev heads : List ℕ → List ℕ
-heads b = siteHead ∷ phasesHead ∷ groupsHead b ∷ conflictsHead b ∷ detectorsHead b ∷ pedestriansHead b ∷ []
-
-past-six : {k : ℕ} → 7 ≤ k → 6 ≤ k - 1
-past-six h = omega arith
-
--- kind 1, and a kind that is not held
-pub other-head :
-    (b : List ℕ) (kind : ℕ) →
-    (kind ≡ 2 → ⊥) →
-    (kind ≡ 3 → ⊥) →
-    (kind ≡ 4 → ⊥) →
-    (kind ≡ 5 → ⊥) →
-    (kind ≡ 6 → ⊥) →
-    headOf b kind ≡ 0
-unfolding headOf
-other-head b kind two three four five six =
+-- a kind that is not held: 0, or one past the list
+pub unheld-head : (b : List ℕ) (kind : ℕ) → heldKind kind ≡ false → headOf b kind ≡ 0
+unfolding headOf heldKind
+unheld-head b kind h =
     ⊎-elim
-    (λ (l : kind < 2). let first : kind - 1 ≡ 0 = omega arith in rw first)
-    (λ (l : 2 ≤ kind). let past : 7 ≤ kind = omega arith in List·getD-eq-default (heads b) 0 (past-six past))
-    (below-or-past kind 2)
+    (λ (l : leb 1 kind ≡ false).
+    let first : kind - 1 ≡ 0 = omega (arith, leb-false 1 kind l) in
+    rw first)
+    (λ (l : leb kind 6 ≡ false).
+    let past : 6 ≤ kind - 1 = omega (arith, leb-false kind 6 l) in
+    List·getD-eq-default (heads b) 0 past)
+    (and-false-cases (leb 1 kind) (leb kind 6) h)
+
+-- every entry is at most m
+abbrev AllNear : ℕ → List ℕ → Type 0
+AllNear m [] = Unit {0}
+AllNear m (x ∷ l) = (x ≤ m) × AllNear m l
+
+pub all-near : (m : ℕ) (l : List ℕ) → AllNear m l → (i : ℕ) → getD l i 0 ≤ m
+all-near m [] h i = omega arith
+all-near m (x ∷ l) h zero = h .0
+all-near m (x ∷ l) h (suc i) = all-near m l (h .1) i

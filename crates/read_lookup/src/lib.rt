@@ -5,6 +5,7 @@ ghost use mathlib.Core.Path.{_≡_};
 ghost use Rattle.rules.specs.declared.answer.Verdict.the-variants.{Accepted};
 ghost use Rattle.rules.specs.Personality.{verdictOf};
 ghost use Rattle.rules.specs.Site.{siteOf};
+use read_sections::layout::laid_out;
 use rules::site::Site;
 
 // The site of a personality that `read_personality::read` accepts.
@@ -12,5 +13,5 @@ pub fn site(personality: &[u8]) -> Site
     requires { ⌜ verdictOf (now personality) ≡ Accepted ⌝ }
     ensures { λ r. ⌜ r ≡ siteOf (now (personality .entry)) ⌝ }
 {
-    read_site::site(personality)
+    read_site::site(personality, laid_out(personality))
 }

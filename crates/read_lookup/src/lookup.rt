@@ -4,40 +4,34 @@ ghost use Prim.Native.Nat.{_≤_};
 ghost use mathlib.Core.Path.{_≡_};
 ghost use Rattle.rules.specs.Lookup.{heldKind, headOf, lookupVerdict, lookupReport, sectionOf};
 use base_reads::two;
-use read_sections::heads::conflicts_head;
-use read_sections::heads::detectors_head;
-use read_sections::heads::groups_head;
-use read_sections::heads::pedestrians_head;
+use read_sections::layout::laid_out;
 use rules::answer::Report;
 use rules::answer::Verdict;
-
-// The head of the section of a kind. Kind 1 stands first, at 0.
-pub fn head_of(s: &[u8], kind: u16) -> usize
-    ensures { λ r. ⌜ (r ≡ headOf (now (s .entry)) kind) × (r ≤ 70149) ⌝ }
-{
-    if kind == 2 {
-        return 8;
-    }
-    if kind == 3 {
-        return groups_head(s);
-    }
-    if kind == 4 {
-        return conflicts_head(s);
-    }
-    if kind == 5 {
-        return detectors_head(s);
-    }
-    if kind == 6 {
-        return pedestrians_head(s);
-    }
-    0
-}
 
 // A personality has the kinds 1 to 6.
 fn held(kind: u16) -> bool
     ensures { λ r. ⌜ r ≡ heldKind kind ⌝ }
 {
     (1 <= kind) & (kind <= 6)
+}
+
+// The head of the section of a kind, and 0 for a kind that is not held.
+pub fn head_of(s: &[u8], kind: u16) -> usize
+    ensures { λ r. ⌜ (r ≡ headOf (now (s .entry)) kind) × (r ≤ 70149) ⌝ }
+{
+    if !held(kind) {
+        return 0;
+    }
+    let layout = laid_out(s);
+    let heads = [
+        0,
+        8,
+        layout.groups,
+        layout.conflicts,
+        layout.detectors,
+        layout.pedestrians,
+    ];
+    heads[kind as usize - 1]
 }
 
 // The personality's own refusal, and then 2 at 0 for a kind that is not held.

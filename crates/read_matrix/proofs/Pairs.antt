@@ -1,63 +1,70 @@
--- From tiles to groups. The tiles of two bands tell of each pair of their groups, and where all pairs are sound and no set goes past N the
--- section is accepted.
+-- From tiles to groups. The tiles of two bands tell of each pair of their groups, and where all pairs are sound and no set goes past N no
+-- record is bad.
 use Prim.Native.Nat.{ℕ, zero, suc, _+_, _*_, _/_, _%_, _^_, _≤_, _<_}
 use mathlib.Core.Bool.{Bool, true, false, not, _&&_}
 use mathlib.Core.List.{List}
 use mathlib.Core.Logic.{⊎-elim}
 use mathlib.Core.Path.{_≡_, refl, sym, ap, subst, _∙_}
-use native.Mathlib.Nat.{zero-add, not-suc-le-zero}
+use native.Mathlib.Nat.{add-mul, zero-add, not-suc-le-zero}
 use native.Mathlib.Omega.{arith}
 use lib.Bits.{bitAnd}
-use lib.Dec.{eqb}
+use lib.Dec.{leb, eqb}
 use lib.ListN.{length, getD, set, replicate, length-set}
 use lib.Seq.{getD-set-same, getD-set-other}
-use borrow.Author.Tests.{lt-leb, eqb-true}
+use borrow.Author.Tests.{eqb-true}
 use Rattle.rules.specs.Bytes.{byteAt, bit}
-use Rattle.rules.specs.Personality.{bodyAt, recordAt, groupsHead, conflictsHead, phaseCount, groupCount, groupSet, conflictSet}
+use Rattle.rules.specs.Personality.{bodyAt, recordAt, conflictsHead, phaseCount, groupCount, groupSet, conflictSet}
 use Rattle.rules.specs.Personality.{badConflict, sharePhase, conflictInPhase}
 use Rattle.rules.specs.Rows.{anyOf}
-use Rattle.rules.specs.Verdicts.{firstOf}
-use Rattle.rules.specs.declared.answer.Verdict.the-variants.{Accepted}
 use Rattle.rules.proofs.Bits.{bit-blank}
 use Rattle.rules.proofs.Counts.{below-or-past}
-use Rattle.rules.proofs.Rows.{last-or-below, any-none}
+use Rattle.rules.proofs.Rows.{last-or-below, any-none, any-false}
 use Rattle.rules.proofs.Tests.{decided, never-both, not-true-false, and-left, and-right, and-both, and-false-left, and-false-right, or-false-both}
 use Rattle.base_reads.proofs.Common.{bit-and}
-use Rattle.read_sections.proofs.Firsts.{recordCheck, or-next, refuse-no}
-use Rattle.read_matrix.specs.declared.matrix.Layout.{Layout}
-use Rattle.read_matrix.specs.Matrix.{Laid, ByteRows, ConflictRows, SetRows, MemberRows, PairSound, BlockSound, BandSound, AllSound}
+use Rattle.read_sections.specs.declared.layout.Layout.{Layout}
+use Rattle.read_sections.specs.Laid.{Laid}
+use Rattle.read_matrix.specs.Matrix.{Charted, ByteRows, BandRows, ConflictRows, SetRows, MemberRows, PairSound, BlockSound, BandSound, AllSound}
 use Rattle.read_matrix.proofs.TileBits.{four-bit}
 
 -- ── What the tiles hold ──
 
+-- the rows of a band are bytes that stand one width apart
+pub band-rows :
+    {b : List ℕ} (head width count a k rows : ℕ) {t : ℕ} →
+    ((r : ℕ) → r < 8 → 8 * a + r < count → r < rows) →
+    ByteRows b (head + 4 + 8 * a * width + k) width rows t →
+    BandRows b head width count a k t
+unfolding recordAt bodyAt
+band-rows {b} head width count a k rows there bytes =
+    record {
+      told = λ r c h l m.
+          bytes .told r c (there r h m) l ∙ ap (λ (j : ℕ). bit c (byteAt b j)) (omega (arith, add-mul (8 * a) r width));
+    }
+
 module _ {b : List ℕ} {w : Layout} (laid : Laid b w) where
   pub conflict-rows :
-      (a k rows : ℕ) {t : ℕ} →
+      (a k : ℕ) {t : ℕ} →
       ((i : ℕ) → byteAt b i < 256) →
       k < 4 →
-      ((r : ℕ) → r < 8 → 8 * a + r < w .groups → r < rows) →
-      ByteRows b (w .conflicts + 32 * a + k) 4 rows t →
+      BandRows b (w .conflicts) 4 (w .n) a k t →
       ConflictRows b a k t
-  unfolding conflictSet recordAt
-  conflict-rows a k rows small below there bytes =
+  unfolding conflictSet
+  conflict-rows a k small below rows =
       record {
         told = λ r c h l m.
-            bytes .told r c (there r h (omega (arith, laid .groups, m))) l
-            ∙ ap (λ (j : ℕ). bit c (byteAt b j)) (omega (arith, laid .conflicts))
-            ∙ sym (four-bit b small (bodyAt (conflictsHead b) + (8 * a + r) * 4) k c below l);
+            rows .told r c h l (omega (arith, laid .n, m))
+            ∙ ap (λ (head : ℕ). bit c (byteAt b (recordAt head 4 (8 * a + r) + k))) (laid .conflicts)
+            ∙ sym (four-bit b small (recordAt (conflictsHead b) 4 (8 * a + r)) k c below l);
       }
 
-  pub set-rows :
-      (a rows : ℕ) {t : ℕ} →
-      ((r : ℕ) → r < 8 → 8 * a + r < w .groups → r < rows) →
-      ByteRows b (w .sets + 16 * a) 2 rows t →
-      SetRows b a t
-  unfolding groupSet recordAt
-  set-rows a rows there bytes =
+  pub set-rows : (a : ℕ) {t : ℕ} → BandRows b (w .groups) 2 (w .n) a 0 t → SetRows b a t
+  unfolding groupSet
+  set-rows a rows =
       record {
         told = λ r c h l m.
-            bytes .told r c (there r h (omega (arith, laid .groups, m))) l
-            ∙ ap (λ (j : ℕ). bit c (byteAt b j)) (omega (arith, laid .sets));
+            rows .told r c h l (omega (arith, laid .n, m))
+            ∙ ap (λ (head : ℕ). bit c (byteAt b (recordAt head 2 (8 * a + r) + 0))) (laid .groups)
+            ∙ ap (λ (j : ℕ). bit c (byteAt b j)) (omega arith);
       }
 
 -- the tiles of the first n bands are in an array of four
@@ -142,7 +149,7 @@ diagonal-bit r c h e = subst (λ (j : ℕ). bit (8 * r + j) 9241421688590303745 
 -- all pairs of two bands
 pub block-sound :
     {b : List ℕ} {w : Layout} {a k t back sets members : ℕ} (mirror given wrong : ℕ) →
-    Laid b w →
+    Charted b w →
     ConflictRows b a k t →
     ConflictRows b k a back →
     SetRows b a sets →
@@ -152,22 +159,22 @@ pub block-sound :
     ((r c p : ℕ) →
     r < 8 →
     c < 8 →
-    p < w .phases →
+    p < w .p →
     bit (8 * r + p) sets ≡ true →
     bit (8 * p + c) members ≡ true →
     bit (8 * r + c) wrong ≡ true) →
     ((r c : ℕ) → r < 8 → c < 8 → 8 * a + r ≡ 8 * k + c → bit (8 * r + c) given ≡ true) →
     (eqb mirror back && eqb (bitAnd t wrong) 0) ≡ true →
     BlockSound b a k
-block-sound {b} {w} {a} {k} {t} {back} mirror given wrong laid there home rows columns turned kept shared own passed r c h l m n =
+block-sound {b} {w} {a} {k} {t} {back} mirror given wrong chart there home rows columns turned kept shared own passed r c h l m n =
     pair-sound b a k r c t wrong (there .told r c h l m) (home .told c r l h n) (turned r c h l)
     (eqb-true mirror back (and-left _ _ passed))
     (eqb-true (bitAnd t wrong) 0 (and-right (eqb mirror back) _ passed))
     (λ e. kept (8 * r + c) (own r c h l e))
     (λ p q e f.
-    shared r c p h l (omega (arith, laid .phases, q))
-    (rows .told r p h (omega (arith, laid .phases, laid .fewPhases, q)) m ∙ e)
-    (columns .told p c (omega (arith, laid .phases, laid .fewPhases, q)) l n ∙ f))
+    shared r c p h l (omega (arith, chart .laid .p, q))
+    (rows .told r p h (omega (arith, chart .laid .p, chart .fewPhases, q)) m ∙ e)
+    (columns .told p c (omega (arith, chart .laid .p, chart .fewPhases, q)) l n ∙ f))
 
 -- the other way round
 pub pair-turned : (b : List ℕ) (g j : ℕ) → PairSound b g j → PairSound b j g
@@ -230,13 +237,13 @@ single-sound b own few g j h l = simp zero-add at (own g j (omega arith) (omega 
 good-conflict :
     (b : List ℕ) (g : ℕ) →
     g < groupCount b →
-    conflictSet b g < 2 ^ groupCount b →
+    leb (2 ^ groupCount b) (conflictSet b g) ≡ false →
     ((j : ℕ) → j < groupCount b → PairSound b g j) →
     badConflict b g ≡ false
 unfolding badConflict
 good-conflict b g h below sound =
     or-false-both
-    (or-false-both (sound g h .other refl) (lt-leb (2 ^ groupCount b) (conflictSet b g) below))
+    (or-false-both (sound g h .other refl) below)
     (any-none (λ j. bit j (conflictSet b g) && not (bit g (conflictSet b j))) (groupCount b)
     (λ j l. same-not (bit j (conflictSet b g)) (bit g (conflictSet b j)) (sound j l .answered)))
   where
@@ -265,20 +272,10 @@ no-clash b g sound =
 
 pub records-good :
     (b : List ℕ) →
-    ((g : ℕ) → g < groupCount b → conflictSet b g < 2 ^ groupCount b) →
+    anyOf (λ g. leb (2 ^ groupCount b) (conflictSet b g)) (groupCount b) ≡ false →
     AllSound b →
     (g : ℕ) →
     g < groupCount b →
     (badConflict b g ≡ false) × (conflictInPhase b g ≡ false)
 records-good b below sound g l =
-    (good-conflict b g l (below g l) (λ j m. sound g j l m), no-clash b g (λ j m. sound g j l m))
-
--- records of which none is bad are accepted
-pub all-good :
-    (bad : ℕ → Bool) (k : ℕ) (place : ℕ → ℕ) (n : ℕ) →
-    ((i : ℕ) → i < n → bad i ≡ false) →
-    Accepted ≡ firstOf (recordCheck bad k place) n
-unfolding firstOf
-all-good bad k place zero h = refl
-all-good bad k place (suc n) h =
-    or-next (all-good bad k place n (λ i l. h i (omega arith))) refl (sym (refuse-no k (place n) (h n (omega arith))))
+    (good-conflict b g l (any-false _ _ g below l) (λ j m. sound g j l m), no-clash b g (λ j m. sound g j l m))

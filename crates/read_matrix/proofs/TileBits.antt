@@ -15,23 +15,15 @@ use Rattle.rules.specs.Bytes.{byteAt, twoAt, fourAt, bit}
 use Rattle.rules.proofs.Rows.{last-or-below}
 use Rattle.rules.proofs.Tests.{or-left, or-right}
 use Rattle.base_reads.proofs.Union.{bit-or}
-use Rattle.base_reads.proofs.Shifts.{bit-down}
+use Rattle.base_reads.proofs.Parity.{bit-odd}
+use Rattle.base_reads.proofs.Shifts.{bit-down, bit-lower, vacated-bit}
 use Rattle.read_matrix.specs.Matrix.{ByteRows}
 
 -- ── A byte under a number ──
 
--- a number shifted up has no bit below
-shifted-clear : (x n p : ℕ) → p < n → bit p (x * 2 ^ n) ≡ false
-unfolding bit
-shifted-clear x n p l =
-    let d = n - p - 1 in
-    let e : x * 2 ^ n ≡ x * 2 ^ suc d * 2 ^ p = ap (λ (m : ℕ). x * 2 ^ m) (omega arith) ∙ ap (λ (y : ℕ). x * y) (pow-add 2 (suc d) p) ∙ sym (mul-assoc x (2 ^ suc d) (2 ^ p)) in
-    ne-eqb (x * 2 ^ n / 2 ^ p % 2) 1
-    (λ q. omega (arith, q, ap (λ (y : ℕ). y / 2 ^ p % 2) e, ap (λ (y : ℕ). y % 2) (shl-shr (x * 2 ^ suc d) p), shifted-even x d))
-
 pub byte-bit : (y x c : ℕ) → x < 256 → c < 8 → bit c (y * 256 + x) ≡ bit c x
 byte-bit y x c h l =
-    ap (bit c) (sym (or-shifted y 8 x h)) ∙ bit-or c (y * 2 ^ 8) x ∙ ap (λ (t : Bool). t || bit c x) (shifted-clear y 8 c l)
+    ap (bit c) (sym (or-shifted y 8 x h)) ∙ bit-or c (y * 2 ^ 8) x ∙ ap (λ (t : Bool). t || bit c x) (vacated-bit y 8 c l)
 
 pub upper-bit : (y x p : ℕ) → x < 256 → bit (8 + p) (y * 256 + x) ≡ bit p y
 upper-bit y x p h = sym (bit-down (y * 256 + x) 8 p) ∙ ap (bit p) (high y 8 h)
@@ -42,9 +34,6 @@ first-row y x c h l = ap (λ (p : ℕ). bit p (y * 256 + x)) (omega arith) ∙ b
 
 next-row : (y x k c : ℕ) → x < 256 → bit (8 * suc k + c) (y * 256 + x) ≡ bit (8 * k + c) y
 next-row y x k c h = ap (λ (p : ℕ). bit p (y * 256 + x)) (omega arith) ∙ upper-bit y x (8 * k + c) h
-
-pub low-byte : (x c : ℕ) → c < 8 → bit c (x % 256) ≡ bit c x
-low-byte x c l = sym (byte-bit (x / 256) (x % 256) c (omega arith) l) ∙ ap (bit c) (omega arith)
 
 -- ── The bytes of a number of four ──
 
@@ -143,10 +132,6 @@ parted n x y =
     (mul-assoc (bitAnd (x / 256) (lowest n)) 256 y ∙ ap (λ (z : ℕ). bitAnd (x / 256) (lowest n) * z) (mul-comm 256 y)
     ∙ sym (mul-assoc (bitAnd (x / 256) (lowest n)) y 256))
 
-odd : (x : ℕ) → bit 0 x ≡ true → x % 2 ≡ 1
-unfolding bit
-odd x h = let e = eqb-true (x / 2 ^ 0 % 2) 1 h in omega (arith, e)
-
 part-small : (x y : ℕ) → y < 256 → x % 2 * y < 256
 part-small x y h =
     let single : x % 2 ≤ 1 = omega arith in
@@ -164,7 +149,7 @@ product-bit zero r c x y h l small p q = absurd (not-suc-le-zero h)
 product-bit (suc n) zero c x y h l small p q =
     ap (bit (8 * 0 + c)) (parted n x y)
     ∙ first-row (bitAnd (x / 256) (lowest n) * y) (x % 2 * y) c (part-small x y small) l
-    ∙ ap (bit c) (ap (λ (z : ℕ). z * y) (odd x p) ∙ omega arith)
+    ∙ ap (bit c) (ap (λ (z : ℕ). z * y) (bit-odd x p) ∙ omega arith)
     ∙ q
 product-bit (suc n) (suc r) c x y h l small p q =
     ap (bit (8 * suc r + c)) (parted n x y)
@@ -219,4 +204,4 @@ module _ {given sets members : ℕ} where
       fresh r c h l e f =
           product-bit 8 r c left (right % 256) h l (omega arith)
           (ap (bit (8 * r)) (found .leftRest) ∙ bit-down sets p (8 * r) ∙ ap (λ (i : ℕ). bit i sets) (omega arith) ∙ e)
-          (low-byte right c l ∙ ap (bit c) (found .rightRest) ∙ bit-down members (8 * p) c ∙ f)
+          (bit-lower 8 c right l ∙ ap (bit c) (found .rightRest) ∙ bit-down members (8 * p) c ∙ f)

@@ -6,25 +6,27 @@ use mathlib.Core.List.{List}
 use mathlib.Core.Path.{_≡_}
 use lib.ListN.{length, getD}
 use Rattle.rules.specs.Bytes.{byteAt, bit}
-use Rattle.rules.specs.Personality.{bodyAt, groupsHead, conflictsHead, phaseCount, groupCount, groupSet, conflictSet}
-use Rattle.read_matrix.specs.declared.matrix.Layout.{Layout}
+use Rattle.rules.specs.Personality.{bodyAt, recordAt, phaseCount, groupCount, groupSet, conflictSet}
+use Rattle.read_sections.specs.declared.layout.Layout.{Layout}
+use Rattle.read_sections.specs.Laid.{Laid}
 
--- the counts, and where the records of kinds 3 and 4 start; all records are there
-pub record Laid (b : List ℕ) (w : Layout) : Type 0 where
-  pub phases : w .phases ≡ phaseCount b
-  pub groups : w .groups ≡ groupCount b
-  pub sets : w .sets ≡ bodyAt (groupsHead b)
-  pub conflicts : w .conflicts ≡ bodyAt (conflictsHead b)
-  pub fewPhases : w .phases ≤ 7
-  pub someGroups : 1 ≤ w .groups
-  pub fewGroups : w .groups ≤ 32
-  pub near : w .conflicts ≤ 4000
-  pub apart : w .sets + 2 * w .groups ≤ w .conflicts
-  pub held : w .conflicts + 4 * w .groups ≤ length b
+-- a layout whose counts are in their ranges, of bytes that reach to the end of kind 4
+pub record Charted (b : List ℕ) (w : Layout) : Type 0 where
+  pub laid : Laid b w
+  pub fewPhases : w .p ≤ 7
+  pub someGroups : 1 ≤ w .n
+  pub fewGroups : w .n ≤ 32
+  pub sets : bodyAt (w .groups) + w .n * 2 ≤ length b
+  pub conflicts : bodyAt (w .conflicts) + w .n * 4 ≤ length b
 
 -- row r of the tile is the byte at `at + r * stride`
 pub record ByteRows (b : List ℕ) (at stride rows t : ℕ) : Type 0 where
   pub told : (r c : ℕ) → r < rows → c < 8 → bit (8 * r + c) t ≡ bit c (byteAt b (at + r * stride))
+
+-- byte k of each record of band a, one a row, of a section of count records of this width
+pub record BandRows (b : List ℕ) (head width count a k t : ℕ) : Type 0 where
+  pub told :
+      (r c : ℕ) → r < 8 → c < 8 → 8 * a + r < count → bit (8 * r + c) t ≡ bit c (byteAt b (recordAt head width (8 * a + r) + k))
 
 -- the conflicts of band a's groups, one a row, with those of band k
 pub record ConflictRows (b : List ℕ) (a k t : ℕ) : Type 0 where

@@ -5,44 +5,16 @@ ghost use mathlib.Core.Bool.{true};
 ghost use mathlib.Core.Path.{_≡_};
 ghost use lib.ListN.{length};
 ghost use Rattle.rules.specs.Bytes.{bit};
-ghost use Rattle.rules.specs.declared.answer.Verdict.the-variants.{Accepted};
-ghost use Rattle.rules.specs.Personality.{bodyAt, conflictsHead, groupCount, siteSection};
-ghost use Rattle.read_matrix.specs.Matrix.{Laid, ByteRows, ConflictRows, SetRows, SetTiles};
+ghost use Rattle.rules.specs.Personality.{bodyAt};
+ghost use Rattle.read_matrix.specs.Matrix.{Charted, ByteRows, BandRows, ConflictRows, SetRows, SetTiles};
 use base_reads::byte_in;
+use read_sections::layout::Layout;
 
 // Bit 0 of each row.
 const LOWEST: u64 = 0x0101_0101_0101_0101;
 
-// How many phases and groups there are, and where the records of kinds 3 and 4 start.
-pub struct Layout {
-    pub phases: usize,
-    pub groups: usize,
-    pub sets: usize,
-    pub conflicts: usize,
-}
-
-// The layout of a site whose kind 1 is accepted.
-pub fn laid_out(s: &[u8]) -> Layout
-    requires { ⌜ siteSection (now s) ≡ Accepted ⌝ }
-    ensures { λ r. ⌜ (r .groups ≡ groupCount (now (s .entry)))
-        × (r .conflicts ≡ bodyAt (conflictsHead (now (s .entry))))
-        × (r .conflicts ≤ 4000)
-        × (r .groups ≤ 32)
-        × (r .conflicts + r .groups * 4 ≤ length (now (s .entry)) → Laid (now (s .entry)) r) ⌝ }
-{
-    let phases = byte_in(s, 4) as usize;
-    let groups = byte_in(s, 5) as usize;
-    let sets = 16 + phases * 12;
-    Layout {
-        phases,
-        groups,
-        sets,
-        conflicts: sets + groups * 2 + 4,
-    }
-}
-
 // The tile whose row r is the byte at `at + r * stride`.
-pub fn tile(s: &[u8], at: usize, stride: usize, rows: usize) -> u64
+fn tile(s: &[u8], at: usize, stride: usize, rows: usize) -> u64
     requires { ⌜ (at ≤ 5000) × (stride ≤ 4) × (rows ≤ 8) × ((r : ℕ) → r < rows → at + r * stride < length (now s)) ⌝ }
     ensures { λ t. ⌜ ByteRows (now (s .entry)) at stride rows t ⌝ }
 {
@@ -55,42 +27,42 @@ pub fn tile(s: &[u8], at: usize, stride: usize, rows: usize) -> u64
     t
 }
 
+// The tile of band a in a section of `count` records of `width` bytes: byte `k` of each record, a record a row.
+fn band_tile(s: &[u8], head: usize, width: usize, count: usize, a: usize, k: usize) -> u64
+    requires { ⌜ (head ≤ 4000) × (width ≤ 4) × (count ≤ 32) × (8 * a < count) × (k < width)
+        × (bodyAt head + count * width ≤ length (now s)) ⌝ }
+    ensures { λ t. ⌜ BandRows (now (s .entry)) head width count a k t ⌝ }
+{
+    let left = count - 8 * a;
+    let at = head + 4 + 8 * a * width + k;
+    if left < 8 {
+        return tile(s, at, width, left);
+    }
+    tile(s, at, width, 8)
+}
+
 // The conflicts of band a with band b.
 pub fn conflict_tile(s: &[u8], layout: Layout, a: usize, b: usize) -> u64
-    requires { ⌜ Laid (now s) layout × (8 * a < layout .groups) × (b < 4) ⌝ }
+    requires { ⌜ Charted (now s) layout × (8 * a < layout .n) × (b < 4) ⌝ }
     ensures { λ t. ⌜ ConflictRows (now (s .entry)) a b t ⌝ }
 {
-    let groups = layout.groups;
-    let place = layout.conflicts;
-    let left = groups - 8 * a;
-    let at = place + 32 * a + b;
-    if left < 8 {
-        return tile(s, at, 4, left);
-    }
-    tile(s, at, 4, 8)
+    band_tile(s, layout.conflicts, 4, layout.n as usize, a, b)
 }
 
 // The phase sets of band a.
 pub fn set_tile(s: &[u8], layout: Layout, a: usize) -> u64
-    requires { ⌜ Laid (now s) layout × (8 * a < layout .groups) ⌝ }
+    requires { ⌜ Charted (now s) layout × (8 * a < layout .n) ⌝ }
     ensures { λ t. ⌜ SetRows (now (s .entry)) a t ⌝ }
 {
-    let groups = layout.groups;
-    let place = layout.sets;
-    let left = groups - 8 * a;
-    let at = place + 16 * a;
-    if left < 8 {
-        return tile(s, at, 2, left);
-    }
-    tile(s, at, 2, 8)
+    band_tile(s, layout.groups, 2, layout.n as usize, a, 0)
 }
 
 // The phase sets of all bands.
 pub fn set_tiles(s: &[u8], layout: Layout) -> [u64; 4]
-    requires { ⌜ Laid (now s) layout ⌝ }
+    requires { ⌜ Charted (now s) layout ⌝ }
     ensures { λ r. ⌜ SetTiles (now (s .entry)) r ⌝ }
 {
-    let groups = layout.groups;
+    let groups = layout.n as usize;
     let mut tiles = [0u64; 4];
     let mut a: usize = 0;
     while 8 * a < groups {

@@ -14,7 +14,7 @@ use Rattle.rules.specs.Personality.{bodyAt, recordAt, phaseCount, detectorsHead
 use Rattle.rules.specs.Verdicts.{firstOf}
 use Rattle.rules.specs.declared.answer.Verdict.the-variants.{Accepted}
 use Rattle.rules.proofs.Tests.{and-left, and-right, or-false-both}
-use Rattle.read_sections.proofs.Firsts.{recordCheck, good-more}
+use Rattle.rules.proofs.Verdicts.{recordCheck, good-more}
 use Rattle.read_personality.proofs.Modes.{mode-low-bits}
 
 -- none of the bits h is set in x, nor in what l added to the bits m of x makes

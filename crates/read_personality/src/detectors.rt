@@ -7,13 +7,12 @@ ghost use lib.ListN.{length};
 ghost use Rattle.rules.specs.declared.answer.Verdict.the-variants.{Accepted};
 ghost use Rattle.rules.specs.Bytes.{fourAt};
 ghost use Rattle.rules.specs.Verdicts.{refuseIf, firstOf};
-ghost use Rattle.rules.specs.Personality.{recordAt, phaseCount, detectorsHead, detectorCount, knownMode, badDetector};
+ghost use Rattle.rules.specs.Personality.{bodyAt, recordAt, detectorsHead, detectorCount, knownMode, badDetector};
 ghost use Rattle.rules.specs.Personality.{siteSection, detectorsSection};
-use base_reads::byte_in;
+ghost use Rattle.read_sections.specs.Laid.{Laid};
 use base_reads::four_in;
-use base_reads::two_in;
-use read_sections::heads::detectors_head;
-use read_sections::heads::phase_count;
+use read_sections::layout::Layout;
+use read_sections::records::pair_at;
 use read_sections::section;
 use rules::answer::Verdict;
 
@@ -32,32 +31,30 @@ fn eight_in(s: &[u8], i: usize) -> u64
     (four_in(s, i) as u64) + 4294967296 * (four_in(s, i + 4) as u64)
 }
 
-// Whether the four records from d on are seen to be good, all at once: true says that they are, false says nothing. With 0x80 - P added,
-// a phase at or above P reaches 0x80; with 0x7d added, an unknown mode without the bit that 4 is does. Only what is below 0x80 is added
-// to, so no byte carries into the next.
-fn four_good(s: &[u8], head: usize, d: usize, phases: u8) -> bool
-    requires { ⌜ (head ≡ detectorsHead (now s)) × (phases ≡ phaseCount (now s)) × (head ≤ 10000) × (d ≤ 32767) × (phases ≤ 7)
-        × (head + 4 + (d + 4) * 2 ≤ length (now s)) ⌝ }
+// Whether the four records from d on are seen to be good, all at once. With 0x80 - P added, a phase at or above P reaches 0x80; with 0x7d
+// added, an unknown mode without the bit that 4 is does. Only what is below 0x80 is added to, so no byte carries into the next. Nothing is
+// owed where the test fails, since the records are then taken one by one: one that failed too often would cost time and change no answer.
+fn four_good(s: &[u8], layout: Layout, d: usize) -> bool
+    requires { ⌜ Laid (now s) layout × (layout .p ≤ 7) × (d ≤ 40000) × (bodyAt (layout .detectors) + (d + 4) * 2 ≤ length (now s)) ⌝ }
     ensures { λ r. ⌜ (r ≡ true →
         (badDetector (now (s .entry)) d ≡ false) × (badDetector (now (s .entry)) (d + 1) ≡ false)
         × (badDetector (now (s .entry)) (d + 2) ≡ false) × (badDetector (now (s .entry)) (d + 3) ≡ false)) ⌝ }
 {
-    let records = eight_in(s, head + 4 + d * 2);
-    let limits = 0x0001000100010001 * (0x7d80 - (phases as u64));
+    let records = eight_in(s, layout.detectors + 4 + d * 2);
+    let limits = 0x0001000100010001 * (0x7d80 - (layout.p as u64));
     let raised = (records & 0x7b7f7b7f7b7f7b7f) + limits;
     (records & 0x8080808080808080 == 0) & (raised & 0x8080808080808080 == 0)
 }
 
 // How many records, four by four from the first on, are seen to be good.
-fn good_fours(s: &[u8], head: usize, phases: u8, count: usize) -> usize
-    requires { ⌜ (head ≡ detectorsHead (now s)) × (phases ≡ phaseCount (now s)) × (head ≤ 10000) × (count ≤ 32767) × (phases ≤ 7)
-        × (head + 4 + count * 2 ≤ length (now s)) ⌝ }
+fn good_fours(s: &[u8], layout: Layout, count: usize) -> usize
+    requires { ⌜ Laid (now s) layout × (layout .p ≤ 7) × (count ≤ 40000) × (bodyAt (layout .detectors) + count * 2 ≤ length (now s)) ⌝ }
     ensures { λ r. ⌜ (r ≤ count) × (firstOf
         (λ d. refuseIf (badDetector (now (s .entry)) d) 11 (recordAt (detectorsHead (now (s .entry))) 2 d)) r ≡ Accepted) ⌝ }
 {
     let mut d: usize = 0;
     while d + 4 <= count {
-        if !four_good(s, head, d, phases) {
+        if !four_good(s, layout, d) {
             return d;
         }
         d += 4;
@@ -66,37 +63,38 @@ fn good_fours(s: &[u8], head: usize, phases: u8, count: usize) -> usize
 }
 
 // 11: the first bad detector record, where all of them are in the slice.
-fn detector_records(s: &[u8], head: usize, phases: u8, count: usize) -> Verdict
-    requires { ⌜ (head ≡ detectorsHead (now s)) × (phases ≡ phaseCount (now s)) × (count ≡ detectorCount (now s))
-        × (head ≤ 10000) × (count ≤ 32767) × (phases ≤ 7) × (head + 4 + count * 2 ≤ length (now s)) ⌝ }
+fn detector_records(s: &[u8], layout: Layout, count: usize) -> Verdict
+    requires { ⌜ Laid (now s) layout × (count ≡ detectorCount (now s)) × (layout .p ≤ 7) × (count ≤ 40000)
+        × (bodyAt (layout .detectors) + count * 2 ≤ length (now s)) ⌝ }
     ensures { λ r. ⌜ r ≡ firstOf
         (λ d. refuseIf (badDetector (now (s .entry)) d) 11 (recordAt (detectorsHead (now (s .entry))) 2 d))
         (detectorCount (now (s .entry))) ⌝ }
 {
-    let mut d = good_fours(s, head, phases, count);
+    let head = layout.detectors;
+    let mut d = good_fours(s, layout, count);
     while d < count {
-        let place = head + 4 + d * 2;
-        if bad_detector(byte_in(s, place), byte_in(s, place + 1), phases) {
-            return Verdict::Refused { number: 11, place };
+        let detector = pair_at(s, head, d);
+        if bad_detector(detector.first, detector.second, layout.p) {
+            return Verdict::Refused {
+                number: 11,
+                place: head + 4 + d * 2,
+            };
         }
         d += 1;
     }
     Verdict::Accepted
 }
 
-// The body length is even and at most that of 48 records. Kind 1 has been accepted before it.
-pub fn detectors_section(s: &[u8]) -> Verdict
-    requires { ⌜ siteSection (now s) ≡ Accepted ⌝ }
+// The body length, which reaches to the next head, is even and at most that of 48 records. Kind 1 has been accepted before it.
+pub fn detectors_section(s: &[u8], layout: Layout) -> Verdict
+    requires { ⌜ Laid (now s) layout × (siteSection (now s) ≡ Accepted) ⌝ }
     ensures { λ r. ⌜ r ≡ detectorsSection (now (s .entry)) ⌝ }
 {
-    let place = detectors_head(s);
-    if s.len() < place + 4 {
-        return Verdict::Refused { number: 1, place };
-    }
-    let length = two_in(s, place);
+    let place = layout.detectors;
+    let length = layout.pedestrians - place - 4;
     let head = section(s, place, 5, (length % 2 == 0) & (length <= 96));
     if let Verdict::Refused { .. } = head {
         return head;
     }
-    detector_records(s, place, phase_count(s), (length / 2) as usize)
+    detector_records(s, layout, length / 2)
 }

@@ -2,14 +2,17 @@
 ghost use mathlib.Core.Path.{_≡_};
 ghost use Rattle.rules.specs.Personality.{verdictOf};
 
-pub mod detectors;
-pub mod pedestrians;
-pub mod site;
+mod after;
+mod detectors;
+mod pedestrians;
+mod site;
 
+use after::after_pedestrians;
 use detectors::detectors_section;
-use pedestrians::from_pedestrians;
+use pedestrians::pedestrians_section;
 use read_conflicts::conflicts_section;
 use read_groups::records::groups_section;
+use read_sections::layout::laid_out;
 use rules::answer::Verdict;
 use site::phases_section;
 use site::site_section;
@@ -17,25 +20,30 @@ use site::site_section;
 pub fn read(personality: &[u8]) -> Verdict
     ensures { λ r. ⌜ r ≡ verdictOf (now (personality .entry)) ⌝ }
 {
-    let site = site_section(personality);
+    let layout = laid_out(personality);
+    let site = site_section(personality, layout);
     if let Verdict::Refused { .. } = site {
         return site;
     }
-    let phases = phases_section(personality);
+    let phases = phases_section(personality, layout);
     if let Verdict::Refused { .. } = phases {
         return phases;
     }
-    let groups = groups_section(personality);
+    let groups = groups_section(personality, layout);
     if let Verdict::Refused { .. } = groups {
         return groups;
     }
-    let conflicts = conflicts_section(personality);
+    let conflicts = conflicts_section(personality, layout);
     if let Verdict::Refused { .. } = conflicts {
         return conflicts;
     }
-    let detectors = detectors_section(personality);
+    let detectors = detectors_section(personality, layout);
     if let Verdict::Refused { .. } = detectors {
         return detectors;
     }
-    from_pedestrians(personality)
+    let pedestrians = pedestrians_section(personality, layout);
+    if let Verdict::Refused { .. } = pedestrians {
+        return pedestrians;
+    }
+    after_pedestrians(personality, layout)
 }

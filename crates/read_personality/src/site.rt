@@ -1,29 +1,30 @@
 // Kinds 1 and 2: the site's counts and start red, and the times of the phases.
 ghost use mathlib.Core.Path.{_≡_};
 ghost use Rattle.rules.specs.Personality.{siteSection, phasesSection};
-use read_sections::heads::group_count;
-use read_sections::heads::phase_count;
+ghost use Rattle.read_sections.specs.Laid.{Laid};
+use read_sections::layout::Layout;
 use read_sections::sized_section;
 use read_sections::times::time;
 use read_sections::times::time_records;
 use rules::answer::Verdict;
 
 // Kind 1. 4: P not 2 to 7 or N not 1 to 32. 5: start red outside its range.
-pub fn site_section(s: &[u8]) -> Verdict
+pub fn site_section(s: &[u8], layout: Layout) -> Verdict
+    requires { ⌜ Laid (now s) layout ⌝ }
     ensures { λ r. ⌜ r ≡ siteSection (now (s .entry)) ⌝ }
 {
     let head = sized_section(s, 0, 1, 4);
     if let Verdict::Refused { .. } = head {
         return head;
     }
-    let phases = phase_count(s);
+    let phases = layout.p;
     if !((2 <= phases) & (phases <= 7)) {
         return Verdict::Refused {
             number: 4,
             place: 4,
         };
     }
-    let groups = group_count(s);
+    let groups = layout.n;
     if !((1 <= groups) & (groups <= 32)) {
         return Verdict::Refused {
             number: 4,
@@ -34,10 +35,11 @@ pub fn site_section(s: &[u8]) -> Verdict
 }
 
 // Kind 2: a record of L, M, X, G, Y, R for each phase.
-pub fn phases_section(s: &[u8]) -> Verdict
+pub fn phases_section(s: &[u8], layout: Layout) -> Verdict
+    requires { ⌜ Laid (now s) layout ⌝ }
     ensures { λ r. ⌜ r ≡ phasesSection (now (s .entry)) ⌝ }
 {
-    let count = phase_count(s) as usize;
+    let count = layout.p as usize;
     let head = sized_section(s, 8, 2, count * 12);
     if let Verdict::Refused { .. } = head {
         return head;

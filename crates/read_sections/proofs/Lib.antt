@@ -1,3 +1,2 @@
-pub mod Firsts
+pub mod Lengths
 pub mod Places
-pub mod Short

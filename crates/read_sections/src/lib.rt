@@ -1,10 +1,11 @@
-// What the sections of a personality have in common: where their heads stand, the check of a head with its body, and records of times.
+// What the sections of a personality have in common: where they stand, the check of a head with its body, and records of times.
 ghost use Prim.Native.Nat.{_≤_};
 ghost use mathlib.Core.Path.{_≡_};
 ghost use lib.Dec.{eqb};
 ghost use Rattle.rules.specs.Personality.{bodyLength, sectionAt};
 
-pub mod heads;
+pub mod layout;
+pub mod records;
 pub mod times;
 
 use base_reads::two_in;
@@ -12,7 +13,7 @@ use rules::answer::Verdict;
 
 // A section's head, and that its body is there: 1, 2, 3, 1, all at the head.
 pub fn section(s: &[u8], head: usize, kind: u16, right: bool) -> Verdict
-    requires { ⌜ head ≤ 100000 ⌝ }
+    requires { ⌜ head ≤ 200000 ⌝ }
     ensures { λ r. ⌜ r ≡ sectionAt (now (s .entry)) head kind right ⌝ }
 {
     if s.len() < head + 4 {
@@ -44,7 +45,7 @@ pub fn section(s: &[u8], head: usize, kind: u16, right: bool) -> Verdict
 
 // The same where the body has to have just so many bytes.
 pub fn sized_section(s: &[u8], head: usize, kind: u16, bytes: usize) -> Verdict
-    requires { ⌜ head ≤ 100000 ⌝ }
+    requires { ⌜ head ≤ 200000 ⌝ }
     ensures { λ r. ⌜ r ≡ sectionAt (now (s .entry)) head kind (eqb (bodyLength (now (s .entry)) head) bytes) ⌝ }
 {
     if s.len() < head + 4 {

@@ -1,45 +1,25 @@
--- Where each section ends. All six are in the bytes, so each record of a section is, and so is all that stands before it.
-use Prim.Native.Nat.{ℕ, _+_, _*_, _≤_, _<_}
+-- Where each section's records end. All six sections are in the bytes, so the records of each are, and so is all that stands before them.
+use Prim.Native.Nat.{ℕ, _+_, _*_, _≤_}
 use mathlib.Core.List.{List}
-use mathlib.Core.Path.{_≡_}
 use native.Mathlib.Omega.{arith}
 use lib.ListN.{length}
-use Rattle.rules.specs.Personality.{bodyAt, bodyLength, phaseCount, groupCount, detectorCount, movementCount, groupsHead, conflictsHead, detectorsHead, pedestriansHead, endOf}
+use Rattle.rules.specs.Personality.{bodyAt, phasesHead, groupsHead, conflictsHead, detectorsHead, pedestriansHead, detectorCount}
+use Rattle.read_sections.specs.declared.layout.Layout.{Layout}
 use Rattle.read_site.specs.Decoding.{Fitting}
 
-module _ {b : List ℕ} (fitting : Fitting b) where
-  pub detectors-end : detectorsHead b + 4 + bodyLength b (detectorsHead b) ≤ length b
-  unfolding endOf pedestriansHead bodyAt
-  detectors-end = omega (arith, fitting .whole)
+module _ {b : List ℕ} {w : Layout} (fitting : Fitting b w) where
+  pub detectors-end : bodyAt (w .detectors) + detectorCount b * 2 ≤ length b
+  unfolding pedestriansHead detectorCount bodyAt
+  detectors-end = omega (arith, fitting .whole, fitting .laid .detectors, fitting .laid .pedestrians)
 
-  pub conflicts-end : conflictsHead b + 4 + groupCount b * 4 ≤ length b
+  pub conflicts-end : bodyAt (w .conflicts) + w .n * 4 ≤ length b
   unfolding detectorsHead bodyAt
-  conflicts-end = omega (arith, detectors-end)
+  conflicts-end = omega (arith, detectors-end, fitting .laid .n, fitting .laid .conflicts, fitting .laid .detectors)
 
-  pub groups-end : groupsHead b + 4 + groupCount b * 2 ≤ length b
+  pub groups-end : bodyAt (w .groups) + w .n * 2 ≤ length b
   unfolding conflictsHead bodyAt
-  groups-end = omega (arith, conflicts-end)
+  groups-end = omega (arith, conflicts-end, fitting .laid .n, fitting .laid .groups, fitting .laid .conflicts)
 
-  pub phases-end : 12 + phaseCount b * 12 ≤ length b
+  pub phases-end : bodyAt phasesHead + w .p * 12 ≤ length b
   unfolding groupsHead bodyAt
-  phases-end = omega (arith, groups-end)
-
-  -- ── Record by record, from the heads and counts that the code has ──
-
-  pub phase-held : {count p : ℕ} → count ≡ phaseCount b → p < count → 24 + p * 12 ≤ length b
-  phase-held counted l = omega (arith, phases-end)
-
-  module _ {head count i : ℕ} where
-    pub group-held : head ≡ groupsHead b → count ≡ groupCount b → i < count → head + 6 + i * 2 ≤ length b
-    group-held at counted l = omega (arith, groups-end)
-
-    pub conflict-held : head ≡ conflictsHead b → count ≡ groupCount b → i < count → head + 8 + i * 4 ≤ length b
-    conflict-held at counted l = omega (arith, conflicts-end)
-
-    pub detector-held : head ≡ detectorsHead b → count ≡ detectorCount b → i < count → head + 6 + i * 2 ≤ length b
-    unfolding detectorCount
-    detector-held at counted l = omega (arith, detectors-end)
-
-    pub walk-held : head ≡ pedestriansHead b → count ≡ movementCount b → i < count → head + 10 + i * 6 ≤ length b
-    unfolding endOf bodyAt
-    walk-held at counted l = omega (arith, fitting .whole)
+  phases-end = omega (arith, groups-end, fitting .laid .p, fitting .laid .groups)

@@ -7,6 +7,7 @@ use mathlib.Core.Path.{_≡_, refl, sym}
 use lib.Dec.{ltb, eqb}
 use lib.ListN.{getD}
 use native.Mathlib.Nat.{not-suc-le-zero, suc-mul, eq-or-lt-of-le}
+use native.Mathlib.Numerals.{add-one}
 use native.Mathlib.Omega.{arith}
 use borrow.Author.Tests.{ltb-true, ltb-false, eqb-true, eqb-false}
 use Rattle.rules.specs.Rows.{countOf, sumOf, indicesOf}
@@ -42,6 +43,13 @@ count-passed f n e = rw e (omega arith)
 pub count-failed : (f : ℕ → Bool) (n : ℕ) → f n ≡ false → countOf f (suc n) ≡ countOf f n
 unfolding countOf
 count-failed f n e = rw e (omega arith)
+
+-- of a running count k
+pub count-one-more : (f : ℕ → Bool) (i : ℕ) {k : ℕ} → k ≡ countOf f i → f i ≡ true → k + 1 ≡ countOf f (i + 1)
+count-one-more f i e t = rw (add-one i, count-passed f i t, e, add-one)
+
+pub count-as-before : (f : ℕ → Bool) (i : ℕ) {k : ℕ} → k ≡ countOf f i → f i ≡ false → k ≡ countOf f (i + 1)
+count-as-before f i e t = rw (add-one i, count-failed f i t) e
 
 pub count-more : (f : ℕ → Bool) (n : ℕ) → countOf f n ≤ countOf f (suc n)
 unfolding countOf

@@ -5,8 +5,9 @@ use mathlib.Core.List.{List, [], _∷_, _++_, append-nil}
 use mathlib.Core.Logic.{_⊎_, inl, inr, ⊎-elim}
 use mathlib.Core.Path.{_≡_, refl, sym, subst, ap, _∙_}
 use native.Mathlib.Nat.{eq-or-lt-of-le, le-of-suc-le-suc, not-suc-le-zero}
+use native.Mathlib.Numerals.{add-one}
 use native.Mathlib.Omega.{arith}
-use lib.ListN.{length, getD, replicate, length-append, length-replicate, getD-replicate, List·getD-append, List·getD-eq-default}
+use lib.ListN.{length, getD, replicate, length-append, List·getD-append}
 use lib.Seq.{getD-append-add, getD-at}
 use Rattle.rules.specs.Rows.{if_then_else_, anyOf, allOf, countOf, sumOf, greatestOf, listOf, indicesOf}
 use Rattle.rules.specs.Site.{rowOf}
@@ -49,6 +50,14 @@ any-false f (suc n) i p h =
     (λ (e : i ≡ n). subst (λ (j : ℕ). f j ≡ false) (sym e) (or-false-right (anyOf f n) (f n) p))
     (λ (l : i < n). any-false f n i (or-false-left (anyOf f n) (f n) p) l)
     (last-or-below h)
+
+-- as code asks for one after the other
+pub any-more : (f : ℕ → Bool) (i : ℕ) → anyOf f i ≡ false → f i ≡ false → anyOf f (i + 1) ≡ false
+unfolding anyOf
+any-more f i p q = rw add-one (or-false-both p q)
+
+pub any-done : (f : ℕ → Bool) (n i : ℕ) → anyOf f i ≡ false → i ≡ n → false ≡ anyOf f n
+any-done f n i e m = sym (ap (anyOf f) (sym m) ∙ e)
 
 pub all-at : (f : ℕ → Bool) (n i : ℕ) → allOf f n ≡ true → i < n → f i ≡ true
 unfolding allOf
@@ -114,15 +123,6 @@ module _ {ℓ} {A : Type ℓ} where
       List·getD-append (listOf f n) (f n ∷ []) d i (subst (λ (m : ℕ). i < m) (sym (list-length f n)) l)
       ∙ list-at f n i d l)
       (last-or-below h)
-
-  pub list-past : (f : ℕ → A) (n i : ℕ) (d : A) → n ≤ i → getD (listOf f n) i d ≡ d
-  list-past f n i d h = List·getD-eq-default (listOf f n) d (subst (λ (m : ℕ). m ≤ i) (sym (list-length f n)) h)
-
-  pub row-length : (f : ℕ → A) (n room : ℕ) (blank : A) → n ≤ room → length (rowOf f n room blank) ≡ room
-  unfolding rowOf
-  row-length f n room blank h =
-      length-append (listOf f n) (replicate (room - n) blank)
-      ∙ omega (arith, list-length f n, length-replicate (room - n) blank)
 
   pub row-at : (f : ℕ → A) (n room i : ℕ) (blank : A) → i < n → getD (rowOf f n room blank) i blank ≡ f i
   unfolding rowOf

@@ -1,9 +1,12 @@
--- Laws of verdicts: acceptance of checks in order is acceptance of each, and a refusal comes from one of them.
-use Prim.Native.Nat.{ℕ, zero, suc, _<_}
+-- Laws of verdicts: acceptance of checks in order is acceptance of each, and a refusal comes from one of them. And as code makes checks
+-- one after the other: one that passed leaves the answer to the next, a refusal is the answer, and once each of a row has passed the
+-- row has.
+use Prim.Native.Nat.{ℕ, zero, suc, _+_, _<_}
 use mathlib.Core.Bool.{Bool, true, false}
 use mathlib.Core.Logic.{_⊎_, inl, inr, ⊎-elim}
-use mathlib.Core.Path.{_≡_, refl, sym, subst}
+use mathlib.Core.Path.{_≡_, refl, ap, sym, subst, _∙_}
 use native.Mathlib.Nat.{not-suc-le-zero}
+use native.Mathlib.Numerals.{add-one}
 use native.Mathlib.Omega.{arith}
 use Rattle.rules.specs.declared.answer.Verdict.{Verdict}
 use Rattle.rules.specs.declared.answer.Verdict.the-variants.{Accepted, Refused}
@@ -55,3 +58,71 @@ first-refused f (suc m) {n} {p} h =
     (λ (e : firstOf f m ≡ Refused n p). let w = first-refused f m e in (w .0, omega (arith, w .1), w .2))
     (λ (e : (firstOf f m ≡ Accepted) × (f m ≡ Refused n p)). (m, omega arith, e .1))
     (or-refused (firstOf f m) (f m) h)
+
+-- ── A check that is made ──
+
+pub refuse-yes : {t : Bool} (n p : ℕ) → t ≡ true → Refused n p ≡ refuseIf t n p
+unfolding refuseIf
+refuse-yes n p e = rw e
+
+pub refuse-no : {t : Bool} (n p : ℕ) → t ≡ false → refuseIf t n p ≡ Accepted
+unfolding refuseIf
+refuse-no n p e = rw e
+
+-- a check, then another: w is what the first answers, and it passed
+pub or-next : {a b v w : Verdict} → w ≡ a → w ≡ Accepted → v ≡ b → v ≡ (a orElse b)
+unfolding _orElse_
+or-next e p q = rw (← e, p) q
+
+-- it refused
+pub or-stop : {a w : Verdict} (b : Verdict) {n p : ℕ} → w ≡ a → w ≡ Refused n p → w ≡ (a orElse b)
+unfolding _orElse_
+or-stop b e r = rw (← e, r)
+
+-- ── A row of checks ──
+
+pub first-more : (f : ℕ → Verdict) (i : ℕ) → firstOf f i ≡ Accepted → f i ≡ Accepted → firstOf f (i + 1) ≡ Accepted
+unfolding firstOf _orElse_
+first-more f i p q = rw (add-one, p, q)
+
+pub first-stop :
+    (f : ℕ → Verdict) (n i : ℕ) {v : Verdict} {k p : ℕ} →
+    i < n →
+    firstOf f i ≡ Accepted →
+    v ≡ f i →
+    v ≡ Refused k p →
+    v ≡ firstOf f n
+unfolding firstOf
+first-stop f zero i h e q r = absurd (not-suc-le-zero h)
+first-stop f (suc n) i h e q r =
+    ⊎-elim
+    (λ (m : i ≡ n). or-next (ap (firstOf f) m) e (q ∙ ap f m))
+    (λ (l : i < n). or-stop (f n) (first-stop f n i l e q r) r)
+    (last-or-below h)
+
+pub first-done : (f : ℕ → Verdict) (n i : ℕ) → firstOf f i ≡ Accepted → i ≡ n → Accepted ≡ firstOf f n
+first-done f n i e m = sym (ap (firstOf f) (sym m) ∙ e)
+
+-- a row of records, each refused with the number k at its place where it is bad
+module _ (bad : ℕ → Bool) (k : ℕ) (place : ℕ → ℕ) where
+  abbrev pub recordCheck : ℕ → Verdict
+  recordCheck i = refuseIf (bad i) k (place i)
+
+  pub good-more : (i : ℕ) → firstOf recordCheck i ≡ Accepted → bad i ≡ false → firstOf recordCheck (i + 1) ≡ Accepted
+  good-more i p q = first-more recordCheck i p (refuse-no k (place i) q)
+
+  pub bad-stop :
+      (n i : ℕ) {at : ℕ} →
+      i < n →
+      firstOf recordCheck i ≡ Accepted →
+      bad i ≡ true →
+      at ≡ place i →
+      Refused k at ≡ firstOf recordCheck n
+  bad-stop n i h e q m = first-stop recordCheck n i h e (ap (Refused k) m ∙ refuse-yes k (place i) q) refl
+
+  -- none of them is bad
+  pub all-good : (n : ℕ) → ((i : ℕ) → i < n → bad i ≡ false) → Accepted ≡ firstOf recordCheck n
+  unfolding firstOf
+  all-good zero h = refl
+  all-good (suc n) h =
+      or-next (all-good n (λ i l. h i (omega arith))) refl (sym (refuse-no k (place n) (h n (omega arith))))

@@ -13,10 +13,13 @@ use Rattle.rules.specs.Personality.{verdictOf, bodyAt, bodyLength, siteH
 unfoldable pub heldKind : ℕ → Bool
 heldKind kind = leb 1 kind && leb kind 6
 
+-- the heads in the order of the kinds
+abbrev pub heads : List ℕ → List ℕ
+heads b = siteHead ∷ phasesHead ∷ groupsHead b ∷ conflictsHead b ∷ detectorsHead b ∷ pedestriansHead b ∷ []
+
 -- the head of the section of a kind that is held
 unfoldable pub headOf : List ℕ → ℕ → ℕ
-headOf b kind =
-    getD (siteHead ∷ phasesHead ∷ groupsHead b ∷ conflictsHead b ∷ detectorsHead b ∷ pedestriansHead b ∷ []) (kind - 1) 0
+headOf b kind = getD (heads b) (kind - 1) 0
 
 -- The personality's own refusal, and then 2 at 0 for a kind that is not held.
 unfoldable pub lookupVerdict : List ℕ → ℕ → Verdict

@@ -51,6 +51,10 @@ detectorsHead b = bodyAt (conflictsHead b) + groupCount b * 4
 unfoldable pub pedestriansHead : List ℕ → ℕ
 pedestriansHead b = bodyAt (detectorsHead b) + bodyLength b (detectorsHead b)
 
+-- just past kind 6
+unfoldable pub endOf : List ℕ → ℕ
+endOf b = bodyAt (pedestriansHead b) + bodyLength b (pedestriansHead b)
+
 -- ── Records ──
 
 unfoldable pub groupSet : List ℕ → ℕ → ℕ
@@ -80,10 +84,6 @@ detectorPhase b d = byteAt b (recordAt (detectorsHead b) 2 d)
 
 unfoldable pub detectorMode : List ℕ → ℕ → ℕ
 detectorMode b d = byteAt b (recordAt (detectorsHead b) 2 d + 1)
-
--- just past kind 6
-unfoldable pub endOf : List ℕ → ℕ
-endOf b = bodyAt (pedestriansHead b) + movementCount b * 6
 
 -- ── Checks, from top to bottom ──
 

@@ -3,11 +3,11 @@ use Prim.Native.Nat.{ℕ}
 use mathlib.Core.List.{List}
 use mathlib.Core.Path.{_≡_, sym, _∙_}
 use borrow.Author.Needs.{needs}
-use Rattle.rules.specs.Personality.{phasesSection, groupsSection, conflictsSection}
-use Rattle.rules.specs.Personality.{detectorsSection, pedestriansSection, afterPedestrians, verdictOf}
+use Rattle.rules.specs.Personality.{siteSection, phasesSection, groupsSection, conflictsSection, detectorsSection, pedestriansSection, afterPedestrians, verdictOf}
 use Rattle.rules.specs.Verdicts.{_orElse_}
 use Rattle.rules.specs.declared.answer.Verdict.{Verdict}
-use Rattle.read_sections.proofs.Firsts.{or-next, or-stop}
+use Rattle.rules.specs.declared.answer.Verdict.the-variants.{Accepted}
+use Rattle.rules.proofs.Verdicts.{or-next, or-stop}
 use Rattle.read_personality.proofs.read.Statement.{statement}
 use Rattle.read_personality.proofs.read.Tie as tie
 
@@ -28,7 +28,30 @@ fromGroups b = groupsSection b orElse fromConflicts b
 abbrev fromPhases : List ℕ → Verdict
 fromPhases b = phasesSection b orElse fromGroups b
 
+-- ── The bytes, at the place where each section has passed ──
+
+abbrev atSite : tie.After-enum-told2 → List ℕ
+atSite c = c .before .before .before .before .before .args .personality .now
+
+abbrev atPhases : tie.After-enum-told4 → List ℕ
+atPhases c = atSite (c .before .before .before)
+
+abbrev atGroups : tie.After-enum-told6 → List ℕ
+atGroups c = atPhases (c .before .before .before)
+
+abbrev atConflicts : tie.After-enum-told8 → List ℕ
+atConflicts c = atGroups (c .before .before .before)
+
+abbrev atDetectors : tie.After-enum-told10 → List ℕ
+atDetectors c = atConflicts (c .before .before .before)
+
+abbrev atPedestrians : tie.After-enum-told12 → List ℕ
+atPedestrians c = atDetectors (c .before .before .before)
+
 -- ── The calls ──
+
+laid-out-requires : tie.Need-laid-out-requires
+laid-out-requires c κs = search needs
 
 site-section-requires : tie.Need-site-section-requires
 site-section-requires c κs = search needs
@@ -43,20 +66,19 @@ returns c = or-stop _ (c .before .before .site-section .ensures) (c .enum-told .
 enum-told-2 : tie.Need-enum-told-2
 enum-told-2 c = search needs
 
+-- kind 1 has passed: the answer is that of what follows
+afterSite : (c : tie.After-enum-told2) {v : Verdict} → v ≡ fromPhases (atSite c) → v ≡ verdictOf (atSite c)
+unfolding verdictOf
+afterSite c e = or-next (c .before .before .site-section .ensures) (c .enum-told2 .given .1) e
+
+siteAccepted : (c : tie.After-enum-told2) → siteSection (atSite c) ≡ Accepted
+siteAccepted c = sym (c .before .before .site-section .ensures) ∙ c .enum-told2 .given .1
+
 phases-section-requires : tie.Need-phases-section-requires
 phases-section-requires c κs = search needs
 
 enum-told-3 : tie.Need-enum-told-3
 enum-told-3 c = search needs
-
--- kind 1 has passed: the answer is that of what follows
-afterSite :
-    (c : tie.After-enum-told2) {v : Verdict} →
-    let b = c .before .before .before .before .args .personality .now in
-    v ≡ fromPhases b →
-    v ≡ verdictOf b
-unfolding verdictOf
-afterSite c e = or-next (c .before .before .site-section .ensures) (c .enum-told2 .given .1) e
 
 returns-2 : tie.Need-returns-2
 returns-2 c = afterSite (c .before .before .before) (or-stop _ (c .before .before .phases-section .ensures) (c .enum-told3 .given .1))
@@ -64,19 +86,15 @@ returns-2 c = afterSite (c .before .before .before) (or-stop _ (c .before .befor
 enum-told-4 : tie.Need-enum-told-4
 enum-told-4 c = search needs
 
+-- kind 2 has passed: the answer is that of what follows
+afterPhases : (c : tie.After-enum-told4) {v : Verdict} → v ≡ fromGroups (atPhases c) → v ≡ verdictOf (atPhases c)
+afterPhases c e = afterSite (c .before .before .before) (or-next (c .before .before .phases-section .ensures) (c .enum-told4 .given .1) e)
+
 groups-section-requires : tie.Need-groups-section-requires
 groups-section-requires c κs = search needs
 
 enum-told-5 : tie.Need-enum-told-5
 enum-told-5 c = search needs
-
--- kind 2 has passed: the answer is that of what follows
-afterPhases :
-    (c : tie.After-enum-told4) {v : Verdict} →
-    let b = c .before .before .before .before .before .before .before .args .personality .now in
-    v ≡ fromGroups b →
-    v ≡ verdictOf b
-afterPhases c e = afterSite (c .before .before .before) (or-next (c .before .before .phases-section .ensures) (c .enum-told4 .given .1) e)
 
 returns-3 : tie.Need-returns-3
 returns-3 c = afterPhases (c .before .before .before) (or-stop _ (c .before .before .groups-section .ensures) (c .enum-told5 .given .1))
@@ -84,84 +102,79 @@ returns-3 c = afterPhases (c .before .before .before) (or-stop _ (c .before .bef
 enum-told-6 : tie.Need-enum-told-6
 enum-told-6 c = search needs
 
+-- kind 3 has passed: the answer is that of what follows
+afterGroups : (c : tie.After-enum-told6) {v : Verdict} → v ≡ fromConflicts (atGroups c) → v ≡ verdictOf (atGroups c)
+afterGroups c e = afterPhases (c .before .before .before) (or-next (c .before .before .groups-section .ensures) (c .enum-told6 .given .1) e)
+
+groupsAccepted : (c : tie.After-enum-told6) → groupsSection (atGroups c) ≡ Accepted
+groupsAccepted c = sym (c .before .before .groups-section .ensures) ∙ c .enum-told6 .given .1
+
 conflicts-section-requires : tie.Need-conflicts-section-requires
 conflicts-section-requires c κs =
-    let sitePassed = c .before .before .before .before .before .before in (
-      sym (sitePassed .before .before .site-section .ensures) ∙ sitePassed .enum-told2 .given .1,
-      sym (c .before .before .groups-section .ensures) ∙ c .enum-told6 .given .1,
-    )
+    let site = c .before .before .before .before .before .before in
+    (site .before .before .before .laid-out .ensures, siteAccepted site, groupsAccepted c)
 
 enum-told-7 : tie.Need-enum-told-7
 enum-told-7 c = search needs
 
--- kind 3 has passed: the answer is that of what follows
-afterGroups :
-    (c : tie.After-enum-told6) {v : Verdict} →
-    let b = c .before .before .before .before .before .before .before .before .before .before .args .personality .now in
-    v ≡ fromConflicts b →
-    v ≡ verdictOf b
-afterGroups c e =
-    afterPhases (c .before .before .before)
-    (or-next (c .before .before .groups-section .ensures) (c .enum-told6 .given .1) e)
-
 returns-4 : tie.Need-returns-4
-returns-4 c =
-    afterGroups (c .before .before .before)
-    (or-stop _ (c .before .before .conflicts-section .ensures) (c .enum-told7 .given .1))
+returns-4 c = afterGroups (c .before .before .before) (or-stop _ (c .before .before .conflicts-section .ensures) (c .enum-told7 .given .1))
 
 enum-told-8 : tie.Need-enum-told-8
 enum-told-8 c = search needs
 
+-- kind 4 has passed: the answer is that of what follows
+afterConflicts : (c : tie.After-enum-told8) {v : Verdict} → v ≡ fromDetectors (atConflicts c) → v ≡ verdictOf (atConflicts c)
+afterConflicts c e = afterGroups (c .before .before .before) (or-next (c .before .before .conflicts-section .ensures) (c .enum-told8 .given .1) e)
+
 detectors-section-requires : tie.Need-detectors-section-requires
 detectors-section-requires c κs =
-    let sitePassed = c .before .before .before .before .before .before .before .before .before in
-    sym (sitePassed .before .before .site-section .ensures) ∙ sitePassed .enum-told2 .given .1
+    let site = c .before .before .before .before .before .before .before .before .before in
+    (site .before .before .before .laid-out .ensures, siteAccepted site)
 
 enum-told-9 : tie.Need-enum-told-9
 enum-told-9 c = search needs
 
--- kind 4 has passed: the answer is that of what follows
-afterConflicts :
-    (c : tie.After-enum-told8) {v : Verdict} →
-    let groupsPassed = c .before .before .before in
-    let b = groupsPassed .before .before .before .before .before .before .before .before .before .before .args .personality .now in
-    v ≡ fromDetectors b →
-    v ≡ verdictOf b
-afterConflicts c e =
-    afterGroups (c .before .before .before)
-    (or-next (c .before .before .conflicts-section .ensures) (c .enum-told8 .given .1) e)
-
 returns-5 : tie.Need-returns-5
-returns-5 c =
-    afterConflicts (c .before .before .before)
-    (or-stop _ (c .before .before .detectors-section .ensures) (c .enum-told9 .given .1))
+returns-5 c = afterConflicts (c .before .before .before) (or-stop _ (c .before .before .detectors-section .ensures) (c .enum-told9 .given .1))
 
 enum-told-10 : tie.Need-enum-told-10
 enum-told-10 c = search needs
 
-from-pedestrians-requires : tie.Need-from-pedestrians-requires
-from-pedestrians-requires c κs =
-    let groupsPassed = c .before .before .before .before .before .before in
-    sym (groupsPassed .before .before .groups-section .ensures) ∙ groupsPassed .enum-told6 .given .1
-
 -- kind 5 has passed: the answer is that of what follows
-afterDetectors :
-    (c : tie.After-enum-told10) {v : Verdict} →
-    let groupsPassed = c .before .before .before .before .before .before in
-    let b = groupsPassed .before .before .before .before .before .before .before .before .before .before .args .personality .now in
-    v ≡ fromPedestrians b →
-    v ≡ verdictOf b
-afterDetectors c e =
-    afterConflicts (c .before .before .before)
-    (or-next (c .before .before .detectors-section .ensures) (c .enum-told10 .given .1) e)
+afterDetectors : (c : tie.After-enum-told10) {v : Verdict} → v ≡ fromPedestrians (atDetectors c) → v ≡ verdictOf (atDetectors c)
+afterDetectors c e = afterConflicts (c .before .before .before) (or-next (c .before .before .detectors-section .ensures) (c .enum-told10 .given .1) e)
+
+pedestrians-section-requires : tie.Need-pedestrians-section-requires
+pedestrians-section-requires c κs =
+    let groups = c .before .before .before .before .before .before in
+    let site = groups .before .before .before .before .before .before in
+    (site .before .before .before .laid-out .ensures, groupsAccepted groups)
+
+enum-told-11 : tie.Need-enum-told-11
+enum-told-11 c = search needs
 
 returns-6 : tie.Need-returns-6
-returns-6 c = afterDetectors (c .before) (c .from-pedestrians .ensures)
+returns-6 c = afterDetectors (c .before .before .before) (or-stop _ (c .before .before .pedestrians-section .ensures) (c .enum-told11 .given .1))
+
+enum-told-12 : tie.Need-enum-told-12
+enum-told-12 c = search needs
+
+-- kind 6 has passed: the answer is that of what follows
+pastPedestrians : (c : tie.After-enum-told12) {v : Verdict} → v ≡ afterPedestrians (atPedestrians c) → v ≡ verdictOf (atPedestrians c)
+pastPedestrians c e = afterDetectors (c .before .before .before) (or-next (c .before .before .pedestrians-section .ensures) (c .enum-told12 .given .1) e)
+
+after-pedestrians-requires : tie.Need-after-pedestrians-requires
+after-pedestrians-requires c κs = search needs
+
+returns-7 : tie.Need-returns-7
+returns-7 c = pastPedestrians (c .before) (c .after-pedestrians .ensures)
 
 pub read-spec : {M : Type 1} → statement M
 read-spec =
     tie.close
     (tie.spec
+    laid-out-requires
     site-section-requires
     enum-told
     returns
@@ -182,5 +195,9 @@ read-spec =
     enum-told-9
     returns-5
     enum-told-10
-    from-pedestrians-requires
-    returns-6)
+    pedestrians-section-requires
+    enum-told-11
+    returns-6
+    enum-told-12
+    after-pedestrians-requires
+    returns-7)

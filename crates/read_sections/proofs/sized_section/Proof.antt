@@ -1,10 +1,25 @@
 -- `read_sections::sized_section` meets its contract: a head that is not all there is refused with 1, and the length of one that is there is
 -- held to the bytes given.
+use Prim.Native.Nat.{ℕ, _+_, _<_}
+use mathlib.Core.Bool.{Bool}
+use mathlib.Core.List.{List}
+use mathlib.Core.Path.{_≡_, refl}
+use lib.ListN.{length}
+use borrow.Author.Tests.{lt-ltb}
 use borrow.Author.Needs.{needs}
-use Rattle.rules.specs.Personality.{bodyLength}
-use Rattle.read_sections.proofs.Short.{head-short}
+use Rattle.rules.specs.Personality.{bodyLength, sectionAt}
+use Rattle.rules.specs.declared.answer.Verdict.the-variants.{Refused}
+use Rattle.rules.proofs.Verdicts.{or-stop, refuse-yes}
 use Rattle.read_sections.proofs.sized_section.Statement.{statement}
 use Rattle.read_sections.proofs.sized_section.Tie as tie
+
+-- a head that is not all there, whatever else is asked of the section
+head-short :
+    (b : List ℕ) (head kind : ℕ) (lengthRight : Bool) →
+    length b < head + 4 →
+    Refused 1 head ≡ sectionAt b head kind lengthRight
+unfolding sectionAt
+head-short b head kind right h = or-stop _ (refuse-yes 1 head (lt-ltb _ _ h)) refl
 
 add-if1 : tie.Need-add-if1
 add-if1 c = search needs

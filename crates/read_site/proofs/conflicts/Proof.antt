@@ -1,9 +1,9 @@
 -- `read_site::conflicts` meets its contract: before group g the records of the groups below g are in place, the rest is blank.
-use Prim.Native.Nat.{_-_, _+_, _*_, _≤_}
-use lib.ListN.{length}
+use Prim.Native.Nat.{_-_}
 use Rattle.rules.specs.Personality.{bodyAt, recordAt, groupCount, conflictSet}
 use Rattle.rules.specs.Site.{siteOf}
-use Rattle.read_site.proofs.Ends.{conflict-held}
+use Rattle.proof_acceptance.proofs.Sections.{record-within}
+use Rattle.read_site.proofs.Ends.{conflicts-end}
 use Rattle.read_site.proofs.Filling.{Filled, filled-none, filled-more, filled-whole}
 use borrow.Author.Needs.{needs}
 use native.Mathlib.Omega.{arith}
@@ -16,26 +16,27 @@ Inv-loop s head count rows₀ g₀ rows g = Filled (conflictSet s) (groupCount s
 abbrev μ-loop : tie.MeasureT-loop
 μ-loop s head count rows₀ g₀ rows g = count - g
 
--- the record is in the bytes
-held :
-    (c : tie.In-loop Inv-loop μ-loop) →
-    c .before .before .before .args .head + 8 + c .before .loop .g * 4 ≤ length (c .before .before .before .args .s .now)
-held c = let asked = c .before .before .before .pre in conflict-held (asked .2) (asked .0) (asked .1) (c .loop-test .taken)
+cast-count : tie.Need-cast-count Inv-loop μ-loop
+cast-count c = search needs
 
 loop-holds : tie.Need-loop-holds Inv-loop μ-loop
 loop-holds c = filled-none
 
 add-four-in : tie.Need-add-four-in Inv-loop μ-loop
-add-four-in c = omega (arith, held c)
+add-four-in c = search needs
 
 mul-four-in : tie.Need-mul-four-in Inv-loop μ-loop
-mul-four-in c = omega (arith, held c)
+mul-four-in c = search needs
 
 add-four-in-2 : tie.Need-add-four-in-2 Inv-loop μ-loop
-add-four-in-2 c = omega (arith, held c)
+add-four-in-2 c = search needs
 
 four-in-requires : tie.Need-four-in-requires Inv-loop μ-loop
-four-in-requires c κs = omega (arith, held c)
+unfolding recordAt bodyAt
+four-in-requires c κs =
+    let atStart = c .before .before .before .before in
+    let layout = atStart .args .layout in
+    omega (arith, conflicts-end (atStart .pre), record-within (layout .conflicts) 4 (layout .n) (c .before .loop .g) (c .loop-test .taken))
 
 mul-rows : tie.Need-mul-rows Inv-loop μ-loop
 mul-rows c = search needs
@@ -52,11 +53,9 @@ loop-less c = search needs
 loop-again : tie.Need-loop-again Inv-loop μ-loop
 unfolding conflictSet recordAt bodyAt
 loop-again c =
-    filled-more
-    (c .before .before .loop .inv)
-    (simp (c .four-in .ensures, c .before .before .before .before .pre .0))
-    (omega arith)
-    (omega arith)
+    let atLoop = c .before .before in
+    let head = atLoop .before .before .before .pre .laid .conflicts in
+    filled-more (atLoop .loop .inv) (simp (c .four-in .ensures, head)) (omega arith) (omega arith)
 
 returns : tie.Need-returns Inv-loop μ-loop
 unfolding siteOf
@@ -68,6 +67,7 @@ conflicts-spec =
     (tie.spec
     Inv-loop
     μ-loop
+    cast-count
     loop-holds
     add-four-in
     mul-four-in

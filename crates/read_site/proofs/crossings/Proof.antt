@@ -1,10 +1,10 @@
 -- `read_site::crossings` meets its contract: the pass over the groups, at its end, has found every movement.
-use Prim.Native.Nat.{_-_, _+_, _*_, _≤_}
+use Prim.Native.Nat.{_-_, _≤_}
 use mathlib.Core.Logic.{⊎-elim}
 use mathlib.Core.Path.{_≡_}
-use lib.ListN.{length}
-use Rattle.rules.specs.Personality.{bodyAt, recordAt, groupSet, groupMark}
-use Rattle.read_site.proofs.Ends.{group-held}
+use Rattle.rules.specs.Personality.{groupSet, groupMark}
+use Rattle.proof_acceptance.proofs.Sections.{record-within}
+use Rattle.read_site.proofs.Ends.{groups-end}
 use Rattle.read_site.proofs.Pedestrians.{Passed, passed-none, passed-vehicle, passed-pedestrian, room-left, passed-whole}
 use borrow.Author.Needs.{needs}
 use native.Mathlib.Omega.{arith}
@@ -17,44 +17,33 @@ Inv-loop s head groups sets₀ count₀ g₀ sets count g = (g ≤ groups) × Pa
 abbrev μ-loop : tie.MeasureT-loop
 μ-loop s head groups sets₀ count₀ g₀ sets count g = groups - g
 
--- the record is in the bytes
-held :
-    (c : tie.In-loop Inv-loop μ-loop) →
-    c .before .before .before .args .head + 6 + c .before .loop .g * 2 ≤ length (c .before .before .before .args .s .now)
-held c = let asked = c .before .before .before .pre in group-held (asked .2) (asked .0) (asked .1) (c .loop-test .taken)
+cast-groups : tie.Need-cast-groups Inv-loop μ-loop
+cast-groups c = search needs
 
 loop-holds : tie.Need-loop-holds Inv-loop μ-loop
 loop-holds c = (omega arith, passed-none _)
 
-add-place : tie.Need-add-place Inv-loop μ-loop
-add-place c = omega (arith, held c)
+pair-at-requires : tie.Need-pair-at-requires Inv-loop μ-loop
+pair-at-requires c κs =
+    let atStart = c .before .before .before .before in
+    let layout = atStart .args .layout in
+    omega (arith, groups-end (atStart .pre), record-within (layout .groups) 2 (layout .n) (c .before .loop .g) (c .loop-test .taken))
 
-mul-place : tie.Need-mul-place Inv-loop μ-loop
-mul-place c = omega (arith, held c)
-
-add-place-2 : tie.Need-add-place-2 Inv-loop μ-loop
-add-place-2 c = omega (arith, held c)
-
-add-byte-in : tie.Need-add-byte-in Inv-loop μ-loop
-add-byte-in c = omega (arith, held c)
-
-byte-in-requires : tie.Need-byte-in-requires Inv-loop μ-loop
-byte-in-requires c κs = omega (arith, held c)
-
-byte-in-requires-2 : tie.Need-byte-in-requires-2 Inv-loop μ-loop
-byte-in-requires-2 c κs = omega (arith, held (c .before .before))
-
--- the test reads the group's mark
-mark-read :
-    (c : tie.After-byte-in Inv-loop μ-loop) →
-    c .byte-in .result ≡ groupMark (c .before .before .before .before .args .s .now) (c .before .before .loop .g)
-unfolding groupMark recordAt bodyAt
-mark-read c = simp (c .byte-in .ensures, c .before .before .before .before .pre .0)
+-- the record read is that of group g
+read :
+    (c : tie.After-pair-at Inv-loop μ-loop) →
+    let atLoop = c .before .before in
+    let b = atLoop .before .before .before .args .s .now in
+    (c .pair-at .result .first ≡ groupSet b (atLoop .loop .g)) × (c .pair-at .result .second ≡ groupMark b (atLoop .loop .g))
+unfolding groupSet groupMark
+read c =
+    let head = c .before .before .before .before .before .pre .laid .groups in
+    (rw head at (c .pair-at .ensures .0), rw head at (c .pair-at .ensures .1))
 
 array-write-sets : tie.Need-array-write-sets Inv-loop μ-loop
 array-write-sets c =
-    let passed = c .before .before .before .before .loop .inv .1 in
-    room-left _ passed (mark-read (c .before .before)) (c .before .if1 .taken) (omega arith) (omega arith)
+    let atPair = c .before .before in
+    room-left _ (atPair .before .before .loop .inv .1) (read atPair .1) (c .if1 .taken) (omega arith) (omega arith)
 
 add-count : tie.Need-add-count Inv-loop μ-loop
 add-count c = search needs
@@ -66,17 +55,16 @@ loop-less : tie.Need-loop-less Inv-loop μ-loop
 loop-less c = search needs
 
 loop-again : tie.Need-loop-again Inv-loop μ-loop
-unfolding groupSet recordAt bodyAt
 loop-again c =
-    let passed = c .before .before .before .loop .inv .1 in (
+    let atPair = c .before .before in
+    let passed = atPair .before .before .loop .inv .1 in (
       omega arith,
       ⊎-elim
           (λ w.
-          rw (w .2, w .3)
-          (passed-pedestrian _ passed (mark-read (c .before)) (w .0 .taken)
-          (simp (w .1 .ensures, c .before .before .before .before .before .pre .0))
-          (room-left _ passed (mark-read (c .before)) (w .0 .taken) (omega arith) (omega arith))))
-          (λ w. rw (w .1, w .2) (passed-vehicle _ passed (mark-read (c .before)) (w .0 .left)))
+          rw (w .1, w .2)
+          (passed-pedestrian _ passed (read atPair .1) (w .0 .taken) (read atPair .0)
+          (room-left _ passed (read atPair .1) (w .0 .taken) (omega arith) (omega arith))))
+          (λ w. rw (w .1, w .2) (passed-vehicle _ passed (read atPair .1) (w .0 .left)))
           (c .if1 .came),
     )
 
@@ -89,13 +77,9 @@ crossings-spec =
     (tie.spec
     Inv-loop
     μ-loop
+    cast-groups
     loop-holds
-    add-place
-    mul-place
-    add-place-2
-    add-byte-in
-    byte-in-requires
-    byte-in-requires-2
+    pair-at-requires
     array-write-sets
     add-count
     add-g

@@ -1,9 +1,9 @@
 -- `read_site::groups` meets its contract: before group g the records of the groups below g are in place, the rest is blank.
-use Prim.Native.Nat.{_-_, _+_, _*_, _≤_}
-use lib.ListN.{length}
-use Rattle.rules.specs.Personality.{bodyAt, recordAt, groupCount, groupSet, groupMark}
+use Prim.Native.Nat.{_-_}
+use Rattle.rules.specs.Personality.{groupCount, groupSet, groupMark}
 use Rattle.rules.specs.Site.{noGroup, siteOf}
-use Rattle.read_site.proofs.Ends.{group-held}
+use Rattle.proof_acceptance.proofs.Sections.{record-within}
+use Rattle.read_site.proofs.Ends.{groups-end}
 use Rattle.read_site.proofs.Filling.{Filled, filled-none, filled-more, filled-whole}
 use borrow.Author.Needs.{needs}
 use native.Mathlib.Omega.{arith}
@@ -16,32 +16,17 @@ Inv-loop s head count rows₀ g₀ rows g = Filled (λ i. record { phases = grou
 abbrev μ-loop : tie.MeasureT-loop
 μ-loop s head count rows₀ g₀ rows g = count - g
 
--- the record is in the bytes
-held :
-    (c : tie.In-loop Inv-loop μ-loop) →
-    c .before .before .before .args .head + 6 + c .before .loop .g * 2 ≤ length (c .before .before .before .args .s .now)
-held c = let asked = c .before .before .before .pre in group-held (asked .2) (asked .0) (asked .1) (c .loop-test .taken)
+cast-count : tie.Need-cast-count Inv-loop μ-loop
+cast-count c = search needs
 
 loop-holds : tie.Need-loop-holds Inv-loop μ-loop
 loop-holds c = filled-none
 
-add-at : tie.Need-add-at Inv-loop μ-loop
-add-at c = omega (arith, held c)
-
-mul-at : tie.Need-mul-at Inv-loop μ-loop
-mul-at c = omega (arith, held c)
-
-add-at-2 : tie.Need-add-at-2 Inv-loop μ-loop
-add-at-2 c = omega (arith, held c)
-
-byte-in-requires : tie.Need-byte-in-requires Inv-loop μ-loop
-byte-in-requires c κs = omega (arith, held c)
-
-add-byte-in : tie.Need-add-byte-in Inv-loop μ-loop
-add-byte-in c = omega (arith, held (c .before))
-
-byte-in-requires-2 : tie.Need-byte-in-requires-2 Inv-loop μ-loop
-byte-in-requires-2 c κs = omega (arith, held (c .before))
+pair-at-requires : tie.Need-pair-at-requires Inv-loop μ-loop
+pair-at-requires c κs =
+    let atStart = c .before .before .before .before in
+    let layout = atStart .args .layout in
+    omega (arith, groups-end (atStart .pre), record-within (layout .groups) 2 (layout .n) (c .before .loop .g) (c .loop-test .taken))
 
 mul-rows : tie.Need-mul-rows Inv-loop μ-loop
 mul-rows c = search needs
@@ -56,13 +41,11 @@ loop-less : tie.Need-loop-less Inv-loop μ-loop
 loop-less c = search needs
 
 loop-again : tie.Need-loop-again Inv-loop μ-loop
-unfolding groupSet groupMark recordAt bodyAt
+unfolding groupSet groupMark
 loop-again c =
-    filled-more
-    (c .before .before .before .loop .inv)
-    (simp (c .byte-in2 .ensures, c .before .byte-in .ensures, c .before .before .before .before .before .pre .0))
-    (omega arith)
-    (omega arith)
+    let atLoop = c .before .before in
+    let head = atLoop .before .before .before .pre .laid .groups in
+    filled-more (atLoop .loop .inv) (simp (c .pair-at .ensures .0, c .pair-at .ensures .1, head)) (omega arith) (omega arith)
 
 returns : tie.Need-returns Inv-loop μ-loop
 unfolding siteOf
@@ -74,13 +57,9 @@ groups-spec =
     (tie.spec
     Inv-loop
     μ-loop
+    cast-count
     loop-holds
-    add-at
-    mul-at
-    add-at-2
-    byte-in-requires
-    add-byte-in
-    byte-in-requires-2
+    pair-at-requires
     mul-rows
     array-set-from-rows
     add-g

@@ -1,8 +1,9 @@
 -- `read_site::phase_times` meets its contract: before phase p the records of the phases below p are in place, the rest is blank.
 use Prim.Native.Nat.{_-_}
-use Rattle.rules.specs.Personality.{phaseCount}
+use Rattle.rules.specs.Personality.{bodyAt, recordAt, phasesHead, phaseCount}
 use Rattle.rules.specs.Site.{noPhaseTimes, phaseTimesAt, timesIn}
-use Rattle.read_site.proofs.Ends.{phase-held}
+use Rattle.proof_acceptance.proofs.Sections.{record-within}
+use Rattle.read_site.proofs.Ends.{phases-end}
 use Rattle.read_site.proofs.Filling.{Filled, filled-none, filled-more, filled-whole}
 use borrow.Author.Needs.{needs}
 use native.Mathlib.Omega.{arith}
@@ -15,13 +16,17 @@ Inv-loop s count phases₀ p₀ phases p = Filled (phaseTimesAt s) (phaseCount s
 abbrev μ-loop : tie.MeasureT-loop
 μ-loop s count phases₀ p₀ phases p = count - p
 
+cast-count : tie.Need-cast-count Inv-loop μ-loop
+cast-count c = search needs
+
 loop-holds : tie.Need-loop-holds Inv-loop μ-loop
 loop-holds c = filled-none
 
 phase-times-at-requires : tie.Need-phase-times-at-requires Inv-loop μ-loop
+unfolding recordAt bodyAt
 phase-times-at-requires c κs =
-    let asked = c .before .before .before .pre in
-    phase-held (asked .1) (asked .0) (c .loop-test .taken)
+    let atStart = c .before .before .before .before in
+    omega (arith, phases-end (atStart .pre), record-within phasesHead 12 (atStart .args .layout .p) (c .before .loop .p) (c .loop-test .taken))
 
 mul-phases : tie.Need-mul-phases Inv-loop μ-loop
 mul-phases c = search needs
@@ -48,6 +53,7 @@ phase-times-spec =
     (tie.spec
     Inv-loop
     μ-loop
+    cast-count
     loop-holds
     phase-times-at-requires
     mul-phases

@@ -1,54 +1,32 @@
 -- `read_site::size` meets its contract: the counts are those of the sections, and each fits a byte.
-use mathlib.Core.Path.{ap, _∙_}
-use Rattle.rules.specs.Bytes.{twoAt}
-use Rattle.rules.specs.Personality.{bodyLength, phaseCount, groupCount, detectorCount}
-use Rattle.rules.specs.Site.{siteOf}
-use Rattle.read_site.proofs.Ends.{phases-end, detectors-end}
+use Prim.Native.Nat.{_/_}
+use mathlib.Core.Path.{ap}
 use native.Mathlib.Omega.{arith}
+use Rattle.rules.specs.Personality.{detectorCount}
+use Rattle.rules.specs.Site.{siteOf}
+use Rattle.read_sections.proofs.Lengths.{detectors-apart, detectors-length}
 use borrow.Author.Needs.{needs}
 use Rattle.read_site.proofs.size.Statement.{statement}
 use Rattle.read_site.proofs.size.Tie as tie
-use Rattle.read_site.proofs.size.Reads as reads
-use Rattle.read_site.proofs.size.Lts as lts
-use Rattle.base_reads.proofs.byte_in.Reads as byte-in-reads
-use Rattle.base_reads.proofs.two_in.Reads as two-in-reads
 
--- src/lib.rt:214:9
-two-in-requires : tie.Need-two-in-requires
-two-in-requires c κs = let asked = c .before .pre in omega (arith, asked .0, detectors-end (asked .2))
+sub-t4 : tie.Need-sub-t4
+sub-t4 c = omega (arith, detectors-apart (c .before .pre .0 .laid))
 
--- src/lib.rt:216:17
-byte-in-requires : tie.Need-byte-in-requires
-byte-in-requires c κs = omega (arith, phases-end (c .before .before .pre .2))
+sub-t5 : tie.Need-sub-t5
+sub-t5 c = omega (arith, detectors-apart (c .before .pre .0 .laid))
 
--- src/lib.rt:217:17
-byte-in-requires-2 : tie.Need-byte-in-requires-2
-byte-in-requires-2 c κs = omega (arith, phases-end (c .before .before .before .pre .2))
+cast-t7 : tie.Need-cast-t7
+unfolding detectorCount
+cast-t7 c =
+    let fitting = c .before .pre .0 in omega (arith, fitting .detectors, detectors-length (fitting .laid))
 
--- src/lib.rt:218:20
 cast-t8 : tie.Need-cast-t8
-unfolding detectorCount bodyLength
-cast-t8 c =
-    let asked = c .before .before .before .before .pre in
-    omega (arith, c .before .before .two-in .ensures ∙ ap (twoAt _) (asked .0), asked .2 .detectors)
+cast-t8 c = search needs
 
--- src/lib.rt:219:20
-cast-t9 : tie.Need-cast-t9
-cast-t9 c = search needs
-
--- src/lib.rt:210:1
 returns : tie.Need-returns
-unfolding siteOf phaseCount groupCount detectorCount bodyLength
+unfolding siteOf detectorCount
 returns c =
-    simp (
-      c .byte-in2 .ensures,
-      c .before .byte-in .ensures,
-      c .before .before .two-in .ensures,
-      c .before .before .before .before .pre .0,
-      c .before .before .before .before .pre .1,
-    )
+    let laid = c .before .pre .0 .laid in simp (laid .p, laid .n, detectors-length laid, c .before .pre .1)
 
 pub size-spec : {M : Type 1} → statement M
-size-spec =
-    tie.close
-    (tie.spec two-in-requires byte-in-requires byte-in-requires-2 cast-t8 cast-t9 returns)
+size-spec = tie.close (tie.spec sub-t4 sub-t5 cast-t7 cast-t8 returns)

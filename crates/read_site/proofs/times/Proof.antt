@@ -1,13 +1,15 @@
 -- `read_site::times` meets its contract: start red, and the rows of both kinds of records.
+use native.Mathlib.Omega.{arith}
+use Rattle.rules.specs.Personality.{bodyAt}
 use Rattle.rules.specs.Site.{timesIn}
 use Rattle.read_site.proofs.Ends.{phases-end}
 use borrow.Author.Needs.{needs}
-use native.Mathlib.Omega.{arith}
 use Rattle.read_site.proofs.times.Statement.{statement}
 use Rattle.read_site.proofs.times.Tie as tie
 
 two-in-requires : tie.Need-two-in-requires
-two-in-requires c κs = omega (arith, phases-end (c .before .pre .3))
+unfolding bodyAt
+two-in-requires c κs = omega (arith, phases-end (c .before .pre .0))
 
 phase-times-requires : tie.Need-phase-times-requires
 phase-times-requires c κs = search needs

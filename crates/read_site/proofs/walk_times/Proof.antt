@@ -1,8 +1,8 @@
 -- `read_site::walk_times` meets its contract: before movement k the records of the movements below k are in place, the rest is blank.
 use Prim.Native.Nat.{_-_}
-use Rattle.rules.specs.Personality.{movementCount}
+use Rattle.rules.specs.Personality.{bodyAt, recordAt, movementCount}
 use Rattle.rules.specs.Site.{noWalkTimes, walkTimesAt, timesIn}
-use Rattle.read_site.proofs.Ends.{walk-held}
+use Rattle.proof_acceptance.proofs.Sections.{record-within}
 use Rattle.read_site.proofs.Filling.{Filled, filled-none, filled-more, filled-whole}
 use borrow.Author.Needs.{needs}
 use native.Mathlib.Omega.{arith}
@@ -10,18 +10,20 @@ use Rattle.read_site.proofs.walk_times.Statement.{statement}
 use Rattle.read_site.proofs.walk_times.Tie as tie
 
 abbrev Inv-loop : tie.InvT-loop
-Inv-loop s head count walks₀ k₀ walks k = Filled (walkTimesAt s) (movementCount s) 8 noWalkTimes k walks
+Inv-loop s layout count walks₀ k₀ walks k = Filled (walkTimesAt s) (movementCount s) 8 noWalkTimes k walks
 
 abbrev μ-loop : tie.MeasureT-loop
-μ-loop s head count walks₀ k₀ walks k = count - k
+μ-loop s layout count walks₀ k₀ walks k = count - k
 
 loop-holds : tie.Need-loop-holds Inv-loop μ-loop
 loop-holds c = filled-none
 
 walk-times-at-requires : tie.Need-walk-times-at-requires Inv-loop μ-loop
+unfolding recordAt bodyAt
 walk-times-at-requires c κs =
-    let asked = c .before .before .before .pre in
-    (asked .0, walk-held (asked .2) (asked .0) (asked .1) (c .loop-test .taken))
+    let atStart = c .before .before .before in
+    let head = atStart .args .layout .pedestrians in
+    (atStart .pre .0 .laid, omega (arith, record-within head 6 (atStart .args .count) (c .before .loop .k) (c .loop-test .taken)))
 
 mul-walks : tie.Need-mul-walks Inv-loop μ-loop
 mul-walks c = search needs

@@ -1,37 +1,54 @@
 -- `records::group_records` meets its contract. The invariant: every record before g has passed, the running count is how many pedestrian
 -- groups stand before g, and the union so far is that of their sets.
-use Prim.Native.Nat.{ℕ, _+_, _*_, _-_, _≤_}
+use Prim.Native.Nat.{ℕ, _+_, _*_, _-_, _^_, _≤_, min}
 use mathlib.Core.Bool.{false}
 use mathlib.Core.Logic.{⊎-elim}
 use mathlib.Core.Path.{_≡_, refl, sym, ap, _∙_}
 use native.Mathlib.Omega.{arith}
 use borrow.Author.Needs.{needs}
 use borrow.Author.Tests.{eq-eqb, ne-eqb}
-use Rattle.rules.specs.Bytes.{byteAt}
-use Rattle.rules.specs.Personality.{bodyAt, recordAt, groupCount, groupsHead, groupSet, groupMark, pedestrian, pedestriansBefore, badGroup, ninthPedestrian, groupRecord, phaseWithoutGroup}
+use Rattle.rules.specs.Personality.{bodyAt, recordAt, phaseCount, groupCount, groupsHead, groupSet, groupMark, pedestrian, pedestriansBefore, badGroup, ninthPedestrian, groupRecord, phaseWithoutGroup}
 use Rattle.rules.specs.Rows.{countOf}
 use Rattle.rules.specs.Verdicts.{_orElse_, refuseIf, firstOf}
 use Rattle.rules.specs.declared.answer.Verdict.{Verdict}
 use Rattle.rules.specs.declared.answer.Verdict.the-variants.{Accepted, Refused}
+use Rattle.rules.proofs.Counts.{count-one-more, count-as-before}
 use Rattle.rules.proofs.Rows.{count-most}
 use Rattle.rules.proofs.Tests.{and-both, and-false-left, and-false-right}
-use Rattle.read_sections.proofs.Firsts.{refuse-yes, refuse-no, or-next, or-stop, first-more, first-stop, first-done}
-use Rattle.read_sections.proofs.Firsts.{count-one-more, count-as-before}
+use Rattle.rules.proofs.Verdicts.{refuse-yes, refuse-no, or-next, or-stop, first-more, first-stop, first-done}
+use Rattle.proof_acceptance.proofs.Sections.{record-within}
 use Rattle.read_groups.proofs.GroupChecks.{group-passed}
 use Rattle.read_groups.proofs.PhaseSets.{Gathered, gathered-none, gathered-more, bad-decided, all-served, one-unserved}
 use Rattle.read_groups.proofs.records.group_records.Statement.{statement}
 use Rattle.read_groups.proofs.records.group_records.Tie as tie
 
 abbrev Inv-loop : tie.InvT-loop
-Inv-loop s head count bound n pedestrians₀ served₀ g₀ pedestrians served g =
-    (g ≤ n) × (pedestrians ≡ countOf (pedestrian s) g) × (firstOf (groupRecord s) g ≡ Accepted) × Gathered s served g
+Inv-loop s bound head count pedestrians₀ served₀ g₀ pedestrians served g =
+    (g ≤ count) × (pedestrians ≡ countOf (pedestrian s) g) × (firstOf (groupRecord s) g ≡ Accepted) × Gathered s served g
 
 abbrev μ-loop : tie.MeasureT-loop
-μ-loop s head count bound n pedestrians₀ served₀ g₀ pedestrians served g = n - g
+μ-loop s bound head count pedestrians₀ served₀ g₀ pedestrians served g = count - g
+
+set-bound-requires : tie.Need-set-bound-requires Inv-loop μ-loop
+set-bound-requires c κs = search needs
+
+-- the bound is that of the site's phases
+bounded :
+    (c : tie.After-set-bound Inv-loop μ-loop) →
+    c .set-bound .result ≡ min (2 ^ phaseCount (c .before .before .args .s .now)) 512
+bounded c = c .set-bound .ensures ∙ ap (λ (phases : ℕ). min (2 ^ phases) 512) (c .before .before .pre .0 .p)
+
+cast-count : tie.Need-cast-count Inv-loop μ-loop
+cast-count c = search needs
 
 loop-holds : tie.Need-loop-holds Inv-loop μ-loop
 unfolding countOf firstOf
 loop-holds c = (omega arith, refl, refl, gathered-none _)
+
+pair-at-requires : tie.Need-pair-at-requires Inv-loop μ-loop
+pair-at-requires c κs =
+    let layout = c .before .before .before .before .before .args .layout in
+    omega (arith, record-within (layout .groups) 2 (layout .n) (c .before .loop .g) (c .loop-test .taken))
 
 add-place : tie.Need-add-place Inv-loop μ-loop
 add-place c = search needs
@@ -42,71 +59,60 @@ mul-place c = search needs
 add-place-2 : tie.Need-add-place-2 Inv-loop μ-loop
 add-place-2 c = search needs
 
-byte-in-requires : tie.Need-byte-in-requires Inv-loop μ-loop
-byte-in-requires c κs = search needs
-
-add-byte-in : tie.Need-add-byte-in Inv-loop μ-loop
-add-byte-in c = search needs
-
-byte-in-requires-2 : tie.Need-byte-in-requires-2 Inv-loop μ-loop
-byte-in-requires-2 c κs = search needs
-
 bad-group-requires : tie.Need-bad-group-requires Inv-loop μ-loop
 bad-group-requires c κs = search needs
 
 -- where record g stands
 place :
     (c : tie.At-loop Inv-loop μ-loop) →
-    c .before .before .args .head + 4 + c .loop .g * 2 ≡ recordAt (groupsHead (c .before .before .args .s .now)) 2 (c .loop .g)
+    let atStart = c .before .before .before .before in
+    atStart .args .layout .groups + 4 + c .loop .g * 2 ≡ recordAt (groupsHead (atStart .args .s .now)) 2 (c .loop .g)
 unfolding recordAt bodyAt
-place c = omega (arith, c .before .before .pre .0 .0)
+place c = omega (arith, c .before .before .before .before .pre .0 .groups)
 
 -- what record g holds, and whether it is bad
 recordRead :
     (c : tie.After-bad-group Inv-loop μ-loop) →
-    let atLoop = c .before .before .before .before in
-    let b = atLoop .before .before .args .s .now in
+    let atLoop = c .before .before .before in
+    let b = atLoop .before .before .before .before .args .s .now in
     let g = atLoop .loop .g in
-    (c .before .before .byte-in .result ≡ groupSet b g)
-    × (c .before .byte-in2 .result ≡ groupMark b g)
+    (c .before .pair-at .result .first ≡ groupSet b g)
+    × (c .before .pair-at .result .second ≡ groupMark b g)
     × (c .bad-group .result ≡ badGroup b g)
 unfolding groupSet groupMark
 recordRead c =
-    let atLoop = c .before .before .before .before in
-    let b = atLoop .before .before .args .s .now in
-    let set = c .before .before .byte-in .ensures ∙ ap (byteAt b) (place atLoop) in
-    let mark = c .before .byte-in2 .ensures ∙ ap (λ (at : ℕ). byteAt b (at + 1)) (place atLoop) in (
-      set,
-      mark,
-      c .bad-group .ensures
-          ∙ bad-decided _ _ (atLoop .before .before .pre .0 .2) (c .before .before .byte-in .ok) set mark,
-    )
+    let atLoop = c .before .before .before in
+    let atBound = atLoop .before .before in
+    let head = atBound .before .before .pre .0 .groups in
+    let set = rw head at (c .before .pair-at .ensures .0) in
+    let mark = rw head at (c .before .pair-at .ensures .1) in
+    (set, mark, c .bad-group .ensures ∙ bad-decided _ _ (bounded atBound) (omega arith) set mark)
 
 -- record g is the first that does not pass
 refusedAt :
     (c : tie.After-bad-group Inv-loop μ-loop) {v : Verdict} {k p : ℕ} →
-    let atLoop = c .before .before .before .before in
-    let b = atLoop .before .before .args .s .now in
+    let atLoop = c .before .before .before in
+    let b = atLoop .before .before .before .before .args .s .now in
     v ≡ groupRecord b (atLoop .loop .g) →
     v ≡ Refused k p →
     v ≡ (firstOf (groupRecord b) (groupCount b) orElse refuseIf (phaseWithoutGroup b) 8 (groupsHead b))
 refusedAt c e r =
-    let atLoop = c .before .before .before .before in
-    or-stop _ (first-stop _ _ (atLoop .loop .g) (omega (arith, atLoop .before .before .pre .0 .1)) (atLoop .loop .inv .2) e r) r
+    let atLoop = c .before .before .before in
+    or-stop _ (first-stop _ _ (atLoop .loop .g) (omega arith) (atLoop .loop .inv .2) e r) r
 
 returns : tie.Need-returns Inv-loop μ-loop
 unfolding groupRecord
 returns c =
     let bad = sym (recordRead (c .before) .2) ∙ c .if1 .taken in
     refusedAt (c .before)
-    (or-stop _ (ap (Refused 6) (place (c .before .before .before .before .before)) ∙ refuse-yes 6 _ bad) refl)
+    (or-stop _ (ap (Refused 6) (place (c .before .before .before .before)) ∙ refuse-yes 6 _ bad) refl)
     refl
 
 returns-2 : tie.Need-returns-2 Inv-loop μ-loop
 unfolding groupRecord pedestrian pedestriansBefore ninthPedestrian
 returns-2 c =
     let atRecord = c .before .before .before in
-    let atLoop = atRecord .before .before .before .before in
+    let atLoop = atRecord .before .before .before in
     let good = sym (recordRead atRecord .2) ∙ c .before .before .if1 .left in
     let marked = eq-eqb _ _ (sym (recordRead atRecord .1) ∙ c .before .if2 .taken) in
     let eight = eq-eqb _ _ (sym (atLoop .loop .inv .1) ∙ c .if3 .taken) in
@@ -116,8 +122,8 @@ returns-2 c =
 
 add-pedestrians : tie.Need-add-pedestrians Inv-loop μ-loop
 add-pedestrians c =
-    let atLoop = c .before .before .before .before .before .before .before in
-    let atStart = atLoop .before .before in
+    let atLoop = c .before .before .before .before .before .before in
+    let atStart = atLoop .before .before .before .before in
     omega (arith, count-most (pedestrian (atStart .args .s .now)) (atLoop .loop .g))
 
 add-g : tie.Need-add-g Inv-loop μ-loop
@@ -129,14 +135,14 @@ loop-less c = search needs
 -- after the mark of group g was asked for: the count goes on, and the group is not the ninth pedestrian one
 counted :
     (c : tie.Joined2 Inv-loop μ-loop) →
-    let atLoop = c .before .before .before .before .before .before in
-    let b = atLoop .before .before .args .s .now in
+    let atLoop = c .before .before .before .before .before in
+    let b = atLoop .before .before .before .before .args .s .now in
     let g = atLoop .loop .g in
     (c .if2 .pedestrians ≡ countOf (pedestrian b) (g + 1)) × (ninthPedestrian b g ≡ false)
 unfolding pedestrian ninthPedestrian pedestriansBefore
 counted c =
-    let atLoop = c .before .before .before .before .before .before in
-    let b = atLoop .before .before .args .s .now in
+    let atLoop = c .before .before .before .before .before in
+    let b = atLoop .before .before .before .before .args .s .now in
     let g = atLoop .loop .g in
     let before = atLoop .loop .inv .1 in
     let mark = recordRead (c .before .before) .1 in
@@ -153,13 +159,13 @@ counted c =
 loop-again : tie.Need-loop-again Inv-loop μ-loop
 loop-again c =
     let atRecord = c .before .before in
-    let atLoop = atRecord .before .before .before .before in
+    let atLoop = atRecord .before .before .before in
     let read = recordRead atRecord in
     let good = sym (read .2) ∙ c .before .if1 .left in (
       omega arith,
       counted c .0,
       first-more _ _ (atLoop .loop .inv .2) (group-passed _ _ good (counted c .1)),
-      gathered-more _ _ _ (atRecord .before .before .byte-in .ok) (read .0) good (atLoop .loop .inv .3),
+      gathered-more _ _ _ (omega arith) (read .0) good (atLoop .loop .inv .3),
     )
 
 cast-if4 : tie.Need-cast-if4 Inv-loop μ-loop
@@ -171,14 +177,14 @@ add-if4 c = omega (arith, c .before .loop .inv .3 .0)
 -- every record has passed: the answer is that of number 8
 afterRecords :
     (c : tie.After-loop Inv-loop μ-loop) →
-    let b = c .before .before .before .args .s .now in
+    let b = c .before .before .before .before .before .args .s .now in
     ((v : Verdict) →
     v ≡ refuseIf (phaseWithoutGroup b) 8 (groupsHead b) →
     v ≡ (firstOf (groupRecord b) (groupCount b) orElse refuseIf (phaseWithoutGroup b) 8 (groupsHead b)))
     × Gathered b (c .before .loop .served) (groupCount b)
 afterRecords c =
-    let b = c .before .before .before .args .s .now in
-    let last : c .before .loop .g ≡ groupCount b = omega (arith, c .before .before .before .pre .0 .1) in
+    let b = c .before .before .before .before .before .args .s .now in
+    let last : c .before .loop .g ≡ groupCount b = omega arith in
     let inv = c .before .loop .inv in (
       λ v e. or-next (first-done _ _ _ (inv .2) last) refl e,
       rw (← last) (inv .3),
@@ -187,14 +193,15 @@ afterRecords c =
 returns-3 : tie.Need-returns-3 Inv-loop μ-loop
 returns-3 c =
     let passed = afterRecords (c .before) in
-    let asked = c .before .before .before .before .pre .0 in
-    passed .0 _ (sym (refuse-no 8 _ (all-served _ _ (asked .2) (passed .1) (c .if4 .taken))))
+    passed .0 _ (sym (refuse-no 8 _ (all-served _ _ (bounded (c .before .before .before .before)) (passed .1) (c .if4 .taken))))
 
 returns-4 : tie.Need-returns-4 Inv-loop μ-loop
 returns-4 c =
     let passed = afterRecords (c .before) in
-    let asked = c .before .before .before .before .pre .0 in
-    passed .0 _ (ap (Refused 8) (asked .0) ∙ refuse-yes 8 _ (one-unserved _ _ (asked .2) (passed .1) (c .if4 .left)))
+    let atBound = c .before .before .before .before in
+    passed .0 _
+    (ap (Refused 8) (atBound .before .before .pre .0 .groups)
+    ∙ refuse-yes 8 _ (one-unserved _ _ (bounded atBound) (passed .1) (c .if4 .left)))
 
 pub group-records-spec : {M : Type 1} → statement M
 group-records-spec =
@@ -202,13 +209,13 @@ group-records-spec =
     (tie.spec
     Inv-loop
     μ-loop
+    set-bound-requires
+    cast-count
     loop-holds
+    pair-at-requires
     add-place
     mul-place
     add-place-2
-    byte-in-requires
-    add-byte-in
-    byte-in-requires-2
     bad-group-requires
     returns
     returns-2

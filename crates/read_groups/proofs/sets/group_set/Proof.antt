@@ -1,11 +1,8 @@
--- `sets::group_set` meets its contract: the byte is read at the record's place.
+-- `sets::group_set` meets its contract: the first byte of the record is read at its place.
 use borrow.Author.Needs.{needs}
 use Rattle.rules.specs.Personality.{bodyAt, recordAt, groupSet}
 use Rattle.read_groups.proofs.sets.group_set.Statement.{statement}
 use Rattle.read_groups.proofs.sets.group_set.Tie as tie
-
-groups-head-requires : tie.Need-groups-head-requires
-groups-head-requires c κs = search needs
 
 add-byte : tie.Need-add-byte
 add-byte c = search needs
@@ -21,8 +18,7 @@ byte-requires c κs = search needs
 
 returns : tie.Need-returns
 unfolding groupSet recordAt bodyAt
-returns c = let e = c .before .groups-head .ensures .0 in rw (← e) (c .byte .ensures)
+returns c = let head = c .before .before .before .pre .0 .groups in rw (← head) (c .byte .ensures)
 
 pub group-set-spec : {M : Type 1} → statement M
-group-set-spec =
-    tie.close (tie.spec groups-head-requires add-byte mul-byte add-byte-2 byte-requires returns)
+group-set-spec = tie.close (tie.spec add-byte mul-byte add-byte-2 byte-requires returns)

@@ -1,11 +1,14 @@
 -- `quick::sound` meets its contract: no set goes past N, and all groups are sound with each other.
-use Prim.Native.Nat.{ℕ, _^_, _<_}
-use mathlib.Core.Path.{refl}
-use borrow.Author.Tests.{not-false}
+use Prim.Native.Nat.{_^_}
+use mathlib.Core.Bool.{false}
+use mathlib.Core.Path.{_≡_, refl, sym, _∙_}
+use lib.Dec.{leb}
+use borrow.Author.Needs.{needs}
+use borrow.Author.Tests.{not-false, not-true}
 use Rattle.rules.specs.Personality.{groupCount, conflictSet}
+use Rattle.rules.specs.Rows.{anyOf}
 use Rattle.rules.proofs.Tests.{never-both}
 use Rattle.read_matrix.proofs.Pairs.{records-good}
-use borrow.Author.Needs.{needs}
 use Rattle.read_matrix.proofs.quick.sound.Statement.{statement}
 use Rattle.read_matrix.proofs.quick.sound.Tie as tie
 
@@ -19,22 +22,20 @@ returns c e = absurd (never-both e refl)
 under :
     (c : tie.Else1) →
     let b = c .before .before .before .args .s .now in
-    (g : ℕ) →
-    g < groupCount b →
-    conflictSet b g < 2 ^ groupCount b
-under c = c .before .below .ensures (not-false _ (c .if1 .left))
+    anyOf (λ g. leb (2 ^ groupCount b) (conflictSet b g)) (groupCount b) ≡ false
+under c = not-true _ (sym (c .before .below .ensures) ∙ not-false _ (c .if1 .left))
 
 single-band-requires : tie.Need-single-band-requires
 single-band-requires c κs = search needs
 
 returns-2 : tie.Need-returns-2
-returns-2 c e = records-good _ (under (c .before .before)) (c .single-band .ensures e)
+returns-2 c e = records-good _ (under (c .before .before .before)) (c .single-band .ensures e)
 
 bands-requires : tie.Need-bands-requires
 bands-requires c κs = search needs
 
 returns-3 : tie.Need-returns-3
-returns-3 c e = records-good _ (under (c .before .before)) (c .bands .ensures e)
+returns-3 c e = records-good _ (under (c .before .before .before)) (c .bands .ensures e)
 
 pub sound-spec : {M : Type 1} → statement M
 sound-spec =

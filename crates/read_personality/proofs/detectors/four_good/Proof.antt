@@ -2,10 +2,10 @@
 use Prim.Native.Nat.{ℕ, _*_, _-_, _≤_, _<_}
 use native.Mathlib.Omega.{arith}
 use lib.Bits.{and-le-r}
-use borrow.Author.Needs.{needs}
 use Rattle.rules.specs.Bytes.{byteAt}
-use Rattle.rules.specs.Personality.{phaseCount}
+use Rattle.rules.specs.Personality.{bodyAt, phaseCount}
 use Rattle.read_personality.proofs.Words.{both-tests, four-good}
+use borrow.Author.Needs.{needs}
 use Rattle.read_personality.proofs.detectors.four_good.Statement.{statement}
 use Rattle.read_personality.proofs.detectors.four_good.Tie as tie
 
@@ -19,7 +19,11 @@ add-eight-in-2 : tie.Need-add-eight-in-2
 add-eight-in-2 c = search needs
 
 eight-in-requires : tie.Need-eight-in-requires
+unfolding bodyAt
 eight-in-requires c κs = search needs
+
+cast-limits : tie.Need-cast-limits
+cast-limits c = search needs
 
 sub-limits : tie.Need-sub-limits
 sub-limits c = search needs
@@ -28,18 +32,20 @@ mul-limits : tie.Need-mul-limits
 mul-limits c = search needs
 
 add-raised : tie.Need-add-raised
-add-raised c = omega (arith, and-le-r (c .eight-in .result) 0x7b7f7b7f7b7f7b7f)
+add-raised c = omega (arith, and-le-r (c .before .eight-in .result) 0x7b7f7b7f7b7f7b7f)
 
 returns : tie.Need-returns
 unfolding byteAt
-returns c = λ t.
-    let atStart = c .before .before in
-    let b = atStart .args .s .now in
-    let bytes : (i : ℕ) → byteAt b i < 256 = λ i. omega (arith, c .before .shared-slice-known .given i) in
-    let few : phaseCount b ≤ 7 = omega arith in
-    let limits = 0x0001000100010001 * (0x7d80 - atStart .args .phases) in
-    let passes = both-tests (c .eight-in .result) 0x8080808080808080 0x7b7f7b7f7b7f7b7f limits t in
-    four-good b bytes few (atStart .args .d) (rw (c .eight-in .ensures, atStart .pre .0, atStart .pre .1) at passes)
+returns c t =
+    let atEight = c .before in
+    let known = atEight .before .before in
+    let b = known .before .args .s .now in
+    let laid = known .before .pre .0 in
+    let bytes : (i : ℕ) → byteAt b i < 256 = λ i. omega (arith, known .shared-slice-known .given i) in
+    let few : phaseCount b ≤ 7 = omega (arith, laid .p) in
+    let limits = 0x0001000100010001 * (0x7d80 - known .before .args .layout .p) in
+    let passes = both-tests (atEight .eight-in .result) 0x8080808080808080 0x7b7f7b7f7b7f7b7f limits t in
+    four-good b bytes few (known .before .args .d) (rw (atEight .eight-in .ensures, laid .detectors, laid .p) at passes)
 
 pub four-good-spec : {M : Type 1} → statement M
 four-good-spec =
@@ -49,6 +55,7 @@ four-good-spec =
     mul-eight-in
     add-eight-in-2
     eight-in-requires
+    cast-limits
     sub-limits
     mul-limits
     add-raised

@@ -1,23 +1,22 @@
 -- `detectors::good_fours` meets its contract. The invariant: no record before d is bad.
 use Prim.Native.Nat.{_-_, _≤_}
 use mathlib.Core.Path.{_≡_, refl}
-use native.Mathlib.Omega.{arith}
-use borrow.Author.Needs.{needs}
 use borrow.Author.Tests.{not-false}
 use Rattle.rules.specs.Personality.{recordAt, detectorsHead, badDetector}
 use Rattle.rules.specs.Verdicts.{firstOf}
 use Rattle.rules.specs.declared.answer.Verdict.the-variants.{Accepted}
-use Rattle.read_sections.proofs.Firsts.{recordCheck}
+use Rattle.rules.proofs.Verdicts.{recordCheck}
 use Rattle.read_personality.proofs.Words.{four-more}
+use borrow.Author.Needs.{needs}
+use native.Mathlib.Omega.{arith}
 use Rattle.read_personality.proofs.detectors.good_fours.Statement.{statement}
 use Rattle.read_personality.proofs.detectors.good_fours.Tie as tie
 
 abbrev Inv-loop : tie.InvT-loop
-Inv-loop s head phases count d₀ d =
-    (d ≤ count) × (firstOf (recordCheck (badDetector s) 11 (recordAt (detectorsHead s) 2)) d ≡ Accepted)
+Inv-loop s layout count d₀ d = (d ≤ count) × (firstOf (recordCheck (badDetector s) 11 (recordAt (detectorsHead s) 2)) d ≡ Accepted)
 
 abbrev μ-loop : tie.MeasureT-loop
-μ-loop s head phases count d₀ d = count - d
+μ-loop s layout count d₀ d = count - d
 
 loop-holds : tie.Need-loop-holds Inv-loop μ-loop
 unfolding firstOf

@@ -3,12 +3,18 @@ use Prim.Native.Nat.{_*_}
 use mathlib.Core.Path.{_≡_, sym, _∙_}
 use native.Mathlib.Omega.{arith}
 use lib.Dec.{eqb}
-use borrow.Author.Needs.{needs}
 use Rattle.rules.specs.Personality.{bodyLength, bodyAt, pedestriansHead, movementCount, sectionAt, pedestriansSection}
+use Rattle.rules.proofs.Verdicts.{or-next, or-stop}
 use Rattle.proof_acceptance.proofs.Sections.{records-held}
-use Rattle.read_sections.proofs.Firsts.{or-next, or-stop}
+use borrow.Author.Needs.{needs}
 use Rattle.read_personality.proofs.pedestrians.pedestrians_section.Statement.{statement}
 use Rattle.read_personality.proofs.pedestrians.pedestrians_section.Tie as tie
+
+movement-count-requires : tie.Need-movement-count-requires
+movement-count-requires c κs = search needs
+
+cast-count : tie.Need-cast-count
+cast-count c = search needs
 
 mul-sized-section : tie.Need-mul-sized-section
 mul-sized-section c = search needs
@@ -22,9 +28,11 @@ enum-told c = search needs
 -- the head is held to the length that the pedestrian groups need
 checked :
     (c : tie.After-sized-section) →
-    let b = c .before .before .args .s .now in
+    let b = c .before .before .before .args .s .now in
     c .sized-section .result ≡ sectionAt b (pedestriansHead b) 6 (eqb (bodyLength b (pedestriansHead b)) (movementCount b * 6))
-checked c = let at = c .before .before in rw (at .pre .0, at .pre .1) at (c .sized-section .ensures)
+checked c =
+    let atCount = c .before in
+    rw (atCount .before .before .pre .0 .pedestrians, atCount .movement-count .ensures) at (c .sized-section .ensures)
 
 returns : tie.Need-returns
 unfolding pedestriansSection
@@ -37,21 +45,22 @@ time-records-requires : tie.Need-time-records-requires
 unfolding bodyAt
 time-records-requires c κs =
     let atSection = c .before .before in
-    let b = atSection .before .before .args .s .now in
-    omega (arith, records-held b (pedestriansHead b) 6 (movementCount b) 6 (sym (checked atSection) ∙ c .enum-told2 .given .1))
+    omega (arith, records-held _ _ 6 _ 6 (sym (atSection .sized-section .ensures) ∙ c .enum-told2 .given .1))
 
 returns-2 : tie.Need-returns-2
 unfolding pedestriansSection
 returns-2 c =
-    let headPassed = c .before in
-    let atStart = headPassed .before .before .before .before in
-    or-next (checked (headPassed .before .before)) (headPassed .enum-told2 .given .1)
-    (rw (atStart .pre .0, atStart .pre .1) at (c .time-records .ensures))
+    let passed = c .before in
+    let atCount = passed .before .before .before in
+    or-next (checked (passed .before .before)) (passed .enum-told2 .given .1)
+    (rw (atCount .before .before .pre .0 .pedestrians, atCount .movement-count .ensures) at (c .time-records .ensures))
 
 pub pedestrians-section-spec : {M : Type 1} → statement M
 pedestrians-section-spec =
     tie.close
     (tie.spec
+    movement-count-requires
+    cast-count
     mul-sized-section
     sized-section-requires
     enum-told

@@ -3,15 +3,12 @@ use Prim.Native.Nat.{_*_}
 use mathlib.Core.Path.{_≡_, sym, _∙_}
 use native.Mathlib.Omega.{arith}
 use lib.Dec.{eqb}
-use borrow.Author.Needs.{needs}
 use Rattle.rules.specs.Personality.{bodyLength, bodyAt, phasesHead, phaseCount, sectionAt, phasesSection}
+use Rattle.rules.proofs.Verdicts.{or-next, or-stop}
 use Rattle.proof_acceptance.proofs.Sections.{records-held}
-use Rattle.read_sections.proofs.Firsts.{or-next, or-stop}
+use borrow.Author.Needs.{needs}
 use Rattle.read_personality.proofs.site.phases_section.Statement.{statement}
 use Rattle.read_personality.proofs.site.phases_section.Tie as tie
-
-phase-count-requires : tie.Need-phase-count-requires
-phase-count-requires c κs = search needs
 
 cast-count : tie.Need-cast-count
 cast-count c = search needs
@@ -30,7 +27,7 @@ checked :
     (c : tie.After-sized-section) →
     let b = c .before .before .before .args .s .now in
     c .sized-section .result ≡ sectionAt b phasesHead 2 (eqb (bodyLength b phasesHead) (phaseCount b * 12))
-checked c = rw (c .before .phase-count .ensures) at (c .sized-section .ensures)
+checked c = rw (c .before .before .before .pre .p) at (c .sized-section .ensures)
 
 returns : tie.Need-returns
 unfolding phasesSection
@@ -43,22 +40,19 @@ time-records-requires : tie.Need-time-records-requires
 unfolding bodyAt
 time-records-requires c κs =
     let atSection = c .before .before in
-    let b = atSection .before .before .before .args .s .now in
-    omega (arith, records-held b phasesHead 2 (phaseCount b) 12 (sym (checked atSection) ∙ c .enum-told2 .given .1))
+    omega (arith, records-held _ phasesHead 2 _ 12 (sym (atSection .sized-section .ensures) ∙ c .enum-told2 .given .1))
 
 returns-2 : tie.Need-returns-2
 unfolding phasesSection
 returns-2 c =
-    let headPassed = c .before in
-    let atCount = headPassed .before .before .before in
-    or-next (checked (headPassed .before .before)) (headPassed .enum-told2 .given .1)
-    (rw (atCount .phase-count .ensures) at (c .time-records .ensures))
+    let passed = c .before in
+    let p = passed .before .before .before .before .before .pre .p in
+    or-next (checked (passed .before .before)) (passed .enum-told2 .given .1) (rw p at (c .time-records .ensures))
 
 pub phases-section-spec : {M : Type 1} → statement M
 phases-section-spec =
     tie.close
     (tie.spec
-    phase-count-requires
     cast-count
     mul-sized-section
     sized-section-requires

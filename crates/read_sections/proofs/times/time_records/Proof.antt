@@ -9,7 +9,7 @@ use Rattle.rules.specs.Verdicts.{firstOf}
 use Rattle.rules.specs.declared.answer.Verdict.the-variants.{Accepted}
 use Rattle.rules.specs.declared.answer.Verdict.{Verdict}
 use Rattle.proof_acceptance.proofs.Sections.{record-within}
-use Rattle.read_sections.proofs.Firsts.{first-more, first-stop, first-done}
+use Rattle.rules.proofs.Verdicts.{first-more, first-stop, first-done}
 use Rattle.read_sections.proofs.Places.{record-first, record-next, record-near}
 use Rattle.read_sections.proofs.times.time_records.Statement.{statement}
 use Rattle.read_sections.proofs.times.time_records.Tie as tie

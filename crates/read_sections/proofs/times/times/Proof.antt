@@ -8,7 +8,7 @@ use Rattle.rules.specs.Personality.{timeAt, timesAt}
 use Rattle.rules.specs.Verdicts.{firstOf}
 use Rattle.rules.specs.declared.answer.Verdict.the-variants.{Accepted}
 use Rattle.rules.specs.declared.answer.Verdict.{Verdict}
-use Rattle.read_sections.proofs.Firsts.{first-more, first-stop}
+use Rattle.rules.proofs.Verdicts.{first-more, first-stop}
 use Rattle.read_sections.proofs.times.times.Statement.{statement}
 use Rattle.read_sections.proofs.times.times.Tie as tie
 

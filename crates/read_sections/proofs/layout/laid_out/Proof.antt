@@ -1,0 +1,114 @@
+-- `layout::laid_out` meets its contract: each head follows the body before it, and a body length is read at its own head.
+use native.Mathlib.Omega.{arith}
+use borrow.Author.Needs.{needs}
+use Rattle.rules.specs.Personality.{bodyAt, bodyLength, phaseCount, groupCount, groupsHead, conflictsHead, detectorsHead, pedestriansHead, endOf}
+use Rattle.read_sections.proofs.layout.laid_out.Statement.{statement}
+use Rattle.read_sections.proofs.layout.laid_out.Tie as tie
+
+byte-requires : tie.Need-byte-requires
+byte-requires c κs = search needs
+
+byte-requires-2 : tie.Need-byte-requires-2
+byte-requires-2 c κs = search needs
+
+cast-groups : tie.Need-cast-groups
+cast-groups c = search needs
+
+mul-groups : tie.Need-mul-groups
+mul-groups c = search needs
+
+add-groups : tie.Need-add-groups
+add-groups c = search needs
+
+add-conflicts : tie.Need-add-conflicts
+add-conflicts c = search needs
+
+cast-conflicts : tie.Need-cast-conflicts
+cast-conflicts c = search needs
+
+mul-conflicts : tie.Need-mul-conflicts
+mul-conflicts c = search needs
+
+add-conflicts-2 : tie.Need-add-conflicts-2
+add-conflicts-2 c = search needs
+
+add-detectors : tie.Need-add-detectors
+add-detectors c = search needs
+
+cast-detectors : tie.Need-cast-detectors
+cast-detectors c = search needs
+
+mul-detectors : tie.Need-mul-detectors
+mul-detectors c = search needs
+
+add-detectors-2 : tie.Need-add-detectors-2
+add-detectors-2 c = search needs
+
+add-pedestrians : tie.Need-add-pedestrians
+add-pedestrians c = search needs
+
+two-requires : tie.Need-two-requires
+two-requires c κs = search needs
+
+cast-pedestrians : tie.Need-cast-pedestrians
+cast-pedestrians c = search needs
+
+add-pedestrians-2 : tie.Need-add-pedestrians-2
+add-pedestrians-2 c = search needs
+
+add-end : tie.Need-add-end
+add-end c = search needs
+
+two-requires-2 : tie.Need-two-requires-2
+two-requires-2 c κs = search needs
+
+cast-end : tie.Need-cast-end
+cast-end c = search needs
+
+add-end-2 : tie.Need-add-end-2
+add-end-2 c = search needs
+
+returns : tie.Need-returns
+unfolding phaseCount groupCount groupsHead conflictsHead detectorsHead pedestriansHead endOf bodyAt bodyLength
+returns c =
+    let n = c .before .before .byte2 .ensures in
+    let p = c .before .before .before .byte .ensures in
+    let fifth = c .before .two .ensures in
+    let sixth = c .two2 .ensures in
+    record {
+      p = p;
+      n = n;
+      groups = simp p;
+      conflicts = simp (n, p);
+      detectors = simp (n, p);
+      pedestrians = simp (fifth, n, p);
+      end = simp (sixth, fifth, n, p);
+      near = (omega arith, omega arith, omega arith, omega arith, omega arith);
+    }
+
+pub laid-out-spec : {M : Type 1} → statement M
+laid-out-spec =
+    tie.close
+    (tie.spec
+    byte-requires
+    byte-requires-2
+    cast-groups
+    mul-groups
+    add-groups
+    add-conflicts
+    cast-conflicts
+    mul-conflicts
+    add-conflicts-2
+    add-detectors
+    cast-detectors
+    mul-detectors
+    add-detectors-2
+    add-pedestrians
+    two-requires
+    cast-pedestrians
+    add-pedestrians-2
+    add-end
+    two-requires-2
+    cast-end
+    add-end-2
+    returns)

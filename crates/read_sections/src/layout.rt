@@ -1,0 +1,37 @@
+// Where the sections of a personality stand.
+ghost use Rattle.read_sections.specs.Laid.{Laid};
+use base_reads::byte;
+use base_reads::two;
+
+// The counts P and N, the heads of kinds 3 to 6, and where kind 6 ends. The heads of kinds 1 and 2 are at 0 and 8.
+pub struct Layout {
+    pub p: u8,
+    pub n: u8,
+    pub groups: usize,
+    pub conflicts: usize,
+    pub detectors: usize,
+    pub pedestrians: usize,
+    pub end: usize,
+}
+
+// The layout that the counts and the body lengths give, whether or not the sections are there: a byte past the end reads as 0.
+pub fn laid_out(s: &[u8]) -> Layout
+    ensures { λ r. ⌜ Laid (now (s .entry)) r ⌝ }
+{
+    let p = byte(s, 4);
+    let n = byte(s, 5);
+    let groups = 12 + (p as usize) * 12;
+    let conflicts = groups + 4 + (n as usize) * 2;
+    let detectors = conflicts + 4 + (n as usize) * 4;
+    let pedestrians = detectors + 4 + (two(s, detectors) as usize);
+    let end = pedestrians + 4 + (two(s, pedestrians) as usize);
+    Layout {
+        p,
+        n,
+        groups,
+        conflicts,
+        detectors,
+        pedestrians,
+        end,
+    }
+}
