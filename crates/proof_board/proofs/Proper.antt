@@ -15,6 +15,7 @@ use Rattle.rules.specs.Site.{phaseTimes}
 use Rattle.rules.specs.Intervals.{isLeaving, phaseHeld}
 use Rattle.rules.specs.State.{fresh, targetValid, cameValid}
 use Rattle.rules.specs.Step.{stepped}
+use Rattle.rules.specs.Interval.{locksLeft}
 use Rattle.rules.specs.Walks.{walksBegun, buttonsLeft}
 use Rattle.rules.specs.Laws.{Sound, FreshIsValid, StepKeepsValid}
 use Rattle.rules.proofs.Tests.{and-left, and-right}
@@ -63,7 +64,7 @@ proper-of site sound s told locks buttons movements =
     }
 
 pub step-is-proper : StepIsProper
-unfolding StepIsProper StepKeepsValid stepped walksBegun buttonsLeft
+unfolding StepIsProper StepKeepsValid stepped locksLeft walksBegun buttonsLeft
 step-is-proper site sound s inputs sane wired =
     proper-of site sound (stepped site s inputs) (state-told site (stepped site s inputs) (step-keeps-valid site sound s inputs sane wired))
     (list-length _ 7)
