@@ -18,7 +18,7 @@ use Rattle.rules.specs.Personality.{bodyAt, bodyLength, recordAt, phaseCount, g
 use Rattle.rules.specs.Call.{stepVerdict, callVerdict}
 use Rattle.rules.specs.Laws.{readingNumber, stepNumber, greatestLength, AcceptedIsShort, PlaceIn, Written, RefusalIsWritten}
 use Rattle.rules.proofs.Verdicts.{or-refused, refuse-failed, first-refused}
-use Rattle.proof_acceptance.proofs.Sections.{SiteAccepted, GroupsAccepted, DetectorsAccepted, records-held, record-within, detectors-held, site-accepted, phases-accepted, groups-accepted, conflicts-accepted, detectors-accepted, pedestrians-accepted, sections-accepted}
+use Rattle.proof_acceptance.proofs.Sections.{SiteAccepted, GroupsAccepted, DetectorsAccepted, PedestriansAccepted, records-held, record-within, detectors-held, site-accepted, phases-accepted, groups-accepted, conflicts-accepted, detectors-accepted, pedestrians-accepted, sections-accepted}
 
 -- ── A check, checks in order, and the first of a row ──
 
@@ -46,8 +46,12 @@ module _ (Allowed : ℕ → ℕ → Type 0) where
 -- ── How far the sections go ──
 
 module _ (b : List ℕ) where
-  end-near : SiteAccepted b → GroupsAccepted b → bodyLength b (detectorsHead b) ≤ 96 → endOf b ≤ greatestLength
-  unfolding endOf pedestriansHead detectorsHead conflictsHead groupsHead bodyAt
+  end-near :
+      SiteAccepted b →
+      GroupsAccepted b →
+      bodyLength b (detectorsHead b) ≤ 96 →
+      bodyAt (pedestriansHead b) + movementCount b * 6 ≤ greatestLength
+  unfolding pedestriansHead detectorsHead conflictsHead groupsHead bodyAt
   end-near counts groups short = omega arith
 
 -- ── The personality's checks ──
@@ -138,15 +142,15 @@ module _
 
       module _ (few : GroupsAccepted b) (short : DetectorsAccepted b) where
         pedestrians : Refusals Allowed (pedestriansSection b)
-        unfolding pedestriansSection endOf bodyAt
+        unfolding pedestriansSection bodyAt
         pedestrians =
             let near = end-near b counts few (short .short) in
             records (pedestriansHead b) 6 (movementCount b) 6 _ (omega arith) near
             (times (pedestriansHead b) (movementCount b) 6 walkSettings 3 (omega arith))
 
-        after : endOf b ≤ length b → Refusals Allowed (afterPedestrians b)
-        unfolding afterPedestrians
-        after l = check _ 12 (endOf b) refl (l, end-near b counts few (short .short))
+        after : PedestriansAccepted b → Refusals Allowed (afterPedestrians b)
+        unfolding afterPedestrians endOf
+        after told = check _ 12 (endOf b) refl (told .next, omega (arith, end-near b counts few (short .short), told .body))
 
     pub personality-refusals : Refusals Allowed (verdictOf b)
     unfolding verdictOf
@@ -163,7 +167,7 @@ module _
         (λ i.
         let short = detectors-accepted b i in
         or-refusals Allowed _ _ (pedestrians counts few short)
-        (λ j. after counts few short (pedestrians-accepted b j .next)))))))
+        (λ j. after counts few short (pedestrians-accepted b j)))))))
 
     -- a step's checks after them, at 0
     pub call-refusals :
@@ -184,7 +188,7 @@ refusal-is-written b s inputs room =
 -- ── An accepted personality ──
 
 pub accepted-is-short : AcceptedIsShort
-unfolding AcceptedIsShort
+unfolding AcceptedIsShort endOf
 accepted-is-short b h =
     let s = sections-accepted b h in
-    omega (arith, end-near b (s .site) (s .groups) (s .detectors .short))
+    omega (arith, end-near b (s .site) (s .groups) (s .detectors .short), s .pedestrians .body, s .last)
