@@ -1,6 +1,5 @@
 -- Part 2 of a step: movements. Walk, C1 and C2 follow each other once the age is at least the setting; after C2 the movement is idle.
 use Prim.Native.Nat.{ℕ, _+_, min}
-use mathlib.Core.Bool.{Bool}
 use mathlib.Core.List.{List}
 use lib.Dec.{leb}
 use lib.ListN.{getD}

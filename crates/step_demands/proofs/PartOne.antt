@@ -1,7 +1,7 @@
 -- Part 1 put together: what its calls give from the sets of phases of which detectors are occupied is what the rules say, phase by
 -- phase.
 use Prim.Native.Nat.{ℕ, _<_}
-use mathlib.Core.Bool.{Bool, true, false, not, _&&_, _||_, or-assoc}
+use mathlib.Core.Bool.{Bool, false, not, _&&_, _||_, or-assoc}
 use mathlib.Core.List.{List}
 use mathlib.Core.Path.{_≡_, sym, ap, _∙_}
 use native.Mathlib.Omega.{arith}

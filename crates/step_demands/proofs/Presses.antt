@@ -1,8 +1,8 @@
 -- The pass over the pressed buttons: those that are taken have their demands.
 use Prim.Native.Nat.{ℕ, _+_, _-_, _/_, _%_, _^_, _<_}
-use mathlib.Core.Bool.{Bool, true, false, not, _&&_, _||_, or-false}
+use mathlib.Core.Bool.{Bool, false, not, _&&_, _||_, or-false}
 use mathlib.Core.List.{List}
-use mathlib.Core.Path.{_≡_, refl, sym, ap, _∙_}
+use mathlib.Core.Path.{_≡_, sym, _∙_}
 use native.Mathlib.Nat.{mod-lt}
 use native.Mathlib.Omega.{arith}
 use lib.Bits.{bitAnd}
@@ -59,14 +59,14 @@ module _ (buttons : List Bool) (movements : List Movement) (inputs : ℕ) where
         (or-false (getD buttons next false))
 
     pub one-pressed :
-        {walking : Bool} →
-        walking ≡ walks next →
-        Pressed (bitAnd rest (rest - 1)) (set out next (getD out next false || not walking))
-    one-pressed {walking} e =
+        {dropped : Bool} →
+        dropped ≡ walks next →
+        Pressed (bitAnd rest (rest - 1)) (set out next (getD out next false || not dropped))
+    one-pressed {dropped} e =
         record {
           left = left-more (known .left) some (omega arith);
           told =
-              list-set (demand (bitAnd rest (rest - 1))) out 8 next (getD out next false || not walking) false
+              list-set (demand (bitAnd rest (rest - 1))) out 8 next (getD out next false || not dropped) false
               (rw (known .told) (list-length (demand rest) 8))
               turn-within
               (rw (next-taken (known .left) some (omega arith), own, e))

@@ -5,9 +5,17 @@ ghost use mathlib.Core.Path.{_≡_};
 ghost use lib.ListN.{getD};
 ghost use Rattle.rules.specs.Bytes.{bit};
 ghost use Rattle.rules.specs.Rows.{listOf};
+ghost use Rattle.rules.specs.Intervals.{isWalk};
 ghost use Rattle.rules.specs.Demands.{registersButton, movementDemands};
 use rules::state::Movement;
 use rules::state::Stage;
+
+// The stage in which a press is dropped: walk, and neither clearance.
+fn dropped(stage: Stage) -> bool
+    ensures { λ r. ⌜ r ≡ isWalk stage ⌝ }
+{
+    base_intervals::walking(stage)
+}
 
 // A pressed button demands its movement unless that movement is in walk. Button k is input bit 48 + k. Each turn takes the lowest button
 // that is left.
@@ -20,7 +28,7 @@ pub fn press(buttons: [bool; 8], movements: [Movement; 8], inputs: u64) -> [bool
         let k = u64::trailing_zeros(rest) as usize;
         let movement = movements[k];
         let stage = movement.stage;
-        out[k] = out[k] | !base_intervals::walking(stage);
+        out[k] = out[k] | !dropped(stage);
         rest = rest & (rest - 1);
     }
     out

@@ -4,14 +4,12 @@ use borrow.Author.Needs.{needs}
 use borrow.Author.Tests.{eqb-true, not-true}
 use native.Mathlib.Omega.{arith}
 use Prim.Native.Nat.{ℕ, _-_, _≤_, _<_}
-use mathlib.Core.Bool.{Bool, true, false, not, _||_, _&&_}
-use mathlib.Core.List.{List}
+use mathlib.Core.Bool.{true, false, not, _||_, _&&_}
 use mathlib.Core.Logic.{⊎-elim}
 use mathlib.Core.Path.{_≡_, sym, _∙_}
 use lib.Dec.{eqb}
-use lib.ListN.{length, getD}
+use lib.ListN.{length}
 use Rattle.rules.specs.declared.state.Movement.{Movement}
-use Rattle.rules.specs.declared.state.Position.{Position}
 use Rattle.rules.specs.declared.state.Stage.the-variants.{Idle}
 use Rattle.rules.specs.Site.{crosses}
 use Rattle.rules.specs.State.{idle}

@@ -1,6 +1,5 @@
 -- `step_whole::advance` meets its contract: its calls are the five parts of the rules' step, one after the other.
 use borrow.Author.Needs.{needs}
-use mathlib.Core.Path.{subst, sym}
 use Rattle.rules.specs.Site.{phaseTimes}
 use Rattle.rules.specs.Step.{stepped}
 use Rattle.step_demands.specs.Asked.{askedOf}

@@ -43,8 +43,8 @@ array-copy-out-movement c = own-within c
 array-read-out : tie.Need-array-read-out Inv-loop μ-loop
 array-read-out c = own-within (c .before)
 
-walking-requires : tie.Need-walking-requires Inv-loop μ-loop
-walking-requires c κs = search needs
+dropped-requires : tie.Need-dropped-requires Inv-loop μ-loop
+dropped-requires c κs = search needs
 
 array-write-out : tie.Need-array-write-out Inv-loop μ-loop
 array-write-out c = own-within (c .before .before)
@@ -66,7 +66,7 @@ loop-again c =
     let k = trailingZeros 64 (at .rest) in
     let inside : k < length (a .t2) = omega (arith, own-within turn, start .good .1 .0 .1 .0 .1) in
     one-pressed (a .buttons) (a .t2) (a .inputs) (at .inv) (omega (arith, turn .loop-test .taken))
-    (c .walking .ensures ∙ ap (λ (m : Movement). isWalk (m .stage)) (entry-same (a .t2) k (record { stage = Idle; age = 0 }) idle inside))
+    (c .dropped .ensures ∙ ap (λ (m : Movement). isWalk (m .stage)) (entry-same (a .t2) k (record { stage = Idle; age = 0 }) idle inside))
 
 returns : tie.Need-returns Inv-loop μ-loop
 returns c =
@@ -84,7 +84,7 @@ press-spec =
     mul-movement
     array-copy-out-movement
     array-read-out
-    walking-requires
+    dropped-requires
     array-write-out
     sub-rest
     loop-less

@@ -2,7 +2,7 @@
 -- the bits of the rest are those that are left. The measure is the rest, which loses a bit a turn.
 use borrow.Author.Needs.{needs}
 use native.Mathlib.Omega.{arith}
-use Prim.Native.Nat.{_+_, _*_, _≤_, _<_}
+use Prim.Native.Nat.{_+_, _*_, _<_}
 use lib.Count.{trailingZeros}
 use Rattle.rules.specs.declared.site.Detector.{Detector}
 use Rattle.rules.specs.Site.{detectorOf}

@@ -1,7 +1,6 @@
 -- `step_interval::changes::counts_entered` meets its contract: each count is the one that its test picks.
 use borrow.Author.Needs.{needs}
 use mathlib.Core.Logic.{⊎-elim}
-use mathlib.Core.Path.{sym, _∙_}
 use Rattle.rules.specs.Interval.{countsEntering}
 use Rattle.step_interval.proofs.changes.counts_entered.Statement.{statement}
 use Rattle.step_interval.proofs.changes.counts_entered.Tie as tie

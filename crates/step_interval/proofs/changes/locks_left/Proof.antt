@@ -2,8 +2,6 @@
 use borrow.Author.Needs.{needs}
 use borrow.Author.Tests.{ltb-true}
 use mathlib.Core.Bool.{_&&_}
-use mathlib.Core.Path.{ap, _∙_, sym}
-use Prim.Native.Nat.{_<_}
 use lib.Dec.{ltb}
 use Rattle.rules.proofs.Tests.{and-left, and-right}
 use Rattle.step_interval.proofs.Locks.{lock-cleared, locks-stand}
