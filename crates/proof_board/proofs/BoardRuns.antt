@@ -1,9 +1,10 @@
 -- A run of the library's calls is a run of the rules. An answer reads back as the outcome that it was packed from; the bytes of a state
 -- read back as the state; and each call leaves the bytes of the state that the rules hand back, so call by call nothing differs.
 use Prim.Native.Nat.{ℕ, _/_, _%_, _≤_, _<_}
-use mathlib.Core.Bool.{Bool, true, false}
+use mathlib.Core.Bool.{Bool, true, false, not}
 use mathlib.Core.List.{List, [], _∷_}
 use mathlib.Core.Path.{_≡_, refl, sym, subst, ap, _∙_}
+use native.Mathlib.Nat.{zero-add, add-zero}
 use native.Mathlib.Omega.{arith}
 use borrow.Author.Tests.{ne-eqb}
 use lib.Dec.{eqb}
@@ -13,7 +14,7 @@ use Rattle.rules.specs.declared.answer.Verdict.{Verdict}
 use Rattle.rules.specs.declared.answer.Verdict.the-variants.{Accepted, Refused}
 use Rattle.rules.specs.declared.state.State.{State}
 use Rattle.rules.specs.Rows.{if_then_else_}
-use Rattle.rules.specs.Verdicts.{_orElse_}
+use Rattle.rules.specs.Verdicts.{_orElse_, refuseIf, reportOf, stepReportOf, waitOf}
 use Rattle.rules.specs.Personality.{verdictOf}
 use Rattle.rules.specs.Site.{siteOf}
 use Rattle.rules.specs.State.{fresh, valid}
@@ -68,9 +69,10 @@ module _ (b : List ℕ) (s : State) (inputs room : ℕ) where
       (v : Verdict) →
       callVerdict b s inputs room ≡ v →
       outcomeIn (packedOutcome (answerFor v (siteOf b) s inputs .outcome)) ≡ answerFor v (siteOf b) s inputs .outcome
-  unfolding answerFor packedOutcome RefusalIsWritten
-  outcome-for Accepted e = outcome-stepped (waitBound (siteOf b))
-  outcome-for (Refused number place) e = outcome-refused number place (number-fits b number place (refusal-is-written b s inputs room number place e))
+  unfolding answerFor packedOutcome stepReportOf waitOf RefusalIsWritten
+  outcome-for Accepted e = rw (zero-add (waitBound (siteOf b))) (outcome-stepped (waitBound (siteOf b)))
+  outcome-for (Refused number place) e =
+      rw (add-zero place) (outcome-refused number place (number-fits b number place (refusal-is-written b s inputs room number place e)))
 
   outcome-back : outcomeIn (packedOutcome (answerOf b s inputs room .outcome)) ≡ answerOf b s inputs room .outcome
   unfolding answerOf
@@ -78,7 +80,7 @@ module _ (b : List ℕ) (s : State) (inputs room : ℕ) where
 
 -- the answer to reading a personality reads back
 read-for : (b : List ℕ) (v : Verdict) → verdictOf b ≡ v → verdictIn (packedVerdict v) ≡ v
-unfolding packedVerdict verdictIn RefusalIsWritten callVerdict _orElse_
+unfolding packedVerdict packed reportOf verdictIn RefusalIsWritten callVerdict _orElse_
 read-for b Accepted e = refl
 read-for b (Refused number place) e =
     verdict-refused number place (number-fits b number place (refusal-is-written b fresh 0 0 number place (rw e)))
@@ -150,8 +152,9 @@ module _ (b : List ℕ) (sound : Sound (siteOf b)) (buffer : List ℕ) where
 -- ── The demand ──
 
 -- a buffer that `willowera_fresh` accepts then holds the bytes of the fresh state
-fresh-bytes : (fits : Bool) → (if fits then 0 else packed 13 0) ≡ 0 → (old : List ℕ) → (if fits then encoded fresh else old) ≡ encoded fresh
-unfolding packed
+fresh-bytes :
+    (fits : Bool) → packedVerdict (refuseIf (not fits) 13 0) ≡ 0 → (old : List ℕ) → (if fits then encoded fresh else old) ≡ encoded fresh
+unfolding packedVerdict packed refuseIf reportOf
 fresh-bytes true e old = refl
 fresh-bytes false e old = absurd (omega (arith, e))
 

@@ -3,6 +3,7 @@ use Prim.Native.Nat.{ℕ, _+_, _*_, _≤_}
 use mathlib.Core.Bool.{Bool, true, false}
 use mathlib.Core.List.{List}
 use mathlib.Core.Path.{_≡_, refl, sym, ap, subst, _∙_}
+use native.Mathlib.Nat.{zero-add, add-zero}
 use native.Mathlib.Omega.{arith}
 use lib.Dec.{eqb}
 use lib.ListN.{length}
@@ -16,7 +17,7 @@ use Rattle.rules.specs.declared.site.Site.{Site}
 use Rattle.rules.specs.declared.state.State.{State}
 use Rattle.rules.specs.Bytes.{twoAt}
 use Rattle.rules.specs.State.{every}
-use Rattle.rules.specs.Verdicts.{_orElse_, reportOf}
+use Rattle.rules.specs.Verdicts.{_orElse_, reportOf, stepReportOf, waitOf}
 use Rattle.rules.specs.Personality.{bodyAt, bodyLength, verdictOf}
 use Rattle.rules.specs.Site.{siteOf}
 use Rattle.rules.specs.Lookup.{lookupVerdict, lookupReport, headOf}
@@ -34,18 +35,18 @@ pub refused-near : (b : List ℕ) (v : Verdict) {number place : ℕ} → v ≡ v
 refused-near b v {number} {place} e f = personality-named b number place (sym e ∙ f) .1
 
 pub read-accepted : (v w : Verdict) → w ≡ v → w ≡ Accepted → 0 ≡ packedVerdict v
-unfolding packedVerdict
+unfolding packedVerdict packed reportOf
 read-accepted v w e f = rw (sym e ∙ f)
 
 pub read-refused : (v w : Verdict) (r : ℕ) {number place : ℕ} → w ≡ v → w ≡ Refused number place → r ≡ packed number place → r ≡ packedVerdict v
-unfolding packedVerdict
+unfolding packedVerdict reportOf
 read-refused v w r e f p = rw (sym e ∙ f, p)
 
 -- ── One outcome ──
 
 pub outcome-stepped : (o q : Outcome) (r : ℕ) {wait : ℕ} → o ≡ q → o ≡ Stepped wait → r ≡ packed 0 wait → r ≡ packedOutcome q
-unfolding packedOutcome
-outcome-stepped o q r e f p = rw (sym e ∙ f, p)
+unfolding packedOutcome stepReportOf waitOf
+outcome-stepped o q r {wait} e f p = rw (sym e ∙ f, p, zero-add wait)
 
 pub outcome-declined :
     (o q : Outcome) (r : ℕ) {number place : ℕ} →
@@ -53,8 +54,8 @@ pub outcome-declined :
     o ≡ Declined number place →
     r ≡ packed number place →
     r ≡ packedOutcome q
-unfolding packedOutcome
-outcome-declined o q r e f p = rw (sym e ∙ f, p)
+unfolding packedOutcome stepReportOf waitOf
+outcome-declined o q r {place = place} e f p = rw (sym e ∙ f, p, add-zero place)
 
 stepped-not-declined : {w n p : ℕ} → Stepped w ≡ Declined n p → ⊥
 stepped-not-declined h = let z : _≡_ {A = ℕ} 0 1 = cc in omega arith
@@ -127,8 +128,8 @@ module _ (b old buffer : List ℕ) (inputs r : ℕ) where
       verdictOf b ≡ Refused number place →
       r ≡ packed number place →
       Steps b old inputs buffer r old buffer
-  unfolding stepAnswer stateAfter coloursAfter answerOf bufferOf callVerdict _orElse_ answerFor bufferFor packedVerdict packedOutcome stateFor
-  refused-by true k e p = (rw (k, e, p), rw (k, e), rw (k, e))
+  unfolding stepAnswer stateAfter coloursAfter answerOf bufferOf callVerdict _orElse_ answerFor bufferFor packedVerdict packedOutcome reportOf stepReportOf waitOf stateFor
+  refused-by true {place = place} k e p = (rw (k, e, p, add-zero place), rw (k, e), rw (k, e))
   refused-by false k e p = (rw (k, e, p), rw k, rw k)
 
   -- a refused personality, whatever the state's bytes are
@@ -142,7 +143,7 @@ module _ (b old buffer : List ℕ) (inputs r : ℕ) where
 
   module _ (accepted : verdictOf b ≡ Accepted) (d : Decoded) (e : d ≡ decodedOr old) where
     pub no-state : d .known ≡ false → r ≡ packed 13 0 → Steps b old inputs buffer r old buffer
-    unfolding stepAnswer stateAfter coloursAfter packedVerdict _orElse_
+    unfolding stepAnswer stateAfter coloursAfter packedVerdict reportOf _orElse_
     no-state f p = let other = known-read old d false e f in (rw (other, accepted, p), rw other, rw other)
 
     module _ (f : d .known ≡ true) (site : Site) (read : site ≡ siteOf b) (a : Answer) (out : List ℕ) (given : OnSite site (d .state) inputs buffer a out) where
@@ -160,18 +161,18 @@ module _ (b old buffer : List ℕ) (inputs r : ℕ) where
           new ≡ encodedOver (a .state) old →
           r ≡ packed 0 wait →
           Steps b old inputs buffer r new out
-      unfolding stepAnswer stateAfter coloursAfter packedOutcome stateFor encodedOver
-      steps-on new o n p =
+      unfolding stepAnswer stateAfter coloursAfter packedOutcome stepReportOf waitOf stateFor encodedOver
+      steps-on new {wait} o n p =
           let long = state-long old known in
-          (rw (known, sym (called .0), o, p), rw (known, sym (called .0), o, n, long), rw (known, called .1))
+          (rw (known, sym (called .0), o, p, zero-add wait), rw (known, sym (called .0), o, n, long), rw (known, called .1))
 
       pub stays :
           {number place : ℕ} →
           a .outcome ≡ Declined number place →
           r ≡ packed number place →
           Steps b old inputs buffer r old out
-      unfolding stepAnswer stateAfter coloursAfter packedOutcome stateFor
-      stays o p = (rw (known, sym (called .0), o, p), rw (known, sym (called .0), o), rw (known, called .1))
+      unfolding stepAnswer stateAfter coloursAfter packedOutcome stepReportOf waitOf stateFor
+      stays {place = place} o p = (rw (known, sym (called .0), o, p, add-zero place), rw (known, sym (called .0), o), rw (known, called .1))
 
 -- ── The section lookup ──
 
@@ -196,7 +197,7 @@ module _ (b : List ℕ) (kind : ℕ) (report : Report) (e : report ≡ lookupRep
     section-near = lookup-named b kind (report .number) (report .place) refused .1
 
     pub section-refused : (r : ℕ) → r ≡ packed (report .number) (report .place) → r ≡ sectionAnswer b kind
-    unfolding sectionAnswer sectionFor
+    unfolding sectionAnswer sectionFor packedVerdict reportOf
     section-refused r p = rw (refused, p)
 
   pub section-found :

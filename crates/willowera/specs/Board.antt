@@ -1,6 +1,7 @@
 -- The calls of the board's library, over bytes. An answer is one number: the lowest byte is the number of the refusal, 0 where the call
 -- is accepted, and the rest is the place, or the wait bound where a step or a wait bound is given.
 use Prim.Native.Nat.{ℕ, _+_, _*_}
+use mathlib.Core.Bool.{not}
 use mathlib.Core.List.{List}
 use lib.Dec.{eqb}
 use lib.ListN.{length}
@@ -10,7 +11,7 @@ use Rattle.rules.specs.declared.answer.Verdict.{Verdict}
 use Rattle.rules.specs.declared.answer.Verdict.the-variants.{Accepted, Refused}
 use Rattle.rules.specs.declared.state.State.{State}
 use Rattle.rules.specs.Rows.{if_then_else_}
-use Rattle.rules.specs.Verdicts.{_orElse_}
+use Rattle.rules.specs.Verdicts.{_orElse_, refuseIf, reportOf, stepReportOf, waitOf}
 use Rattle.rules.specs.Personality.{verdictOf, bodyAt, bodyLength}
 use Rattle.rules.specs.Lookup.{lookupVerdict, headOf}
 use Rattle.rules.specs.Call.{answerOf, bufferOf}
@@ -20,18 +21,17 @@ unfoldable pub packed : ℕ → ℕ → ℕ
 packed number value = number + 256 * value
 
 unfoldable pub packedVerdict : Verdict → ℕ
-packedVerdict Accepted = 0
-packedVerdict (Refused number place) = packed number place
+packedVerdict v = packed (reportOf v .number) (reportOf v .place)
 
+-- of the place and the wait bound one is 0
 unfoldable pub packedOutcome : Outcome → ℕ
-packedOutcome (Stepped wait) = packed 0 wait
-packedOutcome (Declined number place) = packed number place
+packedOutcome o = packed (stepReportOf o .number) (stepReportOf o .place + waitOf o)
 
 -- ── The fresh state ──
 
 -- 13 for a buffer that has not the length of a state
 unfoldable pub freshAnswer : List ℕ → ℕ
-freshAnswer old = if eqb (length old) stateBytes then 0 else packed 13 0
+freshAnswer old = packedVerdict (refuseIf (not (eqb (length old) stateBytes)) 13 0)
 
 -- ── A step call, its state in bytes: the personality's own refusal comes before 13 for bytes that are no state ──
 
@@ -59,7 +59,7 @@ coloursAfter b old inputs buffer = if isState old then bufferOf b (decoded old) 
 
 unfoldable pub sectionFor : Verdict → ℕ → ℕ → ℕ
 sectionFor Accepted offset size = 256 * offset + 1099511627776 * size
-sectionFor (Refused number place) offset size = packed number place
+sectionFor (Refused number place) offset size = packedVerdict (Refused number place)
 
 unfoldable pub sectionAnswer : List ℕ → ℕ → ℕ
 sectionAnswer b kind = sectionFor (lookupVerdict b kind) (bodyAt (headOf b kind)) (bodyLength b (headOf b kind))

@@ -4,6 +4,7 @@ ghost use Prim.Native.Nat.{_+_, _*_, _≤_};
 ghost use mathlib.Core.Path.{_≡_};
 ghost use lib.ListN.{length};
 ghost use Rattle.rules.specs.Call.{boundOf};
+ghost use Rattle.rules.specs.Laws.{greatestLength};
 ghost use Rattle.rules.specs.Personality.{verdictOf};
 ghost use Rattle.rules.specs.State.{fresh};
 ghost use Rattle.board_state.specs.Layout.{encodedOver};
@@ -20,9 +21,9 @@ fn pack(number: u8, value: u32) -> u64
     (number as u64) + 256 * (value as u64)
 }
 
-// A refusal. No place of a personality is past 448.
+// A refusal. No place is past the length of the longest personality.
 fn refusal(number: u8, place: usize) -> u64
-    requires { ⌜ place ≤ 448 ⌝ }
+    requires { ⌜ place ≤ greatestLength ⌝ }
     ensures { λ r. ⌜ r ≡ packed number place ⌝ }
 {
     pack(number, place as u32)

@@ -1,6 +1,7 @@
 -- `willowera::willowera_fresh` meets its contract, by the test of the length.
 use mathlib.Core.Path.{sym, _∙_}
-use Rattle.willowera.specs.Board.{freshAnswer}
+use Rattle.rules.specs.Verdicts.{refuseIf, reportOf}
+use Rattle.willowera.specs.Board.{packed, packedVerdict, freshAnswer}
 use borrow.Author.Needs.{needs}
 use Rattle.willowera.proofs.willowera_fresh.Statement.{statement}
 use Rattle.willowera.proofs.willowera_fresh.Tie as tie
@@ -18,7 +19,7 @@ same-length : tie.Need-same-length
 same-length c = search needs
 
 returns : tie.Need-returns
-unfolding freshAnswer
+unfolding freshAnswer packedVerdict packed refuseIf reportOf
 returns c =
     let stored = c .before .before .before in
     let room = sym (stored .encode .ensures .0) ∙ c .if1 .taken in
@@ -28,7 +29,7 @@ same-length-2 : tie.Need-same-length-2
 same-length-2 c = search needs
 
 returns-2 : tie.Need-returns-2
-unfolding freshAnswer
+unfolding freshAnswer packedVerdict refuseIf reportOf
 returns-2 c =
     let stored = c .before .before .before .before in
     let other = sym (stored .encode .ensures .0) ∙ c .before .if1 .left in
