@@ -15,11 +15,12 @@ use Rattle.rules.specs.Bytes.{twoAt, bit}
 use Rattle.rules.specs.Limits.{limits, phaseSettings, walkSettings}
 use Rattle.rules.specs.Personality.{recordAt, phasesHead, pedestriansHead, phaseCount, groupCount, movementCount, groupSet, groupMark, conflictSet, detectorPhase, knownMode, pedestrian, pedestriansBefore}
 use Rattle.rules.specs.Site.{phaseTimesAt, walkTimesAt, timesIn, crossingAt, siteOf, groupOf, inPhase, crosses, isPedestrian, movementOf, conflict}
-use Rattle.rules.specs.Laws.{InTable, SoundPhaseTimes, SoundWalkTimes, OnePhase, Sound, AcceptedIsSound}
+use Rattle.rules.specs.Laws.{InTable, PhaseTimesIn, WalkTimesIn, TimesIn, OnePhase, Sound, AcceptedIsSound, AcceptedIsInTable}
 use Rattle.rules.proofs.Tests.{never-both}
 use Rattle.rules.proofs.Rows.{IthPassing, indices-at}
 use Rattle.rules.proofs.Counts.{below-or-past, passes-below, count-before, count-apart, count-one}
 use Rattle.rules.proofs.Bits.{bit-below}
+use Rattle.rules.proofs.Settings.{table-is-usable}
 use Rattle.proof_acceptance.proofs.Sections.{PhasesAccepted, GroupsAccepted, ConflictsAccepted, PedestriansAccepted, SectionsAccepted, sections-accepted}
 use Rattle.proof_acceptance.proofs.Entries.{phase-times-at, walk-times-at, group-at, group-past, in-phase-at, in-phase-past, pedestrian-at, conflict-at, conflict-past, detector-at, crosses-at, crosses-past, movement-at}
 
@@ -29,9 +30,9 @@ use Rattle.proof_acceptance.proofs.Entries.{phase-times-at, walk-times-
 first-field : (b : List ℕ) (place setting : ℕ) → InTable limits setting (twoAt b (place + 0)) → InTable limits setting (twoAt b place)
 first-field b place setting h = rw add-zero at h
 
-sound-phase-times : (b : List ℕ) → PhasesAccepted b → (p : ℕ) → p < phaseCount b → SoundPhaseTimes limits (phaseTimesAt b p)
+phase-times-in : (b : List ℕ) → PhasesAccepted b → (p : ℕ) → p < phaseCount b → PhaseTimesIn limits (phaseTimesAt b p)
 unfolding phaseTimesAt
-sound-phase-times b s p l =
+phase-times-in b s p l =
     record {
       late = first-field b (recordAt phasesHead 12 p) phaseSettings (s .time p l 0 (omega arith));
       minimum = s .time p l 1 (omega arith);
@@ -41,14 +42,27 @@ sound-phase-times b s p l =
       red = s .time p l 5 (omega arith);
     }
 
-sound-walk-times : (b : List ℕ) → PedestriansAccepted b → (k : ℕ) → k < movementCount b → SoundWalkTimes limits (walkTimesAt b k)
+walk-times-in : (b : List ℕ) → PedestriansAccepted b → (k : ℕ) → k < movementCount b → WalkTimesIn limits (walkTimesAt b k)
 unfolding walkTimesAt
-sound-walk-times b s k l =
+walk-times-in b s k l =
     record {
       walk = first-field b (recordAt (pedestriansHead b) 6 k) walkSettings (s .time k l 0 (omega arith));
       first = s .time k l 1 (omega arith);
       second = s .time k l 2 (omega arith);
     }
+
+times-in : (b : List ℕ) → SectionsAccepted b → TimesIn limits (siteOf b .size) (siteOf b .times)
+unfolding siteOf timesIn
+times-in b s =
+    record {
+      start = s .site .start;
+      phase = λ p l. subst (PhaseTimesIn limits) (sym (phase-times-at b p l)) (phase-times-in b (s .phases) p l);
+      walk = λ k l. subst (WalkTimesIn limits) (sym (walk-times-at b k l)) (walk-times-in b (s .pedestrians) k l);
+    }
+
+pub accepted-is-in-table : AcceptedIsInTable
+unfolding AcceptedIsInTable
+accepted-is-in-table b h = times-in b (sections-accepted b h)
 
 -- ── Groups ──
 
@@ -167,12 +181,7 @@ sound b s =
       groups = s .site .groups;
       detectors = s .detectors .count;
       movements = s .groups .movements;
-      times =
-          record {
-            start = s .site .start;
-            phase = λ p l. subst (SoundPhaseTimes limits) (sym (phase-times-at b p l)) (sound-phase-times b (s .phases) p l);
-            walk = λ k l. subst (SoundWalkTimes limits) (sym (walk-times-at b k l)) (sound-walk-times b (s .pedestrians) k l);
-          };
+      times = record { table = limits; tableUsable = table-is-usable; inTable = times-in b s };
       groupPhase = group-phase b (s .groups);
       groupMark = group-mark b (s .groups);
       phaseGroup = phase-group b (s .groups);

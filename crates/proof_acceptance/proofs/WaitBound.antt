@@ -13,10 +13,10 @@ use Rattle.rules.specs.Rows.{if_then_else_}
 use Rattle.rules.specs.Limits.{limits, limitOf}
 use Rattle.rules.specs.Site.{phaseTimes, walkTimes, crosses, siteOf}
 use Rattle.rules.specs.WaitBound.{phaseShare, longestWalk, longestClearance, waitBoundBy}
-use Rattle.rules.specs.Laws.{SoundTimes, AcceptedIsSound, highest, highestPhase, highestWalk, greatestShare, greatestWait, WaitIsInTable}
+use Rattle.rules.specs.Laws.{TimesIn, AcceptedIsSound, AcceptedIsInTable, highest, highestPhase, highestWalk, greatestShare, greatestWait, WaitIsInTable}
 use Rattle.rules.proofs.Rows.{greatest-most}
 use Rattle.rules.proofs.Counts.{sum-within}
-use Rattle.proof_acceptance.proofs.Acceptance.{accepted-is-sound}
+use Rattle.proof_acceptance.proofs.Acceptance.{accepted-is-sound, accepted-is-in-table}
 
 pub greatest-wait : greatestWait limits ≡ 35150
 unfolding greatestWait greatestShare phaseShare highestPhase highestWalk highest limitOf limits
@@ -27,7 +27,7 @@ chosen-within : (t : Bool) (n m : ℕ) → n ≤ m → (if t then n else 0) ≤ 
 chosen-within true n m l = l
 chosen-within false n m l = omega arith
 
-module _ (table : List Range) (size : Size) (times : Times) (crossings : List ℕ) (sound : SoundTimes table size times) where
+module _ (table : List Range) (size : Size) (times : Times) (crossings : List ℕ) (sound : TimesIn table size times) where
   -- A and C of a phase
   abbrev walkOf : ℕ → ℕ
   walkOf = longestWalk crossings (times .walks) (size .movements)
@@ -77,7 +77,6 @@ module _ (table : List Range) (size : Size) (times : Times) (crossings : List �
       )
 
 pub wait-is-in-table : WaitIsInTable
-unfolding WaitIsInTable AcceptedIsSound
+unfolding WaitIsInTable AcceptedIsSound AcceptedIsInTable
 wait-is-in-table b h =
-    let sound = accepted-is-sound b h in
-    wait-within limits (siteOf b .size) (siteOf b .times) (siteOf b .crossings) (sound .times) (sound .phases .1)
+    wait-within limits (siteOf b .size) (siteOf b .times) (siteOf b .crossings) (accepted-is-in-table b h) (accepted-is-sound b h .phases .1)

@@ -16,7 +16,7 @@ use Rattle.rules.specs.Limits.{limits, limitOf, startRedSetting, phaseSe
 use Rattle.rules.specs.Site.{phaseTimes, walkTimes}
 use Rattle.rules.specs.State.{highestAge}
 use Rattle.rules.specs.WaitBound.{phaseShare}
-use Rattle.rules.specs.Laws.{InTable, SoundPhaseTimes, SoundWalkTimes, Sound, highest, highestPhase, highestWalk, greatestShare, greatestWait, mayBeZero, timely, usable, TableIsUsable}
+use Rattle.rules.specs.Laws.{InTable, PhaseTimesIn, WalkTimesIn, Sound, highest, highestPhase, highestWalk, greatestShare, greatestWait, mayBeZero, timely, usable, TableIsUsable}
 use Rattle.rules.proofs.Tests.{and-left, and-right}
 use Rattle.rules.proofs.Rows.{all-at}
 
@@ -64,7 +64,7 @@ module _ (table : List Range) (passed : usable table ≡ true) where
   counted : (setting : ℕ) {time : ℕ} → setting < settingCount → mayBeZero setting ≡ false → InTable table setting time → Counted time
   counted setting l some h = (omega (arith, leb-true 1 (limitOf table setting .low) (rw some at (told setting l .1))), reached setting l h)
 
-  pub phase-told : {times : PhaseTimes} → SoundPhaseTimes table times → Timed times
+  pub phase-told : {times : PhaseTimes} → PhaseTimesIn table times → Timed times
   unfolding mayBeZero
   phase-told h =
       record {
@@ -76,7 +76,7 @@ module _ (table : List Range) (passed : usable table ≡ true) where
         red = counted (phaseSettings + 5) (omega arith) refl (h .red);
       }
 
-  pub walk-told : {times : WalkTimes} → SoundWalkTimes table times → Reached times
+  pub walk-told : {times : WalkTimes} → WalkTimesIn table times → Reached times
   unfolding mayBeZero
   walk-told h =
       record {
@@ -96,10 +96,10 @@ module _ (table : List Range) (passed : usable table ≡ true) where
 
 module _ (site : Site) (sound : Sound site) where
   pub phase-timed : (p : ℕ) → p < site .size .phases → Timed (phaseTimes (site .times) p)
-  phase-timed p l = phase-told limits table-is-usable (sound .times .phase p l)
+  phase-timed p l = phase-told (sound .times .table) (sound .times .tableUsable) (sound .times .inTable .phase p l)
 
   pub walk-reached : (k : ℕ) → k < site .size .movements → Reached (walkTimes (site .times) k)
-  walk-reached k l = walk-told limits table-is-usable (sound .times .walk k l)
+  walk-reached k l = walk-told (sound .times .table) (sound .times .tableUsable) (sound .times .inTable .walk k l)
 
   pub start-timed : Counted (site .times .start)
-  start-timed = start-told limits table-is-usable (sound .times .start)
+  start-timed = start-told (sound .times .table) (sound .times .tableUsable) (sound .times .inTable .start)

@@ -1,5 +1,5 @@
--- Laws that show the rules fit together, stated: what acceptance tells of a site, which refusals there are, how large a wait bound
--- can be, and that steps lead from valid states to valid states.
+-- Laws that show the rules fit together, stated: what a table of limits has to give, what acceptance tells of a site, which refusals
+-- there are, how large a wait bound can be, and that steps lead from valid states to valid states.
 use Prim.Native.Nat.{ℕ, _+_, _*_, _≤_, _<_}
 use mathlib.Core.Bool.{Bool, true, false, _&&_, _||_}
 use mathlib.Core.List.{List}
@@ -24,13 +24,13 @@ use Rattle.rules.specs.Step.{stepped}
 use Rattle.rules.specs.WaitBound.{phaseShare, waitBound}
 use Rattle.rules.specs.Call.{strayInput, callVerdict}
 
--- ── What acceptance tells ──
+-- ── A table of limits ──
 
 -- a value that the table admits for the setting
 abbrev pub InTable : List Range → ℕ → ℕ → Type 0
 InTable table setting value = (limitOf table setting .low ≤ value) × (value ≤ limitOf table setting .high)
 
-pub record SoundPhaseTimes (table : List Range) (times : PhaseTimes) : Type 0 where
+pub record PhaseTimesIn (table : List Range) (times : PhaseTimes) : Type 0 where
   pub late : InTable table phaseSettings (times .late)
   pub minimum : InTable table (phaseSettings + 1) (times .minimum)
   pub maximum : InTable table (phaseSettings + 2) (times .maximum)
@@ -38,16 +38,71 @@ pub record SoundPhaseTimes (table : List Range) (times : PhaseTimes) : Type 0 wh
   pub yellow : InTable table (phaseSettings + 4) (times .yellow)
   pub red : InTable table (phaseSettings + 5) (times .red)
 
-pub record SoundWalkTimes (table : List Range) (times : WalkTimes) : Type 0 where
+pub record WalkTimesIn (table : List Range) (times : WalkTimes) : Type 0 where
   pub walk : InTable table walkSettings (times .walk)
   pub first : InTable table (walkSettings + 1) (times .first)
   pub second : InTable table (walkSettings + 2) (times .second)
 
 -- every time setting of a site of that size is in the table
-pub record SoundTimes (table : List Range) (size : Size) (times : Times) : Type 0 where
+pub record TimesIn (table : List Range) (size : Size) (times : Times) : Type 0 where
   pub start : InTable table startRedSetting (times .start)
-  pub phase : (p : ℕ) → p < size .phases → SoundPhaseTimes table (phaseTimes times p)
-  pub walk : (k : ℕ) → k < size .movements → SoundWalkTimes table (walkTimes times k)
+  pub phase : (p : ℕ) → p < size .phases → PhaseTimesIn table (phaseTimes times p)
+  pub walk : (k : ℕ) → k < size .movements → WalkTimesIn table (walkTimes times k)
+
+unfoldable pub highest : List Range → ℕ → ℕ
+highest table setting = limitOf table setting .high
+
+-- the times of a phase and of a movement where every setting is the highest
+unfoldable pub highestPhase : List Range → PhaseTimes
+highestPhase table =
+    record {
+      late = highest table phaseSettings;
+      minimum = highest table (phaseSettings + 1);
+      maximum = highest table (phaseSettings + 2);
+      gap = highest table (phaseSettings + 3);
+      yellow = highest table (phaseSettings + 4);
+      red = highest table (phaseSettings + 5);
+    }
+
+unfoldable pub highestWalk : List Range → WalkTimes
+highestWalk table =
+    record {
+      walk = highest table walkSettings;
+      first = highest table (walkSettings + 1);
+      second = highest table (walkSettings + 2);
+    }
+
+unfoldable pub greatestShare : List Range → ℕ
+greatestShare table =
+    let longest = highestWalk table in
+    phaseShare (highestPhase table) (longest .walk + longest .first) (longest .second)
+
+-- the wait bound of seven such phases
+unfoldable pub greatestWait : List Range → ℕ
+greatestWait table = highest table startRedSetting + 7 * greatestShare table
+
+-- late start and gap
+unfoldable pub mayBeZero : ℕ → Bool
+mayBeZero setting = eqb setting phaseSettings || eqb setting (phaseSettings + 3)
+
+-- an age can reach the setting, and it is one step at least unless it may be 0
+unfoldable pub timely : List Range → ℕ → Bool
+timely table setting = leb (highest table setting) highestAge && (mayBeZero setting || leb 1 (limitOf table setting .low))
+
+-- What the guarantees and the code need of a table, as a test: each setting is such a one, and the greatest wait is a number of two bytes.
+unfoldable pub usable : List Range → Bool
+usable table = allOf (timely table) settingCount && leb (greatestWait table) 65535
+
+abbrev pub TableIsUsable : Type 0
+TableIsUsable = usable limits ≡ true
+
+-- ── What acceptance tells ──
+
+-- all times of a site of that size are in one table, and the table is usable
+pub record SoundTimes (size : Size) (times : Times) : Type 0 where
+  pub table : List Range
+  pub tableUsable : usable table ≡ true
+  pub inTable : TimesIn table size times
 
 -- the one phase of a movement
 abbrev pub OnePhase : Site → ℕ → Type 0
@@ -58,7 +113,7 @@ pub record Sound (site : Site) : Type 0 where
   pub groups : (1 ≤ site .size .groups) × (site .size .groups ≤ 32)
   pub detectors : site .size .detectors ≤ 48
   pub movements : site .size .movements ≤ 8
-  pub times : SoundTimes limits (site .size) (site .times)
+  pub times : SoundTimes (site .size) (site .times)
   -- groups, detectors and movements are of phases that exist, and each phase has a group
   pub groupPhase : (g p : ℕ) → inPhase (site .groups) g p ≡ true → (g < site .size .groups) × (p < site .size .phases)
   pub groupMark : (g : ℕ) → groupOf (site .groups) g .mark ≤ 2
@@ -83,6 +138,9 @@ pub record Sound (site : Site) : Type 0 where
 
 unfoldable pub AcceptedIsSound : Type 0
 AcceptedIsSound = (b : List ℕ) → verdictOf b ≡ Accepted → Sound (siteOf b)
+
+unfoldable pub AcceptedIsInTable : Type 0
+AcceptedIsInTable = (b : List ℕ) → verdictOf b ≡ Accepted → TimesIn limits (siteOf b .size) (siteOf b .times)
 
 -- ── Refusals ──
 
@@ -127,57 +185,8 @@ RefusalIsWritten =
 
 -- ── The wait bound ──
 
-unfoldable pub highest : List Range → ℕ → ℕ
-highest table setting = limitOf table setting .high
-
--- the times of a phase and of a movement where every setting is the highest
-unfoldable pub highestPhase : List Range → PhaseTimes
-highestPhase table =
-    record {
-      late = highest table phaseSettings;
-      minimum = highest table (phaseSettings + 1);
-      maximum = highest table (phaseSettings + 2);
-      gap = highest table (phaseSettings + 3);
-      yellow = highest table (phaseSettings + 4);
-      red = highest table (phaseSettings + 5);
-    }
-
-unfoldable pub highestWalk : List Range → WalkTimes
-highestWalk table =
-    record {
-      walk = highest table walkSettings;
-      first = highest table (walkSettings + 1);
-      second = highest table (walkSettings + 2);
-    }
-
-unfoldable pub greatestShare : List Range → ℕ
-greatestShare table =
-    let longest = highestWalk table in
-    phaseShare (highestPhase table) (longest .walk + longest .first) (longest .second)
-
--- the wait bound of seven such phases
-unfoldable pub greatestWait : List Range → ℕ
-greatestWait table = highest table startRedSetting + 7 * greatestShare table
-
 unfoldable pub WaitIsInTable : Type 0
 WaitIsInTable = (b : List ℕ) → verdictOf b ≡ Accepted → waitBound (siteOf b) ≤ greatestWait limits
-
--- ── The table of limits ──
-
--- late start and gap
-unfoldable pub mayBeZero : ℕ → Bool
-mayBeZero setting = eqb setting phaseSettings || eqb setting (phaseSettings + 3)
-
--- an age can reach the setting, and it is one step at least unless it may be 0
-unfoldable pub timely : List Range → ℕ → Bool
-timely table setting = leb (highest table setting) highestAge && (mayBeZero setting || leb 1 (limitOf table setting .low))
-
--- What every guarantee needs of a table, as a test: each setting is such a one, and the greatest wait is a number of two bytes.
-unfoldable pub usable : List Range → Bool
-usable table = allOf (timely table) settingCount && leb (greatestWait table) 65535
-
-abbrev pub TableIsUsable : Type 0
-TableIsUsable = usable limits ≡ true
 
 -- ── Valid states ──
 

@@ -9,8 +9,10 @@ use native.Mathlib.Numerals.{add-one}
 use native.Mathlib.Omega.{arith}
 use borrow.Author.Tests.{eqb-true, eqb-false}
 use lib.Dec.{eqb}
+use Rattle.rules.specs.declared.site.Site.{Site}
 use Rattle.rules.specs.declared.state.Held.the-variants.{Nothing, Phase}
 use Rattle.rules.specs.Rows.{listOf}
+use Rattle.rules.specs.Site.{ring}
 use Rattle.rules.specs.Demands.{after, before, firstIn}
 use Rattle.rules.proofs.Tests.{decided}
 use Rattle.step_demands.specs.Letters.{run, others}
@@ -137,14 +139,15 @@ unfolding firstIn run
 runs-same f g a zero c d m h k same = run-same f g c d m k same
 runs-same f g a (suc b) c d m h k same = rw (same a (omega arith), runs-same f g (suc a) b c d m (omega arith) k same)
 
--- the search from a phase on
-pub next-same :
-    (f g : ℕ → Bool) (p n m : ℕ) →
-    p < n →
-    n ≤ m →
-    ((q : ℕ) → q < m → f q ≡ g q) →
-    firstIn f (others p n)
-    ≡ firstIn g (others p n)
-next-same f g p n m h k same =
+-- The search from a phase on along the ring of a site, which is in letter order. No other proof looks at the order.
+pub ring-same :
+    (site : Site) (f g : ℕ → Bool) (p : ℕ) →
+    p < site .size .phases →
+    site .size .phases ≤ 7 →
+    ((q : ℕ) → q < 7 → f q ≡ g q) →
+    firstIn f (others p (site .size .phases)) ≡ firstIn g (after p (ring site) ++ before p (ring site))
+unfolding ring
+ring-same site f g p h k same =
+    let n = site .size .phases in
     rw (letters-after p n h, letters-before p n h)
-    (runs-same f g (p + 1) (n - (p + 1)) 0 (p - 0) m (omega arith) (omega arith) same)
+    (runs-same f g (p + 1) (n - (p + 1)) 0 (p - 0) 7 (omega arith) (omega arith) same)

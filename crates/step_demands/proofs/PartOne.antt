@@ -13,7 +13,6 @@ use Rattle.rules.specs.declared.state.Held.{Held}
 use Rattle.rules.specs.declared.state.State.{State}
 use Rattle.rules.specs.Bytes.{bit}
 use Rattle.rules.specs.Rows.{listOf}
-use Rattle.rules.specs.Site.{ring}
 use Rattle.rules.specs.State.{locked, asked}
 use Rattle.rules.specs.Demands.{calling, locking, extending, detectedAmong, detected, inGreen, registersLock, registersButton, calls, demandsAfter, movementDemands, stands, demanded, firstIn, nextDemanded}
 use Rattle.rules.specs.Laws.{Sound}
@@ -25,7 +24,7 @@ use Rattle.step_demands.specs.declared.detectors.Sensed.{Sensed}
 use Rattle.step_demands.specs.Letters.{others}
 use Rattle.step_demands.specs.Sensed.{SensedBy}
 use Rattle.step_demands.specs.Asked.{askedOf}
-use Rattle.step_demands.proofs.Letters.{next-same}
+use Rattle.step_demands.proofs.Letters.{ring-same}
 
 module _
     (site : Site) (s : State) (inputs : ℕ) (sensed : Sensed) (waiting : ℕ)
@@ -80,11 +79,11 @@ module _
             ∙ ap (λ (d : Demands). stands site d p || calls site s inputs p) standing-told)
 
         next-told : next ≡ nextDemanded site s inputs
-        unfolding nextDemanded ring
+        unfolding nextDemanded
         next-told =
             searched
-            ∙ next-same (λ p. getD locks p false || bit p (bitOr crossed (bitAnd (sensed .calls) waiting)))
-            (demanded site s inputs) (s .position .phase) (site .size .phases) 7 on (sound .phases .1) demanded-told
+            ∙ ring-same site (λ p. getD locks p false || bit p (bitOr crossed (bitAnd (sensed .calls) waiting)))
+            (demanded site s inputs) (s .position .phase) on (sound .phases .1) demanded-told
 
         extended-told : sensed .extended ≡ detected extending site inputs (s .position .phase)
         unfolding detected

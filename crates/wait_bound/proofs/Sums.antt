@@ -10,12 +10,11 @@ use lib.ListN.{getD}
 use Rattle.rules.specs.declared.site.PhaseTimes.{PhaseTimes}
 use Rattle.rules.specs.declared.site.Size.{Size}
 use Rattle.rules.specs.declared.site.Times.{Times}
-use Rattle.rules.specs.Limits.{limits}
 use Rattle.rules.specs.Rows.{sumOf}
-use Rattle.rules.specs.Site.{noPhaseTimes, phaseTimes}
+use Rattle.rules.specs.Site.{noPhaseTimes, phaseTimes, walkTimes}
 use Rattle.rules.specs.WaitBound.{phaseShare, longestWalk, longestClearance, waitBoundBy}
 use Rattle.rules.specs.Laws.{SoundTimes}
-use Rattle.rules.proofs.Settings.{table-is-usable, wait-two-bytes}
+use Rattle.rules.proofs.Settings.{walk-told, wait-two-bytes}
 use Rattle.proof_acceptance.proofs.WaitBound.{wait-within}
 
 -- ── Sums ──
@@ -44,10 +43,23 @@ shareAt owns longest p = phaseShare (getD owns p noPhaseTimes) (getD longest p 0
 pub bound-fits :
     (size : Size) (times : Times) (crossings : List ℕ) →
     size .phases ≤ 7 →
-    SoundTimes limits size times →
+    SoundTimes size times →
     waitBoundBy size times crossings ≤ 65535
 bound-fits size times crossings few sound =
-    le-trans (wait-within limits size times crossings sound few) (wait-two-bytes limits table-is-usable)
+    le-trans
+    (wait-within (sound .table) size times crossings (sound .inTable) few)
+    (wait-two-bytes (sound .table) (sound .tableUsable))
+
+-- W and C1 of a movement are each no more than an age
+pub walk-fits :
+    (size : Size) (times : Times) →
+    SoundTimes size times →
+    (k : ℕ) →
+    k < size .movements →
+    walkTimes times k .walk + walkTimes times k .first ≤ 65535
+walk-fits size times sound k l =
+    let own = walk-told (sound .table) (sound .tableUsable) (sound .inTable .walk k l) in
+    omega arith
 
 module _
     (size : Size)
@@ -65,7 +77,7 @@ module _
         ap (λ (n : ℕ). times .start + n)
         (ap (sumOf shares) e ∙ sum-same shares _ (size .phases) (λ p l. let own = each p (omega arith) in rw (own .0, own .1)))
 
-    pub shares-fit : SoundTimes limits size times → (p : ℕ) → p < size .phases → times .start + sumOf shares p + shares p ≤ 65535
+    pub shares-fit : SoundTimes size times → (p : ℕ) → p < size .phases → times .start + sumOf shares p + shares p ≤ 65535
     shares-fit sound p l =
         omega (
           arith,

@@ -7,9 +7,8 @@ ghost use mathlib.Core.Path.{_≡_};
 ghost use lib.Dec.{ltb};
 ghost use lib.ListN.{getD};
 ghost use Rattle.rules.specs.Bytes.{bit};
-ghost use Rattle.rules.specs.Limits.{limits};
 ghost use Rattle.rules.specs.WaitBound.{phaseShare, longestWalk, longestClearance, waitBoundBy};
-ghost use Rattle.rules.specs.Laws.{SoundWalkTimes, SoundTimes};
+ghost use Rattle.rules.specs.Laws.{SoundTimes};
 ghost use Rattle.rules.specs.Site.{noWalkTimes};
 use rules::site::PhaseTimes;
 use rules::site::Size;
@@ -45,7 +44,7 @@ fn sets_of(crossings: [u8; 8], count: u8) -> u64
 // A and C of each phase among the first count movements: A of phase p at p, C at 8 + p. Each turn takes the lowest bit that is left, so a
 // movement has a turn for each of its phases.
 fn longest_of(crossings: [u8; 8], walks: [WalkTimes; 8], count: u8) -> [u16; 16]
-    requires { ⌜ (count ≤ 8) × ((k : ℕ) → k < count → SoundWalkTimes limits (getD walks k noWalkTimes)) ⌝ }
+    requires { ⌜ (count ≤ 8) × ((k : ℕ) → k < count → getD walks k noWalkTimes .walk + getD walks k noWalkTimes .first ≤ 65535) ⌝ }
     ensures { λ r. ⌜ ((p : ℕ) → p < 8 → (getD r p 0 ≡ longestWalk crossings walks count p) × (getD r (8 + p) 0 ≡ longestClearance crossings walks count p)) ⌝ }
 {
     let mut longest = [0u16; 16];
@@ -73,7 +72,7 @@ fn share(times: PhaseTimes, walk: u16, clearance: u16) -> u16
 
 // The bound of a site, by the three parts of it that it goes by.
 pub fn wait_bound_of(size: Size, times: Times, crossings: [u8; 8]) -> u32
-    requires { ⌜ (size .phases ≤ 7) × (size .movements ≤ 8) × SoundTimes limits size times ⌝ }
+    requires { ⌜ (size .phases ≤ 7) × (size .movements ≤ 8) × SoundTimes size times ⌝ }
     ensures { λ r. ⌜ r ≡ waitBoundBy size times crossings ⌝ }
 {
     let owns = times.phases;

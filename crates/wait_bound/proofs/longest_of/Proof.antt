@@ -1,15 +1,11 @@
 -- `wait_bound::longest_of` meets its contract. The invariant: A and C of each phase are those of the movements that are passed, and the bits
--- of the rest are those that are left. The measure is the rest, which loses a bit a turn. W + C1 of a movement fits, since its times are
--- in the table.
+-- of the rest are those that are left. The measure is the rest, which loses a bit a turn. W + C1 of a movement fits, as is
+-- asked of each of the first count.
 use borrow.Author.Needs.{needs}
 use native.Mathlib.Omega.{arith}
 use Prim.Native.Nat.{_-_, _/_, _<_}
 use lib.Bits.{and-le-r}
 use lib.Count.{trailingZeros}
-use lib.ListN.{getD}
-use Rattle.rules.specs.Limits.{limits}
-use Rattle.rules.specs.Site.{noWalkTimes}
-use Rattle.rules.proofs.Settings.{Reached, table-is-usable, walk-told}
 use Rattle.wait_bound.proofs.Passes.{Passed, passed-none, passed-more, passed-all, at-within, movement-below}
 use Rattle.wait_bound.proofs.longest_of.Statement.{statement}
 use Rattle.wait_bound.proofs.longest_of.Tie as tie
@@ -37,15 +33,12 @@ Turn = lts.In-loop (sets-of-reads.Asked, sets-of-reads.Learnt, greater-reads.Ask
 turn-within : (c : Turn) → trailingZeros 64 (c .before .loop .rest) < 64
 turn-within c = at-within (c .before .before .before .args .t2) (c .before .loop .inv) (omega (arith, c .loop-test .taken))
 
--- its movement is one of the first count, so an age can reach each of its times
-turn-reached : (c : Turn) → Reached (getD (c .before .before .before .args .t2) (trailingZeros 64 (c .before .loop .rest) / 8) noWalkTimes)
-turn-reached c =
-    let start = c .before .before .before in
-    let a = start .args in
-    walk-told limits table-is-usable
-    (start .pre .1 _
-    (movement-below (a .t2) (a .crossings) (a .count) (c .before .loop .inv) (c .before .before .sets-of .ensures)
-    (omega (arith, c .loop-test .taken))))
+-- its movement is one of the first count
+turn-below : (c : Turn) → trailingZeros 64 (c .before .loop .rest) / 8 < c .before .before .before .args .count
+turn-below c =
+    let a = c .before .before .before .args in
+    movement-below (a .t2) (a .crossings) (a .count) (c .before .loop .inv) (c .before .before .sets-of .ensures)
+    (omega (arith, c .loop-test .taken))
 
 cast-i : tie.Need-cast-i Inv-loop μ-loop
 cast-i c = omega (arith, turn-within c)
@@ -63,7 +56,10 @@ array-read-greater : tie.Need-array-read-greater Inv-loop μ-loop
 array-read-greater c = search needs
 
 add-greater : tie.Need-add-greater Inv-loop μ-loop
-add-greater c = let times = turn-reached (c .before .before) in search needs
+add-greater c =
+    let turn = c .before .before in
+    let fits = turn .before .before .before .pre .1 _ (turn-below turn) in
+    search needs
 
 greater-requires : tie.Need-greater-requires Inv-loop μ-loop
 greater-requires c κs = search needs

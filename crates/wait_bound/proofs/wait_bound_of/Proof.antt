@@ -8,7 +8,7 @@ use borrow.Author.Needs.{needs}
 use Rattle.rules.specs.Rows.{sumOf}
 use Rattle.rules.specs.Site.{walkTimes}
 use Rattle.rules.specs.WaitBound.{waitBoundBy}
-use Rattle.wait_bound.proofs.Sums.{shareAt, all-shares, bound-fits, shares-fit}
+use Rattle.wait_bound.proofs.Sums.{shareAt, all-shares, bound-fits, walk-fits, shares-fit}
 use Rattle.wait_bound.proofs.wait_bound_of.Statement.{statement}
 use Rattle.wait_bound.proofs.wait_bound_of.Tie as tie
 use Rattle.wait_bound.proofs.wait_bound_of.Reads as reads
@@ -24,7 +24,9 @@ abbrev μ-loop : tie.MeasureT-loop
 
 longest-of-requires : tie.Need-longest-of-requires Inv-loop μ-loop
 unfolding walkTimes
-longest-of-requires c κs = search needs
+longest-of-requires c κs =
+    let start = c .before .before in
+    (start .pre .1, walk-fits (start .args .size) (start .args .times) (start .pre .2))
 
 loop-holds : tie.Need-loop-holds Inv-loop μ-loop
 unfolding sumOf
