@@ -83,6 +83,9 @@ colourOf groups closes position movements g =
     then movementColour (getD movements (movementOf groups g) idle .stage)
     else vehicleShown closes position (groupOf groups g)
 
+-- what group g shows in a state
+unfoldable pub shownIn : Site → State → ℕ → ℕ
+shownIn site s = colourOf (site .groups) (closing (site .times) (s .position)) (s .position) (s .movements)
+
 unfoldable pub coloursOf : Site → State → List ℕ
-coloursOf site s =
-    listOf (colourOf (site .groups) (closing (site .times) (s .position)) (s .position) (s .movements)) (site .size .groups)
+coloursOf site s = listOf (shownIn site s) (site .size .groups)
