@@ -17,8 +17,9 @@ use Rattle.rules.specs.Site.{siteOf}
 use Rattle.rules.specs.State.{valid}
 use Rattle.rules.specs.Step.{stepped}
 use Rattle.rules.specs.Colours.{shownIn, coloursOf}
-use Rattle.rules.specs.Call.{strayInput, stepVerdict, callVerdict, answerFor, bufferFor, answerOf, bufferOf}
-use Rattle.rules.specs.Runs.{ruled, Call, Taken, takenFrom, ifStepped, accepted, shows}
+use Rattle.rules.specs.Call.{strayInput, stepVerdict, boundFor, handedBack, bufferFor}
+use Rattle.rules.specs.Runs.{Call, Taken, takenFrom, ifStepped, accepted, shows}
+use Rattle.rules.specs.Scanning.{scanVerdict, scanning}
 use Rattle.rules.proofs.Rows.{list-length, list-at}
 use Rattle.rules.proofs.Verdicts.{or-first, or-later, refuse-passed}
 use Rattle.proof_runs.proofs.Linked.{Linked}
@@ -46,10 +47,10 @@ front-shown site s rest g h =
 
 module _ (b : List ℕ) (s : State) (inputs room : ℕ) where
   -- a call that is accepted has a valid state and no stray input
-  pub accepted-told : callVerdict b s inputs room ≡ Accepted → (valid (siteOf b) s ≡ true) × (strayInput (siteOf b) inputs ≡ false)
-  unfolding callVerdict stepVerdict
+  pub accepted-told : scanVerdict b s inputs room ≡ Accepted → (valid (siteOf b) s ≡ true) × (strayInput (siteOf b) inputs ≡ false)
+  unfolding scanVerdict stepVerdict
   accepted-told e =
-      let checks = or-later (verdictOf b) (stepVerdict (siteOf b) s inputs room) e in
+      let checks = or-later (verdictOf b) (stepVerdict (siteOf b) (valid (siteOf b) s) inputs room) e in
       let first = refuseIf (not (valid (siteOf b) s)) 13 0 in
       let second = refuseIf (strayInput (siteOf b) inputs) 15 0 in
       let third = refuseIf (ltb room (siteOf b .size .groups)) 14 0 in (
@@ -65,13 +66,13 @@ module _ (b : List ℕ) (s : State) (c : Call) where
         before = s;
         inputs = c .inputs;
         room = length (c .buffer);
-        outcome = answerFor v (siteOf b) s (c .inputs) .outcome;
-        after = answerFor v (siteOf b) s (c .inputs) .state;
-        shown = bufferFor v (siteOf b) s (c .inputs) (c .buffer);
+        outcome = boundFor v (siteOf b);
+        after = handedBack v (stepped (siteOf b) s (c .inputs)) s;
+        shown = bufferFor v (siteOf b) (stepped (siteOf b) s (c .inputs)) (c .buffer);
       }
 
-  accepted-link : callVerdict b s (c .inputs) (length (c .buffer)) ≡ Accepted → Link (siteOf b) s (takenFor Accepted)
-  unfolding takenFor answerFor bufferFor shows
+  accepted-link : scanVerdict b s (c .inputs) (length (c .buffer)) ≡ Accepted → Link (siteOf b) s (takenFor Accepted)
+  unfolding takenFor boundFor handedBack bufferFor shows
   accepted-link e =
       let told = accepted-told b s (c .inputs) (length (c .buffer)) e in
       record {
@@ -85,17 +86,17 @@ module _ (b : List ℕ) (s : State) (c : Call) where
   -- the steps of a call with such a verdict and of the calls after it
   linked-for :
       (v : Verdict) →
-      callVerdict b s (c .inputs) (length (c .buffer)) ≡ v →
+      scanVerdict b s (c .inputs) (length (c .buffer)) ≡ v →
       (later : State → List Taken) →
       ((t : State) → Chain (siteOf b) t (later t)) →
       Chain (siteOf b) s (ifStepped (takenFor v .outcome) (takenFor v) (later (takenFor v .after)))
-  unfolding ifStepped answerFor takenFor
+  unfolding ifStepped boundFor handedBack takenFor
   linked-for Accepted e later rest = (accepted-link e, rest (stepped (siteOf b) s (c .inputs)))
   linked-for (Refused number place) e later rest = rest s
 
 -- The accepted steps of any list of calls from any state are a chain.
-pub chained : (b : List ℕ) (s : State) (calls : List Call) → Chain (siteOf b) s (accepted (takenFrom ruled b s calls))
-unfolding ruled takenFrom accepted answerOf bufferOf takenFor
+pub chained : (b : List ℕ) (s : State) (calls : List Call) → Chain (siteOf b) s (accepted (takenFrom scanning b s calls))
+unfolding scanning takenFrom accepted takenFor
 chained b s [] = tt
 chained b s (c ∷ calls) =
-    linked-for b s c (callVerdict b s (c .inputs) (length (c .buffer))) refl (λ (t : State). accepted (takenFrom ruled b t calls)) (λ t. chained b t calls)
+    linked-for b s c (scanVerdict b s (c .inputs) (length (c .buffer))) refl (λ (t : State). accepted (takenFrom scanning b t calls)) (λ t. chained b t calls)
