@@ -73,7 +73,7 @@ module _
     red-clears c s [] h row since =
         ⊎-elim
         (λ (row′ : Stopped site j p (suc c) (start .after .position)).
-        absurd (barred site g j apart start later greenG s since (stopped-member site j p (suc c) (start .after .position) row′)))
+        absurd (barred site g j apart start later greenG s since (stopped-member row′)))
         (λ over. (0, omega (arith, over .0), refl))
         (stopped-on site j p times s start (since .run .0 .taken) c row)
     red-clears c s (step ∷ steps) h row since =
@@ -84,7 +84,7 @@ module _
           omega (arith, more .1),
           ap₂ _∷_
               (shown s step (since .run .0)
-              ∙ stopped-shows site j p (suc c) (step .after .position) row′
+              ∙ stopped-shows row′
               ∙ rw (lt-leb (suc c) (phaseTimes (site .times) p .yellow) (omega arith)))
               (more .2),
         ))

@@ -3,17 +3,27 @@ use Prim.Native.Nat.{ℕ, _<_}
 use native.Mathlib.Omega.{arith}
 use mathlib.Core.Bool.{Bool, true, false}
 use mathlib.Core.Path.{_≡_, refl, _∙_}
+use lib.Dec.{eqb}
 use Rattle.rules.specs.declared.site.Site.{Site}
+use Rattle.rules.specs.declared.state.Held.{Held}
 use Rattle.rules.specs.declared.state.Position.{Position}
 use Rattle.rules.specs.declared.state.Stage.{Stage}
 use Rattle.rules.specs.declared.state.Stage.the-variants.{Idle, Walk, ClearanceOne, ClearanceTwo}
 use Rattle.rules.specs.declared.state.State.{State}
 use Rattle.rules.specs.Rows.{if_then_else_}
 use Rattle.rules.specs.Site.{groupOf, inPhase, isPedestrian, movementOf}
+use Rattle.rules.specs.Intervals.{heldIn}
 use Rattle.rules.specs.State.{movement}
 use Rattle.rules.specs.Colours.{red, green, closing, vehicleColour, movementColour, vehicleShown, colourOf, shownIn}
 use Rattle.rules.specs.Runs.{Taken, shows}
 use Rattle.proof_runs.proofs.Chains.{Link}
+
+-- group g has the phase held in its set
+abbrev pub keeps : Site → ℕ → Held → Bool
+keeps site g held = heldIn held (groupOf (site .groups) g .phases)
+
+abbrev pub stopsEarly : Site → ℕ → Bool
+stopsEarly site g = eqb (groupOf (site .groups) g .mark) 3
 
 -- the colour of a vehicle group at a position, by whether groups that stop early are closing
 abbrev pub vehicleBy : Site → ℕ → Bool → Position → ℕ

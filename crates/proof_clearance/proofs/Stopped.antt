@@ -5,7 +5,7 @@ use native.Mathlib.Omega.{arith}
 use mathlib.Core.Bool.{Bool, true, false, not, _||_}
 use mathlib.Core.Logic.{_⊎_, inl, inr, ⊎-elim}
 use mathlib.Core.Path.{_≡_, refl}
-use lib.Dec.{leb, eqb}
+use lib.Dec.{leb}
 use borrow.Author.Tests.{le-leb, lt-leb, not-true, not-false}
 use Rattle.rules.specs.declared.site.Site.{Site}
 use Rattle.rules.specs.declared.state.Held.{Held}
@@ -14,7 +14,7 @@ use Rattle.rules.specs.declared.state.Interval.the-variants.{StartRed, LateStar
 use Rattle.rules.specs.declared.state.Position.{Position}
 use Rattle.rules.specs.Rows.{if_then_else_}
 use Rattle.rules.specs.Site.{groupOf, inPhase, phaseTimes}
-use Rattle.rules.specs.Intervals.{isEarly, heldIn}
+use Rattle.rules.specs.Intervals.{isEarly}
 use Rattle.rules.specs.State.{highestAge}
 use Rattle.rules.specs.Movements.{older}
 use Rattle.rules.specs.Interval.{entering, following, staying}
@@ -22,51 +22,39 @@ use Rattle.rules.specs.Colours.{red, yellow, green, sinceCutOff, closing, vehic
 use Rattle.rules.proofs.Tests.{decided, or-right, or-false-left, or-false-right}
 use Rattle.rules.proofs.Settings.{Timed}
 use Rattle.proof_runs.proofs.Ends.{by-early}
-use Rattle.proof_clearance.proofs.Shown.{vehicleAt}
-use Rattle.proof_clearance.proofs.VehicleColours.{closingAt, green-stays, target-green, at}
+use Rattle.proof_clearance.proofs.Shown.{keeps, stopsEarly, vehicleAt}
+use Rattle.proof_clearance.proofs.VehicleColours.{closingAt, green-stays, target-green}
 
--- ── Where a group is stopped ──
+-- ── How long a group has been stopped ──
 
-abbrev stopsEarly : Site → ℕ → Bool
-stopsEarly site j = eqb (groupOf (site .groups) j .mark) 3
-
--- how many steps before yellow group j of phase p is stopped
+-- for how many steps group j of phase p has been stopped when yellow begins, and when it ends
 abbrev pub ahead : Site → ℕ → ℕ → ℕ
 ahead site j p = if stopsEarly site j then phaseTimes (site .times) p .early else 0
 
--- all of early cut-off green, or none of it
-pub ahead-told : (site : Site) (j p : ℕ) → let early = phaseTimes (site .times) p .early in (ahead site j p ≤ early) × (1 ≤ ahead site j p → ahead site j p ≡ early)
-ahead-told site j p = told (stopsEarly site j) (phaseTimes (site .times) p .early)
-  where
-    told : (test : Bool) (early : ℕ) → let d = if test then early else 0 in (d ≤ early) × (1 ≤ d → d ≡ early)
-    told true early = (omega arith, λ some. refl)
-    told false early = (omega arith, λ some. omega arith)
+abbrev pub yellowOver : Site → ℕ → ℕ → ℕ
+yellowOver site j p = ahead site j p + phaseTimes (site .times) p .yellow
 
--- ── How long it has been stopped ──
-
--- Phase p of group j is being left, for a target that is not in its set, in an interval that begins when the group has been stopped for
--- so many steps before; with the age it has been stopped for c.
+-- Phase p of group j is being left, for a target that is not in its set. The group had been stopped for so many steps before the
+-- interval, and for c by now.
 pub record Leaving (site : Site) (j p : ℕ) (i : Interval) (before c : ℕ) (position : Position) : Type 0 where
   pub phase : position .phase ≡ p
   pub interval : position .interval ≡ i
   pub member : inPhase (site .groups) j p ≡ true
-  pub apart : heldIn (position .target) (groupOf (site .groups) j .phases) ≡ false
+  pub apart : keeps site j (position .target) ≡ false
   pub age : before + position .age ≡ c
 
 -- At a position group j of phase p has been stopped for c steps.
 pub data Stopped (site : Site) (j p c : ℕ) (position : Position) : Type 0 where
-  in-early : Leaving site j p EarlyCutOff 0 c position → 1 ≤ c → c ≤ ahead site j p → Stopped site j p c position
-  in-yellow :
-      Leaving site j p Yellow (ahead site j p) c position →
-      c ≤ ahead site j p + phaseTimes (site .times) p .yellow →
+  in-early :
+      stopsEarly site j ≡ true →
+      Leaving site j p EarlyCutOff 0 c position →
+      c ≤ phaseTimes (site .times) p .early →
       Stopped site j p c position
-  in-red :
-      Leaving site j p AllRed (ahead site j p + phaseTimes (site .times) p .yellow) c position →
-      ahead site j p + phaseTimes (site .times) p .yellow < c →
-      Stopped site j p c position
+  in-yellow : Leaving site j p Yellow (ahead site j p) c position → c ≤ yellowOver site j p → Stopped site j p c position
+  in-red : Leaving site j p AllRed (yellowOver site j p) c position → yellowOver site j p < c → Stopped site j p c position
 
-module _ (site : Site) (j p c : ℕ) (position : Position) where
-  module _ (i : Interval) (before : ℕ) (row : Leaving site j p i before c position) where
+module _ {site : Site} {j p c : ℕ} {position : Position} where
+  module _ {i : Interval} {before : ℕ} (row : Leaving site j p i before c position) where
     leaving-member : inPhase (site .groups) j (position .phase) ≡ true
     leaving-member = rw (row .phase) (row .member)
 
@@ -77,39 +65,36 @@ module _ (site : Site) (j p c : ℕ) (position : Position) where
         record { phase = row .phase; interval = row .interval; member = row .member; apart = row .apart; age = omega (arith, row .age) }
 
     -- the next interval of the phase
-    pub leaving-enters : (next : Interval) (before : ℕ) → before ≡ c → Leaving site j p next before (suc c) (entering next (position .target) position)
+    pub leaving-enters : (next : Interval) {now : ℕ} → now ≡ c → Leaving site j p next now (suc c) (entering next (position .target) position)
     unfolding entering
-    leaving-enters next before h = record { phase = row .phase; interval = refl; member = row .member; apart = row .apart; age = omega arith }
+    leaving-enters next h = record { phase = row .phase; interval = refl; member = row .member; apart = row .apart; age = omega arith }
 
   -- the phase is still one of the group's
   pub stopped-member : Stopped site j p c position → inPhase (site .groups) j (position .phase) ≡ true
-  stopped-member (in-early row some most) = leaving-member _ _ row
-  stopped-member (in-yellow row most) = leaving-member _ _ row
-  stopped-member (in-red row more) = leaving-member _ _ row
+  stopped-member (in-early mark row most) = leaving-member row
+  stopped-member (in-yellow row most) = leaving-member row
+  stopped-member (in-red row more) = leaving-member row
 
   -- in all-red it is red, closing or not
-  pub all-red-closed : (before : ℕ) → Leaving site j p AllRed before c position → closingAt site j position ≡ red
+  pub all-red-closed : {before : ℕ} → Leaving site j p AllRed before c position → closingAt site j position ≡ red
   unfolding vehicleColour
-  all-red-closed before row = rw (row .phase, row .member, row .interval, row .apart)
+  all-red-closed row = rw (row .phase, row .member, row .interval, row .apart)
 
   -- yellow up to Y, and then red
   pub stopped-shows :
       Stopped site j p c position → vehicleAt site j position ≡ (if leb c (phaseTimes (site .times) p .yellow) then yellow else red)
   unfolding vehicleColour closing sinceCutOff isEarly
-  stopped-shows (in-early row some most) =
+  stopped-shows (in-early mark row most) =
       let same : position .age ≡ c = omega arith in
-      ⊎-elim
-      (λ (m : stopsEarly site j ≡ true). rw (row .phase, row .member, row .interval, row .apart, m, same))
-      (λ (m : stopsEarly site j ≡ false). absurd (omega (arith, rw m at most)))
-      (decided (stopsEarly site j))
+      rw (row .phase, row .member, row .interval, row .apart, mark, same)
   stopped-shows (in-yellow row most) =
       ⊎-elim
-      (λ (m : stopsEarly site j ≡ true).
-      let same : phaseTimes (site .times) p .early + position .age ≡ c = rw m at (row .age) in
-      rw (row .phase, row .member, row .interval, row .apart, m, same) (alone (leb c (phaseTimes (site .times) p .yellow))))
-      (λ (m : stopsEarly site j ≡ false).
-      let none : ahead site j p ≡ 0 = rw m in
-      rw (row .phase, row .member, row .interval, row .apart, m, or-right _ refl, le-leb c (phaseTimes (site .times) p .yellow) (omega arith)))
+      (λ (mark : stopsEarly site j ≡ true).
+      let same : phaseTimes (site .times) p .early + position .age ≡ c = rw mark at (row .age) in
+      rw (row .phase, row .member, row .interval, row .apart, mark, same) (alone (leb c (phaseTimes (site .times) p .yellow))))
+      (λ (mark : stopsEarly site j ≡ false).
+      let none : ahead site j p ≡ 0 = rw mark in
+      rw (row .phase, row .member, row .interval, row .apart, mark, or-right _ refl, le-leb c (phaseTimes (site .times) p .yellow) (omega arith)))
       (decided (stopsEarly site j))
     where
       alone : (closes : Bool) → (if closes || false then yellow else red) ≡ (if closes then yellow else red)
@@ -121,64 +106,60 @@ module _ (site : Site) (j p c : ℕ) (position : Position) where
 -- ── What follows green ──
 
 module _
-    (site : Site) (j : ℕ) (next : Held) (p age : ℕ) (came target : Held) (times : Timed (phaseTimes (site .times) p))
-    (member : inPhase (site .groups) j p ≡ true)
-  where
-    abbrev Goes : Position → Type 0
-    Goes after = (closingAt site j after ≡ green) ⊎ Stopped site j p 1 after
+    (site : Site) (j : ℕ) (next : Held) (position : Position) (times : Timed (phaseTimes (site .times) (position .phase)))
+    (member : inPhase (site .groups) j (position .phase) ≡ true) where
+  -- green again, or stopped
+  abbrev Goes : Position → Type 0
+  Goes after = (closingAt site j after ≡ green) ⊎ Stopped site j (position .phase) 1 after
 
-    -- yellow begins, and a group that is not to stay green has not been stopped before
-    into-yellow :
-        (i : Interval) (to : Held) →
-        (heldIn to (groupOf (site .groups) j .phases) ≡ false → ahead site j p ≡ 0) →
-        Goes (entering Yellow to (at p i age came target))
-    unfolding entering vehicleColour
-    into-yellow i to none =
-        ⊎-elim
-        (λ (h : heldIn to (groupOf (site .groups) j .phases) ≡ true). inl (rw (member, h)))
-        (λ (h : heldIn to (groupOf (site .groups) j .phases) ≡ false).
-        inr
-        (in-yellow
-        (record { phase = refl; interval = refl; member = member; apart = h; age = omega (arith, none h) })
-        (omega (arith, times .yellow))))
-        (decided (heldIn to (groupOf (site .groups) j .phases)))
+  begins :
+      (i : Interval) (target : Held) {before : ℕ} →
+      keeps site j target ≡ false →
+      before ≡ 0 →
+      Leaving site j (position .phase) i before 1 (entering i target position)
+  unfolding entering
+  begins i target apart none = record { phase = refl; interval = refl; member = member; apart = apart; age = omega arith }
 
-    -- early cut-off green begins
-    into-early : (i : Interval) (to : Held) → 1 ≤ phaseTimes (site .times) p .early → Goes (entering EarlyCutOff to (at p i age came target))
-    unfolding entering vehicleColour
-    into-early i to some =
-        let held = heldIn to (groupOf (site .groups) j .phases) in
-        let early = stopsEarly site j in
-        ⊎-elim
-        (λ (h : (held || not early) ≡ true). inl (rw (member, h)))
-        (λ (h : (held || not early) ≡ false).
-        let mark = not-false early (or-false-right held (not early) h) in
-        inr
-        (in-early
-        (record { phase = refl; interval = refl; member = member; apart = or-false-left held (not early) h; age = omega arith })
-        (omega arith)
-        (rw mark some)))
-        (decided (held || not early))
+  -- yellow begins, and a group that has not the target has not been stopped before
+  into-yellow : (target : Held) → (keeps site j target ≡ false → ahead site j (position .phase) ≡ 0) → Goes (entering Yellow target position)
+  unfolding entering vehicleColour
+  into-yellow target none =
+      ⊎-elim
+      (λ (h : keeps site j target ≡ true). inl (rw (member, h)))
+      (λ (h : keeps site j target ≡ false). inr (in-yellow (begins Yellow target h (none h)) (omega (arith, times .yellow))))
+      (decided (keeps site j target))
 
-    -- green is followed by green, or the group is stopped
-    pub green-follows :
-        (i : Interval) →
-        vehicleColour i true came target (groupOf (site .groups) j) ≡ green →
-        Goes (following i (site .times) next (at p i age came target))
-    unfolding following entering vehicleColour
-    green-follows StartRed e = absurd (omega arith)
-    green-follows LateStart e = inl (rw member)
-    green-follows MinimumGreen e = inl (rw member)
-    green-follows Running e =
-        by-early Goes (site .times) next (at p Running age came target)
-        (λ none. into-yellow Running next (λ h. omega (arith, ahead-told site j p .0)))
-        (λ some. into-early Running next (omega arith))
-    green-follows EarlyCutOff e =
-        let held = heldIn target (groupOf (site .groups) j .phases) in
-        let stays = green-stays (held || not (stopsEarly site j)) yellow (λ (z : yellow ≡ green). omega arith) e in
-        into-yellow EarlyCutOff target (λ h. rw (not-true (stopsEarly site j) (rw h at stays)))
-    green-follows Yellow e =
-        inl (rw (member, green-stays (heldIn target (groupOf (site .groups) j .phases)) yellow (λ (z : yellow ≡ green). omega arith) e))
-    green-follows AllRed e =
-        let held = green-stays (heldIn target (groupOf (site .groups) j .phases)) red (λ (z : red ≡ green). omega arith) e in
-        inl (target-green site j (site .times) p target member held)
+  -- early cut-off green begins
+  into-early : (target : Held) → (phaseTimes (site .times) (position .phase) .early ≡ 0 → ⊥) → Goes (entering EarlyCutOff target position)
+  unfolding entering vehicleColour
+  into-early target some =
+      let kept = keeps site j target in
+      let stays = not (stopsEarly site j) in
+      ⊎-elim
+      (λ (h : (kept || stays) ≡ true). inl (rw (member, h)))
+      (λ (h : (kept || stays) ≡ false).
+      let mark = not-false (stopsEarly site j) (or-false-right kept stays h) in
+      inr (in-early mark (begins EarlyCutOff target (or-false-left kept stays h) refl) (omega arith)))
+      (decided (kept || stays))
+
+  pub green-follows :
+      (i : Interval) →
+      vehicleColour i true (position .came) (position .target) (groupOf (site .groups) j) ≡ green →
+      Goes (following i (site .times) next position)
+  unfolding following entering vehicleColour
+  green-follows StartRed e = absurd (omega arith)
+  green-follows LateStart e = inl (rw member)
+  green-follows MinimumGreen e = inl (rw member)
+  green-follows Running e =
+      by-early Goes (site .times) next position (λ none. into-yellow next (λ h. rw none (either (stopsEarly site j)))) (into-early next)
+    where
+      either : (early : Bool) → _≡_ {A = ℕ} (if early then 0 else 0) 0
+      either true = refl
+      either false = refl
+  green-follows EarlyCutOff e =
+      let stays = green-stays (keeps site j (position .target) || not (stopsEarly site j)) yellow (λ (z : yellow ≡ green). omega arith) e in
+      into-yellow (position .target) (λ h. rw (not-true (stopsEarly site j) (rw h at stays)))
+  green-follows Yellow e = inl (rw (member, green-stays (keeps site j (position .target)) yellow (λ (z : yellow ≡ green). omega arith) e))
+  green-follows AllRed e =
+      let kept = green-stays (keeps site j (position .target)) red (λ (z : red ≡ green). omega arith) e in
+      inl (target-green site j (site .times) (position .phase) (position .target) member kept)

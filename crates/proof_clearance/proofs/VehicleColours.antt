@@ -19,7 +19,7 @@ use Rattle.rules.specs.Site.{groupOf, inPhase, phaseTimes}
 use Rattle.rules.specs.Intervals.{heldIn, phaseHeld}
 use Rattle.rules.specs.Interval.{entering, starting, leaving, following}
 use Rattle.rules.specs.Colours.{red, yellow, green, vehicleColour}
-use Rattle.proof_clearance.proofs.Shown.{vehicleBy, vehicleAt}
+use Rattle.proof_clearance.proofs.Shown.{keeps, stopsEarly, vehicleBy, vehicleAt}
 
 -- ── Closing, and what is shown ──
 
@@ -78,10 +78,14 @@ pub green-stays : (stays : Bool) (colour : ℕ) → (colour ≡ green → ⊥) �
 green-stays true colour other e = refl
 green-stays false colour other e = absurd (other e)
 
--- red where the phase's groups are not tells that the group is not of the phase, and so it is red in the next interval too
-red-outside : (ofPhase : Bool) (here there : ℕ) → (here ≡ red → ⊥) → (if ofPhase then here else red) ≡ red → (if ofPhase then there else red) ≡ red
-red-outside true here there other e = absurd (other e)
-red-outside false here there other e = refl
+-- red in an interval where no group of the phase is red tells that this one is none, and so it is red in the next interval too
+red-outside :
+    (ofPhase : Bool) {here : ℕ} (there : ℕ) →
+    (here ≡ red → ⊥) →
+    (if ofPhase then here else red) ≡ red →
+    (if ofPhase then there else red) ≡ red
+red-outside true there other e = absurd (other e)
+red-outside false there other e = refl
 
 -- ── The start of a phase ──
 
@@ -106,39 +110,41 @@ unfolding vehicleColour
 started-either true came group = inr refl
 started-either false came group = chosen (eqb (group .mark) 1 && not (heldIn came (group .phases))) (inl refl) (inr refl)
 
--- the target starts green where it and the phase that was left are in the set
-pub target-green :
-    (site : Site) (j : ℕ) (times : Times) (p : ℕ) (target : Held) →
-    inPhase (site .groups) j p ≡ true →
-    heldIn target (groupOf (site .groups) j .phases) ≡ true →
-    closingAt site j (starting times (phaseHeld target) (Phase p)) ≡ green
-unfolding heldIn phaseHeld inPhase starting
-target-green site j times p Nothing m h = absurd (true≢false (sym h))
-target-green site j times p (Phase q) m h = rw h (started-green (eqb (phaseTimes times q .late) 0) (Phase p) (groupOf (site .groups) j) m)
+module _ (site : Site) (j : ℕ) (times : Times) where
+  -- the target starts green where it and the phase that was left are in the set
+  pub target-green :
+      (p : ℕ) (target : Held) →
+      inPhase (site .groups) j p ≡ true →
+      keeps site j target ≡ true →
+      closingAt site j (starting times (phaseHeld target) (Phase p)) ≡ green
+  unfolding heldIn phaseHeld inPhase starting
+  target-green p Nothing m h = absurd (true≢false (sym h))
+  target-green p (Phase q) m h = rw h (started-green (eqb (phaseTimes times q .late) 0) (Phase p) (groupOf (site .groups) j) m)
 
--- ── What follows red ──
-
-abbrev pub at : ℕ → Interval → ℕ → Held → Held → Position
-at p interval age came target = record { phase = p; interval = interval; age = age; came = came; target = target }
-
-module _ (site : Site) (j : ℕ) (times : Times) (next : Held) (p age : ℕ) (came target : Held) where
-  pub red-follows :
-      (i : Interval) →
-      closingAt site j (at p i age came target) ≡ red →
-      RedOrGreen (closingAt site j (following i times next (at p i age came target)))
-  unfolding following leaving entering starting vehicleColour
-  red-follows StartRed e =
+  start-either : (p : ℕ) (came : Held) → RedOrGreen (closingAt site j (starting times p came))
+  unfolding starting
+  start-either p came =
       chosen (inPhase (site .groups) j p) (started-either (eqb (phaseTimes times p .late) 0) came (groupOf (site .groups) j)) (inl refl)
-  red-follows LateStart e = chosen (inPhase (site .groups) j p) (inr refl) (inl refl)
-  red-follows MinimumGreen e = chosen (inPhase (site .groups) j p) (inr refl) (inl refl)
-  red-follows Running e = inl (red-outside (inPhase (site .groups) j p) green _ (λ (z : green ≡ red). omega arith) e)
-  red-follows EarlyCutOff e = inl (red-outside (inPhase (site .groups) j p) _ _ (not-red (heldIn target (groupOf (site .groups) j .phases) || not (eqb (groupOf (site .groups) j .mark) 3))) e)
-    where
-      not-red : (stays : Bool) → (if stays then green else yellow) ≡ red → ⊥
-      not-red true e = omega arith
-      not-red false e = omega arith
-  red-follows Yellow e =
-      chosen (inPhase (site .groups) j p) (chosen (heldIn target (groupOf (site .groups) j .phases)) (inr refl) (inl refl)) (inl refl)
-  red-follows AllRed e =
-      let q = phaseHeld target in
-      chosen (inPhase (site .groups) j q) (started-either (eqb (phaseTimes times q .late) 0) (Phase p) (groupOf (site .groups) j)) (inl refl)
+
+  -- ── What follows red ──
+
+  module _ (next : Held) (position : Position) where
+    abbrev ofPhase : Bool
+    ofPhase = inPhase (site .groups) j (position .phase)
+
+    pub red-follows :
+        (i : Interval) →
+        (if ofPhase then vehicleColour i true (position .came) (position .target) (groupOf (site .groups) j) else red) ≡ red →
+        RedOrGreen (closingAt site j (following i times next position))
+    unfolding following leaving entering vehicleColour
+    red-follows StartRed e = start-either (position .phase) (position .came)
+    red-follows LateStart e = chosen ofPhase (inr refl) (inl refl)
+    red-follows MinimumGreen e = chosen ofPhase (inr refl) (inl refl)
+    red-follows Running e = inl (red-outside ofPhase _ (λ (z : green ≡ red). omega arith) e)
+    red-follows EarlyCutOff e = inl (red-outside ofPhase _ (not-red (keeps site j (position .target) || not (stopsEarly site j))) e)
+      where
+        not-red : (stays : Bool) → (if stays then green else yellow) ≡ red → ⊥
+        not-red true e = omega arith
+        not-red false e = omega arith
+    red-follows Yellow e = chosen ofPhase (chosen (keeps site j (position .target)) (inr refl) (inl refl)) (inl refl)
+    red-follows AllRed e = start-either (phaseHeld (position .target)) (Phase (position .phase))
