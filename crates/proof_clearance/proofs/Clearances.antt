@@ -47,18 +47,18 @@ module _
     abbrev Red : State → Type 0
     Red s = closingAt site j (s .position) ≡ red
 
-    fades : (s : State) → Fades (vehicleAt site j (s .position)) (closingAt site j (s .position))
-    fades s = shown-fades site j (s .position)
+    fades : (s : State) (step : Taken) → ValidLink site s step → Fades (shows step j) (closingAt site j (step .after .position))
+    fades s step link = rw (shown s step link) (shown-fades site j (step .after .position))
 
     yellow-falls : (n : ℕ) → Leads site j (Yellows (suc n)) (Yellows n) yellow
     yellow-falls n s step link other left =
-        let fall = yellows-fall site j p times s step (link .taken) n left (λ e. other (shown s step link ∙ fades (step .after) .green e)) in
+        let fall = yellows-fall site j p times s step (link .taken) n left (λ e. other (fades s step link .green e)) in
         (fall .0, shown s step link ∙ fall .1)
 
     red-rests : Leads site j Red Red red
     red-rests s step link other e =
-        let kept = red-stays site s step (link .taken) j e (λ e. other (shown s step link ∙ fades (step .after) .green e)) in
-        (kept, shown s step link ∙ fades (step .after) .red kept)
+        let kept = red-stays site s step (link .taken) j e (λ e. other (fades s step link .green e)) in
+        (kept, fades s step link .red kept)
 
     -- from Y on it shows red, and has been stopped for Y + R before the start
     red-clears :
@@ -94,7 +94,7 @@ module _
     vehicle-cleared :
         (s : State) (steps : List Taken) →
         s .position .phase ≡ p →
-        vehicleAt site j (s .position) ≡ green →
+        closingAt site j (s .position) ≡ green →
         Since site j start later s steps →
         (n : ℕ)
         × (phaseTimes (site .times) p .red ≤ n)
@@ -107,7 +107,7 @@ module _
         (phaseTimes (site .times) p .yellow)
         s
         steps
-        (in-green here (fades s .was-green e) refl)
+        (in-green here e refl)
         since in
         let y = phaseTimes (site .times) p .yellow in
         let reds = red-clears y (down .0) (down .1) (omega arith) (yellows-over site j p times (down .0 .position) (down .2)) (down .3) in
@@ -190,7 +190,7 @@ module _
       by-kind false kind =
           let p = last .after .position .phase in
           let times = phase-timed site sound p (link .there .phase) in
-          rw kind (vehicle-cleared kind p times (last .after) steps refl (sym (shown kind p times s last link) ∙ e) since)
+          rw kind (vehicle-cleared kind p times (last .after) steps refl (fades kind p times s last link .was-green e) since)
 
 -- ── Runs ──
 

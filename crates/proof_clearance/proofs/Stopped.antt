@@ -94,7 +94,8 @@ module _ {site : Site} {j p c : ℕ} {position : Position} where
       rw (row .phase, row .member, row .interval, row .apart, mark, same) (alone (leb c (phaseTimes (site .times) p .yellow))))
       (λ (mark : stopsEarly site j ≡ false).
       let none : ahead site j p ≡ 0 = rw mark in
-      rw (row .phase, row .member, row .interval, row .apart, mark, or-right _ refl, le-leb c (phaseTimes (site .times) p .yellow) (omega arith)))
+      let within = le-leb c (phaseTimes (site .times) p .yellow) (omega arith) in
+      rw (row .phase, row .member, row .interval, row .apart, mark, or-right _ refl, within))
       (decided (stopsEarly site j))
     where
       alone : (closes : Bool) → (if closes || false then yellow else red) ≡ (if closes then yellow else red)
@@ -121,7 +122,8 @@ module _
   begins i target apart none = record { phase = refl; interval = refl; member = member; apart = apart; age = omega arith }
 
   -- yellow begins, and a group that has not the target has not been stopped before
-  into-yellow : (target : Held) → (keeps site j target ≡ false → ahead site j (position .phase) ≡ 0) → Goes (entering Yellow target position)
+  into-yellow :
+      (target : Held) → (keeps site j target ≡ false → ahead site j (position .phase) ≡ 0) → Goes (entering Yellow target position)
   unfolding entering vehicleColour
   into-yellow target none =
       ⊎-elim

@@ -1,5 +1,5 @@
--- The colours of a vehicle group from one interval to the next, apart from how long yellow lasts: a group is taken as closing, and
--- shows red in place of that yellow at the most. Red is followed by red or green, and a group whose set has the target stays green.
+-- The colours of a vehicle group from one interval to the next, with groups that stop early taken as closing: what is shown differs from
+-- that only where such a group's yellow has turned to red. Red is followed by red or green; one that has the target starts it in green.
 use Prim.Native.Nat.{ℕ}
 use native.Mathlib.Omega.{arith}
 use mathlib.Core.Bool.{Bool, true, false, not, _&&_, _||_, true≢false}
@@ -23,7 +23,7 @@ use Rattle.proof_clearance.proofs.Shown.{keeps, stopsEarly, vehicleBy, 
 
 -- ── Closing, and what is shown ──
 
--- A group shows what it would while closing, or red in place of yellow: green and red are then the same.
+-- What is shown, and what would be while closing, are the same, or red is shown in place of yellow.
 pub record Fades (shown closing : ℕ) : Type 0 where
   pub was-green : shown ≡ green → closing ≡ green
   pub green : closing ≡ green → shown ≡ green
@@ -32,7 +32,7 @@ pub record Fades (shown closing : ℕ) : Type 0 where
 same : {colour : ℕ} → Fades colour colour
 same = record { was-green = λ e. e; green = λ e. e; red = λ e. e }
 
--- a group that stays green does so, and one that is closing is yellow
+-- a group that stays green, or is yellow while it closes and then red
 by-closing : (stays closes : Bool) → Fades (if stays then green else if closes then yellow else red) (if stays then green else yellow)
 by-closing true closes = same
 by-closing false true = same
@@ -51,7 +51,7 @@ colour-fades EarlyCutOff closes came target group = by-closing (heldIn target (g
 colour-fades Yellow closes came target group = by-closing (heldIn target (group .phases)) (closes || not (eqb (group .mark) 3))
 colour-fades AllRed closes came target group = same
 
--- while group j is closing, or would be
+-- what group j would show while closing
 abbrev pub closingAt : Site → ℕ → Position → ℕ
 closingAt site j position = vehicleBy site j true position
 

@@ -91,12 +91,13 @@ module _ (site : Site) (j p : ℕ) (times : Timed (phaseTimes (site .times) p)) 
   abbrev settings : PhaseTimes
   settings = phaseTimes (site .times) p
 
-  -- an interval that leaves the phase ends by its times
+  -- the interval that leaves the phase ends by its times
   leaving-ends :
       {i : Interval} {before c : ℕ} →
       Leaving site j p i before c (s .position) →
       ended site s (step .inputs)
-      ≡ ends i (site .times .start) settings (s .position .age) (another site s (step .inputs)) (moving site s (step .inputs)) (counted site s (step .inputs))
+      ≡ ends i (site .times .start) settings (s .position .age) (another site s (step .inputs)) (moving site s (step .inputs))
+      (counted site s (step .inputs))
   leaving-ends {i} row = ended-in site s (step .inputs) i (row .interval) ∙ rw (row .phase)
 
   -- after a step it has been stopped for one step more, unless it has been for Y + R and is red
@@ -120,7 +121,8 @@ module _ (site : Site) (j p : ℕ) (times : Timed (phaseTimes (site .times) p)) 
       (λ (less : s .position .age < settings .red).
       inl (at-end site s step link (Stopped site j p (suc c))
       (λ over.
-      absurd (omega (arith, leb-true (settings .red) (s .position .age) (and-left (leb (settings .red) (s .position .age)) _ (sym (leaving-ends row) ∙ over)))))
+      let past = and-left (leb (settings .red) (s .position .age)) _ (sym (leaving-ends row) ∙ over) in
+      absurd (omega (arith, leb-true (settings .red) (s .position .age) past)))
       (λ still. in-red (leaving-stays row (omega (arith, times .red))) (omega arith))))
       (λ (most : settings .red ≤ s .position .age). inr (omega arith, all-red-closed row))
       (below-or-past (s .position .age) (settings .red))
