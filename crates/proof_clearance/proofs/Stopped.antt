@@ -4,7 +4,7 @@ use Prim.Native.Nat.{ℕ, suc, _+_, _≤_, _<_}
 use native.Mathlib.Omega.{arith}
 use mathlib.Core.Bool.{Bool, true, false, not, _||_}
 use mathlib.Core.Logic.{_⊎_, inl, inr, ⊎-elim}
-use mathlib.Core.Path.{_≡_, refl}
+use mathlib.Core.Path.{_≡_, refl, ap}
 use lib.Dec.{leb}
 use borrow.Author.Tests.{le-leb, lt-leb, not-true, not-false}
 use Rattle.rules.specs.declared.site.Site.{Site}
@@ -80,18 +80,26 @@ module _ {site : Site} {j p c : ℕ} {position : Position} where
   unfolding vehicleColour
   all-red-closed row = rw (row .phase, row .member, row .interval, row .apart)
 
+  -- where the steps since early cut-off green began are those since the group was stopped, it is closing up to Y
+  closes-by :
+      {i : Interval} {before : ℕ} →
+      Leaving site j p i before c position →
+      sinceCutOff i (phaseTimes (site .times) p) (position .age) ≡ c →
+      closing (site .times) position ≡ leb c (phaseTimes (site .times) p .yellow)
+  unfolding closing
+  closes-by row e = rw (row .phase, row .interval) (ap (λ (n : ℕ). leb n (phaseTimes (site .times) p .yellow)) e)
+
   -- yellow up to Y, and then red
   pub stopped-shows :
       Stopped site j p c position → vehicleAt site j position ≡ (if leb c (phaseTimes (site .times) p .yellow) then yellow else red)
-  unfolding vehicleColour closing sinceCutOff isEarly
+  unfolding vehicleColour sinceCutOff isEarly
   stopped-shows (in-early mark row most) =
-      let same : position .age ≡ c = omega arith in
-      rw (row .phase, row .member, row .interval, row .apart, mark, same)
+      rw (closes-by row (omega (arith, row .age)), row .phase, row .member, row .interval, row .apart, mark)
   stopped-shows (in-yellow row most) =
       ⊎-elim
       (λ (mark : stopsEarly site j ≡ true).
-      let same : phaseTimes (site .times) p .early + position .age ≡ c = rw mark at (row .age) in
-      rw (row .phase, row .member, row .interval, row .apart, mark, same) (alone (leb c (phaseTimes (site .times) p .yellow))))
+      rw (closes-by row (rw mark at (row .age)), row .phase, row .member, row .interval, row .apart, mark)
+      (alone (leb c (phaseTimes (site .times) p .yellow))))
       (λ (mark : stopsEarly site j ≡ false).
       let none : ahead site j p ≡ 0 = rw mark in
       let within = le-leb c (phaseTimes (site .times) p .yellow) (omega arith) in
