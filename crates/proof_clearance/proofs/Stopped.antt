@@ -121,6 +121,7 @@ module _
   abbrev Goes : Position → Type 0
   Goes after = (closingAt site j after ≡ green) ⊎ Stopped site j (position .phase) 1 after
 
+  -- the first step of an interval in which the group is stopped
   begins :
       (i : Interval) (target : Held) {before : ℕ} →
       keeps site j target ≡ false →
