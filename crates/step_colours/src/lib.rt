@@ -116,7 +116,7 @@ fn vehicle(closes: bool, position: Position, group: Group) -> u8
 fn since_cut_off(interval: Interval, times: PhaseTimes, age: u16) -> u32
     ensures { λ r. ⌜ r ≡ sinceCutOff interval times age ⌝ }
 {
-    let before = if base_intervals::early(interval) {
+    let before: u16 = if base_intervals::early(interval) {
         0
     } else {
         times.early

@@ -82,19 +82,19 @@ returns-6 : tie.Need-returns-6
 unfolding vehicleColour
 returns-6 c =
     let asked = c .before .before in
-    rw (asked .before .enum-told5 .given .1, sym (asked .held-in2 .ensures)) (c .of-leaving .ensures)
+    rw (asked .before .enum-told5 .given .1, c .of-leaving .ensures, asked .held-in2 .ensures)
 
 returns-7 : tie.Need-returns-7
 unfolding vehicleColour
 returns-7 c =
     let asked = c .before in
-    rw (asked .before .before .enum-told6 .given .1, sym (asked .held-in3 .ensures)) (c .of-leaving2 .ensures)
+    rw (asked .before .before .enum-told6 .given .1, c .of-leaving2 .ensures, asked .held-in3 .ensures)
 
 returns-8 : tie.Need-returns-8
 unfolding vehicleColour
 returns-8 c =
     let asked = c .before in
-    rw (asked .before .enum-told7 .given .1, sym (asked .held-in4 .ensures)) (c .of-leaving3 .ensures)
+    rw (asked .before .enum-told7 .given .1, c .of-leaving3 .ensures, asked .held-in4 .ensures)
 
 pub of-group-spec : {M : Type 1} → statement M
 of-group-spec =
