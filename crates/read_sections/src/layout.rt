@@ -1,7 +1,11 @@
 // Where the sections of a personality stand.
+ghost use Prim.Native.Nat.{_≤_};
+ghost use mathlib.Core.Path.{_≡_};
+ghost use Rattle.rules.specs.Personality.{bodyLength};
 ghost use Rattle.read_sections.specs.Laid.{Laid};
 use base_reads::byte;
 use base_reads::two;
+use base_reads::two_in;
 
 // The counts P and N, the heads of kinds 3 to 6, and where kind 6 ends. The heads of kinds 1 and 2 are at 0 and 8.
 pub struct Layout {
@@ -14,6 +18,17 @@ pub struct Layout {
     pub end: usize,
 }
 
+// The body length at a head, all of which need not be there; nearly always it is, and one test tells.
+fn length_at(s: &[u8], head: usize) -> usize
+    requires { ⌜ head ≤ 100000 ⌝ }
+    ensures { λ r. ⌜ (r ≡ bodyLength (now (s .entry)) head) × (r ≤ 65535) ⌝ }
+{
+    if head + 2 <= s.len() {
+        return two_in(s, head) as usize;
+    }
+    two(s, head) as usize
+}
+
 // The layout that the counts and the body lengths give, whether or not the sections are there: a byte past the end reads as 0.
 pub fn laid_out(s: &[u8]) -> Layout
     ensures { λ r. ⌜ Laid (now (s .entry)) r ⌝ }
@@ -23,8 +38,8 @@ pub fn laid_out(s: &[u8]) -> Layout
     let groups = 12 + (p as usize) * 12;
     let conflicts = groups + 4 + (n as usize) * 2;
     let detectors = conflicts + 4 + (n as usize) * 4;
-    let pedestrians = detectors + 4 + (two(s, detectors) as usize);
-    let end = pedestrians + 4 + (two(s, pedestrians) as usize);
+    let pedestrians = detectors + 4 + length_at(s, detectors);
+    let end = pedestrians + 4 + length_at(s, pedestrians);
     Layout {
         p,
         n,

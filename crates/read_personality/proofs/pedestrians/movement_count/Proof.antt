@@ -4,7 +4,7 @@ use Prim.Native.Nat.{_+_, _-_, _≤_}
 use mathlib.Core.Logic.{⊎-elim}
 use mathlib.Core.Path.{_≡_, refl, sym, _∙_, ap}
 use borrow.Author.Tests.{eq-eqb, ne-eqb}
-use Rattle.rules.specs.Personality.{bodyAt, recordAt, conflictsHead, groupMark, pedestrian, pedestriansBefore, movementCount}
+use Rattle.rules.specs.Personality.{bodyAt, conflictsHead, groupMark, pedestrian, pedestriansBefore, movementCount}
 use Rattle.rules.specs.Rows.{countOf}
 use Rattle.rules.proofs.Counts.{count-one-more, count-as-before}
 use Rattle.rules.proofs.Rows.{count-most}
