@@ -5,19 +5,19 @@ use mathlib.Core.Bool.{Bool, true, false, _&&_, _||_}
 use mathlib.Core.List.{List, [], _∷_, _++_, append-assoc}
 use mathlib.Core.Logic.{⊎-elim}
 use mathlib.Core.Path.{_≡_, refl, sym, ap, subst⁻¹, _∙_}
-use native.Mathlib.Nat.{add-zero}
+use native.Mathlib.Nat.{add-zero, zero-add, le-of-suc-le-suc, not-suc-le-zero}
 use native.Mathlib.Omega.{arith}
 use lib.Dec.{ltb, eqb}
-use lib.ListN.{length, getD, length-append}
-use borrow.Author.Tests.{lt-ltb, ltb-true, eqb-true}
+use lib.ListN.{length, getD, length-append, List·getD-eq-default}
+use borrow.Author.Tests.{lt-ltb, ltb-true, ltb-false, eqb-true}
 use Rattle.rules.specs.declared.state.Held.{Held}
 use Rattle.rules.specs.declared.state.Held.the-variants.{Nothing, Phase}
 use Rattle.rules.specs.Bytes.{byteAt, twoAt}
 use Rattle.rules.specs.Intervals.{isHeld, phaseHeld}
 use Rattle.rules.specs.Rows.{if_then_else_, allOf, listOf}
 use Rattle.rules.proofs.Rows.{all-each, all-at, list-length, list-at}
-use Rattle.rules.proofs.Tests.{and-left, and-right, and-both, or-cases}
-use Rattle.board_forms.specs.Forms.{Form, Table, byte, two, coded, flagCode, flag, heldKnown, heldOf, held, partsOf, row, placed, both, made, AreBytes}
+use Rattle.rules.proofs.Tests.{decided, and-left, and-right, and-both, or-cases}
+use Rattle.board_forms.specs.Forms.{Form, Table, byte, two, coded, flags, flagCode, flag, heldKnown, heldOf, held, partsOf, row, placed, both, made, AreBytes}
 use Rattle.board_forms.proofs.Parts.{first-byte, second-byte, part, part-one, part-two, part-more, parts-joined, parts-same, parts-length, record-within, listed, no-bytes, one-more, bytes-joined, parts-bytes}
 
 -- The bytes of a value stand from a start on, counted from the place that is given.
@@ -63,39 +63,51 @@ two-law =
       proper = λ b at bytes. omega (arith, bytes .each at, bytes .each (at + 1));
     }
 
--- the codes are the places in the list
-pub coded-law :
-    {A : Type 0} (all : List A) (first : A) (code : A → ℕ) →
-    length all ≤ 256 →
-    ((a : A) → code a < length all) →
-    ((a : A) → getD all (code a) first ≡ a) →
-    ((x : ℕ) → x < length all → code (getD all x first) ≡ x) →
-    Lawful (coded all first code) 0
-coded-law all first code few within back same =
-    record {
-      sized = λ a. refl;
-      passes = λ a p q at e. rw (first-byte p q (code a) at (omega arith)) (lt-ltb (code a) (length all) (within a));
-      back = λ a p q at l e. rw (first-byte p q (code a) at (omega arith)) (back a);
-      same = λ b at bytes room known. rw (add-zero at, same (byteAt b at) (ltb-true (byteAt b at) (length all) known)) (part-one b at (omega arith));
-      bytes = λ a l. one-more (omega (arith, within a)) no-bytes;
-      proper = λ b at bytes. record {};
-    }
+-- the codes of a list are the numbers from n on
+unfoldable pub inOrder : {A : Type 0} → (A → ℕ) → ℕ → List A → Bool
+inOrder code n [] = true
+inOrder code n (a ∷ l) = eqb (code a) n && inOrder code (suc n) l
 
-flag-within : (f : Bool) → flagCode f < 2
-flag-within true = omega arith
-flag-within false = omega arith
+module _ {A : Type 0} (first : A) (code : A → ℕ) where
+  order-at : (l : List A) (n x : ℕ) → inOrder code n l ≡ true → x < length l → code (getD l x first) ≡ n + x
+  unfolding inOrder
+  order-at [] n x h k = absurd (not-suc-le-zero k)
+  order-at (a ∷ l) n zero h k = eqb-true (code a) n (and-left (eqb (code a) n) (inOrder code (suc n) l) h) ∙ sym (add-zero n)
+  order-at (a ∷ l) n (suc x) h k =
+      order-at l (suc n) x (and-right (eqb (code a) n) (inOrder code (suc n) l) h) (le-of-suc-le-suc k) ∙ omega arith
 
-flag-back : (f : Bool) → getD (false ∷ true ∷ []) (flagCode f) false ≡ f
+  module _ (all : List A) (few : length all ≤ 256) (starts : code first < length all) (back : (a : A) → getD all (code a) first ≡ a) where
+    -- past the list stands the first
+    code-within : (a : A) → code a < length all
+    code-within a =
+        ⊎-elim
+        (λ (e : ltb (code a) (length all) ≡ true). ltb-true (code a) (length all) e)
+        (λ (e : ltb (code a) (length all) ≡ false).
+        let same : a ≡ first = sym (back a) ∙ List·getD-eq-default all first (ltb-false (code a) (length all) e) in
+        rw same starts)
+        (decided (ltb (code a) (length all)))
+
+    -- a value by its code: the codes are the places in the list of all
+    pub coded-law : inOrder code 0 all ≡ true → Lawful (coded all first code) 0
+    coded-law order =
+        record {
+          sized = λ a. refl;
+          passes = λ a p q at e. rw (first-byte p q (code a) at (omega arith)) (lt-ltb (code a) (length all) (code-within a));
+          back = λ a p q at l e. rw (first-byte p q (code a) at (omega arith)) (back a);
+          same = λ b at bytes room known.
+              rw (add-zero at, order-at all 0 (byteAt b at) order (ltb-true (byteAt b at) (length all) known), zero-add (byteAt b at))
+              (part-one b at (omega arith));
+          bytes = λ a l. one-more (omega (arith, code-within a)) no-bytes;
+          proper = λ b at bytes. record {};
+        }
+
+flag-back : (f : Bool) → getD flags (flagCode f) false ≡ f
 flag-back true = refl
 flag-back false = refl
 
-pub flag-same : (x : ℕ) → x < 2 → flagCode (getD (false ∷ true ∷ []) x false) ≡ x
-flag-same zero h = refl
-flag-same (suc zero) h = refl
-flag-same (suc (suc x)) h = absurd (omega arith)
-
 pub flag-law : Lawful flag 0
-flag-law = coded-law (false ∷ true ∷ []) false flagCode (omega arith) flag-within flag-back flag-same
+unfolding inOrder
+flag-law = coded-law false flagCode flags (omega arith) (omega arith) flag-back refl
 
 -- a known tag is 0 or 1
 pub tag-known : (tag phase : ℕ) → heldKnown tag phase ≡ true → tag < 2
@@ -140,7 +152,7 @@ held-law =
           let l : length p ≡ at = omega arith in
           rw (first-byte p (phaseHeld h ∷ q) (flagCode (isHeld h)) at l, second-byte p q (flagCode (isHeld h)) (phaseHeld h) at l) (held-back h);
       same = λ b at bytes room known. rw (add-zero at) (held-same (byteAt b at) (byteAt b (at + 1)) known ∙ part-two b at (omega arith));
-      bytes = λ h small. one-more (omega (arith, flag-within (isHeld h))) (one-more small no-bytes);
+      bytes = λ h small. one-more (omega (arith, code-within false flagCode flags (omega arith) (omega arith) flag-back (isHeld h))) (one-more small no-bytes);
       proper = λ b at bytes. held-proper (byteAt b at) (byteAt b (at + 1)) (bytes .each (at + 1));
     }
 

@@ -1,7 +1,7 @@
 -- Tags and flags at the places that the code reads, one byte after the other.
 use Prim.Native.Nat.{ℕ, zero, suc, _+_, _*_, _%_, _<_}
 use mathlib.Core.Bool.{Bool, true, false, _&&_}
-use mathlib.Core.List.{List, [], _∷_}
+use mathlib.Core.List.{List}
 use mathlib.Core.Path.{_≡_, refl}
 use native.Mathlib.Nat.{mul-one}
 use native.Mathlib.Omega.{arith}
@@ -9,11 +9,11 @@ use lib.Dec.{ltb, eqb}
 use lib.ListN.{getD}
 use Rattle.rules.specs.Bytes.{byteAt}
 use Rattle.rules.specs.Rows.{allOf, listOf}
-use Rattle.board_forms.specs.Forms.{held, flag, row}
+use Rattle.board_forms.specs.Forms.{held, flags, flag, row}
 use Rattle.board_forms.proofs.Lawful.{tag-known}
 
 -- the lowest bit is all of a flag
-pub flag-low : (x : ℕ) → x < 2 → eqb (x % 2) 1 ≡ getD (false ∷ true ∷ []) x false
+pub flag-low : (x : ℕ) → x < 2 → eqb (x % 2) 1 ≡ getD flags x false
 flag-low zero h = refl
 flag-low (suc zero) h = refl
 flag-low (suc (suc x)) h = absurd (omega arith)

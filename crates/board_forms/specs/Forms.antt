@@ -39,11 +39,14 @@ coded all first code =
       fits = λ x. record {};
     }
 
+abbrev pub flags : List Bool
+flags = false ∷ true ∷ []
+
 abbrev pub flagCode : Bool → ℕ
 flagCode flag = if flag then 1 else 0
 
 abbrev pub flag : Form Bool
-flag = coded (false ∷ true ∷ []) false flagCode
+flag = coded flags false flagCode
 
 -- a phase or none: a tag, 1 where a phase is held, and the phase, 0 where none is
 abbrev pub heldKnown : ℕ → ℕ → Bool

@@ -11,14 +11,14 @@ use rules::state::Held;
 // ---- Numbers ----
 
 pub fn put_byte(bytes: &mut [u8], at: usize, x: u8)
-    requires { ⌜ at + 1 ≤ length (now bytes) ⌝ }
+    requires { ⌜ at + byte .width ≤ length (now bytes) ⌝ }
     ensures { λ _. ⌜ now (bytes .exit) ≡ sets (now (bytes .entry)) at (byte .written x) ⌝ }
 {
     bytes[at] = x;
 }
 
 pub fn put_two(bytes: &mut [u8], at: usize, x: u16)
-    requires { ⌜ at + 2 ≤ length (now bytes) ⌝ }
+    requires { ⌜ at + two .width ≤ length (now bytes) ⌝ }
     ensures { λ _. ⌜ now (bytes .exit) ≡ sets (now (bytes .entry)) at (two .written x) ⌝ }
 {
     bytes[at] = (x % 256) as u8;
@@ -28,7 +28,7 @@ pub fn put_two(bytes: &mut [u8], at: usize, x: u16)
 // ---- A phase or none ----
 
 pub fn held_known(bytes: &[u8], at: usize) -> bool
-    requires { ⌜ at + 2 ≤ length (now bytes) ⌝ }
+    requires { ⌜ at + heldForm .width ≤ length (now bytes) ⌝ }
     ensures { λ r. ⌜ r ≡ heldForm .known (now (bytes .entry)) at ⌝ }
 {
     let tag = bytes[at];
@@ -36,7 +36,7 @@ pub fn held_known(bytes: &[u8], at: usize) -> bool
 }
 
 pub fn held(bytes: &[u8], at: usize) -> Held
-    requires { ⌜ (at + 2 ≤ length (now bytes)) × (heldForm .known (now bytes) at ≡ true) ⌝ }
+    requires { ⌜ (at + heldForm .width ≤ length (now bytes)) × (heldForm .known (now bytes) at ≡ true) ⌝ }
     ensures { λ r. ⌜ r ≡ heldForm .read (now (bytes .entry)) at ⌝ }
 {
     let phase = bytes[at + 1];
@@ -48,7 +48,7 @@ pub fn held(bytes: &[u8], at: usize) -> Held
 }
 
 pub fn put_held(bytes: &mut [u8], at: usize, h: Held)
-    requires { ⌜ at + 2 ≤ length (now bytes) ⌝ }
+    requires { ⌜ at + heldForm .width ≤ length (now bytes) ⌝ }
     ensures { λ _. ⌜ now (bytes .exit) ≡ sets (now (bytes .entry)) at (heldForm .written h) ⌝ }
 {
     bytes[at] = flag_code(base_intervals::held(h));

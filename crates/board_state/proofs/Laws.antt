@@ -1,5 +1,4 @@
 -- The laws of the layout's forms, table by table: each follows from the laws of its rows.
-use Prim.Native.Nat.{ℕ, zero, suc, _<_}
 use mathlib.Core.Bool.{false}
 use mathlib.Core.Path.{_≡_, refl}
 use native.Mathlib.Omega.{arith}
@@ -11,18 +10,10 @@ use Rattle.rules.specs.declared.state.Stage.the-variants.{Idle, Walk, Clearance
 use Rattle.rules.specs.Intervals.{intervalRow, intervals, stageRow, stages}
 use Rattle.rules.specs.State.{idle}
 use Rattle.board_forms.specs.Forms.{flag}
-use Rattle.board_forms.proofs.Lawful.{Lawful, byte-law, two-law, coded-law, flag-law, held-law, row-law, placed-law, both-law, made-law}
-use Rattle.board_state.specs.Layout.{interval, stage, positionRows, positionOf, position, countsRows, countsOf, counts, demandsRows, demandsOf, demands, movementRows, movementOf, movement, stateRows, stateOf, state}
+use Rattle.board_forms.proofs.Lawful.{Lawful, inOrder, byte-law, two-law, coded-law, flag-law, held-law, row-law, placed-law, both-law, made-law}
+use Rattle.board_state.specs.Layout.{interval, stage, positionRows, positionOf, position, countsRows, countsOf, counts, demandsRows, demandsOf, demands, movementRows, movementOf, movement, countsAt, demandsAt, movementsAt, stateRows, stateOf, state}
 
 -- ── Intervals and stages by their codes ──
-
-interval-within : (i : Interval) → intervalRow i .code < 6
-interval-within StartRed = omega arith
-interval-within LateStart = omega arith
-interval-within MinimumGreen = omega arith
-interval-within Running = omega arith
-interval-within Yellow = omega arith
-interval-within AllRed = omega arith
 
 interval-back : (i : Interval) → getD intervals (intervalRow i .code) StartRed ≡ i
 interval-back StartRed = refl
@@ -32,23 +23,9 @@ interval-back Running = refl
 interval-back Yellow = refl
 interval-back AllRed = refl
 
-interval-same : (x : ℕ) → x < 6 → intervalRow (getD intervals x StartRed) .code ≡ x
-interval-same zero h = refl
-interval-same (suc zero) h = refl
-interval-same (suc (suc zero)) h = refl
-interval-same (suc (suc (suc zero))) h = refl
-interval-same (suc (suc (suc (suc zero)))) h = refl
-interval-same (suc (suc (suc (suc (suc zero))))) h = refl
-interval-same (suc (suc (suc (suc (suc (suc x)))))) h = absurd (omega arith)
-
 interval-law : Lawful interval 0
-interval-law = coded-law intervals StartRed (λ i. intervalRow i .code) (omega arith) interval-within interval-back interval-same
-
-stage-within : (s : Stage) → stageRow s .code < 4
-stage-within Idle = omega arith
-stage-within Walk = omega arith
-stage-within ClearanceOne = omega arith
-stage-within ClearanceTwo = omega arith
+unfolding inOrder
+interval-law = coded-law StartRed (λ i. intervalRow i .code) intervals (omega arith) (omega arith) interval-back refl
 
 stage-back : (s : Stage) → getD stages (stageRow s .code) Idle ≡ s
 stage-back Idle = refl
@@ -56,15 +33,9 @@ stage-back Walk = refl
 stage-back ClearanceOne = refl
 stage-back ClearanceTwo = refl
 
-stage-same : (x : ℕ) → x < 4 → stageRow (getD stages x Idle) .code ≡ x
-stage-same zero h = refl
-stage-same (suc zero) h = refl
-stage-same (suc (suc zero)) h = refl
-stage-same (suc (suc (suc zero))) h = refl
-stage-same (suc (suc (suc (suc x)))) h = absurd (omega arith)
-
 stage-law : Lawful stage 0
-stage-law = coded-law stages Idle (λ s. stageRow s .code) (omega arith) stage-within stage-back stage-same
+unfolding inOrder
+stage-law = coded-law Idle (λ s. stageRow s .code) stages (omega arith) (omega arith) stage-back refl
 
 -- ── The layout, table by table ──
 
@@ -90,5 +61,5 @@ pub state-law : Lawful state 0
 state-law =
     made-law stateRows stateOf (λ s. refl) (λ a. refl)
     (both-law (placed-law 0 position-law)
-    (both-law (placed-law 8 counts-law)
-    (both-law (placed-law 12 demands-law) (placed-law 27 (row-law movement movement-law 8 idle)))))
+    (both-law (placed-law countsAt counts-law)
+    (both-law (placed-law demandsAt demands-law) (placed-law movementsAt (row-law movement movement-law 8 idle)))))

@@ -7,18 +7,19 @@ use lib.Dec.{ltb, eqb}
 use lib.ListN.{length}
 use borrow.Author.Tests.{ltb-true, eqb-true}
 use Rattle.rules.specs.Bytes.{byteAt}
+use Rattle.rules.specs.Intervals.{intervals, stages}
 use Rattle.rules.specs.Rows.{allOf}
 use Rattle.rules.specs.State.{idle}
 use Rattle.rules.proofs.Tests.{and-left, and-right}
 use Rattle.board_forms.specs.Forms.{held, flag, row}
-use Rattle.board_state.specs.Layout.{interval, stage, position, demands, movement, state, stateBytes, isState}
+use Rattle.board_state.specs.Layout.{interval, stage, position, demands, movement, movements, demandsAt, movementsAt, state, stateBytes, isState}
 
 -- both of two tests that pass
 split : (a b : Bool) → (a && b) ≡ true → (a ≡ true) × (b ≡ true)
 split a b h = (and-left a b h, and-right a b h)
 
 pub record PositionTold (b : List ℕ) (at : ℕ) : Type 0 where
-  pub code : byteAt b (at + 1) < 6
+  pub code : byteAt b (at + 1) < length intervals
   pub came : held .known b (at + 4) ≡ true
   pub target : held .known b (at + 6) ≡ true
 
@@ -26,7 +27,7 @@ pub position-told : (b : List ℕ) (at : ℕ) → position .known b at ≡ true 
 position-told b at h =
     let first = split (interval .known b (at + 1)) (held .known b (at + 4) && held .known b (at + 6)) h in
     let rest = split (held .known b (at + 4)) (held .known b (at + 6)) (first .1) in
-    record { code = ltb-true (byteAt b (at + 1)) 6 (first .0); came = rest .0; target = rest .1 }
+    record { code = ltb-true (byteAt b (at + 1)) (length intervals) (first .0); came = rest .0; target = rest .1 }
 
 pub record DemandsTold (b : List ℕ) (at : ℕ) : Type 0 where
   pub locks : row 7 false flag .known b (at + 0) ≡ true
@@ -37,23 +38,23 @@ demands-told b at h =
     let both = split (row 7 false flag .known b (at + 0)) (row 8 false flag .known b (at + 7)) h in
     record { locks = both .0; buttons = both .1 }
 
-pub stage-told : (b : List ℕ) (at : ℕ) → movement .known b at ≡ true → byteAt b (at + 0) < 4
-stage-told b at h = ltb-true (byteAt b (at + 0)) 4 (and-left (stage .known b (at + 0)) true h)
+pub stage-told : (b : List ℕ) (at : ℕ) → movement .known b at ≡ true → byteAt b (at + 0) < length stages
+stage-told b at h = ltb-true (byteAt b (at + 0)) (length stages) (and-left (stage .known b (at + 0)) true h)
 
-pub movements-tested : (b : List ℕ) (at n : ℕ) → row n idle movement .known b at ≡ allOf (λ k. stage .known b (at + k * 3 + 0)) n
+pub movements-tested : (b : List ℕ) (at n : ℕ) → row n idle movement .known b at ≡ allOf (λ k. stage .known b (at + k * movement .width + 0)) n
 movements-tested b at n = simp and-true
 
 pub record StateTold (b : List ℕ) : Type 0 where
   pub size : length b ≡ stateBytes
   pub known : state .known b 0 ≡ true
   pub position-known : position .known b 0 ≡ true
-  pub demands-known : demands .known b 12 ≡ true
-  pub movements-known : row 8 idle movement .known b 27 ≡ true
+  pub demands-known : demands .known b demandsAt ≡ true
+  pub movements-known : movements .known b movementsAt ≡ true
 
 pub state-told : (b : List ℕ) → isState b ≡ true → StateTold b
 unfolding isState
 state-told b h =
-    let first = split (eqb (length b) stateBytes) (position .known b 0 && (demands .known b 12 && row 8 idle movement .known b 27)) h in
-    let second = split (position .known b 0) (demands .known b 12 && row 8 idle movement .known b 27) (first .1) in
-    let third = split (demands .known b 12) (row 8 idle movement .known b 27) (second .1) in
+    let first = split (eqb (length b) stateBytes) (position .known b 0 && (demands .known b demandsAt && movements .known b movementsAt)) h in
+    let second = split (position .known b 0) (demands .known b demandsAt && movements .known b movementsAt) (first .1) in
+    let third = split (demands .known b demandsAt) (movements .known b movementsAt) (second .1) in
     record { size = eqb-true (length b) stateBytes (first .0); known = first .1; position-known = second .0; demands-known = third .0; movements-known = third .1 }

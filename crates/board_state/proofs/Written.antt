@@ -6,10 +6,8 @@ use native.Mathlib.Omega.{arith}
 use lib.ListN.{length}
 use lib.Seq.{sets}
 use Rattle.rules.specs.declared.state.State.{State}
-use Rattle.rules.specs.State.{idle}
-use Rattle.board_forms.specs.Forms.{row}
 use Rattle.board_forms.proofs.Stores.{sets-next, sets-whole}
-use Rattle.board_state.specs.Layout.{position, counts, demands, movement, stateBytes, encoded}
+use Rattle.board_state.specs.Layout.{position, counts, demands, movements, countsAt, demandsAt, movementsAt, stateBytes, encoded}
 use Rattle.board_state.proofs.Laws.{position-law, counts-law, demands-law, state-law}
 
 pub written :
@@ -17,19 +15,19 @@ pub written :
     length b ≡ stateBytes →
     sets
     (sets
-    (sets (sets b 0 (position .written (s .position))) 8 (counts .written (s .counts)))
-    12
+    (sets (sets b 0 (position .written (s .position))) countsAt (counts .written (s .counts)))
+    demandsAt
     (demands .written (s .demands)))
-    27
-    (row 8 idle movement .written (s .movements))
+    movementsAt
+    (movements .written (s .movements))
     ≡ encoded s
 unfolding encoded
 written s b e =
     let head = position .written (s .position) in
     let count = counts .written (s .counts) in
     let demand = demands .written (s .demands) in
-    let records = row 8 idle movement .written (s .movements) in
-    sets-next (sets (sets b 0 head) 8 count) demand records 12 27 (omega (arith, demands-law .sized (s .demands)))
-    ∙ sets-next (sets b 0 head) count (demand ++ records) 8 12 (omega (arith, counts-law .sized (s .counts)))
-    ∙ sets-next b head (count ++ (demand ++ records)) 0 8 (omega (arith, position-law .sized (s .position)))
+    let records = movements .written (s .movements) in
+    sets-next (sets (sets b 0 head) countsAt count) demand records demandsAt movementsAt (omega (arith, demands-law .sized (s .demands)))
+    ∙ sets-next (sets b 0 head) count (demand ++ records) countsAt demandsAt (omega (arith, counts-law .sized (s .counts)))
+    ∙ sets-next b head (count ++ (demand ++ records)) 0 countsAt (omega (arith, position-law .sized (s .position)))
     ∙ sets-whole b (head ++ (count ++ (demand ++ records))) (state-law .sized s ∙ sym e)

@@ -1,7 +1,7 @@
 -- The layout of a state in bytes: a table for each record, with a row for each field: the place of its first byte in the record, its form, and
 -- the field. `encoded` writes the layout, `decoded` reads it, `isState` says which bytes are a state, and `Proper` which states the machine's
 -- types have.
-use Prim.Native.Nat.{ℕ}
+use Prim.Native.Nat.{ℕ, _+_}
 use mathlib.Core.Bool.{Bool, false, _&&_}
 use mathlib.Core.List.{List}
 use lib.Dec.{eqb}
@@ -77,14 +77,29 @@ movementOf = λ (stage, age). record { stage = stage; age = age }
 abbrev pub movement : Form Movement
 movement = made movementRows movementOf
 
--- ── The state: 51 bytes ──
+-- ── The state: 51 bytes, its parts one behind the other ──
+
+abbrev pub movements : Form (List Movement)
+movements = row 8 idle movement
+
+-- byte 8
+abbrev pub countsAt : ℕ
+countsAt = position .width
+
+-- byte 12
+abbrev pub demandsAt : ℕ
+demandsAt = countsAt + counts .width
+
+-- byte 27
+abbrev pub movementsAt : ℕ
+movementsAt = demandsAt + demands .width
 
 abbrev pub stateRows : Table State
 stateRows =
     field 0 position (λ s. s .position)
-    ⊗ field 8 counts (λ s. s .counts)
-    ⊗ field 12 demands (λ s. s .demands)
-    ⊗ field 27 (row 8 idle movement) (λ s. s .movements)
+    ⊗ field countsAt counts (λ s. s .counts)
+    ⊗ field demandsAt demands (λ s. s .demands)
+    ⊗ field movementsAt movements (λ s. s .movements)
 
 abbrev pub stateOf : stateRows .Fields → State
 stateOf =
@@ -95,7 +110,7 @@ abbrev pub state : Form State
 state = made stateRows stateOf
 
 abbrev pub stateBytes : ℕ
-stateBytes = 51
+stateBytes = state .width
 
 unfoldable pub encoded : State → List ℕ
 encoded = state .written

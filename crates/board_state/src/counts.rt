@@ -11,7 +11,7 @@ const GAP: usize = 0;
 const MAXIMUM: usize = 2;
 
 pub fn read(bytes: &[u8], at: usize) -> Counts
-    requires { ⌜ at + 4 ≤ length (now bytes) ⌝ }
+    requires { ⌜ at + countsForm .width ≤ length (now bytes) ⌝ }
     ensures { λ r. ⌜ r ≡ countsForm .read (now (bytes .entry)) at ⌝ }
 {
     Counts {
@@ -21,7 +21,7 @@ pub fn read(bytes: &[u8], at: usize) -> Counts
 }
 
 pub fn put(bytes: &mut [u8], at: usize, counts: Counts)
-    requires { ⌜ at + 4 ≤ length (now bytes) ⌝ }
+    requires { ⌜ at + countsForm .width ≤ length (now bytes) ⌝ }
     ensures { λ _. ⌜ now (bytes .exit) ≡ sets (now (bytes .entry)) at (countsForm .written counts) ⌝ }
 {
     board_forms::put_two(bytes, at + GAP, counts.gap);

@@ -12,7 +12,7 @@ const LOCKS: usize = 0;
 const BUTTONS: usize = 7;
 
 pub fn known(bytes: &[u8], at: usize) -> bool
-    requires { ⌜ at + 15 ≤ length (now bytes) ⌝ }
+    requires { ⌜ at + demandsForm .width ≤ length (now bytes) ⌝ }
     ensures { λ r. ⌜ r ≡ demandsForm .known (now (bytes .entry)) at ⌝ }
 {
     board_forms::flags_known(bytes, at + LOCKS, 7)
@@ -20,7 +20,7 @@ pub fn known(bytes: &[u8], at: usize) -> bool
 }
 
 pub fn read(bytes: &[u8], at: usize) -> Demands
-    requires { ⌜ (at + 15 ≤ length (now bytes)) × (demandsForm .known (now bytes) at ≡ true) ⌝ }
+    requires { ⌜ (at + demandsForm .width ≤ length (now bytes)) × (demandsForm .known (now bytes) at ≡ true) ⌝ }
     ensures { λ r. ⌜ r ≡ demandsForm .read (now (bytes .entry)) at ⌝ }
 {
     let mut locks = [false; 7];
@@ -31,7 +31,7 @@ pub fn read(bytes: &[u8], at: usize) -> Demands
 }
 
 pub fn put(bytes: &mut [u8], at: usize, locks: [bool; 7], buttons: [bool; 8])
-    requires { ⌜ at + 15 ≤ length (now bytes) ⌝ }
+    requires { ⌜ at + demandsForm .width ≤ length (now bytes) ⌝ }
     ensures { λ _. ⌜ now (bytes .exit) ≡ sets (now (bytes .entry)) at (demandsForm .written (record { locks = locks; buttons = buttons })) ⌝ }
 {
     board_forms::put_flags(bytes, at + LOCKS, &locks);

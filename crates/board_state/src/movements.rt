@@ -4,9 +4,7 @@ ghost use mathlib.Core.Bool.{true};
 ghost use mathlib.Core.Path.{_≡_};
 ghost use lib.ListN.{length};
 ghost use lib.Seq.{sets};
-ghost use Rattle.rules.specs.State.{idle};
-ghost use Rattle.board_forms.specs.Forms.{row};
-ghost use Rattle.board_state.specs.Layout.{movement};
+ghost use Rattle.board_state.specs.Layout.{movement, movements as movementsForm};
 use rules::state::Movement;
 use rules::state::Stage;
 
@@ -18,8 +16,8 @@ const RECORD: usize = 3;
 
 // All stages are known where the bits of all, joined, are those of a stage.
 pub fn known(bytes: &[u8], at: usize) -> bool
-    requires { ⌜ at + 24 ≤ length (now bytes) ⌝ }
-    ensures { λ r. ⌜ r ≡ row 8 idle movement .known (now (bytes .entry)) at ⌝ }
+    requires { ⌜ at + movementsForm .width ≤ length (now bytes) ⌝ }
+    ensures { λ r. ⌜ r ≡ movementsForm .known (now (bytes .entry)) at ⌝ }
 {
     let mut joined: u8 = 0;
     let mut k: usize = 0;
@@ -31,7 +29,7 @@ pub fn known(bytes: &[u8], at: usize) -> bool
 }
 
 fn read_one(bytes: &[u8], at: usize) -> Movement
-    requires { ⌜ (at + 3 ≤ length (now bytes)) × (movement .known (now bytes) at ≡ true) ⌝ }
+    requires { ⌜ (at + movement .width ≤ length (now bytes)) × (movement .known (now bytes) at ≡ true) ⌝ }
     ensures { λ r. ⌜ r ≡ movement .read (now (bytes .entry)) at ⌝ }
 {
     Movement {
@@ -41,8 +39,8 @@ fn read_one(bytes: &[u8], at: usize) -> Movement
 }
 
 pub fn read(bytes: &[u8], at: usize) -> [Movement; 8]
-    requires { ⌜ (at + 24 ≤ length (now bytes)) × (row 8 idle movement .known (now bytes) at ≡ true) ⌝ }
-    ensures { λ r. ⌜ r ≡ row 8 idle movement .read (now (bytes .entry)) at ⌝ }
+    requires { ⌜ (at + movementsForm .width ≤ length (now bytes)) × (movementsForm .known (now bytes) at ≡ true) ⌝ }
+    ensures { λ r. ⌜ r ≡ movementsForm .read (now (bytes .entry)) at ⌝ }
 {
     let idle = Movement {
         stage: Stage::Idle,
@@ -58,7 +56,7 @@ pub fn read(bytes: &[u8], at: usize) -> [Movement; 8]
 }
 
 fn put_one(bytes: &mut [u8], at: usize, own: Movement)
-    requires { ⌜ at + 3 ≤ length (now bytes) ⌝ }
+    requires { ⌜ at + movement .width ≤ length (now bytes) ⌝ }
     ensures { λ _. ⌜ now (bytes .exit) ≡ sets (now (bytes .entry)) at (movement .written own) ⌝ }
 {
     let stage = own.stage;
@@ -68,8 +66,8 @@ fn put_one(bytes: &mut [u8], at: usize, own: Movement)
 }
 
 pub fn put(bytes: &mut [u8], at: usize, movements: [Movement; 8])
-    requires { ⌜ at + 24 ≤ length (now bytes) ⌝ }
-    ensures { λ _. ⌜ now (bytes .exit) ≡ sets (now (bytes .entry)) at (row 8 idle movement .written movements) ⌝ }
+    requires { ⌜ at + movementsForm .width ≤ length (now bytes) ⌝ }
+    ensures { λ _. ⌜ now (bytes .exit) ≡ sets (now (bytes .entry)) at (movementsForm .written movements) ⌝ }
 {
     let mut k: usize = 0;
     while k < 8 {

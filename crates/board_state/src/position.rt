@@ -18,7 +18,7 @@ const CAME: usize = 4;
 const TARGET: usize = 6;
 
 pub fn known(bytes: &[u8], at: usize) -> bool
-    requires { ⌜ at + 8 ≤ length (now bytes) ⌝ }
+    requires { ⌜ at + positionForm .width ≤ length (now bytes) ⌝ }
     ensures { λ r. ⌜ r ≡ positionForm .known (now (bytes .entry)) at ⌝ }
 {
     base_intervals::interval_known(bytes[at + INTERVAL])
@@ -27,7 +27,7 @@ pub fn known(bytes: &[u8], at: usize) -> bool
 }
 
 pub fn read(bytes: &[u8], at: usize) -> Position
-    requires { ⌜ (at + 8 ≤ length (now bytes)) × (positionForm .known (now bytes) at ≡ true) ⌝ }
+    requires { ⌜ (at + positionForm .width ≤ length (now bytes)) × (positionForm .known (now bytes) at ≡ true) ⌝ }
     ensures { λ r. ⌜ r ≡ positionForm .read (now (bytes .entry)) at ⌝ }
 {
     Position {
@@ -40,7 +40,7 @@ pub fn read(bytes: &[u8], at: usize) -> Position
 }
 
 pub fn put(bytes: &mut [u8], at: usize, position: Position)
-    requires { ⌜ at + 8 ≤ length (now bytes) ⌝ }
+    requires { ⌜ at + positionForm .width ≤ length (now bytes) ⌝ }
     ensures { λ _. ⌜ now (bytes .exit) ≡ sets (now (bytes .entry)) at (positionForm .written position) ⌝ }
 {
     let interval = position.interval;

@@ -51,7 +51,7 @@ loop-again c =
     let start = turn .before .before .before in
     let k = turn .before .loop .k in
     let own = start .args .t3 in
-    let inside : k < length own = omega (arith, start .good .1 .1 .0 .1 .0 .1) in
+    let inside : k < length own = omega arith in
     rw (c .before .before .put-one .ensures)
     (stored-record (λ k. movement .written (getD own k idle)) 3 (λ k. refl) _ _ (turn .before .loop .inv) (turn .loop-test .taken) refl
     (ap (movement .written) (entry-within own k (record { stage = Idle; age = 0 }) idle inside)))
