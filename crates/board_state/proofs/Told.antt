@@ -25,8 +25,8 @@ pub record PositionTold (b : List ℕ) (at : ℕ) : Type 0 where
 
 pub position-told : (b : List ℕ) (at : ℕ) → position .known b at ≡ true → PositionTold b at
 position-told b at h =
-    let first = split (interval .known b (at + 1)) (held .known b (at + 4) && held .known b (at + 6)) h in
-    let rest = split (held .known b (at + 4)) (held .known b (at + 6)) (first .1) in
+    let first = split (interval .known b (at + 1)) _ h in
+    let rest = split (held .known b (at + 4)) _ (first .1) in
     record { code = ltb-true (byteAt b (at + 1)) (length intervals) (first .0); came = rest .0; target = rest .1 }
 
 pub record DemandsTold (b : List ℕ) (at : ℕ) : Type 0 where
@@ -35,7 +35,7 @@ pub record DemandsTold (b : List ℕ) (at : ℕ) : Type 0 where
 
 pub demands-told : (b : List ℕ) (at : ℕ) → demands .known b at ≡ true → DemandsTold b at
 demands-told b at h =
-    let both = split (row 7 false flag .known b (at + 0)) (row 8 false flag .known b (at + 7)) h in
+    let both = split (row 7 false flag .known b (at + 0)) _ h in
     record { locks = both .0; buttons = both .1 }
 
 pub stage-told : (b : List ℕ) (at : ℕ) → movement .known b at ≡ true → byteAt b (at + 0) < length stages
@@ -54,7 +54,7 @@ pub record StateTold (b : List ℕ) : Type 0 where
 pub state-told : (b : List ℕ) → isState b ≡ true → StateTold b
 unfolding isState
 state-told b h =
-    let first = split (eqb (length b) stateBytes) (position .known b 0 && (demands .known b demandsAt && movements .known b movementsAt)) h in
-    let second = split (position .known b 0) (demands .known b demandsAt && movements .known b movementsAt) (first .1) in
-    let third = split (demands .known b demandsAt) (movements .known b movementsAt) (second .1) in
+    let first = split (eqb (length b) stateBytes) _ h in
+    let second = split (position .known b 0) _ (first .1) in
+    let third = split (demands .known b demandsAt) _ (second .1) in
     record { size = eqb-true (length b) stateBytes (first .0); known = first .1; position-known = second .0; demands-known = third .0; movements-known = third .1 }

@@ -2,7 +2,7 @@
 use mathlib.Core.Bool.{and-assoc}
 use lib.ListN.{length}
 use borrow.Author.Tests.{eq-eqb, ne-eqb}
-use Rattle.board_state.specs.Layout.{position, demands, movements, demandsAt, movementsAt, stateBytes, isState}
+use Rattle.board_state.specs.Layout.{stateBytes, isState}
 use borrow.Author.Needs.{needs}
 use Rattle.board_state.proofs.is_state.Statement.{statement}
 use Rattle.board_state.proofs.is_state.Tie as tie
@@ -31,7 +31,7 @@ returns-2 c =
       c .before .before .known .ensures,
       eq-eqb (length b) stateBytes (tested .if1 .left),
     )
-    (and-assoc (position .known b 0) (demands .known b demandsAt) (movements .known b movementsAt))
+    (simp and-assoc)
 
 pub is-state-spec : {M : Type 1} → statement M
 is-state-spec =
