@@ -84,11 +84,11 @@ pub extern "C" fn willowera_step(
         return refusal(number, place);
     }
     let site = read_lookup::site(personality);
-    let decoded = board_state::decode(state);
-    if !decoded.known {
+    if !board_state::is_state(state) {
         return refusal(13, 0);
     }
-    let answer = board_controller::step_on(site, decoded.state, inputs, colours);
+    let before = board_state::decode(state);
+    let answer = board_controller::step_on(site, before, inputs, colours);
     let outcome = answer.outcome;
     match outcome {
         Outcome::Stepped { wait } => {
