@@ -86,3 +86,7 @@ module _ (b : List ℕ) where
     pub without-early : {v : Verdict} → v ≡ (earlyMissing b orElse restFrom (earlyHead b)) → v ≡ afterPedestrians b
     unfolding afterPedestrians
     without-early q = or-next (sym none-early) refl (q ∙ ap (λ (end : ℕ). earlyMissing b orElse restFrom end) (sym (end-without b missing)))
+
+    -- no group stops early: nothing is left but bytes left over
+    pub rest-only : {v : Verdict} {place : ℕ} → anyOf (stopsEarly b) (groupCount b) ≡ false → place ≡ earlyHead b → v ≡ restFrom place → v ≡ afterPedestrians b
+    rest-only none m q = without-early (or-next (none-stops none) refl (q ∙ ap restFrom m))

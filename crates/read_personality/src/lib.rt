@@ -9,6 +9,7 @@ mod pedestrians;
 mod site;
 
 use after::after_pedestrians;
+use after::left_over;
 use detectors::detectors_section;
 use marks::marks_of;
 use pedestrians::pedestrians_section;
@@ -48,5 +49,9 @@ pub fn read(personality: &[u8]) -> Verdict
     if let Verdict::Refused { .. } = pedestrians {
         return pedestrians;
     }
-    after_pedestrians(personality, layout, marks.early)
+    if layout.seven | marks.early {
+        return after_pedestrians(personality);
+    }
+    // Without kind 7, and without a group that asks for it, bytes left over are all that can follow.
+    left_over(personality, layout.early)
 }

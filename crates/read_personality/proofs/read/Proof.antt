@@ -7,9 +7,11 @@ use Rattle.rules.specs.Personality.{siteSection, phasesSection, groupsSection, 
 use Rattle.rules.specs.Verdicts.{_orElse_}
 use Rattle.rules.specs.declared.answer.Verdict.{Verdict}
 use Rattle.rules.specs.declared.answer.Verdict.the-variants.{Accepted}
+use Rattle.rules.proofs.Tests.{or-false-left, or-false-right}
 use Rattle.rules.proofs.Verdicts.{or-next, or-stop}
 use Rattle.read_sections.specs.declared.layout.Layout.{Layout}
 use Rattle.read_sections.specs.Laid.{Laid}
+use Rattle.read_personality.proofs.Seventh.{rest-only}
 use Rattle.read_personality.proofs.read.Statement.{statement}
 use Rattle.read_personality.proofs.read.Tie as tie
 
@@ -186,12 +188,28 @@ pastPedestrians c e = afterDetectors (c .before .before .before .before) (or-nex
 
 after-pedestrians-requires : tie.Need-after-pedestrians-requires
 after-pedestrians-requires c κs =
-    let marks = c .before .before .before in
-    let groups = groupsLaid (marks .before) in
-    (groups .0, groups .1, marks .marks-of .ensures .1)
+    let passed = c .before .before .before in
+    groupsLaid (passed .before .before .before .before) .1
 
 returns-7 : tie.Need-returns-7
-returns-7 c = pastPedestrians (c .before) (c .after-pedestrians .ensures)
+returns-7 c = pastPedestrians (c .before .before .before .before) (c .after-pedestrians .ensures)
+
+left-over-requires : tie.Need-left-over-requires
+left-over-requires c κs = search needs
+
+returns-8 : tie.Need-returns-8
+returns-8 c =
+    let passed = c .before .before .before .before in
+    let marks = passed .before .before .before in
+    let laid = groupsLaid (marks .before) .0 in
+    let neither = c .before .if1 .left in
+    let seven = layoutAt (siteBefore (groupsBefore (marks .before))) .seven in
+    pastPedestrians passed
+    (rest-only _
+    (sym (laid .seven) ∙ or-false-left seven _ neither)
+    (sym (marks .marks-of .ensures .1) ∙ or-false-right seven _ neither)
+    (laid .early)
+    (c .left-over .ensures))
 
 pub read-spec : {M : Type 1} → statement M
 read-spec =
@@ -224,4 +242,6 @@ read-spec =
     returns-6
     enum-told-12
     after-pedestrians-requires
-    returns-7)
+    returns-7
+    left-over-requires
+    returns-8)
