@@ -5,10 +5,10 @@ use mathlib.Core.Path.{_≡_, refl, sym, _∙_}
 use native.Mathlib.Omega.{arith}
 use borrow.Author.Needs.{needs}
 use borrow.Author.Tests.{eq-eqb, ne-eqb}
-use Rattle.rules.specs.Personality.{bodyAt, recordAt, groupMark, stopsEarly}
+use Rattle.rules.specs.Personality.{bodyAt, recordAt, conflictsHead, groupMark, stopsEarly}
 use Rattle.rules.specs.Rows.{anyOf}
 use Rattle.rules.proofs.Rows.{any-more, any-done}
-use Rattle.read_personality.proofs.GroupMarks.{group-held, mark-read}
+use Rattle.proof_acceptance.proofs.Sections.{groups-accepted, record-within}
 use Rattle.read_personality.proofs.Seventh.{none-stops, one-stops}
 use Rattle.read_personality.proofs.after.early_missing.Statement.{statement}
 use Rattle.read_personality.proofs.after.early_missing.Tie as tie
@@ -27,18 +27,24 @@ unfolding anyOf
 loop-holds c = (omega arith, refl)
 
 pair-at-requires : tie.Need-pair-at-requires Inv-loop μ-loop
+unfolding conflictsHead bodyAt
 pair-at-requires c κs =
     let start = c .before .before .before .before in
-    group-held (start .pre .0) (start .pre .2) (c .before .loop .g) (c .loop-test .taken)
+    let laid = start .pre .0 in
+    let layout = start .args .layout in
+    omega (
+      arith,
+      groups-accepted _ (start .pre .2) .next,
+      record-within (layout .groups) 2 (layout .n) (c .before .loop .g) (c .loop-test .taken),
+    )
 
 -- the byte read is the mark of group g
 marked :
     (c : tie.After-pair-at Inv-loop μ-loop) →
     let atLoop = c .before .before in
     c .pair-at .result .second ≡ groupMark (atLoop .before .before .before .args .s .now) (atLoop .loop .g)
-marked c =
-    let atLoop = c .before .before in
-    mark-read (atLoop .before .before .before .pre .0) (atLoop .loop .g) (c .pair-at .ensures .1)
+unfolding groupMark
+marked c = rw (c .before .before .before .before .before .pre .0 .groups) at (c .pair-at .ensures .1)
 
 add-place : tie.Need-add-place Inv-loop μ-loop
 add-place c = search needs
