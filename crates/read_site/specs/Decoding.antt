@@ -5,10 +5,12 @@ use mathlib.Core.List.{List}
 use mathlib.Core.Path.{_≡_}
 use lib.ListN.{length}
 use Rattle.rules.specs.Personality.{bodyAt, detectorCount, movementCount}
+use Rattle.rules.specs.declared.site.Site.{Site}
 use Rattle.rules.specs.Site.{siteOf}
 use Rattle.read_sections.specs.declared.layout.Layout.{Layout}
 use Rattle.read_sections.specs.Laid.{Laid}
 use Rattle.read_site.specs.declared.PedestrianSets.{PedestrianSets}
+use Rattle.read_site.specs.declared.Timing.{Timing}
 
 -- each count is at most the room of its array, and all sections are there
 pub record Fitting (b : List ℕ) (w : Layout) : Type 0 where
@@ -23,3 +25,7 @@ pub record Fitting (b : List ℕ) (w : Layout) : Type 0 where
 -- how many movements the site has, and the phase set of each movement's group
 unfoldable pub crossingsIn : List ℕ → PedestrianSets
 crossingsIn b = record { count = movementCount b; sets = siteOf b .crossings }
+
+-- the parts of a site that the wait bound goes by
+abbrev pub timingIn : Site → Timing
+timingIn site = record { size = site .size; times = site .times; crossings = site .crossings }

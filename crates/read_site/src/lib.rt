@@ -6,7 +6,7 @@ ghost use lib.ListN.{length};
 ghost use Rattle.rules.specs.Personality.{detectorCount, movementCount};
 ghost use Rattle.rules.specs.Site.{earlyTimeAt, phaseTimesAt, walkTimesAt, timesIn, siteOf};
 ghost use Rattle.read_sections.specs.Laid.{Laid};
-ghost use Rattle.read_site.specs.Decoding.{Fitting, crossingsIn};
+ghost use Rattle.read_site.specs.Decoding.{Fitting, crossingsIn, timingIn};
 use base_reads::four_in;
 use base_reads::two_in;
 use read_sections::layout::Layout;
@@ -229,5 +229,27 @@ pub fn site(s: &[u8], layout: Layout) -> Site
         crossings: sets,
         early: layout.seven,
         times: times(s, layout, found.count),
+    }
+}
+
+// The parts of the site that the wait bound goes by.
+pub struct Timing {
+    pub size: Size,
+    pub times: Times,
+    pub crossings: [u8; 8],
+}
+
+// Read apart from the rest, so that a step has the only call of `site` and the compiler takes it in there.
+pub fn timing_of(s: &[u8], layout: Layout) -> Timing
+    requires { ⌜ Fitting (now s) layout ⌝ }
+    ensures { λ r. ⌜ r ≡ timingIn (siteOf (now (s .entry))) ⌝ }
+{
+    let found = crossings(s, layout);
+    let size = size(s, layout, found.count);
+    let sets = found.sets;
+    Timing {
+        size,
+        times: times(s, layout, found.count),
+        crossings: sets,
     }
 }
