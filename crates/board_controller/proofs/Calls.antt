@@ -19,7 +19,6 @@ use Rattle.rules.specs.Site.{siteOf}
 use Rattle.rules.specs.State.{valid}
 use Rattle.rules.specs.Step.{stepped}
 use Rattle.rules.specs.Colours.{coloursOf}
-use Rattle.rules.specs.Limits.{limits}
 use Rattle.rules.specs.WaitBound.{waitBound, waitBoundBy}
 use Rattle.rules.specs.Call.{strayInput, stepVerdict, callVerdict, answerFor, bufferFor, boundFor, boundOf}
 use Rattle.rules.specs.Laws.{Sound, SoundTimes, AcceptedIsSound}
@@ -111,7 +110,7 @@ pub timing-sound :
     (b : List ℕ) (timing : Timing) →
     verdictOf b ≡ Accepted →
     timing ≡ timingIn (siteOf b) →
-    (timing .size .phases ≤ 7) × (timing .size .movements ≤ 8) × SoundTimes limits (timing .size) (timing .times)
+    (timing .size .phases ≤ 7) × (timing .size .movements ≤ 8) × SoundTimes (timing .size) (timing .times)
 unfolding AcceptedIsSound
 timing-sound b timing e f =
     let sound = accepted-is-sound b e in
