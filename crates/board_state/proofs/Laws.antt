@@ -4,7 +4,7 @@ use mathlib.Core.Path.{_≡_, refl}
 use native.Mathlib.Omega.{arith}
 use lib.ListN.{getD}
 use Rattle.rules.specs.declared.state.Interval.{Interval}
-use Rattle.rules.specs.declared.state.Interval.the-variants.{StartRed, LateStart, MinimumGreen, Running, Yellow, AllRed}
+use Rattle.rules.specs.declared.state.Interval.the-variants.{StartRed, LateStart, MinimumGreen, Running, EarlyCutOff, Yellow, AllRed}
 use Rattle.rules.specs.declared.state.Stage.{Stage}
 use Rattle.rules.specs.declared.state.Stage.the-variants.{Idle, Walk, ClearanceOne, ClearanceTwo}
 use Rattle.rules.specs.Intervals.{intervalRow, intervals, stageRow, stages}
@@ -20,6 +20,7 @@ interval-back StartRed = refl
 interval-back LateStart = refl
 interval-back MinimumGreen = refl
 interval-back Running = refl
+interval-back EarlyCutOff = refl
 interval-back Yellow = refl
 interval-back AllRed = refl
 

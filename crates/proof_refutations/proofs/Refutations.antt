@@ -13,16 +13,16 @@ use Rattle.rules.specs.Step.{stepped}
 use Rattle.rules.specs.Junctions.{junction}
 use Rattle.rules.specs.Runs.{ruled, Call, takenFrom, accepted, DemandsMet, DemandThreeOf}
 use Rattle.rules.proofs.Opened.{opened}
-use Rattle.proof_refutations.specs.Faults.{checksBy, ifAccepted, controllerBy, steppedBy, moved, agesOnly, neverAlters, leavesTheSite, endsOnTimer, choosesAgain, clearing, dropsPresses, smallBound, passesTen}
+use Rattle.proof_refutations.specs.Faults.{checksBy, ifAccepted, controllerBy, steppedBy, moved, agesOnly, neverAlters, leavesTheSite, endsOnTimer, choosesAgain, choosesEarlyAgain, clearing, dropsPresses, smallBound, passesTen}
 use Rattle.proof_refutations.specs.Refutations.{Refutations}
 use Rattle.proof_refutations.proofs.Violations.{together, starts, cut, skipped, met, answers, refuted-by-greens, refuted-by-clearance, refuted-by-yellow, unmet-by-lock, unmet-by-button, refuted-by-wait, refuted-by-refusal}
-use Rattle.proof_refutations.proofs.Witnesses.{callsFrom, crossings, shared, atOnce, walkThenB, laterB, pressedAgain, longestWait}
+use Rattle.proof_refutations.proofs.Witnesses.{callsFrom, crossings, shared, sharedArrow, atOnce, walkThenB, laterB, pressedAgain, longestWait}
 
 -- what the runs compute with
 unfoldable computing : Unit {0}
 unfolding
-    opened checksBy ifAccepted controllerBy steppedBy moved agesOnly neverAlters leavesTheSite endsOnTimer choosesAgain clearing dropsPresses
-    smallBound passesTen together starts cut skipped met answers callsFrom crossings shared atOnce walkThenB laterB pressedAgain longestWait
+    opened checksBy ifAccepted controllerBy steppedBy moved agesOnly neverAlters leavesTheSite endsOnTimer choosesAgain choosesEarlyAgain clearing dropsPresses
+    smallBound passesTen together starts cut skipped met answers callsFrom crossings shared sharedArrow atOnce walkThenB laterB pressedAgain longestWait
 computing = tt
 
 -- Group 1 of the junction is made one of A too: both groups are green in step 10.
@@ -39,7 +39,14 @@ ends-on-timer =
 -- A's group stays green in yellow for C, up to step 60; then the target is B, the group goes to red, and B starts in step 71.
 chooses-again : ¬ DemandThreeOf (controllerBy verdictOf (steppedBy ends choosesAgain))
 unfolding computing
-chooses-again = refuted-by-yellow (controllerBy verdictOf (steppedBy ends choosesAgain)) shared refl (callsFrom laterB 2 1 71) 59 70 1 0 refl refl
+chooses-again = refuted-by-yellow (controllerBy verdictOf (steppedBy ends choosesAgain)) (shared 0) refl (callsFrom laterB 2 1 71) 59 70 1 0 refl refl
+
+-- The arrow stays green in early cut-off green for C, up to step 60; then the target is B, and it goes to red with no yellow, since its Y
+-- steps would be over. B starts in step 101.
+chooses-early-again : ¬ DemandThreeOf (controllerBy verdictOf (steppedBy ends choosesEarlyAgain))
+unfolding computing
+chooses-early-again =
+    refuted-by-yellow (controllerBy verdictOf (steppedBy ends choosesEarlyAgain)) sharedArrow refl (callsFrom laterB 2 1 101) 59 100 1 0 refl refl
 
 -- B's detector in the first step: the bound of the junction is 270, and B does not start in 270 further steps.
 ages-only : ¬ DemandThreeOf (controllerBy verdictOf agesOnly)
@@ -87,6 +94,7 @@ refutations =
       passesTen = passes-ten;
       endsOnTimer = ends-on-timer;
       choosesAgain = chooses-again;
+      choosesEarlyAgain = chooses-early-again;
       agesOnly = ages-only;
       neverAlters = never-alters;
       dropsPresses = drops-presses;

@@ -5,7 +5,7 @@ use mathlib.Core.List.{List, [], _∷_, _++_}
 use lib.Dec.{leb, eqb}
 use lib.ListN.{replicate}
 use Rattle.rules.specs.Rows.{if_then_else_}
-use Rattle.rules.specs.Junctions.{two, twos, fours, sections, shortPhase}
+use Rattle.rules.specs.Junctions.{two, twos, fours, sections, shortPhase, cutOffs}
 use Rattle.rules.specs.Runs.{Call}
 
 -- n calls from a step on, whose input bits are given by the step, with a buffer for so many groups
@@ -30,16 +30,20 @@ crossings clearance =
     (1 ∷ 6 ∷ [])
     (walk ++ walk)
 
--- A, B and C: group 0 is of A and C, group 1 of B; detector 0 is of B, detector 1 of C
-unfoldable pub shared : List ℕ
-shared =
+-- A, B and C: group 0, with a mark that is given, is of A and C, group 1 of B; detector 0 is of B, detector 1 of C
+unfoldable pub shared : ℕ → List ℕ
+shared mark =
     sections
     (3 ∷ 2 ∷ two 10)
     (shortPhase ++ shortPhase ++ shortPhase)
-    (5 ∷ 0 ∷ 2 ∷ 0 ∷ [])
+    (5 ∷ mark ∷ 2 ∷ 0 ∷ [])
     (fours (2 ∷ 1 ∷ []))
     (1 ∷ 6 ∷ 2 ∷ 6 ∷ [])
     []
+
+-- the same, where group 0 stops early: A has an early cut-off green as long as its yellow
+unfoldable pub sharedArrow : List ℕ
+sharedArrow = shared 3 ++ cutOffs (30 ∷ 0 ∷ 0 ∷ [])
 
 -- ── Inputs ──
 
@@ -51,7 +55,7 @@ atOnce step = if eqb step 1 then 2 else 0
 unfoldable pub walkThenB : ℕ → ℕ
 walkThenB step = if eqb step 1 then 2 ^ 48 else if leb 30 step then 1 else 0
 
--- the detector of C in step 12, and that of B in step 40, when A is in yellow for C
+-- the detector of C in step 12, and that of B in step 40, when A is being left for C
 unfoldable pub laterB : ℕ → ℕ
 laterB step = if eqb step 12 then 2 else if eqb step 40 then 1 else 0
 

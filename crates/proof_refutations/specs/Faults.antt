@@ -13,7 +13,7 @@ use Rattle.rules.specs.declared.state.Counts.{Counts}
 use Rattle.rules.specs.declared.state.Held.{Held}
 use Rattle.rules.specs.declared.state.Held.the-variants.{Nothing}
 use Rattle.rules.specs.declared.state.Interval.{Interval}
-use Rattle.rules.specs.declared.state.Interval.the-variants.{StartRed, LateStart, MinimumGreen, Running, Yellow, AllRed}
+use Rattle.rules.specs.declared.state.Interval.the-variants.{StartRed, LateStart, MinimumGreen, Running, EarlyCutOff, Yellow, AllRed}
 use Rattle.rules.specs.declared.state.Movement.{Movement}
 use Rattle.rules.specs.declared.state.Position.{Position}
 use Rattle.rules.specs.declared.state.State.{State}
@@ -109,6 +109,7 @@ endsOnTimer StartRed = ends StartRed
 endsOnTimer LateStart = ends LateStart
 endsOnTimer MinimumGreen = ends MinimumGreen
 endsOnTimer Running = ends Running
+endsOnTimer EarlyCutOff = ends EarlyCutOff
 endsOnTimer Yellow = ends Yellow
 endsOnTimer AllRed = λ start times age another movements counts. leb (times .red) age
 
@@ -118,8 +119,19 @@ choosesAgain StartRed = following StartRed
 choosesAgain LateStart = following LateStart
 choosesAgain MinimumGreen = following MinimumGreen
 choosesAgain Running = following Running
+choosesAgain EarlyCutOff = following EarlyCutOff
 choosesAgain Yellow = λ times next position. entering AllRed next position
 choosesAgain AllRed = following AllRed
+
+-- the target is chosen again after early cut-off green
+unfoldable pub choosesEarlyAgain : Interval → Times → Held → Position → Position
+choosesEarlyAgain StartRed = following StartRed
+choosesEarlyAgain LateStart = following LateStart
+choosesEarlyAgain MinimumGreen = following MinimumGreen
+choosesEarlyAgain Running = following Running
+choosesEarlyAgain EarlyCutOff = λ times next position. entering Yellow next position
+choosesEarlyAgain Yellow = following Yellow
+choosesEarlyAgain AllRed = following AllRed
 
 -- the movement is in C1 or C2
 unfoldable pub clearing : State → ℕ → Bool
@@ -131,7 +143,7 @@ dropsPresses site s inputs = stepped site s (inputs - sumOf (λ k. if pressed in
 
 -- ── A wait bound and a reader that are wrong ──
 
--- A and C once: start red plus, summed over phases, L + M + X + A + C + 2 × (Y + R)
+-- A and C once: start red plus, summed over phases, L + M + X + A + C + 2 × (E + Y + R)
 unfoldable pub smallBound : Site → ℕ
 smallBound site =
     let a = longestWalk (site .crossings) (site .times .walks) (site .size .movements) in

@@ -9,7 +9,7 @@ use Rattle.rules.specs.State.{fresh}
 use Rattle.rules.specs.Interval.{ends, following}
 use Rattle.rules.specs.Step.{stepped}
 use Rattle.rules.specs.Runs.{ruled, Call, takenFrom, accepted, DemandsMet, DemandThreeOf}
-use Rattle.proof_refutations.specs.Faults.{controllerBy, steppedBy, agesOnly, neverAlters, leavesTheSite, endsOnTimer, choosesAgain, dropsPresses, smallBound, passesTen}
+use Rattle.proof_refutations.specs.Faults.{controllerBy, steppedBy, agesOnly, neverAlters, leavesTheSite, endsOnTimer, choosesAgain, choosesEarlyAgain, dropsPresses, smallBound, passesTen}
 
 -- Only the part that is replaced differs: with the rules' own parts these are the rules.
 pub record SameRules : Type 0 where
@@ -21,9 +21,10 @@ pub record SameRules : Type 0 where
 pub record Refutations : Type 0 where
   -- part a
   pub passesTen : ¬ DemandThreeOf (controllerBy (λ b. passesTen (verdictOf b)) stepped)
-  -- part b, at a pedestrian group and at a vehicle group
+  -- part b, at a pedestrian group, at a vehicle group and at one that stops early
   pub endsOnTimer : ¬ DemandThreeOf (controllerBy verdictOf (steppedBy endsOnTimer following))
   pub choosesAgain : ¬ DemandThreeOf (controllerBy verdictOf (steppedBy ends choosesAgain))
+  pub choosesEarlyAgain : ¬ DemandThreeOf (controllerBy verdictOf (steppedBy ends choosesEarlyAgain))
   -- part c, at a locked demand and at a button demand
   pub agesOnly : ¬ DemandThreeOf (controllerBy verdictOf agesOnly)
   pub neverAlters : ¬ DemandThreeOf (controllerBy verdictOf neverAlters)

@@ -16,7 +16,7 @@ use Rattle.rules.specs.Personality.{verdictOf}
 use Rattle.rules.specs.Site.{siteOf}
 use Rattle.rules.specs.State.{valid}
 use Rattle.rules.specs.Step.{stepped}
-use Rattle.rules.specs.Colours.{colourOf, coloursOf}
+use Rattle.rules.specs.Colours.{shownIn, coloursOf}
 use Rattle.rules.specs.Call.{strayInput, stepVerdict, callVerdict, answerFor, bufferFor, answerOf, bufferOf}
 use Rattle.rules.specs.Runs.{ruled, Call, Taken, takenFrom, ifStepped, accepted, shows}
 use Rattle.rules.proofs.Rows.{list-length, list-at}
@@ -31,18 +31,18 @@ pub record Link (site : Site) (s : State) (step : Taken) : Type 0 where
   pub valid : valid site s ≡ true
   pub wired : strayInput site (step .inputs) ≡ false
   pub after : step .after ≡ stepped site s (step .inputs)
-  pub shown : (g : ℕ) → g < site .size .groups → shows step g ≡ colourOf (site .groups) (step .after .position) (step .after .movements) g
+  pub shown : (g : ℕ) → g < site .size .groups → shows step g ≡ shownIn site (step .after) g
 
 abbrev pub Chain : Site → State → List Taken → Type 0
 Chain site = Linked (Link site)
 
 -- the colours stand before the bytes that are left untouched
 front-shown :
-    (site : Site) (s : State) (rest : List ℕ) (g : ℕ) → g < site .size .groups → getD (coloursOf site s ++ rest) g 0 ≡ colourOf (site .groups) (s .position) (s .movements) g
+    (site : Site) (s : State) (rest : List ℕ) (g : ℕ) → g < site .size .groups → getD (coloursOf site s ++ rest) g 0 ≡ shownIn site s g
 unfolding coloursOf
 front-shown site s rest g h =
-    List·getD-append (coloursOf site s) rest 0 g (subst (λ (n : ℕ). g < n) (sym (list-length (colourOf (site .groups) (s .position) (s .movements)) (site .size .groups))) h)
-    ∙ list-at (colourOf (site .groups) (s .position) (s .movements)) (site .size .groups) g 0 h
+    List·getD-append (coloursOf site s) rest 0 g (subst (λ (n : ℕ). g < n) (sym (list-length (shownIn site s) (site .size .groups))) h)
+    ∙ list-at (shownIn site s) (site .size .groups) g 0 h
 
 module _ (b : List ℕ) (s : State) (inputs room : ℕ) where
   -- a call that is accepted has a valid state and no stray input

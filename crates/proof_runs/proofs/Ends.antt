@@ -2,22 +2,43 @@
 use Prim.Native.Nat.{ℕ, _<_}
 use mathlib.Core.Bool.{Bool, true, false, not, _&&_}
 use mathlib.Core.Path.{_≡_, refl, sym, _∙_}
+use lib.Dec.{eqb}
 use lib.ListN.{getD}
+use borrow.Author.Tests.{eqb-true, eqb-false}
 use Rattle.rules.specs.declared.site.Site.{Site}
+use Rattle.rules.specs.declared.site.Times.{Times}
+use Rattle.rules.specs.declared.state.Held.{Held}
 use Rattle.rules.specs.declared.state.Interval.{Interval}
-use Rattle.rules.specs.declared.state.Interval.the-variants.{Running}
+use Rattle.rules.specs.declared.state.Interval.the-variants.{Running, EarlyCutOff, Yellow}
 use Rattle.rules.specs.declared.state.Position.{Position}
 use Rattle.rules.specs.declared.state.Stage.{Stage}
 use Rattle.rules.specs.declared.state.State.{State}
 use Rattle.rules.specs.Rows.{if_then_else_}
+use Rattle.rules.specs.Site.{phaseTimes}
 use Rattle.rules.specs.Intervals.{isWalkOrFirst, isBeforeStart}
 use Rattle.rules.specs.State.{idle}
 use Rattle.rules.specs.Demands.{nextDemanded}
-use Rattle.rules.specs.Interval.{someMovement, ends, following, staying, positionAfter, starts}
+use Rattle.rules.specs.Interval.{someMovement, ends, entering, leaving, following, staying, positionAfter, starts}
 use Rattle.rules.specs.Step.{stepped}
 use Rattle.rules.proofs.Tests.{and-left}
 use Rattle.rules.proofs.Rows.{any-found, any-false}
 use Rattle.proof_runs.proofs.Steps.{timesNow, another, counted, moving, ended, now, started, moved, position-of, moved-at}
+
+-- what holds of the position where running ends, by whether the phase has early cut-off green
+pub by-early :
+    (P : Position → Type 0) (times : Times) (next : Held) (position : Position) →
+    (phaseTimes times (position .phase) .early ≡ 0 → P (entering Yellow next position)) →
+    ((phaseTimes times (position .phase) .early ≡ 0 → ⊥) → P (entering EarlyCutOff next position)) →
+    P (leaving times next position)
+unfolding leaving
+by-early P times next position none some = decide (eqb (phaseTimes times (position .phase) .early) 0) refl
+  where
+    decide :
+        (test : Bool) →
+        eqb (phaseTimes times (position .phase) .early) 0 ≡ test →
+        P (entering (if test then Yellow else EarlyCutOff) next position)
+    decide true e = none (eqb-true _ 0 e)
+    decide false e = some (eqb-false _ 0 e)
 
 module _ (site : Site) (s : State) (inputs : ℕ) where
   -- the position where the interval ends

@@ -13,7 +13,7 @@ use Rattle.rules.specs.declared.state.Position.{Position}
 use Rattle.rules.specs.declared.state.State.{State}
 use Rattle.rules.specs.Site.{phaseTimes, crosses}
 use Rattle.rules.specs.Intervals.{isIdle, isWalkOrFirst, isStartRed, isLeaving, phaseHeld}
-use Rattle.rules.specs.State.{highestAge, locked, asked, movement, targetValid, cameValid, ageValid, every, positionValid, countsValid, demandExists, movementIn, movementValid, movementsValid, valid}
+use Rattle.rules.specs.State.{highestAge, locked, asked, movement, intervalValid, targetValid, cameValid, ageValid, every, positionValid, countsValid, demandExists, movementIn, movementValid, movementsValid, valid}
 use Rattle.rules.proofs.Tests.{and-left, and-right, and-both, or-left, or-right}
 use Rattle.rules.proofs.Rows.{all-at, all-each}
 
@@ -30,6 +30,7 @@ pub record ValidMovement (site : Site) (position : Position) (k : ℕ) (m : Move
 
 pub record ValidState (site : Site) (s : State) : Type 0 where
   pub phase : s .position .phase < site .size .phases
+  pub interval : intervalValid (site .early) (s .position .interval) ≡ true
   pub target : targetValid (site .size .phases) (s .position .phase) (isLeaving (s .position .interval)) (s .position .target) ≡ true
   pub came : cameValid (site .size .phases) (s .position .came) ≡ true
   pub age : Aged (s .position .age)
@@ -130,15 +131,17 @@ state-told site s h =
     let p1 = every-tail _ _ position in
     let p2 = every-tail _ _ p1 in
     let p3 = every-tail _ _ p2 in
+    let p4 = every-tail _ _ p3 in
     let h1 = every-tail _ _ h in
     let h2 = every-tail _ _ h1 in
     let h3 = every-tail _ _ h2 in
     let h4 = every-tail _ _ h3 in
     record {
       phase = ltb-true _ _ (every-head _ _ position);
-      target = every-head _ _ p1;
-      came = every-head _ _ p2;
-      age = age-told (s .position .age) (every-head _ _ p3);
+      interval = every-head _ _ p1;
+      target = every-head _ _ p2;
+      came = every-head _ _ p3;
+      age = age-told (s .position .age) (every-head _ _ p4);
       gap = leb-true _ _ (and-left gap maximum (every-head _ _ h1));
       maximum = leb-true _ _ (and-right gap maximum (every-head _ _ h1));
       locks = λ p l q.
@@ -164,7 +167,7 @@ unfolding valid positionValid countsValid movementsValid demandExists locked ask
 state-holds site s v =
     and-both
     (and-both (lt-ltb (s .position .phase) (site .size .phases) (v .phase))
-    (and-both (v .target) (and-both (v .came) (and-both (age-holds (s .position .age) (v .age)) refl))))
+    (and-both (v .interval) (and-both (v .target) (and-both (v .came) (and-both (age-holds (s .position .age) (v .age)) refl)))))
     (and-both
     (and-both (le-leb (s .counts .gap) (phaseTimes (site .times) (s .position .phase) .gap) (v .gap))
     (le-leb (s .counts .maximum) (phaseTimes (site .times) (s .position .phase) .maximum) (v .maximum)))

@@ -10,7 +10,7 @@ use Rattle.rules.specs.declared.site.Times.{Times}
 use Rattle.rules.specs.declared.state.Counts.{Counts}
 use Rattle.rules.specs.declared.state.Held.{Held}
 use Rattle.rules.specs.declared.state.Interval.{Interval}
-use Rattle.rules.specs.declared.state.Interval.the-variants.{StartRed, LateStart, MinimumGreen, Running, Yellow, AllRed}
+use Rattle.rules.specs.declared.state.Interval.the-variants.{StartRed, LateStart, MinimumGreen, Running, EarlyCutOff, Yellow, AllRed}
 use Rattle.rules.specs.declared.state.Position.{Position}
 use Rattle.rules.specs.declared.state.State.{State}
 use Rattle.rules.specs.Rows.{if_then_else_}
@@ -18,7 +18,7 @@ use Rattle.rules.specs.Site.{phaseTimes}
 use Rattle.rules.specs.Intervals.{isGreen, isMinimumGreen, isRunning, isLeaving, isBeforeStart, phaseHeld}
 use Rattle.rules.specs.Demands.{detected, extending, nextDemanded}
 use Rattle.rules.specs.Counts.{gapAfter, maximumAfter, countsAfter}
-use Rattle.rules.specs.Interval.{entering, starting, following, staying, positionAfter, countsLeaving, countsEntering, countsChanged}
+use Rattle.rules.specs.Interval.{entering, starting, leaving, following, staying, positionAfter, countsLeaving, countsEntering, countsChanged}
 use Rattle.proof_runs.proofs.ValidStates.{ValidState}
 use Rattle.proof_runs.proofs.Steps.{another, counted, ended, now}
 
@@ -62,6 +62,7 @@ module _ (times : PhaseTimes) where
   entering-within LateStart counts h = h
   entering-within MinimumGreen counts h = (omega arith, h .1)
   entering-within Running counts h = (h .0, omega arith)
+  entering-within EarlyCutOff counts h = h
   entering-within Yellow counts h = h
   entering-within AllRed counts h = h
 
@@ -72,11 +73,12 @@ module _ (times : Times) (next : Held) (old : Position) (counts : Counts) (withi
   -- the counts that an interval leaves are within the times of the phase that is then running
   leaving-within :
       (interval : Interval) → Within (phaseTimes times (following interval times next old .phase)) (countsLeaving interval counts)
-  unfolding following entering starting countsLeaving isLeaving isBeforeStart
+  unfolding following leaving entering starting countsLeaving isLeaving isBeforeStart
   leaving-within StartRed = within
   leaving-within LateStart = within
   leaving-within MinimumGreen = within
   leaving-within Running = within
+  leaving-within EarlyCutOff = within
   leaving-within Yellow = within
   leaving-within AllRed = zero-within (phaseTimes times (phaseHeld (old .target)))
 

@@ -10,7 +10,7 @@ use Rattle.rules.specs.declared.site.Times.{Times}
 use Rattle.rules.specs.declared.state.Held.{Held}
 use Rattle.rules.specs.declared.state.Held.the-variants.{Nothing, Phase}
 use Rattle.rules.specs.declared.state.Interval.{Interval}
-use Rattle.rules.specs.declared.state.Interval.the-variants.{StartRed, LateStart, MinimumGreen, Running, Yellow, AllRed}
+use Rattle.rules.specs.declared.state.Interval.the-variants.{StartRed, LateStart, MinimumGreen, Running, EarlyCutOff, Yellow, AllRed}
 use Rattle.rules.specs.declared.state.Movement.{Movement}
 use Rattle.rules.specs.declared.state.Position.{Position}
 use Rattle.rules.specs.declared.state.Stage.{Stage}
@@ -23,7 +23,7 @@ use Rattle.rules.specs.Interval.{ends, entering, starting, following, staying}
 use Rattle.rules.proofs.Tests.{and-left, and-right, never-both}
 use Rattle.proof_runs.proofs.ValidStates.{ValidMovement, ValidState}
 use Rattle.proof_runs.proofs.Steps.{timesNow, another, ended, now, moved}
-use Rattle.proof_runs.proofs.Ends.{by-end, ended-in, none-moved}
+use Rattle.proof_runs.proofs.Ends.{by-early, by-end, ended-in, none-moved}
 use Rattle.proof_validity.proofs.Stages.{cleared-idle, idle-valid, advanced-valid}
 
 -- what the end of an interval tells of a movement's stage
@@ -83,7 +83,11 @@ module _
         idle-valid site (starting times (position .phase) (position .came)) k m i (v .idleAge i)
     following-movement LateStart e c = entered-valid MinimumGreen Nothing refl (λ q. absurd (false≢true q))
     following-movement MinimumGreen e c = entered-valid Running Nothing refl (λ q. absurd (false≢true q))
-    following-movement Running e c = entered-valid Yellow next refl (λ q. c .running refl)
+    following-movement Running e c =
+        by-early (λ (p : Position). ValidMovement site p k m) times next position
+        (λ none. entered-valid Yellow next refl (λ q. c .running refl))
+        (λ some. entered-valid EarlyCutOff next refl (λ q. c .running refl))
+    following-movement EarlyCutOff e c = entered-valid Yellow (position .target) refl (λ q. v .leaving (ap isLeaving e))
     following-movement Yellow e c = entered-valid AllRed (position .target) refl (λ q. v .leaving (ap isLeaving e))
     following-movement AllRed e c =
         let i : isIdle (m .stage) ≡ true = cleared-idle (m .stage) (v .leaving (ap isLeaving e)) (c .allRed refl) in

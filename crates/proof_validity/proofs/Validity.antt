@@ -29,6 +29,7 @@ next-state site sound s inputs v stray =
     let counts = next-counts site s inputs v in
     record {
       phase = rw (position-of site s inputs) (position .phase);
+      interval = rw (position-of site s inputs) (position .interval);
       target = rw (position-of site s inputs) (position .target);
       came = rw (position-of site s inputs) (position .came);
       age = rw (position-of site s inputs) (position .age);

@@ -9,7 +9,7 @@ use Rattle.rules.specs.declared.site.Times.{Times}
 use Rattle.rules.specs.declared.state.Held.{Held}
 use Rattle.rules.specs.declared.state.Held.the-variants.{Phase}
 use Rattle.rules.specs.declared.state.Interval.{Interval}
-use Rattle.rules.specs.declared.state.Interval.the-variants.{StartRed, LateStart, MinimumGreen, Running, Yellow, AllRed}
+use Rattle.rules.specs.declared.state.Interval.the-variants.{StartRed, LateStart, MinimumGreen, Running, EarlyCutOff, Yellow, AllRed}
 use Rattle.rules.specs.declared.state.Position.{Position}
 use Rattle.rules.specs.declared.state.Stage.the-variants.{Walk}
 use Rattle.rules.specs.declared.state.State.{State}
@@ -67,6 +67,7 @@ following-open StartRed times next position h = start-open times (position .phas
 following-open LateStart times next position h = absurd (false≢true h)
 following-open MinimumGreen times next position h = absurd (false≢true h)
 following-open Running times next position h = absurd (false≢true h)
+following-open EarlyCutOff times next position h = absurd (false≢true h)
 following-open Yellow times next position h = absurd (false≢true h)
 following-open AllRed times next position h = start-open times (phaseHeld (position .target)) (Phase (position .phase))
 

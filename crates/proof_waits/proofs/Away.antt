@@ -8,7 +8,7 @@ use borrow.Author.Tests.{eqb-true, eq-eqb}
 use Rattle.rules.specs.declared.site.Times.{Times}
 use Rattle.rules.specs.declared.state.Held.{Held}
 use Rattle.rules.specs.declared.state.Interval.{Interval}
-use Rattle.rules.specs.declared.state.Interval.the-variants.{StartRed, LateStart, MinimumGreen, Running, Yellow, AllRed}
+use Rattle.rules.specs.declared.state.Interval.the-variants.{StartRed, LateStart, MinimumGreen, Running, EarlyCutOff, Yellow, AllRed}
 use Rattle.rules.specs.declared.state.Position.{Position}
 use Rattle.rules.specs.declared.state.State.{State}
 use Rattle.rules.specs.Rows.{if_then_else_}
@@ -18,6 +18,7 @@ use Rattle.rules.specs.Demands.{inGreen}
 use Rattle.rules.specs.Interval.{following, entering, starting}
 use Rattle.rules.specs.Runs.{inMinimumGreen}
 use Rattle.rules.proofs.Tests.{and-left, and-right, never-both, not-true-false}
+use Rattle.proof_runs.proofs.Ends.{by-early}
 
 -- the phase is not in minimum green or running
 abbrev pub AwayAt : ℕ → Position → Type 0
@@ -45,7 +46,9 @@ following-away q StartRed times next position e away none same =
     start-away (eqb (phaseTimes times (position .phase) .late) 0) (none same)
 following-away q LateStart times next position e away none same = absurd (never-both refl (none same))
 following-away q MinimumGreen times next position e away none same = absurd (never-both (ap isGreen e) (away same))
-following-away q Running times next position e away none same = refl
+following-away q Running times next position e away none same =
+    by-early (λ (p : Position). isGreen (p .interval) ≡ false) times next position (λ skipped. refl) (λ some. refl)
+following-away q EarlyCutOff times next position e away none same = refl
 following-away q Yellow times next position e away none same = refl
 following-away q AllRed times next position e away none same =
     start-away (eqb (phaseTimes times (phaseHeld (position .target)) .late) 0) (none same)

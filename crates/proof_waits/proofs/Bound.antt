@@ -1,12 +1,13 @@
--- No more than the wait bound is ever left. The bound counts for each phase its whole visit, and its walk, yellow, all-red and clearance
--- once more; every phase is visited at most once on the way, and the second part pays for the rest of the phase that the state has.
+-- No more than the wait bound is ever left. The bound counts for each phase its whole visit, and its walk, the timers by which it is left
+-- and its clearance once more; every phase is visited at most once on the way, and the second part pays for the rest of the phase that
+-- the state has.
 use Prim.Native.Nat.{ℕ, _+_, _≤_, _<_}
 use mathlib.Core.Bool.{Bool, true, false}
 use mathlib.Core.Path.{_≡_, refl, subst}
 use native.Mathlib.Omega.{arith}
 use Rattle.rules.specs.declared.site.Site.{Site}
 use Rattle.rules.specs.declared.state.Interval.{Interval}
-use Rattle.rules.specs.declared.state.Interval.the-variants.{StartRed, LateStart, MinimumGreen, Running, Yellow, AllRed}
+use Rattle.rules.specs.declared.state.Interval.the-variants.{StartRed, LateStart, MinimumGreen, Running, EarlyCutOff, Yellow, AllRed}
 use Rattle.rules.specs.declared.state.State.{State}
 use Rattle.rules.specs.Rows.{sumOf}
 use Rattle.rules.specs.Site.{phaseTimes}
@@ -115,6 +116,8 @@ module _
         (times .maximum .0)
         (λ k l. out-most site sound (s .position) k (movement s k) (v .movements k l))
         (omega (arith, bound, fits (rw e refl) (rw e refl), clear))
+    -- in a phase whose time is 0 the state may stand there for one step, which start red pays for
+    within EarlyCutOff e = leaving-within (rw e refl) _ (omega (arith, times, start-timed site sound, v .age))
     within Yellow e = leaving-within (rw e refl) _ (omega (arith, times, v .age))
     within AllRed e = leaving-within (rw e refl) _ (omega (arith, times, v .age))
 

@@ -5,7 +5,7 @@ use native.Mathlib.Omega.{arith}
 use Rattle.rules.specs.declared.site.PhaseTimes.{PhaseTimes}
 use Rattle.rules.specs.declared.site.Site.{Site}
 use Rattle.rules.specs.declared.state.Interval.{Interval}
-use Rattle.rules.specs.declared.state.Interval.the-variants.{StartRed, LateStart, MinimumGreen, Running, Yellow, AllRed}
+use Rattle.rules.specs.declared.state.Interval.the-variants.{StartRed, LateStart, MinimumGreen, Running, EarlyCutOff, Yellow, AllRed}
 use Rattle.rules.specs.declared.state.Position.{Position}
 use Rattle.rules.specs.declared.state.State.{State}
 use Rattle.rules.specs.Site.{phaseTimes}
@@ -22,9 +22,9 @@ abbrev pub RunningLeft : (own maximum count walk more : ℕ) → (ℕ → ℕ) �
 RunningLeft zero maximum count walk more out n = (1 + more ≤ n) × Each (maximum - count) more out n
 RunningLeft (suc own) maximum count walk more out n = suc own + (maximum + walk + more) ≤ n
 
--- the timers of a phase that is being left: yellow, then all-red
+-- the timers of a phase that is being left: early cut-off green, then yellow, then all-red
 abbrev pub leavingTime : PhaseTimes → ℕ
-leavingTime times = times .yellow + times .red
+leavingTime times = times .early + times .yellow + times .red
 
 -- the most that passes from the phase's start to the next start
 unfoldable pub visit : Site → ℕ → ℕ
@@ -60,6 +60,12 @@ module _ (site : Site) (ahead onward : ℕ → ℕ) where
       (fromLeaving (position .phase))
       out
       n
+  LeftIn EarlyCutOff own position count out idle n =
+      Each
+      (settings position .early - position .age + 1 + (settings position .yellow + settings position .red))
+      (ahead (phaseHeld (position .target)))
+      idle
+      n
   LeftIn Yellow own position count out idle n =
       Each
       (settings position .yellow - position .age + 1 + settings position .red)
@@ -79,6 +85,7 @@ module _ (site : Site) (ahead onward : ℕ → ℕ) where
   some-left MinimumGreen own position count out idle h = omega arith
   some-left Running zero position count out idle h = omega (arith, h .0)
   some-left Running (suc own) position count out idle h = omega arith
+  some-left EarlyCutOff own position count out idle h = omega (arith, h .0)
   some-left Yellow own position count out idle h = omega (arith, h .0)
   some-left AllRed own position count out idle h = omega (arith, h .0)
 

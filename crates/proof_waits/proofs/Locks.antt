@@ -9,7 +9,7 @@ use lib.Dec.{eqb}
 use borrow.Author.Tests.{leb-false, eqb-true, eqb-false, not-true}
 use Rattle.rules.specs.declared.site.Site.{Site}
 use Rattle.rules.specs.declared.state.Interval.{Interval}
-use Rattle.rules.specs.declared.state.Interval.the-variants.{StartRed, LateStart, MinimumGreen, Running, Yellow, AllRed}
+use Rattle.rules.specs.declared.state.Interval.the-variants.{StartRed, LateStart, MinimumGreen, Running, EarlyCutOff, Yellow, AllRed}
 use Rattle.rules.specs.declared.state.Position.{Position}
 use Rattle.rules.specs.declared.state.State.{State}
 use Rattle.rules.specs.Rows.{if_then_else_}
@@ -221,6 +221,7 @@ module _ (site : Site) (sound : Sound site) (q : ℕ) (below : q < site .size .p
         )
     lock-own MinimumGreen e same = absurd (never-both (ap isGreen e) (away same))
     lock-own Running e same = absurd (never-both (ap isGreen e) (away same))
+    lock-own EarlyCutOff e same = whole (λ red leaving. absurd (never-both (ap isLeaving e) leaving))
     lock-own Yellow e same = whole (λ red leaving. absurd (never-both (ap isLeaving e) leaving))
     lock-own AllRed e same = whole (λ red leaving. absurd (never-both (ap isLeaving e) leaving))
 

@@ -12,7 +12,7 @@ use Rattle.rules.specs.declared.site.Site.{Site}
 use Rattle.rules.specs.declared.state.Held.{Held}
 use Rattle.rules.specs.declared.state.Held.the-variants.{Nothing, Phase}
 use Rattle.rules.specs.declared.state.Interval.{Interval}
-use Rattle.rules.specs.declared.state.Interval.the-variants.{StartRed, LateStart, MinimumGreen, Running, Yellow, AllRed}
+use Rattle.rules.specs.declared.state.Interval.the-variants.{StartRed, LateStart, MinimumGreen, Running, EarlyCutOff, Yellow, AllRed}
 use Rattle.rules.specs.declared.state.Position.{Position}
 use Rattle.rules.specs.declared.state.State.{State}
 use Rattle.rules.specs.Rows.{if_then_else_}
@@ -27,7 +27,7 @@ use Rattle.rules.specs.Laws.{Sound}
 use Rattle.rules.proofs.Counts.{same-or-apart}
 use Rattle.proof_runs.proofs.ValidStates.{ValidState}
 use Rattle.proof_runs.proofs.Steps.{timesNow, another, counted, moving, ended, started}
-use Rattle.proof_runs.proofs.Ends.{ended-in, next-in, started-in, running-ends}
+use Rattle.proof_runs.proofs.Ends.{by-early, ended-in, next-in, started-in, running-ends}
 use Rattle.proof_waits.proofs.Stages.{longestWalk, longestClearance, outs, idles, out-most, clear-most}
 use Rattle.rules.proofs.Settings.{Timed, phase-timed, start-timed}
 use Rattle.proof_waits.proofs.Left.{Each, leavingTime, visit, fromLeaving, fromRunning, LeftIn, Left}
@@ -201,6 +201,23 @@ module _
         timer-falls setting (s .position .age) more more' n most
         (leb-false setting (s .position .age) (sym same ∙ sym (ended-in site s inputs i e) ∙ b))
 
+    -- the same where the phase is being left, with the timers that come after it
+    leaving-stays :
+        (i : Interval) (setting later : ℕ) →
+        s .position .interval ≡ i →
+        ended site s inputs ≡ false →
+        ends i (site .times .start) settings (s .position .age) (another site s inputs) (moving site s inputs) (counted site s inputs)
+        ≡ leb setting (s .position .age) →
+        isRunning i ≡ false →
+        setting ≤ highestAge →
+        Each (setting - s .position .age + 1 + later) (ahead (phaseHeld (s .position .target))) (idles site s) (suc n) →
+        Each (setting - older (s .position .age) + 1 + later) (ahead (phaseHeld (s .position .target))) (idles site next) n
+    unfolding staying
+    leaving-stays i setting later e b same stops most h =
+        let more = later + ahead (phaseHeld (s .position .target)) in
+        let falls = timer-stays i setting more more e b same most (omega arith) (omega (arith, h .0)) in
+        leaves-on i e false b refl (ap isRunning e ∙ stops) _ _ (ahead (phaseHeld (s .position .target))) (omega (arith, falls)) h
+
     -- ── By interval ──
 
     step :
@@ -230,13 +247,13 @@ module _
         stays MinimumGreen e b
         (timer-stays MinimumGreen (settings .minimum) _ _ e b refl (times .minimum .1) (omega (arith, stand .fewer)) h)
     step Running true e b h =
-        let entered = next-in site s inputs Running e true b in
         let target = nextDemanded site s inputs in
-        enters Yellow target entered
-        (leaves Yellow target refl entered (stand .found (running-ends site s inputs e b))
-        (running-more own (settings .maximum) (s .counts .maximum) walk after (outs site s) n h)
-        _
-        (omega (arith, times .yellow)))
+        let near = stand .found (running-ends site s inputs e b) in
+        let rest = running-more own (settings .maximum) (s .counts .maximum) walk after (outs site s) n h in
+        by-early (λ (p : Position). next .position ≡ p → Outcome) (site .times) target (s .position)
+        (λ skipped entered. enters Yellow target entered (leaves Yellow target refl entered near rest _ (omega (arith, times .yellow))))
+        (λ some entered. enters EarlyCutOff target entered (leaves EarlyCutOff target refl entered near rest _ (omega (arith, some))))
+        (next-in site s inputs Running e true b)
     step Running false e b h =
         stays Running e b
         (running-stays own own' (settings .maximum) (s .counts .maximum) (next .counts .maximum) walk after (outs site s) (outs site next) n
@@ -248,14 +265,16 @@ module _
         (λ z k l. outs-fall site s inputs sound v k l (quiet-demanded site s inputs e (stand .held e z) b k))
         (λ z. running-held site s inputs e (stand .held e z) b)
         h)
+    step EarlyCutOff true e b h =
+        enters Yellow (s .position .target) (next-in site s inputs EarlyCutOff e true b)
+        (leaves-on EarlyCutOff e true b refl refl _ _ (ahead (phaseHeld (s .position .target))) (omega (arith, h .0, times .yellow)) h)
+    step EarlyCutOff false e b h =
+        stays EarlyCutOff e b (leaving-stays EarlyCutOff (settings .early) (settings .yellow + settings .red) e b refl refl (times .early) h)
     step Yellow true e b h =
         enters AllRed (s .position .target) (next-in site s inputs Yellow e true b)
         (leaves-on Yellow e true b refl refl _ _ (ahead (phaseHeld (s .position .target))) (omega (arith, h .0, times .red)) h)
     step Yellow false e b h =
-        let more = settings .red + ahead (phaseHeld (s .position .target)) in
-        let falls = timer-stays Yellow (settings .yellow) more more e b refl (times .yellow .1) (omega arith) (omega (arith, h .0)) in
-        stays Yellow e b
-        (leaves-on Yellow e false b refl (ap isRunning e) _ _ (ahead (phaseHeld (s .position .target))) (omega (arith, falls)) h)
+        stays Yellow e b (leaving-stays Yellow (settings .yellow) (settings .red) e b refl refl (times .yellow .1) h)
     step AllRed true e b h =
         begins (phaseHeld (s .position .target)) (Phase (s .position .phase)) (started-in site s inputs AllRed e true b)
         (next-in site s inputs AllRed e true b)

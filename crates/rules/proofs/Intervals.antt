@@ -2,7 +2,7 @@
 use mathlib.Core.Bool.{true, _||_, false≢true}
 use mathlib.Core.Path.{_≡_, refl}
 use Rattle.rules.specs.declared.state.Interval.{Interval}
-use Rattle.rules.specs.declared.state.Interval.the-variants.{StartRed, LateStart, MinimumGreen, Running, Yellow, AllRed}
+use Rattle.rules.specs.declared.state.Interval.the-variants.{StartRed, LateStart, MinimumGreen, Running, EarlyCutOff, Yellow, AllRed}
 use Rattle.rules.specs.declared.state.Stage.{Stage}
 use Rattle.rules.specs.declared.state.Stage.the-variants.{Idle, Walk, ClearanceOne, ClearanceTwo}
 use Rattle.rules.specs.Intervals.{isIdle, isRunning, isMinimumGreen, isGreen}
@@ -13,6 +13,7 @@ running-only StartRed h = absurd (false≢true h)
 running-only LateStart h = absurd (false≢true h)
 running-only MinimumGreen h = absurd (false≢true h)
 running-only Running h = refl
+running-only EarlyCutOff h = absurd (false≢true h)
 running-only Yellow h = absurd (false≢true h)
 running-only AllRed h = absurd (false≢true h)
 
@@ -22,6 +23,7 @@ green-either StartRed = refl
 green-either LateStart = refl
 green-either MinimumGreen = refl
 green-either Running = refl
+green-either EarlyCutOff = refl
 green-either Yellow = refl
 green-either AllRed = refl
 

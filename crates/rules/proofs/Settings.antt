@@ -1,5 +1,5 @@
--- What the times of a sound site give every proof: each is one that an age can reach, and all but late start and gap are one step at
--- least. Shown for any table of limits by the one test that it is usable, read off at each setting; today's table passes it.
+-- What the times of a sound site give every proof: each is one that an age can reach, and all but late start, gap and early cut-off green
+-- are one step at least. Shown for any table of limits by the one test that it is usable, read off at each setting; today's table passes it.
 use Prim.Native.Nat.{ℕ, _+_, _≤_, _<_}
 use mathlib.Core.Bool.{true, false, _||_}
 use mathlib.Core.List.{List}
@@ -12,7 +12,7 @@ use Rattle.rules.specs.declared.site.Range.{Range}
 use Rattle.rules.specs.declared.site.Site.{Site}
 use Rattle.rules.specs.declared.site.WalkTimes.{WalkTimes}
 use Rattle.rules.specs.Rows.{allOf}
-use Rattle.rules.specs.Limits.{limits, limitOf, startRedSetting, phaseSettings, walkSettings, settingCount}
+use Rattle.rules.specs.Limits.{limits, limitOf, startRedSetting, phaseSettings, walkSettings, earlySetting, settingCount}
 use Rattle.rules.specs.Site.{phaseTimes, walkTimes}
 use Rattle.rules.specs.State.{highestAge}
 use Rattle.rules.specs.WaitBound.{phaseShare}
@@ -35,6 +35,7 @@ pub record Timed (times : PhaseTimes) : Type 0 where
   pub gap : times .gap ≤ highestAge
   pub yellow : Counted (times .yellow)
   pub red : Counted (times .red)
+  pub early : times .early ≤ highestAge
 
 pub record Reached (times : WalkTimes) : Type 0 where
   pub walk : Counted (times .walk)
@@ -74,6 +75,7 @@ module _ (table : List Range) (passed : usable table ≡ true) where
         gap = reached (phaseSettings + 3) (omega arith) (h .gap);
         yellow = counted (phaseSettings + 4) (omega arith) refl (h .yellow);
         red = counted (phaseSettings + 5) (omega arith) refl (h .red);
+        early = reached earlySetting (omega arith) (h .early);
       }
 
   pub walk-told : {times : WalkTimes} → WalkTimesIn table times → Reached times

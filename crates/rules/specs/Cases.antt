@@ -6,28 +6,37 @@ use mathlib.Core.Path.{_≡_}
 use mathlib.Core.List.{List, [], _∷_, _++_}
 use lib.Dec.{leb, eqb}
 use lib.ListN.{set}
+use Rattle.rules.specs.declared.answer.Answer.{Answer}
+use Rattle.rules.specs.declared.answer.Outcome.the-variants.{Stepped, Declined}
 use Rattle.rules.specs.declared.answer.Verdict.{Verdict}
 use Rattle.rules.specs.declared.answer.Verdict.the-variants.{Accepted, Refused}
+use Rattle.rules.specs.declared.state.Held.the-variants.{Nothing, Phase}
 use Rattle.rules.specs.declared.state.Interval.{Interval}
-use Rattle.rules.specs.declared.state.Interval.the-variants.{StartRed, LateStart, MinimumGreen, Running, Yellow, AllRed}
+use Rattle.rules.specs.declared.state.Interval.the-variants.{StartRed, LateStart, MinimumGreen, Running, EarlyCutOff, Yellow, AllRed}
+use Rattle.rules.specs.declared.state.State.{State}
 use Rattle.rules.specs.Rows.{if_then_else_}
-use Rattle.rules.specs.Personality.{verdictOf}
+use Rattle.rules.specs.Personality.{groupCount, verdictOf}
 use Rattle.rules.specs.Site.{siteOf}
+use Rattle.rules.specs.State.{fresh}
 use Rattle.rules.specs.Colours.{red, yellow, green, flashing}
 use Rattle.rules.specs.WaitBound.{waitBound}
+use Rattle.rules.specs.Call.{answerOf}
 use Rattle.rules.specs.Traces.{Line, line, changes}
-use Rattle.rules.specs.Junctions.{junction, putTwo, crossing, threePhases, callingB, overlap}
+use Rattle.rules.specs.Junctions.{junction, putTwo, crossing, threePhases, callingB, overlap, cutOffs, turning, turningBoth}
 
--- What a case says of a personality: its verdict, its wait bound, or the changes of n calls whose input bits are given by step.
+-- What a case says of a personality: its verdict, its wait bound, the changes of n calls whose input bits are given by step, or the
+-- answer to one call from a state, with room for every group.
 pub data Case : Type 0 where
   reading : List ℕ → Verdict → Case
   waiting : List ℕ → ℕ → Case
   running : List ℕ → (ℕ → ℕ) → ℕ → List Line → Case
+  answering : List ℕ → State → ℕ → Answer → Case
 
 abbrev pub Holds : Case → Type 0
 Holds (reading b verdict) = verdictOf b ≡ verdict
 Holds (waiting b wait) = waitBound (siteOf b) ≡ wait
 Holds (running b inputs n lines) = changes b inputs n ≡ lines
+Holds (answering b s inputs answer) = answerOf b s inputs (groupCount b) ≡ answer
 
 -- ── Document 01, the junction of two phases ──
 
@@ -133,10 +142,111 @@ ours =
     ∷ waiting crossing 410
     ∷ []
 
+-- ── Request one: early cut-off green ──
+
+-- detector 1 in step 12, and detector 0 in step 40, when A is in early cut-off green
+unfoldable pub lockA : ℕ → ℕ
+lockA step = onceB step + (if eqb step 40 then 1 else 0)
+
+-- the fresh state's phase at an interval's age, with B as the target
+unfoldable pub leavingA : Interval → ℕ → State
+leavingA interval age =
+    record {
+      position = record { phase = 0; interval = interval; age = age; came = Nothing; target = Phase 1 };
+      counts = fresh .counts;
+      demands = fresh .demands;
+      movements = fresh .movements;
+    }
+
+unfoldable pub early : List Case
+early =
+    -- the arrow closes for Y steps from the start of early cut-off green, over the change to yellow
+    waiting (turning ++ cutOffs (20 ∷ 0 ∷ [])) 310
+    ∷ running (turning ++ cutOffs (20 ∷ 0 ∷ [])) onceB 92
+    (line 1 0 StartRed (red ∷ red ∷ red ∷ [])
+    ∷ line 10 0 MinimumGreen (green ∷ green ∷ red ∷ [])
+    ∷ line 30 0 Running (green ∷ green ∷ red ∷ [])
+    ∷ line 31 0 EarlyCutOff (green ∷ yellow ∷ red ∷ [])
+    ∷ line 51 0 Yellow (yellow ∷ yellow ∷ red ∷ [])
+    ∷ line 61 0 Yellow (yellow ∷ red ∷ red ∷ [])
+    ∷ line 81 0 AllRed (red ∷ red ∷ red ∷ [])
+    ∷ line 91 1 MinimumGreen (red ∷ red ∷ green ∷ [])
+    ∷ [])
+    -- a time longer than Y: the arrow is red from then on
+    ∷ running (turning ++ cutOffs (50 ∷ 0 ∷ [])) onceB 122
+    (line 1 0 StartRed (red ∷ red ∷ red ∷ [])
+    ∷ line 10 0 MinimumGreen (green ∷ green ∷ red ∷ [])
+    ∷ line 30 0 Running (green ∷ green ∷ red ∷ [])
+    ∷ line 31 0 EarlyCutOff (green ∷ yellow ∷ red ∷ [])
+    ∷ line 61 0 EarlyCutOff (green ∷ red ∷ red ∷ [])
+    ∷ line 81 0 Yellow (yellow ∷ red ∷ red ∷ [])
+    ∷ line 111 0 AllRed (red ∷ red ∷ red ∷ [])
+    ∷ line 121 1 MinimumGreen (red ∷ red ∷ green ∷ [])
+    ∷ [])
+    -- a time of 0 skips it, and the arrow closes with the rest
+    ∷ running (turning ++ cutOffs (0 ∷ 0 ∷ [])) onceB 72
+    (line 1 0 StartRed (red ∷ red ∷ red ∷ [])
+    ∷ line 10 0 MinimumGreen (green ∷ green ∷ red ∷ [])
+    ∷ line 30 0 Running (green ∷ green ∷ red ∷ [])
+    ∷ line 31 0 Yellow (yellow ∷ yellow ∷ red ∷ [])
+    ∷ line 61 0 AllRed (red ∷ red ∷ red ∷ [])
+    ∷ line 71 1 MinimumGreen (red ∷ red ∷ green ∷ [])
+    ∷ [])
+    -- an arrow that has the target in its set stays green
+    ∷ running (turningBoth ++ cutOffs (20 ∷ 0 ∷ [])) onceB 92
+    (line 1 0 StartRed (red ∷ red ∷ red ∷ [])
+    ∷ line 10 0 MinimumGreen (green ∷ green ∷ red ∷ [])
+    ∷ line 30 0 Running (green ∷ green ∷ red ∷ [])
+    ∷ line 31 0 EarlyCutOff (green ∷ green ∷ red ∷ [])
+    ∷ line 51 0 Yellow (yellow ∷ green ∷ red ∷ [])
+    ∷ line 81 0 AllRed (red ∷ green ∷ red ∷ [])
+    ∷ line 91 1 MinimumGreen (red ∷ green ∷ green ∷ [])
+    ∷ [])
+    -- the target is the one read at its start
+    ∷ running (threePhases ++ cutOffs (20 ∷ 0 ∷ 0 ∷ [])) laterB 92
+    (line 1 0 StartRed (red ∷ red ∷ red ∷ [])
+    ∷ line 10 0 MinimumGreen (green ∷ red ∷ red ∷ [])
+    ∷ line 30 0 Running (green ∷ red ∷ red ∷ [])
+    ∷ line 31 0 EarlyCutOff (green ∷ red ∷ red ∷ [])
+    ∷ line 51 0 Yellow (yellow ∷ red ∷ red ∷ [])
+    ∷ line 81 0 AllRed (red ∷ red ∷ red ∷ [])
+    ∷ line 91 2 MinimumGreen (red ∷ red ∷ green ∷ [])
+    ∷ [])
+    -- a locking detector of the phase locks in it
+    ∷ running (turning ++ cutOffs (20 ∷ 0 ∷ [])) lockA 153
+    (line 1 0 StartRed (red ∷ red ∷ red ∷ [])
+    ∷ line 10 0 MinimumGreen (green ∷ green ∷ red ∷ [])
+    ∷ line 30 0 Running (green ∷ green ∷ red ∷ [])
+    ∷ line 31 0 EarlyCutOff (green ∷ yellow ∷ red ∷ [])
+    ∷ line 51 0 Yellow (yellow ∷ yellow ∷ red ∷ [])
+    ∷ line 61 0 Yellow (yellow ∷ red ∷ red ∷ [])
+    ∷ line 81 0 AllRed (red ∷ red ∷ red ∷ [])
+    ∷ line 91 1 MinimumGreen (red ∷ red ∷ green ∷ [])
+    ∷ line 111 1 Running (red ∷ red ∷ green ∷ [])
+    ∷ line 112 1 Yellow (red ∷ red ∷ yellow ∷ [])
+    ∷ line 142 1 AllRed (red ∷ red ∷ red ∷ [])
+    ∷ line 152 0 MinimumGreen (green ∷ green ∷ red ∷ [])
+    ∷ [])
+    -- a state in it is not valid without the section; with one it is, even where the time is 0, and goes on
+    ∷ answering junction (leavingA EarlyCutOff 1) 0 (record { outcome = Declined 13 0; state = leavingA EarlyCutOff 1 })
+    ∷ answering (junction ++ cutOffs (0 ∷ 0 ∷ [])) (leavingA EarlyCutOff 1) 0
+    (record { outcome = Stepped 270; state = leavingA Yellow 1 })
+    -- mark 3 without the section, also where a part of a head follows; 12 after it
+    ∷ reading turning (Refused 17 42)
+    ∷ reading (turning ++ (4 ∷ 0 ∷ 7 ∷ [])) (Refused 17 42)
+    ∷ reading (junction ++ (4 ∷ 0 ∷ 7 ∷ [])) (Refused 12 68)
+    ∷ reading (turning ++ cutOffs (20 ∷ 0 ∷ [])) Accepted
+    ∷ reading (turning ++ cutOffs (20 ∷ 0 ∷ []) ++ (1 ∷ [])) (Refused 12 82)
+    ∷ reading (turning ++ cutOffs (201 ∷ 0 ∷ [])) (Refused 5 78)
+    ∷ reading (turning ++ cutOffs (200 ∷ 0 ∷ [])) Accepted
+    ∷ reading (turning ++ (3 ∷ 0 ∷ 7 ∷ 0 ∷ 0 ∷ 0 ∷ 0 ∷ [])) (Refused 3 74)
+    ∷ reading (turning ++ (4 ∷ 0 ∷ 7 ∷ 0 ∷ 0 ∷ 0 ∷ 0 ∷ [])) (Refused 1 74)
+    ∷ []
+
 -- ── The list and its statement ──
 
 unfoldable pub cases : List Case
-cases = starred ++ ours
+cases = starred ++ ours ++ early
 
 abbrev pub AllHold : List Case → Type 0
 AllHold [] = Unit {0}

@@ -1,14 +1,16 @@
 -- The colours that the groups show in a state.
-use Prim.Native.Nat.{ℕ}
-use mathlib.Core.Bool.{not, _&&_}
+use Prim.Native.Nat.{ℕ, _+_}
+use mathlib.Core.Bool.{Bool, not, _&&_, _||_}
 use mathlib.Core.List.{List}
-use lib.Dec.{eqb}
+use lib.Dec.{leb, eqb}
 use lib.ListN.{getD}
 use Rattle.rules.specs.declared.site.Group.{Group}
+use Rattle.rules.specs.declared.site.PhaseTimes.{PhaseTimes}
 use Rattle.rules.specs.declared.site.Site.{Site}
+use Rattle.rules.specs.declared.site.Times.{Times}
 use Rattle.rules.specs.declared.state.Held.{Held}
 use Rattle.rules.specs.declared.state.Interval.{Interval}
-use Rattle.rules.specs.declared.state.Interval.the-variants.{StartRed, LateStart, MinimumGreen, Running, Yellow, AllRed}
+use Rattle.rules.specs.declared.state.Interval.the-variants.{StartRed, LateStart, MinimumGreen, Running, EarlyCutOff, Yellow, AllRed}
 use Rattle.rules.specs.declared.state.Movement.{Movement}
 use Rattle.rules.specs.declared.state.Position.{Position}
 use Rattle.rules.specs.declared.state.Stage.{Stage}
@@ -16,8 +18,8 @@ use Rattle.rules.specs.declared.state.Stage.the-variants.{Idle, Walk, Cl
 use Rattle.rules.specs.declared.state.State.{State}
 use Rattle.rules.specs.Rows.{if_then_else_, listOf}
 use Rattle.rules.specs.Bytes.{bit}
-use Rattle.rules.specs.Site.{groupOf, isPedestrian, movementOf}
-use Rattle.rules.specs.Intervals.{heldIn}
+use Rattle.rules.specs.Site.{groupOf, phaseTimes, isPedestrian, movementOf}
+use Rattle.rules.specs.Intervals.{isEarly, heldIn}
 use Rattle.rules.specs.State.{idle}
 
 -- ── Codes ──
@@ -36,16 +38,30 @@ flashing = 3
 
 -- ── Groups ──
 
--- A vehicle group of the phase. In late start mark 1 waits in red unless came-from is in its set; in yellow and all-red the
--- group stays green if its set has the target also.
-unfoldable pub vehicleColour : Interval → Held → Held → Group → ℕ
-vehicleColour StartRed came target group = red
-vehicleColour LateStart came target group =
+-- how many steps ago early cut-off green began, this step included, by the age in it or in yellow
+unfoldable pub sinceCutOff : Interval → PhaseTimes → ℕ → ℕ
+sinceCutOff interval times age = if isEarly interval then age else times .early + age
+
+-- Y steps from there are not over: the groups that stop early are still closing
+unfoldable pub closing : Times → Position → Bool
+closing times position =
+    let own = phaseTimes times (position .phase) in
+    leb (sinceCutOff (position .interval) own (position .age)) (own .yellow)
+
+-- A vehicle group of the phase. In late start mark 1 waits in red unless came-from is in its set. In early cut-off green, yellow and
+-- all-red the group stays green if its set has the target also; else mark 3 is yellow while it is closing, then red, and the others stay
+-- green in early cut-off green and are then yellow, then red.
+unfoldable pub vehicleColour : Interval → Bool → Held → Held → Group → ℕ
+vehicleColour StartRed closes came target group = red
+vehicleColour LateStart closes came target group =
     if eqb (group .mark) 1 && not (heldIn came (group .phases)) then red else green
-vehicleColour MinimumGreen came target group = green
-vehicleColour Running came target group = green
-vehicleColour Yellow came target group = if heldIn target (group .phases) then green else yellow
-vehicleColour AllRed came target group = if heldIn target (group .phases) then green else red
+vehicleColour MinimumGreen closes came target group = green
+vehicleColour Running closes came target group = green
+vehicleColour EarlyCutOff closes came target group =
+    if heldIn target (group .phases) || not (eqb (group .mark) 3) then green else if closes then yellow else red
+vehicleColour Yellow closes came target group =
+    if heldIn target (group .phases) then green else if closes || not (eqb (group .mark) 3) then yellow else red
+vehicleColour AllRed closes came target group = if heldIn target (group .phases) then green else red
 
 unfoldable pub movementColour : Stage → ℕ
 movementColour Idle = red
@@ -54,18 +70,22 @@ movementColour ClearanceOne = flashing
 movementColour ClearanceTwo = flashing
 
 -- what a vehicle group shows; one that is not of the phase is red
-unfoldable pub vehicleShown : Position → Group → ℕ
-vehicleShown position group =
+unfoldable pub vehicleShown : Bool → Position → Group → ℕ
+vehicleShown closes position group =
     if bit (position .phase) (group .phases)
-    then vehicleColour (position .interval) (position .came) (position .target) group
+    then vehicleColour (position .interval) closes (position .came) (position .target) group
     else red
 
--- what group g shows, by the position and the movements of a state
-unfoldable pub colourOf : List Group → Position → List Movement → ℕ → ℕ
-colourOf groups position movements g =
+-- what group g shows, by the position and the movements of a state, and whether groups that stop early are closing
+unfoldable pub colourOf : List Group → Bool → Position → List Movement → ℕ → ℕ
+colourOf groups closes position movements g =
     if isPedestrian groups g
     then movementColour (getD movements (movementOf groups g) idle .stage)
-    else vehicleShown position (groupOf groups g)
+    else vehicleShown closes position (groupOf groups g)
+
+-- what group g shows in a state
+unfoldable pub shownIn : Site → State → ℕ → ℕ
+shownIn site s = colourOf (site .groups) (closing (site .times) (s .position)) (s .position) (s .movements)
 
 unfoldable pub coloursOf : Site → State → List ℕ
-coloursOf site s = listOf (colourOf (site .groups) (s .position) (s .movements)) (site .size .groups)
+coloursOf site s = listOf (shownIn site s) (site .size .groups)

@@ -10,7 +10,7 @@ use Rattle.rules.specs.declared.state.Counts.{Counts}
 use Rattle.rules.specs.declared.state.Held.{Held}
 use Rattle.rules.specs.declared.state.Held.the-variants.{Nothing, Phase}
 use Rattle.rules.specs.declared.state.Interval.{Interval}
-use Rattle.rules.specs.declared.state.Interval.the-variants.{StartRed, LateStart, MinimumGreen, Running, Yellow, AllRed}
+use Rattle.rules.specs.declared.state.Interval.the-variants.{StartRed, LateStart, MinimumGreen, Running, EarlyCutOff, Yellow, AllRed}
 use Rattle.rules.specs.declared.state.Movement.{Movement}
 use Rattle.rules.specs.declared.state.Position.{Position}
 use Rattle.rules.specs.declared.state.Stage.{Stage}
@@ -26,8 +26,8 @@ someMovement test movements = anyOf (λ k. test (getD movements k idle .stage)) 
 
 -- ── When the interval ends ──
 
--- Start red, late start, minimum green and yellow end once the age is at least the setting. Running ends if another phase is
--- demanded, no movement is in walk or C1, and the gap count is 0 or the maximum count is X. All-red ends when its age is at
+-- Start red, late start, minimum green, early cut-off green and yellow end once the age is at least the setting. Running ends if another
+-- phase is demanded, no movement is in walk or C1, and the gap count is 0 or the maximum count is X. All-red ends when its age is at
 -- least R and no movement is in C2.
 unfoldable pub ends : Interval → ℕ → PhaseTimes → ℕ → Bool → List Movement → Counts → Bool
 ends StartRed start times age another movements counts = leb start age
@@ -35,6 +35,7 @@ ends LateStart start times age another movements counts = leb (times .late) age
 ends MinimumGreen start times age another movements counts = leb (times .minimum) age
 ends Running start times age another movements counts =
     another && not (someMovement isWalkOrFirst movements) && (eqb (counts .gap) 0 || eqb (counts .maximum) (times .maximum))
+ends EarlyCutOff start times age another movements counts = leb (times .early) age
 ends Yellow start times age another movements counts = leb (times .yellow) age
 ends AllRed start times age another movements counts = leb (times .red) age && not (someMovement isSecond movements)
 
@@ -56,11 +57,17 @@ starting times p came =
       target = Nothing;
     }
 
+-- running is followed by early cut-off green, or by yellow if its time is 0; the target is the phase that is demanded next at that moment
+unfoldable pub leaving : Times → Held → Position → Position
+leaving times next position =
+    entering (if eqb (phaseTimes times (position .phase) .early) 0 then Yellow else EarlyCutOff) next position
+
 unfoldable pub following : Interval → Times → Held → Position → Position
 following StartRed times next position = starting times (position .phase) (position .came)
 following LateStart times next position = entering MinimumGreen Nothing position
 following MinimumGreen times next position = entering Running Nothing position
-following Running times next position = entering Yellow next position
+following Running times next position = leaving times next position
+following EarlyCutOff times next position = entering Yellow (position .target) position
 following Yellow times next position = entering AllRed (position .target) position
 following AllRed times next position = starting times (phaseHeld (position .target)) (Phase (position .phase))
 

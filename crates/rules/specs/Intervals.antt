@@ -5,7 +5,7 @@ use mathlib.Core.List.{List, [], _∷_}
 use Rattle.rules.specs.declared.state.Held.{Held}
 use Rattle.rules.specs.declared.state.Held.the-variants.{Nothing, Phase}
 use Rattle.rules.specs.declared.state.Interval.{Interval}
-use Rattle.rules.specs.declared.state.Interval.the-variants.{StartRed, LateStart, MinimumGreen, Running, Yellow, AllRed}
+use Rattle.rules.specs.declared.state.Interval.the-variants.{StartRed, LateStart, MinimumGreen, Running, EarlyCutOff, Yellow, AllRed}
 use Rattle.rules.specs.declared.state.IntervalRow.{IntervalRow}
 use Rattle.rules.specs.declared.state.Stage.{Stage}
 use Rattle.rules.specs.declared.state.Stage.the-variants.{Idle, Walk, ClearanceOne, ClearanceTwo}
@@ -14,18 +14,19 @@ use Rattle.rules.specs.Bytes.{bit}
 
 -- ── Intervals ──
 
--- The letters are S, L, M, G, Y and R.
+-- The letters are S, L, M, G, E, Y and R.
 abbrev pub intervalRow : Interval → IntervalRow
-intervalRow StartRed = record { code = 0; letter = 83; start = true; minimum = false; running = false; green = false; leaving = false; before = true }
-intervalRow LateStart = record { code = 1; letter = 76; start = false; minimum = false; running = false; green = false; leaving = false; before = false }
-intervalRow MinimumGreen = record { code = 2; letter = 77; start = false; minimum = true; running = false; green = true; leaving = false; before = false }
-intervalRow Running = record { code = 3; letter = 71; start = false; minimum = false; running = true; green = true; leaving = false; before = false }
-intervalRow Yellow = record { code = 4; letter = 89; start = false; minimum = false; running = false; green = false; leaving = true; before = false }
-intervalRow AllRed = record { code = 5; letter = 82; start = false; minimum = false; running = false; green = false; leaving = true; before = true }
+intervalRow StartRed = record { code = 0; letter = 83; start = true; minimum = false; running = false; green = false; early = false; leaving = false; before = true }
+intervalRow LateStart = record { code = 1; letter = 76; start = false; minimum = false; running = false; green = false; early = false; leaving = false; before = false }
+intervalRow MinimumGreen = record { code = 2; letter = 77; start = false; minimum = true; running = false; green = true; early = false; leaving = false; before = false }
+intervalRow Running = record { code = 3; letter = 71; start = false; minimum = false; running = true; green = true; early = false; leaving = false; before = false }
+intervalRow EarlyCutOff = record { code = 4; letter = 69; start = false; minimum = false; running = false; green = false; early = true; leaving = true; before = false }
+intervalRow Yellow = record { code = 5; letter = 89; start = false; minimum = false; running = false; green = false; early = false; leaving = true; before = false }
+intervalRow AllRed = record { code = 6; letter = 82; start = false; minimum = false; running = false; green = false; early = false; leaving = true; before = true }
 
 -- all of them, in the order of their codes
 abbrev pub intervals : List Interval
-intervals = StartRed ∷ LateStart ∷ MinimumGreen ∷ Running ∷ Yellow ∷ AllRed ∷ []
+intervals = StartRed ∷ LateStart ∷ MinimumGreen ∷ Running ∷ EarlyCutOff ∷ Yellow ∷ AllRed ∷ []
 
 unfoldable pub isStartRed : Interval → Bool
 isStartRed interval = intervalRow interval .start
@@ -40,7 +41,10 @@ isRunning interval = intervalRow interval .running
 unfoldable pub isGreen : Interval → Bool
 isGreen interval = intervalRow interval .green
 
--- yellow or all-red: the phase is being left
+unfoldable pub isEarly : Interval → Bool
+isEarly interval = intervalRow interval .early
+
+-- early cut-off green, yellow or all-red: the phase is being left
 unfoldable pub isLeaving : Interval → Bool
 isLeaving interval = intervalRow interval .leaving
 

@@ -84,3 +84,31 @@ overlap =
     (fours (10 ∷ 1 ∷ 0 ∷ 1 ∷ []))
     (0 ∷ 6 ∷ 1 ∷ 6 ∷ [])
     []
+
+-- ── Sites of request one: early cut-off green ──
+
+-- A section of kind 7 with these times.
+unfoldable pub cutOffs : List ℕ → List ℕ
+cutOffs times = section 7 (twos times)
+
+-- A with a turning arrow, group 1, that stops early, and B; both groups of A conflict with that of B
+unfoldable pub turning : List ℕ
+turning =
+    sections
+    (2 ∷ 3 ∷ two 10)
+    (shortPhase ++ shortPhase)
+    (1 ∷ 0 ∷ 1 ∷ 3 ∷ 2 ∷ 0 ∷ [])
+    (fours (4 ∷ 4 ∷ 3 ∷ []))
+    (0 ∷ 6 ∷ 1 ∷ 6 ∷ [])
+    []
+
+-- the same where the arrow is of both phases, and conflicts with no group
+unfoldable pub turningBoth : List ℕ
+turningBoth =
+    sections
+    (2 ∷ 3 ∷ two 10)
+    (shortPhase ++ shortPhase)
+    (1 ∷ 0 ∷ 3 ∷ 3 ∷ 2 ∷ 0 ∷ [])
+    (fours (4 ∷ 0 ∷ 1 ∷ []))
+    (0 ∷ 6 ∷ 1 ∷ 6 ∷ [])
+    []

@@ -16,7 +16,7 @@ use Rattle.rules.specs.declared.site.Times.{Times}
 use Rattle.rules.specs.declared.site.WalkTimes.{WalkTimes}
 use Rattle.rules.specs.declared.state.State.{State}
 use Rattle.rules.specs.Rows.{allOf}
-use Rattle.rules.specs.Limits.{limits, limitOf, startRedSetting, phaseSettings, walkSettings, settingCount}
+use Rattle.rules.specs.Limits.{limits, limitOf, startRedSetting, phaseSettings, walkSettings, earlySetting, settingCount}
 use Rattle.rules.specs.Personality.{knownMode, verdictOf}
 use Rattle.rules.specs.Site.{siteOf, groupOf, detectorOf, phaseTimes, walkTimes, inPhase, crosses, isPedestrian, movementOf, conflict}
 use Rattle.rules.specs.State.{highestAge, fresh, valid}
@@ -37,6 +37,7 @@ pub record PhaseTimesIn (table : List Range) (times : PhaseTimes) : Type 0 where
   pub gap : InTable table (phaseSettings + 3) (times .gap)
   pub yellow : InTable table (phaseSettings + 4) (times .yellow)
   pub red : InTable table (phaseSettings + 5) (times .red)
+  pub early : InTable table earlySetting (times .early)
 
 pub record WalkTimesIn (table : List Range) (times : WalkTimes) : Type 0 where
   pub walk : InTable table walkSettings (times .walk)
@@ -62,6 +63,7 @@ highestPhase table =
       gap = highest table (phaseSettings + 3);
       yellow = highest table (phaseSettings + 4);
       red = highest table (phaseSettings + 5);
+      early = highest table earlySetting;
     }
 
 unfoldable pub highestWalk : List Range → WalkTimes
@@ -81,9 +83,9 @@ greatestShare table =
 unfoldable pub greatestWait : List Range → ℕ
 greatestWait table = highest table startRedSetting + 7 * greatestShare table
 
--- late start and gap
+-- late start, gap and early cut-off green
 unfoldable pub mayBeZero : ℕ → Bool
-mayBeZero setting = eqb setting phaseSettings || eqb setting (phaseSettings + 3)
+mayBeZero setting = eqb setting phaseSettings || eqb setting (phaseSettings + 3) || eqb setting earlySetting
 
 -- an age can reach the setting, and it is one step at least unless it may be 0
 unfoldable pub timely : List Range → ℕ → Bool
@@ -114,9 +116,12 @@ pub record Sound (site : Site) : Type 0 where
   pub detectors : site .size .detectors ≤ 48
   pub movements : site .size .movements ≤ 8
   pub times : SoundTimes (site .size) (site .times)
+  -- without a section of kind 7 no phase has early cut-off green, and no group stops early
+  pub noEarlyTime : (p : ℕ) → site .early ≡ false → phaseTimes (site .times) p .early ≡ 0
+  pub noEarlyGroup : (g : ℕ) → site .early ≡ false → groupOf (site .groups) g .mark ≡ 3 → ⊥
   -- groups, detectors and movements are of phases that exist, and each phase has a group
   pub groupPhase : (g p : ℕ) → inPhase (site .groups) g p ≡ true → (g < site .size .groups) × (p < site .size .phases)
-  pub groupMark : (g : ℕ) → groupOf (site .groups) g .mark ≤ 2
+  pub groupMark : (g : ℕ) → groupOf (site .groups) g .mark ≤ 3
   pub phaseGroup : (p : ℕ) → p < site .size .phases → (g : ℕ) × (g < site .size .groups) × (inPhase (site .groups) g p ≡ true)
   pub detectorPhase : (d : ℕ) → d < site .size .detectors → detectorOf (site .detectors) d .phase < site .size .phases
   pub detectorMode : (d : ℕ) → d < site .size .detectors → knownMode (detectorOf (site .detectors) d .mode) ≡ true
@@ -146,7 +151,7 @@ AcceptedIsInTable = (b : List ℕ) → verdictOf b ≡ Accepted → TimesIn limi
 
 -- the numbers of the personality's checks, and those of a step's
 abbrev pub readingNumber : ℕ → Bool
-readingNumber number = leb 1 number && leb number 12
+readingNumber number = (leb 1 number && leb number 12) || eqb number 17
 
 abbrev pub stepNumber : ℕ → Bool
 stepNumber number = leb 13 number && leb number 15
@@ -155,7 +160,7 @@ stepNumber number = leb 13 number && leb number 15
 abbrev pub sectionLength : ℕ → ℕ → ℕ
 sectionLength count width = 4 + count * width
 
--- the longest personality: the site, 7 phases, 32 groups, their conflicts, 48 detectors, 8 pedestrian groups
+-- the longest personality: the site, 7 phases, 32 groups, their conflicts, 48 detectors, 8 pedestrian groups, 7 times of kind 7
 abbrev pub greatestLength : ℕ
 greatestLength =
     sectionLength 1 4
@@ -164,6 +169,7 @@ greatestLength =
     + sectionLength 32 4
     + sectionLength 48 2
     + sectionLength 8 6
+    + sectionLength 7 2
 
 unfoldable pub AcceptedIsShort : Type 0
 AcceptedIsShort = (b : List ℕ) → verdictOf b ≡ Accepted → length b ≤ greatestLength

@@ -1,5 +1,5 @@
 -- The one table of lowest and highest values, for every time setting. Settings are numbered in the order of the paper's table:
--- start red; L, M, X, G, Y, R of a phase; W, C1, C2 of a movement.
+-- start red; L, M, X, G, Y, R of a phase; W, C1, C2 of a movement; early cut-off green of a phase.
 use Prim.Native.Nat.{ℕ, _+_}
 use mathlib.Core.Bool.{Bool, _&&_}
 use mathlib.Core.List.{List, [], _∷_}
@@ -19,6 +19,7 @@ limits =
     ∷ record { low = 10; high = 400 }
     ∷ record { low = 1; high = 400 }
     ∷ record { low = 1; high = 400 }
+    ∷ record { low = 0; high = 200 }
     ∷ []
 
 -- a table's entry for the setting; a setting that it has not admits 0 alone
@@ -28,7 +29,8 @@ limitOf table setting = getD table setting (record { low = 0; high = 0 })
 unfoldable pub within : List Range → ℕ → ℕ → Bool
 within table setting value = leb (limitOf table setting .low) value && leb value (limitOf table setting .high)
 
--- the settings' numbers: that of start red, the first of a phase record (L) and the first of a pedestrian record (W)
+-- the settings' numbers: that of start red, the first of a phase record (L), the first of a pedestrian record (W), and that of early
+-- cut-off green
 abbrev pub startRedSetting : ℕ
 startRedSetting = 0
 
@@ -38,6 +40,9 @@ phaseSettings = 1
 abbrev pub walkSettings : ℕ
 walkSettings = 7
 
+abbrev pub earlySetting : ℕ
+earlySetting = 10
+
 -- how many settings there are
 abbrev pub settingCount : ℕ
-settingCount = walkSettings + 3
+settingCount = earlySetting + 1

@@ -1,21 +1,22 @@
 -- The section lookup: the section's own bytes, body only, and the number and place of the call beside it.
 use Prim.Native.Nat.{ℕ, _-_}
-use mathlib.Core.Bool.{Bool, not, _&&_}
+use mathlib.Core.Bool.{Bool, not, _&&_, _||_}
 use mathlib.Core.List.{List, [], _∷_}
-use lib.Dec.{leb}
+use lib.Dec.{leb, eqb}
 use lib.ListN.{getD, take, drop}
 use Rattle.rules.specs.declared.answer.Verdict.{Verdict}
 use Rattle.rules.specs.declared.answer.Verdict.the-variants.{Accepted, Refused}
 use Rattle.rules.specs.declared.answer.Report.{Report}
 use Rattle.rules.specs.Verdicts.{_orElse_, refuseIf, reportOf}
-use Rattle.rules.specs.Personality.{verdictOf, bodyAt, bodyLength, siteHead, phasesHead, groupsHead, conflictsHead, detectorsHead, pedestriansHead}
+use Rattle.rules.specs.Personality.{verdictOf, bodyAt, bodyLength, siteHead, phasesHead, groupsHead, conflictsHead, detectorsHead, pedestriansHead, earlyHead, hasEarly}
 
-unfoldable pub heldKind : ℕ → Bool
-heldKind kind = leb 1 kind && leb kind 6
+-- kinds 1 to 6, and 7 where it is there
+unfoldable pub heldKind : List ℕ → ℕ → Bool
+heldKind b kind = (leb 1 kind && leb kind 6) || (eqb kind 7 && hasEarly b)
 
 -- the heads in the order of the kinds
 abbrev pub heads : List ℕ → List ℕ
-heads b = siteHead ∷ phasesHead ∷ groupsHead b ∷ conflictsHead b ∷ detectorsHead b ∷ pedestriansHead b ∷ []
+heads b = siteHead ∷ phasesHead ∷ groupsHead b ∷ conflictsHead b ∷ detectorsHead b ∷ pedestriansHead b ∷ earlyHead b ∷ []
 
 -- the head of the section of a kind that is held
 unfoldable pub headOf : List ℕ → ℕ → ℕ
@@ -23,7 +24,7 @@ headOf b kind = getD (heads b) (kind - 1) 0
 
 -- The personality's own refusal, and then 2 at 0 for a kind that is not held.
 unfoldable pub lookupVerdict : List ℕ → ℕ → Verdict
-lookupVerdict b kind = verdictOf b orElse refuseIf (not (heldKind kind)) 2 0
+lookupVerdict b kind = verdictOf b orElse refuseIf (not (heldKind b kind)) 2 0
 
 unfoldable pub lookupReport : List ℕ → ℕ → Report
 lookupReport b kind = reportOf (lookupVerdict b kind)

@@ -1,13 +1,14 @@
--- The personality's sections and the order of checks: numbers 1 to 12, each with its place. Places count from the first byte.
+-- The personality's sections and the order of checks: numbers 1 to 12 and 17, each with its place. Places count from the first byte.
 use Prim.Native.Nat.{ℕ, _+_, _*_, _/_, _%_, _^_}
 use mathlib.Core.Bool.{Bool, not, _&&_, _||_}
 use mathlib.Core.List.{List, [], _∷_}
 use lib.Dec.{leb, ltb, eqb}
 use lib.ListN.{length}
 use Rattle.rules.specs.declared.answer.Verdict.{Verdict}
-use Rattle.rules.specs.Rows.{anyOf, allOf, countOf}
+use Rattle.rules.specs.declared.answer.Verdict.the-variants.{Accepted}
+use Rattle.rules.specs.Rows.{if_then_else_, anyOf, allOf, countOf}
 use Rattle.rules.specs.Bytes.{byteAt, twoAt, fourAt, bit}
-use Rattle.rules.specs.Limits.{limits, within, startRedSetting, phaseSettings, walkSettings}
+use Rattle.rules.specs.Limits.{limits, within, startRedSetting, phaseSettings, walkSettings, earlySetting}
 use Rattle.rules.specs.Verdicts.{_orElse_, refuseIf, firstOf}
 
 -- ── Sections: a two-byte body length, a two-byte kind, then the body ──
@@ -51,9 +52,17 @@ detectorsHead b = bodyAt (conflictsHead b) + groupCount b * 4
 unfoldable pub pedestriansHead : List ℕ → ℕ
 pedestriansHead b = bodyAt (detectorsHead b) + bodyLength b (detectorsHead b)
 
--- just past kind 6
+-- just past kind 6, where the head of the optional kind 7 stands if it is there
+unfoldable pub earlyHead : List ℕ → ℕ
+earlyHead b = bodyAt (pedestriansHead b) + bodyLength b (pedestriansHead b)
+
+-- the bytes after kind 6 begin with a whole kind 7 head
+unfoldable pub hasEarly : List ℕ → Bool
+hasEarly b = leb (earlyHead b + 4) (length b) && eqb (kindAt b (earlyHead b)) 7
+
+-- just past the last section
 unfoldable pub endOf : List ℕ → ℕ
-endOf b = bodyAt (pedestriansHead b) + bodyLength b (pedestriansHead b)
+endOf b = if hasEarly b then bodyAt (earlyHead b) + bodyLength b (earlyHead b) else earlyHead b
 
 -- ── Records ──
 
@@ -115,11 +124,11 @@ phasesSection b =
     sectionAt b phasesHead 2 (eqb (bodyLength b phasesHead) (phaseCount b * 12))
     orElse firstOf (λ p. timesAt b (recordAt phasesHead 12 p) phaseSettings 6) (phaseCount b)
 
--- 6: a phase bit at or above P, a mark above 2, or pedestrian without exactly one phase
+-- 6: a phase bit at or above P, a mark above 3, or pedestrian without exactly one phase
 unfoldable pub badGroup : List ℕ → ℕ → Bool
 badGroup b g =
     leb (2 ^ phaseCount b) (groupSet b g)
-    || ltb 2 (groupMark b g)
+    || ltb 3 (groupMark b g)
     || (pedestrian b g && not (eqb (countOf (λ p. bit p (groupSet b g)) (phaseCount b)) 1))
 
 -- 7: the ninth pedestrian group
@@ -179,9 +188,27 @@ pedestriansSection b =
     sectionAt b (pedestriansHead b) 6 (eqb (bodyLength b (pedestriansHead b)) (movementCount b * 6))
     orElse firstOf (λ k. timesAt b (recordAt (pedestriansHead b) 6 k) walkSettings 3) (movementCount b)
 
--- 12: bytes left over after kind 6
+-- kind 7, where it is there: a time of early cut-off green for each phase
+unfoldable pub earlySection : List ℕ → Verdict
+earlySection b =
+    if hasEarly b
+    then
+    sectionAt b (earlyHead b) 7 (eqb (bodyLength b (earlyHead b)) (phaseCount b * 2))
+    orElse firstOf (λ p. timeAt b (recordAt (earlyHead b) 2 p) earlySetting) (phaseCount b)
+    else Accepted
+
+-- a group that stops early
+unfoldable pub stopsEarly : List ℕ → ℕ → Bool
+stopsEarly b g = eqb (groupMark b g) 3
+
+-- 17: a group that stops early, without a section of kind 7
+unfoldable pub earlyMissing : List ℕ → Verdict
+earlyMissing b =
+    firstOf (λ g. refuseIf (stopsEarly b g && not (hasEarly b)) 17 (recordAt (groupsHead b) 2 g)) (groupCount b)
+
+-- What follows kind 6: kind 7 where it is there; then 17; then 12, bytes left over.
 unfoldable pub afterPedestrians : List ℕ → Verdict
-afterPedestrians b = refuseIf (ltb (endOf b) (length b)) 12 (endOf b)
+afterPedestrians b = earlySection b orElse earlyMissing b orElse refuseIf (ltb (endOf b) (length b)) 12 (endOf b)
 
 unfoldable pub verdictOf : List ℕ → Verdict
 verdictOf b =

@@ -10,16 +10,16 @@ use Rattle.rules.specs.declared.site.PhaseTimes.{PhaseTimes}
 use Rattle.rules.specs.declared.site.Site.{Site}
 use Rattle.rules.specs.declared.site.Times.{Times}
 use Rattle.rules.specs.declared.site.WalkTimes.{WalkTimes}
-use Rattle.rules.specs.Rows.{listOf, countOf, indicesOf}
+use Rattle.rules.specs.Rows.{if_then_else_, listOf, countOf, indicesOf}
 use Rattle.rules.specs.Bytes.{twoAt, bit}
-use Rattle.rules.specs.Personality.{phaseCount, groupCount, detectorCount, movementCount, groupSet, groupMark, conflictSet, detectorPhase, detectorMode, pedestrian, phasesHead, pedestriansHead, recordAt}
+use Rattle.rules.specs.Personality.{phaseCount, groupCount, detectorCount, movementCount, groupSet, groupMark, conflictSet, detectorPhase, detectorMode, pedestrian, phasesHead, pedestriansHead, earlyHead, hasEarly, recordAt}
 
 -- f 0 .. f (n - 1), and blanks up to the room
 unfoldable pub rowOf {ℓ} : {A : Type ℓ} → (ℕ → A) → ℕ → ℕ → A → List A
 rowOf f n room blank = listOf f n ++ replicate (room - n) blank
 
 abbrev pub noPhaseTimes : PhaseTimes
-noPhaseTimes = record { late = 0; minimum = 0; maximum = 0; gap = 0; yellow = 0; red = 0 }
+noPhaseTimes = record { late = 0; minimum = 0; maximum = 0; gap = 0; yellow = 0; red = 0; early = 0 }
 
 abbrev pub noWalkTimes : WalkTimes
 noWalkTimes = record { walk = 0; first = 0; second = 0 }
@@ -30,11 +30,22 @@ noGroup = record { phases = 0; mark = 0 }
 abbrev pub noDetector : Detector
 noDetector = record { phase = 0; mode = 0 }
 
+-- the kind 7 time of phase p, 0 without such a section
+unfoldable pub earlyTimeAt : List ℕ → ℕ → ℕ
+earlyTimeAt b p = if hasEarly b then twoAt b (recordAt (earlyHead b) 2 p) else 0
+
 unfoldable pub phaseTimesAt : List ℕ → ℕ → PhaseTimes
 phaseTimesAt b p =
     let at = recordAt phasesHead 12 p in
-    record
-    { late = twoAt b at; minimum = twoAt b (at + 2); maximum = twoAt b (at + 4); gap = twoAt b (at + 6); yellow = twoAt b (at + 8); red = twoAt b (at + 10) }
+    record {
+      late = twoAt b at;
+      minimum = twoAt b (at + 2);
+      maximum = twoAt b (at + 4);
+      gap = twoAt b (at + 6);
+      yellow = twoAt b (at + 8);
+      red = twoAt b (at + 10);
+      early = earlyTimeAt b p;
+    }
 
 unfoldable pub walkTimesAt : List ℕ → ℕ → WalkTimes
 walkTimesAt b k =
@@ -61,6 +72,7 @@ siteOf b =
       conflicts = rowOf (conflictSet b) (groupCount b) 32 0;
       detectors = rowOf (λ d. record { phase = detectorPhase b d; mode = detectorMode b d }) (detectorCount b) 48 noDetector;
       crossings = rowOf (crossingAt b) (movementCount b) 8 0;
+      early = hasEarly b;
       times = timesIn b;
     }
 

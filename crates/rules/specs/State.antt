@@ -16,7 +16,7 @@ use Rattle.rules.specs.declared.state.Position.{Position}
 use Rattle.rules.specs.declared.state.Stage.the-variants.{Idle}
 use Rattle.rules.specs.declared.state.State.{State}
 use Rattle.rules.specs.Rows.{allOf}
-use Rattle.rules.specs.Intervals.{isIdle, isWalkOrFirst, isStartRed, isLeaving}
+use Rattle.rules.specs.Intervals.{isIdle, isWalkOrFirst, isStartRed, isEarly, isLeaving}
 use Rattle.rules.specs.Site.{phaseTimes, crosses}
 
 abbrev pub idle : Movement
@@ -52,7 +52,11 @@ unfoldable pub every : List Bool → Bool
 every [] = true
 every (test ∷ tests) = test && every tests
 
--- a target unlike the phase, held in yellow and all-red only
+-- without a section of kind 7 a state in early cut-off green is not valid
+unfoldable pub intervalValid : Bool → Interval → Bool
+intervalValid early interval = early || not (isEarly interval)
+
+-- a target unlike the phase, held in early cut-off green, yellow and all-red only
 unfoldable pub targetValid : ℕ → ℕ → Bool → Held → Bool
 targetValid count phase leaving Nothing = not leaving
 targetValid count phase leaving (Phase t) = leaving && ltb t count && not (eqb t phase)
@@ -65,11 +69,12 @@ cameValid count (Phase q) = ltb q count
 unfoldable pub ageValid : ℕ → Bool
 ageValid age = leb 1 age && leb age highestAge
 
--- the phase below P, the target, came-from and the age
-unfoldable pub positionValid : ℕ → Position → Bool
-positionValid phases position =
+-- the phase below P, the interval, the target, came-from and the age
+unfoldable pub positionValid : Bool → ℕ → Position → Bool
+positionValid early phases position =
     every
     (ltb (position .phase) phases
+    ∷ intervalValid early (position .interval)
     ∷ targetValid phases (position .phase) (isLeaving (position .interval)) (position .target)
     ∷ cameValid phases (position .came)
     ∷ ageValid (position .age)
@@ -88,7 +93,7 @@ unfoldable pub movementIn : ℕ → List ℕ → ℕ → ℕ → Bool
 movementIn count crossings p k = ltb k count && crosses crossings k p
 
 -- One movement record, by whether it is a movement of the phase: any other, or one that the site doesn't have, idle; none in walk or
--- C1 in yellow and all-red; idle in start red; idle ones at age 1.
+-- C1 in early cut-off green, yellow and all-red; idle in start red; idle ones at age 1.
 unfoldable pub movementValid : Bool → Interval → Movement → Bool
 movementValid ofPhase interval m =
     every
@@ -106,7 +111,7 @@ movementsValid count crossings position movements =
 unfoldable pub valid : Site → State → Bool
 valid site s =
     every
-    (positionValid (site .size .phases) (s .position)
+    (positionValid (site .early) (site .size .phases) (s .position)
     ∷ countsValid (phaseTimes (site .times) (s .position .phase)) (s .counts)
     ∷ allOf (demandExists (s .demands .locks) (site .size .phases)) 7
     ∷ allOf (demandExists (s .demands .buttons) (site .size .movements)) 8

@@ -1,4 +1,4 @@
--- The wait bound: start red plus, summed over phases, L + M + X + 2 × (A + Y + R + C).
+-- The wait bound: start red plus, summed over phases, L + M + X + 2 × (A + E + Y + R + C), where E is the time of early cut-off green.
 use Prim.Native.Nat.{ℕ, _+_, _*_}
 use mathlib.Core.List.{List}
 use lib.ListN.{getD}
@@ -12,7 +12,7 @@ use Rattle.rules.specs.Site.{noWalkTimes, phaseTimes, crosses}
 
 -- a phase's share, by its times and its A and C
 unfoldable pub phaseShare : PhaseTimes → ℕ → ℕ → ℕ
-phaseShare times a c = times .late + times .minimum + times .maximum + 2 * (a + times .yellow + times .red + c)
+phaseShare times a c = times .late + times .minimum + times .maximum + 2 * (a + times .early + times .yellow + times .red + c)
 
 -- Among the first n movements, by the phase set and the times of each.
 module _ (crossings : List ℕ) (walks : List WalkTimes) (n : ℕ) where

@@ -6,7 +6,7 @@ pub struct Range {
     pub high: u16,
 }
 
-// The time settings of one phase: L, M, X, G, Y, R.
+// The time settings of one phase: L, M, X, G, Y, R, and that of early cut-off green, 0 without a section of kind 7.
 pub struct PhaseTimes {
     pub late: u16,
     pub minimum: u16,
@@ -14,6 +14,7 @@ pub struct PhaseTimes {
     pub gap: u16,
     pub yellow: u16,
     pub red: u16,
+    pub early: u16,
 }
 
 // The time settings of one pedestrian movement: W, C1, C2.
@@ -38,7 +39,8 @@ pub struct Size {
     pub movements: u8,
 }
 
-// A signal group: its phase set (bit 0 is A) and its mark (0 vehicle, 1 vehicle with late start, 2 pedestrian).
+// A signal group: its phase set (bit 0 is A) and its mark (0 vehicle, 1 vehicle with late start, 2 pedestrian, 3 vehicle that stops
+// early).
 pub struct Group {
     pub phases: u8,
     pub mark: u8,
@@ -58,5 +60,7 @@ pub struct Site {
     pub detectors: [Detector; 48],
     // the phase set of each movement's signal group
     pub crossings: [u8; 8],
+    // the personality has a section of kind 7
+    pub early: bool,
     pub times: Times,
 }

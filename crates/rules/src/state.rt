@@ -6,6 +6,8 @@ pub enum Interval {
     LateStart,
     MinimumGreen,
     Running,
+    // the groups that stop early close, the phase's others stay green
+    EarlyCutOff,
     Yellow,
     AllRed,
 }
@@ -30,6 +32,8 @@ pub struct IntervalRow {
     pub running: bool,
     // the phase has its green: minimum green or running
     pub green: bool,
+    // it is early cut-off green
+    pub early: bool,
     // the phase is being left
     pub leaving: bool,
     // a phase starts when it ends

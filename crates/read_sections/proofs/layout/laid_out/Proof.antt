@@ -1,6 +1,6 @@
 -- `layout::laid_out` meets its contract: each head follows the body before it, and a body length is read at its own head.
 use native.Mathlib.Omega.{arith}
-use Rattle.rules.specs.Personality.{bodyAt, phaseCount, groupCount, groupsHead, conflictsHead, detectorsHead, pedestriansHead, endOf}
+use Rattle.rules.specs.Personality.{bodyAt, phaseCount, groupCount, groupsHead, conflictsHead, detectorsHead, pedestriansHead, earlyHead, hasEarly}
 use borrow.Author.Needs.{needs}
 use Rattle.read_sections.proofs.layout.laid_out.Statement.{statement}
 use Rattle.read_sections.proofs.layout.laid_out.Tie as tie
@@ -53,19 +53,23 @@ length-at-requires c κs = search needs
 add-pedestrians-2 : tie.Need-add-pedestrians-2
 add-pedestrians-2 c = search needs
 
-add-end : tie.Need-add-end
-add-end c = search needs
+add-early : tie.Need-add-early
+add-early c = search needs
 
 length-at-requires-2 : tie.Need-length-at-requires-2
 length-at-requires-2 c κs = search needs
 
-add-end-2 : tie.Need-add-end-2
-add-end-2 c = search needs
+add-early-2 : tie.Need-add-early-2
+add-early-2 c = search needs
+
+begins-requires : tie.Need-begins-requires
+begins-requires c κs = search needs
 
 returns : tie.Need-returns
-unfolding phaseCount groupCount groupsHead conflictsHead detectorsHead pedestriansHead endOf bodyAt
+unfolding phaseCount groupCount groupsHead conflictsHead detectorsHead pedestriansHead earlyHead hasEarly bodyAt
 returns c =
-    let fifth = c .before in
+    let sixth = c .before in
+    let fifth = sixth .before in
     let n = fifth .before .byte2 .ensures in
     let p = fifth .before .before .byte .ensures in
     record {
@@ -75,7 +79,8 @@ returns c =
       conflicts = simp (n, p);
       detectors = simp (n, p);
       pedestrians = simp (fifth .length-at .ensures .0, n, p);
-      end = simp (c .length-at2 .ensures .0, fifth .length-at .ensures .0, n, p);
+      early = simp (sixth .length-at2 .ensures .0, fifth .length-at .ensures .0, n, p);
+      seven = simp (c .begins .ensures, sixth .length-at2 .ensures .0, fifth .length-at .ensures .0, n, p);
       near = (omega arith, omega arith, omega arith, omega arith, omega arith);
     }
 
@@ -99,7 +104,8 @@ laid-out-spec =
     add-pedestrians
     length-at-requires
     add-pedestrians-2
-    add-end
+    add-early
     length-at-requires-2
-    add-end-2
+    add-early-2
+    begins-requires
     returns)
