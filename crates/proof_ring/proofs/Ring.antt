@@ -65,6 +65,12 @@ some-found d {q} {l = x ∷ l} i h =
     (λ (a : d x ≡ false). rw a (some-found d (later-in i (λ e. never-both h (rw e at a))) h))
     (decided (d x))
 
+-- two tests that agree on every entry find the same
+same-in : (d e : ℕ → Bool) (l : List ℕ) → ((q : ℕ) → In q l → d q ≡ e q) → firstIn d l ≡ firstIn e l
+unfolding firstIn
+same-in d e [] h = refl
+same-in d e (x ∷ l) h = rw (h x (in-first x l), same-in d e l (λ q i. h q (in-later x i)))
+
 -- ── How far it is ──
 
 -- the sum of f over the entries before the first q
@@ -141,6 +147,12 @@ module _ {n : ℕ} {ring : List ℕ} (ofn : RingOf n ring) where
   -- and where another phase is demanded it finds one
   pub other-found : (d : ℕ → Bool) {p q : ℕ} → q < n → (q ≡ p → ⊥) → d q ≡ true → isHeld (firstIn d (turn ring p)) ≡ true
   other-found d h ne = some-found d (turn-in (stands h) ne)
+
+  -- two tests that agree on every phase find the same
+  pub found-same : (d e : ℕ → Bool) (p : ℕ) → ((q : ℕ) → q < n → d q ≡ e q) → firstIn d (turn ring p) ≡ firstIn e (turn ring p)
+  found-same d e p h =
+      same-in d e (turn ring p)
+      (λ q i. h q (below (record { found = omega (arith, turn-keeps (one q) ring p, i .found) })))
 
   -- ── What the way may sum up to ──
 

@@ -3,7 +3,6 @@ pub mod Cases
 pub mod Tests
 pub mod Rows
 pub mod Verdicts
-pub mod Calls
 pub mod Counts
 pub mod Bits
 pub mod Intervals

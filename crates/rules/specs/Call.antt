@@ -10,15 +10,15 @@ use Rattle.rules.specs.declared.answer.Outcome.the-variants.{Stepped, De
 use Rattle.rules.specs.declared.answer.Verdict.{Verdict}
 use Rattle.rules.specs.declared.answer.Verdict.the-variants.{Accepted, Refused}
 use Rattle.rules.specs.declared.site.Site.{Site}
+use Rattle.rules.specs.declared.state.KeptState.{KeptState}
 use Rattle.rules.specs.declared.state.State.{State}
 use Rattle.rules.specs.Rows.{anyOf}
 use Rattle.rules.specs.Bytes.{bit}
 use Rattle.rules.specs.Verdicts.{_orElse_, refuseIf}
 use Rattle.rules.specs.Personality.{verdictOf}
 use Rattle.rules.specs.Site.{siteOf}
-use Rattle.rules.specs.State.{valid}
 use Rattle.rules.specs.Demands.{occupied, pressed}
-use Rattle.rules.specs.Step.{stepped}
+use Rattle.rules.specs.Kept.{keptValid, keptStepped}
 use Rattle.rules.specs.Colours.{coloursOf}
 use Rattle.rules.specs.WaitBound.{waitBound}
 
@@ -30,38 +30,42 @@ wired site i = ltb i (site .size .detectors) || (leb 48 i && ltb i (48 + site .s
 unfoldable pub strayInput : Site → ℕ → Bool
 strayInput site inputs = anyOf (λ i. bit i inputs && not (wired site i)) 64
 
--- the checks of a step on an accepted site: 13, then 15, then 14, all at 0
-unfoldable pub stepVerdict : Site → State → ℕ → ℕ → Verdict
-stepVerdict site s inputs room =
-    refuseIf (not (valid site s)) 13 0
+-- the checks of a step on an accepted site, whose state is valid or not: 13, then 15, then 14, all at 0
+unfoldable pub stepVerdict : Site → Bool → ℕ → ℕ → Verdict
+stepVerdict site isValid inputs room =
+    refuseIf (not isValid) 13 0
     orElse refuseIf (strayInput site inputs) 15 0
     orElse refuseIf (ltb room (site .size .groups)) 14 0
 
 -- the personality first
-unfoldable pub callVerdict : List ℕ → State → ℕ → ℕ → Verdict
-callVerdict b s inputs room = verdictOf b orElse stepVerdict (siteOf b) s inputs room
+unfoldable pub callVerdict : List ℕ → KeptState → ℕ → ℕ → Verdict
+callVerdict b s inputs room = verdictOf b orElse stepVerdict (siteOf b) (keptValid (siteOf b) s) inputs room
 
--- a refusal hands back the old state
-unfoldable pub answerFor : Verdict → Site → State → ℕ → Answer
-answerFor Accepted site s inputs = record { outcome = Stepped (waitBound site); state = stepped site s inputs }
-answerFor (Refused number place) site s inputs = record { outcome = Declined number place; state = s }
-
--- the colours of the new state, and the bytes past N untouched; all of it untouched on a refusal
-unfoldable pub bufferFor : Verdict → Site → State → ℕ → List ℕ → List ℕ
-bufferFor Accepted site s inputs buffer = coloursOf site (stepped site s inputs) ++ drop (site .size .groups) buffer
-bufferFor (Refused number place) site s inputs buffer = buffer
-
-unfoldable pub answerOf : List ℕ → State → ℕ → ℕ → Answer
-answerOf b s inputs room = answerFor (callVerdict b s inputs room) (siteOf b) s inputs
-
-unfoldable pub bufferOf : List ℕ → State → ℕ → List ℕ → List ℕ
-bufferOf b s inputs buffer = bufferFor (callVerdict b s inputs (length buffer)) (siteOf b) s inputs buffer
-
--- ── Unit three: the wait bound of a personality, or its refusal ──
-
+-- an accepted step gives the wait bound
 unfoldable pub boundFor : Verdict → Site → Outcome
 boundFor Accepted site = Stepped (waitBound site)
 boundFor (Refused number place) site = Declined number place
+
+-- a refusal hands back the old state
+unfoldable pub handedBack : {S : Type 0} → Verdict → S → S → S
+handedBack Accepted new old = new
+handedBack (Refused number place) new old = old
+
+-- the colours of the new state, and the bytes past N untouched; all of it untouched on a refusal
+unfoldable pub bufferFor : Verdict → Site → State → List ℕ → List ℕ
+bufferFor Accepted site new buffer = coloursOf site new ++ drop (site .size .groups) buffer
+bufferFor (Refused number place) site new buffer = buffer
+
+unfoldable pub answerOf : List ℕ → KeptState → ℕ → ℕ → Answer
+answerOf b s inputs room =
+    let verdict = callVerdict b s inputs room in
+    record { outcome = boundFor verdict (siteOf b); state = handedBack verdict (keptStepped (siteOf b) s inputs) s }
+
+unfoldable pub bufferOf : List ℕ → KeptState → ℕ → List ℕ → List ℕ
+bufferOf b s inputs buffer =
+    bufferFor (callVerdict b s inputs (length buffer)) (siteOf b) (keptStepped (siteOf b) s inputs .rest) buffer
+
+-- ── Unit three: the wait bound of a personality, or its refusal ──
 
 unfoldable pub boundOf : List ℕ → Outcome
 boundOf b = boundFor (verdictOf b) (siteOf b)

@@ -1,7 +1,7 @@
 -- The worked cases: document 01's starred ones, and our own below them, in a single list with
 -- one statement: each of them holds.
 use Prim.Native.Nat.{ℕ, _+_, _^_}
-use mathlib.Core.Bool.{Bool, _&&_, _||_}
+use mathlib.Core.Bool.{Bool, true, false, _&&_, _||_}
 use mathlib.Core.Path.{_≡_}
 use mathlib.Core.List.{List, [], _∷_, _++_}
 use lib.Dec.{leb, eqb}
@@ -13,11 +13,12 @@ use Rattle.rules.specs.declared.answer.Verdict.the-variants.{Accepted, R
 use Rattle.rules.specs.declared.state.Held.the-variants.{Nothing, Phase}
 use Rattle.rules.specs.declared.state.Interval.{Interval}
 use Rattle.rules.specs.declared.state.Interval.the-variants.{StartRed, LateStart, MinimumGreen, Running, EarlyCutOff, Yellow, AllRed}
-use Rattle.rules.specs.declared.state.State.{State}
+use Rattle.rules.specs.declared.state.KeptState.{KeptState}
 use Rattle.rules.specs.Rows.{if_then_else_}
 use Rattle.rules.specs.Personality.{groupCount, verdictOf}
 use Rattle.rules.specs.Site.{siteOf}
 use Rattle.rules.specs.State.{fresh}
+use Rattle.rules.specs.Kept.{freshKept}
 use Rattle.rules.specs.Colours.{red, yellow, green, flashing}
 use Rattle.rules.specs.WaitBound.{waitBound}
 use Rattle.rules.specs.Call.{answerOf}
@@ -30,7 +31,7 @@ pub data Case : Type 0 where
   reading : List ℕ → Verdict → Case
   waiting : List ℕ → ℕ → Case
   running : List ℕ → (ℕ → ℕ) → ℕ → List Line → Case
-  answering : List ℕ → State → ℕ → Answer → Case
+  answering : List ℕ → KeptState → ℕ → Answer → Case
 
 abbrev pub Holds : Case → Type 0
 Holds (reading b verdict) = verdictOf b ≡ verdict
@@ -149,13 +150,16 @@ unfoldable pub lockA : ℕ → ℕ
 lockA step = onceB step + (if eqb step 40 then 1 else 0)
 
 -- the fresh state's phase at an interval's age, with B as the target
-unfoldable pub leavingA : Interval → ℕ → State
+unfoldable pub leavingA : Interval → ℕ → KeptState
 leavingA interval age =
     record {
-      position = record { phase = 0; interval = interval; age = age; came = Nothing; target = Phase 1 };
-      counts = fresh .counts;
-      demands = fresh .demands;
-      movements = fresh .movements;
+      rest = record {
+        position = record { phase = 0; interval = interval; age = age; came = Nothing; target = Phase 1 };
+        counts = fresh .counts;
+        demands = fresh .demands;
+        movements = fresh .movements;
+      };
+      kept = freshKept .kept;
     }
 
 unfoldable pub early : List Case
@@ -243,10 +247,51 @@ early =
     ∷ reading (turning ++ (4 ∷ 0 ∷ 7 ∷ 0 ∷ 0 ∷ 0 ∷ 0 ∷ [])) (Refused 1 74)
     ∷ []
 
+-- ── Request two: demanded phases kept ready ──
+
+-- A in start red, where B is locked or not, and kept or not
+unfoldable pub demandingB : Bool → Bool → KeptState
+demandingB lock keep =
+    record {
+      rest = record {
+        position = fresh .position;
+        counts = fresh .counts;
+        demands = record { locks = set (fresh .demands .locks) 1 lock; buttons = fresh .demands .buttons };
+        movements = fresh .movements;
+      };
+      kept = set (freshKept .kept) 1 keep;
+    }
+
+-- the state one step later
+unfoldable pub olderBy : ℕ → KeptState → KeptState
+olderBy steps s =
+    record {
+      rest = record {
+        position = record { phase = 0; interval = StartRed; age = s .rest .position .age + steps; came = Nothing; target = Nothing };
+        counts = s .rest .counts;
+        demands = s .rest .demands;
+        movements = s .rest .movements;
+      };
+      kept = s .kept;
+    }
+
+unfoldable pub keeping : List Case
+keeping =
+    -- a lock that is kept stays kept
+    answering junction (demandingB true true) 0 (record { outcome = Stepped 270; state = olderBy 1 (demandingB true true) })
+    -- an occupied locking detector keeps its phase
+    ∷ answering junction freshKept 2 (record { outcome = Stepped 270; state = olderBy 1 (demandingB true true) })
+    -- a detector that calls without lock does not
+    ∷ answering callingB freshKept 2 (record { outcome = Stepped 270; state = olderBy 1 freshKept })
+    -- a kept set that differs from the scan is not valid, either way
+    ∷ answering junction (demandingB true false) 0 (record { outcome = Declined 13 0; state = demandingB true false })
+    ∷ answering junction (demandingB false true) 0 (record { outcome = Declined 13 0; state = demandingB false true })
+    ∷ []
+
 -- ── The list and its statement ──
 
 unfoldable pub cases : List Case
-cases = starred ++ ours ++ early
+cases = starred ++ ours ++ early ++ keeping
 
 abbrev pub AllHold : List Case → Type 0
 AllHold [] = Unit {0}

@@ -98,8 +98,10 @@ unfoldable pub firstIn : (ℕ → Bool) → List ℕ → Held
 firstIn test [] = Nothing
 firstIn test (p ∷ rest) = if test p then Phase p else firstIn test rest
 
--- the first demanded phase after this one in cyclic order, or nothing where no other phase is demanded
+-- the first phase that passes after this one in cyclic order, or nothing where no other phase passes
+unfoldable pub nextAfter : Site → ℕ → (ℕ → Bool) → Held
+nextAfter site p test = firstIn test (after p (ring site) ++ before p (ring site))
+
+-- the first demanded phase after the phase of the state, or nothing where no other phase is demanded
 unfoldable pub nextDemanded : Site → State → ℕ → Held
-nextDemanded site s inputs =
-    let p = s .position .phase in
-    firstIn (demanded site s inputs) (after p (ring site) ++ before p (ring site))
+nextDemanded site s inputs = nextAfter site (s .position .phase) (demanded site s inputs)

@@ -14,6 +14,7 @@ use Rattle.rules.specs.declared.site.Site.{Site}
 use Rattle.rules.specs.declared.site.Size.{Size}
 use Rattle.rules.specs.declared.site.Times.{Times}
 use Rattle.rules.specs.declared.site.WalkTimes.{WalkTimes}
+use Rattle.rules.specs.declared.state.KeptState.{KeptState}
 use Rattle.rules.specs.declared.state.State.{State}
 use Rattle.rules.specs.Rows.{allOf}
 use Rattle.rules.specs.Limits.{limits, limitOf, startRedSetting, phaseSettings, walkSettings, earlySetting, settingCount}
@@ -185,7 +186,7 @@ Written b number place =
 
 unfoldable pub RefusalIsWritten : Type 0
 RefusalIsWritten =
-    (b : List ℕ) (s : State) (inputs room number place : ℕ) →
+    (b : List ℕ) (s : KeptState) (inputs room number place : ℕ) →
     callVerdict b s inputs room ≡ Refused number place →
     Written b number place
 

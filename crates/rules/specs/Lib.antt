@@ -13,11 +13,13 @@ pub mod Counts
 pub mod Interval
 pub mod Walks
 pub mod Step
+pub mod Kept
 pub mod Colours
 pub mod WaitBound
 pub mod Call
 pub mod Runs
 pub mod Laws
+pub mod Scanning
 pub mod TraceText
 pub mod Traces
 pub mod Junctions

@@ -10,14 +10,16 @@ use Rattle.rules.specs.declared.answer.Outcome.the-variants.{Stepped, De
 use Rattle.rules.specs.declared.answer.Verdict.{Verdict}
 use Rattle.rules.specs.declared.answer.Verdict.the-variants.{Accepted}
 use Rattle.rules.specs.declared.site.Site.{Site}
+use Rattle.rules.specs.declared.state.KeptState.{KeptState}
 use Rattle.rules.specs.declared.state.State.{State}
 use Rattle.rules.specs.Rows.{if_then_else_}
 use Rattle.rules.specs.Verdicts.{_orElse_, refuseIf}
 use Rattle.rules.specs.Personality.{verdictOf}
 use Rattle.rules.specs.Site.{siteOf, phaseTimes, walkTimes, isPedestrian, movementOf, conflict}
 use Rattle.rules.specs.Intervals.{isMinimumGreen, isRunning, isWalk}
-use Rattle.rules.specs.State.{fresh, movement}
+use Rattle.rules.specs.State.{movement}
 use Rattle.rules.specs.Demands.{pressed, locking, detected}
+use Rattle.rules.specs.Kept.{freshKept}
 use Rattle.rules.specs.Colours.{red, yellow, green, flashing}
 use Rattle.rules.specs.WaitBound.{waitBound}
 use Rattle.rules.specs.Call.{strayInput, answerOf, bufferOf, boundFor}
@@ -36,15 +38,15 @@ pub record Controller (S : Type 0) : Type 0 where
   pub seen : S → State
 
 -- The controller of the rules: its calls are those that the contracts of `read`, `fresh` and `step` cite.
-unfoldable pub ruled : Controller State
+unfoldable pub ruled : Controller KeptState
 ruled =
     record {
       verdict = verdictOf;
-      fresh = fresh;
+      fresh = freshKept;
       outcome = λ b s inputs room. answerOf b s inputs room .outcome;
       next = λ b s inputs room. answerOf b s inputs room .state;
       buffer = bufferOf;
-      seen = λ s. s;
+      seen = λ s. s .rest;
     }
 
 -- ── The list of calls ──

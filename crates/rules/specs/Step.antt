@@ -1,6 +1,7 @@
--- One step: the five parts, in order.
+-- One step: the five parts, in order, by the phase that is demanded next.
 use Prim.Native.Nat.{ℕ}
 use Rattle.rules.specs.declared.site.Site.{Site}
+use Rattle.rules.specs.declared.state.Held.{Held}
 use Rattle.rules.specs.declared.state.State.{State}
 use Rattle.rules.specs.Site.{phaseTimes}
 use Rattle.rules.specs.Intervals.{isHeld}
@@ -10,13 +11,12 @@ use Rattle.rules.specs.Counts.{countsAfter}
 use Rattle.rules.specs.Interval.{ends, positionAfter, countsChanged, locksLeft, starts}
 use Rattle.rules.specs.Walks.{begins, walksBegun, buttonsLeft}
 
-unfoldable pub stepped : Site → State → ℕ → State
-stepped site s inputs =
+unfoldable pub steppedTo : Held → Site → State → ℕ → State
+steppedTo next site s inputs =
     let old = s .position in
     let times = phaseTimes (site .times) (old .phase) in
     -- 1. demands
     let demands = demandsAfter site s inputs in
-    let next = nextDemanded site s inputs in
     let another = isHeld next in
     -- 2. movements
     let movements = movementsAfter (site .times) (s .movements) in
@@ -34,3 +34,7 @@ stepped site s inputs =
       demands = record { locks = locksLeft ended now (demands .locks); buttons = buttonsLeft begun (demands .buttons) };
       movements = walksBegun begun movements;
     }
+
+-- the phase demanded next is found by a scan of the locks and the demanded movements
+unfoldable pub stepped : Site → State → ℕ → State
+stepped site s inputs = steppedTo (nextDemanded site s inputs) site s inputs

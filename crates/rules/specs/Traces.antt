@@ -8,11 +8,11 @@ use lib.ListN.{replicate}
 use Rattle.rules.specs.declared.answer.Outcome.{Outcome}
 use Rattle.rules.specs.declared.answer.Outcome.the-variants.{Stepped, Declined}
 use Rattle.rules.specs.declared.state.Interval.{Interval}
-use Rattle.rules.specs.declared.state.State.{State}
+use Rattle.rules.specs.declared.state.KeptState.{KeptState}
 use Rattle.rules.specs.Rows.{if_then_else_}
 use Rattle.rules.specs.Personality.{groupCount}
 use Rattle.rules.specs.Intervals.{letterOf}
-use Rattle.rules.specs.State.{fresh}
+use Rattle.rules.specs.Kept.{freshKept}
 use Rattle.rules.specs.Call.{answerOf, bufferOf}
 
 -- One line of a trace: the step, counted from 1, its phase and interval, and the colours.
@@ -25,12 +25,12 @@ unlessDeclined (Stepped wait) lines = lines
 unlessDeclined (Declined number place) lines = []
 
 -- The lines of n calls from a state, where the input bits of each step are given by its number.
-unfoldable pub linesFrom : List ℕ → (ℕ → ℕ) → ℕ → State → ℕ → List Line
+unfoldable pub linesFrom : List ℕ → (ℕ → ℕ) → ℕ → KeptState → ℕ → List Line
 linesFrom b inputs step s zero = []
 linesFrom b inputs step s (suc n) =
     let answer = answerOf b s (inputs step) (groupCount b) in
     let shown = bufferOf b s (inputs step) (replicate (groupCount b) 0) in
-    let now = answer .state .position in
+    let now = answer .state .rest .position in
     unlessDeclined (answer .outcome)
     (line step (now .phase) (now .interval) shown ∷ linesFrom b inputs (step + 1) (answer .state) n)
 
@@ -58,4 +58,4 @@ changesIn (first ∷ lines) = first ∷ changesAfter first lines
 
 -- the first line of n calls from the fresh state, and each line that differs from the one before
 unfoldable pub changes : List ℕ → (ℕ → ℕ) → ℕ → List Line
-changes b inputs n = changesIn (linesFrom b inputs 1 fresh n)
+changes b inputs n = changesIn (linesFrom b inputs 1 freshKept n)

@@ -1,5 +1,5 @@
 // What reading a personality, a section lookup and a step answer.
-use crate::state::State;
+use crate::state::KeptState;
 
 // The outcome of reading a personality.
 pub enum Verdict {
@@ -24,5 +24,5 @@ pub enum Outcome {
 // The answer of a step call: its outcome, and the state handed back.
 pub struct Answer {
     pub outcome: Outcome,
-    pub state: State,
+    pub state: KeptState,
 }

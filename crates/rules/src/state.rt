@@ -1,4 +1,4 @@
-// The state that a step takes and hands back.
+// The state that a step takes and hands back, and what it is made of.
 
 // The interval of the phase in the state.
 pub enum Interval {
@@ -90,4 +90,11 @@ pub struct State {
     pub counts: Counts,
     pub demands: Demands,
     pub movements: [Movement; 8],
+}
+
+// What a step call takes and hands back: the state, and beside it the set of phases that are demanded by their lock or by a demanded
+// movement.
+pub struct KeptState {
+    pub rest: State,
+    pub kept: [bool; 7],
 }

@@ -1,7 +1,9 @@
 // The checks of a step call on its state and on its input bits.
+ghost use Prim.Native.Nat.{_≤_};
 ghost use mathlib.Core.Path.{_≡_};
 ghost use lib.ListN.{length};
 ghost use Rattle.rules.specs.Call.{strayInput};
+ghost use Rattle.rules.specs.Kept.{keptValid};
 ghost use Rattle.rules.specs.Laws.{Sound};
 ghost use Rattle.rules.specs.Rows.{allOf};
 ghost use Rattle.rules.specs.State.{intervalValid, targetValid, cameValid, ageValid, positionValid, countsValid, demandExists, movementValid, movementsValid, valid};
@@ -10,9 +12,12 @@ use rules::site::Site;
 use rules::state::Counts;
 use rules::state::Held;
 use rules::state::Interval;
+use rules::state::KeptState;
 use rules::state::Movement;
 use rules::state::Position;
 use rules::state::State;
+use step_demands::movements;
+use step_demands::phases;
 
 // Ages are from 1 to 2,000 steps.
 const HIGHEST_AGE: u16 = 2000;
@@ -76,7 +81,15 @@ fn counts_valid(times: PhaseTimes, counts: Counts) -> bool
     (counts.gap <= times.gap) & (counts.maximum <= times.maximum)
 }
 
-// Demands only of phases or movements that exist: the last one, counted from 1, is within the count.
+// Locks only of phases that exist.
+fn phases_exist(locks: [bool; 7], count: u8) -> bool
+    requires { ⌜ count ≤ 7 ⌝ }
+    ensures { λ r. ⌜ r ≡ allOf (demandExists locks count) 7 ⌝ }
+{
+    phases::set_of(locks) >> count == 0
+}
+
+// Button demands only of movements that exist: the last one, counted from 1, is within the count.
 fn demands_valid(demands: &[bool], count: u8) -> bool
     ensures { λ r. ⌜ r ≡ allOf (demandExists (now (demands .entry)) count) (length (now (demands .entry))) ⌝ }
 {
@@ -129,8 +142,9 @@ fn movements_valid(
     true
 }
 
-// Whether the state is valid for the site.
-pub fn valid_state(site: Site, state: State) -> bool
+// Whether the state is valid for the site, apart from its kept set.
+fn valid_state(site: Site, state: State) -> bool
+    requires { ⌜ site .size .phases ≤ 7 ⌝ }
     ensures { λ r. ⌜ r ≡ valid site state ⌝ }
 {
     let phases = site.size.phases;
@@ -147,9 +161,25 @@ pub fn valid_state(site: Site, state: State) -> bool
     let movements = state.movements;
     position_valid(site.early, phases, position)
         & counts_valid(own, counts)
-        & demands_valid(&locks, phases)
+        & phases_exist(locks, phases)
         & demands_valid(&buttons, count)
         & movements_valid(count, crossings, position, movements)
+}
+
+// Whether the state is valid for the site: a kept set that differs from a scan of its locks and demanded movements is not.
+pub fn valid_kept(site: Site, state: KeptState) -> bool
+    requires { ⌜ Sound site ⌝ }
+    ensures { λ r. ⌜ r ≡ keptValid site state ⌝ }
+{
+    let rest = state.rest;
+    let demands = rest.demands;
+    let locks = demands.locks;
+    let buttons = demands.buttons;
+    let crossings = site.crossings;
+    let kept = state.kept;
+    let scanned = phases::set_of(locks)
+        | movements::crossed(crossings, buttons, site.size.movements);
+    valid_state(site, rest) & (phases::set_of(kept) == scanned)
 }
 
 // Whether an input bit is set without a detector or button there.

@@ -68,7 +68,16 @@ fn advance(site: &Site, before: &State, inputs: u64) -> State {
     run_counts(site, &mut state, &occupied, others != 0);
     let phase_starts = run_interval(site, &mut state, others);
     begin_walks(site, &mut state, phase_starts, others != 0);
+    state.demanded = scan(site, &state);
     state
+}
+
+/// The phases demanded by lock or movement, found in the locks and demands.
+#[inline]
+pub fn scan(site: &Site, state: &State) -> u8 {
+    set_bits(state.demands.into()).fold(state.locks, |set, movement| {
+        set | site.groups.movement_set[movement & 7]
+    })
 }
 
 /// The phases with an occupied detector that calls, locks or extends.
@@ -108,11 +117,7 @@ fn register_demands(site: &Site, state: &mut State, occupied: &Occupied, inputs:
             state.demands |= 1 << movement;
         }
     }
-    let mut demanded = state.locks | occupied.calling & !green;
-    for movement in set_bits(state.demands.into()) {
-        demanded |= site.groups.movement_set[movement & 7];
-    }
-    demanded
+    scan(site, state) | occupied.calling & !green
 }
 
 /// Part 2: walk and the clearances follow each other.

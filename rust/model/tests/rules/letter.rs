@@ -68,6 +68,9 @@ impl<'a> Letter<'a> {
         if state.gap_count > times[3] || state.maximum_count > times[2] {
             return false;
         }
+        if state.demanded != self.demanded(state) {
+            return false;
+        }
         for phase in 0..8 {
             if state.locks >> phase & 1 == 1 && phase >= phases {
                 return false;
@@ -96,6 +99,21 @@ impl<'a> Letter<'a> {
             }
         }
         true
+    }
+
+    /// The phases demanded by lock or movement.
+    fn demanded(&self, state: &State) -> u8 {
+        let mut demanded = 0;
+        for phase in 0..8 {
+            let by_movement =
+                self.movements.iter().enumerate().any(|(index, movement)| {
+                    movement.1 == phase && state.demands >> index & 1 == 1
+                });
+            if state.locks >> phase & 1 == 1 || by_movement {
+                demanded |= 1 << phase;
+            }
+        }
+        demanded
     }
 
     fn step(&self, before: &State, inputs: u64) -> State {
@@ -259,6 +277,7 @@ impl<'a> Letter<'a> {
                 state.demands &= !(1 << index);
             }
         }
+        state.demanded = self.demanded(&state);
         state
     }
 

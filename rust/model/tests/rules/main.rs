@@ -2,6 +2,7 @@
 //! case by case.
 
 mod calls;
+mod demanded;
 mod early_cut_off;
 mod junction;
 mod late_start;

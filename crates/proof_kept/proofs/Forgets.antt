@@ -1,0 +1,151 @@
+-- Forgetting the kept set gives the scanning rules. In a valid state both searches find the same phase, so a step does the same to the rest of
+-- the state, and the set that it leaves is the scan of the demands that it leaves. A list of calls is then taken alike call by call.
+use Prim.Native.Nat.{ℕ, _≤_, _<_}
+use mathlib.Core.Bool.{Bool, true, false, not, _&&_, _||_, or-false}
+use mathlib.Core.List.{List, [], _∷_}
+use mathlib.Core.Path.{_≡_, refl, sym, ap, subst, _∙_}
+use native.Mathlib.Omega.{arith}
+use borrow.Author.Tests.{not-false}
+use lib.ListN.{length, getD, getD-replicate}
+use Rattle.rules.specs.declared.answer.Verdict.{Verdict}
+use Rattle.rules.specs.declared.answer.Verdict.the-variants.{Accepted, Refused}
+use Rattle.rules.specs.declared.site.Site.{Site}
+use Rattle.rules.specs.declared.state.Demands.{Demands}
+use Rattle.rules.specs.declared.state.Held.{Held}
+use Rattle.rules.specs.declared.state.KeptState.{KeptState}
+use Rattle.rules.specs.declared.state.State.{State}
+use Rattle.rules.specs.Rows.{allOf, listOf, anyOf}
+use Rattle.rules.specs.Verdicts.{_orElse_}
+use Rattle.rules.specs.Personality.{verdictOf}
+use Rattle.rules.specs.Site.{siteOf, crosses}
+use Rattle.rules.specs.State.{fresh, locked, asked, valid}
+use Rattle.rules.specs.Demands.{stands, movementDemands, demandsAfter, nextDemanded}
+use Rattle.rules.specs.Interval.{clearsLock}
+use Rattle.rules.specs.Step.{steppedTo, stepped}
+use Rattle.rules.specs.Kept.{freshKept, isKept, same, keptValid, keptAfter, nextKept, keptLeft, keptStepped}
+use Rattle.rules.specs.Call.{stepVerdict, callVerdict, boundFor, handedBack, bufferFor, answerOf, bufferOf}
+use Rattle.rules.specs.Runs.{Call, Taken, ruled, takenFrom}
+use Rattle.rules.specs.Laws.{Sound, AcceptedIsSound, FreshIsValid, StepKeepsValid}
+use Rattle.rules.specs.Scanning.{scanVerdict, scanning, FreshKeptIsValid, StepKeepsKept, StepForgets, RunForgets}
+use Rattle.rules.proofs.Tests.{and-left, and-right, and-both, and-false-left}
+use Rattle.rules.proofs.Rows.{all-each, list-at, any-none}
+use Rattle.rules.proofs.Verdicts.{or-first}
+use Rattle.proof_runs.proofs.Chains.{checks-told}
+use Rattle.proof_runs.proofs.Steps.{askedNow, lockedNow, begun, ended, now, asked-at, locked-at, locked-of, asked-of}
+use Rattle.proof_kept.proofs.Scans.{same-holds, standingAfter, kept-after, next-kept, kept-left}
+
+pub step-forgets : StepForgets
+unfolding StepForgets keptStepped stepped
+step-forgets site sound s inputs v = ap (λ (next : Held). steppedTo next site (s .rest) inputs) (next-kept site sound s inputs v)
+
+-- ── A step keeps the set true ──
+
+module _ (site : Site) (sound : Sound site) (s : KeptState) (inputs : ℕ) (v : keptValid site s ≡ true) where
+  -- what the step leaves of the demands
+  left : Demands
+  left = stepped site (s .rest) inputs .demands
+
+  lock-was : (p : ℕ) → p < 7 → getD (left .locks) p false ≡ true → getD (standingAfter site s inputs .locks) p false ≡ true
+  unfolding left locked
+  lock-was p l h =
+      locked-at site (s .rest) inputs p l
+      ∙ and-left (lockedNow site (s .rest) inputs p) (not (clearsLock (ended site (s .rest) inputs) (now site (s .rest) inputs) p))
+      (sym (locked-of site (s .rest) inputs p l) ∙ h)
+
+  button-was :
+      (k : ℕ) → k < site .size .movements → getD (left .buttons) k false ≡ true → getD (standingAfter site s inputs .buttons) k false ≡ true
+  unfolding left asked
+  button-was k l h =
+      let small : k < 8 = omega (arith, sound .movements) in
+      asked-at site (s .rest) inputs k small
+      ∙ and-left (askedNow site (s .rest) inputs k) (not (begun site (s .rest) inputs k)) (sym (asked-of site (s .rest) inputs k small) ∙ h)
+
+  pub keeps-scan : (p : ℕ) → p < 7 → isKept (keptStepped site s inputs) p ≡ stands site (keptStepped site s inputs .rest .demands) p
+  unfolding isKept keptStepped left stepped
+  keeps-scan p l =
+      rw (next-kept site sound s inputs v)
+      (list-at (keptLeft site (demandsAfter site (s .rest) inputs) left (keptAfter site s inputs)) 7 p false l
+      ∙ kept-left site (standingAfter site s inputs) left lock-was button-was p l (keptAfter site s inputs) (kept-after site sound s inputs v p l))
+
+pub step-keeps-kept : StepKeepsValid → StepKeepsKept
+unfolding StepKeepsValid StepKeepsKept StepForgets keptValid
+step-keeps-kept keeps site sound s inputs v wired =
+    let next = keptStepped site s inputs in
+    and-both
+    (ap (λ (t : State). valid site t) (step-forgets site sound s inputs v) ∙ keeps site sound (s .rest) inputs (and-left (valid site (s .rest)) _ v) wired)
+    (all-each (λ p. same (isKept next p) (stands site (next .rest .demands) p)) 7
+    (λ p l. same-holds (isKept next p) (stands site (next .rest .demands) p) (keeps-scan site sound s inputs v p l)))
+
+pub fresh-kept-is-valid : FreshIsValid → FreshKeptIsValid
+unfolding FreshIsValid FreshKeptIsValid keptValid freshKept isKept stands movementDemands fresh same
+fresh-kept-is-valid holds site sound =
+    and-both (holds site sound)
+    (all-each (λ p. same (getD (freshKept .kept) p false) (stands site (fresh .demands) p)) 7
+    (λ p l.
+    same-holds (getD (freshKept .kept) p false) (stands site (fresh .demands) p)
+    (sym
+    (ap (λ (crossed : Bool). getD (fresh .demands .locks) p false || crossed)
+    (any-none (λ k. getD (fresh .demands .buttons) k false && crosses (site .crossings) k p) (site .size .movements)
+    (λ k m. and-false-left (crosses (site .crossings) k p) (getD-replicate 8 k false false (omega (arith, sound .movements)))))
+    ∙ or-false (getD (fresh .demands .locks) p false)))))
+
+-- ── A list of calls ──
+
+module _ (sound : AcceptedIsSound) (keeps : StepKeepsValid) (b : List ℕ) where
+  -- in a valid state the checks are the same
+  verdict-same :
+      (s : KeptState) (inputs room : ℕ) → keptValid (siteOf b) s ≡ true → callVerdict b s inputs room ≡ scanVerdict b (s .rest) inputs room
+  unfolding callVerdict scanVerdict keptValid
+  verdict-same s inputs room v =
+      ap (λ (ok : Bool). verdictOf b orElse stepVerdict (siteOf b) ok inputs room) (v ∙ sym (and-left (valid (siteOf b) (s .rest)) _ v))
+
+  -- a call as it is taken where it has such a verdict, would lead to such a state and hands such a one back
+  entry : Verdict → State → State → State → Call → Taken
+  entry v before new after c =
+      record {
+        before = before;
+        inputs = c .inputs;
+        room = length (c .buffer);
+        outcome = boundFor v (siteOf b);
+        after = after;
+        shown = bufferFor v (siteOf b) new (c .buffer);
+      }
+
+  taken-alike :
+      (v : Verdict) (s : KeptState) (c : Call) (calls : List Call) →
+      keptValid (siteOf b) s ≡ true →
+      callVerdict b s (c .inputs) (length (c .buffer)) ≡ v →
+      ((t : KeptState) → keptValid (siteOf b) t ≡ true → takenFrom ruled b t calls ≡ takenFrom scanning b (t .rest) calls) →
+      _≡_ {A = List Taken}
+      (entry v (s .rest) (keptStepped (siteOf b) s (c .inputs) .rest) (handedBack v (keptStepped (siteOf b) s (c .inputs)) s .rest) c ∷ takenFrom ruled b (handedBack v (keptStepped (siteOf b) s (c .inputs)) s) calls)
+      (entry v (s .rest) (stepped (siteOf b) (s .rest) (c .inputs)) (handedBack v (stepped (siteOf b) (s .rest) (c .inputs)) (s .rest)) c ∷ takenFrom scanning b (handedBack v (stepped (siteOf b) (s .rest) (c .inputs)) (s .rest)) calls)
+  unfolding entry handedBack boundFor bufferFor AcceptedIsSound StepForgets StepKeepsKept callVerdict
+  taken-alike Accepted s c calls v e later =
+      let site = siteOf b in
+      let next = keptStepped site s (c .inputs) in
+      let room = length (c .buffer) in
+      let fine = sound b (or-first (verdictOf b) (stepVerdict site (keptValid site s) (c .inputs) room) e) in
+      let wired = checks-told b (c .inputs) room (keptValid site s) e .1 in
+      subst
+      (λ (t : State).
+      _≡_ {A = List Taken} (entry Accepted (s .rest) (next .rest) (next .rest) c ∷ takenFrom ruled b next calls) (entry Accepted (s .rest) t t c ∷ takenFrom scanning b t calls))
+      (step-forgets site fine s (c .inputs) v)
+      (ap (λ (l : List Taken). entry Accepted (s .rest) (next .rest) (next .rest) c ∷ l) (later next (step-keeps-kept keeps site fine s (c .inputs) v wired)))
+  taken-alike (Refused number place) s c calls v e later =
+      ap (λ (l : List Taken). entry (Refused number place) (s .rest) (s .rest) (s .rest) c ∷ l) (later s v)
+
+  pub run-forgets-from : (s : KeptState) → keptValid (siteOf b) s ≡ true → (calls : List Call) → takenFrom ruled b s calls ≡ takenFrom scanning b (s .rest) calls
+  unfolding takenFrom ruled scanning answerOf bufferOf entry
+  run-forgets-from s v [] = refl
+  run-forgets-from s v (c ∷ calls) =
+      let room = length (c .buffer) in
+      taken-alike (callVerdict b s (c .inputs) room) s c calls v refl (λ t w. run-forgets-from t w calls)
+      ∙ ap
+      (λ (w : Verdict).
+      entry w (s .rest) (stepped (siteOf b) (s .rest) (c .inputs)) (handedBack w (stepped (siteOf b) (s .rest) (c .inputs)) (s .rest)) c
+      ∷ takenFrom scanning b (handedBack w (stepped (siteOf b) (s .rest) (c .inputs)) (s .rest)) calls)
+      (verdict-same s (c .inputs) room v)
+
+pub run-forgets : AcceptedIsSound → StepKeepsValid → RunForgets
+unfolding RunForgets
+run-forgets sound keeps b s v calls = run-forgets-from sound keeps b s v calls

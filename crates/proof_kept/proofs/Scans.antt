@@ -1,0 +1,218 @@
+-- The kept set and the scan. After part 1 a phase is kept where the scan of the demands that stand finds it: a registered lock or press is
+-- the only thing that the scan finds and the old set has not. After parts 4 and 5 it is so again: where the scan of what is left no longer
+-- finds a phase, a demand of it was cleared, and where it still does the phase stays kept.
+use Prim.Native.Nat.{ℕ, _≤_, _<_}
+use mathlib.Core.Bool.{Bool, true, false, not, _&&_, _||_}
+use mathlib.Core.List.{List}
+use mathlib.Core.Logic.{_⊎_, inl, inr, ⊎-elim}
+use mathlib.Core.Path.{_≡_, refl, sym, ap, _∙_}
+use native.Mathlib.Omega.{arith}
+use lib.ListN.{getD}
+use Rattle.rules.specs.declared.site.Site.{Site}
+use Rattle.rules.specs.declared.state.Demands.{Demands}
+use Rattle.rules.specs.declared.state.KeptState.{KeptState}
+use Rattle.rules.specs.Rows.{anyOf, allOf}
+use Rattle.rules.specs.Site.{crosses, ring}
+use Rattle.rules.specs.State.{locked, asked, valid}
+use Rattle.rules.specs.Demands.{registersLock, registersButton, calls, demandsAfter, movementDemands, stands, demanded, nextAfter, nextDemanded}
+use Rattle.rules.specs.Kept.{isKept, same, keptValid, pressKeeps, keptAfter, nextKept, gone, cleared, keptLeft}
+use Rattle.rules.specs.Laws.{Sound}
+use Rattle.rules.specs.Scanning.{KeptIsScan}
+use Rattle.rules.proofs.Tests.{and-left, and-right, and-both, or-left, or-right, or-cases, and-false-left, and-false-right, decided, never-both, not-true-false}
+use Rattle.rules.proofs.Rows.{any-found, any-at, all-at}
+use Rattle.proof_ring.proofs.Turns.{turn}
+use Rattle.proof_ring.proofs.Ring.{found-same}
+use Rattle.proof_ring.proofs.Letters.{ring-of}
+use Rattle.proof_runs.proofs.Steps.{askedNow, lockedNow, asked-at, locked-at}
+
+pub same-told : (a b : Bool) → same a b ≡ true → a ≡ b
+unfolding same
+same-told true b h = sym h
+same-told false true h = h
+same-told false false h = refl
+
+pub same-holds : (a b : Bool) → a ≡ b → same a b ≡ true
+unfolding same
+same-holds true b e = sym e
+same-holds false b e = ap not (sym e)
+
+pub kept-is-scan : KeptIsScan
+unfolding KeptIsScan keptValid
+kept-is-scan site s v p l =
+    same-told (isKept s p) (stands site (s .rest .demands) p)
+    (all-at (λ p. same (isKept s p) (stands site (s .rest .demands) p)) 7 p (and-right (valid site (s .rest)) _ v) l)
+
+-- two tests that imply each other are one
+either-way : (a b : Bool) → (a ≡ true → b ≡ true) → (b ≡ true → a ≡ true) → a ≡ b
+either-way true b f g = sym (f refl)
+either-way false true f g = g refl
+either-way false false f g = refl
+
+-- ── What the scan finds ──
+
+module _ (site : Site) (d : Demands) (p : ℕ) where
+  -- a lock, or a demanded movement of the phase
+  pub Found : Type 0
+  Found =
+      (getD (d .locks) p false ≡ true)
+      ⊎ ((k : ℕ) × (k < site .size .movements) × (getD (d .buttons) k false ≡ true) × (crosses (site .crossings) k p ≡ true))
+
+  scan-finds : stands site d p ≡ true → Found
+  unfolding stands movementDemands Found
+  scan-finds h =
+      ⊎-elim
+      (λ (l : getD (d .locks) p false ≡ true). inl l)
+      (λ (m : anyOf (λ k. getD (d .buttons) k false && crosses (site .crossings) k p) (site .size .movements) ≡ true).
+      let found = any-found (λ k. getD (d .buttons) k false && crosses (site .crossings) k p) (site .size .movements) m in
+      let k = found .0 in
+      inr (
+        k,
+        found .1,
+        and-left (getD (d .buttons) k false) (crosses (site .crossings) k p) (found .2),
+        and-right (getD (d .buttons) k false) (crosses (site .crossings) k p) (found .2),
+      ))
+      (or-cases (getD (d .locks) p false) _ h)
+
+  by-lock : getD (d .locks) p false ≡ true → stands site d p ≡ true
+  unfolding stands
+  by-lock h = or-left _ h
+
+  by-button :
+      (k : ℕ) → k < site .size .movements → getD (d .buttons) k false ≡ true → crosses (site .crossings) k p ≡ true → stands site d p ≡ true
+  unfolding stands movementDemands
+  by-button k l h c =
+      or-right (getD (d .locks) p false)
+      (any-at (λ k. getD (d .buttons) k false && crosses (site .crossings) k p) (site .size .movements) k l (and-both h c))
+
+-- ── Part 1 ──
+
+-- the demands that stand after part 1
+abbrev pub standingAfter : Site → KeptState → ℕ → Demands
+standingAfter site s inputs = demandsAfter site (s .rest) inputs
+
+module _ (site : Site) (sound : Sound site) (s : KeptState) (inputs : ℕ) (v : keptValid site s ≡ true) where
+  lock-stands : (p : ℕ) → p < 7 → (locked (s .rest) p || registersLock site (s .rest) inputs p) ≡ true → stands site (standingAfter site s inputs) p ≡ true
+  unfolding lockedNow
+  lock-stands p l h = by-lock site (standingAfter site s inputs) p (locked-at site (s .rest) inputs p l ∙ h)
+
+  button-stands :
+      (p k : ℕ) →
+      k < site .size .movements →
+      (asked (s .rest) k || registersButton (s .rest .movements) inputs k) ≡ true →
+      crosses (site .crossings) k p ≡ true →
+      stands site (standingAfter site s inputs) p ≡ true
+  unfolding askedNow
+  button-stands p k l h c =
+      by-button site (standingAfter site s inputs) p k l (asked-at site (s .rest) inputs k (omega (arith, sound .movements)) ∙ h) c
+
+  from-kept : (p : ℕ) → p < 7 → isKept s p ≡ true → stands site (standingAfter site s inputs) p ≡ true
+  unfolding KeptIsScan locked asked Found
+  from-kept p l h =
+      ⊎-elim
+      (λ (lock : getD (s .rest .demands .locks) p false ≡ true). lock-stands p l (or-left _ lock))
+      (λ (b : (k : ℕ) × (k < site .size .movements) × (getD (s .rest .demands .buttons) k false ≡ true) × (crosses (site .crossings) k p ≡ true)).
+      button-stands p (b .0) (b .1) (or-left _ (b .2)) (b .3))
+      (scan-finds site (s .rest .demands) p (sym (kept-is-scan site s v p l) ∙ h))
+
+  to-kept : (p : ℕ) → p < 7 → stands site (s .rest .demands) p ≡ true → isKept s p ≡ true
+  unfolding KeptIsScan
+  to-kept p l h = kept-is-scan site s v p l ∙ h
+
+  stands-kept : (p : ℕ) → p < 7 → keptAfter site s inputs p ≡ true → stands site (standingAfter site s inputs) p ≡ true
+  unfolding keptAfter pressKeeps
+  stands-kept p l h =
+      ⊎-elim
+      (λ (r : (isKept s p || registersLock site (s .rest) inputs p) ≡ true).
+      ⊎-elim
+      (λ (k : isKept s p ≡ true). from-kept p l k)
+      (λ (lock : registersLock site (s .rest) inputs p ≡ true). lock-stands p l (or-right (locked (s .rest) p) lock))
+      (or-cases (isKept s p) (registersLock site (s .rest) inputs p) r))
+      (λ (m : anyOf (λ k. registersButton (s .rest .movements) inputs k && crosses (site .crossings) k p) (site .size .movements) ≡ true).
+      let found = any-found (λ k. registersButton (s .rest .movements) inputs k && crosses (site .crossings) k p) (site .size .movements) m in
+      let k = found .0 in
+      let press = registersButton (s .rest .movements) inputs k in
+      button-stands p k (found .1)
+      (or-right (asked (s .rest) k) (and-left press (crosses (site .crossings) k p) (found .2)))
+      (and-right press (crosses (site .crossings) k p) (found .2)))
+      (or-cases (isKept s p || registersLock site (s .rest) inputs p) (pressKeeps site s inputs p) h)
+
+  kept-stands : (p : ℕ) → p < 7 → stands site (standingAfter site s inputs) p ≡ true → keptAfter site s inputs p ≡ true
+  unfolding keptAfter pressKeeps Found lockedNow askedNow locked asked
+  kept-stands p l h =
+      ⊎-elim
+      (λ (lock : getD (standingAfter site s inputs .locks) p false ≡ true).
+      ⊎-elim
+      (λ (was : locked (s .rest) p ≡ true). or-left _ (or-left _ (to-kept p l (by-lock site (s .rest .demands) p was))))
+      (λ (r : registersLock site (s .rest) inputs p ≡ true). or-left _ (or-right (isKept s p) r))
+      (or-cases (locked (s .rest) p) (registersLock site (s .rest) inputs p) (sym (locked-at site (s .rest) inputs p l) ∙ lock)))
+      (λ (b : (k : ℕ) × (k < site .size .movements) × (getD (standingAfter site s inputs .buttons) k false ≡ true) × (crosses (site .crossings) k p ≡ true)).
+      let k = b .0 in
+      ⊎-elim
+      (λ (was : asked (s .rest) k ≡ true). or-left _ (or-left _ (to-kept p l (by-button site (s .rest .demands) p k (b .1) was (b .3)))))
+      (λ (r : registersButton (s .rest .movements) inputs k ≡ true).
+      or-right (isKept s p || registersLock site (s .rest) inputs p)
+      (any-at (λ k. registersButton (s .rest .movements) inputs k && crosses (site .crossings) k p) (site .size .movements) k (b .1)
+      (and-both r (b .3))))
+      (or-cases (asked (s .rest) k) (registersButton (s .rest .movements) inputs k)
+      (sym (asked-at site (s .rest) inputs k (omega (arith, sound .movements, b .1))) ∙ b .2)))
+      (scan-finds site (standingAfter site s inputs) p h)
+
+  -- after part 1 a phase is kept where the scan finds it
+  pub kept-after : (p : ℕ) → p < 7 → keptAfter site s inputs p ≡ stands site (standingAfter site s inputs) p
+  kept-after p l = either-way (keptAfter site s inputs p) (stands site (standingAfter site s inputs) p) (stands-kept p l) (kept-stands p l)
+
+  -- so the search by the kept set finds what the search by the scan does
+  pub next-kept : nextKept site s inputs ≡ nextDemanded site (s .rest) inputs
+  unfolding nextKept nextDemanded nextAfter demanded turn
+  next-kept =
+      found-same (ring-of site sound) (λ p. keptAfter site s inputs p || calls site (s .rest) inputs p) (demanded site (s .rest) inputs)
+      (s .rest .position .phase)
+      (λ p l. ap (λ (kept : Bool). kept || calls site (s .rest) inputs p) (kept-after p (omega (arith, sound .phases))))
+
+-- ── Parts 4 and 5 ──
+
+module _
+    (site : Site) (old new : Demands)
+    (lock-was : (p : ℕ) → p < 7 → getD (new .locks) p false ≡ true → getD (old .locks) p false ≡ true)
+    (button-was : (k : ℕ) → k < site .size .movements → getD (new .buttons) k false ≡ true → getD (old .buttons) k false ≡ true)
+    (p : ℕ) (l : p < 7)
+  where
+    still-stood : stands site new p ≡ true → stands site old p ≡ true
+    unfolding Found
+    still-stood h =
+        ⊎-elim
+        (λ (lock : getD (new .locks) p false ≡ true). by-lock site old p (lock-was p l lock))
+        (λ (b : (k : ℕ) × (k < site .size .movements) × (getD (new .buttons) k false ≡ true) × (crosses (site .crossings) k p ≡ true)).
+        by-button site old p (b .0) (b .1) (button-was (b .0) (b .1) (b .2)) (b .3))
+        (scan-finds site new p h)
+
+    -- what stood and stands no more was cleared
+    left-cleared : stands site old p ≡ true → stands site new p ≡ false → cleared site old new p ≡ true
+    unfolding cleared gone Found
+    left-cleared h none =
+        ⊎-elim
+        (λ (lock : getD (old .locks) p false ≡ true).
+        or-left _
+        (and-both lock (ap not (not-true-false (getD (new .locks) p false) (λ e. never-both (by-lock site new p e) none)))))
+        (λ (b : (k : ℕ) × (k < site .size .movements) × (getD (old .buttons) k false ≡ true) × (crosses (site .crossings) k p ≡ true)).
+        let k = b .0 in
+        or-right (gone (old .locks) (new .locks) p)
+        (any-at (λ k. gone (old .buttons) (new .buttons) k && crosses (site .crossings) k p) (site .size .movements) k (b .1)
+        (and-both
+        (and-both (b .2)
+        (ap not (not-true-false (getD (new .buttons) k false) (λ e. never-both (by-button site new p k (b .1) e (b .3)) none))))
+        (b .3))))
+        (scan-finds site old p h)
+
+    pub kept-left : (kept : ℕ → Bool) → kept p ≡ stands site old p → keptLeft site old new kept p ≡ stands site new p
+    unfolding keptLeft
+    kept-left kept e =
+        ⊎-elim
+        (λ (h : stands site new p ≡ true).
+        rw h (and-both (e ∙ still-stood h) (or-right (not (cleared site old new p)) refl)))
+        (λ (none : stands site new p ≡ false).
+        ⊎-elim
+        (λ (h : stands site old p ≡ true). rw (none, left-cleared h none) (and-false-right (kept p) refl))
+        (λ (h : stands site old p ≡ false). rw none (and-false-left _ (e ∙ h)))
+        (decided (stands site old p)))
+        (decided (stands site new p))
