@@ -7,13 +7,13 @@ use lib.ListN.{set}
 use Rattle.rules.specs.declared.answer.Verdict.the-variants.{Accepted}
 use Rattle.rules.specs.Personality.{verdictOf}
 use Rattle.rules.specs.Site.{siteOf}
-use Rattle.rules.specs.State.{fresh}
 use Rattle.rules.specs.Interval.{ends, following}
 use Rattle.rules.specs.Step.{stepped}
+use Rattle.rules.specs.Kept.{freshKept}
 use Rattle.rules.specs.Junctions.{junction}
 use Rattle.rules.specs.Runs.{ruled, Call, takenFrom, accepted, DemandsMet, DemandThreeOf}
 use Rattle.rules.proofs.Opened.{opened}
-use Rattle.proof_refutations.specs.Faults.{checksBy, ifAccepted, controllerBy, steppedBy, moved, agesOnly, neverAlters, leavesTheSite, endsOnTimer, choosesAgain, choosesEarlyAgain, clearing, dropsPresses, smallBound, passesTen}
+use Rattle.proof_refutations.specs.Faults.{checksBy, controllerBy, steppedBy, moved, agesOnly, neverAlters, leavesTheSite, endsOnTimer, choosesAgain, choosesEarlyAgain, clearing, dropsPresses, smallBound, passesTen}
 use Rattle.proof_refutations.specs.Refutations.{Refutations}
 use Rattle.proof_refutations.proofs.Violations.{together, starts, cut, skipped, met, answers, refuted-by-greens, refuted-by-clearance, refuted-by-yellow, unmet-by-lock, unmet-by-button, refuted-by-wait, refuted-by-refusal}
 use Rattle.proof_refutations.proofs.Witnesses.{callsFrom, crossings, shared, sharedArrow, atOnce, walkThenB, laterB, pressedAgain, longestWait}
@@ -21,7 +21,7 @@ use Rattle.proof_refutations.proofs.Witnesses.{callsFrom, crossings, sh
 -- what the runs compute with
 unfoldable computing : Unit {0}
 unfolding
-    opened checksBy ifAccepted controllerBy steppedBy moved agesOnly neverAlters leavesTheSite endsOnTimer choosesAgain choosesEarlyAgain clearing dropsPresses
+    opened checksBy controllerBy steppedBy moved agesOnly neverAlters leavesTheSite endsOnTimer choosesAgain choosesEarlyAgain clearing dropsPresses
     smallBound passesTen together starts cut skipped met answers callsFrom crossings shared sharedArrow atOnce walkThenB laterB pressedAgain longestWait
 computing = tt
 
@@ -77,7 +77,7 @@ small-bound :
     ¬ ((b : List ℕ) →
     verdictOf b ≡ Accepted →
     (calls : List Call) →
-    DemandsMet (siteOf b) (smallBound (siteOf b)) (accepted (takenFrom ruled b fresh calls)))
+    DemandsMet (siteOf b) (smallBound (siteOf b)) (accepted (takenFrom ruled b freshKept calls)))
 unfolding computing
 small-bound holds =
     let calls = callsFrom longestWait 4 1 441 in
