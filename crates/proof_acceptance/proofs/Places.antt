@@ -9,7 +9,7 @@ use lib.Dec.{leb}
 use native.Mathlib.Omega.{arith}
 use borrow.Author.Tests.{leb-true}
 use Rattle.rules.specs.declared.answer.Verdict.{Verdict}
-use Rattle.rules.specs.declared.state.State.{State}
+use Rattle.rules.specs.declared.state.KeptState.{KeptState}
 use Rattle.rules.specs.Personality.{verdictOf}
 use Rattle.rules.specs.Call.{callVerdict}
 use Rattle.rules.specs.Lookup.{lookupVerdict}
@@ -55,7 +55,7 @@ module _ (b : List ℕ) where
   pub personality-named : Named (verdictOf b)
   personality-named = personality-refusals b Near near
 
-  pub call-named : (s : State) (inputs room : ℕ) → Named (callVerdict b s inputs room)
+  pub call-named : (s : KeptState) (inputs room : ℕ) → Named (callVerdict b s inputs room)
   call-named s inputs room = call-refusals b Near near s inputs room (λ number known. (step-fits number known .0, omega arith))
 
   pub lookup-named : (kind : ℕ) → Named (lookupVerdict b kind)

@@ -11,7 +11,7 @@ use lib.ListN.{length}
 use native.Mathlib.Omega.{arith}
 use Rattle.rules.specs.declared.answer.Verdict.{Verdict}
 use Rattle.rules.specs.declared.answer.Verdict.the-variants.{Accepted, Refused}
-use Rattle.rules.specs.declared.state.State.{State}
+use Rattle.rules.specs.declared.state.KeptState.{KeptState}
 use Rattle.rules.specs.Limits.{phaseSettings, walkSettings}
 use Rattle.rules.specs.Verdicts.{_orElse_, refuseIf, firstOf}
 use Rattle.rules.specs.Personality.{bodyAt, bodyLength, recordAt, phaseCount, groupCount, siteHead, phasesHead, groupsHead, conflictsHead, detectorsHead, pedestriansHead, movementCount, detectorCount, endOf, sectionAt, timeAt, timesAt, siteSection, phasesSection, groupRecord, groupsSection, conflictsSection, detectorsSection, pedestriansSection, afterPedestrians, verdictOf}
@@ -171,7 +171,7 @@ module _
 
     -- a step's checks after them, at 0
     pub call-refusals :
-        (s : State) (inputs room : ℕ) →
+        (s : KeptState) (inputs room : ℕ) →
         ((number : ℕ) → stepNumber number ≡ true → Allowed number 0) →
         Refusals Allowed (callVerdict b s inputs room)
     unfolding callVerdict stepVerdict
