@@ -4,7 +4,7 @@
 -- for the whole maximum green takes one step more than that, which W pays for, being one step at least.
 use Prim.Native.Nat.{ℕ, _+_, _-_, _≤_, _<_, min, max}
 use mathlib.Core.Bool.{Bool, true, false}
-use mathlib.Core.Logic.{_⊎_, inl, inr, ⊎-elim}
+use mathlib.Core.Logic.{⊎-elim}
 use mathlib.Core.Path.{_≡_, refl}
 use native.Mathlib.Nat.{le-trans}
 use native.Mathlib.Omega.{arith}
@@ -73,10 +73,9 @@ age-falls : (setting age : ℕ) → setting ≤ highestAge → setting - older a
 unfolding older
 age-falls setting age r = omega arith
 
--- the greater of two counts that both fall, one of them not 0
-greater-falls : (a a' b b' : ℕ) → a' ≤ a - 1 → b' ≤ b - 1 → (1 ≤ a) ⊎ (1 ≤ b) → max a' b' < max a b
-greater-falls a a' b b' p q (inl h) = omega arith
-greater-falls a a' b b' p q (inr h) = omega arith
+-- the greater of two counts that both fall
+greater-falls : (a a' b b' : ℕ) → a' ≤ a - 1 → b' ≤ b - 1 → 1 ≤ max a b → max a' b' < max a b
+greater-falls a a' b b' p q some = omega arith
 
 module _ (mayEnd : Bool) (times : WalkTimes) (age : ℕ) where
   pub out-falls :
@@ -95,9 +94,12 @@ module _ (mayEnd : Bool) (times : WalkTimes) (age : ℕ) where
       age
       (λ over. omega (arith, r refl .first))
       (λ still.
-      let on : (1 ≤ times .walk - age) ⊎ (1 ≤ green) =
-      ⊎-elim (λ (may : mayEnd ≡ true). inl (omega (arith, still may))) (λ (rests : mayEnd ≡ false). inr (held rests)) (decided mayEnd) in
-      omega (arith, greater-falls _ _ green green' (age-falls (times .walk) age (r refl .walk .1)) less on))
+      let some : 1 ≤ max (times .walk - age) green =
+      ⊎-elim
+      (λ (may : mayEnd ≡ true). omega (arith, still may))
+      (λ (rests : mayEnd ≡ false). omega (arith, held rests))
+      (decided mayEnd) in
+      omega (arith, greater-falls _ _ green green' (age-falls (times .walk) age (r refl .walk .1)) less some))
   out-falls green green' less held ClearanceOne r =
       lasting-falls (λ stage a. untilOut green' stage times a) (times .first) 0 ClearanceOne ClearanceTwo age (r refl .first)
       (λ a. refl)
