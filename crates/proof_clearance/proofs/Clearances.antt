@@ -20,6 +20,7 @@ use Rattle.rules.specs.Runs.{Taken, shows, shownBy, StartsGreen, VehicleCleared
 use Rattle.rules.specs.Laws.{Sound}
 use Rattle.rules.proofs.Settings.{Timed, phase-timed, walk-reached}
 use Rattle.proof_runs.proofs.Linked.{reached}
+use Rattle.proof_runs.proofs.Steps.{mayEnd}
 use Rattle.proof_runs.proofs.Runs.{ValidLink, Run}
 use Rattle.proof_clearance.proofs.Shown.{vehicleAt, vehicle-shows, pedestrian-shows, green-walks}
 use Rattle.proof_clearance.proofs.Greens.{busy-has-phase}
@@ -132,7 +133,11 @@ module _
     walk-shown s step link = pedestrian-shows site s step (link .taken) j within kind
 
     -- a step that does not show green begins no walk
-    mine-after : (s : State) (step : Taken) → ValidLink site s step → (shows step j ≡ green → ⊥) → mine (step .after) ≡ next times (mine s)
+    mine-after :
+        (s : State) (step : Taken) →
+        ValidLink site s step →
+        (shows step j ≡ green → ⊥) →
+        mine (step .after) ≡ next (mayEnd site s (step .inputs)) times (mine s)
     mine-after s step link other =
         movement-after site s step (link .taken) (movementOf (site .groups) j) (omega (arith, below, sound .movements))
         (λ e. other (walk-shown s step link ∙ e))
@@ -141,17 +146,18 @@ module _
     flashing-falls n s step link other left =
         let here = mine-after s step link other in
         let shown = rw here at (walk-shown s step link) in
-        let fall = flashes-fall times (walk-reached site sound (movementOf (site .groups) j) below) n (mine s) left (λ e. other (shown ∙ e)) in
+        let may = mayEnd site s (step .inputs) in
+        let fall = flashes-fall times (walk-reached site sound (movementOf (site .groups) j) below) may n (mine s) left (λ e. other (shown ∙ e)) in
         (rw here (fall .0), shown ∙ fall .1)
 
     -- idle, or in the last step of C2
     abbrev Idles : State → Type 0
-    Idles s = next times (mine s) .stage ≡ Idle
+    Idles s = (mayEnd : Bool) → next mayEnd times (mine s) .stage ≡ Idle
 
     idle-rests : Leads site j Idles Idles red
     unfolding movementColour
     idle-rests s step link other e =
-        let idle = ap (λ (m : Movement). m .stage) (mine-after s step link other) ∙ e in
+        let idle = ap (λ (m : Movement). m .stage) (mine-after s step link other) ∙ e (mayEnd site s (step .inputs)) in
         (idle-stays times (mine (step .after)) idle, walk-shown s step link ∙ ap movementColour idle)
 
     pedestrian-cleared :

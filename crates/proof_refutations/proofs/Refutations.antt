@@ -30,11 +30,11 @@ passes-ten : ¬ DemandThreeOf (controllerBy (λ b. passesTen (verdictOf b)) step
 unfolding computing
 passes-ten = refuted-by-greens (controllerBy (λ b. passesTen (verdictOf b)) stepped) (set junction 42 3) refl (callsFrom atOnce 2 1 10) 9 0 1 refl
 
--- B starts its green in step 110. The crossing was green in step 19 for the last time, and 90 steps are less than 50 + 50.
+-- B starts its green in step 120. The crossing was green in step 29 for the last time, and 90 steps are less than 50 + 50.
 ends-on-timer : ¬ DemandThreeOf (controllerBy verdictOf (steppedBy endsOnTimer following))
 unfolding computing
 ends-on-timer =
-    refuted-by-clearance (controllerBy verdictOf (steppedBy endsOnTimer following)) (crossings 50) refl (callsFrom walkThenB 4 1 110) 18 109 1 2 refl refl
+    refuted-by-clearance (controllerBy verdictOf (steppedBy endsOnTimer following)) (crossings 50) refl (callsFrom walkThenB 4 1 120) 28 119 1 2 refl refl
 
 -- A's group stays green in yellow for C, up to step 60; then the target is B, the group goes to red, and B starts in step 71.
 chooses-again : ¬ DemandThreeOf (controllerBy verdictOf (steppedBy ends choosesAgain))
@@ -63,15 +63,15 @@ never-alters =
     let calls = callsFrom atOnce 2 1 271 in
     refuted-by-wait controller junction refl calls (unmet-by-lock controller junction refl calls 270 0 1 refl)
 
--- The press in step 21 is dropped; the bound is 270, and no walk begins in 270 further steps.
+-- The press in step 31 is dropped; the bound is 270, and no walk begins in 270 further steps.
 drops-presses : ¬ DemandThreeOf (controllerBy verdictOf dropsPresses)
 unfolding computing
 drops-presses =
     let controller = controllerBy verdictOf dropsPresses in
-    let calls = callsFrom pressedAgain 4 1 291 in
-    refuted-by-wait controller (crossings 10) refl calls (unmet-by-button controller (crossings 10) refl calls 270 20 0 refl refl)
+    let calls = callsFrom pressedAgain 4 1 301 in
+    refuted-by-wait controller (crossings 10) refl calls (unmet-by-button controller (crossings 10) refl calls 270 30 0 refl refl)
 
--- The press in step 21 waits for its own movement's clearances, then for the walk and clearances of the other crossing, then for B: 468
+-- The press in step 31 waits for its own movement's clearances, then for the walk and clearances of the other crossing, then for B: 468
 -- further steps, where the smaller bound says 420. (The bound itself says 630.)
 small-bound :
     ¬ ((b : List ℕ) →
@@ -80,8 +80,8 @@ small-bound :
     DemandsMet (siteOf b) (smallBound (siteOf b)) (accepted (takenFrom ruled b freshKept calls)))
 unfolding computing
 small-bound holds =
-    let calls = callsFrom longestWait 4 1 441 in
-    unmet-by-button ruled (crossings 100) refl calls 420 20 0 refl refl (holds (crossings 100) refl calls)
+    let calls = callsFrom longestWait 4 1 451 in
+    unmet-by-button ruled (crossings 100) refl calls 420 30 0 refl refl (holds (crossings 100) refl calls)
 
 -- The second call is refused with 13.
 leaves-the-site : ¬ DemandThreeOf (controllerBy verdictOf leavesTheSite)

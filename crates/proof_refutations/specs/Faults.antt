@@ -24,7 +24,7 @@ use Rattle.rules.specs.Site.{siteOf, phaseTimes}
 use Rattle.rules.specs.Intervals.{isIdle, isWalk, isStartRed, isHeld}
 use Rattle.rules.specs.State.{fresh, movement, valid}
 use Rattle.rules.specs.Demands.{pressed, demandsAfter, nextDemanded, detected, extending}
-use Rattle.rules.specs.Movements.{movementsAfter}
+use Rattle.rules.specs.Movements.{walkMayEnd, movementsAfter}
 use Rattle.rules.specs.Counts.{countsAfter}
 use Rattle.rules.specs.Interval.{ends, following, entering, staying, countsChanged, locksLeft, starts}
 use Rattle.rules.specs.Walks.{begins, walksBegun, buttonsLeft}
@@ -63,7 +63,7 @@ steppedBy ending follow site s inputs =
     let demands = demandsAfter site s inputs in
     let next = nextDemanded site s inputs in
     let another = isHeld next in
-    let movements = movementsAfter (site .times) (s .movements) in
+    let movements = movementsAfter (site .times) (walkMayEnd (old .interval) times another (s .counts)) (s .movements) in
     let extended = detected extending site inputs (old .phase) in
     let counts = countsAfter (old .interval) times extended another (s .counts) in
     let ended = ending (old .interval) (site .times .start) times (old .age) another movements counts in

@@ -288,10 +288,44 @@ keeping =
     ∷ answering junction (demandingB false true) 0 (record { outcome = Declined 13 0; state = demandingB false true })
     ∷ []
 
+-- ── Request three: the green man rests ──
+
+-- the button of the crossing in step 12 and detector 1 in step 100
+unfoldable pub callLater : ℕ → ℕ
+callLater step = if eqb step 12 then 2 ^ 48 else if eqb step 100 then 2 else 0
+
+-- the same with detector 0 always occupied
+unfoldable pub callLaterAlwaysA : ℕ → ℕ
+callLaterAlwaysA step = callLater step + 1
+
+unfoldable pub resting : List Case
+resting =
+    -- the walk rests until B is demanded
+    running crossing callLater 161
+    (line 1 0 StartRed (red ∷ red ∷ red ∷ [])
+    ∷ line 10 0 MinimumGreen (green ∷ red ∷ red ∷ [])
+    ∷ line 30 0 Running (green ∷ red ∷ green ∷ [])
+    ∷ line 100 0 Running (green ∷ red ∷ flashing ∷ [])
+    ∷ line 110 0 Yellow (yellow ∷ red ∷ flashing ∷ [])
+    ∷ line 140 0 AllRed (red ∷ red ∷ flashing ∷ [])
+    ∷ line 160 1 MinimumGreen (red ∷ green ∷ red ∷ [])
+    ∷ [])
+    -- and on until the maximum count is X
+    ∷ running crossing callLaterAlwaysA 191
+    (line 1 0 StartRed (red ∷ red ∷ red ∷ [])
+    ∷ line 10 0 MinimumGreen (green ∷ red ∷ red ∷ [])
+    ∷ line 30 0 Running (green ∷ red ∷ green ∷ [])
+    ∷ line 130 0 Running (green ∷ red ∷ flashing ∷ [])
+    ∷ line 140 0 Yellow (yellow ∷ red ∷ flashing ∷ [])
+    ∷ line 170 0 AllRed (red ∷ red ∷ flashing ∷ [])
+    ∷ line 190 1 MinimumGreen (red ∷ green ∷ red ∷ [])
+    ∷ [])
+    ∷ []
+
 -- ── The list and its statement ──
 
 unfoldable pub cases : List Case
-cases = starred ++ ours ++ early ++ keeping
+cases = starred ++ ours ++ early ++ keeping ++ resting
 
 abbrev pub AllHold : List Case → Type 0
 AllHold [] = Unit {0}

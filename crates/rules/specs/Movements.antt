@@ -1,32 +1,44 @@
--- Part 2 of a step: movements. Walk, C1 and C2 follow each other once the age is at least the setting; after C2 the movement is idle.
+-- Part 2 of a step: movements. Walk, C1 and C2 follow each other once the age is at least the setting; after C2 the movement is idle. A walk
+-- that has lasted goes on until it may end.
 use Prim.Native.Nat.{ℕ, _+_, min}
+use mathlib.Core.Bool.{Bool, true, _&&_, _||_}
 use mathlib.Core.List.{List}
-use lib.Dec.{leb}
+use lib.Dec.{leb, eqb}
 use lib.ListN.{getD}
+use Rattle.rules.specs.declared.site.PhaseTimes.{PhaseTimes}
 use Rattle.rules.specs.declared.site.Times.{Times}
 use Rattle.rules.specs.declared.site.WalkTimes.{WalkTimes}
+use Rattle.rules.specs.declared.state.Counts.{Counts}
+use Rattle.rules.specs.declared.state.Interval.{Interval}
 use Rattle.rules.specs.declared.state.Movement.{Movement}
 use Rattle.rules.specs.declared.state.Stage.{Stage}
 use Rattle.rules.specs.declared.state.Stage.the-variants.{Idle, Walk, ClearanceOne, ClearanceTwo}
 use Rattle.rules.specs.Rows.{if_then_else_, listOf}
 use Rattle.rules.specs.Site.{walkTimes}
+use Rattle.rules.specs.Intervals.{isRunning}
 use Rattle.rules.specs.State.{highestAge, idle}
 
 -- ages rise by one and stop at 2,000
 unfoldable pub older : ℕ → ℕ
 older age = min (age + 1) highestAge
 
--- a stage that lasts for the setting, and what follows it
-unfoldable pub lasting : ℕ → Stage → Stage → ℕ → Movement
-lasting setting stage next age =
-    if leb setting age then record { stage = next; age = 1 } else record { stage = stage; age = older age }
+-- Running has another phase demanded, and the gap count is 0 or the maximum count is X: a walk that has lasted may end. The interval and the
+-- counts are those before part 3.
+unfoldable pub walkMayEnd : Interval → PhaseTimes → Bool → Counts → Bool
+walkMayEnd interval times another counts =
+    isRunning interval && another && (eqb (counts .gap) 0 || eqb (counts .maximum) (times .maximum))
 
-unfoldable pub advanced : Stage → WalkTimes → ℕ → Movement
-advanced Idle times age = record { stage = Idle; age = age }
-advanced Walk times age = lasting (times .walk) Walk ClearanceOne age
-advanced ClearanceOne times age = lasting (times .first) ClearanceOne ClearanceTwo age
-advanced ClearanceTwo times age = lasting (times .second) ClearanceTwo Idle age
+-- a stage that lasts for the setting at least and then until it may end, and what follows it
+unfoldable pub lasting : Bool → ℕ → Stage → Stage → ℕ → Movement
+lasting mayEnd setting stage next age =
+    if mayEnd && leb setting age then record { stage = next; age = 1 } else record { stage = stage; age = older age }
 
-unfoldable pub movementsAfter : Times → List Movement → List Movement
-movementsAfter times movements =
-    listOf (λ k. advanced (getD movements k idle .stage) (walkTimes times k) (getD movements k idle .age)) 8
+unfoldable pub advanced : Bool → Stage → WalkTimes → ℕ → Movement
+advanced mayEnd Idle times age = record { stage = Idle; age = age }
+advanced mayEnd Walk times age = lasting mayEnd (times .walk) Walk ClearanceOne age
+advanced mayEnd ClearanceOne times age = lasting true (times .first) ClearanceOne ClearanceTwo age
+advanced mayEnd ClearanceTwo times age = lasting true (times .second) ClearanceTwo Idle age
+
+unfoldable pub movementsAfter : Times → Bool → List Movement → List Movement
+movementsAfter times mayEnd movements =
+    listOf (λ k. advanced mayEnd (getD movements k idle .stage) (walkTimes times k) (getD movements k idle .age)) 8

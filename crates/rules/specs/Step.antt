@@ -6,7 +6,7 @@ use Rattle.rules.specs.declared.state.State.{State}
 use Rattle.rules.specs.Site.{phaseTimes}
 use Rattle.rules.specs.Intervals.{isHeld}
 use Rattle.rules.specs.Demands.{demandsAfter, nextDemanded, detected, extending}
-use Rattle.rules.specs.Movements.{movementsAfter}
+use Rattle.rules.specs.Movements.{walkMayEnd, movementsAfter}
 use Rattle.rules.specs.Counts.{countsAfter}
 use Rattle.rules.specs.Interval.{ends, positionAfter, countsChanged, locksLeft, starts}
 use Rattle.rules.specs.Walks.{begins, walksBegun, buttonsLeft}
@@ -19,7 +19,7 @@ steppedTo next site s inputs =
     let demands = demandsAfter site s inputs in
     let another = isHeld next in
     -- 2. movements
-    let movements = movementsAfter (site .times) (s .movements) in
+    let movements = movementsAfter (site .times) (walkMayEnd (old .interval) times another (s .counts)) (s .movements) in
     -- 3. counts
     let extended = detected extending site inputs (old .phase) in
     let counts = countsAfter (old .interval) times extended another (s .counts) in

@@ -23,7 +23,7 @@ use Rattle.rules.specs.Site.{phaseTimes, crosses}
 use Rattle.rules.specs.Intervals.{isMinimumGreen, isRunning, isIdle, isHeld}
 use Rattle.rules.specs.State.{idle}
 use Rattle.rules.specs.Demands.{demandsAfter, stands}
-use Rattle.rules.specs.Movements.{movementsAfter}
+use Rattle.rules.specs.Movements.{walkMayEnd, movementsAfter}
 use Rattle.rules.specs.Counts.{countsAfter}
 use Rattle.rules.specs.Interval.{ends, positionAfter, countsChanged, clearsLock, locksLeft, starts}
 use Rattle.rules.specs.Walks.{begins, buttonsLeft}
@@ -164,12 +164,13 @@ module _ (site : Site) (sound : Sound site) (s : KeptState) (inputs : ℕ) (v : 
 
   -- the whole step, by what each of its parts gives
   pub whole-told :
-      {own : PhaseTimes} {asked : Asked} {another : Bool} {moved : List Movement} {counted : Counts} {ended : Bool} {now : Position} {started : Bool}
+      {own : PhaseTimes} {asked : Asked} {another : Bool} {mayEnd : Bool} {moved : List Movement} {counted : Counts} {ended : Bool} {now : Position} {started : Bool}
       {walked : Walked} {locks : List Bool} {counts : Counts} {marks : List Bool} →
       own ≡ phaseTimes (site .times) (s .rest .position .phase) →
       AskedBy site s inputs asked →
       another ≡ isHeld (asked .next) →
-      moved ≡ movementsAfter (site .times) (s .rest .movements) →
+      mayEnd ≡ walkMayEnd (s .rest .position .interval) own another (s .rest .counts) →
+      moved ≡ movementsAfter (site .times) mayEnd (s .rest .movements) →
       counted ≡ countsAfter (s .rest .position .interval) own (asked .extended) another (s .rest .counts) →
       ended ≡ ends (s .rest .position .interval) (site .times .start) own (s .rest .position .age) another moved counted →
       now ≡ positionAfter ended (site .times) (asked .next) (s .rest .position) →
@@ -185,9 +186,9 @@ module _ (site : Site) (sound : Sound site) (s : KeptState) (inputs : ℕ) (v : 
       })
       (keptStepped site s inputs)
   unfolding keptStepped steppedTo walkedBy
-  whole-told {asked = asked} e1 e2 e3 e4 e5 e6 e7 e8 e9 e10 e11 e12 =
+  whole-told {asked = asked} e1 e2 e3 e4 e5 e6 e7 e8 e9 e10 e11 e12 e13 =
       let after = steppedTo next site (s .rest) inputs in
-      rw (e12, e11, e10, e9, e8, e7, e6, e5, e4, e3, e2 .next, e2 .extended, e2 .demands, e1)
+      rw (e13, e12, e11, e10, e9, e8, e7, e6, e5, e4, e3, e2 .next, e2 .extended, e2 .demands, e1)
       (ap (λ (l : List Bool). record { rest = after; kept = l })
       (list-same
       (onlyOf (λ p. bit p (asked .kept)) (stands site (after .demands)) (after .position .phase))

@@ -31,10 +31,11 @@ pub fn advance(site: Site, state: KeptState, inputs: u64) -> KeptState
     let next = asked.next;
     let another = base_intervals::held(next);
     // 2. movements
-    let stages = rest.movements;
-    let moved = step_movements::moved(times, stages, count);
-    // 3. counts
     let counts = rest.counts;
+    let may_end = step_movements::walk_may_end(interval, own, another, counts);
+    let stages = rest.movements;
+    let moved = step_movements::moved(times, may_end, stages, count);
+    // 3. counts
     let counted = step_counts::counted(interval, own, asked.extended, another, counts);
     // 4. interval
     let ended = ending::over(

@@ -2,7 +2,7 @@
 
 use compare::{run_case, run_cases, Difference, Failure};
 use model::packed::{number, Board, Model};
-use model::{layout, scan, Site, State, STATE_LEN};
+use model::{layout, scan, MovementState, Site, Stage, State, STATE_LEN};
 
 /// Spoils an answer, and the state and colours that go with it.
 type SpoilStep = fn(u64, &mut [u8], &mut [u8]) -> u64;
@@ -203,6 +203,25 @@ impl Board for ScansAnew {
 #[test]
 fn kept_phases_that_are_not_looked_at() {
     assert_eq!(what(&ScansAnew), "step: the answer");
+}
+
+#[test]
+fn a_walk_that_does_not_rest() {
+    let board = Wrong {
+        step: Some(|answer, state, _| {
+            if number(answer) == 0 {
+                let mut next = State::from_bytes(state).unwrap();
+                let walks = next.movements.iter_mut();
+                // No walk of a fixed time lasts longer.
+                let too_long = walks.filter(|m| m.stage == Stage::Walk && m.age > 400);
+                too_long.for_each(|m| *m = MovementState::begin(Stage::ClearanceOne));
+                state.copy_from_slice(&next.to_bytes());
+            }
+            answer
+        }),
+        ..Wrong::default()
+    };
+    assert_eq!(what(&board), "step: the state");
 }
 
 #[test]

@@ -363,6 +363,34 @@ fn running_that_never_ends() {
 }
 
 #[test]
+fn a_walk_that_rests_for_ever() {
+    assert_breach!(
+        |outcome| {
+            for movement in &mut outcome.state.movements {
+                if *movement == MovementState::begin(Stage::ClearanceOne) {
+                    movement.stage = Stage::Walk;
+                }
+            }
+        },
+        Breach::LockUnmet { .. } | Breach::PressUnmet { .. }
+    );
+}
+
+#[test]
+fn a_resting_walk_that_ends_without_its_first_clearance() {
+    assert_breach!(
+        |outcome| {
+            for movement in &mut outcome.state.movements {
+                if movement.stage == Stage::Walk && movement.age > 100 {
+                    *movement = MovementState::begin(Stage::ClearanceTwo);
+                }
+            }
+        },
+        Breach::Uncleared { .. }
+    );
+}
+
+#[test]
 fn lights_that_never_alter() {
     assert_breach!(
         |outcome| outcome.state = model::fresh(),

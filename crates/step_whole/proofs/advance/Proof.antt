@@ -22,7 +22,10 @@ held-requires c κs = search needs
 
 -- the start, from where the movements are read
 abbrev start : tie.After-stages → tie.Start
-start c = c .before .before .before .before .before .before .before .before .before
+start c = c .before .before .before .before .before .before .before .before .before .before .before
+
+walk-may-end-requires : tie.Need-walk-may-end-requires
+walk-may-end-requires c κs = search needs
 
 moved-requires : tie.Need-moved-requires
 moved-requires c κs = idle-past (start c .args .site) (start c .args .state) (start c .pre)
@@ -32,12 +35,12 @@ counted-requires c κs = search needs
 
 over-requires : tie.Need-over-requires
 over-requires c κs =
-    let moved = c .before .before in
+    let moved = c .before in
     let entry = start (moved .before) in
     let site = entry .args .site in
     let state = entry .args .state in
     rw (moved .moved .ensures)
-    (still-past (site .times) (state .rest .movements) (site .size .movements) (idle-past site state (entry .pre)))
+    (still-past (site .times) _ (state .rest .movements) (site .size .movements) (idle-past site state (entry .pre)))
 
 position-after-requires : tie.Need-position-after-requires
 position-after-requires c κs = search needs
@@ -47,7 +50,7 @@ starts-requires c κs = search needs
 
 begin-requires : tie.Need-begin-requires
 begin-requires c κs =
-    let entry = start (c .before .before .before .before .before .before .before .before) in
+    let entry = start (c .before .before .before .before .before .before .before) in
     none-past (entry .args .site) (entry .args .state) (entry .pre)
 
 locks-left-requires : tie.Need-locks-left-requires
@@ -59,7 +62,7 @@ counts-changed-requires c κs = search needs
 left-requires : tie.Need-left-requires
 left-requires c κs =
     let now = c .before .before .before .before .before .before .before .before .before in
-    let entry = start (now .before .before .before .before .before) in
+    let entry = start (now .before .before .before .before) in
     let site = entry .args .site in
     (rw (now .position-after .ensures) (now-on site (entry .args .state) (entry .pre) _ _), entry .pre .0 .movements)
 
@@ -73,13 +76,14 @@ returns c =
     let now = started .before .before in
     let over = now .before in
     let counted = over .before in
-    let moved = counted .before .before in
-    let held = moved .before .before in
+    let moved = counted .before in
+    let mayEnd = moved .before .before in
+    let held = mayEnd .before .before in
     let asked = held .before .before in
     let own = asked .before in
     let entry = own .before .before .before .before .before in
     whole-told (entry .args .site) (entry .pre .0) (entry .args .state) (entry .args .inputs) (entry .pre .1)
-    (own .times-of .ensures) (asked .register .ensures) (held .held .ensures) (moved .moved .ensures) (counted .counted .ensures) (over .over .ensures)
+    (own .times-of .ensures) (asked .register .ensures) (held .held .ensures) (mayEnd .walk-may-end .ensures) (moved .moved .ensures) (counted .counted .ensures) (over .over .ensures)
     (now .position-after .ensures) (started .starts .ensures) (begun .begin .ensures) (lefts .locks-left .ensures)
     (changed .counts-changed .ensures) (c .left2 .ensures)
 
@@ -90,6 +94,7 @@ advance-spec =
     times-of-requires
     register-requires
     held-requires
+    walk-may-end-requires
     moved-requires
     counted-requires
     over-requires

@@ -150,7 +150,11 @@ impl<'a> Letter<'a> {
         let running = usize::from(before.phase);
         let other_demanded = (0..7).any(|phase| phase != running && demanded[phase]);
 
-        // 2. Movements.
+        // 2. Movements: walk rests until running would give way.
+        let maximum_green = self.plan.phases[running][2];
+        let gives_way = before.interval == Interval::Running
+            && other_demanded
+            && (before.gap_count == 0 || before.maximum_count == maximum_green);
         for (index, times) in self.plan.movements.iter().enumerate() {
             let movement = &mut state.movements[index];
             let (setting, next) = match movement.stage {
@@ -159,7 +163,8 @@ impl<'a> Letter<'a> {
                 Stage::ClearanceOne => (times[1], Stage::ClearanceTwo),
                 Stage::ClearanceTwo => (times[2], Stage::Idle),
             };
-            if movement.age >= setting {
+            let rests = movement.stage == Stage::Walk && !gives_way;
+            if movement.age >= setting && !rests {
                 movement.stage = next;
                 movement.age = 1;
             } else if movement.age < MAX_AGE {

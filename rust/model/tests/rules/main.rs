@@ -11,6 +11,7 @@ mod lookup;
 mod overlaps;
 mod pedestrians;
 mod refusals;
+mod resting_walk;
 mod running;
 mod states;
 mod trace;

@@ -172,11 +172,16 @@ fn late_start_without_a_setting_ends_at_once() {
 
 #[test]
 fn a_stage_older_than_its_setting_ends_once() {
-    let state = next(|state| {
-        state.interval = Interval::Running;
-        state.movements[0] = in_stage(Stage::Walk, MAX_AGE);
-    });
-    assert_eq!(state.movements[0], in_stage(Stage::ClearanceOne, 1));
+    let walking = |locks| {
+        next(|state| {
+            state.interval = Interval::Running;
+            state.locks = locks;
+            state.movements[0] = in_stage(Stage::Walk, MAX_AGE);
+        })
+        .movements[0]
+    };
+    assert_eq!(walking(0b10), in_stage(Stage::ClearanceOne, 1));
+    assert_eq!(walking(0b00), in_stage(Stage::Walk, MAX_AGE), "it rests");
 }
 
 #[test]
