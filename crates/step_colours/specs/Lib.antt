@@ -1,2 +1,1 @@
 pub mod Showable
-pub mod Pass
