@@ -1,9 +1,6 @@
--- An accepted site's colours can be shown: its groups and movements are within the arrays, and each pedestrian group has a movement. So can
--- those of its first groups.
-use Prim.Native.Nat.{ℕ, _+_, _≤_, _<_}
-use mathlib.Core.List.{List}
+-- An accepted site's colours can be shown: its groups and movements are within the arrays, and each pedestrian group has a movement.
+use Prim.Native.Nat.{ℕ, _≤_}
 use native.Mathlib.Omega.{arith}
-use Rattle.rules.specs.declared.site.Group.{Group}
 use Rattle.rules.specs.declared.site.Site.{Site}
 use Rattle.rules.specs.Laws.{Sound}
 use Rattle.step_colours.specs.Showable.{Showable}
@@ -14,17 +11,4 @@ showable site room sound fits =
       listed = sound .groups .1;
       fits = fits;
       movement = λ g l p. omega (arith, sound .movementOfGroup g l p, sound .movements);
-    }
-
-pub first-showable :
-    {groups : List Group} {count room : ℕ} →
-    Showable groups count room →
-    (g : ℕ) →
-    g < count →
-    Showable groups (g + 1) room
-first-showable all g l =
-    record {
-      listed = omega (arith, all .listed);
-      fits = omega (arith, all .fits);
-      movement = λ i m. all .movement i (omega arith);
     }

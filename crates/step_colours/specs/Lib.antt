@@ -1,1 +1,2 @@
 pub mod Showable
+pub mod Turn

@@ -1,14 +1,14 @@
 // The colours that the signal groups show in a state, one byte a group.
-ghost use Prim.Native.Nat.{_+_, _≤_};
+ghost use Prim.Native.Nat.{_≤_, _<_};
 ghost use mathlib.Core.List.{_++_};
 ghost use mathlib.Core.Path.{_≡_};
 ghost use lib.ListN.{length, drop};
 ghost use Rattle.rules.specs.Intervals.{heldIn};
 ghost use Rattle.rules.specs.Rows.{if_then_else_};
-ghost use Rattle.rules.specs.Site.{movementOf};
-ghost use Rattle.rules.specs.Colours.{red, yellow, green, sinceCutOff, closing, vehicleColour, movementColour, vehicleShown, colourOf, coloursOf, bufferAt, Turn};
+ghost use Rattle.rules.specs.Colours.{red, yellow, green, sinceCutOff, closing, vehicleColour, movementColour, vehicleShown, colourOf, coloursOf, bufferAt};
 ghost use Rattle.rules.specs.Laws.{Sound};
 ghost use Rattle.step_colours.specs.Showable.{Showable};
+ghost use Rattle.step_colours.specs.Turn.{TurnOf};
 use rules::site::Group;
 use rules::site::PhaseTimes;
 use rules::site::Site;
@@ -135,23 +135,21 @@ fn still_closing(times: Times, position: Position) -> bool
     since_cut_off(interval, own, position.age) <= own.yellow as u32
 }
 
-// One turn of the pass: writes what group g shows, with k pedestrian groups before it, and answers how many pedestrian groups are passed then.
+// One turn of the pass: writes what group g shows, by its record and by its movement's stage if it is a pedestrian group, and answers how many
+// pedestrian groups are passed then. It takes no array: one that goes in by value would be copied at every turn.
 fn pass_group(
-    groups: [Group; 32],
+    group: Group,
+    stage: Stage,
     closes: bool,
     position: Position,
-    movements: [Movement; 8],
     g: usize,
     k: usize,
     buffer: &mut [u8],
 ) -> usize
-    requires { ⌜ Showable groups (g + 1) (length (now buffer)) × (k ≡ movementOf groups g) ⌝ }
-    ensures { λ next. ⌜ Turn groups (colourOf groups closes position movements) g (now (buffer .entry)) k (now (buffer .exit)) next ⌝ }
+    requires { ⌜ (g < length (now buffer)) × (k ≤ g) ⌝ }
+    ensures { λ next. ⌜ TurnOf group stage closes position g (now (buffer .entry)) k (now (buffer .exit)) next ⌝ }
 {
-    let group = groups[g];
     if group.mark == 2 {
-        let own = movements[k];
-        let stage = own.stage;
         buffer[g] = Colour::of_movement(stage);
         return k + 1;
     }
@@ -175,7 +173,14 @@ fn show(
     let mut k: usize = 0;
     let mut g: usize = 0;
     while g < count {
-        k = pass_group(groups, closes, position, movements, g, k, buffer);
+        let group = groups[g];
+        let stage = if group.mark == 2 {
+            let own = movements[k];
+            own.stage
+        } else {
+            Stage::Idle
+        };
+        k = pass_group(group, stage, closes, position, g, k, buffer);
         g += 1;
     }
 }
