@@ -1,9 +1,8 @@
 -- `step_demands::ring::next` meets its contract: the search of the phases after this one, and where it finds none, of those before it.
 use borrow.Author.Needs.{needs}
 use Prim.Native.Nat.{ℕ}
-use mathlib.Core.Bool.{Bool, false, _||_}
+use mathlib.Core.Bool.{Bool}
 use mathlib.Core.Path.{sym, _∙_}
-use lib.ListN.{getD}
 use Rattle.rules.specs.Bytes.{bit}
 use Rattle.step_demands.proofs.Letters.{next-later, next-earlier}
 use Rattle.step_demands.proofs.ring.next.Statement.{statement}
@@ -22,7 +21,7 @@ returns : tie.Need-returns
 returns c =
     let at = c .before .before .before in
     let args = at .before .args in
-    let test : ℕ → Bool = λ p. getD (args .marks) p false || bit p (args .set) in
+    let test : ℕ → Bool = λ p. bit p (args .set) in
     sym (next-later test (args .phase) (args .phases) (at .before .pre .0) (sym (at .search .ensures) ∙ c .before .later .given .1))
 
 enum-told : tie.Need-enum-told
@@ -35,7 +34,7 @@ returns-2 : tie.Need-returns-2
 returns-2 c =
     let at = c .before .before .before in
     let args = at .before .args in
-    let test : ℕ → Bool = λ p. getD (args .marks) p false || bit p (args .set) in
+    let test : ℕ → Bool = λ p. bit p (args .set) in
     c .search2 .ensures
     ∙ sym (next-earlier test (args .phase) (args .phases) (at .before .pre .0) (sym (at .search .ensures) ∙ c .before .enum-told .given .1))
 

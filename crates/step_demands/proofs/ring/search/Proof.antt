@@ -1,10 +1,8 @@
 -- `step_demands::ring::search` meets its contract. The loop's invariant: the phases passed are not demanded, so the search of the rest gives the same.
 use borrow.Author.Needs.{needs}
 use Prim.Native.Nat.{ℕ, _-_, _≤_}
-use mathlib.Core.Bool.{Bool, false, _||_}
-use mathlib.Core.List.{List}
-use mathlib.Core.Path.{_≡_, refl, sym, ap, _∙_}
-use lib.ListN.{getD}
+use mathlib.Core.Bool.{Bool}
+use mathlib.Core.Path.{_≡_, refl, sym, _∙_}
 use Rattle.rules.specs.Bytes.{bit}
 use Rattle.rules.specs.Demands.{firstIn}
 use Rattle.step_demands.specs.Letters.{run}
@@ -12,23 +10,17 @@ use Rattle.step_demands.proofs.Letters.{search-found, search-on, search
 use Rattle.step_demands.proofs.ring.search.Statement.{statement}
 use Rattle.step_demands.proofs.ring.search.Tie as tie
 
-abbrev at : List Bool → ℕ → ℕ → Bool
-at marks set p = getD marks p false || bit p set
+abbrev at : ℕ → ℕ → Bool
+at set p = bit p set
 
 abbrev Inv-loop : tie.InvT-loop
-Inv-loop set from to marks p₀ p = (p ≤ to) × (firstIn (at marks set) (run from (to - from)) ≡ firstIn (at marks set) (run p (to - p)))
+Inv-loop set from to p₀ p = (p ≤ to) × (firstIn (at set) (run from (to - from)) ≡ firstIn (at set) (run p (to - p)))
 
 abbrev μ-loop : tie.MeasureT-loop
-μ-loop set from to marks p₀ p = to - p
+μ-loop set from to p₀ p = to - p
 
 loop-holds : tie.Need-loop-holds Inv-loop μ-loop
 loop-holds c = (search needs, refl)
-
-cast-if1 : tie.Need-cast-if1 Inv-loop μ-loop
-cast-if1 c = search needs
-
-array-read-if1 : tie.Need-array-read-if1 Inv-loop μ-loop
-array-read-if1 c = search needs
 
 bit8-requires : tie.Need-bit8-requires Inv-loop μ-loop
 bit8-requires c κs = search needs
@@ -40,8 +32,8 @@ returns c =
     let p = here .loop .p in
     sym
     (here .loop .inv .1
-    ∙ search-found (at (args .t1) (args .set)) p (args .to) (c .before .before .loop-test .taken)
-    (ap (λ (t : Bool). getD (args .t1) p false || t) (sym (c .before .bit8 .ensures)) ∙ c .if1 .taken))
+    ∙ search-found (at (args .set)) p (args .to) (c .before .before .loop-test .taken)
+    (sym (c .before .bit8 .ensures) ∙ c .if1 .taken))
 
 add-p : tie.Need-add-p Inv-loop μ-loop
 add-p c = search needs
@@ -56,15 +48,15 @@ loop-again c =
     let p = here .loop .p in (
       search needs,
       here .loop .inv .1
-          ∙ search-on (at (args .t1) (args .set)) p (args .to) (c .before .before .loop-test .taken)
-          (ap (λ (t : Bool). getD (args .t1) p false || t) (sym (c .before .bit8 .ensures)) ∙ c .if1 .left),
+          ∙ search-on (at (args .set)) p (args .to) (c .before .before .loop-test .taken)
+          (sym (c .before .bit8 .ensures) ∙ c .if1 .left),
     )
 
 returns-2 : tie.Need-returns-2 Inv-loop μ-loop
 returns-2 c =
     let here = c .before in
     let args = here .before .args in
-    sym (here .loop .inv .1 ∙ search-none (at (args .t1) (args .set)) (here .loop .p) (args .to) (c .loop-test .left))
+    sym (here .loop .inv .1 ∙ search-none (at (args .set)) (here .loop .p) (args .to) (c .loop-test .left))
 
 pub search-spec : {M : Type 1} → statement M
 search-spec =
@@ -73,8 +65,6 @@ search-spec =
     Inv-loop
     μ-loop
     loop-holds
-    cast-if1
-    array-read-if1
     bit8-requires
     returns
     add-p
