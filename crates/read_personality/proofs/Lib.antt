@@ -1,4 +1,3 @@
 pub mod Modes
 pub mod Words
-pub mod GroupMarks
 pub mod Seventh

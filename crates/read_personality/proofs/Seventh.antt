@@ -26,12 +26,12 @@ module _ (b : List ℕ) where
 
   -- ── With kind 7 ──
 
-  module _ (there : hasEarly b ≡ true) where
-    -- a record has one time
-    one-time : (place setting : ℕ) → timesAt b place setting 1 ≡ timeAt b place setting
-    unfolding timesAt firstOf _orElse_
-    one-time place setting = rw (add-zero place, add-zero setting)
+  -- a record has one time
+  one-time : (place setting : ℕ) → timesAt b place setting 1 ≡ timeAt b place setting
+  unfolding timesAt firstOf _orElse_
+  one-time place setting = rw (add-zero place, add-zero setting)
 
+  module _ (there : hasEarly b ≡ true) where
     pub early-checked :
         (sectionAt b (earlyHead b) 7 (eqb (bodyLength b (earlyHead b)) (phaseCount b * 2))
         orElse firstOf (λ p. timesAt b (recordAt (earlyHead b) 2 p) earlySetting 1) (phaseCount b))
@@ -86,3 +86,7 @@ module _ (b : List ℕ) where
     pub without-early : {v : Verdict} → v ≡ (earlyMissing b orElse restFrom (earlyHead b)) → v ≡ afterPedestrians b
     unfolding afterPedestrians
     without-early q = or-next (sym none-early) refl (q ∙ ap (λ (end : ℕ). earlyMissing b orElse restFrom end) (sym (end-without b missing)))
+
+    -- no group stops early: nothing is left but bytes left over
+    pub rest-only : {v : Verdict} {place : ℕ} → anyOf (stopsEarly b) (groupCount b) ≡ false → place ≡ earlyHead b → v ≡ restFrom place → v ≡ afterPedestrians b
+    rest-only none m q = without-early (or-next (none-stops none) refl (q ∙ ap restFrom m))

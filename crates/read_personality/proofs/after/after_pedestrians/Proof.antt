@@ -8,6 +8,9 @@ use Rattle.read_personality.proofs.Seventh.{with-early, without-early}
 use Rattle.read_personality.proofs.after.after_pedestrians.Statement.{statement}
 use Rattle.read_personality.proofs.after.after_pedestrians.Tie as tie
 
+laid-out-requires : tie.Need-laid-out-requires
+laid-out-requires c κs = search needs
+
 early-section-requires : tie.Need-early-section-requires
 early-section-requires c κs = search needs
 
@@ -41,7 +44,7 @@ unfolding bodyAt
 returns-2 c =
     let passed = c .before .before .before in
     let call = passed .before .before in
-    let laid = call .before .before .before .pre .0 in
+    let laid = call .before .before .laid-out .ensures in
     with-early _ (sym (laid .seven) ∙ call .before .if1 .taken) (call .early-section .ensures) (passed .enum-told2 .given .1)
     (omega (arith, laid .early, laid .p))
     (c .left-over .ensures)
@@ -55,7 +58,7 @@ enum-told-3 c = search needs
 returns-3 : tie.Need-returns-3
 returns-3 c =
     let call = c .before .before in
-    let laid = call .before .before .before .pre .0 in
+    let laid = call .before .before .laid-out .ensures in
     without-early _ (sym (laid .seven) ∙ call .before .if1 .left) (or-stop _ (call .early-missing .ensures) (c .enum-told3 .given .1))
 
 enum-told-4 : tie.Need-enum-told-4
@@ -68,7 +71,7 @@ returns-4 : tie.Need-returns-4
 returns-4 c =
     let passed = c .before in
     let call = passed .before .before in
-    let laid = call .before .before .before .pre .0 in
+    let laid = call .before .before .laid-out .ensures in
     without-early _ (sym (laid .seven) ∙ call .before .if1 .left)
     (or-next (call .early-missing .ensures) (passed .enum-told4 .given .1) (rw (laid .early) at (c .left-over2 .ensures)))
 
@@ -76,6 +79,7 @@ pub after-pedestrians-spec : {M : Type 1} → statement M
 after-pedestrians-spec =
     tie.close
     (tie.spec
+    laid-out-requires
     early-section-requires
     enum-told
     returns
