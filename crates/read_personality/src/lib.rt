@@ -5,6 +5,7 @@ ghost use Rattle.rules.specs.Personality.{verdictOf};
 mod after;
 mod detectors;
 mod marks;
+mod order;
 mod pedestrians;
 mod site;
 

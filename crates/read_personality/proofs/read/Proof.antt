@@ -188,7 +188,7 @@ after-pedestrians-requires : tie.Need-after-pedestrians-requires
 after-pedestrians-requires c κs =
     let marks = c .before .before .before in
     let groups = groupsLaid (marks .before) in
-    (groups .0, groups .1, marks .marks-of .ensures .1)
+    (groups .0, siteAccepted (siteBefore (groupsBefore (marks .before))), groups .1, marks .marks-of .ensures .1)
 
 returns-7 : tie.Need-returns-7
 returns-7 c = pastPedestrians (c .before) (c .after-pedestrians .ensures)
