@@ -21,10 +21,10 @@ use Rattle.base_reads.proofs.Union.{bit-or}
 use Rattle.proof_arrays.proofs.Fill.{list-same}
 use Rattle.step_demands.specs.declared.Asked.{Asked}
 use Rattle.step_demands.specs.declared.detectors.Sensed.{Sensed}
-use Rattle.step_demands.specs.Letters.{others}
+use Rattle.step_demands.specs.Orders.{others}
 use Rattle.step_demands.specs.Sensed.{SensedBy}
 use Rattle.step_demands.specs.Asked.{askedOf}
-use Rattle.step_demands.proofs.Letters.{ring-same}
+use Rattle.step_demands.proofs.Orders.{ring-same}
 
 module _
     (site : Site) (s : State) (inputs : ℕ) (sensed : Sensed) (waiting : ℕ)
@@ -49,9 +49,8 @@ module _
         (searched :
         next
         ≡ firstIn (λ p. getD locks p false || bit p (bitOr crossed (bitAnd (sensed .calls) waiting)))
-        (others (s .position .phase) (site .size .phases)))
+        (others (s .position .phase) (site .order) (site .size .phases)))
         (sound : Sound site)
-        (on : s .position .phase < site .size .phases)
       where
         abbrev standing : Demands
         standing = record { locks = locks; buttons = buttons }
@@ -82,8 +81,8 @@ module _
         unfolding nextDemanded
         next-told =
             searched
-            ∙ ring-same site (λ p. getD locks p false || bit p (bitOr crossed (bitAnd (sensed .calls) waiting)))
-            (demanded site s inputs) (s .position .phase) on (sound .phases .1) demanded-told
+            ∙ ring-same site sound (λ p. getD locks p false || bit p (bitOr crossed (bitAnd (sensed .calls) waiting)))
+            (demanded site s inputs) (s .position .phase) demanded-told
 
         extended-told : sensed .extended ≡ detected extending site inputs (s .position .phase)
         unfolding detected

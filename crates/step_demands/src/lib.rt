@@ -40,9 +40,10 @@ pub fn register(site: Site, state: State, inputs: u64) -> Asked
     let buttons = buttons::press(demanded, movements, inputs);
     let crossings = site.crossings;
     let called = buttons::crossed(crossings, buttons, size.movements) | (sensed.calls & waiting);
+    let order = site.order;
     Asked {
         demands: Demands { locks, buttons },
-        next: ring::next(locks, called, phase, size.phases),
+        next: ring::next(locks, called, phase, order, size.phases),
         extended: sensed.extended,
     }
 }

@@ -2,6 +2,7 @@
 use borrow.Author.Needs.{needs}
 use native.Mathlib.Omega.{arith}
 use Rattle.step_demands.proofs.Modes.{tabled}
+use Rattle.step_demands.proofs.Orders.{order-marked}
 use Rattle.step_demands.proofs.PartOne.{asked-told}
 use Rattle.step_demands.proofs.register.Statement.{statement}
 use Rattle.step_demands.proofs.register.Tie as tie
@@ -23,11 +24,15 @@ crossed-requires : tie.Need-crossed-requires
 crossed-requires c κs = search needs
 
 next-requires : tie.Need-next-requires
-next-requires c κs = search needs
+next-requires c κs =
+    let pressed = c .before .before .before .before in
+    let waiting = pressed .before .before .before .before .before .before .before in
+    let start = waiting .before .before .before .before .before in
+    order-marked (start .args .site) (start .pre .0)
 
 returns : tie.Need-returns
 returns c =
-    let crossed = c .before .before in
+    let crossed = c .before .before .before in
     let pressed = crossed .before .before in
     let joined = pressed .before .before .before in
     let waiting = joined .before .before .before .before in
@@ -36,7 +41,7 @@ returns c =
     asked-told (start .args .site) (start .args .state) (start .args .inputs) (scanned .scan .result) (waiting .waiting .result)
     (scanned .scan .ensures) (waiting .waiting .ensures)
     (joined .joined .result) (pressed .press .result) (crossed .crossed .result) (c .next .result)
-    (joined .joined .ensures) (pressed .press .ensures) (crossed .crossed .ensures) (c .next .ensures) (start .pre .0) (start .pre .1)
+    (joined .joined .ensures) (pressed .press .ensures) (crossed .crossed .ensures) (c .next .ensures) (start .pre .0)
 
 pub register-spec : {M : Type 1} → statement M
 register-spec =
