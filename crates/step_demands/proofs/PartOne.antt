@@ -26,10 +26,10 @@ use Rattle.proof_arrays.proofs.Fill.{list-same}
 use Rattle.proof_arrays.proofs.Passing.{any-past}
 use Rattle.step_demands.specs.declared.Asked.{Asked}
 use Rattle.step_demands.specs.declared.detectors.Sensed.{Sensed}
-use Rattle.step_demands.specs.Letters.{others}
+use Rattle.step_demands.specs.Orders.{others}
 use Rattle.step_demands.specs.Sensed.{SensedBy}
 use Rattle.step_demands.specs.Asked.{askedOf}
-use Rattle.step_demands.proofs.Letters.{ring-same}
+use Rattle.step_demands.proofs.Orders.{ring-same}
 
 module _
     (site : Site) (s : KeptState) (inputs : ℕ) (sensed : Sensed) (waiting : ℕ)
@@ -62,9 +62,8 @@ module _
         (keeps : kept ≡ listOf (λ p. getD (s .kept) p false || bit p (bitOr (bitAnd (sensed .locks) waiting) pressing)) 7)
         (searched :
         next
-        ≡ firstIn (λ p. getD kept p false || bit p (bitAnd (sensed .calls) waiting)) (others (s .rest .position .phase) (site .size .phases)))
+        ≡ firstIn (λ p. getD kept p false || bit p (bitAnd (sensed .calls) waiting)) (others (s .rest .position .phase) (site .order) (site .size .phases)))
         (sound : Sound site)
-        (on : s .rest .position .phase < site .size .phases)
       where
         abbrev standing : Demands
         standing = record { locks = locks; buttons = buttons }
@@ -110,8 +109,8 @@ module _
         unfolding nextKept nextAfter
         next-told =
             searched
-            ∙ ring-same site (λ p. getD kept p false || bit p (bitAnd (sensed .calls) waiting))
-            (λ p. keptAfter site s inputs p || calls site (s .rest) inputs p) (s .rest .position .phase) on (sound .phases .1) demanded-told
+            ∙ ring-same site sound (λ p. getD kept p false || bit p (bitAnd (sensed .calls) waiting))
+            (λ p. keptAfter site s inputs p || calls site (s .rest) inputs p) (s .rest .position .phase) demanded-told
 
         extended-told : sensed .extended ≡ detected extending site inputs (s .rest .position .phase)
         unfolding detected

@@ -3,6 +3,7 @@
 use borrow.Author.Needs.{needs}
 use native.Mathlib.Omega.{arith}
 use Rattle.step_demands.proofs.Modes.{tabled}
+use Rattle.step_demands.proofs.Orders.{order-marked}
 use Rattle.step_demands.proofs.PartOne.{asked-told}
 use Rattle.step_demands.proofs.register.Statement.{statement}
 use Rattle.step_demands.proofs.register.Tie as tie
@@ -27,11 +28,17 @@ joined-requires-2 : tie.Need-joined-requires-2
 joined-requires-2 c κs = search needs
 
 next-requires : tie.Need-next-requires
-next-requires c κs = search needs
+next-requires c κs =
+    let kept = c .before .before in
+    let pressed = kept .before .before .before .before in
+    let joined = pressed .before .before .before .before in
+    let scanned = joined .before .before .before .before .before in
+    let start = scanned .before .before .before .before .before in
+    order-marked (start .args .site) (start .pre .0)
 
 returns : tie.Need-returns
 returns c =
-    let kept = c .before .before in
+    let kept = c .before .before .before in
     let pressed = kept .before .before .before .before in
     let joined = pressed .before .before .before .before in
     let waiting = joined .before .before .before .before in
@@ -41,7 +48,7 @@ returns c =
     (scanned .scan .ensures) (waiting .waiting .ensures)
     (joined .joined .result) (pressed .press .result .buttons) (kept .joined2 .result) (pressed .press .result .phases) (c .next .result)
     (joined .joined .ensures) (pressed .press .ensures .0) (pressed .press .ensures .1) (kept .joined2 .ensures) (c .next .ensures)
-    (start .pre .0) (start .pre .1)
+    (start .pre .0)
 
 pub register-spec : {M : Type 1} → statement M
 register-spec =
