@@ -1,3 +1,5 @@
 pub mod Modes
 pub mod Words
+pub mod GroupMarks
 pub mod Seventh
+pub mod Ninth

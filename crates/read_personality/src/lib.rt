@@ -4,11 +4,11 @@ ghost use Rattle.rules.specs.Personality.{verdictOf};
 
 mod after;
 mod detectors;
+mod order;
 mod pedestrians;
 mod site;
 
 use after::after_pedestrians;
-use after::left_over;
 use detectors::detectors_section;
 use pedestrians::pedestrians_section;
 use read_conflicts::conflicts_section;
@@ -47,9 +47,5 @@ pub fn read(personality: &[u8]) -> Verdict
     if let Verdict::Refused { .. } = pedestrians {
         return pedestrians;
     }
-    if layout.seven | groups.early {
-        return after_pedestrians(personality);
-    }
-    // Without kind 7, and without a group that asks for it, bytes left over are all that can follow.
-    left_over(personality, layout.early)
+    after_pedestrians(personality, layout, groups.early)
 }

@@ -23,7 +23,7 @@ use Rattle.rules.specs.Colours.{red, yellow, green, flashing}
 use Rattle.rules.specs.WaitBound.{waitBound}
 use Rattle.rules.specs.Call.{answerOf}
 use Rattle.rules.specs.Traces.{Line, line, changes}
-use Rattle.rules.specs.Junctions.{junction, putTwo, crossing, threePhases, callingB, overlap, cutOffs, turning, turningBoth}
+use Rattle.rules.specs.Junctions.{junction, putTwo, crossing, threePhases, callingB, overlap, cutOffs, turning, turningBoth, ordered}
 
 -- What a case says of a personality: its verdict, its wait bound, the changes of n calls whose input bits are given by step, or the
 -- answer to one call from a state, with room for every group.
@@ -322,10 +322,51 @@ resting =
     ∷ [])
     ∷ []
 
+-- ── Request five: phases not in letter order ──
+
+-- detectors 1 and 2 in step 12
+unfoldable pub bothOthers : ℕ → ℕ
+bothOthers step = if eqb step 12 then 6 else 0
+
+unfoldable pub inOrder : List Case
+inOrder =
+    -- A, C, B
+    running (threePhases ++ ordered (0 ∷ 2 ∷ 1 ∷ [])) bothOthers 133
+    (line 1 0 StartRed (red ∷ red ∷ red ∷ [])
+    ∷ line 10 0 MinimumGreen (green ∷ red ∷ red ∷ [])
+    ∷ line 30 0 Running (green ∷ red ∷ red ∷ [])
+    ∷ line 31 0 Yellow (yellow ∷ red ∷ red ∷ [])
+    ∷ line 61 0 AllRed (red ∷ red ∷ red ∷ [])
+    ∷ line 71 2 MinimumGreen (red ∷ red ∷ green ∷ [])
+    ∷ line 91 2 Running (red ∷ red ∷ green ∷ [])
+    ∷ line 92 2 Yellow (red ∷ red ∷ yellow ∷ [])
+    ∷ line 122 2 AllRed (red ∷ red ∷ red ∷ [])
+    ∷ line 132 1 MinimumGreen (red ∷ green ∷ red ∷ [])
+    ∷ [])
+    -- it moves no wait
+    ∷ waiting (threePhases ++ ordered (0 ∷ 2 ∷ 1 ∷ [])) 400
+    ∷ reading (threePhases ++ ordered (0 ∷ 2 ∷ 1 ∷ [])) Accepted
+    -- the order starts anywhere, and the fresh state is phase A all the same
+    ∷ reading (threePhases ++ ordered (2 ∷ 1 ∷ 0 ∷ [])) Accepted
+    -- not each phase once; a phase that is not one
+    ∷ reading (threePhases ++ ordered (0 ∷ 2 ∷ 2 ∷ [])) (Refused 18 88)
+    ∷ reading (threePhases ++ ordered (0 ∷ 2 ∷ 3 ∷ [])) (Refused 18 88)
+    -- a wrong length, a body cut short, a byte behind it
+    ∷ reading (threePhases ++ ordered (0 ∷ 2 ∷ [])) (Refused 3 88)
+    ∷ reading (threePhases ++ (3 ∷ 0 ∷ 9 ∷ 0 ∷ 0 ∷ 2 ∷ [])) (Refused 1 88)
+    ∷ reading (threePhases ++ ordered (0 ∷ 2 ∷ 1 ∷ []) ++ (1 ∷ [])) (Refused 12 95)
+    -- kind 9 after kind 7, and not before it
+    ∷ reading (threePhases ++ cutOffs (20 ∷ 0 ∷ 0 ∷ []) ++ ordered (0 ∷ 2 ∷ 1 ∷ [])) Accepted
+    ∷ reading (threePhases ++ ordered (0 ∷ 2 ∷ 1 ∷ []) ++ cutOffs (20 ∷ 0 ∷ 0 ∷ [])) (Refused 12 95)
+    -- 18 is checked with that body, so before 17
+    ∷ reading (turning ++ ordered (0 ∷ 0 ∷ [])) (Refused 18 74)
+    ∷ reading (turning ++ ordered (1 ∷ 0 ∷ [])) (Refused 17 42)
+    ∷ []
+
 -- ── The list and its statement ──
 
 unfoldable pub cases : List Case
-cases = starred ++ ours ++ early ++ keeping ++ resting
+cases = starred ++ ours ++ early ++ keeping ++ resting ++ inOrder
 
 abbrev pub AllHold : List Case → Type 0
 AllHold [] = Unit {0}

@@ -85,6 +85,12 @@ overlap =
     (0 ∷ 6 ∷ 1 ∷ 6 ∷ [])
     []
 
+-- ── Sites of request five: phases not in letter order ──
+
+-- A section of kind 9 with this order.
+unfoldable pub ordered : List ℕ → List ℕ
+ordered phases = section 9 phases
+
 -- ── Sites of request one: early cut-off green ──
 
 -- A section of kind 7 with these times.

@@ -17,7 +17,7 @@ use Rattle.rules.specs.declared.site.Times.{Times}
 use Rattle.rules.specs.declared.site.WalkTimes.{WalkTimes}
 use Rattle.rules.specs.declared.state.KeptState.{KeptState}
 use Rattle.rules.specs.declared.state.State.{State}
-use Rattle.rules.specs.Rows.{allOf}
+use Rattle.rules.specs.Rows.{allOf, countOf}
 use Rattle.rules.specs.Limits.{limits, limitOf, startRedSetting, phaseSettings, walkSettings, earlySetting, settingCount}
 use Rattle.rules.specs.Personality.{knownMode, verdictOf}
 use Rattle.rules.specs.Site.{siteOf, groupOf, detectorOf, phaseTimes, walkTimes, inPhase, crosses, isPedestrian, movementOf, conflict}
@@ -122,6 +122,8 @@ pub record Sound (site : Site) : Type 0 where
   -- without a section of kind 7 no phase has early cut-off green, and no group stops early
   pub noEarlyTime : (p : ℕ) → site .early ≡ false → phaseTimes (site .times) p .early ≡ 0
   pub noEarlyGroup : (g : ℕ) → site .early ≡ false → groupOf (site .groups) g .mark ≡ 3 → ⊥
+  -- each phase stands once in the running order
+  pub orderOnce : (p : ℕ) → p < site .size .phases → countOf (λ i. eqb (getD (site .order) i 0) p) (site .size .phases) ≡ 1
   -- groups, detectors and movements are of phases that exist, and each phase has a group
   pub groupPhase : (g p : ℕ) → inPhase (site .groups) g p ≡ true → (g < site .size .groups) × (p < site .size .phases)
   pub groupMark : (g : ℕ) → groupOf (site .groups) g .mark ≤ 3
@@ -154,7 +156,7 @@ AcceptedIsInTable = (b : List ℕ) → verdictOf b ≡ Accepted → TimesIn limi
 
 -- the numbers of the personality's checks, and those of a step's
 abbrev pub readingNumber : ℕ → Bool
-readingNumber number = (leb 1 number && leb number 12) || eqb number 17
+readingNumber number = (leb 1 number && leb number 12) || eqb number 17 || eqb number 18
 
 abbrev pub stepNumber : ℕ → Bool
 stepNumber number = leb 13 number && leb number 15
@@ -163,7 +165,8 @@ stepNumber number = leb 13 number && leb number 15
 abbrev pub sectionLength : ℕ → ℕ → ℕ
 sectionLength count width = 4 + count * width
 
--- the longest personality: the site, 7 phases, 32 groups, their conflicts, 48 detectors, 8 pedestrian groups, 7 times of kind 7
+-- the longest personality: the site, 7 phases, 32 groups, their conflicts, 48 detectors, 8 pedestrian groups, the times of kind 7 and the order
+-- of 7 phases
 abbrev pub greatestLength : ℕ
 greatestLength =
     sectionLength 1 4
@@ -173,6 +176,7 @@ greatestLength =
     + sectionLength 48 2
     + sectionLength 8 6
     + sectionLength 7 2
+    + sectionLength 7 1
 
 unfoldable pub AcceptedIsShort : Type 0
 AcceptedIsShort = (b : List ℕ) → verdictOf b ≡ Accepted → length b ≤ greatestLength

@@ -8,15 +8,15 @@ use Rattle.rules.specs.declared.answer.Verdict.{Verdict}
 use Rattle.rules.specs.declared.answer.Verdict.the-variants.{Accepted, Refused}
 use Rattle.rules.specs.declared.answer.Report.{Report}
 use Rattle.rules.specs.Verdicts.{_orElse_, refuseIf, reportOf}
-use Rattle.rules.specs.Personality.{verdictOf, bodyAt, bodyLength, siteHead, phasesHead, groupsHead, conflictsHead, detectorsHead, pedestriansHead, earlyHead, hasEarly}
+use Rattle.rules.specs.Personality.{verdictOf, bodyAt, bodyLength, siteHead, phasesHead, groupsHead, conflictsHead, detectorsHead, pedestriansHead, earlyHead, hasEarly, orderHead, hasOrder}
 
--- kinds 1 to 6, and 7 where it is there
+-- kinds 1 to 6, and 7 and 9 where they are there
 unfoldable pub heldKind : List ℕ → ℕ → Bool
-heldKind b kind = (leb 1 kind && leb kind 6) || (eqb kind 7 && hasEarly b)
+heldKind b kind = (leb 1 kind && leb kind 6) || (eqb kind 7 && hasEarly b) || (eqb kind 9 && hasOrder b)
 
--- the heads in the order of the kinds
+-- the heads in the order of the kinds; there is no kind 8
 abbrev pub heads : List ℕ → List ℕ
-heads b = siteHead ∷ phasesHead ∷ groupsHead b ∷ conflictsHead b ∷ detectorsHead b ∷ pedestriansHead b ∷ earlyHead b ∷ []
+heads b = siteHead ∷ phasesHead ∷ groupsHead b ∷ conflictsHead b ∷ detectorsHead b ∷ pedestriansHead b ∷ earlyHead b ∷ 0 ∷ orderHead b ∷ []
 
 -- the head of the section of a kind that is held
 unfoldable pub headOf : List ℕ → ℕ → ℕ

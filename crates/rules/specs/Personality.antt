@@ -1,4 +1,4 @@
--- The personality's sections and the order of checks: numbers 1 to 12 and 17, each with its place. Places count from the first byte.
+-- The personality's sections and the order of checks: numbers 1 to 12, 17 and 18, each with its place. Places count from the first byte.
 use Prim.Native.Nat.{ℕ, _+_, _*_, _/_, _%_, _^_}
 use mathlib.Core.Bool.{Bool, not, _&&_, _||_}
 use mathlib.Core.List.{List, [], _∷_}
@@ -52,17 +52,31 @@ detectorsHead b = bodyAt (conflictsHead b) + groupCount b * 4
 unfoldable pub pedestriansHead : List ℕ → ℕ
 pedestriansHead b = bodyAt (detectorsHead b) + bodyLength b (detectorsHead b)
 
+-- the place after a section
+unfoldable pub pastSection : List ℕ → ℕ → ℕ
+pastSection b head = bodyAt head + bodyLength b head
+
+-- the bytes from a place on begin with a whole head of the kind: an optional section is there
+unfoldable pub hasHead : List ℕ → ℕ → ℕ → Bool
+hasHead b head kind = leb (head + 4) (length b) && eqb (kindAt b head) kind
+
 -- just past kind 6, where the head of the optional kind 7 stands if it is there
 unfoldable pub earlyHead : List ℕ → ℕ
-earlyHead b = bodyAt (pedestriansHead b) + bodyLength b (pedestriansHead b)
+earlyHead b = pastSection b (pedestriansHead b)
 
--- the bytes after kind 6 begin with a whole kind 7 head
 unfoldable pub hasEarly : List ℕ → Bool
-hasEarly b = leb (earlyHead b + 4) (length b) && eqb (kindAt b (earlyHead b)) 7
+hasEarly b = hasHead b (earlyHead b) 7
+
+-- just past kind 7, or kind 6 where there is none: where the head of the optional kind 9 stands if it is there
+unfoldable pub orderHead : List ℕ → ℕ
+orderHead b = if hasEarly b then pastSection b (earlyHead b) else earlyHead b
+
+unfoldable pub hasOrder : List ℕ → Bool
+hasOrder b = hasHead b (orderHead b) 9
 
 -- just past the last section
 unfoldable pub endOf : List ℕ → ℕ
-endOf b = if hasEarly b then bodyAt (earlyHead b) + bodyLength b (earlyHead b) else earlyHead b
+endOf b = if hasOrder b then pastSection b (orderHead b) else orderHead b
 
 -- ── Records ──
 
@@ -93,6 +107,10 @@ detectorPhase b d = byteAt b (recordAt (detectorsHead b) 2 d)
 
 unfoldable pub detectorMode : List ℕ → ℕ → ℕ
 detectorMode b d = byteAt b (recordAt (detectorsHead b) 2 d + 1)
+
+-- entry i of the order of phases
+unfoldable pub orderAt : List ℕ → ℕ → ℕ
+orderAt b i = byteAt b (recordAt (orderHead b) 1 i)
 
 -- ── Checks, from top to bottom ──
 
@@ -197,6 +215,19 @@ earlySection b =
     orElse firstOf (λ p. timeAt b (recordAt (earlyHead b) 2 p) earlySetting) (phaseCount b)
     else Accepted
 
+-- 18: not each phase once
+unfoldable pub phaseNotOnce : List ℕ → Bool
+phaseNotOnce b = anyOf (λ p. not (eqb (countOf (λ i. eqb (orderAt b i) p) (phaseCount b)) 1)) (phaseCount b)
+
+-- kind 9, where it is there: all phases in running order
+unfoldable pub orderSection : List ℕ → Verdict
+orderSection b =
+    if hasOrder b
+    then
+    sectionAt b (orderHead b) 9 (eqb (bodyLength b (orderHead b)) (phaseCount b))
+    orElse refuseIf (phaseNotOnce b) 18 (orderHead b)
+    else Accepted
+
 -- a group that stops early
 unfoldable pub stopsEarly : List ℕ → ℕ → Bool
 stopsEarly b g = eqb (groupMark b g) 3
@@ -206,9 +237,13 @@ unfoldable pub earlyMissing : List ℕ → Verdict
 earlyMissing b =
     firstOf (λ g. refuseIf (stopsEarly b g && not (hasEarly b)) 17 (recordAt (groupsHead b) 2 g)) (groupCount b)
 
--- What follows kind 6: kind 7 where it is there; then 17; then 12, bytes left over.
+-- What follows kind 6: kinds 7 and 9 where they are there; then 17; then 12, bytes left over.
 unfoldable pub afterPedestrians : List ℕ → Verdict
-afterPedestrians b = earlySection b orElse earlyMissing b orElse refuseIf (ltb (endOf b) (length b)) 12 (endOf b)
+afterPedestrians b =
+    earlySection b
+    orElse orderSection b
+    orElse earlyMissing b
+    orElse refuseIf (ltb (endOf b) (length b)) 12 (endOf b)
 
 unfoldable pub verdictOf : List ℕ → Verdict
 verdictOf b =

@@ -12,7 +12,7 @@ use Rattle.rules.specs.declared.site.Times.{Times}
 use Rattle.rules.specs.declared.site.WalkTimes.{WalkTimes}
 use Rattle.rules.specs.Rows.{if_then_else_, listOf, countOf, indicesOf}
 use Rattle.rules.specs.Bytes.{twoAt, bit}
-use Rattle.rules.specs.Personality.{phaseCount, groupCount, detectorCount, movementCount, groupSet, groupMark, conflictSet, detectorPhase, detectorMode, pedestrian, phasesHead, pedestriansHead, earlyHead, hasEarly, recordAt}
+use Rattle.rules.specs.Personality.{phaseCount, groupCount, detectorCount, movementCount, groupSet, groupMark, conflictSet, detectorPhase, detectorMode, pedestrian, phasesHead, pedestriansHead, earlyHead, hasEarly, hasOrder, orderAt, recordAt}
 
 -- f 0 .. f (n - 1), and blanks up to the room
 unfoldable pub rowOf {ℓ} : {A : Type ℓ} → (ℕ → A) → ℕ → ℕ → A → List A
@@ -64,6 +64,10 @@ timesIn b =
 unfoldable pub crossingAt : List ℕ → ℕ → ℕ
 crossingAt b k = groupSet b (getD (indicesOf (pedestrian b) (groupCount b)) k 0)
 
+-- the i-th phase in running order; without a section of kind 9 letters rule
+unfoldable pub orderIn : List ℕ → ℕ → ℕ
+orderIn b i = if hasOrder b then orderAt b i else i
+
 unfoldable pub siteOf : List ℕ → Site
 siteOf b =
     record {
@@ -73,6 +77,7 @@ siteOf b =
       detectors = rowOf (λ d. record { phase = detectorPhase b d; mode = detectorMode b d }) (detectorCount b) 48 noDetector;
       crossings = rowOf (crossingAt b) (movementCount b) 8 0;
       early = hasEarly b;
+      order = rowOf (orderIn b) (phaseCount b) 7 0;
       times = timesIn b;
     }
 
@@ -109,6 +114,6 @@ movementOf groups g = countOf (isPedestrian groups) g
 unfoldable pub conflict : Site → ℕ → ℕ → Bool
 conflict site g j = bit j (getD (site .conflicts) g 0)
 
--- the phases in running order: letter order
+-- the phases in running order
 unfoldable pub ring : Site → List ℕ
-ring site = listOf (λ p. p) (site .size .phases)
+ring site = listOf (λ i. getD (site .order) i 0) (site .size .phases)

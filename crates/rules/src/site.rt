@@ -62,5 +62,7 @@ pub struct Site {
     pub crossings: [u8; 8],
     // the personality has a section of kind 7
     pub early: bool,
+    // the phases in running order
+    pub order: [u8; 7],
     pub times: Times,
 }

@@ -24,10 +24,10 @@ use Rattle.base_reads.proofs.Union.{bit-or}
 use Rattle.proof_arrays.proofs.Fill.{list-same}
 use Rattle.proof_arrays.proofs.Passing.{any-past}
 use Rattle.step_demands.specs.declared.detectors.Sensed.{Sensed}
-use Rattle.step_demands.specs.Letters.{others}
+use Rattle.step_demands.specs.Orders.{others}
 use Rattle.step_demands.specs.Sensed.{SensedBy}
 use Rattle.step_demands.specs.Asked.{AskedBy}
-use Rattle.step_demands.proofs.Letters.{ring-same}
+use Rattle.step_demands.proofs.Orders.{ring-same}
 
 module _
     (site : Site) (s : KeptState) (inputs : ℕ) (sensed : Sensed) (waiting : ℕ)
@@ -61,9 +61,8 @@ module _
         (searched :
         next
         ≡ firstIn (λ p. bit p (bitOr (bitOr (bitOr marked (bitAnd (sensed .locks) waiting)) pressing) (bitAnd (sensed .calls) waiting)))
-        (others (s .rest .position .phase) (site .size .phases)))
+        (others (s .rest .position .phase) (site .order) (site .size .phases)))
         (sound : Sound site)
-        (on : s .rest .position .phase < site .size .phases)
       where
         abbrev standing : Demands
         standing = record { locks = locks; buttons = buttons }
@@ -108,8 +107,8 @@ module _
         unfolding nextKept nextAfter
         next-told =
             searched
-            ∙ ring-same site (λ p. bit p (bitOr kept (bitAnd (sensed .calls) waiting)))
-            (λ p. keptAfter site s inputs p || calls site (s .rest) inputs p) (s .rest .position .phase) on (sound .phases .1)
+            ∙ ring-same site sound (λ p. bit p (bitOr kept (bitAnd (sensed .calls) waiting)))
+            (λ p. keptAfter site s inputs p || calls site (s .rest) inputs p) (s .rest .position .phase)
             (λ p l. rw (bit-or p kept (bitAnd (sensed .calls) waiting), kept-told p l, call-told p l))
 
         extended-told : sensed .extended ≡ detected extending site inputs (s .rest .position .phase)

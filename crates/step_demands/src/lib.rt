@@ -46,10 +46,11 @@ pub fn register(site: Site, state: KeptState, inputs: u64) -> Asked
     let buttons = pressed.buttons;
     let marks = state.kept;
     let kept = phases::set_of(marks) | locking | pressed.phases;
+    let order = site.order;
     Asked {
         demands: Demands { locks, buttons },
         kept: kept,
-        next: ring::next(kept | (sensed.calls & waiting), phase, size.phases),
+        next: ring::next(kept | (sensed.calls & waiting), phase, order, size.phases),
         extended: sensed.extended,
     }
 }

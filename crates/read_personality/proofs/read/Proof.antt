@@ -8,12 +8,10 @@ use Rattle.rules.specs.Personality.{siteSection, phasesSection, groupsSection, 
 use Rattle.rules.specs.Verdicts.{_orElse_}
 use Rattle.rules.specs.declared.answer.Verdict.{Verdict}
 use Rattle.rules.specs.declared.answer.Verdict.the-variants.{Accepted}
-use Rattle.rules.proofs.Tests.{or-false-left, or-false-right}
 use Rattle.rules.proofs.Verdicts.{or-next, or-stop}
 use Rattle.proof_acceptance.proofs.Sections.{groups-accepted}
 use Rattle.read_sections.specs.declared.layout.Layout.{Layout}
 use Rattle.read_sections.specs.Laid.{Laid}
-use Rattle.read_personality.proofs.Seventh.{rest-only}
 use Rattle.read_personality.proofs.read.Statement.{statement}
 use Rattle.read_personality.proofs.read.Tie as tie
 
@@ -190,29 +188,16 @@ pastPedestrians c e = afterDetectors (c .before .before .before) (or-next (c .be
 
 after-pedestrians-requires : tie.Need-after-pedestrians-requires
 after-pedestrians-requires c κs =
-    let passed = c .before .before .before in
-    groupsLaid (passed .before .before .before) .1
+    let detected = c .before .before .before in
+    let groups = groupsLaid detected in (
+      groups .0,
+      siteAccepted (siteBefore (groupsBefore detected)),
+      groups .1,
+      groupsBefore detected .before .before .groups-section .ensures .early (groups .1),
+    )
 
 returns-7 : tie.Need-returns-7
-returns-7 c = pastPedestrians (c .before .before .before .before) (c .after-pedestrians .ensures)
-
-left-over-requires : tie.Need-left-over-requires
-left-over-requires c κs = search needs
-
-returns-8 : tie.Need-returns-8
-returns-8 c =
-    let passed = c .before .before .before .before in
-    let detected = passed .before .before .before in
-    let groups = groupsLaid detected in
-    let laid = groups .0 in
-    let neither = c .before .if1 .left in
-    let seven = layoutAt (siteBefore (groupsBefore detected)) .seven in
-    pastPedestrians passed
-    (rest-only _
-    (sym (laid .seven) ∙ or-false-left seven _ neither)
-    (sym (groupsBefore detected .before .before .groups-section .ensures .early (groups .1)) ∙ or-false-right seven _ neither)
-    (laid .early)
-    (c .left-over .ensures))
+returns-7 c = pastPedestrians (c .before) (c .after-pedestrians .ensures)
 
 pub read-spec : {M : Type 1} → statement M
 read-spec =
@@ -244,6 +229,4 @@ read-spec =
     returns-6
     enum-told-12
     after-pedestrians-requires
-    returns-7
-    left-over-requires
-    returns-8)
+    returns-7)

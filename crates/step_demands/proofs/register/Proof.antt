@@ -27,11 +27,17 @@ set-of-requires : tie.Need-set-of-requires
 set-of-requires c κs = search needs
 
 next-requires : tie.Need-next-requires
-next-requires c κs = search needs
+next-requires c κs =
+    let kept = c .before .before .before in
+    let pressed = kept .before .before .before in
+    let joined = pressed .before .before .before .before in
+    let scanned = joined .before .before .before .before .before in
+    let start = scanned .before .before .before .before .before in
+    start .pre .0 .phases .1
 
 returns : tie.Need-returns
 returns c =
-    let kept = c .before .before .before in
+    let kept = c .before .before .before .before in
     let pressed = kept .before .before .before in
     let joined = pressed .before .before .before .before in
     let waiting = joined .before .before .before .before in
@@ -41,7 +47,7 @@ returns c =
     (scanned .scan .ensures) (waiting .waiting .ensures)
     (joined .joined .result) (pressed .press .result .buttons) (kept .set-of .result) (pressed .press .result .phases) (c .next .result)
     (joined .joined .ensures) (pressed .press .ensures .0) (pressed .press .ensures .1) (kept .set-of .ensures) (c .next .ensures)
-    (start .pre .0) (start .pre .1)
+    (start .pre .0)
 
 pub register-spec : {M : Type 1} → statement M
 register-spec =

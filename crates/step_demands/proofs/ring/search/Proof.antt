@@ -1,12 +1,12 @@
--- `step_demands::ring::search` meets its contract. The loop's invariant: the phases passed are not demanded, so the search of the rest gives the same.
+-- `step_demands::ring::search` meets its contract. The loop's invariant: the entries passed are not demanded, so the search of the rest gives the same.
 use borrow.Author.Needs.{needs}
-use Prim.Native.Nat.{ℕ, _-_, _≤_}
+use Prim.Native.Nat.{ℕ, _-_}
 use mathlib.Core.Bool.{Bool}
 use mathlib.Core.Path.{_≡_, refl, sym, _∙_}
 use Rattle.rules.specs.Bytes.{bit}
 use Rattle.rules.specs.Demands.{firstIn}
-use Rattle.step_demands.specs.Letters.{run}
-use Rattle.step_demands.proofs.Letters.{search-found, search-on, search-none}
+use Rattle.step_demands.specs.Orders.{run}
+use Rattle.step_demands.proofs.Orders.{search-found, search-on, search-none}
 use Rattle.step_demands.proofs.ring.search.Statement.{statement}
 use Rattle.step_demands.proofs.ring.search.Tie as tie
 
@@ -14,13 +14,19 @@ abbrev at : ℕ → ℕ → Bool
 at set p = bit p set
 
 abbrev Inv-loop : tie.InvT-loop
-Inv-loop set from to p₀ p = (p ≤ to) × (firstIn (at set) (run from (to - from)) ≡ firstIn (at set) (run p (to - p)))
+Inv-loop set from to order i₀ i = firstIn (at set) (run order from (to - from)) ≡ firstIn (at set) (run order i (to - i))
 
 abbrev μ-loop : tie.MeasureT-loop
-μ-loop set from to p₀ p = to - p
+μ-loop set from to order i₀ i = to - i
 
 loop-holds : tie.Need-loop-holds Inv-loop μ-loop
-loop-holds c = (search needs, refl)
+loop-holds c = refl
+
+cast-phase : tie.Need-cast-phase Inv-loop μ-loop
+cast-phase c = search needs
+
+array-read-phase : tie.Need-array-read-phase Inv-loop μ-loop
+array-read-phase c = search needs
 
 bit8-requires : tie.Need-bit8-requires Inv-loop μ-loop
 bit8-requires c κs = search needs
@@ -29,14 +35,13 @@ returns : tie.Need-returns Inv-loop μ-loop
 returns c =
     let here = c .before .before .before in
     let args = here .before .args in
-    let p = here .loop .p in
     sym
-    (here .loop .inv .1
-    ∙ search-found (at (args .set)) p (args .to) (c .before .before .loop-test .taken)
+    (here .loop .inv
+    ∙ search-found (at (args .set)) (args .t2) (here .loop .i) (args .to) (c .before .before .loop-test .taken)
     (sym (c .before .bit8 .ensures) ∙ c .if1 .taken))
 
-add-p : tie.Need-add-p Inv-loop μ-loop
-add-p c = search needs
+add-i : tie.Need-add-i Inv-loop μ-loop
+add-i c = search needs
 
 loop-less : tie.Need-loop-less Inv-loop μ-loop
 loop-less c = search needs
@@ -45,18 +50,15 @@ loop-again : tie.Need-loop-again Inv-loop μ-loop
 loop-again c =
     let here = c .before .before .before in
     let args = here .before .args in
-    let p = here .loop .p in (
-      search needs,
-      here .loop .inv .1
-          ∙ search-on (at (args .set)) p (args .to) (c .before .before .loop-test .taken)
-          (sym (c .before .bit8 .ensures) ∙ c .if1 .left),
-    )
+    here .loop .inv
+    ∙ search-on (at (args .set)) (args .t2) (here .loop .i) (args .to) (c .before .before .loop-test .taken)
+    (sym (c .before .bit8 .ensures) ∙ c .if1 .left)
 
 returns-2 : tie.Need-returns-2 Inv-loop μ-loop
 returns-2 c =
     let here = c .before in
     let args = here .before .args in
-    sym (here .loop .inv .1 ∙ search-none (at (args .set)) (here .loop .p) (args .to) (c .loop-test .left))
+    sym (here .loop .inv ∙ search-none (at (args .set)) (args .t2) (here .loop .i) (args .to) (c .loop-test .left))
 
 pub search-spec : {M : Type 1} → statement M
 search-spec =
@@ -65,9 +67,11 @@ search-spec =
     Inv-loop
     μ-loop
     loop-holds
+    cast-phase
+    array-read-phase
     bit8-requires
     returns
-    add-p
+    add-i
     loop-less
     loop-again
     returns-2)
