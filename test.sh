@@ -73,6 +73,10 @@ for part in needs conditions steps; do
     check "examples/c/check.sh $part" examples/c/check.sh "$part"
 done
 
+# The settings of site sheets against exact arithmetic.
+compare_sheets() { (cd rust && cargo run --quiet --release --offline --features linked -p sheet -- "$@"); }
+check 'settings of site sheets agree' compare_sheets 1 1000000
+
 for edit in edits/*.edit; do
     check "$edit" edits/run.sh "$(basename "$edit" .edit)"
 done

@@ -9,6 +9,7 @@
  *   a whole personality are refused with 12, a state of another length than WILLOWERA_STATE_BYTES with 13.
  * - Nothing else writes a buffer while a call has it, and nothing else reads the state or the colours that it writes.
  * - State and colours overlap neither each other nor the personality. They may touch it and each other.
+ * - willowera_settings is called in the default floating-point environment: numbers are rounded to nearest, subnormal ones are kept.
  *
  * What the caller need not see to, which examples/c/conditions.c tries:
  *
@@ -24,8 +25,8 @@
  *   that matters.
  *
  * The archive is for x86-64 Linux, System V calling convention, C or C++. It may be linked into programs and shared objects, and needs
- * memcpy and memset. It uses the vector registers (SSE2) and the red zone, and leaves the floating-point environment alone.
- * All numbers are unsigned; a byte is a uint8_t.
+ * memcpy and memset. It uses the vector registers (SSE2) and the red zone, and leaves the floating-point environment alone, but for
+ * the flags that the arithmetic of willowera_settings raises. All numbers are unsigned, but for the metres of a sheet; a byte is a uint8_t.
  */
 #ifndef WILLOWERA_H
 #define WILLOWERA_H
@@ -71,6 +72,11 @@ extern "C" {
 #define WILLOWERA_CLEARANCE_ONE 2
 #define WILLOWERA_CLEARANCE_TWO 3
 
+/* ── Detectors of a site sheet: in advance at a distance, or a stop-line zone of a length ── */
+
+#define WILLOWERA_ADVANCE 0
+#define WILLOWERA_STOP_LINE 1
+
 /* ── Refusals ── */
 
 #define WILLOWERA_ACCEPTED 0
@@ -89,6 +95,8 @@ extern "C" {
 #define WILLOWERA_STATE_NOT_VALID 13    /* place 0 */
 #define WILLOWERA_BUFFER_SHORT 14       /* colour buffer shorter than the number of groups; place 0 */
 #define WILLOWERA_STRAY_INPUT 15        /* input bit without a detector or button; place 0 */
+#define WILLOWERA_SHEET_OUT_OF_RANGE 19 /* speed not 20 to 110, metres not 0 to 300, or no such detector; place 0 */
+#define WILLOWERA_ABOVE_LIMITS 20       /* minimum green above 400 or passage time above 100; place 0 */
 
 /* ── Answers: the number in the low 8 bits, and above it the place of a refusal, or what an accepted call gives ── */
 
@@ -97,6 +105,8 @@ extern "C" {
 #define WILLOWERA_WAIT(answer) ((uint32_t)((answer) >> 8))
 #define WILLOWERA_OFFSET(answer) ((size_t)((answer) >> 8 & 0xffffffff))
 #define WILLOWERA_LENGTH(answer) ((size_t)((answer) >> 40))
+#define WILLOWERA_MINIMUM_GREEN_SETTING(answer) ((uint16_t)((answer) >> 8))
+#define WILLOWERA_PASSAGE_TIME(answer) ((uint16_t)((answer) >> 24))
 
 /* ── Calls ── */
 
@@ -115,6 +125,11 @@ uint64_t willowera_step(const uint8_t *personality, size_t personality_length, u
 
 /* Where the body of the section of a kind is (WILLOWERA_OFFSET, WILLOWERA_LENGTH); or a refusal. */
 uint64_t willowera_section(const uint8_t *personality, size_t personality_length, uint16_t kind);
+
+/* Minimum green and passage time in steps (WILLOWERA_MINIMUM_GREEN_SETTING, WILLOWERA_PASSAGE_TIME) of an approach: its speed in km/h,
+ * and its detector at a distance, or of a length, in metres; or a refusal. A NaN, an infinity and a detector that is neither
+ * WILLOWERA_ADVANCE nor WILLOWERA_STOP_LINE are refused with 19. */
+uint64_t willowera_settings(uint32_t speed, uint32_t detector, double metres);
 
 /* The version of this interface. */
 uint32_t willowera_version(void);
