@@ -11,14 +11,15 @@ use lib.Ieee.{Float, fin, binary64, le, mul, ofInt}
 use lib.Ieee.Positive.{num, den, den-pos}
 use borrow.Author.Tests.{leb-true, le-leb}
 use Rattle.rules.specs.Rows.{if_then_else_}
-use Rattle.rules.proofs.Tests.{and-left, and-right, never-both, not-true-false}
+use Rattle.rules.specs.Limits.{limits, limitOf, within}
+use Rattle.rules.proofs.Tests.{and-left, and-right, and-both, never-both, not-true-false}
 use Rattle.sheet_settings.specs.declared.Answer.{Answer}
 use Rattle.sheet_settings.specs.declared.Answer.the-variants.{Settings, Refused}
 use Rattle.sheet_settings.specs.declared.Detector.{Detector}
 use Rattle.sheet_settings.specs.declared.Detector.the-variants.{Advance, StopLine}
 use Rattle.sheet_settings.specs.declared.Sheet.{Sheet}
 use Rattle.sheet_settings.specs.Extremes.{Largest, Smallest}
-use Rattle.sheet_settings.specs.Sheet.{whole, metresOf, speedInRange, metresInRange, inRange, stand, covered, vehicles, minimumGreen, passageOver, passageTime, withinLimits, MinimumGreen, PassageTime, SettingsFor, AnswerFor, outOfRange, aboveLimits, given, answerFrom, answerOf, AsStated}
+use Rattle.sheet_settings.specs.Sheet.{whole, metresOf, speedInRange, metresInRange, inRange, stand, covered, vehicles, minimumGreen, passageOver, passageTime, highestMinimum, highestGap, withinLimits, MinimumGreen, PassageTime, SettingsFor, AnswerFor, outOfRange, aboveLimits, given, answerFrom, answerOf, AsStated, MayHave, Admitted}
 use Rattle.sheet_settings.proofs.Extremes.{largest-only, smallest-only, largest-found, smallest-found}
 use Rattle.sheet_settings.proofs.Metres.{cast-le, le-cast, times-36, Fraction, as-fraction}
 
@@ -152,6 +153,29 @@ answer-only s a (given m g f e) = rw e at (settings-only s f)
 
 pub as-stated : AsStated
 as-stated = record { stated = answer-stated; only = answer-only }
+
+-- ── What the answers are ──
+
+-- minimum green is at least 40
+settings-admitted : {s : Sheet} {m g : ℕ} → SettingsFor s m g → withinLimits m g ≡ true → MayHave m g
+unfolding withinLimits highestMinimum highestGap within limitOf limits
+settings-admitted {s} {m} {g} f e =
+    let least : 10 ≤ m = omega (arith, f .green .formula) in (
+      and-both (le-leb 10 m least) (and-left (leb m 400) (leb g 100) e),
+      and-both (le-leb 0 g (omega arith)) (and-right (leb m 400) (leb g 100) e),
+    )
+
+pub admitted : Admitted
+unfolding Admitted
+admitted s m g h = go (answer-stated s) h
+  where
+    go : {a : Answer} → AnswerFor s a → a ≡ Settings m g → MayHave m g
+    go (outOfRange e) h = (cc, cc)
+    go (aboveLimits k t f e) h = (cc, cc)
+    go (given k t f e) h =
+        let p : k ≡ m = cc in
+        let q : t ≡ g = cc in
+        rw (p, q) at (settings-admitted f e)
 
 -- both refusals have the place 0
 pub refused-place : {s : Sheet} {a : Answer} {number place : ℕ} → AnswerFor s a → a ≡ Refused number place → place ≡ 0

@@ -57,15 +57,23 @@ cases =
     -- 100 steps at 20 km/h are in, 101 are not
     ∷ advance 20 (bits 0x404b_c000_0000_0000) (Settings 220 100)
     ∷ advance 20 (bits 0x404b_d000_0000_0000) (Refused 20 0)
-    -- 36 × distance is above 2,000 and rounds down to it: 100 steps, and not 101
+    -- 36 × distance beside 2,000, what 20 km/h cover in 100 steps: below it; above it and rounded down to it, so that 100 steps are enough
+    -- and not 101; rounded to more
+    ∷ advance 20 (bits 0x404b_c71c_71c7_1c71) (Settings 220 100)
     ∷ advance 20 (bits 0x404b_c71c_71c7_1c72) (Settings 220 100)
-    -- above 20, and rounds down to it: 1 step, and not 2; the next number rounds above it
+    ∷ advance 20 (bits 0x404b_c71c_71c7_1c73) (Refused 20 0)
+    -- likewise beside 20: 1 step and not 2 at the second
+    ∷ advance 20 (bits 0x3fe1_c71c_71c7_1c71) (Settings 40 1)
     ∷ advance 20 (bits 0x3fe1_c71c_71c7_1c72) (Settings 40 1)
     ∷ advance 20 (bits 0x3fe1_c71c_71c7_1c73) (Settings 40 2)
-    -- below 100, and rounds up to it: 5 steps, as before the rounding
-    ∷ advance 20 (bits 0x4006_38e3_8e38_e38e) (Settings 40 5)
-    -- above 7 × 20 / 36 as a binary64 value too, and still 7 steps
+    -- beside 140: below it and rounded up to it; halfway to the next number and rounded to the even of the two, so that 7 steps are enough and
+    -- not 8; rounded to more
+    ∷ advance 20 (bits 0x400f_1c71_c71c_71c7) (Settings 40 7)
     ∷ advance 20 (bits 0x400f_1c71_c71c_71c8) (Settings 40 7)
+    ∷ advance 20 (bits 0x400f_1c71_c71c_71c9) (Settings 40 8)
+    -- halfway below 220, rounded up to it: 11 steps, as many as the product needs unrounded
+    ∷ advance 20 (bits 0x4018_71c7_1c71_c71c) (Settings 60 11)
+    ∷ advance 20 (bits 0x4018_71c7_1c71_c71d) (Settings 60 12)
     -- 300 m are metres of a sheet, the next number is not
     ∷ advance 110 (metres 300) (Refused 20 0)
     ∷ advance 110 (bits 0x4072_c000_0000_0001) (Refused 19 0)

@@ -8,7 +8,7 @@ use lib.IntN.{pos}
 use lib.Ieee.{Float, fin, binary64, le, mul}
 use Rattle.rules.specs.declared.answer.Report.{Report}
 use Rattle.rules.specs.Rows.{if_then_else_}
-use Rattle.rules.specs.Limits.{limits, limitOf, phaseSettings}
+use Rattle.rules.specs.Limits.{limits, limitOf, within, phaseSettings}
 use Rattle.sheet_settings.specs.declared.Answer.{Answer}
 use Rattle.sheet_settings.specs.declared.Answer.the-variants.{Settings, Refused}
 use Rattle.sheet_settings.specs.declared.Detector.{Detector}
@@ -122,3 +122,11 @@ answerOf s =
 pub record AsStated : Type 0 where
   pub stated : (s : Sheet) → AnswerFor s (answerOf s)
   pub only : (s : Sheet) (a : Answer) → AnswerFor s a → a ≡ answerOf s
+
+-- a personality may have m as M and g as G: neither is refused with 5
+abbrev pub MayHave : ℕ → ℕ → Type 0
+MayHave m g = (within limits (phaseSettings + 1) m ≡ true) × (within limits (phaseSettings + 3) g ≡ true)
+
+-- the settings of every answer are such
+unfoldable pub Admitted : Type 0
+Admitted = (s : Sheet) (m g : ℕ) → answerOf s ≡ Settings m g → MayHave m g

@@ -1,6 +1,6 @@
 -- `willowera::sheet::settings_of` meets its contract, by the two cases of the answer; the place of a refusal is 0.
 use Prim.Native.Nat.{ℕ, _+_, _*_}
-use mathlib.Core.Path.{_≡_, sym, ap, _∙_}
+use mathlib.Core.Path.{_≡_, sym, _∙_}
 use native.Mathlib.Nat.{zero-add, add-zero}
 use native.Mathlib.Omega.{arith}
 use borrow.Author.Needs.{needs}

@@ -1,7 +1,6 @@
 -- `willowera::sheet::willowera_settings` meets its contract, by the detector's number.
-use mathlib.Core.Path.{ap}
 use borrow.Author.Needs.{needs}
-use borrow.Author.Tests.{eq-eqb, ne-eqb}
+use borrow.Author.Tests.{ne-eqb}
 use Rattle.willowera.specs.SheetCall.{settingsAnswer}
 use Rattle.willowera.proofs.sheet.willowera_settings.Statement.{statement}
 use Rattle.willowera.proofs.sheet.willowera_settings.Tie as tie
