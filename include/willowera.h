@@ -25,8 +25,11 @@
  *   that matters.
  *
  * The archive is for x86-64 Linux, System V calling convention, C or C++. It may be linked into programs and shared objects, and needs
- * memcpy and memset. It uses the vector registers (SSE2) and the red zone, and leaves the floating-point environment alone, but for
- * the flags that the arithmetic of willowera_settings raises. All numbers are unsigned, but for the metres of a sheet; a byte is a uint8_t.
+ * memcpy and memset. It uses the vector registers (SSE2) and the red zone, and leaves the floating-point environment alone.
+ * All numbers are unsigned; a byte is a uint8_t.
+ *
+ * willowera_settings alone computes with floating-point numbers: the metres of a sheet are a double, and its arithmetic may raise the
+ * flags of the environment.
  */
 #ifndef WILLOWERA_H
 #define WILLOWERA_H

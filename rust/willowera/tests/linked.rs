@@ -2,7 +2,10 @@
 
 #![cfg(feature = "linked")]
 
-use willowera::{packed, read, section, version, wait_bound, Controller, Refusal, STATE_LEN};
+use willowera::{
+    packed, read, section, settings, version, wait_bound, Controller, Detector, Refusal, Settings,
+    STATE_LEN,
+};
 
 /// The junction of two phases of document 01.
 const JUNCTION: [u8; 68] = [
@@ -33,6 +36,22 @@ fn sections_are_parts_of_the_personality() {
     assert_eq!(section(&JUNCTION, 5), Ok([0, 6, 1, 6].as_slice()));
     assert_eq!(section(&JUNCTION, 6), Ok([].as_slice()));
     assert_eq!(section(&JUNCTION, 7).unwrap_err().number, 2);
+}
+
+#[test]
+fn settings_of_a_sheet() {
+    let given = |minimum_green, passage_time| {
+        Ok(Settings {
+            minimum_green,
+            passage_time,
+        })
+    };
+    assert_eq!(settings(32, Detector::Advance(18.0)), given(100, 21));
+    assert_eq!(settings(32, Detector::StopLine(18.0)), given(100, 0));
+    let refused = |number| Err(Refusal { number, place: 0 });
+    assert_eq!(settings(32, Detector::Advance(f64::NAN)), refused(19));
+    assert_eq!(settings(32, Detector::StopLine(300.0)), refused(20));
+    assert_eq!(packed::settings(32, 2, 18.0), 19);
 }
 
 #[test]
