@@ -98,6 +98,8 @@ extern "C" {
 #define WILLOWERA_STATE_NOT_VALID 13    /* place 0 */
 #define WILLOWERA_BUFFER_SHORT 14       /* colour buffer shorter than the number of groups; place 0 */
 #define WILLOWERA_STRAY_INPUT 15        /* input bit without a detector or button; place 0 */
+
+/* Those of a site sheet. */
 #define WILLOWERA_SHEET_OUT_OF_RANGE 19 /* speed not 20 to 110, metres not 0 to 300, or no such detector; place 0 */
 #define WILLOWERA_ABOVE_LIMITS 20       /* minimum green above 400 or passage time above 100; place 0 */
 
@@ -126,13 +128,13 @@ uint64_t willowera_fresh(uint8_t *state, size_t state_length);
 uint64_t willowera_step(const uint8_t *personality, size_t personality_length, uint8_t *state, size_t state_length,
                         uint64_t inputs, uint8_t *colours, size_t colours_length);
 
-/* Where the body of the section of a kind is (WILLOWERA_OFFSET, WILLOWERA_LENGTH); or a refusal. */
-uint64_t willowera_section(const uint8_t *personality, size_t personality_length, uint16_t kind);
-
 /* Minimum green and passage time in steps (WILLOWERA_MINIMUM_GREEN_SETTING, WILLOWERA_PASSAGE_TIME) of an approach: its speed in km/h,
  * and its detector at a distance, or of a length, in metres; or a refusal. A NaN, an infinity and a detector that is neither
  * WILLOWERA_ADVANCE nor WILLOWERA_STOP_LINE are refused with 19. */
 uint64_t willowera_settings(uint32_t speed, uint32_t detector, double metres);
+
+/* Where the body of the section of a kind is (WILLOWERA_OFFSET, WILLOWERA_LENGTH); or a refusal. */
+uint64_t willowera_section(const uint8_t *personality, size_t personality_length, uint16_t kind);
 
 /* The version of this interface. */
 uint32_t willowera_version(void);

@@ -2,10 +2,7 @@
 
 #![cfg(feature = "linked")]
 
-use willowera::{
-    packed, read, section, settings, version, wait_bound, Controller, Detector, Refusal, Settings,
-    STATE_LEN,
-};
+use willowera::{packed, read, section, version, wait_bound, Controller, Refusal, STATE_LEN};
 
 /// The junction of two phases of document 01.
 const JUNCTION: [u8; 68] = [
@@ -40,6 +37,7 @@ fn sections_are_parts_of_the_personality() {
 
 #[test]
 fn settings_of_a_sheet() {
+    use willowera::{settings, Detector, Settings};
     let given = |minimum_green, passage_time| {
         Ok(Settings {
             minimum_green,
