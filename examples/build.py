@@ -14,9 +14,10 @@ sys.dont_write_bytecode = True
 sys.path.insert(0, str(HERE.parent / "vectors"))
 from model import PHASE_FIELDS, RANGES, WALK_FIELDS, verdict
 
-SECTIONS = ("site", "phases", "groups", "conflicts", "detectors", "pedestrians")
+SECTIONS = ("site", "phases", "groups", "conflicts", "detectors", "pedestrians", "early-cut-off")
+NEEDED = 6  # the sections after these need not be there
 LETTERS = tuple("ABCDEFG")
-MARKS = {"vehicle": 0, "late-start": 1, "pedestrian": 2}
+MARKS = {"vehicle": 0, "late-start": 1, "pedestrian": 2, "early-cut-off": 3}
 CALLS = {"no-call": 0, "non-locking": 1, "locking": 2}
 EXTENDS = 4
 FIRST_BUTTON = 48
@@ -45,6 +46,7 @@ class Site(NamedTuple):
     conflicts: list
     detectors: list
     walks: list
+    early: list  # the early cut-off time of each phase, or nothing where there is no such section
 
 
 def need(truth, place, what):
@@ -84,7 +86,7 @@ def times(line, names, words):
 # ── Reading a site ──
 
 def sections_of(path):
-    """The lines of each section; the six headings stand in their order, each once."""
+    """The lines of each section; the headings stand in their order, each once."""
     sections = {}
     for line in lines_of(path):
         if len(line.words) == 1 and line.words[0] in SECTIONS:
@@ -94,7 +96,7 @@ def sections_of(path):
         else:
             need(sections, line.place, "stands before the first section")
             sections[name].append(line)
-    need(len(sections) == len(SECTIONS), path.parent.name, "a section is missing")
+    need(len(sections) >= NEEDED, path.parent.name, "a section is missing")
     return sections
 
 
@@ -197,6 +199,16 @@ def walk_rows(lines, groups, place):
     return [times(line, WALK_FIELDS, line.words[1:]) for line in lines]
 
 
+def early_rows(text, count, groups, place):
+    """The time of each phase, in letter order; nothing where there is no such section, and then no group that stops early."""
+    lines = text.get("early-cut-off", [])
+    if "early-cut-off" not in text:
+        need(all(group.mark != MARKS["early-cut-off"] for group in groups), place, "a group stops early without times")
+        return []
+    need([line.words[0] for line in lines] == list(LETTERS[:count]), place, "section early-cut-off needs a row for each phase")
+    return [times(line, ("E",), line.words[1:])[0] for line in lines]
+
+
 def site_of(path):
     """The site, and the wait bound that its text states."""
     place = path.parent.name
@@ -207,7 +219,8 @@ def site_of(path):
     conflicts = conflict_rows(text["conflicts"], groups, place)
     detectors = detector_rows(text["detectors"], len(phases), place)
     walks = walk_rows(text["pedestrians"], groups, place)
-    return Site(start_red, phases, groups, conflicts, detectors, walks), bound
+    early = early_rows(text, len(phases), groups, place)
+    return Site(start_red, phases, groups, conflicts, detectors, walks, early), bound
 
 
 # ── The wait bound ──
@@ -217,12 +230,13 @@ def walks_in(site, phase):
 
 
 def phase_share(site, phase):
-    """What one phase adds: L + M + X + 2 × (A + Y + R + C)."""
+    """What one phase adds: L + M + X + 2 × (A + E + Y + R + C)."""
     late, minimum, maximum, _, yellow, red = site.phases[phase]
     walks = walks_in(site, phase)
     walking = max((walk + first for walk, first, _ in walks), default=0)
     clearing = max((second for _, _, second in walks), default=0)
-    return late + minimum + maximum + 2 * (walking + yellow + red + clearing)
+    early = site.early[phase] if site.early else 0
+    return late + minimum + maximum + 2 * (walking + early + yellow + red + clearing)
 
 
 def wait_bound(site):
@@ -245,12 +259,14 @@ def packed(rows, size):
 
 
 def personality_of(site):
-    bodies = (bytes([len(site.phases), len(site.groups)]) + little(site.start_red, 2),
+    bodies = [bytes([len(site.phases), len(site.groups)]) + little(site.start_red, 2),
               packed(site.phases, 2),
               packed([(group.phases, group.mark) for group in site.groups], 1),
               packed([site.conflicts], 4),
               packed(site.detectors, 1),
-              packed(site.walks, 2))
+              packed(site.walks, 2)]
+    if site.early:
+        bodies.append(packed([site.early], 2))
     return b"".join(section(kind, body) for kind, body in enumerate(bodies, 1))
 
 

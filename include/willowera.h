@@ -63,8 +63,9 @@ extern "C" {
 #define WILLOWERA_LATE_START 1
 #define WILLOWERA_MINIMUM_GREEN 2
 #define WILLOWERA_RUNNING 3
-#define WILLOWERA_INTERVAL_YELLOW 4
-#define WILLOWERA_ALL_RED 5
+#define WILLOWERA_EARLY_CUT_OFF 4
+#define WILLOWERA_INTERVAL_YELLOW 5
+#define WILLOWERA_ALL_RED 6
 
 #define WILLOWERA_IDLE 0
 #define WILLOWERA_WALK 1
@@ -85,10 +86,11 @@ extern "C" {
 #define WILLOWERA_WRONG_CONFLICT 9      /* own bit, bit past the groups, or not answered; place: the record */
 #define WILLOWERA_CONFLICT_IN_PHASE 10  /* conflicting groups share a phase; place: the lowest such record */
 #define WILLOWERA_WRONG_DETECTOR 11     /* place: the record */
-#define WILLOWERA_LEFT_OVER 12          /* bytes after kind 6; place: the first of them */
+#define WILLOWERA_LEFT_OVER 12          /* bytes after the last section; place: the first of them */
 #define WILLOWERA_STATE_NOT_VALID 13    /* place 0 */
 #define WILLOWERA_BUFFER_SHORT 14       /* colour buffer shorter than the number of groups; place 0 */
 #define WILLOWERA_STRAY_INPUT 15        /* input bit without a detector or button; place 0 */
+#define WILLOWERA_NO_EARLY_TIMES 17     /* a group stops early, without a section of kind 7; place: the record */
 
 /* ── Answers: the number in the low 8 bits, and above it the place of a refusal, or what an accepted call gives ── */
 
@@ -116,7 +118,8 @@ uint64_t willowera_step(const uint8_t *personality, size_t personality_length, u
 /* Where the body of the section of a kind is (WILLOWERA_OFFSET, WILLOWERA_LENGTH); or a refusal. */
 uint64_t willowera_section(const uint8_t *personality, size_t personality_length, uint16_t kind);
 
-/* The version of this interface. */
+/* The version of the archive's interface: WILLOWERA_VERSION where this header belongs to it. */
+#define WILLOWERA_VERSION 2
 uint32_t willowera_version(void);
 
 #ifdef __cplusplus

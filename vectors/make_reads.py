@@ -5,7 +5,8 @@ Usage: make_reads.py OUT. The same file comes out at every run. What is covered 
 import random
 import sys
 
-from model import RANGES, PHASE_FIELDS, WALK_FIELDS, build, junction, largest, number, random_site, verdict
+from model import (EARLY_CUT_OFF, PEDESTRIAN, PHASE_FIELDS, RANGES, VEHICLE, WALK_FIELDS, build, junction, largest, number, random_site,
+                   turning_arrow, twos, verdict)
 
 
 def put(data, at, value, size=2):
@@ -13,9 +14,9 @@ def put(data, at, value, size=2):
 
 
 def heads(data):
-    """The places of the six section heads of accepted bytes."""
+    """The places of the section heads of accepted bytes, six or more."""
     found, at = [], 0
-    for _ in range(6):
+    while at < len(data):
         found.append(at)
         at += 4 + number(data, at, 2)
     return found
@@ -28,6 +29,7 @@ def limits(data):
     fields += [(h[1] + 4 + 12 * p + 2 * i, n) for p in range(data[4]) for i, n in enumerate(PHASE_FIELDS)]
     pedestrians = number(data, h[5], 2) // 6
     fields += [(h[5] + 4 + 6 * k + 2 * i, n) for k in range(pedestrians) for i, n in enumerate(WALK_FIELDS)]
+    fields += [(h[6] + 4 + 2 * p, "E") for p in range(data[4] if len(h) > 6 else 0)]
     for at, name in fields:
         low, high = RANGES[name]
         for value in (low - 1, low, high, high + 1):
@@ -47,6 +49,7 @@ def refusals(data):
     for head in h:
         yield put(data, head, number(data, head, 2) + 1)
         yield put(data, head + 2, 7)
+        yield put(data, head + 2, 8)
         yield data[:head + 3]
         yield data[:head + 4]
     for at, values in ((4, (0, 1, 2, 7, 8, 255)), (5, (0, 1, 32, 33, 255))):
@@ -56,7 +59,7 @@ def refusals(data):
     for g in (0, groups - 1):
         at = h[2] + 4 + 2 * g
         for members in (0, 3, 1 << data[4], 255):
-            for mark in (0, 1, 2, 3):
+            for mark in (0, 1, 2, 3, 4):
                 yield put(put(data, at, members, 1), at + 1, mark, 1)
         row = h[3] + 4 + 4 * g
         for value in (0, 1 << g, 1 << groups if groups < 32 else 0, (1 << 32) - 1, number(data, row, 4) ^ 1):
@@ -72,7 +75,7 @@ def refusals(data):
 def nine_pedestrians(before, after):
     """Nine pedestrian groups in a row: number 7 at the ninth, which has this many vehicle groups before the first."""
     row = (0, 20, 30, 5, 30, 10)
-    groups = [(3, 0)] * before + [(1, 2)] * 9 + [(3, 0)] * after
+    groups = [(3, VEHICLE)] * before + [(1, PEDESTRIAN)] * 9 + [(3, VEHICLE)] * after
     return build(10, [row, row], groups, set(), [], [(10, 1, 1)] * 9)
 
 
@@ -92,6 +95,23 @@ def groups_refused():
     yield build(10, [row] * 2, [(0, 0), (3, 0)], set(), [], [])
     yield sharing(2, 0, 1)
     yield sharing(32, 30, 31)
+
+
+def early_cut_offs():
+    """A section of early cut-off times: cut before each byte, of another length, behind it more bytes, and not there."""
+    arrow, plain = turning_arrow(), junction() + turning_arrow()[74:]
+    for data in (arrow, plain):
+        yield from (data[:size] for size in range(heads(data)[6], len(data) + 1))
+        yield from (data + more for more in (b"\1", data[heads(data)[6]:], data[heads(data)[5]:]))
+    yield from each_byte(arrow, (0, 3, 7, 201))
+    for length in (0, 1, 2, 3, 5, 6, 14, 260):
+        yield arrow[:74] + length.to_bytes(2, "little") + b"\7\0" + bytes(length)
+    without = turning_arrow(None)
+    for more in (b"", b"\4\0\7", b"\4\0\7\1\0\0\0\0", b"\4\0\6\0\0\0\0\0", b"\0"):
+        yield without + more
+    yield put(without, 41, EARLY_CUT_OFF, 1)
+    yield put(without, 69, 3, 1)
+    yield without + b"\4\0\7\0" + twos((200, 200))
 
 
 def damaged(rng, data):
@@ -118,6 +138,7 @@ def vectors():
         yield from limits(data)
         yield from refusals(data)
     yield from groups_refused()
+    yield from early_cut_offs()
     for _ in range(100):
         site = random_site(rng)
         yield site

@@ -1,12 +1,15 @@
-"""Document 01's reader, written from the paper in Python and independent of the proved code: it only makes vectors."""
+"""Document 01's reader, with the sections that document 02 adds, written from the papers in Python and independent of the proved
+code: it only makes vectors."""
 
 RANGES = {
     "start": (10, 150),
     "L": (0, 200), "M": (10, 400), "X": (10, 1500), "G": (0, 100), "Y": (30, 100), "R": (10, 150),
     "W": (10, 400), "C1": (1, 400), "C2": (1, 400),
+    "E": (0, 200),
 }
 PHASE_FIELDS = ("L", "M", "X", "G", "Y", "R")
 WALK_FIELDS = ("W", "C1", "C2")
+VEHICLE, LATE_START, PEDESTRIAN, EARLY_CUT_OFF = range(4)
 
 
 class Refusal(Exception):
@@ -40,6 +43,10 @@ class Reader:
         self.at = head + 4 + length
         return head, length
 
+    def begins(self, kind):
+        """Whether what is left begins with a whole head of a kind that need not be there."""
+        return len(self.data) - self.at >= 4 and number(self.data, self.at + 2, 2) == kind
+
     def time(self, at, name):
         value = number(self.data, at, 2)
         low, high = RANGES[name]
@@ -63,16 +70,19 @@ class Reader:
 
     def group_records(self):
         head, _ = self.head(3, lambda n: n == 2 * self.groups)
-        self.sets, pedestrians = [], 0
+        self.sets, self.early, pedestrians = [], [], 0
         for g in range(self.groups):
             at = head + 4 + 2 * g
             members, mark = self.data[at], self.data[at + 1]
-            if members >> self.phases or mark > 2 or (mark == 2 and bin(members).count("1") != 1):
+            single = bin(members).count("1") == 1
+            if members >> self.phases or mark > EARLY_CUT_OFF or (mark == PEDESTRIAN and not single):
                 raise Refusal(6, at)
-            if mark == 2:
+            if mark == PEDESTRIAN:
                 pedestrians += 1
                 if pedestrians == 9:
                     raise Refusal(7, at)
+            if mark == EARLY_CUT_OFF:
+                self.early.append(at)
             self.sets.append(members)
         self.pedestrians = pedestrians
         union = 0
@@ -104,6 +114,18 @@ class Reader:
             for i, name in enumerate(WALK_FIELDS):
                 self.time(head + 4 + 6 * k + 2 * i, name)
 
+    def early_cut_offs(self):
+        self.times = self.begins(7)
+        if self.times:
+            head, length = self.head(7, lambda n: n == 2 * self.phases)
+            for at in range(head + 4, head + 4 + length, 2):
+                self.time(at, "E")
+
+    def whole(self):
+        """What is checked after all sections."""
+        if self.early and not self.times:
+            raise Refusal(17, self.early[0])
+
     def leftover(self):
         if self.at < len(self.data):
             raise Refusal(12, self.at)
@@ -114,7 +136,8 @@ def verdict(data):
     reader = Reader(data)
     try:
         for part in (reader.site, reader.phase_records, reader.group_records, reader.conflict_records,
-                     reader.detector_records, reader.pedestrian_records, reader.leftover):
+                     reader.detector_records, reader.pedestrian_records, reader.early_cut_offs, reader.whole,
+                     reader.leftover):
             part()
     except Refusal as refusal:
         return refusal.number, refusal.place
@@ -131,8 +154,9 @@ def twos(values):
     return b"".join(v.to_bytes(2, "little") for v in values)
 
 
-def build(start, phases, groups, conflicts, detectors, walks):
-    """phases: rows of six times; groups, detectors: pairs; conflicts: a set of pairs of groups; walks: rows of three times."""
+def build(start, phases, groups, conflicts, detectors, walks, early=None):
+    """phases: rows of six times; groups, detectors: pairs; conflicts: a set of pairs of groups; walks: rows of three times; early: a
+    time for each phase, or none where there is no such section."""
     rows = [0] * len(groups)
     for g, j in conflicts:
         rows[g] |= 1 << j
@@ -142,7 +166,8 @@ def build(start, phases, groups, conflicts, detectors, walks):
             + section(3, bytes(v for pair in groups for v in pair))
             + section(4, b"".join(row.to_bytes(4, "little") for row in rows))
             + section(5, bytes(v for pair in detectors for v in pair))
-            + section(6, b"".join(twos(row) for row in walks)))
+            + section(6, b"".join(twos(row) for row in walks))
+            + (b"" if early is None else section(7, twos(early))))
 
 
 def junction():
@@ -151,34 +176,43 @@ def junction():
     return build(10, [row, row], [(1, 0), (2, 0)], {(0, 1)}, [(0, 6), (1, 6)], [])
 
 
+def turning_arrow(early=(20, 0)):
+    """The junction of two phases with a turning arrow of A, group 1, that stops early."""
+    row = (0, 20, 30, 5, 30, 10)
+    groups = [(1, VEHICLE), (1, EARLY_CUT_OFF), (2, VEHICLE)]
+    return build(10, [row, row], groups, {(0, 2), (1, 2)}, [(0, 6), (1, 6)], [], early)
+
+
 def conflicts_of(groups):
     """Every pair of groups that shares no phase."""
     return {(g, j) for g in range(len(groups)) for j in range(g) if not groups[g][0] & groups[j][0]}
 
 
 def largest():
-    """7 phases, 32 groups, 48 detectors, 8 movements, every setting the highest."""
-    groups = [(1 << g % 7, 2 if g < 8 else g % 2) for g in range(32)]
+    """7 phases, 32 groups, 48 detectors, 8 movements, early cut-offs, every setting the highest."""
+    groups = [(1 << g % 7, PEDESTRIAN if g < 8 else (VEHICLE, LATE_START, EARLY_CUT_OFF)[g % 3]) for g in range(32)]
     return build(150, [(200, 400, 1500, 100, 100, 150)] * 7, groups, conflicts_of(groups),
-                 [(d % 7, (0, 1, 2, 4, 5, 6)[d % 6]) for d in range(48)], [(400, 400, 400)] * 8)
+                 [(d % 7, (0, 1, 2, 4, 5, 6)[d % 6]) for d in range(48)], [(400, 400, 400)] * 8, [200] * 7)
 
 
 def random_site(rng):
     """An accepted personality of any size, its settings drawn from the whole of each range."""
     phases = rng.randint(2, 7)
     count = rng.randint(max(1, phases // 2), 32)
+    closing_early = rng.random() < 0.6
+    marks = (VEHICLE, LATE_START, EARLY_CUT_OFF) if closing_early else (VEHICLE, LATE_START)
     groups, pedestrians = [], 0
     for g in range(count):
         if pedestrians < 8 and rng.random() < 0.25:
-            groups.append((1 << rng.randrange(phases), 2))
+            groups.append((1 << rng.randrange(phases), PEDESTRIAN))
             pedestrians += 1
         else:
-            groups.append((rng.randrange(1 << phases), rng.randrange(2)))
+            groups.append((rng.randrange(1 << phases), rng.choice(marks)))
     missing = (1 << phases) - 1
     for members, _ in groups:
         missing &= ~members
     if missing:
-        vehicle = next((g for g in range(count) if groups[g][1] != 2), None)
+        vehicle = next((g for g in range(count) if groups[g][1] != PEDESTRIAN), None)
         if vehicle is None:
             return random_site(rng)
         groups[vehicle] = (groups[vehicle][0] | missing, groups[vehicle][1])
@@ -186,4 +220,5 @@ def random_site(rng):
     draw = lambda name: rng.choice((RANGES[name][0], RANGES[name][1], rng.randint(*RANGES[name])))
     return build(draw("start"), [tuple(draw(n) for n in PHASE_FIELDS) for _ in range(phases)], groups, conflicts,
                  [(rng.randrange(phases), rng.choice((0, 1, 2, 4, 5, 6))) for _ in range(rng.randint(0, 48))],
-                 [tuple(draw(n) for n in WALK_FIELDS) for _ in range(pedestrians)])
+                 [tuple(draw(n) for n in WALK_FIELDS) for _ in range(pedestrians)],
+                 [draw("E") for _ in range(phases)] if closing_early else None)

@@ -144,10 +144,13 @@ static void steps_between_fences(const struct site *site)
     }
 }
 
-/* The calls that read, on a personality cut at every length, with a fence at the cut. */
+/* The calls that read, on a personality cut at every length, with a fence at the cut. Only one cut behind kind 6, the last section that
+ * every personality has, may be accepted or refused for something else. */
 static void cut_personalities(const struct site *site)
 {
     uint8_t *page = fenced_page();
+    uint64_t last = willowera_section(site->personality, site->length, 6);
+    size_t needed = WILLOWERA_OFFSET(last) + WILLOWERA_LENGTH(last);
 
     for (size_t length = 0; length < site->length; length++) {
         uint8_t *cut = place(page, length, 1);
@@ -155,7 +158,9 @@ static void cut_personalities(const struct site *site)
         memcpy(cut, site->personality, length);
         only_read(page);
         uint64_t answer = willowera_read(cut, length);
-        need(WILLOWERA_NUMBER(answer) == WILLOWERA_CUT_SHORT, "a cut personality");
+        need(length >= needed || WILLOWERA_NUMBER(answer) == WILLOWERA_CUT_SHORT, "a cut personality");
+        if (WILLOWERA_NUMBER(answer) == WILLOWERA_ACCEPTED)
+            continue;
         need(willowera_wait_bound(cut, length) == answer, "the wait bound of a cut personality");
         for (unsigned kind = 0; kind <= MOST_KINDS; kind++)
             need(willowera_section(cut, length, (uint16_t)kind) == answer, "a section of a cut personality");
@@ -360,6 +365,7 @@ int main(int count, char **paths)
     static uint8_t room[PAGE / 2];
 
     need(count > 1, "usage: conditions PERSONALITY ..");
+    need(willowera_version() == WILLOWERA_VERSION, "the version of the header");
     for (int i = 1; i < count; i++) {
         struct site site = site_of(paths[i], room, sizeof room);
         steps_between_fences(&site);

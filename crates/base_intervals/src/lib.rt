@@ -5,7 +5,7 @@ ghost use lib.Dec.{ltb};
 ghost use lib.ListN.{length, getD};
 ghost use Rattle.rules.specs.declared.state.Interval.the-variants.{StartRed};
 ghost use Rattle.rules.specs.declared.state.Stage.the-variants.{Idle};
-ghost use Rattle.rules.specs.Intervals.{intervalRow, intervals, isRunning, isMinimumGreen, isGreen, isLeaving, isBeforeStart, isStartRed, stageRow, stages, isIdle, isWalk, isWalkOrFirst, isSecond, isHeld, phaseHeld};
+ghost use Rattle.rules.specs.Intervals.{intervalRow, intervals, isRunning, isMinimumGreen, isGreen, isEarly, isLeaving, isBeforeStart, isStartRed, stageRow, stages, isIdle, isWalk, isWalkOrFirst, isSecond, isHeld, phaseHeld};
 use rules::state::Held;
 use rules::state::Interval;
 use rules::state::IntervalRow;
@@ -25,6 +25,7 @@ pub fn interval_row(interval: Interval) -> IntervalRow
             minimum: false,
             running: false,
             green: false,
+            early: false,
             leaving: false,
             before: true,
         },
@@ -35,6 +36,7 @@ pub fn interval_row(interval: Interval) -> IntervalRow
             minimum: false,
             running: false,
             green: false,
+            early: false,
             leaving: false,
             before: false,
         },
@@ -45,6 +47,7 @@ pub fn interval_row(interval: Interval) -> IntervalRow
             minimum: true,
             running: false,
             green: true,
+            early: false,
             leaving: false,
             before: false,
         },
@@ -55,26 +58,40 @@ pub fn interval_row(interval: Interval) -> IntervalRow
             minimum: false,
             running: true,
             green: true,
+            early: false,
             leaving: false,
             before: false,
         },
-        Interval::Yellow => IntervalRow {
+        Interval::EarlyCutOff => IntervalRow {
             code: 4,
+            letter: 69,
+            start: false,
+            minimum: false,
+            running: false,
+            green: false, // its detectors lock, as in yellow
+            early: true,
+            leaving: true,
+            before: false,
+        },
+        Interval::Yellow => IntervalRow {
+            code: 5,
             letter: 89,
             start: false,
             minimum: false,
             running: false,
             green: false,
+            early: false,
             leaving: true,
             before: false,
         },
         Interval::AllRed => IntervalRow {
-            code: 5,
+            code: 6,
             letter: 82,
             start: false,
             minimum: false,
             running: false,
             green: false,
+            early: false,
             leaving: true,
             before: true,
         },
@@ -85,7 +102,7 @@ pub fn interval_row(interval: Interval) -> IntervalRow
 pub fn interval_known(code: u8) -> bool
     ensures { λ r. ⌜ r ≡ ltb code (length intervals) ⌝ }
 {
-    code < 6
+    code < 7
 }
 
 // The interval of a code.
@@ -97,8 +114,9 @@ pub fn interval_of(code: u8) -> Interval
         1 => Interval::LateStart,
         2 => Interval::MinimumGreen,
         3 => Interval::Running,
-        4 => Interval::Yellow,
-        5 => Interval::AllRed,
+        4 => Interval::EarlyCutOff,
+        5 => Interval::Yellow,
+        6 => Interval::AllRed,
         _ => Interval::StartRed,
     }
 }
@@ -125,6 +143,12 @@ pub fn green(interval: Interval) -> bool
     ensures { λ r. ⌜ r ≡ isGreen interval ⌝ }
 {
     interval_row(interval).green
+}
+
+pub fn early(interval: Interval) -> bool
+    ensures { λ r. ⌜ r ≡ isEarly interval ⌝ }
+{
+    interval_row(interval).early
 }
 
 pub fn leaving(interval: Interval) -> bool

@@ -4,8 +4,8 @@ ghost use mathlib.Core.Path.{_≡_};
 ghost use Rattle.rules.specs.Limits.{limits, within};
 use rules::site::Range;
 
-// By setting: start red; L, M, X, G, Y, R of a phase; W, C1, C2 of a movement.
-const LIMITS: [Range; 10] = [
+// By setting: start red; L, M, X, G, Y, R of a phase; W, C1, C2 of a movement; early cut-off green of a phase.
+const LIMITS: [Range; 11] = [
     Range { low: 10, high: 150 },
     Range { low: 0, high: 200 },
     Range { low: 10, high: 400 },
@@ -19,10 +19,11 @@ const LIMITS: [Range; 10] = [
     Range { low: 10, high: 400 },
     Range { low: 1, high: 400 },
     Range { low: 1, high: 400 },
+    Range { low: 0, high: 200 },
 ];
 
 // The table is the one that the rules have, entry by entry.
-pub fn table() -> [Range; 10]
+pub fn table() -> [Range; 11]
     ensures { λ r. ⌜ r ≡ limits ⌝ }
 {
     LIMITS

@@ -19,9 +19,11 @@ use Rattle.rules.specs.Site.{siteOf}
 use Rattle.rules.specs.State.{valid}
 use Rattle.rules.specs.Step.{stepped}
 use Rattle.rules.specs.Colours.{coloursOf}
-use Rattle.rules.specs.WaitBound.{waitBound}
+use Rattle.rules.specs.WaitBound.{waitBound, waitBoundBy}
 use Rattle.rules.specs.Call.{strayInput, stepVerdict, callVerdict, answerFor, bufferFor, boundFor, boundOf}
-use Rattle.rules.specs.Laws.{Sound, AcceptedIsSound}
+use Rattle.rules.specs.Laws.{Sound, SoundTimes, AcceptedIsSound}
+use Rattle.read_site.specs.declared.Timing.{Timing}
+use Rattle.read_site.specs.Decoding.{timingIn}
 use Rattle.proof_acceptance.proofs.Acceptance.{accepted-is-sound}
 
 module _ (site : Site) (s : State) (inputs room : ℕ) where
@@ -103,6 +105,22 @@ pub bound-refused :
 unfolding boundOf boundFor
 bound-refused b number place e = rw e
 
-pub bound-given : (b : List ℕ) (site : Site) (wait : ℕ) → verdictOf b ≡ Accepted → site ≡ siteOf b → wait ≡ waitBound site → Stepped wait ≡ boundOf b
+-- what the wait bound goes by is of a sound site
+pub timing-sound :
+    (b : List ℕ) (timing : Timing) →
+    verdictOf b ≡ Accepted →
+    timing ≡ timingIn (siteOf b) →
+    (timing .size .phases ≤ 7) × (timing .size .movements ≤ 8) × SoundTimes (timing .size) (timing .times)
+unfolding AcceptedIsSound
+timing-sound b timing e f =
+    let sound = accepted-is-sound b e in
+    rw f (sound .phases .1, sound .movements, sound .times)
+
+pub bound-given :
+    (b : List ℕ) (timing : Timing) (wait : ℕ) →
+    verdictOf b ≡ Accepted →
+    timing ≡ timingIn (siteOf b) →
+    wait ≡ waitBoundBy (timing .size) (timing .times) (timing .crossings) →
+    Stepped wait ≡ boundOf b
 unfolding boundOf boundFor
-bound-given b site wait e f w = rw (e, w, f)
+bound-given b timing wait e f w = rw (e, w, f)

@@ -101,10 +101,10 @@ pub fn wait_bound(personality: &[u8]) -> Outcome
     if let Verdict::Refused { number, place } = verdict {
         return Outcome::Declined { number, place };
     }
-    let site = read_lookup::site(personality);
-    let size = site.size;
-    let times = site.times;
-    let crossings = site.crossings;
+    let timing = read_lookup::timing(personality);
+    let size = timing.size;
+    let times = timing.times;
+    let crossings = timing.crossings;
     Outcome::Stepped {
         wait: wait_bound::wait_bound_of(size, times, crossings),
     }

@@ -1,10 +1,4 @@
-pub mod BytesFirst
-pub mod Joined
-pub mod Known
-pub mod Lists
-pub mod Meanings
-pub mod Movements
+pub mod Laws
 pub mod RoundTrips
-pub mod StateFirst
-pub mod Stores
+pub mod Told
 pub mod Written

@@ -1,71 +1,66 @@
-// The state as bytes, for callers that hold it: a fixed layout of 51 bytes, little-endian, given in specs/Layout.antt.
-mod codes;
-mod reading;
-mod writing;
+// The state as bytes, for callers that hold it: 51 bytes in the layout of specs/Layout.antt.
+mod counts;
+mod demands;
+mod movements;
+mod position;
 
+ghost use mathlib.Core.Bool.{true};
 ghost use mathlib.Core.Path.{_≡_};
 ghost use lib.Dec.{eqb};
 ghost use lib.ListN.{length};
-ghost use Rattle.rules.specs.State.{fresh};
-ghost use Rattle.board_state.specs.Layout.{stateBytes, decodedOr, encodedOver};
-use rules::state::Counts;
-use rules::state::Demands;
-use rules::state::Held;
-use rules::state::Interval;
-use rules::state::Movement;
-use rules::state::Position;
-use rules::state::Stage;
+ghost use Rattle.board_state.specs.Layout.{stateBytes, isState, decoded, encoded, encodedOver};
 use rules::state::State;
+
+const POSITION: usize = 0;
+
+const COUNTS: usize = 8;
+
+const DEMANDS: usize = 12;
+
+const MOVEMENTS: usize = 27;
 
 // How many bytes a state has.
 pub const STATE_BYTES: usize = 51;
 
-// Whether the bytes are a state, and the state: the fresh one where they are not.
-pub struct Decoded {
-    pub known: bool,
-    pub state: State,
+// Whether the bytes are a state. The length is tested first, so no other test of a place is made.
+pub fn is_state(bytes: &[u8]) -> bool
+    ensures { λ r. ⌜ r ≡ isState (now (bytes .entry)) ⌝ }
+{
+    if bytes.len() != STATE_BYTES {
+        return false;
+    }
+    position::known(bytes, POSITION)
+        & demands::known(bytes, DEMANDS)
+        & movements::known(bytes, MOVEMENTS)
 }
 
-// Phase A in start red at age 1, came-from none, counts 0, no demands, movements idle.
-fn fresh_state() -> State
-    ensures { λ r. ⌜ r ≡ fresh ⌝ }
+// The state that the bytes are.
+pub fn decode(bytes: &[u8]) -> State
+    requires { ⌜ isState (now bytes) ≡ true ⌝ }
+    ensures { λ r. ⌜ r ≡ decoded (now (bytes .entry)) ⌝ }
 {
-    let idle = Movement {
-        stage: Stage::Idle,
-        age: 1,
-    };
     State {
-        position: Position {
-            phase: 0,
-            interval: Interval::StartRed,
-            age: 1,
-            came: Held::Nothing,
-            target: Held::Nothing,
-        },
-        counts: Counts { gap: 0, maximum: 0 },
-        demands: Demands {
-            locks: [false; 7],
-            buttons: [false; 8],
-        },
-        movements: [idle; 8],
+        position: position::read(bytes, POSITION),
+        counts: counts::read(bytes, COUNTS),
+        demands: demands::read(bytes, DEMANDS),
+        movements: movements::read(bytes, MOVEMENTS),
     }
 }
 
-// The state that the bytes hold.
-pub fn decode(bytes: &[u8]) -> Decoded
-    ensures { λ r. ⌜ r ≡ decodedOr (now (bytes .entry)) ⌝ }
+fn put(bytes: &mut [u8], state: State)
+    requires { ⌜ length (now bytes) ≡ stateBytes ⌝ }
+    ensures { λ _. ⌜ now (bytes .exit) ≡ encoded state ⌝ }
 {
-    if reading::is_state(bytes) {
-        Decoded {
-            known: true,
-            state: reading::state(bytes),
-        }
-    } else {
-        Decoded {
-            known: false,
-            state: fresh_state(),
-        }
-    }
+    let position = state.position;
+    let counts = state.counts;
+    let demands = state.demands;
+    let locks = demands.locks;
+    let buttons = demands.buttons;
+    let movements = state.movements;
+    position::put(bytes, POSITION, position);
+    counts::put(bytes, COUNTS, counts);
+    demands::put(bytes, DEMANDS, locks, buttons);
+    movements::put(bytes, MOVEMENTS, movements);
 }
 
 // Writes the state into a buffer of 51 bytes. A buffer of another length stays as it is, and the answer is false.
@@ -75,6 +70,6 @@ pub fn encode(state: State, bytes: &mut [u8]) -> bool
     if bytes.len() != STATE_BYTES {
         return false;
     }
-    writing::put_state(bytes, state);
+    put(bytes, state);
     true
 }

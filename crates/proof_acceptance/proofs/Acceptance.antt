@@ -1,7 +1,7 @@
 -- Every accepted personality holds a sound site: each fact that acceptance tells of the bytes is carried to the site's entries, and
 -- past the counts the entries are blank. The one phase of a movement is the one bit that its group's set is counted to have.
 use Prim.Native.Nat.{ℕ, _+_, _≤_, _<_}
-use mathlib.Core.Bool.{true}
+use mathlib.Core.Bool.{true, false}
 use mathlib.Core.List.{List}
 use mathlib.Core.Logic.{⊎-elim}
 use mathlib.Core.Path.{_≡_, sym, subst, ap, _∙_}
@@ -10,19 +10,20 @@ use native.Mathlib.Nat.{add-zero}
 use native.Mathlib.Omega.{arith}
 use Rattle.rules.specs.declared.site.Detector.{Detector}
 use Rattle.rules.specs.declared.site.Group.{Group}
+use Rattle.rules.specs.declared.site.PhaseTimes.{PhaseTimes}
 use Rattle.rules.specs.Rows.{indicesOf}
 use Rattle.rules.specs.Bytes.{twoAt, bit}
-use Rattle.rules.specs.Limits.{limits, phaseSettings, walkSettings}
-use Rattle.rules.specs.Personality.{recordAt, phasesHead, pedestriansHead, phaseCount, groupCount, movementCount, groupSet, groupMark, conflictSet, detectorPhase, knownMode, pedestrian, pedestriansBefore}
-use Rattle.rules.specs.Site.{phaseTimesAt, walkTimesAt, timesIn, crossingAt, siteOf, groupOf, inPhase, crosses, isPedestrian, movementOf, conflict}
+use Rattle.rules.specs.Limits.{limits, limitOf, phaseSettings, walkSettings, earlySetting}
+use Rattle.rules.specs.Personality.{recordAt, phasesHead, pedestriansHead, phaseCount, groupCount, movementCount, groupSet, groupMark, conflictSet, detectorPhase, knownMode, pedestrian, pedestriansBefore, hasEarly}
+use Rattle.rules.specs.Site.{earlyTimeAt, phaseTimesAt, walkTimesAt, timesIn, crossingAt, siteOf, groupOf, phaseTimes, inPhase, crosses, isPedestrian, movementOf, conflict}
 use Rattle.rules.specs.Laws.{InTable, PhaseTimesIn, WalkTimesIn, TimesIn, OnePhase, Sound, AcceptedIsSound, AcceptedIsInTable}
-use Rattle.rules.proofs.Tests.{never-both}
+use Rattle.rules.proofs.Tests.{decided, never-both}
 use Rattle.rules.proofs.Rows.{IthPassing, indices-at}
 use Rattle.rules.proofs.Counts.{below-or-past, passes-below, count-before, count-apart, count-one}
 use Rattle.rules.proofs.Bits.{bit-below}
 use Rattle.rules.proofs.Settings.{table-is-usable}
-use Rattle.proof_acceptance.proofs.Sections.{PhasesAccepted, GroupsAccepted, ConflictsAccepted, PedestriansAccepted, SectionsAccepted, sections-accepted}
-use Rattle.proof_acceptance.proofs.Entries.{phase-times-at, walk-times-at, group-at, group-past, in-phase-at, in-phase-past, pedestrian-at, conflict-at, conflict-past, detector-at, crosses-at, crosses-past, movement-at}
+use Rattle.proof_acceptance.proofs.Sections.{PhasesAccepted, GroupsAccepted, ConflictsAccepted, PedestriansAccepted, EarlyAccepted, SectionsAccepted, sections-accepted}
+use Rattle.proof_acceptance.proofs.Entries.{phase-times-at, phase-times-past, walk-times-at, group-at, group-past, in-phase-at, in-phase-past, pedestrian-at, conflict-at, conflict-past, detector-at, crosses-at, crosses-past, movement-at}
 
 -- ── Times ──
 
@@ -30,9 +31,37 @@ use Rattle.proof_acceptance.proofs.Entries.{phase-times-at, walk-times-
 first-field : (b : List ℕ) (place setting : ℕ) → InTable limits setting (twoAt b (place + 0)) → InTable limits setting (twoAt b place)
 first-field b place setting h = rw add-zero at h
 
-phase-times-in : (b : List ℕ) → PhasesAccepted b → (p : ℕ) → p < phaseCount b → PhaseTimesIn limits (phaseTimesAt b p)
+-- the time of early cut-off green is in the table where kind 7 is there, and 0 where it is not
+early-time-in :
+    (b : List ℕ) →
+    (hasEarly b ≡ true → EarlyAccepted b) →
+    (p : ℕ) →
+    p < phaseCount b →
+    InTable limits earlySetting (earlyTimeAt b p)
+unfolding earlyTimeAt limitOf limits
+early-time-in b s p l =
+    ⊎-elim
+    (λ (there : hasEarly b ≡ true). rw there (s there .time p l))
+    (λ (missing : hasEarly b ≡ false). rw missing (omega arith, omega arith))
+    (decided (hasEarly b))
+
+no-early-time : (b : List ℕ) (p : ℕ) → hasEarly b ≡ false → phaseTimes (siteOf b .times) p .early ≡ 0
+unfolding phaseTimesAt earlyTimeAt
+no-early-time b p missing =
+    ⊎-elim
+    (λ (l : p < phaseCount b). ap (λ (x : PhaseTimes). x .early) (phase-times-at b p l) ∙ rw missing)
+    (λ (l : phaseCount b ≤ p). ap (λ (x : PhaseTimes). x .early) (phase-times-past b p l))
+    (below-or-past p (phaseCount b))
+
+phase-times-in :
+    (b : List ℕ) →
+    PhasesAccepted b →
+    (hasEarly b ≡ true → EarlyAccepted b) →
+    (p : ℕ) →
+    p < phaseCount b →
+    PhaseTimesIn limits (phaseTimesAt b p)
 unfolding phaseTimesAt
-phase-times-in b s p l =
+phase-times-in b s early p l =
     record {
       late = first-field b (recordAt phasesHead 12 p) phaseSettings (s .time p l 0 (omega arith));
       minimum = s .time p l 1 (omega arith);
@@ -40,6 +69,7 @@ phase-times-in b s p l =
       gap = s .time p l 3 (omega arith);
       yellow = s .time p l 4 (omega arith);
       red = s .time p l 5 (omega arith);
+      early = early-time-in b early p l;
     }
 
 walk-times-in : (b : List ℕ) → PedestriansAccepted b → (k : ℕ) → k < movementCount b → WalkTimesIn limits (walkTimesAt b k)
@@ -56,7 +86,7 @@ unfolding siteOf timesIn
 times-in b s =
     record {
       start = s .site .start;
-      phase = λ p l. subst (PhaseTimesIn limits) (sym (phase-times-at b p l)) (phase-times-in b (s .phases) p l);
+      phase = λ p l. subst (PhaseTimesIn limits) (sym (phase-times-at b p l)) (phase-times-in b (s .phases) (s .early) p l);
       walk = λ k l. subst (WalkTimesIn limits) (sym (walk-times-at b k l)) (walk-times-in b (s .pedestrians) k l);
     }
 
@@ -71,11 +101,24 @@ group-phase b s g p e =
     let l = passes-below (inPhase (siteOf b .groups) g p) g (groupCount b) (in-phase-past b g p) e in
     (l, bit-below (groupSet b g) (phaseCount b) p (s .set g l) (sym (in-phase-at b g p l) ∙ e))
 
-group-mark : (b : List ℕ) → GroupsAccepted b → (g : ℕ) → groupOf (siteOf b .groups) g .mark ≤ 2
+group-mark : (b : List ℕ) → GroupsAccepted b → (g : ℕ) → groupOf (siteOf b .groups) g .mark ≤ 3
 group-mark b s g =
     ⊎-elim
-    (λ (l : g < groupCount b). subst (λ (x : Group). x .mark ≤ 2) (sym (group-at b g l)) (s .mark g l))
-    (λ (l : groupCount b ≤ g). subst (λ (x : Group). x .mark ≤ 2) (sym (group-past b g l)) (omega arith))
+    (λ (l : g < groupCount b). subst (λ (x : Group). x .mark ≤ 3) (sym (group-at b g l)) (s .mark g l))
+    (λ (l : groupCount b ≤ g). subst (λ (x : Group). x .mark ≤ 3) (sym (group-past b g l)) (omega arith))
+    (below-or-past g (groupCount b))
+
+no-early-group :
+    (b : List ℕ) →
+    SectionsAccepted b →
+    (g : ℕ) →
+    hasEarly b ≡ false →
+    groupOf (siteOf b .groups) g .mark ≡ 3 →
+    ⊥
+no-early-group b s g missing e =
+    ⊎-elim
+    (λ (l : g < groupCount b). s .noneEarly missing g l (sym (ap (λ (x : Group). x .mark) (group-at b g l)) ∙ e))
+    (λ (l : groupCount b ≤ g). omega (arith, ap (λ (x : Group). x .mark) (group-past b g l)))
     (below-or-past g (groupCount b))
 
 phase-group : (b : List ℕ) → GroupsAccepted b → (p : ℕ) → p < phaseCount b → (g : ℕ) × (g < groupCount b) × (inPhase (siteOf b .groups) g p ≡ true)
@@ -182,6 +225,8 @@ sound b s =
       detectors = s .detectors .count;
       movements = s .groups .movements;
       times = record { table = limits; tableUsable = table-is-usable; inTable = times-in b s };
+      noEarlyTime = no-early-time b;
+      noEarlyGroup = no-early-group b s;
       groupPhase = group-phase b (s .groups);
       groupMark = group-mark b (s .groups);
       phaseGroup = phase-group b (s .groups);

@@ -20,6 +20,10 @@ module _ (b : List ℕ) where
   unfolding phaseTimes siteOf timesIn
   phase-times-at p l = row-at (phaseTimesAt b) (phaseCount b) 7 p noPhaseTimes l
 
+  pub phase-times-past : (p : ℕ) → phaseCount b ≤ p → phaseTimes (siteOf b .times) p ≡ noPhaseTimes
+  unfolding phaseTimes siteOf timesIn
+  phase-times-past p l = row-past (phaseTimesAt b) (phaseCount b) 7 p noPhaseTimes l
+
   pub walk-times-at : (k : ℕ) → k < movementCount b → walkTimes (siteOf b .times) k ≡ walkTimesAt b k
   unfolding walkTimes siteOf timesIn
   walk-times-at k l = row-at (walkTimesAt b) (movementCount b) 8 k noWalkTimes l

@@ -5,16 +5,16 @@ use mathlib.Core.Bool.{true, _&&_}
 use mathlib.Core.List.{List}
 use mathlib.Core.Logic.{⊎-elim}
 use mathlib.Core.Path.{_≡_}
-use lib.Dec.{leb}
+use lib.Dec.{leb, eqb}
 use native.Mathlib.Omega.{arith}
-use borrow.Author.Tests.{leb-true}
+use borrow.Author.Tests.{leb-true, eqb-true}
 use Rattle.rules.specs.declared.answer.Verdict.{Verdict}
-use Rattle.rules.specs.declared.state.State.{State}
+use Rattle.rules.specs.declared.state.KeptState.{KeptState}
 use Rattle.rules.specs.Personality.{verdictOf}
 use Rattle.rules.specs.Call.{callVerdict}
 use Rattle.rules.specs.Lookup.{lookupVerdict}
 use Rattle.rules.specs.Laws.{readingNumber, stepNumber, greatestLength, PlaceIn, Written}
-use Rattle.rules.proofs.Tests.{and-left, and-right}
+use Rattle.rules.proofs.Tests.{and-left, and-right, or-cases}
 use Rattle.proof_acceptance.proofs.Refusals.{Refusals, if-refusals, or-refusals, personality-refusals, call-refusals}
 
 -- ── Numbers ──
@@ -26,7 +26,11 @@ in-range low high number known = (
 )
 
 reading-fits : (number : ℕ) → readingNumber number ≡ true → (1 ≤ number) × (number < 256)
-reading-fits number known = omega (arith, in-range 1 12 number known)
+reading-fits number known =
+    ⊎-elim
+    (λ (sections : (leb 1 number && leb number 12) ≡ true). omega (arith, in-range 1 12 number sections))
+    (λ (missing : eqb number 17 ≡ true). omega (arith, eqb-true number 17 missing))
+    (or-cases _ _ known)
 
 step-fits : (number : ℕ) → stepNumber number ≡ true → (1 ≤ number) × (number < 256)
 step-fits number known = omega (arith, in-range 13 15 number known)
@@ -55,7 +59,7 @@ module _ (b : List ℕ) where
   pub personality-named : Named (verdictOf b)
   personality-named = personality-refusals b Near near
 
-  pub call-named : (s : State) (inputs room : ℕ) → Named (callVerdict b s inputs room)
+  pub call-named : (s : KeptState) (inputs room : ℕ) → Named (callVerdict b s inputs room)
   call-named s inputs room = call-refusals b Near near s inputs room (λ number known. (step-fits number known .0, omega arith))
 
   pub lookup-named : (kind : ℕ) → Named (lookupVerdict b kind)

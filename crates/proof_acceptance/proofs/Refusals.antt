@@ -2,23 +2,25 @@
 -- place is in the personality because the checks before it passed: a section that passed ends at the next head, a body that is there
 -- holds its records and their fields, and the counts bound where each section ends.
 use Prim.Native.Nat.{ℕ, _+_, _*_, _≤_, _<_}
-use mathlib.Core.Bool.{Bool, true}
+use mathlib.Core.Bool.{Bool, true, false}
 use mathlib.Core.List.{List}
 use mathlib.Core.Logic.{inl, inr, ⊎-elim}
-use mathlib.Core.Path.{_≡_, refl}
+use mathlib.Core.Path.{_≡_, refl, sym}
 use lib.Dec.{eqb}
 use lib.ListN.{length}
 use native.Mathlib.Omega.{arith}
 use Rattle.rules.specs.declared.answer.Verdict.{Verdict}
 use Rattle.rules.specs.declared.answer.Verdict.the-variants.{Accepted, Refused}
-use Rattle.rules.specs.declared.state.State.{State}
+use Rattle.rules.specs.declared.state.KeptState.{KeptState}
 use Rattle.rules.specs.Limits.{phaseSettings, walkSettings}
+use Rattle.rules.specs.Rows.{if_then_else_}
 use Rattle.rules.specs.Verdicts.{_orElse_, refuseIf, firstOf}
-use Rattle.rules.specs.Personality.{bodyAt, bodyLength, recordAt, phaseCount, groupCount, siteHead, phasesHead, groupsHead, conflictsHead, detectorsHead, pedestriansHead, movementCount, detectorCount, endOf, sectionAt, timeAt, timesAt, siteSection, phasesSection, groupRecord, groupsSection, conflictsSection, detectorsSection, pedestriansSection, afterPedestrians, verdictOf}
+use Rattle.rules.specs.Personality.{bodyAt, bodyLength, recordAt, phaseCount, groupCount, siteHead, phasesHead, groupsHead, conflictsHead, detectorsHead, pedestriansHead, movementCount, detectorCount, earlyHead, hasEarly, endOf, sectionAt, timeAt, timesAt, siteSection, phasesSection, groupRecord, groupsSection, conflictsSection, detectorsSection, pedestriansSection, earlySection, earlyMissing, afterPedestrians, verdictOf}
 use Rattle.rules.specs.Call.{stepVerdict, callVerdict}
-use Rattle.rules.specs.Laws.{readingNumber, stepNumber, greatestLength, AcceptedIsShort, PlaceIn, Written, RefusalIsWritten}
-use Rattle.rules.proofs.Verdicts.{or-refused, refuse-failed, first-refused}
-use Rattle.proof_acceptance.proofs.Sections.{SiteAccepted, GroupsAccepted, DetectorsAccepted, PedestriansAccepted, records-held, record-within, detectors-held, site-accepted, phases-accepted, groups-accepted, conflicts-accepted, detectors-accepted, pedestrians-accepted, sections-accepted}
+use Rattle.rules.specs.Laws.{readingNumber, stepNumber, sectionLength, greatestLength, AcceptedIsShort, PlaceIn, Written, RefusalIsWritten}
+use Rattle.rules.proofs.Tests.{decided}
+use Rattle.rules.proofs.Verdicts.{refused-not-accepted, or-refused, refuse-failed, first-refused}
+use Rattle.proof_acceptance.proofs.Sections.{SiteAccepted, GroupsAccepted, DetectorsAccepted, PedestriansAccepted, EarlyAccepted, records-held, record-within, detectors-held, site-accepted, phases-accepted, groups-accepted, conflicts-accepted, detectors-accepted, pedestrians-accepted, early-accepted, end-with, end-without, sections-accepted}
 
 -- ── A check, checks in order, and the first of a row ──
 
@@ -43,16 +45,31 @@ module _ (Allowed : ℕ → ℕ → Type 0) where
   first-refusals : (f : ℕ → Verdict) (m : ℕ) → ((i : ℕ) → i < m → Refusals (f i)) → Refusals (firstOf f m)
   first-refusals f m one n p h = let w = first-refused f m h in one (w .0) (w .1) n p (w .2)
 
+  -- a check that is made under a condition
+  under-refusals : (t : Bool) (v : Verdict) → Refusals v → Refusals (if t then v else Accepted)
+  under-refusals true v made n p h = made n p h
+  under-refusals false v made n p h = absurd (refused-not-accepted (sym h))
+
 -- ── How far the sections go ──
 
 module _ (b : List ℕ) where
+  -- there is room for kind 7 after kind 6
   end-near :
       SiteAccepted b →
       GroupsAccepted b →
       bodyLength b (detectorsHead b) ≤ 96 →
-      bodyAt (pedestriansHead b) + movementCount b * 6 ≤ greatestLength
+      bodyAt (pedestriansHead b) + movementCount b * 6 + sectionLength (phaseCount b) 2 ≤ greatestLength
   unfolding pedestriansHead detectorsHead conflictsHead groupsHead bodyAt
   end-near counts groups short = omega arith
+
+  -- and the personality ends with one of the two
+  end-placed : PedestriansAccepted b → (hasEarly b ≡ true → EarlyAccepted b) → (endOf b ≤ length b) × (endOf b ≤ earlyHead b + sectionLength (phaseCount b) 2)
+  unfolding bodyAt
+  end-placed told early =
+      ⊎-elim
+      (λ (there : hasEarly b ≡ true). let last = early there in omega (arith, end-with b there))
+      (λ (missing : hasEarly b ≡ false). omega (arith, end-without b missing))
+      (decided (hasEarly b))
 
 -- ── The personality's checks ──
 
@@ -145,12 +162,33 @@ module _
         unfolding pedestriansSection bodyAt
         pedestrians =
             let near = end-near b counts few (short .short) in
-            records (pedestriansHead b) 6 (movementCount b) 6 _ (omega arith) near
+            records (pedestriansHead b) 6 (movementCount b) 6 _ (omega arith) (omega arith)
             (times (pedestriansHead b) (movementCount b) 6 walkSettings 3 (omega arith))
 
-        after : PedestriansAccepted b → Refusals Allowed (afterPedestrians b)
-        unfolding afterPedestrians endOf
-        after told = check _ 12 (endOf b) refl (told .next, omega (arith, end-near b counts few (short .short), told .body))
+        module _ (told : PedestriansAccepted b) where
+          -- just past kind 6, and with kind 7 there
+          early-near : earlyHead b + sectionLength (phaseCount b) 2 ≤ greatestLength
+          unfolding earlyHead
+          early-near = omega (arith, end-near b counts few (short .short), told .body)
+
+          early : Refusals Allowed (earlySection b)
+          unfolding earlySection timeAt bodyAt
+          early =
+              let near = early-near in
+              under-refusals Allowed (hasEarly b) _
+              (records (earlyHead b) 7 (phaseCount b) 2 _ (omega arith) (omega arith)
+              (λ body. each _ (earlyHead b) (phaseCount b) 2 body (λ p m. check _ 5 _ refl (omega arith))))
+
+          missing : Refusals Allowed (earlyMissing b)
+          unfolding earlyMissing conflictsHead groupsHead bodyAt
+          missing = each _ (groupsHead b) (groupCount b) 2 (omega arith) (λ g m. check _ 17 _ refl (omega arith))
+
+          after : Refusals Allowed (afterPedestrians b)
+          unfolding afterPedestrians
+          after =
+              or-refusals Allowed _ _ early
+              (λ e. or-refusals Allowed _ _ missing
+              (λ f. check _ 12 (endOf b) refl (omega (arith, early-near, end-placed b told (early-accepted b e)))))
 
     pub personality-refusals : Refusals Allowed (verdictOf b)
     unfolding verdictOf
@@ -171,7 +209,7 @@ module _
 
     -- a step's checks after them, at 0
     pub call-refusals :
-        (s : State) (inputs room : ℕ) →
+        (s : KeptState) (inputs room : ℕ) →
         ((number : ℕ) → stepNumber number ≡ true → Allowed number 0) →
         Refusals Allowed (callVerdict b s inputs room)
     unfolding callVerdict stepVerdict
@@ -188,7 +226,13 @@ refusal-is-written b s inputs room =
 -- ── An accepted personality ──
 
 pub accepted-is-short : AcceptedIsShort
-unfolding AcceptedIsShort endOf
+unfolding AcceptedIsShort earlyHead
 accepted-is-short b h =
     let s = sections-accepted b h in
-    omega (arith, end-near b (s .site) (s .groups) (s .detectors .short), s .pedestrians .body, s .last)
+    omega (
+      arith,
+      end-near b (s .site) (s .groups) (s .detectors .short),
+      s .pedestrians .body,
+      end-placed b (s .pedestrians) (s .early),
+      s .last,
+    )

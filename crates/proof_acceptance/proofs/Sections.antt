@@ -8,15 +8,15 @@ use lib.Dec.{leb, ltb, eqb}
 use lib.ListN.{length}
 use native.Mathlib.Nat.{mul-le-mul-right, suc-mul}
 use native.Mathlib.Omega.{arith}
-use borrow.Author.Tests.{ltb-false, leb-true, leb-false, eqb-true, eqb-false, not-false}
+use borrow.Author.Tests.{ltb-false, leb-true, leb-false, eqb-true, eqb-false, eq-eqb, not-false}
 use Rattle.rules.specs.declared.answer.Verdict.the-variants.{Accepted}
 use Rattle.rules.specs.Rows.{anyOf, countOf}
 use Rattle.rules.specs.Bytes.{twoAt, bit}
-use Rattle.rules.specs.Limits.{limits, within, startRedSetting, phaseSettings, walkSettings}
+use Rattle.rules.specs.Limits.{limits, within, startRedSetting, phaseSettings, walkSettings, earlySetting}
 use Rattle.rules.specs.Verdicts.{firstOf}
-use Rattle.rules.specs.Personality.{bodyLength, bodyAt, recordAt, phaseCount, groupCount, siteHead, phasesHead, groupsHead, conflictsHead, detectorsHead, pedestriansHead, groupSet, groupMark, pedestrian, pedestriansBefore, movementCount, conflictSet, detectorCount, detectorPhase, sectionAt, timeAt, timesAt, siteSection, phasesSection, badGroup, ninthPedestrian, groupRecord, phaseWithoutGroup, groupsSection, badConflict, sharePhase, conflictInPhase, conflictsSection, badDetector, detectorsSection, pedestriansSection, afterPedestrians, endOf, verdictOf, detectorMode, knownMode}
+use Rattle.rules.specs.Personality.{bodyLength, bodyAt, recordAt, phaseCount, groupCount, siteHead, phasesHead, groupsHead, conflictsHead, detectorsHead, pedestriansHead, groupSet, groupMark, pedestrian, pedestriansBefore, movementCount, conflictSet, detectorCount, detectorPhase, sectionAt, timeAt, timesAt, siteSection, phasesSection, badGroup, ninthPedestrian, groupRecord, phaseWithoutGroup, groupsSection, badConflict, sharePhase, conflictInPhase, conflictsSection, badDetector, detectorsSection, pedestriansSection, earlyHead, hasEarly, earlySection, stopsEarly, earlyMissing, afterPedestrians, endOf, verdictOf, detectorMode, knownMode}
 use Rattle.rules.specs.Laws.{InTable}
-use Rattle.rules.proofs.Tests.{and-left, and-right, or-false-left, or-false-right}
+use Rattle.rules.proofs.Tests.{and-left, and-right, or-false-left, or-false-right, never-both}
 use Rattle.rules.proofs.Rows.{any-false, any-found}
 use Rattle.rules.proofs.Verdicts.{or-first, or-later, refuse-passed, first-each}
 use Rattle.rules.proofs.Counts.{count-within}
@@ -104,7 +104,7 @@ pub record PhasesAccepted (b : List ℕ) : Type 0 where
 pub record GroupsAccepted (b : List ℕ) : Type 0 where
   pub next : conflictsHead b ≤ length b
   pub set : (g : ℕ) → g < groupCount b → groupSet b g < 2 ^ phaseCount b
-  pub mark : (g : ℕ) → g < groupCount b → groupMark b g ≤ 2
+  pub mark : (g : ℕ) → g < groupCount b → groupMark b g ≤ 3
   pub onePhase : (g : ℕ) → g < groupCount b → pedestrian b g ≡ true → countOf (λ p. bit p (groupSet b g)) (phaseCount b) ≡ 1
   pub movements : movementCount b ≤ 8
   pub served : (p : ℕ) → p < phaseCount b → (g : ℕ) × (g < groupCount b) × (bit p (groupSet b g) ≡ true)
@@ -131,7 +131,7 @@ pub record DetectorsAccepted (b : List ℕ) : Type 0 where
   pub mode : (d : ℕ) → d < detectorCount b → knownMode (detectorMode b d) ≡ true
 
 pub record PedestriansAccepted (b : List ℕ) : Type 0 where
-  pub next : endOf b ≤ length b
+  pub next : earlyHead b ≤ length b
   pub body : bodyLength b (pedestriansHead b) ≡ movementCount b * 6
   pub time :
       (k : ℕ) →
@@ -139,6 +139,12 @@ pub record PedestriansAccepted (b : List ℕ) : Type 0 where
       (f : ℕ) →
       f < 3 →
       InTable limits (walkSettings + f) (twoAt b (recordAt (pedestriansHead b) 6 k + f * 2))
+
+-- where kind 7 is there
+pub record EarlyAccepted (b : List ℕ) : Type 0 where
+  pub body : bodyLength b (earlyHead b) ≡ phaseCount b * 2
+  pub next : bodyAt (earlyHead b) + phaseCount b * 2 ≤ length b
+  pub time : (p : ℕ) → p < phaseCount b → InTable limits earlySetting (twoAt b (recordAt (earlyHead b) 2 p))
 
 pub site-accepted : (b : List ℕ) → siteSection b ≡ Accepted → SiteAccepted b
 unfolding siteSection bodyAt
@@ -182,7 +188,7 @@ groups-accepted b h =
         (g : ℕ) →
         g < groupCount b →
         (leb (2 ^ phaseCount b) (groupSet b g) ≡ false)
-        × (ltb 2 (groupMark b g) ≡ false)
+        × (ltb 3 (groupMark b g) ≡ false)
         × ((pedestrian b g && not (eqb (countOf (λ p. bit p (groupSet b g)) (phaseCount b)) 1)) ≡ false)
     good g l = three-failed _ _ _ (refuse-passed _ _ _ (or-first _ _ (each g l)))
 
@@ -232,7 +238,7 @@ detectors-accepted b h =
     }
 
 pub pedestrians-accepted : (b : List ℕ) → pedestriansSection b ≡ Accepted → PedestriansAccepted b
-unfolding pedestriansSection endOf
+unfolding pedestriansSection earlyHead
 pedestrians-accepted b h =
     let body = body-held b (pedestriansHead b) 6 _ (or-first _ _ h) in
     record {
@@ -241,7 +247,27 @@ pedestrians-accepted b h =
       time = times-passed b (pedestriansHead b) 6 walkSettings 3 (movementCount b) (or-later _ _ h);
     }
 
--- ── All six, with nothing after them ──
+pub early-accepted : (b : List ℕ) → earlySection b ≡ Accepted → hasEarly b ≡ true → EarlyAccepted b
+unfolding earlySection
+early-accepted b h there =
+    let passed = rw there at h in
+    let body = body-held b (earlyHead b) 7 _ (or-first _ _ passed) in
+    record {
+      body = eqb-true _ _ (body .0);
+      next = records-held b (earlyHead b) 7 (phaseCount b) 2 (or-first _ _ passed);
+      time = λ p l. time-passed b _ earlySetting (first-each _ _ p (or-later _ _ passed) l);
+    }
+
+-- ── All of them, with nothing after the last ──
+
+-- the last section is kind 7 where it is there, and kind 6 where it is not
+pub end-with : (b : List ℕ) → hasEarly b ≡ true → endOf b ≡ bodyAt (earlyHead b) + bodyLength b (earlyHead b)
+unfolding endOf
+end-with b there = rw there
+
+pub end-without : (b : List ℕ) → hasEarly b ≡ false → endOf b ≡ earlyHead b
+unfolding endOf
+end-without b missing = rw missing
 
 pub record SectionsAccepted (b : List ℕ) : Type 0 where
   pub site : SiteAccepted b
@@ -250,16 +276,20 @@ pub record SectionsAccepted (b : List ℕ) : Type 0 where
   pub conflicts : ConflictsAccepted b
   pub detectors : DetectorsAccepted b
   pub pedestrians : PedestriansAccepted b
+  pub early : hasEarly b ≡ true → EarlyAccepted b
+  pub noneEarly : hasEarly b ≡ false → (g : ℕ) → g < groupCount b → groupMark b g ≡ 3 → ⊥
   pub last : length b ≤ endOf b
 
 pub sections-accepted : (b : List ℕ) → verdictOf b ≡ Accepted → SectionsAccepted b
-unfolding verdictOf afterPedestrians
+unfolding verdictOf afterPedestrians earlyMissing stopsEarly
 sections-accepted b h =
     let fromPhases = or-later _ _ h in
     let fromGroups = or-later _ _ fromPhases in
     let fromConflicts = or-later _ _ fromGroups in
     let fromDetectors = or-later _ _ fromConflicts in
     let fromPedestrians = or-later _ _ fromDetectors in
+    let fromEarly = or-later _ _ fromPedestrians in
+    let fromMissing = or-later _ _ fromEarly in
     record {
       site = site-accepted b (or-first _ _ h);
       phases = phases-accepted b (or-first _ _ fromPhases);
@@ -267,5 +297,10 @@ sections-accepted b h =
       conflicts = conflicts-accepted b (or-first _ _ fromConflicts);
       detectors = detectors-accepted b (or-first _ _ fromDetectors);
       pedestrians = pedestrians-accepted b (or-first _ _ fromPedestrians);
-      last = ltb-false _ _ (refuse-passed _ _ _ (or-later _ _ fromPedestrians));
+      early = early-accepted b (or-first _ _ fromEarly);
+      noneEarly = λ missing g l mark.
+          never-both
+          (not-false _ (joined-failed _ (refuse-passed _ _ _ (first-each _ _ g (or-first _ _ fromMissing) l)) (eq-eqb _ _ mark)))
+          missing;
+      last = ltb-false _ _ (refuse-passed _ _ _ (or-later _ _ fromMissing));
     }

@@ -18,7 +18,7 @@ use Rattle.rules.proofs.Rows.{greatest-most}
 use Rattle.rules.proofs.Counts.{sum-within}
 use Rattle.proof_acceptance.proofs.Acceptance.{accepted-is-sound, accepted-is-in-table}
 
-pub greatest-wait : greatestWait limits ≡ 35150
+pub greatest-wait : greatestWait limits ≡ 37950
 unfolding greatestWait greatestShare phaseShare highestPhase highestWalk highest limitOf limits
 greatest-wait = refl
 
@@ -61,6 +61,7 @@ module _ (table : List Range) (size : Size) (times : Times) (crossings : List �
         own .minimum .1,
         own .maximum .1,
         walk-within p,
+        own .early .1,
         own .yellow .1,
         own .red .1,
         clearance-within p,

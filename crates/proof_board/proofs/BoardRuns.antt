@@ -90,7 +90,7 @@ read-for b (Refused number place) e =
 module _ (b : List ℕ) (s : State) (proper : Proper s) (inputs : ℕ) where
   same-outcome : (room : ℕ) → outcomeIn (stepAnswer b (encoded s) inputs room) ≡ answerOf b s inputs room .outcome
   unfolding stepAnswer
-  same-outcome room = rw (encoded-is-state s proper, decoded-encoded s proper) (outcome-back b s inputs room)
+  same-outcome room = rw (encoded-is-state s, decoded-encoded s proper) (outcome-back b s inputs room)
 
   next-for :
       (v : Verdict) →
@@ -102,11 +102,11 @@ module _ (b : List ℕ) (s : State) (proper : Proper s) (inputs : ℕ) where
 
   same-next : (room : ℕ) → stateAfter b (encoded s) inputs room ≡ encoded (answerOf b s inputs room .state)
   unfolding stateAfter answerOf
-  same-next room = rw (encoded-is-state s proper, decoded-encoded s proper) (next-for (callVerdict b s inputs room))
+  same-next room = rw (encoded-is-state s, decoded-encoded s proper) (next-for (callVerdict b s inputs room))
 
   same-buffer : (buffer : List ℕ) → coloursAfter b (encoded s) inputs buffer ≡ bufferOf b s inputs buffer
   unfolding coloursAfter
-  same-buffer buffer = rw (encoded-is-state s proper, decoded-encoded s proper)
+  same-buffer buffer = rw (encoded-is-state s, decoded-encoded s proper)
 
 -- ── A list of calls ──
 

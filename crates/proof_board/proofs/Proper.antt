@@ -13,7 +13,7 @@ use Rattle.rules.specs.declared.state.Held.the-variants.{Nothing, Phase}
 use Rattle.rules.specs.declared.state.State.{State}
 use Rattle.rules.specs.Site.{phaseTimes}
 use Rattle.rules.specs.Intervals.{isLeaving, phaseHeld}
-use Rattle.rules.specs.State.{fresh, targetValid, cameValid}
+use Rattle.rules.specs.State.{fresh, movement, targetValid, cameValid}
 use Rattle.rules.specs.Step.{stepped}
 use Rattle.rules.specs.Interval.{locksLeft}
 use Rattle.rules.specs.Walks.{walksBegun, buttonsLeft}
@@ -21,7 +21,7 @@ use Rattle.rules.specs.Laws.{Sound, FreshIsValid, StepKeepsValid}
 use Rattle.rules.proofs.Tests.{and-left, and-right}
 use Rattle.rules.proofs.Rows.{list-length}
 use Rattle.rules.proofs.Settings.{phase-timed}
-use Rattle.board_state.specs.Layout.{Proper}
+use Rattle.board_state.specs.Layout.{position as positionForm, counts as countsForm, demands as demandsForm, Proper}
 use Rattle.proof_runs.proofs.ValidStates.{ValidState, state-told}
 use Rattle.proof_validity.proofs.Fresh.{fresh-is-valid}
 use Rattle.proof_validity.proofs.Validity.{step-keeps-valid}
@@ -47,21 +47,17 @@ proper-of :
     length (s .demands .buttons) ≡ 8 →
     length (s .movements) ≡ 8 →
     Proper s
+unfolding Proper movement
 proper-of site sound s told locks buttons movements =
     let count = sound .phases in
     let times = phase-timed site sound (s .position .phase) (told .phase) in
-    record {
-      phase = omega (arith, told .phase);
-      age = omega (arith, told .age);
-      came = omega (arith, came-below (site .size .phases) (s .position .came) (told .came) (omega arith));
-      target = omega (arith, target-below (site .size .phases) (s .position .phase) (isLeaving (s .position .interval)) (s .position .target) (told .target) (omega arith));
-      gap = omega (arith, told .gap, times .gap);
-      maximum = omega (arith, told .maximum, times .maximum .1);
-      locks = locks;
-      buttons = buttons;
-      movements = movements;
-      ages = λ k below. omega (arith, told .movements k below .age);
-    }
+    let came = came-below (site .size .phases) (s .position .came) (told .came) (omega arith) in
+    let target =
+    target-below (site .size .phases) (s .position .phase) (isLeaving (s .position .interval)) (s .position .target) (told .target) (omega arith) in
+    let position : positionForm .fits (s .position) = (omega (arith, told .phase), (record {}, (omega (arith, told .age), (omega (arith, came), omega (arith, target))))) in
+    let counts : countsForm .fits (s .counts) = (omega (arith, told .gap, times .gap), omega (arith, told .maximum, times .maximum .1)) in
+    let demands : demandsForm .fits (s .demands) = ((locks, λ k below. record {}), (buttons, λ k below. record {})) in
+    (position, (counts, (demands, (movements, λ k below. (record {}, omega (arith, told .movements k below .age))))))
 
 pub step-is-proper : StepIsProper
 unfolding StepIsProper StepKeepsValid stepped locksLeft walksBegun buttonsLeft

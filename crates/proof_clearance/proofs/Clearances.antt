@@ -7,6 +7,7 @@ use mathlib.Core.List.{List, [], _∷_, _++_, append-assoc}
 use mathlib.Core.Logic.{⊎-elim}
 use mathlib.Core.Path.{_≡_, refl, sym, ap, ap₂, _∙_}
 use lib.ListN.{length, replicate}
+use borrow.Author.Tests.{lt-leb}
 use Rattle.rules.specs.declared.site.Site.{Site}
 use Rattle.rules.specs.declared.site.WalkTimes.{WalkTimes}
 use Rattle.rules.specs.declared.state.Movement.{Movement}
@@ -19,10 +20,13 @@ use Rattle.rules.specs.Runs.{Taken, shows, shownBy, StartsGreen, VehicleCleared
 use Rattle.rules.specs.Laws.{Sound}
 use Rattle.rules.proofs.Settings.{Timed, phase-timed, walk-reached}
 use Rattle.proof_runs.proofs.Linked.{reached}
+use Rattle.proof_runs.proofs.Steps.{mayEnd}
 use Rattle.proof_runs.proofs.Runs.{ValidLink, Run}
 use Rattle.proof_clearance.proofs.Shown.{vehicleAt, vehicle-shows, pedestrian-shows, green-walks}
 use Rattle.proof_clearance.proofs.Greens.{busy-has-phase}
-use Rattle.proof_clearance.proofs.Vehicles.{Stopped, stopped-member, stopped-red, stopped-on, YellowsLeft, in-green, yellows-member, yellows-fall, yellows-over, red-stays}
+use Rattle.proof_clearance.proofs.VehicleColours.{Fades, closingAt, shown-fades}
+use Rattle.proof_clearance.proofs.Stopped.{Stopped, stopped-member, stopped-shows}
+use Rattle.proof_clearance.proofs.Vehicles.{stopped-on, YellowsLeft, in-green, yellows-member, yellows-fall, yellows-over, red-stays}
 use Rattle.proof_clearance.proofs.Pedestrians.{next, FlashesLeft, in-walk, flashes-busy, flashes-fall, flashes-over, idle-stays, movement-after}
 use Rattle.proof_clearance.proofs.Countdowns.{Since, since-next, Leads, only-red, barred, counts-down}
 
@@ -42,17 +46,20 @@ module _
     Yellows n s = YellowsLeft site j p n (s .position)
 
     abbrev Red : State → Type 0
-    Red s = vehicleAt site j (s .position) ≡ red
+    Red s = closingAt site j (s .position) ≡ red
+
+    fades : (s : State) (step : Taken) → ValidLink site s step → Fades (shows step j) (closingAt site j (step .after .position))
+    fades s step link = rw (shown s step link) (shown-fades site j (step .after .position))
 
     yellow-falls : (n : ℕ) → Leads site j (Yellows (suc n)) (Yellows n) yellow
     yellow-falls n s step link other left =
-        let fall = yellows-fall site j p times s step (link .taken) n left (λ e. other (shown s step link ∙ e)) in
+        let fall = yellows-fall site j p times s step (link .taken) n left (λ e. other (fades s step link .green e)) in
         (fall .0, shown s step link ∙ fall .1)
 
     red-rests : Leads site j Red Red red
     red-rests s step link other e =
-        let kept = red-stays site s step (link .taken) j e (λ e. other (shown s step link ∙ e)) in
-        (kept, shown s step link ∙ kept)
+        let kept = red-stays site s step (link .taken) j e (λ e. other (fades s step link .green e)) in
+        (kept, fades s step link .red kept)
 
     -- from Y on it shows red, and has been stopped for Y + R before the start
     red-clears :
@@ -67,7 +74,7 @@ module _
     red-clears c s [] h row since =
         ⊎-elim
         (λ (row′ : Stopped site j p (suc c) (start .after .position)).
-        absurd (barred site g j apart start later greenG s since (stopped-member site j p (suc c) (start .after .position) row′)))
+        absurd (barred site g j apart start later greenG s since (stopped-member row′)))
         (λ over. (0, omega (arith, over .0), refl))
         (stopped-on site j p times s start (since .run .0 .taken) c row)
     red-clears c s (step ∷ steps) h row since =
@@ -76,7 +83,11 @@ module _
         let more = red-clears (suc c) (step .after) steps (omega arith) row′ (since-next since) in (
           suc (more .0),
           omega (arith, more .1),
-          ap₂ _∷_ (shown s step (since .run .0) ∙ stopped-red site j p (suc c) (step .after .position) row′ (omega arith)) (more .2),
+          ap₂ _∷_
+              (shown s step (since .run .0)
+              ∙ stopped-shows row′
+              ∙ rw (lt-leb (suc c) (phaseTimes (site .times) p .yellow) (omega arith)))
+              (more .2),
         ))
         (λ over. (suc (length steps), omega (arith, over .0), only-red site j start later Red red-rests s (step ∷ steps) (over .1) since))
         (stopped-on site j p times s step (since .run .0 .taken) c row)
@@ -84,7 +95,7 @@ module _
     vehicle-cleared :
         (s : State) (steps : List Taken) →
         s .position .phase ≡ p →
-        vehicleAt site j (s .position) ≡ green →
+        closingAt site j (s .position) ≡ green →
         Since site j start later s steps →
         (n : ℕ)
         × (phaseTimes (site .times) p .red ≤ n)
@@ -122,7 +133,11 @@ module _
     walk-shown s step link = pedestrian-shows site s step (link .taken) j within kind
 
     -- a step that does not show green begins no walk
-    mine-after : (s : State) (step : Taken) → ValidLink site s step → (shows step j ≡ green → ⊥) → mine (step .after) ≡ next times (mine s)
+    mine-after :
+        (s : State) (step : Taken) →
+        ValidLink site s step →
+        (shows step j ≡ green → ⊥) →
+        mine (step .after) ≡ next (mayEnd site s (step .inputs)) times (mine s)
     mine-after s step link other =
         movement-after site s step (link .taken) (movementOf (site .groups) j) (omega (arith, below, sound .movements))
         (λ e. other (walk-shown s step link ∙ e))
@@ -131,17 +146,18 @@ module _
     flashing-falls n s step link other left =
         let here = mine-after s step link other in
         let shown = rw here at (walk-shown s step link) in
-        let fall = flashes-fall times (walk-reached site sound (movementOf (site .groups) j) below) n (mine s) left (λ e. other (shown ∙ e)) in
+        let may = mayEnd site s (step .inputs) in
+        let fall = flashes-fall times (walk-reached site sound (movementOf (site .groups) j) below) may n (mine s) left (λ e. other (shown ∙ e)) in
         (rw here (fall .0), shown ∙ fall .1)
 
     -- idle, or in the last step of C2
     abbrev Idles : State → Type 0
-    Idles s = next times (mine s) .stage ≡ Idle
+    Idles s = (mayEnd : Bool) → next mayEnd times (mine s) .stage ≡ Idle
 
     idle-rests : Leads site j Idles Idles red
     unfolding movementColour
     idle-rests s step link other e =
-        let idle = ap (λ (m : Movement). m .stage) (mine-after s step link other) ∙ e in
+        let idle = ap (λ (m : Movement). m .stage) (mine-after s step link other) ∙ e (mayEnd site s (step .inputs)) in
         (idle-stays times (mine (step .after)) idle, walk-shown s step link ∙ ap movementColour idle)
 
     pedestrian-cleared :
@@ -180,7 +196,7 @@ module _
       by-kind false kind =
           let p = last .after .position .phase in
           let times = phase-timed site sound p (link .there .phase) in
-          rw kind (vehicle-cleared kind p times (last .after) steps refl (sym (shown kind p times s last link) ∙ e) since)
+          rw kind (vehicle-cleared kind p times (last .after) steps refl (fades kind p times s last link .was-green e) since)
 
 -- ── Runs ──
 

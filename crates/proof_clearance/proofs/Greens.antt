@@ -10,7 +10,7 @@ use Rattle.rules.specs.declared.state.State.{State}
 use Rattle.rules.specs.Site.{inPhase, isPedestrian, movementOf, conflict}
 use Rattle.rules.specs.Intervals.{isIdle}
 use Rattle.rules.specs.State.{fresh, movement}
-use Rattle.rules.specs.Colours.{green, colourOf}
+use Rattle.rules.specs.Colours.{green, shownIn}
 use Rattle.rules.specs.Runs.{Taken, shows, NoConflictingGreens}
 use Rattle.rules.specs.Laws.{Sound}
 use Rattle.proof_runs.proofs.ValidStates.{ValidState}
@@ -30,7 +30,7 @@ module _ (site : Site) (sound : Sound site) (s : State) (sane : ValidState site 
       sym (sound .crossingOfGroup g within kind (s .position .phase)) ∙ told .ofPhase busy .1
 
   -- In a valid state a group that shows green has the phase in its set.
-  green-has-phase : colourOf (site .groups) (s .position) (s .movements) g ≡ green → inPhase (site .groups) g (s .position .phase) ≡ true
+  green-has-phase : shownIn site s g ≡ green → inPhase (site .groups) g (s .position .phase) ≡ true
   unfolding isIdle
   green-has-phase e = by-kind (isPedestrian (site .groups) g) refl
     where

@@ -2,7 +2,7 @@
 -- by one with each step that does not show green; after the last of them the movement is idle.
 use Prim.Native.Nat.{ℕ, suc, _+_, _≤_, _<_}
 use native.Mathlib.Omega.{arith}
-use mathlib.Core.Bool.{true, false}
+use mathlib.Core.Bool.{Bool, true, false, _&&_}
 use mathlib.Core.Logic.{⊎-elim}
 use mathlib.Core.Path.{_≡_, refl, ap, _∙_}
 use lib.Dec.{leb}
@@ -20,7 +20,7 @@ use Rattle.rules.specs.Colours.{green, flashing, movementColour}
 use Rattle.rules.specs.Runs.{Taken}
 use Rattle.rules.proofs.Tests.{decided}
 use Rattle.rules.proofs.Settings.{Reached}
-use Rattle.proof_runs.proofs.Steps.{moved, begun, movement-of}
+use Rattle.proof_runs.proofs.Steps.{mayEnd, moved, begun, movement-of}
 use Rattle.proof_runs.proofs.Chains.{Link}
 
 -- ── Flashing steps still to come ──
@@ -38,43 +38,43 @@ flashes-busy times n m (in-walk e c) = rw e
 flashes-busy times n m (in-first e l c) = rw e
 flashes-busy times n m (in-second e c) = rw e
 
--- the movement after part 2 of a step
-abbrev pub next : WalkTimes → Movement → Movement
-next times m = advanced (m .stage) times (m .age)
+-- the movement after part 2 of a step, by whether a walk may end in it
+abbrev pub next : Bool → WalkTimes → Movement → Movement
+next mayEnd times m = advanced mayEnd (m .stage) times (m .age)
 
 module _ (times : WalkTimes) (reached : Reached times) where
   -- a step that does not show green is one of the flashing ones
   pub flashes-fall :
-      (n : ℕ) (m : Movement) →
+      (mayEnd : Bool) (n : ℕ) (m : Movement) →
       FlashesLeft times (suc n) m →
-      (movementColour (next times m .stage) ≡ green → ⊥) →
-      FlashesLeft times n (next times m) × (movementColour (next times m .stage) ≡ flashing)
+      (movementColour (next mayEnd times m .stage) ≡ green → ⊥) →
+      FlashesLeft times n (next mayEnd times m) × (movementColour (next mayEnd times m .stage) ≡ flashing)
   unfolding advanced lasting movementColour older
-  flashes-fall n m (in-walk e c) other =
+  flashes-fall mayEnd n m (in-walk e c) other =
       ⊎-elim
-      (λ (h : leb (times .walk) (m .age) ≡ true). rw (e, h) (in-first refl (omega arith) (omega arith), refl))
-      (λ (h : leb (times .walk) (m .age) ≡ false). absurd (other (rw (e, h))))
-      (decided (leb (times .walk) (m .age)))
-  flashes-fall n m (in-first e l c) other =
+      (λ (h : (mayEnd && leb (times .walk) (m .age)) ≡ true). rw (e, h) (in-first refl (omega arith) (omega arith), refl))
+      (λ (h : (mayEnd && leb (times .walk) (m .age)) ≡ false). absurd (other (rw (e, h))))
+      (decided (mayEnd && leb (times .walk) (m .age)))
+  flashes-fall mayEnd n m (in-first e l c) other =
       ⊎-elim
       (λ (h : leb (times .first) (m .age) ≡ true). rw (e, h) (in-second refl (omega (arith, leb-true)), refl))
       (λ (h : leb (times .first) (m .age) ≡ false).
       rw (e, h) (in-first refl (omega (arith, leb-false)) (omega (arith, leb-false)), refl))
       (decided (leb (times .first) (m .age)))
-  flashes-fall n m (in-second e c) other =
+  flashes-fall mayEnd n m (in-second e c) other =
       rw (e, lt-leb (times .second) (m .age) (omega arith)) (in-second refl (omega arith), refl)
 
   -- after the last flashing step the movement is idle
-  pub flashes-over : (m : Movement) → FlashesLeft times 0 m → next times m .stage ≡ Idle
+  pub flashes-over : (m : Movement) → FlashesLeft times 0 m → (mayEnd : Bool) → next mayEnd times m .stage ≡ Idle
   unfolding advanced lasting
-  flashes-over m (in-walk e c) = absurd (omega arith)
-  flashes-over m (in-first e l c) = absurd (omega arith)
-  flashes-over m (in-second e c) = rw (e, le-leb (times .second) (m .age) (omega arith))
+  flashes-over m (in-walk e c) mayEnd = absurd (omega arith)
+  flashes-over m (in-first e l c) mayEnd = absurd (omega arith)
+  flashes-over m (in-second e c) mayEnd = rw (e, le-leb (times .second) (m .age) (omega arith))
 
 -- an idle movement stays idle in part 2
-pub idle-stays : (times : WalkTimes) (m : Movement) → m .stage ≡ Idle → next times m .stage ≡ Idle
+pub idle-stays : (times : WalkTimes) (m : Movement) → m .stage ≡ Idle → (mayEnd : Bool) → next mayEnd times m .stage ≡ Idle
 unfolding advanced
-idle-stays times m e = rw e
+idle-stays times m e mayEnd = rw e
 
 -- ── Steps ──
 
@@ -82,7 +82,7 @@ module _ (site : Site) (s : State) (step : Taken) (link : Link site s step) (k :
   -- where no walk begins, the movement is the one after part 2
   pub movement-after :
       (movementColour (movement (step .after) k .stage) ≡ green → ⊥) →
-      movement (step .after) k ≡ next (walkTimes (site .times) k) (movement s k)
+      movement (step .after) k ≡ next (mayEnd site s (step .inputs)) (walkTimes (site .times) k) (movement s k)
   unfolding moved movementColour
   movement-after other =
       let here = ap (λ (t : State). movement t k) (link .after) ∙ movement-of site s (step .inputs) k room in

@@ -3,34 +3,47 @@ use Prim.Native.Nat.{ℕ, _<_}
 use native.Mathlib.Omega.{arith}
 use mathlib.Core.Bool.{Bool, true, false}
 use mathlib.Core.Path.{_≡_, refl, _∙_}
+use lib.Dec.{eqb}
 use Rattle.rules.specs.declared.site.Site.{Site}
+use Rattle.rules.specs.declared.state.Held.{Held}
 use Rattle.rules.specs.declared.state.Position.{Position}
 use Rattle.rules.specs.declared.state.Stage.{Stage}
 use Rattle.rules.specs.declared.state.Stage.the-variants.{Idle, Walk, ClearanceOne, ClearanceTwo}
 use Rattle.rules.specs.declared.state.State.{State}
 use Rattle.rules.specs.Rows.{if_then_else_}
 use Rattle.rules.specs.Site.{groupOf, inPhase, isPedestrian, movementOf}
+use Rattle.rules.specs.Intervals.{heldIn}
 use Rattle.rules.specs.State.{movement}
-use Rattle.rules.specs.Colours.{red, green, vehicleColour, movementColour, vehicleShown, colourOf}
+use Rattle.rules.specs.Colours.{red, green, closing, vehicleColour, movementColour, vehicleShown, colourOf, shownIn}
 use Rattle.rules.specs.Runs.{Taken, shows}
 use Rattle.proof_runs.proofs.Chains.{Link}
 
--- the colour of a vehicle group at a position
-abbrev pub vehicleAt : Site → ℕ → Position → ℕ
-vehicleAt site g position =
+-- group g has the phase held in its set
+abbrev pub keeps : Site → ℕ → Held → Bool
+keeps site g held = heldIn held (groupOf (site .groups) g .phases)
+
+abbrev pub stopsEarly : Site → ℕ → Bool
+stopsEarly site g = eqb (groupOf (site .groups) g .mark) 3
+
+-- the colour of a vehicle group at a position, by whether groups that stop early are closing
+abbrev pub vehicleBy : Site → ℕ → Bool → Position → ℕ
+vehicleBy site g closes position =
     if inPhase (site .groups) g (position .phase)
-    then vehicleColour (position .interval) (position .came) (position .target) (groupOf (site .groups) g)
+    then vehicleColour (position .interval) closes (position .came) (position .target) (groupOf (site .groups) g)
     else red
+
+abbrev pub vehicleAt : Site → ℕ → Position → ℕ
+vehicleAt site g position = vehicleBy site g (closing (site .times) position) position
 
 -- ── In a state ──
 
 module _ (site : Site) (s : State) (g : ℕ) where
-  pub vehicle-colour : isPedestrian (site .groups) g ≡ false → colourOf (site .groups) (s .position) (s .movements) g ≡ vehicleAt site g (s .position)
-  unfolding colourOf vehicleShown inPhase
+  pub vehicle-colour : isPedestrian (site .groups) g ≡ false → shownIn site s g ≡ vehicleAt site g (s .position)
+  unfolding shownIn colourOf vehicleShown inPhase
   vehicle-colour kind = rw kind
 
-  pub pedestrian-colour : isPedestrian (site .groups) g ≡ true → colourOf (site .groups) (s .position) (s .movements) g ≡ movementColour (movement s (movementOf (site .groups) g) .stage)
-  unfolding colourOf movement
+  pub pedestrian-colour : isPedestrian (site .groups) g ≡ true → shownIn site s g ≡ movementColour (movement s (movementOf (site .groups) g) .stage)
+  unfolding shownIn colourOf movement
   pedestrian-colour kind = rw kind
 
 -- ── After an accepted step ──

@@ -1,9 +1,9 @@
--- The colours of a vehicle group from one interval to the next. Green is followed by green, unless running ends for a target that is
--- not in the group's set: then yellow and all-red of the phase are shown as such. Red is followed by red or green.
-use Prim.Native.Nat.{ℕ, suc, _<_}
+-- The colours of a vehicle group from one interval to the next, with groups that stop early taken as closing: what is shown differs from
+-- that only where such a group's yellow has turned to red. Red is followed by red or green; one that has the target starts it in green.
+use Prim.Native.Nat.{ℕ}
 use native.Mathlib.Omega.{arith}
-use mathlib.Core.Bool.{Bool, true, false, not, _&&_, true≢false}
-use mathlib.Core.Logic.{_⊎_, inl, inr, ⊎-elim}
+use mathlib.Core.Bool.{Bool, true, false, not, _&&_, _||_, true≢false}
+use mathlib.Core.Logic.{_⊎_, inl, inr}
 use mathlib.Core.Path.{_≡_, refl, sym}
 use lib.Dec.{eqb}
 use Rattle.rules.specs.declared.site.Group.{Group}
@@ -12,17 +12,57 @@ use Rattle.rules.specs.declared.site.Times.{Times}
 use Rattle.rules.specs.declared.state.Held.{Held}
 use Rattle.rules.specs.declared.state.Held.the-variants.{Nothing, Phase}
 use Rattle.rules.specs.declared.state.Interval.{Interval}
-use Rattle.rules.specs.declared.state.Interval.the-variants.{StartRed, LateStart, MinimumGreen, Running, Yellow, AllRed}
+use Rattle.rules.specs.declared.state.Interval.the-variants.{StartRed, LateStart, MinimumGreen, Running, EarlyCutOff, Yellow, AllRed}
 use Rattle.rules.specs.declared.state.Position.{Position}
 use Rattle.rules.specs.Rows.{if_then_else_}
 use Rattle.rules.specs.Site.{groupOf, inPhase, phaseTimes}
 use Rattle.rules.specs.Intervals.{heldIn, phaseHeld}
-use Rattle.rules.specs.State.{highestAge}
-use Rattle.rules.specs.Movements.{older}
-use Rattle.rules.specs.Interval.{entering, starting, following, staying}
+use Rattle.rules.specs.Interval.{entering, starting, leaving, following}
 use Rattle.rules.specs.Colours.{red, yellow, green, vehicleColour}
-use Rattle.rules.proofs.Tests.{decided}
-use Rattle.proof_clearance.proofs.Shown.{vehicleAt}
+use Rattle.proof_clearance.proofs.Shown.{keeps, stopsEarly, vehicleBy, vehicleAt}
+
+-- ── Closing, and what is shown ──
+
+-- What is shown, and what would be while closing, are the same, or red is shown in place of yellow.
+pub record Fades (shown closing : ℕ) : Type 0 where
+  pub was-green : shown ≡ green → closing ≡ green
+  pub green : closing ≡ green → shown ≡ green
+  pub red : closing ≡ red → shown ≡ red
+
+same : {colour : ℕ} → Fades colour colour
+same = record { was-green = λ e. e; green = λ e. e; red = λ e. e }
+
+-- a group that stays green, or is yellow while it closes and then red
+by-closing : (stays closes : Bool) → Fades (if stays then green else if closes then yellow else red) (if stays then green else yellow)
+by-closing true closes = same
+by-closing false true = same
+by-closing false false =
+    record { was-green = λ e. absurd (omega arith); green = λ e. absurd (omega arith); red = λ e. absurd (omega arith) }
+
+colour-fades :
+    (i : Interval) (closes : Bool) (came target : Held) (group : Group) →
+    Fades (vehicleColour i closes came target group) (vehicleColour i true came target group)
+unfolding vehicleColour
+colour-fades StartRed closes came target group = same
+colour-fades LateStart closes came target group = same
+colour-fades MinimumGreen closes came target group = same
+colour-fades Running closes came target group = same
+colour-fades EarlyCutOff closes came target group = by-closing (heldIn target (group .phases) || not (eqb (group .mark) 3)) closes
+colour-fades Yellow closes came target group = by-closing (heldIn target (group .phases)) (closes || not (eqb (group .mark) 3))
+colour-fades AllRed closes came target group = same
+
+-- what group j would show while closing
+abbrev pub closingAt : Site → ℕ → Position → ℕ
+closingAt site j position = vehicleBy site j true position
+
+pub shown-fades : (site : Site) (j : ℕ) (position : Position) → Fades (vehicleAt site j position) (closingAt site j position)
+shown-fades site j position =
+    by-phase (inPhase (site .groups) j (position .phase))
+    (colour-fades (position .interval) _ (position .came) (position .target) (groupOf (site .groups) j))
+  where
+    by-phase : (ofPhase : Bool) {a b : ℕ} → Fades a b → Fades (if ofPhase then a else red) (if ofPhase then b else red)
+    by-phase true fades = fades
+    by-phase false fades = same
 
 -- ── Choices of colours ──
 
@@ -33,15 +73,19 @@ chosen : (test : Bool) {a b : ℕ} → RedOrGreen a → RedOrGreen b → RedOrGr
 chosen true one other = one
 chosen false one other = other
 
--- green in yellow and all-red tells that the target is in the set
-green-held : (held : Bool) (colour : ℕ) → (colour ≡ green → ⊥) → (if held then green else colour) ≡ green → held ≡ true
-green-held true colour other e = refl
-green-held false colour other e = absurd (other e)
+-- green where a phase is left tells that the group stays so
+pub green-stays : (stays : Bool) (colour : ℕ) → (colour ≡ green → ⊥) → (if stays then green else colour) ≡ green → stays ≡ true
+green-stays true colour other e = refl
+green-stays false colour other e = absurd (other e)
 
--- red in running tells that the group is not of the phase, and so it is red in yellow too
-red-outside : (ofPhase : Bool) (colour : ℕ) → (if ofPhase then green else red) ≡ red → (if ofPhase then colour else red) ≡ red
-red-outside true colour e = absurd (omega arith)
-red-outside false colour e = refl
+-- red in an interval where no group of the phase is red tells that this one is none, and so it is red in the next interval too
+red-outside :
+    (ofPhase : Bool) {here : ℕ} (there : ℕ) →
+    (here ≡ red → ⊥) →
+    (if ofPhase then here else red) ≡ red →
+    (if ofPhase then there else red) ≡ red
+red-outside true there other e = absurd (other e)
+red-outside false there other e = refl
 
 -- ── The start of a phase ──
 
@@ -52,7 +96,7 @@ firstInterval noLate = if noLate then MinimumGreen else LateStart
 started-green :
     (noLate : Bool) (came : Held) (group : Group) →
     heldIn came (group .phases) ≡ true →
-    vehicleColour (firstInterval noLate) came Nothing group ≡ green
+    vehicleColour (firstInterval noLate) true came Nothing group ≡ green
 unfolding vehicleColour
 started-green true came group e = refl
 started-green false came group e = rw e (waits-not (eqb (group .mark) 1))
@@ -61,97 +105,46 @@ started-green false came group e = rw e (waits-not (eqb (group .mark) 1))
     waits-not true = refl
     waits-not false = refl
 
-started-either : (noLate : Bool) (came : Held) (group : Group) → RedOrGreen (vehicleColour (firstInterval noLate) came Nothing group)
+started-either : (noLate : Bool) (came : Held) (group : Group) → RedOrGreen (vehicleColour (firstInterval noLate) true came Nothing group)
 unfolding vehicleColour
 started-either true came group = inr refl
 started-either false came group = chosen (eqb (group .mark) 1 && not (heldIn came (group .phases))) (inl refl) (inr refl)
 
--- the target starts green where it and the phase that was left are in the set
-target-green :
-    (site : Site) (j : ℕ) (times : Times) (p : ℕ) (target : Held) →
-    inPhase (site .groups) j p ≡ true →
-    heldIn target (groupOf (site .groups) j .phases) ≡ true →
-    vehicleAt site j (starting times (phaseHeld target) (Phase p)) ≡ green
-unfolding heldIn phaseHeld inPhase starting
-target-green site j times p Nothing m h = absurd (true≢false (sym h))
-target-green site j times p (Phase q) m h = rw h (started-green (eqb (phaseTimes times q .late) 0) (Phase p) (groupOf (site .groups) j) m)
-
--- ── Leaving a phase ──
-
--- Phase p of group j is being left, in yellow or all-red at an age, for a target that is not in the group's set.
-pub record Leaving (site : Site) (j p : ℕ) (i : Interval) (a : ℕ) (position : Position) : Type 0 where
-  pub phase : position .phase ≡ p
-  pub interval : position .interval ≡ i
-  pub age : position .age ≡ a
-  pub member : inPhase (site .groups) j p ≡ true
-  pub apart : heldIn (position .target) (groupOf (site .groups) j .phases) ≡ false
-
-module _ (site : Site) (j p a : ℕ) (position : Position) where
-  pub leaving-member : (i : Interval) → Leaving site j p i a position → inPhase (site .groups) j (position .phase) ≡ true
-  leaving-member i row = rw (row .phase) (row .member)
-
-  pub leaving-yellow : Leaving site j p Yellow a position → vehicleAt site j position ≡ yellow
-  unfolding vehicleColour
-  leaving-yellow row = rw (row .phase, row .member, row .interval, row .apart)
-
-  pub leaving-all-red : Leaving site j p AllRed a position → vehicleAt site j position ≡ red
-  unfolding vehicleColour
-  leaving-all-red row = rw (row .phase, row .member, row .interval, row .apart)
-
-  pub leaving-stays : (i : Interval) → a < highestAge → Leaving site j p i a position → Leaving site j p i (suc a) (staying position)
-  unfolding staying older
-  leaving-stays i h row =
-      record { phase = row .phase; interval = row .interval; age = omega (arith, row .age); member = row .member; apart = row .apart }
-
-  -- yellow is followed by all-red
-  pub leaving-follows :
-      (times : Times) (next : Held) →
-      Leaving site j p Yellow a position →
-      Leaving site j p AllRed 1 (following (position .interval) times next position)
-  unfolding following entering
-  leaving-follows times next row =
-      rw (row .interval) (record { phase = row .phase; interval = refl; age = refl; member = row .member; apart = row .apart })
-
--- ── What follows green, and what follows red ──
-
-abbrev pub at : ℕ → Interval → ℕ → Held → Held → Position
-at p interval age came target = record { phase = p; interval = interval; age = age; came = came; target = target }
-
-module _ (site : Site) (j : ℕ) (times : Times) (next : Held) (p age : ℕ) (came target : Held) where
-  pub green-follows :
-      (i : Interval) →
+module _ (site : Site) (j : ℕ) (times : Times) where
+  -- the target starts green where it and the phase that was left are in the set
+  pub target-green :
+      (p : ℕ) (target : Held) →
       inPhase (site .groups) j p ≡ true →
-      vehicleColour i came target (groupOf (site .groups) j) ≡ green →
-      let after = following i times next (at p i age came target) in
-      (vehicleAt site j after ≡ green) ⊎ Leaving site j p Yellow 1 after
-  unfolding following entering vehicleColour
-  green-follows StartRed m e = absurd (omega arith)
-  green-follows LateStart m e = inl (rw m)
-  green-follows MinimumGreen m e = inl (rw m)
-  green-follows Running m e =
-      ⊎-elim
-      (λ (h : heldIn next (groupOf (site .groups) j .phases) ≡ true). inl (rw (m, h)))
-      (λ (h : heldIn next (groupOf (site .groups) j .phases) ≡ false).
-      inr (record { phase = refl; interval = refl; age = refl; member = m; apart = h }))
-      (decided (heldIn next (groupOf (site .groups) j .phases)))
-  green-follows Yellow m e =
-      inl (rw (m, green-held (heldIn target (groupOf (site .groups) j .phases)) yellow (λ (z : yellow ≡ green). omega arith) e))
-  green-follows AllRed m e =
-      let held = green-held (heldIn target (groupOf (site .groups) j .phases)) red (λ (z : red ≡ green). omega arith) e in
-      inl (target-green site j times p target m held)
+      keeps site j target ≡ true →
+      closingAt site j (starting times (phaseHeld target) (Phase p)) ≡ green
+  unfolding heldIn phaseHeld inPhase starting
+  target-green p Nothing m h = absurd (true≢false (sym h))
+  target-green p (Phase q) m h = rw h (started-green (eqb (phaseTimes times q .late) 0) (Phase p) (groupOf (site .groups) j) m)
 
-  pub red-follows :
-      (i : Interval) →
-      vehicleAt site j (at p i age came target) ≡ red →
-      RedOrGreen (vehicleAt site j (following i times next (at p i age came target)))
-  unfolding following entering starting vehicleColour
-  red-follows StartRed e =
+  start-either : (p : ℕ) (came : Held) → RedOrGreen (closingAt site j (starting times p came))
+  unfolding starting
+  start-either p came =
       chosen (inPhase (site .groups) j p) (started-either (eqb (phaseTimes times p .late) 0) came (groupOf (site .groups) j)) (inl refl)
-  red-follows LateStart e = chosen (inPhase (site .groups) j p) (inr refl) (inl refl)
-  red-follows MinimumGreen e = chosen (inPhase (site .groups) j p) (inr refl) (inl refl)
-  red-follows Running e = inl (red-outside (inPhase (site .groups) j p) _ e)
-  red-follows Yellow e =
-      chosen (inPhase (site .groups) j p) (chosen (heldIn target (groupOf (site .groups) j .phases)) (inr refl) (inl refl)) (inl refl)
-  red-follows AllRed e =
-      let q = phaseHeld target in
-      chosen (inPhase (site .groups) j q) (started-either (eqb (phaseTimes times q .late) 0) (Phase p) (groupOf (site .groups) j)) (inl refl)
+
+  -- ── What follows red ──
+
+  module _ (next : Held) (position : Position) where
+    abbrev ofPhase : Bool
+    ofPhase = inPhase (site .groups) j (position .phase)
+
+    pub red-follows :
+        (i : Interval) →
+        (if ofPhase then vehicleColour i true (position .came) (position .target) (groupOf (site .groups) j) else red) ≡ red →
+        RedOrGreen (closingAt site j (following i times next position))
+    unfolding following leaving entering vehicleColour
+    red-follows StartRed e = start-either (position .phase) (position .came)
+    red-follows LateStart e = chosen ofPhase (inr refl) (inl refl)
+    red-follows MinimumGreen e = chosen ofPhase (inr refl) (inl refl)
+    red-follows Running e = inl (red-outside ofPhase _ (λ (z : green ≡ red). omega arith) e)
+    red-follows EarlyCutOff e = inl (red-outside ofPhase _ (not-red (keeps site j (position .target) || not (stopsEarly site j))) e)
+      where
+        not-red : (stays : Bool) → (if stays then green else yellow) ≡ red → ⊥
+        not-red true e = omega arith
+        not-red false e = omega arith
+    red-follows Yellow e = chosen ofPhase (chosen (keeps site j (position .target)) (inr refl) (inl refl)) (inl refl)
+    red-follows AllRed e = start-either (phaseHeld (position .target)) (Phase (position .phase))

@@ -3,7 +3,7 @@
 use Prim.Native.Nat.{ℕ}
 use mathlib.Core.Bool.{true}
 use mathlib.Core.List.{List, [], _∷_}
-use mathlib.Core.Path.{_≡_, refl, ap, _∙_}
+use mathlib.Core.Path.{_≡_, refl, ap}
 use lib.Dec.{ltb}
 use lib.ListN.{length}
 use Rattle.rules.specs.declared.answer.Verdict.{Verdict}
@@ -13,10 +13,11 @@ use Rattle.rules.specs.Verdicts.{refuseIf, _orElse_}
 use Rattle.rules.specs.Personality.{verdictOf}
 use Rattle.rules.specs.Site.{siteOf}
 use Rattle.rules.specs.State.{valid}
-use Rattle.rules.specs.Call.{strayInput, stepVerdict, callVerdict, answerFor, answerOf, boundFor}
+use Rattle.rules.specs.Step.{stepped}
+use Rattle.rules.specs.Call.{strayInput, stepVerdict, handedBack, boundFor}
 use Rattle.rules.specs.Laws.{Sound, StepKeepsValid}
-use Rattle.rules.specs.Runs.{ruled, Call, Taken, takenFrom, NoDeadEnd}
-use Rattle.rules.proofs.Calls.{answer-bound}
+use Rattle.rules.specs.Runs.{Call, Taken, takenFrom, NoDeadEnd}
+use Rattle.rules.specs.Scanning.{scanVerdict, scanning}
 use Rattle.proof_runs.proofs.Linked.{Linked, reached}
 use Rattle.proof_runs.proofs.Chains.{accepted-told}
 
@@ -26,9 +27,9 @@ module _ (keeps : StepKeepsValid) (b : List ℕ) (sound : Sound (siteOf b)) wher
       (s : State) →
       valid (siteOf b) s ≡ true →
       (inputs room : ℕ) (v : Verdict) →
-      callVerdict b s inputs room ≡ v →
-      valid (siteOf b) (answerFor v (siteOf b) s inputs .state) ≡ true
-  unfolding StepKeepsValid answerFor
+      scanVerdict b s inputs room ≡ v →
+      valid (siteOf b) (handedBack v (stepped (siteOf b) s inputs) s) ≡ true
+  unfolding StepKeepsValid handedBack
   valid-for s sane inputs room Accepted e = keeps (siteOf b) sound s inputs sane (accepted-told b s inputs room e .1)
   valid-for s sane inputs room (Refused number place) e = sane
 
@@ -37,25 +38,25 @@ module _ (keeps : StepKeepsValid) (b : List ℕ) (sound : Sound (siteOf b)) wher
     abbrev own : ℕ → ℕ → Verdict
     own inputs room = refuseIf (strayInput (siteOf b) inputs) 15 0 orElse refuseIf (ltb room (siteOf b .size .groups)) 14 0
 
-    own-verdict : (s : State) → valid (siteOf b) s ≡ true → (inputs room : ℕ) → callVerdict b s inputs room ≡ own inputs room
-    unfolding callVerdict stepVerdict refuseIf _orElse_
+    own-verdict : (s : State) → valid (siteOf b) s ≡ true → (inputs room : ℕ) → scanVerdict b s inputs room ≡ own inputs room
+    unfolding scanVerdict stepVerdict refuseIf _orElse_
     own-verdict s sane inputs room = rw (known, sane)
 
     -- the call answers what its own inputs and buffer call for
     abbrev Own : State → Taken → Type 0
     Own s call = call .outcome ≡ boundFor (own (call .inputs) (call .room)) (siteOf b)
 
-    own-from : (calls : List Call) (s : State) → valid (siteOf b) s ≡ true → Linked Own s (takenFrom ruled b s calls)
-    unfolding takenFrom ruled answerOf
+    own-from : (calls : List Call) (s : State) → valid (siteOf b) s ≡ true → Linked Own s (takenFrom scanning b s calls)
+    unfolding takenFrom scanning
     own-from [] s sane = tt
     own-from (c ∷ calls) s sane =
         let room = length (c .buffer) in
-        let v = callVerdict b s (c .inputs) room in (
-          answer-bound v (siteOf b) s (c .inputs) ∙ ap (λ (w : Verdict). boundFor w (siteOf b)) (own-verdict s sane (c .inputs) room),
-          own-from calls (answerFor v (siteOf b) s (c .inputs) .state) (valid-for s sane (c .inputs) room v refl),
+        let v = scanVerdict b s (c .inputs) room in (
+          ap (λ (w : Verdict). boundFor w (siteOf b)) (own-verdict s sane (c .inputs) room),
+          own-from calls (handedBack v (stepped (siteOf b) s (c .inputs)) s) (valid-for s sane (c .inputs) room v refl),
         )
 
-    pub no-dead-end : (calls : List Call) (s : State) → valid (siteOf b) s ≡ true → NoDeadEnd (siteOf b) (takenFrom ruled b s calls)
+    pub no-dead-end : (calls : List Call) (s : State) → valid (siteOf b) s ≡ true → NoDeadEnd (siteOf b) (takenFrom scanning b s calls)
     unfolding NoDeadEnd
     no-dead-end calls s sane earlier later call split =
-        reached Own (takenFrom ruled b s calls) earlier (call ∷ later) s split (own-from calls s sane) .1 .0
+        reached Own (takenFrom scanning b s calls) earlier (call ∷ later) s split (own-from calls s sane) .1 .0

@@ -6,7 +6,7 @@ use mathlib.Core.Path.{_≡_}
 use lib.ListN.{length}
 use Rattle.rules.specs.declared.answer.Outcome.the-variants.{Stepped}
 use Rattle.rules.specs.Site.{siteOf}
-use Rattle.rules.specs.State.{fresh}
+use Rattle.rules.specs.Kept.{freshKept}
 use Rattle.rules.specs.Colours.{green}
 use Rattle.rules.specs.Runs.{ruled, Call, Taken, takenFrom, accepted, shows, comesWithin, minimumGreenBegins, registersLocked}
 use Rattle.rules.specs.Junctions.{junction}
@@ -15,7 +15,7 @@ use Rattle.rules.specs.Junctions.{junction}
 unfoldable pub NeverTogether : Type 0
 NeverTogether =
     (calls : List Call) (earlier later : List Taken) (step : Taken) →
-    accepted (takenFrom ruled junction fresh calls) ≡ earlier ++ step ∷ later →
+    accepted (takenFrom ruled junction freshKept calls) ≡ earlier ++ step ∷ later →
     shows step 0 ≡ green →
     shows step 1 ≡ green →
     ⊥
@@ -24,7 +24,7 @@ NeverTogether =
 unfoldable pub MetIn270 : Type 0
 MetIn270 =
     (calls : List Call) (earlier later : List Taken) (step : Taken) →
-    accepted (takenFrom ruled junction fresh calls) ≡ earlier ++ step ∷ later →
+    accepted (takenFrom ruled junction freshKept calls) ≡ earlier ++ step ∷ later →
     270 ≤ length later →
     registersLocked (siteOf junction) step 1 ≡ true →
     comesWithin 270 (minimumGreenBegins 1) step later ≡ true
@@ -34,7 +34,7 @@ MetIn270 =
 unfoldable pub AlwaysAnswered : Type 0
 AlwaysAnswered =
     (calls : List Call) (earlier later : List Taken) (call : Taken) →
-    takenFrom ruled junction fresh calls ≡ earlier ++ call ∷ later →
+    takenFrom ruled junction freshKept calls ≡ earlier ++ call ∷ later →
     call .inputs < 4 →
     2 ≤ call .room →
     call .outcome ≡ Stepped 270

@@ -7,13 +7,13 @@ use lib.ListN.{set}
 use Rattle.rules.specs.declared.answer.Verdict.the-variants.{Accepted}
 use Rattle.rules.specs.Personality.{verdictOf}
 use Rattle.rules.specs.Site.{siteOf}
-use Rattle.rules.specs.State.{fresh}
 use Rattle.rules.specs.Interval.{ends, following}
 use Rattle.rules.specs.Step.{stepped}
+use Rattle.rules.specs.Kept.{freshKept}
 use Rattle.rules.specs.Junctions.{junction}
 use Rattle.rules.specs.Runs.{ruled, Call, takenFrom, accepted, DemandsMet, DemandThreeOf}
 use Rattle.rules.proofs.Opened.{opened}
-use Rattle.proof_refutations.specs.Faults.{checksBy, ifAccepted, controllerBy, steppedBy, moved, agesOnly, neverAlters, leavesTheSite, endsOnTimer, choosesAgain, choosesEarlyAgain, clearing, dropsPresses, smallBound, passesTen}
+use Rattle.proof_refutations.specs.Faults.{checksBy, controllerBy, steppedBy, moved, agesOnly, neverAlters, leavesTheSite, endsOnTimer, choosesAgain, choosesEarlyAgain, clearing, dropsPresses, smallBound, passesTen}
 use Rattle.proof_refutations.specs.Refutations.{Refutations}
 use Rattle.proof_refutations.proofs.Violations.{together, starts, cut, skipped, met, answers, refuted-by-greens, refuted-by-clearance, refuted-by-yellow, unmet-by-lock, unmet-by-button, refuted-by-wait, refuted-by-refusal}
 use Rattle.proof_refutations.proofs.Witnesses.{callsFrom, crossings, shared, sharedArrow, atOnce, walkThenB, laterB, pressedAgain, longestWait}
@@ -21,7 +21,7 @@ use Rattle.proof_refutations.proofs.Witnesses.{callsFrom, crossings, sh
 -- what the runs compute with
 unfoldable computing : Unit {0}
 unfolding
-    opened checksBy ifAccepted controllerBy steppedBy moved agesOnly neverAlters leavesTheSite endsOnTimer choosesAgain choosesEarlyAgain clearing dropsPresses
+    opened checksBy controllerBy steppedBy moved agesOnly neverAlters leavesTheSite endsOnTimer choosesAgain choosesEarlyAgain clearing dropsPresses
     smallBound passesTen together starts cut skipped met answers callsFrom crossings shared sharedArrow atOnce walkThenB laterB pressedAgain longestWait
 computing = tt
 
@@ -30,11 +30,11 @@ passes-ten : ¬ DemandThreeOf (controllerBy (λ b. passesTen (verdictOf b)) step
 unfolding computing
 passes-ten = refuted-by-greens (controllerBy (λ b. passesTen (verdictOf b)) stepped) (set junction 42 3) refl (callsFrom atOnce 2 1 10) 9 0 1 refl
 
--- B starts its green in step 110. The crossing was green in step 19 for the last time, and 90 steps are less than 50 + 50.
+-- B starts its green in step 120. The crossing was green in step 29 for the last time, and 90 steps are less than 50 + 50.
 ends-on-timer : ¬ DemandThreeOf (controllerBy verdictOf (steppedBy endsOnTimer following))
 unfolding computing
 ends-on-timer =
-    refuted-by-clearance (controllerBy verdictOf (steppedBy endsOnTimer following)) (crossings 50) refl (callsFrom walkThenB 4 1 110) 18 109 1 2 refl refl
+    refuted-by-clearance (controllerBy verdictOf (steppedBy endsOnTimer following)) (crossings 50) refl (callsFrom walkThenB 4 1 120) 28 119 1 2 refl refl
 
 -- A's group stays green in yellow for C, up to step 60; then the target is B, the group goes to red, and B starts in step 71.
 chooses-again : ¬ DemandThreeOf (controllerBy verdictOf (steppedBy ends choosesAgain))
@@ -63,25 +63,25 @@ never-alters =
     let calls = callsFrom atOnce 2 1 271 in
     refuted-by-wait controller junction refl calls (unmet-by-lock controller junction refl calls 270 0 1 refl)
 
--- The press in step 21 is dropped; the bound is 270, and no walk begins in 270 further steps.
+-- The press in step 31 is dropped; the bound is 270, and no walk begins in 270 further steps.
 drops-presses : ¬ DemandThreeOf (controllerBy verdictOf dropsPresses)
 unfolding computing
 drops-presses =
     let controller = controllerBy verdictOf dropsPresses in
-    let calls = callsFrom pressedAgain 4 1 291 in
-    refuted-by-wait controller (crossings 10) refl calls (unmet-by-button controller (crossings 10) refl calls 270 20 0 refl refl)
+    let calls = callsFrom pressedAgain 4 1 301 in
+    refuted-by-wait controller (crossings 10) refl calls (unmet-by-button controller (crossings 10) refl calls 270 30 0 refl refl)
 
--- The press in step 21 waits for its own movement's clearances, then for the walk and clearances of the other crossing, then for B: 468
+-- The press in step 31 waits for its own movement's clearances, then for the walk and clearances of the other crossing, then for B: 468
 -- further steps, where the smaller bound says 420. (The bound itself says 630.)
 small-bound :
     ¬ ((b : List ℕ) →
     verdictOf b ≡ Accepted →
     (calls : List Call) →
-    DemandsMet (siteOf b) (smallBound (siteOf b)) (accepted (takenFrom ruled b fresh calls)))
+    DemandsMet (siteOf b) (smallBound (siteOf b)) (accepted (takenFrom ruled b freshKept calls)))
 unfolding computing
 small-bound holds =
-    let calls = callsFrom longestWait 4 1 441 in
-    unmet-by-button ruled (crossings 100) refl calls 420 20 0 refl refl (holds (crossings 100) refl calls)
+    let calls = callsFrom longestWait 4 1 451 in
+    unmet-by-button ruled (crossings 100) refl calls 420 30 0 refl refl (holds (crossings 100) refl calls)
 
 -- The second call is refused with 13.
 leaves-the-site : ¬ DemandThreeOf (controllerBy verdictOf leavesTheSite)

@@ -13,7 +13,6 @@ use Rattle.rules.specs.declared.answer.Outcome.{Outcome}
 use Rattle.rules.specs.declared.answer.Outcome.the-variants.{Stepped, Declined}
 use Rattle.rules.specs.declared.answer.Verdict.{Verdict}
 use Rattle.rules.specs.declared.answer.Verdict.the-variants.{Accepted}
-use Rattle.rules.specs.declared.state.State.{State}
 use Rattle.rules.specs.Verdicts.{_orElse_, refuseIf}
 use Rattle.rules.specs.Site.{siteOf, phaseTimes, walkTimes, isPedestrian, movementOf, conflict}
 use Rattle.rules.specs.State.{fresh}
@@ -42,7 +41,7 @@ yellow-first (suc y) r h = refl
 declined-not-stepped : {number place wait : ℕ} → Declined number place ≡ Stepped wait → ⊥
 declined-not-stepped h = let z : _≡_ {A = ℕ} 0 1 = cc in omega arith
 
-module _ (controller : Controller State) (b : List ℕ) (known : controller .verdict b ≡ Accepted) (calls : List Call) where
+module _ {S : Type 0} (controller : Controller S) (b : List ℕ) (known : controller .verdict b ≡ Accepted) (calls : List Call) where
   abbrev made : List Taken
   made = takenFrom controller b (controller .fresh) calls
 

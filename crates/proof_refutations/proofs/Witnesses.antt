@@ -17,7 +17,7 @@ callsFrom inputs groups step (suc n) =
 -- ── Sites ──
 
 -- A and B, and two crossings beside A with a walk of 10 and clearances that are given: groups 2 and 3. All groups of A conflict with
--- group 1, that of B, which has a detector. The greens are as short as they can be.
+-- group 1, that of B, which has a detector that calls without lock. The greens are as short as they can be.
 unfoldable pub crossings : ℕ → List ℕ
 crossings clearance =
     let phase = twos (0 ∷ 10 ∷ 10 ∷ 5 ∷ 30 ∷ 10 ∷ []) in
@@ -27,7 +27,7 @@ crossings clearance =
     (phase ++ phase)
     (1 ∷ 0 ∷ 2 ∷ 0 ∷ 1 ∷ 2 ∷ 1 ∷ 2 ∷ [])
     (fours (2 ∷ 13 ∷ 2 ∷ 2 ∷ []))
-    (1 ∷ 6 ∷ [])
+    (1 ∷ 5 ∷ [])
     (walk ++ walk)
 
 -- A, B and C: group 0, with a mark that is given, is of A and C, group 1 of B; detector 0 is of B, detector 1 of C
@@ -51,7 +51,7 @@ sharedArrow = shared 3 ++ cutOffs (30 ∷ 0 ∷ 0 ∷ [])
 unfoldable pub atOnce : ℕ → ℕ
 atOnce step = if eqb step 1 then 2 else 0
 
--- the first crossing in step 1, so that it walks from step 10 on and clears from step 20 on; detector 0 from step 30 on
+-- the first crossing in step 1, so that it walks from step 10 on; detector 0 from step 30 on, so that it clears from there on
 unfoldable pub walkThenB : ℕ → ℕ
 walkThenB step = if eqb step 1 then 2 ^ 48 else if leb 30 step then 1 else 0
 
@@ -59,10 +59,10 @@ walkThenB step = if eqb step 1 then 2 ^ 48 else if leb 30 step then 1 else 0
 unfoldable pub laterB : ℕ → ℕ
 laterB step = if eqb step 12 then 2 else if eqb step 40 then 1 else 0
 
--- the first crossing in step 1, and in step 21, when it clears
+-- the first crossing in step 1, detector 0 in step 30, and the crossing again in step 31, when it clears
 unfoldable pub pressedAgain : ℕ → ℕ
-pressedAgain step = if eqb step 1 || eqb step 21 then 2 ^ 48 else 0
+pressedAgain step = if eqb step 1 || eqb step 31 then 2 ^ 48 else if eqb step 30 then 1 else 0
 
--- the same; the second crossing in step 219, the last of the first one's clearances, so that it walks; B from then on
+-- the same; the second crossing in step 229, the last of the first one's clearances, so that it walks; B from then on
 unfoldable pub longestWait : ℕ → ℕ
-longestWait step = if eqb step 219 then 2 ^ 49 else if leb 220 step then 1 else pressedAgain step
+longestWait step = if eqb step 229 then 2 ^ 49 else if leb 230 step then 1 else pressedAgain step

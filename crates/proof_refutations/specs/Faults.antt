@@ -1,9 +1,10 @@
--- Controllers that must not pass: each is the controller of the rules with one part replaced.
+-- Controllers that must not pass: each is the controller of the rules with one part replaced. The rules are the scanning ones, on a state
+-- without the kept set; for the same calls they answer as the rules do.
 use Prim.Native.Nat.{ℕ, _+_, _-_, _^_}
-use mathlib.Core.Bool.{Bool, false, not, _&&_, _||_}
-use mathlib.Core.List.{List, _++_}
+use mathlib.Core.Bool.{Bool, not, _&&_, _||_}
+use mathlib.Core.List.{List}
 use lib.Dec.{leb, eqb}
-use lib.ListN.{length, getD, drop}
+use lib.ListN.{length}
 use Rattle.rules.specs.declared.answer.Verdict.{Verdict}
 use Rattle.rules.specs.declared.answer.Verdict.the-variants.{Accepted, Refused}
 use Rattle.rules.specs.declared.site.PhaseTimes.{PhaseTimes}
@@ -17,31 +18,26 @@ use Rattle.rules.specs.declared.state.Interval.the-variants.{StartRed, LateStar
 use Rattle.rules.specs.declared.state.Movement.{Movement}
 use Rattle.rules.specs.declared.state.Position.{Position}
 use Rattle.rules.specs.declared.state.State.{State}
-use Rattle.rules.specs.Rows.{if_then_else_, listOf, sumOf}
+use Rattle.rules.specs.Rows.{if_then_else_, sumOf}
 use Rattle.rules.specs.Verdicts.{_orElse_}
 use Rattle.rules.specs.Site.{siteOf, phaseTimes}
 use Rattle.rules.specs.Intervals.{isIdle, isWalk, isStartRed, isHeld}
-use Rattle.rules.specs.State.{fresh, movement}
+use Rattle.rules.specs.State.{fresh, movement, valid}
 use Rattle.rules.specs.Demands.{pressed, demandsAfter, nextDemanded, detected, extending}
-use Rattle.rules.specs.Movements.{movementsAfter}
+use Rattle.rules.specs.Movements.{walkMayEnd, movementsAfter}
 use Rattle.rules.specs.Counts.{countsAfter}
 use Rattle.rules.specs.Interval.{ends, following, entering, staying, countsChanged, locksLeft, starts}
 use Rattle.rules.specs.Walks.{begins, walksBegun, buttonsLeft}
 use Rattle.rules.specs.Step.{stepped}
-use Rattle.rules.specs.Colours.{coloursOf}
 use Rattle.rules.specs.WaitBound.{phaseShare, longestWalk, longestClearance}
-use Rattle.rules.specs.Call.{stepVerdict, boundFor}
+use Rattle.rules.specs.Call.{stepVerdict, boundFor, handedBack, bufferFor}
 use Rattle.rules.specs.Runs.{Controller}
 
 -- ── The rules with parts replaced ──
 
 -- the checks of a call, with a reader's verdict on the personality first
 unfoldable pub checksBy : (List ℕ → Verdict) → List ℕ → State → ℕ → ℕ → Verdict
-checksBy reads b s inputs room = reads b orElse stepVerdict (siteOf b) s inputs room
-
-unfoldable pub ifAccepted : {A : Type 0} → Verdict → A → A → A
-ifAccepted Accepted new old = new
-ifAccepted (Refused number place) new old = old
+checksBy reads b s inputs room = reads b orElse stepVerdict (siteOf b) (valid (siteOf b) s) inputs room
 
 -- The controller of the rules with a reader and a step of its own.
 unfoldable pub controllerBy : (List ℕ → Verdict) → (Site → State → ℕ → State) → Controller State
@@ -50,12 +46,9 @@ controllerBy reads step =
       verdict = reads;
       fresh = fresh;
       outcome = λ b s inputs room. boundFor (checksBy reads b s inputs room) (siteOf b);
-      next = λ b s inputs room. ifAccepted (checksBy reads b s inputs room) (step (siteOf b) s inputs) s;
+      next = λ b s inputs room. handedBack (checksBy reads b s inputs room) (step (siteOf b) s inputs) s;
       buffer =
-          λ b s inputs buffer.
-          ifAccepted (checksBy reads b s inputs (length buffer))
-          (coloursOf (siteOf b) (step (siteOf b) s inputs) ++ drop (siteOf b .size .groups) buffer)
-          buffer;
+          λ b s inputs buffer. bufferFor (checksBy reads b s inputs (length buffer)) (siteOf b) (step (siteOf b) s inputs) buffer;
       seen = λ s. s;
     }
 
@@ -70,7 +63,7 @@ steppedBy ending follow site s inputs =
     let demands = demandsAfter site s inputs in
     let next = nextDemanded site s inputs in
     let another = isHeld next in
-    let movements = movementsAfter (site .times) (s .movements) in
+    let movements = movementsAfter (site .times) (walkMayEnd (old .interval) times another (s .counts)) (s .movements) in
     let extended = detected extending site inputs (old .phase) in
     let counts = countsAfter (old .interval) times extended another (s .counts) in
     let ended = ending (old .interval) (site .times .start) times (old .age) another movements counts in

@@ -5,16 +5,17 @@ use mathlib.Core.Path.{_≡_}
 use Rattle.rules.specs.declared.answer.Verdict.the-variants.{Accepted}
 use Rattle.rules.specs.Personality.{verdictOf}
 use Rattle.rules.specs.Site.{siteOf}
-use Rattle.rules.specs.State.{fresh}
 use Rattle.rules.specs.Interval.{ends, following}
 use Rattle.rules.specs.Step.{stepped}
+use Rattle.rules.specs.Kept.{freshKept}
+use Rattle.rules.specs.Scanning.{scanning}
 use Rattle.rules.specs.Runs.{ruled, Call, takenFrom, accepted, DemandsMet, DemandThreeOf}
 use Rattle.proof_refutations.specs.Faults.{controllerBy, steppedBy, agesOnly, neverAlters, leavesTheSite, endsOnTimer, choosesAgain, choosesEarlyAgain, dropsPresses, smallBound, passesTen}
 
--- Only the part that is replaced differs: with the rules' own parts these are the rules.
+-- Only the part that is replaced differs: with the rules' own parts these are the scanning rules.
 pub record SameRules : Type 0 where
   pub step : steppedBy ends following ≡ stepped
-  pub controller : controllerBy verdictOf stepped ≡ ruled
+  pub controller : controllerBy verdictOf stepped ≡ scanning
 
 -- Setting the maximum count back when a non-locking demand drops away is not among them. Demand 3 is true of it: the demands that it
 -- speaks of are locked and button demands, which never drop away. Demand 2 shuts it out: the contract of a step gives the count.
@@ -34,6 +35,6 @@ pub record Refutations : Type 0 where
       ¬ ((b : List ℕ) →
       verdictOf b ≡ Accepted →
       (calls : List Call) →
-      DemandsMet (siteOf b) (smallBound (siteOf b)) (accepted (takenFrom ruled b fresh calls)))
+      DemandsMet (siteOf b) (smallBound (siteOf b)) (accepted (takenFrom ruled b freshKept calls)))
   -- part d
   pub leavesTheSite : ¬ DemandThreeOf (controllerBy verdictOf leavesTheSite)

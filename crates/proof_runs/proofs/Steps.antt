@@ -17,7 +17,7 @@ use Rattle.rules.specs.Site.{phaseTimes, walkTimes, crosses}
 use Rattle.rules.specs.Intervals.{isHeld, isIdle, isRunning}
 use Rattle.rules.specs.State.{idle, locked, asked, movement}
 use Rattle.rules.specs.Demands.{demandsAfter, nextDemanded, detected, extending, registersLock, registersButton}
-use Rattle.rules.specs.Movements.{advanced, movementsAfter}
+use Rattle.rules.specs.Movements.{walkMayEnd, advanced, movementsAfter}
 use Rattle.rules.specs.Counts.{countsAfter}
 use Rattle.rules.specs.Interval.{ends, positionAfter, countsChanged, clearsLock, locksLeft, starts}
 use Rattle.rules.specs.Walks.{begins, walksBegun, buttonsLeft}
@@ -38,9 +38,13 @@ module _ (site : Site) (s : State) (inputs : ℕ) where
   counted =
       countsAfter (s .position .interval) (timesNow site s) (detected extending site inputs (s .position .phase)) another (s .counts)
 
+  -- a walk that has lasted may end in this step
+  abbrev pub mayEnd : Bool
+  mayEnd = walkMayEnd (s .position .interval) (timesNow site s) another (s .counts)
+
   -- the movements after part 2
   unfoldable pub moving : List Movement
-  moving = movementsAfter (site .times) (s .movements)
+  moving = movementsAfter (site .times) mayEnd (s .movements)
 
   -- the interval ends in this step
   unfoldable pub ended : Bool
@@ -56,7 +60,7 @@ module _ (site : Site) (s : State) (inputs : ℕ) where
 
   -- movement k after part 2, and its demand after part 1
   unfoldable pub moved : ℕ → Movement
-  moved k = advanced (movement s k .stage) (walkTimes (site .times) k) (movement s k .age)
+  moved k = advanced mayEnd (movement s k .stage) (walkTimes (site .times) k) (movement s k .age)
 
   unfoldable pub askedNow : ℕ → Bool
   askedNow k = asked s k || registersButton (s .movements) inputs k
@@ -79,7 +83,7 @@ module _ (site : Site) (s : State) (inputs : ℕ) where
 
   pub moved-at : (k : ℕ) → k < 8 → getD moving k idle ≡ moved k
   unfolding moving movementsAfter moved movement
-  moved-at k h = list-at (λ (k : ℕ). advanced (movement s k .stage) (walkTimes (site .times) k) (movement s k .age)) 8 k idle h
+  moved-at k h = list-at (λ (k : ℕ). advanced mayEnd (movement s k .stage) (walkTimes (site .times) k) (movement s k .age)) 8 k idle h
 
   pub asked-at : (k : ℕ) → k < 8 → getD (demandsAfter site s inputs .buttons) k false ≡ askedNow k
   unfolding demandsAfter askedNow

@@ -22,7 +22,7 @@ use Rattle.rules.specs.Demands.{nextDemanded}
 use Rattle.rules.specs.Interval.{ends, entering, starting, following, staying}
 use Rattle.rules.proofs.Tests.{and-left, and-right, never-both}
 use Rattle.proof_runs.proofs.ValidStates.{ValidMovement, ValidState}
-use Rattle.proof_runs.proofs.Steps.{timesNow, another, ended, now, moved}
+use Rattle.proof_runs.proofs.Steps.{timesNow, another, mayEnd, ended, now, moved}
 use Rattle.proof_runs.proofs.Ends.{by-early, by-end, ended-in, none-moved}
 use Rattle.proof_validity.proofs.Stages.{cleared-idle, idle-valid, advanced-valid}
 
@@ -108,7 +108,7 @@ unfolding moved
 moved-valid site s inputs k l v =
     let m = moved site s inputs k in
     let next = nextDemanded site s inputs in
-    let kept = advanced-valid site (s .position) k (movement s k .stage) (walkTimes (site .times) k) (movement s k .age) (v .movements k l) in
+    let kept = advanced-valid site (s .position) k (mayEnd site s inputs) (movement s k .stage) (walkTimes (site .times) k) (movement s k .age) (v .movements k l) in
     by-end site s inputs (λ (p : Position). ValidMovement site p k m)
     (λ over.
     following-movement site (site .times) next (s .position) k m kept (s .position .interval) refl

@@ -19,7 +19,7 @@ use Rattle.rules.specs.Rows.{if_then_else_}
 use Rattle.rules.specs.Site.{phaseTimes, ring}
 use Rattle.rules.specs.Intervals.{isStartRed, isEarly, isLeaving, isHeld, phaseHeld}
 use Rattle.rules.specs.State.{intervalValid, targetValid, cameValid}
-use Rattle.rules.specs.Demands.{demanded, firstIn, nextDemanded}
+use Rattle.rules.specs.Demands.{demanded, firstIn, nextAfter, nextDemanded}
 use Rattle.rules.specs.Movements.{older}
 use Rattle.rules.specs.Interval.{entering, starting, following, staying}
 use Rattle.rules.specs.Laws.{Sound}
@@ -65,7 +65,7 @@ next-valid :
     Sound site →
     (s : State) (inputs : ℕ) →
     targetValid (site .size .phases) (s .position .phase) (another site s inputs) (nextDemanded site s inputs) ≡ true
-unfolding nextDemanded another isHeld targetValid turn
+unfolding nextDemanded nextAfter another isHeld targetValid turn
 next-valid site sound s inputs = step (firstIn (demanded site s inputs) (turn (ring site) (s .position .phase))) refl
   where
     step :

@@ -1,7 +1,7 @@
 -- A movement record by its stage: an idle one at age 1 is valid at every position, and part 2, which lets a stage run on or gives
 -- way to the next, keeps a record valid at the position that the state has.
 use Prim.Native.Nat.{ℕ}
-use mathlib.Core.Bool.{true, false}
+use mathlib.Core.Bool.{Bool, true, false}
 use mathlib.Core.Path.{_≡_, refl, sym, subst}
 use Rattle.rules.specs.declared.site.Site.{Site}
 use Rattle.rules.specs.declared.site.WalkTimes.{WalkTimes}
@@ -77,24 +77,24 @@ module _ (site : Site) (position : Position) (k : ℕ) where
         idleAge = λ q. refl;
       }
 
-  -- one or the other, by its age
+  -- one or the other
   lasting-valid :
-      (setting : ℕ) (stage next : Stage) (age : ℕ) →
+      (mayEnd : Bool) (setting : ℕ) (stage next : Stage) (age : ℕ) →
       isIdle stage ≡ false →
       (isWalkOrFirst stage ≡ false → isWalkOrFirst next ≡ false) →
       ValidMovement site position k (record { stage = stage; age = age }) →
-      ValidMovement site position k (lasting setting stage next age)
-  lasting-valid setting stage next age busy out v =
-      lasting-cases (ValidMovement site position k) setting stage next age (λ over. way-valid stage next age busy out v)
+      ValidMovement site position k (lasting mayEnd setting stage next age)
+  lasting-valid mayEnd setting stage next age busy out v =
+      lasting-cases (ValidMovement site position k) mayEnd setting stage next age (λ over. way-valid stage next age busy out v)
       (λ still. on-valid stage age busy v)
 
   -- part 2 keeps a movement valid at the position that the state has
   pub advanced-valid :
-      (stage : Stage) (times : WalkTimes) (age : ℕ) →
+      (mayEnd : Bool) (stage : Stage) (times : WalkTimes) (age : ℕ) →
       ValidMovement site position k (record { stage = stage; age = age }) →
-      ValidMovement site position k (advanced stage times age)
+      ValidMovement site position k (advanced mayEnd stage times age)
   unfolding advanced isIdle isWalkOrFirst
-  advanced-valid Idle times age v = v
-  advanced-valid Walk times age v = lasting-valid (times .walk) Walk ClearanceOne age refl (λ h. h) v
-  advanced-valid ClearanceOne times age v = lasting-valid (times .first) ClearanceOne ClearanceTwo age refl (λ h. refl) v
-  advanced-valid ClearanceTwo times age v = lasting-valid (times .second) ClearanceTwo Idle age refl (λ h. h) v
+  advanced-valid mayEnd Idle times age v = v
+  advanced-valid mayEnd Walk times age v = lasting-valid mayEnd (times .walk) Walk ClearanceOne age refl (λ h. h) v
+  advanced-valid mayEnd ClearanceOne times age v = lasting-valid true (times .first) ClearanceOne ClearanceTwo age refl (λ h. refl) v
+  advanced-valid mayEnd ClearanceTwo times age v = lasting-valid true (times .second) ClearanceTwo Idle age refl (λ h. h) v

@@ -18,7 +18,7 @@ use Rattle.rules.specs.Laws.{Sound}
 use Rattle.rules.proofs.Counts.{sum-at, sum-both}
 use Rattle.proof_runs.proofs.ValidStates.{ValidState, target-below}
 use Rattle.proof_runs.proofs.Steps.{timesNow}
-use Rattle.proof_waits.proofs.Stages.{longestWalk, longestClearance, outs, idles, out-most, clear-most}
+use Rattle.proof_waits.proofs.Stages.{longestWalk, longestClearance, outs, idles, outs-most, clear-most}
 use Rattle.rules.proofs.Settings.{Timed, phase-timed, start-timed}
 use Rattle.proof_waits.proofs.Left.{Each, leavingTime, visit, fromLeaving, fromRunning, LeftIn, Left}
 use Rattle.proof_waits.proofs.Falls.{running-whole}
@@ -103,7 +103,7 @@ module _
         (i : Interval) →
         s .position .interval ≡ i →
         LeftIn site ahead onward i own (s .position) (s .counts .maximum) (outs site s) (idles site s) (waitBound site)
-    unfolding isLeaving isStartRed again fromRunning fromLeaving visit outs
+    unfolding isLeaving isStartRed again fromRunning fromLeaving visit
     within StartRed e = omega (arith, bound, far (s .position .phase) (v .phase), start-timed site sound, v .age)
     within LateStart e = omega (arith, bound, fits (rw e refl) (rw e refl), clear, times, v .age)
     within MinimumGreen e = omega (arith, bound, fits (rw e refl) (rw e refl), clear, times, v .age)
@@ -114,7 +114,7 @@ module _
         (outs site s)
         (waitBound site)
         (times .maximum .0)
-        (λ k l. out-most site sound (s .position) k (movement s k) (v .movements k l))
+        (outs-most site sound s v)
         (omega (arith, bound, fits (rw e refl) (rw e refl), clear))
     -- in a phase whose time is 0 the state may stand there for one step, which start red pays for
     within EarlyCutOff e = leaving-within (rw e refl) _ (omega (arith, times, start-timed site sound, v .age))

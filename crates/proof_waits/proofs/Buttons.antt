@@ -1,5 +1,6 @@
 -- A button demand of a movement m of phase q: its walk begins when phase q starts. While phase q has a movement m that is idle and
--- demanded, running either begins the walk or goes on to another phase, and while m is not idle the steps until it is fall.
+-- demanded, running either begins the walk or goes on to another phase, and while m is not idle the steps until it is fall. While the demand
+-- stands m is not in walk, for a press in walk is not registered and the beginning of a walk clears the demand: no walk that rests is waited for.
 use Prim.Native.Nat.{ℕ, zero, suc, _<_}
 use mathlib.Core.Bool.{true, false, not}
 use mathlib.Core.Logic.{_⊎_, inl, inr, ⊎-elim}
@@ -23,7 +24,7 @@ use Rattle.rules.specs.Runs.{Taken, inWalk, walkBegins}
 use Rattle.rules.proofs.Tests.{and-right, and-both, or-left, or-right, decided, never-both, not-false-true}
 use Rattle.rules.proofs.Counts.{same-or-apart}
 use Rattle.proof_runs.proofs.ValidStates.{ValidState}
-use Rattle.proof_runs.proofs.Steps.{another, ended, now, started, moved, askedNow, begun, position-of, asked-of, movement-of}
+use Rattle.proof_runs.proofs.Steps.{another, mayEnd, ended, now, started, moved, askedNow, begun, position-of, asked-of, movement-of}
 use Rattle.proof_runs.proofs.Demanded.{button-demands}
 use Rattle.proof_runs.proofs.Ends.{ended-in, now-in}
 use Rattle.proof_runs.proofs.Runs.{ValidLink}
@@ -78,7 +79,7 @@ module _
       unfolding inWalk moved
       still-kept h =
           ap (λ (k : Movement). isWalk (k .stage)) (moved-on site s inputs m button-room quiet)
-          ∙ walk-kept-out (walkTimes (site .times) m) (movement s m .age) (movement s m .stage) h
+          ∙ walk-kept-out (mayEnd site s inputs) (walkTimes (site .times) m) (movement s m .age) (movement s m .stage) h
 
       -- the phase does not start: the walk would begin
       not-started : started site s inputs ≡ true → now site s inputs .phase ≡ q → ⊥
@@ -95,14 +96,16 @@ module _
           let running = ap (λ (p : Position). isRunning (p .interval)) now ∙ ap isRunning i in
           let times = walkTimes (site .times) m in
           let still =
-          idle-kept times (movement s m .age) (movement s m .stage) (idle-told times (movement s m .age) (movement s m .stage) z) in
+          idle-kept (mayEnd site s inputs) times (movement s m .age) (movement s m .stage)
+          (idle-told times (movement s m .age) (movement s m .stage) z) in
           never-both
           (and-both (and-both standing (ap (crosses (site .crossings) m) phase ∙ crossing))
           (or-right (started site s inputs) (and-both (and-both running (ap not a)) still)))
           quiet
 
-      module _ (v : ValidState site s) (v' : ValidState site next) where
+      module _ (v : ValidState site s) (v' : ValidState site next) (still : inWalk s m ≡ false) where
         stand : Standing site (ahead site q 0) (onward site q 0) q s inputs (idles site s m) (idles site next m)
+        unfolding inWalk
         stand =
             let demanded = button-demands site s inputs m q button-room exists crossing standing in
             record {
@@ -113,7 +116,7 @@ module _
                   (λ (same : s .position .phase ≡ q). not-false-true (another site s inputs) (not-alone i same z))
                   (demanded-another site q 0 sound below s inputs demanded)
                   (same-or-apart (s .position .phase) q);
-              fewer = idles-fall site s inputs sound v m button-room quiet;
+              fewer = idles-fall site s inputs sound v m button-room still quiet;
               gone = gone next v';
             }
 
@@ -153,7 +156,7 @@ module _
                 });
             falls = λ n left.
                 rw (link .taken .after)
-                (button-falls s (step .inputs) standing b (link .here) (rw (link .taken .after) at (link .there)) n left);
+                (button-falls s (step .inputs) standing b (link .here) (rw (link .taken .after) at (link .there)) still n left);
           }))
           (decided (begun site s (step .inputs) m))
 

@@ -53,7 +53,7 @@ each-falls timer timer' more n count count' first some falls h = (first, λ k l.
 pub running-whole :
     (own maximum count walk more : ℕ) (out : ℕ → ℕ) (n : ℕ) →
     1 ≤ maximum →
-    ((k : ℕ) → k < 8 → out k ≤ walk) →
+    ((k : ℕ) → k < 8 → out k ≤ maximum + walk) →
     own + (maximum + walk + more) ≤ n →
     RunningLeft own maximum count walk more out n
 running-whole zero maximum count walk more out n some most h = (omega arith, (omega arith, λ k l. omega (arith, most k l)))
@@ -70,7 +70,7 @@ pub running-stays :
     (own own' maximum count count' walk more : ℕ) (out out' : ℕ → ℕ) (n : ℕ) →
     1 ≤ maximum →
     count ≤ maximum →
-    ((k : ℕ) → k < 8 → out' k ≤ walk) →
+    ((k : ℕ) → k < 8 → out' k ≤ maximum + walk) →
     own' ≤ own - 1 →
     (own ≡ 0 → count' ≡ min (count + 1) maximum) →
     (own ≡ 0 → (k : ℕ) → k < 8 → out' k ≤ out k - 1) →

@@ -17,7 +17,8 @@ abbrev pub Each : (timer more : ℕ) → (ℕ → ℕ) → ℕ → Type 0
 Each timer more count n = (timer + more ≤ n) × ((k : ℕ) → k < 8 → count k + more ≤ n)
 
 -- Running, where the demanded movement still takes `own` steps until it is idle: once it is idle, what is left of the maximum green
--- and of each movement's walk and C1; before that the whole of both may come after it.
+-- and of each movement's walk and C1, in which a walk may rest for what is left of the maximum green; before that the whole of both may come
+-- after it.
 abbrev pub RunningLeft : (own maximum count walk more : ℕ) → (ℕ → ℕ) → ℕ → Type 0
 RunningLeft zero maximum count walk more out n = (1 + more ≤ n) × Each (maximum - count) more out n
 RunningLeft (suc own) maximum count walk more out n = suc own + (maximum + walk + more) ≤ n

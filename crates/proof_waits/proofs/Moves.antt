@@ -4,6 +4,7 @@ use mathlib.Core.Bool.{Bool, true, false, not, _&&_, _||_}
 use mathlib.Core.Logic.{_⊎_, inl, inr, ⊎-elim}
 use mathlib.Core.Path.{_≡_, refl, sym, ap, _∙_}
 use lib.Dec.{leb, eqb}
+use native.Mathlib.Omega.{arith}
 use borrow.Author.Tests.{leb-false, eqb-false, not-false}
 use Rattle.rules.specs.declared.site.PhaseTimes.{PhaseTimes}
 use Rattle.rules.specs.declared.site.Site.{Site}
@@ -16,40 +17,31 @@ use Rattle.rules.specs.declared.state.Stage.{Stage}
 use Rattle.rules.specs.declared.state.State.{State}
 use Rattle.rules.specs.Rows.{if_then_else_}
 use Rattle.rules.specs.Site.{walkTimes, crosses}
-use Rattle.rules.specs.Intervals.{isIdle, isWalkOrFirst, isSecond, isRunning, isBeforeStart}
+use Rattle.rules.specs.Intervals.{isIdle, isWalk, isWalkOrFirst, isSecond, isRunning, isLeaving, isBeforeStart}
 use Rattle.rules.specs.State.{movement}
 use Rattle.rules.specs.Demands.{nextDemanded}
+use Rattle.rules.specs.Movements.{walkMayEnd}
 use Rattle.rules.specs.Counts.{countsAfter, maximumAfter}
 use Rattle.rules.specs.Interval.{someMovement, ends, following, staying, countsChanged}
 use Rattle.rules.specs.Step.{stepped}
 use Rattle.rules.specs.Laws.{Sound}
 use Rattle.rules.proofs.Tests.{and-false-left, and-false-right, and-false-cases, or-false-both, or-false-right}
 use Rattle.proof_runs.proofs.ValidStates.{ValidState}
-use Rattle.proof_runs.proofs.Steps.{timesNow, another, counted, moving, ended, now, started, moved, askedNow, begun, counts-of, movement-of}
-use Rattle.proof_runs.proofs.Ends.{ended-in, now-in, started-in, some-moved}
-use Rattle.proof_waits.proofs.Stages.{outs, idles, untilOut, untilIdle, out-falls, idle-falls, out-some, idle-some, stage-reached}
+use Rattle.proof_runs.proofs.Steps.{timesNow, another, counted, mayEnd, moving, ended, now, started, moved, askedNow, begun, counts-of, movement-of}
+use Rattle.proof_runs.proofs.Ends.{ended-in, now-in, next-in, started-in, some-moved}
+use Rattle.proof_waits.proofs.Stages.{greenLeft, outs, idles, out-of-walk, untilOut, untilIdle, out-falls, idle-falls, out-some, idle-some, stage-reached}
 
 rises : (times : PhaseTimes) (count : ℕ) → maximumAfter Running times true count ≡ min (count + 1) (times .maximum)
 unfolding maximumAfter isRunning
 rises times count = refl
 
+-- where a walk that has lasted may not end, the maximum count is not reached
+rests : (times : PhaseTimes) (counts : Counts) → walkMayEnd Running times true counts ≡ false → counts .maximum ≡ times .maximum → ⊥
+unfolding walkMayEnd isRunning
+rests times counts h = eqb-false _ _ (or-false-right (eqb (counts .gap) 0) (eqb (counts .maximum) (times .maximum)) h)
+
 module _ (site : Site) (s : State) (inputs : ℕ) where
-  -- ── The maximum count ──
-
-  counts-stay : ended site s inputs ≡ false → stepped site s inputs .counts ≡ counted site s inputs
-  unfolding countsChanged
-  counts-stay h = counts-of site s inputs ∙ rw h
-
-  pub maximum-rises :
-      s .position .interval ≡ Running →
-      another site s inputs ≡ true →
-      ended site s inputs ≡ false →
-      stepped site s inputs .counts .maximum ≡ min (s .counts .maximum + 1) (timesNow site s .maximum)
-  unfolding counted countsAfter
-  maximum-rises e a h =
-      ap (λ (c : Counts). c .maximum) (counts-stay h) ∙ rw (a, e) (rises (timesNow site s) (s .counts .maximum))
-
-  -- ── The movements ──
+  -- ── Walks that begin ──
 
   -- no walk begins where no phase starts, unless the interval is now running and no other phase is demanded
   quiet :
@@ -63,7 +55,7 @@ module _ (site : Site) (s : State) (inputs : ℕ) where
       (or-false-both h (and-false-left (isIdle (moved site s inputs k .stage)) r))
 
   -- in a known interval: none where no phase starts and the interval is not running now
-  pub quiet-in :
+  quiet-in :
       (i : Interval) (e : s .position .interval ≡ i) (t : Bool) (h : ended site s inputs ≡ t) →
       (t && isBeforeStart i) ≡ false →
       isRunning ((if t then following i (site .times) (nextDemanded site s inputs) (s .position) else staying (s .position)) .interval) ≡ false →
@@ -73,34 +65,8 @@ module _ (site : Site) (s : State) (inputs : ℕ) where
       quiet (started-in site s inputs i e t h ∙ none)
       (and-false-left _ (ap (λ (p : Position). isRunning (p .interval)) (now-in site s inputs i e t h) ∙ stops))
 
-  -- in running: none where another phase is demanded
-  pub quiet-demanded :
-      s .position .interval ≡ Running →
-      another site s inputs ≡ true →
-      ended site s inputs ≡ false →
-      (k : ℕ) →
-      begun site s inputs k ≡ false
-  quiet-demanded e a h = quiet (started-in site s inputs Running e false h) (and-false-right (isRunning (now site s inputs .interval)) (ap not a))
-
   pub moved-on : (k : ℕ) → k < 8 → begun site s inputs k ≡ false → movement (stepped site s inputs) k ≡ moved site s inputs k
   moved-on k l b = movement-of site s inputs k l ∙ rw b
-
-  module _ (sound : Sound site) (v : ValidState site s) where
-    pub outs-fall : (k : ℕ) → k < 8 → begun site s inputs k ≡ false → outs site (stepped site s inputs) k ≤ outs site s k - 1
-    unfolding outs moved
-    outs-fall k l b =
-        rw (moved-on k l b)
-        (out-falls (walkTimes (site .times) k) (movement s k .age) (movement s k .stage)
-        (stage-reached site sound (s .position) k (movement s k) (v .movements k l)))
-
-    pub idles-fall : (k : ℕ) → k < 8 → begun site s inputs k ≡ false → idles site (stepped site s inputs) k ≤ idles site s k - 1
-    unfolding idles moved
-    idles-fall k l b =
-        rw (moved-on k l b)
-        (idle-falls (walkTimes (site .times) k) (movement s k .age) (movement s k .stage)
-        (stage-reached site sound (s .position) k (movement s k) (v .movements k l)))
-
-  -- ── What holds an interval up ──
 
   -- a movement that part 2 leaves in such a stage, where no walk begins, has a count in the next state
   some-counted :
@@ -119,22 +85,79 @@ module _ (site : Site) (s : State) (inputs : ℕ) where
             (counts (walkTimes (site .times) (w .0)) (moved site s inputs (w .0) .age) (moved site s inputs (w .0) .stage) (w .2)),
       )
 
-  -- running goes on though another phase is demanded: a movement is in walk or C1, or the maximum count is not reached
-  pub running-held :
-      s .position .interval ≡ Running →
-      another site s inputs ≡ true →
-      ended site s inputs ≡ false →
-      ((k : ℕ) × (k < 8) × (1 ≤ outs site (stepped site s inputs) k))
-      ⊎ (stepped site s inputs .counts .maximum ≡ timesNow site s .maximum → ⊥)
-  unfolding ends outs
-  running-held e a h =
-      let counts = counts-stay h in
-      ⊎-elim
-      (λ (b : (true && not (someMovement isWalkOrFirst (moving site s inputs))) ≡ false).
-      inl (some-counted untilOut isWalkOrFirst out-some (quiet-demanded e a h) (not-false _ b)))
-      (λ (b : (eqb (counted site s inputs .gap) 0 || eqb (counted site s inputs .maximum) (timesNow site s .maximum)) ≡ false).
-      inr (λ q. eqb-false _ _ (or-false-right (eqb (counted site s inputs .gap) 0) _ b) (ap (λ (c : Counts). c .maximum) (sym counts) ∙ q)))
-      (and-false-cases _ _ (rw (ended-in site s inputs Running e, a) at h))
+  -- ── Running goes on though another phase is demanded ──
+
+  module _ (e : s .position .interval ≡ Running) (a : another site s inputs ≡ true) (h : ended site s inputs ≡ false) where
+    counts-stay : stepped site s inputs .counts ≡ counted site s inputs
+    unfolding countsChanged
+    counts-stay = counts-of site s inputs ∙ rw h
+
+    pub maximum-rises : stepped site s inputs .counts .maximum ≡ min (s .counts .maximum + 1) (timesNow site s .maximum)
+    unfolding counted countsAfter
+    maximum-rises = ap (λ (c : Counts). c .maximum) counts-stay ∙ rw (a, e) (rises (timesNow site s) (s .counts .maximum))
+
+    green-falls : greenLeft site (stepped site s inputs) ≤ greenLeft site s - 1
+    unfolding staying
+    green-falls = rw (next-in site s inputs Running e false h, maximum-rises) (omega arith)
+
+    quiet-demanded : (k : ℕ) → begun site s inputs k ≡ false
+    quiet-demanded =
+        quiet (started-in site s inputs Running e false h) (and-false-right (isRunning (now site s inputs .interval)) (ap not a))
+
+    -- each movement comes nearer to be out of walk and C1
+    pub outs-fall : Sound site → ValidState site s → (k : ℕ) → k < 8 → outs site (stepped site s inputs) k ≤ outs site s k - 1
+    unfolding outs moved
+    outs-fall sound v k l =
+        rw (moved-on k l (quiet-demanded k))
+        (out-falls (mayEnd site s inputs) (walkTimes (site .times) k) (movement s k .age) (greenLeft site s)
+        (greenLeft site (stepped site s inputs))
+        green-falls
+        (λ rest. omega (arith, v .maximum, rests (timesNow site s) (s .counts) (rw (a, e) at rest)))
+        (movement s k .stage)
+        (stage-reached site sound (s .position) k (movement s k) (v .movements k l)))
+
+    -- what holds it up: a movement is in walk or C1, or the maximum count is not reached
+    pub running-held :
+        ((k : ℕ) × (k < 8) × (1 ≤ outs site (stepped site s inputs) k))
+        ⊎ (stepped site s inputs .counts .maximum ≡ timesNow site s .maximum → ⊥)
+    unfolding ends outs
+    running-held =
+        let green = greenLeft site (stepped site s inputs) in
+        ⊎-elim
+        (λ (b : (true && not (someMovement isWalkOrFirst (moving site s inputs))) ≡ false).
+        inl (some-counted (untilOut green) isWalkOrFirst (λ times age. out-some times age green) quiet-demanded (not-false _ b)))
+        (λ (b : (eqb (counted site s inputs .gap) 0 || eqb (counted site s inputs .maximum) (timesNow site s .maximum)) ≡ false).
+        inr (λ q. eqb-false _ _ (or-false-right (eqb (counted site s inputs .gap) 0) _ b) (ap (λ (c : Counts). c .maximum) (sym counts-stay) ∙ q)))
+        (and-false-cases _ _ (rw (ended-in site s inputs Running e, a) at h))
+
+  -- ── Movements come nearer to be idle ──
+
+  module _ (sound : Sound site) (v : ValidState site s) where
+    -- out of walk, where none begins
+    pub idles-fall :
+        (k : ℕ) →
+        k < 8 →
+        isWalk (movement s k .stage) ≡ false →
+        begun site s inputs k ≡ false →
+        idles site (stepped site s inputs) k ≤ idles site s k - 1
+    unfolding idles moved
+    idles-fall k l still b =
+        rw (moved-on k l b)
+        (idle-falls (mayEnd site s inputs) (walkTimes (site .times) k) (movement s k .age) (movement s k .stage) still
+        (stage-reached site sound (s .position) k (movement s k) (v .movements k l)))
+
+    -- all of them while the phase goes on being left
+    pub leaving-falls :
+        (i : Interval) (e : s .position .interval ≡ i) (t : Bool) (h : ended site s inputs ≡ t) →
+        isLeaving i ≡ true →
+        (t && isBeforeStart i) ≡ false →
+        isRunning ((if t then following i (site .times) (nextDemanded site s inputs) (s .position) else staying (s .position)) .interval) ≡ false →
+        (k : ℕ) →
+        k < 8 →
+        idles site (stepped site s inputs) k ≤ idles site s k - 1
+    leaving-falls i e t h leaving none stops k l =
+        idles-fall k l (out-of-walk (movement s k .stage) (v .movements k l .leaving (ap isLeaving e ∙ leaving)))
+        (quiet-in i e t h none stops k)
 
   -- all-red goes on: its time has not passed, or a movement is in C2
   pub red-held :

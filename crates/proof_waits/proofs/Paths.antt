@@ -10,7 +10,7 @@ use Rattle.rules.specs.declared.state.Held.the-variants.{Nothing, Phase}
 use Rattle.rules.specs.declared.state.State.{State}
 use Rattle.rules.specs.Site.{ring}
 use Rattle.rules.specs.Intervals.{isHeld, phaseHeld}
-use Rattle.rules.specs.Demands.{demanded, nextDemanded}
+use Rattle.rules.specs.Demands.{demanded, nextAfter, nextDemanded}
 use Rattle.rules.specs.Laws.{Sound}
 use Rattle.rules.proofs.Tests.{never-both}
 use Rattle.proof_runs.proofs.Steps.{another}
@@ -55,12 +55,12 @@ module _ (site : Site) (q tail : ℕ) where
     module _ (s : State) (inputs : ℕ) (d : demanded site s inputs q ≡ true) where
       -- the demanded phase is another one
       pub demanded-another : (s .position .phase ≡ q → ⊥) → another site s inputs ≡ true
-      unfolding another nextDemanded turn
+      unfolding another nextDemanded nextAfter turn
       demanded-another other = other-found (ring-of site sound) (demanded site s inputs) below (λ e. other (sym e)) d
 
       module _ (here : s .position .phase < site .size .phases) where
         near : (next : Held) → nextDemanded site s inputs ≡ next → isHeld next ≡ true → ahead (phaseHeld next) ≤ onward (s .position .phase)
-        unfolding isHeld phaseHeld ahead onward nextDemanded turn
+        unfolding isHeld phaseHeld ahead onward nextDemanded nextAfter turn
         near Nothing e h = absurd (never-both h refl)
         near (Phase t) e h = omega (arith, nearer (ring-of site sound) (visit site) below here (demanded site s inputs) d e)
 

@@ -28,11 +28,11 @@ use Rattle.rules.proofs.Counts.{same-or-apart}
 use Rattle.proof_runs.proofs.ValidStates.{ValidState}
 use Rattle.proof_runs.proofs.Steps.{timesNow, another, counted, moving, ended, started}
 use Rattle.proof_runs.proofs.Ends.{by-early, ended-in, next-in, started-in, running-ends}
-use Rattle.proof_waits.proofs.Stages.{longestWalk, longestClearance, outs, idles, out-most, clear-most}
+use Rattle.proof_waits.proofs.Stages.{longestWalk, longestClearance, outs, idles, outs-most, clear-most}
 use Rattle.rules.proofs.Settings.{Timed, phase-timed, start-timed}
 use Rattle.proof_waits.proofs.Left.{Each, leavingTime, visit, fromLeaving, fromRunning, LeftIn, Left}
 use Rattle.proof_waits.proofs.Falls.{timer-falls, timer-waits, each-falls, running-whole, running-more, running-stays, starts-left}
-use Rattle.proof_waits.proofs.Moves.{maximum-rises, quiet-in, quiet-demanded, outs-fall, idles-fall, running-held, red-held}
+use Rattle.proof_waits.proofs.Moves.{maximum-rises, outs-fall, running-held, leaving-falls, red-held}
 
 -- What a demand of phase q gives in a step, where the demanded movement takes `own` steps to be idle before it and `own'` after it.
 pub record Standing (site : Site) (ahead onward : ℕ → ℕ) (q : ℕ) (s : State) (inputs own own' : ℕ) : Type 0 where
@@ -139,12 +139,10 @@ module _
 
     -- ── The movements ──
 
-    -- in the same phase they are out of walk and C1 within its longest
-    outs-within : next .position .phase ≡ s .position .phase → (k : ℕ) → k < 8 → outs site next k ≤ walk
-    unfolding outs
+    -- in the same phase they are out of walk and C1 within its maximum green and its longest walk
+    outs-within : next .position .phase ≡ s .position .phase → (k : ℕ) → k < 8 → outs site next k ≤ settings .maximum + walk
     outs-within e k l =
-        subst (λ (p : ℕ). outs site next k ≤ longestWalk site p) e
-        (out-most site sound (next .position) k (movement next k) (v' .movements k l))
+        subst (λ (p : ℕ). outs site next k ≤ phaseTimes (site .times) p .maximum + longestWalk site p) e (outs-most site sound next v' k l)
 
     -- where the phase begins to be left they are idle within its longest clearance, and the timers are given
     leaves :
@@ -174,15 +172,16 @@ module _
     -- while it goes on being left no walk begins, so they come nearer to be idle, and the timers are given
     leaves-on :
         (i : Interval) (e : s .position .interval ≡ i) (t : Bool) (b : ended site s inputs ≡ t) →
+        isLeaving i ≡ true →
         (t && isBeforeStart i) ≡ false →
         isRunning ((if t then following i (site .times) (nextDemanded site s inputs) (s .position) else staying (s .position)) .interval) ≡ false →
         (timer timer' more : ℕ) →
         timer' + more ≤ n →
         Each timer more (idles site s) (suc n) →
         Each timer' more (idles site next) n
-    leaves-on i e t b none stops timer timer' more h =
+    leaves-on i e t b leaving none stops timer timer' more h =
         each-falls timer timer' more n (idles site s) (idles site next) h (omega arith)
-        (λ k l. idles-fall site s inputs sound v k l (quiet-in site s inputs i e t b none stops k))
+        (leaving-falls site s inputs sound v i e t b leaving none stops)
 
     -- ── Timers ──
 
@@ -208,15 +207,16 @@ module _
         ended site s inputs ≡ false →
         ends i (site .times .start) settings (s .position .age) (another site s inputs) (moving site s inputs) (counted site s inputs)
         ≡ leb setting (s .position .age) →
+        isLeaving i ≡ true →
         isRunning i ≡ false →
         setting ≤ highestAge →
         Each (setting - s .position .age + 1 + later) (ahead (phaseHeld (s .position .target))) (idles site s) (suc n) →
         Each (setting - older (s .position .age) + 1 + later) (ahead (phaseHeld (s .position .target))) (idles site next) n
     unfolding staying
-    leaving-stays i setting later e b same stops most h =
+    leaving-stays i setting later e b same leaving stops most h =
         let more = later + ahead (phaseHeld (s .position .target)) in
         let falls = timer-stays i setting more more e b same most (omega arith) (omega (arith, h .0)) in
-        leaves-on i e false b refl (ap isRunning e ∙ stops) _ _ (ahead (phaseHeld (s .position .target))) (omega (arith, falls)) h
+        leaves-on i e false b leaving refl (ap isRunning e ∙ stops) _ _ (ahead (phaseHeld (s .position .target))) (omega (arith, falls)) h
 
     -- ── By interval ──
 
@@ -262,19 +262,19 @@ module _
         (outs-within (ap (λ (p : Position). p .phase) (next-in site s inputs Running e false b)))
         (stand .fewer)
         (λ z. maximum-rises site s inputs e (stand .held e z) b)
-        (λ z k l. outs-fall site s inputs sound v k l (quiet-demanded site s inputs e (stand .held e z) b k))
+        (λ z. outs-fall site s inputs e (stand .held e z) b sound v)
         (λ z. running-held site s inputs e (stand .held e z) b)
         h)
     step EarlyCutOff true e b h =
         enters Yellow (s .position .target) (next-in site s inputs EarlyCutOff e true b)
-        (leaves-on EarlyCutOff e true b refl refl _ _ (ahead (phaseHeld (s .position .target))) (omega (arith, h .0, times .yellow)) h)
+        (leaves-on EarlyCutOff e true b refl refl refl _ _ (ahead (phaseHeld (s .position .target))) (omega (arith, h .0, times .yellow)) h)
     step EarlyCutOff false e b h =
-        stays EarlyCutOff e b (leaving-stays EarlyCutOff (settings .early) (settings .yellow + settings .red) e b refl refl (times .early) h)
+        stays EarlyCutOff e b (leaving-stays EarlyCutOff (settings .early) (settings .yellow + settings .red) e b refl refl refl (times .early) h)
     step Yellow true e b h =
         enters AllRed (s .position .target) (next-in site s inputs Yellow e true b)
-        (leaves-on Yellow e true b refl refl _ _ (ahead (phaseHeld (s .position .target))) (omega (arith, h .0, times .red)) h)
+        (leaves-on Yellow e true b refl refl refl _ _ (ahead (phaseHeld (s .position .target))) (omega (arith, h .0, times .red)) h)
     step Yellow false e b h =
-        stays Yellow e b (leaving-stays Yellow (settings .yellow) (settings .red) e b refl refl (times .yellow .1) h)
+        stays Yellow e b (leaving-stays Yellow (settings .yellow) (settings .red) e b refl refl refl (times .yellow .1) h)
     step AllRed true e b h =
         begins (phaseHeld (s .position .target)) (Phase (s .position .phase)) (started-in site s inputs AllRed e true b)
         (next-in site s inputs AllRed e true b)
@@ -282,7 +282,7 @@ module _
     step AllRed false e b h =
         let more = ahead (phaseHeld (s .position .target)) in
         stays AllRed e b
-        (leaves-on AllRed e false b refl (ap isRunning e) _ _ more
+        (leaves-on AllRed e false b refl refl (ap isRunning e) _ _ more
         (⊎-elim
         (λ (w : s .position .age < settings .red).
         timer-falls (settings .red) (s .position .age) more more n (times .red .1) w (omega arith) (h .0))
@@ -291,7 +291,7 @@ module _
         (omega (
           arith,
           w .2,
-          idles-fall site s inputs sound v (w .0) (w .1) (quiet-in site s inputs AllRed e false b refl (ap isRunning e) (w .0)),
+          leaving-falls site s inputs sound v AllRed e false b refl refl (ap isRunning e) (w .0) (w .1),
           h .1 (w .0) (w .1),
         ))
         (h .0))

@@ -1,7 +1,9 @@
--- How long a pedestrian movement still takes: the steps until it is out of walk and C1, and those until it is idle. Part 2 of a
--- step lowers both by one, and the settings of the movement's phase bound them.
-use Prim.Native.Nat.{ℕ, _+_, _-_, _≤_, min}
-use mathlib.Core.Bool.{true, false}
+-- How long a pedestrian movement still takes: the steps until it is out of walk and C1, and those until it is idle. While running has another
+-- phase demanded, a walk that has lasted goes on no longer than is left of the maximum green, so part 2 of a step lowers the first count by
+-- one; the second has no end to count in walk and falls by one out of it. The settings of the movement's phase bound both: a walk that rests
+-- for the whole maximum green takes one step more than that, which W pays for, being one step at least.
+use Prim.Native.Nat.{ℕ, _+_, _-_, _≤_, _<_, min, max}
+use mathlib.Core.Bool.{Bool, true, false}
 use mathlib.Core.Logic.{⊎-elim}
 use mathlib.Core.Path.{_≡_, refl}
 use native.Mathlib.Nat.{le-trans}
@@ -23,23 +25,32 @@ use Rattle.rules.specs.Laws.{Sound}
 use Rattle.rules.proofs.Tests.{decided, never-both}
 use Rattle.rules.proofs.Intervals.{idle-only}
 use Rattle.rules.proofs.Rows.{greatest-at}
-use Rattle.proof_runs.proofs.ValidStates.{Aged, ValidMovement}
+use Rattle.proof_runs.proofs.ValidStates.{Aged, ValidMovement, ValidState}
+use Rattle.proof_runs.proofs.Steps.{timesNow}
 use Rattle.proof_runs.proofs.Lasting.{lasting-cases}
 use Rattle.rules.proofs.Settings.{Reached, walk-reached}
 
+-- a movement in neither walk nor C1 is not in walk
+pub out-of-walk : (stage : Stage) → isWalkOrFirst stage ≡ false → isWalk stage ≡ false
+unfolding isWalkOrFirst isWalk
+out-of-walk Idle h = refl
+out-of-walk Walk h = h
+out-of-walk ClearanceOne h = refl
+out-of-walk ClearanceTwo h = refl
+
 -- ── The counts ──
 
--- steps until the movement is out of walk and C1
-unfoldable pub untilOut : Stage → WalkTimes → ℕ → ℕ
-untilOut Idle times age = 0
-untilOut Walk times age = times .walk - age + 1 + times .first
-untilOut ClearanceOne times age = times .first - age + 1 + 0
-untilOut ClearanceTwo times age = 0
+-- steps until the movement is out of walk and C1, where so much is left of the maximum green
+unfoldable pub untilOut : ℕ → Stage → WalkTimes → ℕ → ℕ
+untilOut green Idle times age = 0
+untilOut green Walk times age = max (times .walk - age) green + 1 + times .first
+untilOut green ClearanceOne times age = times .first - age + 1 + 0
+untilOut green ClearanceTwo times age = 0
 
--- steps until the movement is idle
+-- steps until the movement is idle; in walk, from its last step on
 unfoldable pub untilIdle : Stage → WalkTimes → ℕ → ℕ
 untilIdle Idle times age = 0
-untilIdle Walk times age = times .walk - age + 1 + (times .first + times .second)
+untilIdle Walk times age = 1 + (times .first + times .second)
 untilIdle ClearanceOne times age = times .first - age + 1 + times .second
 untilIdle ClearanceTwo times age = times .second - age + 1 + 0
 
@@ -51,67 +62,93 @@ lasting-falls :
     Aged setting →
     ((a : ℕ) → count stage a ≡ setting - a + 1 + more) →
     count next 1 ≡ more →
-    count (lasting setting stage next age .stage) (lasting setting stage next age .age) ≤ setting - age + 1 + more - 1
+    count (lasting true setting stage next age .stage) (lasting true setting stage next age .age) ≤ setting - age + 1 + more - 1
 unfolding older
 lasting-falls count setting more stage next age r now later =
-    lasting-cases (λ (m : Movement). count (m .stage) (m .age) ≤ setting - age + 1 + more - 1) setting stage next age
+    lasting-cases (λ (m : Movement). count (m .stage) (m .age) ≤ setting - age + 1 + more - 1) true setting stage next age
     (λ h. omega arith)
-    (λ h. omega (arith, now (min (age + 1) highestAge)))
+    (λ h. omega (arith, h refl, now (min (age + 1) highestAge)))
 
-module _ (times : WalkTimes) (age : ℕ) where
+age-falls : (setting age : ℕ) → setting ≤ highestAge → setting - older age ≤ setting - age - 1
+unfolding older
+age-falls setting age r = omega arith
+
+-- the greater of two counts that both fall
+greater-falls : (a a' b b' : ℕ) → a' ≤ a - 1 → b' ≤ b - 1 → 1 ≤ max a b → max a' b' < max a b
+greater-falls a a' b b' p q some = omega arith
+
+module _ (mayEnd : Bool) (times : WalkTimes) (age : ℕ) where
   pub out-falls :
+      (green green' : ℕ) →
+      green' ≤ green - 1 →
+      (mayEnd ≡ false → 1 ≤ green) →
       (stage : Stage) →
       (isIdle stage ≡ false → Reached times) →
-      untilOut (advanced stage times age .stage) times (advanced stage times age .age) ≤ untilOut stage times age - 1
+      untilOut green' (advanced mayEnd stage times age .stage) times (advanced mayEnd stage times age .age)
+      ≤ untilOut green stage times age - 1
   unfolding untilOut advanced isIdle
-  out-falls Idle r = omega arith
-  out-falls Walk r =
-      lasting-falls (λ stage a. untilOut stage times a) (times .walk) (times .first) Walk ClearanceOne age (r refl .walk)
+  out-falls green green' less held Idle r = omega arith
+  out-falls green green' less held Walk r =
+      lasting-cases (λ (m : Movement). untilOut green' (m .stage) times (m .age) ≤ untilOut green Walk times age - 1) mayEnd (times .walk) Walk
+      ClearanceOne
+      age
+      (λ over. omega (arith, r refl .first))
+      (λ still.
+      let some : 1 ≤ max (times .walk - age) green =
+      ⊎-elim
+      (λ (may : mayEnd ≡ true). omega (arith, still may))
+      (λ (rests : mayEnd ≡ false). omega (arith, held rests))
+      (decided mayEnd) in
+      omega (arith, greater-falls _ _ green green' (age-falls (times .walk) age (r refl .walk .1)) less some))
+  out-falls green green' less held ClearanceOne r =
+      lasting-falls (λ stage a. untilOut green' stage times a) (times .first) 0 ClearanceOne ClearanceTwo age (r refl .first)
       (λ a. refl)
-      (omega (arith, r refl .first))
-  out-falls ClearanceOne r =
-      lasting-falls (λ stage a. untilOut stage times a) (times .first) 0 ClearanceOne ClearanceTwo age (r refl .first) (λ a. refl) refl
-  out-falls ClearanceTwo r =
-      lasting-cases (λ (m : Movement). untilOut (m .stage) times (m .age) ≤ 0) (times .second) ClearanceTwo Idle age (λ h. omega arith)
-      (λ h. omega arith)
+      refl
+  out-falls green green' less held ClearanceTwo r =
+      lasting-cases (λ (m : Movement). untilOut green' (m .stage) times (m .age) ≤ 0) true (times .second) ClearanceTwo Idle age
+      (λ over. omega arith)
+      (λ still. omega arith)
 
   pub idle-falls :
       (stage : Stage) →
+      isWalk stage ≡ false →
       (isIdle stage ≡ false → Reached times) →
-      untilIdle (advanced stage times age .stage) times (advanced stage times age .age) ≤ untilIdle stage times age - 1
-  unfolding untilIdle advanced isIdle
-  idle-falls Idle r = omega arith
-  idle-falls Walk r =
-      lasting-falls (λ stage a. untilIdle stage times a) (times .walk) (times .first + times .second) Walk ClearanceOne age
-      (r refl .walk)
-      (λ a. refl)
-      (omega (arith, r refl .first))
-  idle-falls ClearanceOne r =
+      untilIdle (advanced mayEnd stage times age .stage) times (advanced mayEnd stage times age .age) ≤ untilIdle stage times age - 1
+  unfolding untilIdle advanced isIdle isWalk
+  idle-falls Idle h r = omega arith
+  idle-falls Walk h r = absurd (never-both refl h)
+  idle-falls ClearanceOne h r =
       lasting-falls (λ stage a. untilIdle stage times a) (times .first) (times .second) ClearanceOne ClearanceTwo age
       (r refl .first)
       (λ a. refl)
       (omega (arith, r refl .second))
-  idle-falls ClearanceTwo r =
+  idle-falls ClearanceTwo h r =
       lasting-falls (λ stage a. untilIdle stage times a) (times .second) 0 ClearanceTwo Idle age (r refl .second) (λ a. refl) refl
 
   -- a movement that is not in walk does not enter it in part 2
-  pub walk-kept-out : (stage : Stage) → isWalk stage ≡ false → isWalk (advanced stage times age .stage) ≡ false
+  pub walk-kept-out : (stage : Stage) → isWalk stage ≡ false → isWalk (advanced mayEnd stage times age .stage) ≡ false
   unfolding advanced isWalk
   walk-kept-out Idle h = refl
   walk-kept-out Walk h = absurd (never-both refl h)
   walk-kept-out ClearanceOne h =
-      lasting-cases (λ (m : Movement). isWalk (m .stage) ≡ false) (times .first) ClearanceOne ClearanceTwo age (λ h. refl) (λ h. refl)
+      lasting-cases (λ (m : Movement). isWalk (m .stage) ≡ false) true (times .first) ClearanceOne ClearanceTwo age (λ h. refl) (λ h. refl)
   walk-kept-out ClearanceTwo h =
-      lasting-cases (λ (m : Movement). isWalk (m .stage) ≡ false) (times .second) ClearanceTwo Idle age (λ h. refl) (λ h. refl)
+      lasting-cases (λ (m : Movement). isWalk (m .stage) ≡ false) true (times .second) ClearanceTwo Idle age (λ h. refl) (λ h. refl)
 
+  -- an idle movement stays so in part 2
+  pub idle-kept : (stage : Stage) → isIdle stage ≡ true → isIdle (advanced mayEnd stage times age .stage) ≡ true
+  unfolding isIdle advanced
+  idle-kept stage h = rw (idle-only stage h)
+
+module _ (times : WalkTimes) (age : ℕ) where
   -- ── What a count tells of the stage ──
 
-  pub out-some : (stage : Stage) → isWalkOrFirst stage ≡ true → 1 ≤ untilOut stage times age
+  pub out-some : (green : ℕ) (stage : Stage) → isWalkOrFirst stage ≡ true → 1 ≤ untilOut green stage times age
   unfolding isWalkOrFirst untilOut
-  out-some Idle h = absurd (never-both h refl)
-  out-some Walk h = omega arith
-  out-some ClearanceOne h = omega arith
-  out-some ClearanceTwo h = absurd (never-both h refl)
+  out-some green Idle h = absurd (never-both h refl)
+  out-some green Walk h = omega arith
+  out-some green ClearanceOne h = omega arith
+  out-some green ClearanceTwo h = absurd (never-both h refl)
 
   pub idle-some : (stage : Stage) → isSecond stage ≡ true → 1 ≤ untilIdle stage times age
   unfolding isSecond untilIdle
@@ -120,9 +157,9 @@ module _ (times : WalkTimes) (age : ℕ) where
   idle-some ClearanceOne h = absurd (never-both h refl)
   idle-some ClearanceTwo h = omega arith
 
-  idle-out : (stage : Stage) → isIdle stage ≡ true → untilOut stage times age ≡ 0
+  idle-out : (green : ℕ) (stage : Stage) → isIdle stage ≡ true → untilOut green stage times age ≡ 0
   unfolding untilOut
-  idle-out stage h = rw (idle-only stage h)
+  idle-out green stage h = rw (idle-only stage h)
 
   pub idle-none : (stage : Stage) → isIdle stage ≡ true → untilIdle stage times age ≡ 0
   unfolding untilIdle
@@ -135,19 +172,18 @@ module _ (times : WalkTimes) (age : ℕ) where
   idle-told ClearanceOne h = absurd (omega arith)
   idle-told ClearanceTwo h = absurd (omega arith)
 
-  -- an idle movement stays so in part 2
-  pub idle-kept : (stage : Stage) → isIdle stage ≡ true → isIdle (advanced stage times age .stage) ≡ true
-  unfolding isIdle advanced
-  idle-kept stage h = rw (idle-only stage h)
-
   -- ── What bounds them ──
 
-  out-limit : (stage : Stage) → 1 ≤ age → (isIdle stage ≡ false → Reached times) → untilOut stage times age ≤ times .walk + times .first
+  out-limit :
+      (green : ℕ) (stage : Stage) →
+      1 ≤ age →
+      (isIdle stage ≡ false → Reached times) →
+      untilOut green stage times age ≤ green + (times .walk + times .first)
   unfolding untilOut isIdle
-  out-limit Idle a r = omega arith
-  out-limit Walk a r = omega (arith, r refl .walk)
-  out-limit ClearanceOne a r = omega (arith, r refl .first)
-  out-limit ClearanceTwo a r = omega arith
+  out-limit green Idle a r = omega arith
+  out-limit green Walk a r = omega (arith, r refl .walk)
+  out-limit green ClearanceOne a r = omega (arith, r refl .first)
+  out-limit green ClearanceTwo a r = omega arith
 
   idle-limit :
       (stage : Stage) →
@@ -212,10 +248,10 @@ module _ (site : Site) (sound : Sound site) (position : Position) (k : ℕ) (m :
   unfolding clearanceBy walkTimes
   clearance-limit = phase-limit (λ (times : WalkTimes). times .second)
 
-  pub out-most : untilOut (m .stage) (walkTimes (site .times) k) (m .age) ≤ longestWalk site (position .phase)
-  out-most =
-      unless-idle _ _ (idle-out (walkTimes (site .times) k) (m .age) (m .stage))
-      (λ h. le-trans (out-limit (walkTimes (site .times) k) (m .age) (m .stage) (v .age .0) stage-reached) (walk-limit h))
+  pub out-most : (green : ℕ) → untilOut green (m .stage) (walkTimes (site .times) k) (m .age) ≤ green + longestWalk site (position .phase)
+  out-most green =
+      unless-idle _ _ (idle-out (walkTimes (site .times) k) (m .age) green (m .stage))
+      (λ h. omega (arith, out-limit (walkTimes (site .times) k) (m .age) green (m .stage) (v .age .0) stage-reached, walk-limit h))
 
   pub idle-most :
       untilIdle (m .stage) (walkTimes (site .times) k) (m .age)
@@ -241,8 +277,24 @@ module _ (site : Site) (sound : Sound site) (position : Position) (k : ℕ) (m :
 
 -- ── The movements of a state ──
 
+-- what is left of the maximum green
+abbrev pub greenLeft : Site → State → ℕ
+greenLeft site s = timesNow site s .maximum - s .counts .maximum
+
 unfoldable pub outs : Site → State → ℕ → ℕ
-outs site s k = untilOut (movement s k .stage) (walkTimes (site .times) k) (movement s k .age)
+outs site s k = untilOut (greenLeft site s) (movement s k .stage) (walkTimes (site .times) k) (movement s k .age)
 
 unfoldable pub idles : Site → State → ℕ → ℕ
 idles site s k = untilIdle (movement s k .stage) (walkTimes (site .times) k) (movement s k .age)
+
+-- the maximum green and the longest walk bound the first
+pub outs-most :
+    (site : Site) →
+    Sound site →
+    (s : State) →
+    ValidState site s →
+    (k : ℕ) →
+    k < 8 →
+    outs site s k ≤ timesNow site s .maximum + longestWalk site (s .position .phase)
+unfolding outs
+outs-most site sound s v k l = omega (arith, out-most site sound (s .position) k (movement s k) (v .movements k l) (greenLeft site s))

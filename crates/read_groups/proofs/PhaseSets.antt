@@ -74,7 +74,7 @@ module _ (b : List ℕ) where
       set < 256 →
       set ≡ groupSet b g →
       mark ≡ groupMark b g →
-      (leb bound set || ltb 2 mark || (eqb mark 2 && not (eqb (ones set) 1))) ≡ badGroup b g
+      (leb bound set || ltb 3 mark || (eqb mark 2 && not (eqb (ones set) 1))) ≡ badGroup b g
   unfolding badGroup pedestrian
   bad-decided g {bound} {set} {mark} bounded h e m =
       rw (← e, ← m)

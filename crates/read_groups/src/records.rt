@@ -20,9 +20,9 @@ fn set_bound(phases: u8) -> u32
     if phases < 9 { 1u32 << phases } else { 512 }
 }
 
-// 6: a phase bit at or above P, a mark above 2, or pedestrian without exactly one phase.
+// 6: a phase bit at or above P, a mark above 3, or pedestrian without exactly one phase.
 fn bad_group(set: u8, mark: u8, bound: u32) -> bool
-    ensures { λ r. ⌜ r ≡ (leb bound set || ltb 2 mark || (eqb mark 2 && not (eqb (ones set) 1))) ⌝ }
+    ensures { λ r. ⌜ r ≡ (leb bound set || ltb 3 mark || (eqb mark 2 && not (eqb (ones set) 1))) ⌝ }
 {
     if bound <= set as u32 {
         return true;
@@ -30,7 +30,7 @@ fn bad_group(set: u8, mark: u8, bound: u32) -> bool
     if mark == 2 {
         return u8::count_ones(set) != 1;
     }
-    2 < mark
+    3 < mark
 }
 
 // One pass over the records: each is checked for 6 and then for 7, the ninth pedestrian group. The union of the sets tells 8, a phase

@@ -1,12 +1,17 @@
 -- What acceptance gives to the code: every count fits its array, and every section lies within the bytes.
 use Prim.Native.Nat.{ℕ, zero, suc, _+_, _≤_, _<_}
+use mathlib.Core.Bool.{true, _&&_}
 use mathlib.Core.List.{List}
-use mathlib.Core.Path.{_≡_}
+use mathlib.Core.Logic.{⊎-elim}
+use mathlib.Core.Path.{_≡_, sym, subst, _∙_}
 use native.Mathlib.Omega.{arith}
+use lib.Dec.{leb, eqb}
 use lib.ListN.{length}
+use borrow.Author.Tests.{leb-true, eqb-true}
 use Rattle.rules.specs.declared.answer.Verdict.the-variants.{Accepted}
-use Rattle.rules.specs.Personality.{bodyAt, bodyLength, siteHead, phasesHead, groupsHead, conflictsHead, detectorsHead, pedestriansHead, endOf, siteSection, phasesSection, groupsSection, conflictsSection, detectorsSection, pedestriansSection, verdictOf}
-use Rattle.rules.specs.Lookup.{headOf}
+use Rattle.rules.specs.Personality.{bodyAt, bodyLength, siteHead, phasesHead, groupsHead, conflictsHead, detectorsHead, pedestriansHead, earlyHead, hasEarly, siteSection, phasesSection, groupsSection, conflictsSection, detectorsSection, pedestriansSection, verdictOf}
+use Rattle.rules.specs.Lookup.{heldKind, headOf}
+use Rattle.rules.proofs.Tests.{and-left, and-right, or-cases}
 use Rattle.rules.proofs.Verdicts.{or-first, or-later}
 use Rattle.proof_acceptance.proofs.Sections.{body-held, sections-accepted}
 use Rattle.read_sections.specs.declared.layout.Layout.{Layout}
@@ -14,7 +19,7 @@ use Rattle.read_sections.specs.Laid.{Laid}
 use Rattle.read_site.specs.Decoding.{Fitting}
 
 pub accepted-fits : {b : List ℕ} {w : Layout} → verdictOf b ≡ Accepted → Laid b w → Fitting b w
-unfolding endOf
+unfolding earlyHead
 accepted-fits {b} h laid =
     let told = sections-accepted b h in
     record {
@@ -24,6 +29,7 @@ accepted-fits {b} h laid =
       detectors = told .detectors .count;
       movements = told .groups .movements;
       whole = rw (laid .pedestrians, ← told .pedestrians .body) (told .pedestrians .next);
+      early = λ there. rw (laid .early, laid .p) (told .early (sym (laid .seven) ∙ there) .next);
     }
 
 -- the section with this head ends within the bytes
@@ -46,6 +52,21 @@ module _ (b : List ℕ) (h : verdictOf b ≡ Accepted) where
       (or-first _ _ (or-first _ _ (or-later _ _ (or-later _ _ (or-later _ _ (or-later _ _ (or-later _ _ h))))))) .1
   kind-within (suc (suc (suc (suc (suc (suc i)))))) l = absurd (omega arith)
 
-  pub section-within : (kind : ℕ) → 1 ≤ kind → kind ≤ 6 → BodyWithin b (headOf b kind)
-  section-within zero l m = absurd (omega arith)
-  section-within (suc i) l m = kind-within i (omega arith)
+  first-six : (kind : ℕ) → 1 ≤ kind → kind ≤ 6 → BodyWithin b (headOf b kind)
+  first-six zero l m = absurd (omega arith)
+  first-six (suc i) l m = kind-within i (omega arith)
+
+  seventh : hasEarly b ≡ true → BodyWithin b (headOf b 7)
+  unfolding headOf
+  seventh there = let told = sections-accepted b h .early there in rw (told .body) (told .next)
+
+  pub section-within : (kind : ℕ) → heldKind b kind ≡ true → BodyWithin b (headOf b kind)
+  unfolding heldKind
+  section-within kind held =
+      ⊎-elim
+      (λ (six : (leb 1 kind && leb kind 6) ≡ true).
+      first-six kind (leb-true _ _ (and-left _ _ six)) (leb-true _ _ (and-right (leb 1 kind) _ six)))
+      (λ (seven : (eqb kind 7 && hasEarly b) ≡ true).
+      let same = eqb-true kind 7 (and-left _ _ seven) in
+      subst (λ (k : ℕ). BodyWithin b (headOf b k)) (sym same) (seventh (and-right (eqb kind 7) _ seven)))
+      (or-cases _ _ held)

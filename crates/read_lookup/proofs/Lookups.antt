@@ -1,17 +1,17 @@
 -- The lookup by cases: a refused personality refuses every kind, an accepted one those that are not held.
 use Prim.Native.Nat.{ℕ, zero, suc, _+_, _-_, _≤_}
-use mathlib.Core.Bool.{true, false}
+use mathlib.Core.Bool.{true, false, _&&_, or-false}
 use mathlib.Core.List.{List, [], _∷_}
 use mathlib.Core.Logic.{⊎-elim}
-use mathlib.Core.Path.{_≡_, ap, _∙_}
+use mathlib.Core.Path.{_≡_, refl, sym, ap, _∙_}
 use native.Mathlib.Omega.{arith}
-use lib.Dec.{leb}
+use lib.Dec.{leb, eqb}
 use lib.ListN.{length, getD, take, drop, List·getD-eq-default}
 use borrow.Author.Tests.{leb-true, leb-false, not-false}
 use Rattle.rules.specs.declared.answer.Verdict.the-variants.{Accepted, Refused}
 use Rattle.rules.specs.Bytes.{twoAt}
 use Rattle.rules.specs.Verdicts.{_orElse_, refuseIf, reportOf}
-use Rattle.rules.specs.Personality.{bodyAt, bodyLength, verdictOf}
+use Rattle.rules.specs.Personality.{bodyAt, bodyLength, hasEarly, verdictOf}
 use Rattle.rules.specs.Lookup.{heldKind, heads, headOf, lookupVerdict, lookupReport, sectionPart, partFor, sectionOf}
 use Rattle.rules.proofs.Tests.{and-left, and-right, and-false-cases}
 use Rattle.rules.proofs.Verdicts.{or-first, or-later, refuse-passed}
@@ -23,25 +23,27 @@ pub lookup-refused : (b : List ℕ) (kind : ℕ) {n p : ℕ} → verdictOf b ≡
 unfolding lookupVerdict _orElse_
 lookup-refused b kind e = rw e
 
-pub lookup-held : (b : List ℕ) (kind : ℕ) → verdictOf b ≡ Accepted → heldKind kind ≡ true → lookupVerdict b kind ≡ Accepted
+pub lookup-held : (b : List ℕ) (kind : ℕ) → verdictOf b ≡ Accepted → heldKind b kind ≡ true → lookupVerdict b kind ≡ Accepted
 unfolding lookupVerdict _orElse_ refuseIf
 lookup-held b kind e h = rw (e, h)
 
-pub lookup-unheld : (b : List ℕ) (kind : ℕ) → verdictOf b ≡ Accepted → heldKind kind ≡ false → lookupVerdict b kind ≡ Refused 2 0
+pub lookup-unheld : (b : List ℕ) (kind : ℕ) → verdictOf b ≡ Accepted → heldKind b kind ≡ false → lookupVerdict b kind ≡ Refused 2 0
 unfolding lookupVerdict _orElse_ refuseIf
 lookup-unheld b kind e h = rw (e, h)
 
-pub held-told : (kind : ℕ) → heldKind kind ≡ true → (1 ≤ kind) × (kind ≤ 6)
-unfolding heldKind
-held-told kind h =
-    (leb-true 1 kind (and-left (leb 1 kind) (leb kind 6) h), leb-true kind 6 (and-right (leb 1 kind) (leb kind 6) h))
-
 -- where the section is found, the personality is accepted and the kind is held
-pub lookup-told : (b : List ℕ) (kind : ℕ) → lookupVerdict b kind ≡ Accepted → (verdictOf b ≡ Accepted) × (1 ≤ kind) × (kind ≤ 6)
+pub lookup-told : (b : List ℕ) (kind : ℕ) → lookupVerdict b kind ≡ Accepted → (verdictOf b ≡ Accepted) × (heldKind b kind ≡ true)
 unfolding lookupVerdict
-lookup-told b kind h =
-    let held = held-told kind (not-false (heldKind kind) (refuse-passed _ _ _ (or-later _ _ h))) in
-    (or-first _ _ h, held .0, held .1)
+lookup-told b kind h = (or-first _ _ h, not-false (heldKind b kind) (refuse-passed _ _ _ (or-later _ _ h)))
+
+-- whether kind 7 is held, and whether any other is
+pub seven-held : (b : List ℕ) → hasEarly b ≡ heldKind b 7
+unfolding heldKind
+seven-held b = refl
+
+pub other-held : (b : List ℕ) (kind : ℕ) → eqb kind 7 ≡ false → (leb 1 kind && leb kind 6) ≡ heldKind b kind
+unfolding heldKind
+other-held b kind e = rw e (sym (or-false (leb 1 kind && leb kind 6)))
 
 -- ── The report and the part ──
 
@@ -63,7 +65,7 @@ module _ (b : List ℕ) (kind : ℕ) where
     unfolding bodyAt bodyLength
     part-end =
         let told = lookup-told b kind found in
-        omega (arith, section-within b (told .0) kind (told .1) (told .2), s ∙ ap (twoAt b) h)
+        omega (arith, section-within b (told .0) kind (told .1), s ∙ ap (twoAt b) h)
 
     pub part-held : take (head + 4 + size - (head + 4)) (drop (head + 4) b) ≡ sectionOf b kind
     unfolding sectionOf partFor sectionPart bodyAt bodyLength
@@ -71,18 +73,22 @@ module _ (b : List ℕ) (kind : ℕ) where
 
 -- ── Heads ──
 
--- a kind that is not held: 0, or one past the list
-pub unheld-head : (b : List ℕ) (kind : ℕ) → heldKind kind ≡ false → headOf b kind ≡ 0
-unfolding headOf heldKind
-unheld-head b kind h =
+-- a number of the list
+pub kind-told : (kind : ℕ) → (leb 1 kind && leb kind 7) ≡ true → (1 ≤ kind) × (kind ≤ 7)
+kind-told kind h = (leb-true 1 kind (and-left _ _ h), leb-true kind 7 (and-right (leb 1 kind) _ h))
+
+-- no kind has the number: it is 0, or one past the list
+pub no-head : (b : List ℕ) (kind : ℕ) → (leb 1 kind && leb kind 7) ≡ false → headOf b kind ≡ 0
+unfolding headOf
+no-head b kind h =
     ⊎-elim
     (λ (l : leb 1 kind ≡ false).
     let first : kind - 1 ≡ 0 = omega (arith, leb-false 1 kind l) in
     rw first)
-    (λ (l : leb kind 6 ≡ false).
-    let past : 6 ≤ kind - 1 = omega (arith, leb-false kind 6 l) in
+    (λ (l : leb kind 7 ≡ false).
+    let past : 7 ≤ kind - 1 = omega (arith, leb-false kind 7 l) in
     List·getD-eq-default (heads b) 0 past)
-    (and-false-cases (leb 1 kind) (leb kind 6) h)
+    (and-false-cases (leb 1 kind) (leb kind 7) h)
 
 -- every entry is at most m
 abbrev AllNear : ℕ → List ℕ → Type 0

@@ -5,7 +5,9 @@ ghost use mathlib.Core.Path.{_≡_};
 ghost use Rattle.rules.specs.declared.answer.Verdict.the-variants.{Accepted};
 ghost use Rattle.rules.specs.Personality.{verdictOf};
 ghost use Rattle.rules.specs.Site.{siteOf};
+ghost use Rattle.read_site.specs.Decoding.{timingIn};
 use read_sections::layout::laid_out;
+use read_site::Timing;
 use rules::site::Site;
 
 // The site of a personality that `read_personality::read` accepts.
@@ -14,4 +16,12 @@ pub fn site(personality: &[u8]) -> Site
     ensures { λ r. ⌜ r ≡ siteOf (now (personality .entry)) ⌝ }
 {
     read_site::site(personality, laid_out(personality))
+}
+
+// The parts of that site that the wait bound goes by.
+pub fn timing(personality: &[u8]) -> Timing
+    requires { ⌜ verdictOf (now personality) ≡ Accepted ⌝ }
+    ensures { λ r. ⌜ r ≡ timingIn (siteOf (now (personality .entry))) ⌝ }
+{
+    read_site::timing_of(personality, laid_out(personality))
 }

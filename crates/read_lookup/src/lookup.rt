@@ -8,18 +8,21 @@ use read_sections::layout::laid_out;
 use rules::answer::Report;
 use rules::answer::Verdict;
 
-// A personality has the kinds 1 to 6.
-fn held(kind: u16) -> bool
-    ensures { λ r. ⌜ r ≡ heldKind kind ⌝ }
+// A personality has the kinds 1 to 6, and may have kind 7.
+fn held(s: &[u8], kind: u16) -> bool
+    ensures { λ r. ⌜ r ≡ heldKind (now (s .entry)) kind ⌝ }
 {
+    if kind == 7 {
+        return laid_out(s).seven;
+    }
     (1 <= kind) & (kind <= 6)
 }
 
-// The head of the section of a kind, and 0 for a kind that is not held.
+// The head of the section of a kind, that of kind 7 whether or not it is there, and 0 for any other number.
 pub fn head_of(s: &[u8], kind: u16) -> usize
-    ensures { λ r. ⌜ (r ≡ headOf (now (s .entry)) kind) × (r ≤ 70149) ⌝ }
+    ensures { λ r. ⌜ (r ≡ headOf (now (s .entry)) kind) × (r ≤ 135688) ⌝ }
 {
-    if !held(kind) {
+    if !((1 <= kind) & (kind <= 7)) {
         return 0;
     }
     let layout = laid_out(s);
@@ -30,6 +33,7 @@ pub fn head_of(s: &[u8], kind: u16) -> usize
         layout.conflicts,
         layout.detectors,
         layout.pedestrians,
+        layout.early,
     ];
     heads[kind as usize - 1]
 }
@@ -42,7 +46,7 @@ fn verdict_on(s: &[u8], kind: u16) -> Verdict
     if let Verdict::Refused { .. } = verdict {
         return verdict;
     }
-    if held(kind) {
+    if held(s, kind) {
         return Verdict::Accepted;
     }
     Verdict::Refused {

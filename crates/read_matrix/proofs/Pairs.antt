@@ -23,7 +23,7 @@ use Rattle.rules.proofs.Tests.{decided, never-both, not-true-false, and-left, a
 use Rattle.base_reads.proofs.Common.{bit-and}
 use Rattle.read_sections.specs.declared.layout.Layout.{Layout}
 use Rattle.read_sections.specs.Laid.{Laid}
-use Rattle.read_matrix.specs.Matrix.{Charted, ByteRows, BandRows, ConflictRows, SetRows, MemberRows, PairSound, BlockSound, BandSound, AllSound}
+use Rattle.read_matrix.specs.Matrix.{Charted, ByteRows, BandRows, ConflictRows, SetRows, MemberRows, Matched, PairSound, BlockSound, BandSound, AllSound}
 use Rattle.read_matrix.proofs.TileBits.{four-bit}
 
 -- ── What the tiles hold ──
@@ -106,28 +106,27 @@ clear-bit k t wrong e p =
     not-true-false (bit k t)
     (λ q. never-both (bit-and k t wrong ∙ and-both q p) (ap (bit k) e ∙ bit-blank k))
 
--- groups 8 a + r and 8 k + c, from the tile of their bands, the one back, and the bits that the first may not have
-pub pair-sound :
-    (b : List ℕ) (a k r c t wrong : ℕ) {mirror back : ℕ} →
-    bit (8 * r + c) t ≡ bit (8 * k + c) (conflictSet b (8 * a + r)) →
-    bit (8 * c + r) back ≡ bit (8 * a + r) (conflictSet b (8 * k + c)) →
-    bit (8 * c + r) mirror ≡ bit (8 * r + c) t →
-    mirror ≡ back →
-    bitAnd t wrong ≡ 0 →
-    (8 * a + r ≡ 8 * k + c → bit (8 * r + c) wrong ≡ true) →
-    ((p : ℕ) →
-    p < phaseCount b →
-    bit p (groupSet b (8 * a + r)) ≡ true →
-    bit p (groupSet b (8 * k + c)) ≡ true →
+-- what both tests of a tile tell
+pub tile-matched :
+    {t back given sets members phases : ℕ} (mirror wrong : ℕ) →
+    ((r c : ℕ) → r < 8 → c < 8 → bit (8 * c + r) mirror ≡ bit (8 * r + c) t) →
+    ((k : ℕ) → bit k given ≡ true → bit k wrong ≡ true) →
+    ((r c p : ℕ) →
+    r < 8 →
+    c < 8 →
+    p < phases →
+    bit (8 * r + p) sets ≡ true →
+    bit (8 * p + c) members ≡ true →
     bit (8 * r + c) wrong ≡ true) →
-    PairSound b (8 * a + r) (8 * k + c)
-pair-sound b a k r c t wrong {mirror} {back} there home turned same free own shared =
+    (eqb mirror back && eqb (bitAnd t wrong) 0) ≡ true →
+    Matched t back given sets members phases
+tile-matched {t} {back} mirror wrong turned kept shared passed =
+    let same = eqb-true mirror back (and-left _ _ passed) in
+    let free = eqb-true (bitAnd t wrong) 0 (and-right (eqb mirror back) _ passed) in
     record {
-      answered = sym there ∙ sym turned ∙ ap (bit (8 * c + r)) same ∙ home;
-      other = λ e. sym there ∙ clear-bit (8 * r + c) t wrong free (own e);
-      apart = λ p h e f.
-          not-true-false (bit p (groupSet b (8 * k + c)))
-          (λ q. never-both (there ∙ e) (clear-bit (8 * r + c) t wrong free (shared p h f q)));
+      mirrored = λ r c h l. ap (bit (8 * c + r)) (sym same) ∙ turned r c h l;
+      clear = λ k e. clear-bit k t wrong free (kept k e);
+      apart = λ r c p h l m e f. clear-bit (8 * r + c) t wrong free (shared r c p h l m e f);
     }
 
 -- the bits of the diagonal
@@ -148,33 +147,27 @@ diagonal-bit r c h e = subst (λ (j : ℕ). bit (8 * r + j) 9241421688590303745 
 
 -- all pairs of two bands
 pub block-sound :
-    {b : List ℕ} {w : Layout} {a k t back sets members : ℕ} (mirror given wrong : ℕ) →
+    {b : List ℕ} {w : Layout} {a k t back given sets members : ℕ} →
     Charted b w →
     ConflictRows b a k t →
     ConflictRows b k a back →
     SetRows b a sets →
     MemberRows b k members →
-    ((r c : ℕ) → r < 8 → c < 8 → bit (8 * c + r) mirror ≡ bit (8 * r + c) t) →
-    ((i : ℕ) → bit i given ≡ true → bit i wrong ≡ true) →
-    ((r c p : ℕ) →
-    r < 8 →
-    c < 8 →
-    p < w .p →
-    bit (8 * r + p) sets ≡ true →
-    bit (8 * p + c) members ≡ true →
-    bit (8 * r + c) wrong ≡ true) →
     ((r c : ℕ) → r < 8 → c < 8 → 8 * a + r ≡ 8 * k + c → bit (8 * r + c) given ≡ true) →
-    (eqb mirror back && eqb (bitAnd t wrong) 0) ≡ true →
+    Matched t back given sets members (w .p) →
     BlockSound b a k
-block-sound {b} {w} {a} {k} {t} {back} mirror given wrong chart there home rows columns turned kept shared own passed r c h l m n =
-    pair-sound b a k r c t wrong (there .told r c h l m) (home .told c r l h n) (turned r c h l)
-    (eqb-true mirror back (and-left _ _ passed))
-    (eqb-true (bitAnd t wrong) 0 (and-right (eqb mirror back) _ passed))
-    (λ e. kept (8 * r + c) (own r c h l e))
-    (λ p q e f.
-    shared r c p h l (omega (arith, chart .laid .p, q))
-    (rows .told r p h (omega (arith, chart .laid .p, chart .fewPhases, q)) m ∙ e)
-    (columns .told p c (omega (arith, chart .laid .p, chart .fewPhases, q)) l n ∙ f))
+block-sound {b} {w} {a} {k} {t} {back} chart there home rows columns own matched r c h l m n =
+    record {
+      answered = sym (there .told r c h l m) ∙ sym (matched .mirrored r c h l) ∙ home .told c r l h n;
+      other = λ e. sym (there .told r c h l m) ∙ matched .clear (8 * r + c) (own r c h l e);
+      apart = λ p q e f.
+          not-true-false (bit p (groupSet b (8 * k + c)))
+          (λ g.
+          never-both (there .told r c h l m ∙ e)
+          (matched .apart r c p h l (omega (arith, chart .laid .p, q))
+          (rows .told r p h (omega (arith, chart .laid .p, chart .fewPhases, q)) m ∙ f)
+          (columns .told p c (omega (arith, chart .laid .p, chart .fewPhases, q)) l n ∙ g)));
+    }
 
 -- the other way round
 pub pair-turned : (b : List ℕ) (g j : ℕ) → PairSound b g j → PairSound b j g

@@ -1,16 +1,14 @@
 -- The bits of a tile. A number that has a byte under another number has the byte's bits first and the other's eight further up, and that
 -- is how a tile's rows, the bytes of a number of four and a product of a row of single bits with a byte are read off.
 use Prim.Native.Nat.{ℕ, zero, suc, _+_, _-_, _*_, _/_, _%_, _^_, _≤_, _<_}
-use mathlib.Core.Bool.{Bool, true, false, _||_}
+use mathlib.Core.Bool.{Bool, true, _||_}
 use mathlib.Core.List.{List}
 use mathlib.Core.Logic.{⊎-elim}
-use mathlib.Core.Path.{_≡_, refl, sym, ap, subst, _∙_}
+use mathlib.Core.Path.{_≡_, sym, ap, subst, _∙_}
 use native.Mathlib.Nat.{mul-assoc, mul-comm, add-mul, mul-le-mul-right, not-suc-le-zero}
 use native.Mathlib.Omega.{arith}
-use lib.Bits.{bitAnd, bitOr, or-shifted, and-block, and-le-r, and-mask, shifted-even}
-use lib.Pow.{pow-add, pow-mono, pow-pos, shl-shr, shr-shr, high, split}
-use borrow.Author.Tests.{eqb-true, ne-eqb}
-use lib.Dec.{eqb}
+use lib.Bits.{bitAnd, bitOr, or-shifted, and-block, and-le-r, and-mask}
+use lib.Pow.{pow-add, pow-mono, pow-pos, shr-shr, high, split}
 use Rattle.rules.specs.Bytes.{byteAt, twoAt, fourAt, bit}
 use Rattle.rules.proofs.Rows.{last-or-below}
 use Rattle.rules.proofs.Tests.{or-left, or-right}

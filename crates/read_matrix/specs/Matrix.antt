@@ -45,6 +45,19 @@ pub record SetTiles (b tiles : List ℕ) : Type 0 where
 pub record MemberRows (b : List ℕ) (k t : ℕ) : Type 0 where
   pub told : (p c : ℕ) → p < 8 → c < 8 → 8 * k + c < groupCount b → bit (8 * p + c) t ≡ bit p (groupSet b (8 * k + c))
 
+-- a tile's bits are those of the tile back, mirrored; none is one of the bits given, and none is of a row and a column that share a phase
+pub record Matched (t back given sets members phases : ℕ) : Type 0 where
+  pub mirrored : (r c : ℕ) → r < 8 → c < 8 → bit (8 * c + r) back ≡ bit (8 * r + c) t
+  pub clear : (k : ℕ) → bit k given ≡ true → bit k t ≡ false
+  pub apart :
+      (r c p : ℕ) →
+      r < 8 →
+      c < 8 →
+      p < phases →
+      bit (8 * r + p) sets ≡ true →
+      bit (8 * p + c) members ≡ true →
+      bit (8 * r + c) t ≡ false
+
 -- groups g and j conflict with each other or not at all, not where they are one group, and not where they share a phase
 pub record PairSound (b : List ℕ) (g j : ℕ) : Type 0 where
   pub answered : bit j (conflictSet b g) ≡ bit g (conflictSet b j)

@@ -6,7 +6,7 @@ ghost use mathlib.Core.Path.{_≡_};
 ghost use lib.Dec.{leb};
 ghost use Rattle.rules.specs.Personality.{groupCount, conflictSet, badConflict, conflictInPhase};
 ghost use Rattle.rules.specs.Rows.{anyOf};
-ghost use Rattle.read_matrix.specs.Matrix.{Charted, SetRows, SetTiles, MemberRows, BlockSound, BandSound, AllSound};
+ghost use Rattle.read_matrix.specs.Matrix.{Charted, SetRows, SetTiles, MemberRows, Matched, BlockSound, BandSound, AllSound};
 use crate::matrix::barred;
 use crate::matrix::conflict_tile;
 use crate::matrix::set_tile;
@@ -19,14 +19,22 @@ use read_sections::layout::Layout;
 // Bit r of each row r.
 const DIAGONAL: u64 = 0x8040_2010_0804_0201;
 
+// Whether a tile is the mirror image of the one back, and has neither a bit given nor one of groups that share a phase: the first band's
+// sets have a group a row, the second band's members a phase a row.
+fn matched(t: u64, back: u64, given: u64, sets: u64, members: u64, phases: usize) -> bool
+    requires { ⌜ phases ≤ 7 ⌝ }
+    ensures { λ r. ⌜ (r ≡ true → Matched t back given sets members phases) ⌝ }
+{
+    (mirrored(t) == back) & (t & barred(given, sets, members, phases) == 0)
+}
+
 // Whether the groups of band k are sound with each other.
 fn own_block(s: &[u8], layout: Layout, k: usize, sets: u64, members: u64) -> bool
     requires { ⌜ Charted (now s) layout × (8 * k < layout .n) × SetRows (now s) k sets × MemberRows (now s) k members ⌝ }
     ensures { λ r. ⌜ (r ≡ true → BlockSound (now (s .entry)) k k) ⌝ }
 {
     let t = conflict_tile(s, layout, k, k);
-    let wrong = barred(DIAGONAL, sets, members, layout.p as usize);
-    (mirrored(t) == t) & (t & wrong == 0)
+    matched(t, t, DIAGONAL, sets, members, layout.p as usize)
 }
 
 // Whether the groups of band a are sound with those of an earlier band k.
@@ -36,8 +44,7 @@ fn block(s: &[u8], layout: Layout, a: usize, k: usize, sets: u64, members: u64) 
 {
     let t = conflict_tile(s, layout, a, k);
     let back = conflict_tile(s, layout, k, a);
-    let wrong = barred(0, sets, members, layout.p as usize);
-    (mirrored(t) == back) & (t & wrong == 0)
+    matched(t, back, 0, sets, members, layout.p as usize)
 }
 
 // Whether all groups of a site with one band only are sound with each other.
@@ -46,7 +53,8 @@ fn single_band(s: &[u8], layout: Layout) -> bool
     ensures { λ r. ⌜ (r ≡ true → AllSound (now (s .entry))) ⌝ }
 {
     let sets = set_tile(s, layout, 0);
-    own_block(s, layout, 0, sets, mirrored(sets))
+    let t = conflict_tile(s, layout, 0, 0);
+    matched(t, t, DIAGONAL, sets, mirrored(sets), layout.p as usize)
 }
 
 // Whether the groups of band k are sound with all groups from the band on.

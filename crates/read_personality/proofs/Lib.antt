@@ -1,2 +1,4 @@
 pub mod Modes
 pub mod Words
+pub mod GroupMarks
+pub mod Seventh

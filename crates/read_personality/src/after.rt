@@ -1,18 +1,79 @@
-// What may follow kind 6.
+// What may follow kind 6: kind 7 where it is there; then 17, a group that stops early without kind 7; then 12, bytes left over.
+ghost use Prim.Native.Nat.{_≤_};
+ghost use mathlib.Core.Bool.{true, false};
 ghost use mathlib.Core.Path.{_≡_};
-ghost use Rattle.rules.specs.Personality.{afterPedestrians};
+ghost use lib.Dec.{ltb};
+ghost use lib.ListN.{length};
+ghost use Rattle.rules.specs.declared.answer.Verdict.the-variants.{Accepted};
+ghost use Rattle.rules.specs.Rows.{anyOf};
+ghost use Rattle.rules.specs.Verdicts.{refuseIf};
+ghost use Rattle.rules.specs.Personality.{groupCount, groupsSection, stopsEarly, earlySection, earlyMissing, afterPedestrians};
 ghost use Rattle.read_sections.specs.Laid.{Laid};
 use read_sections::layout::Layout;
+use read_sections::records::pair_at;
+use read_sections::times::timed_section;
 use rules::answer::Verdict;
 
-// 12: bytes left over.
-pub fn after_pedestrians(s: &[u8], layout: Layout) -> Verdict
-    requires { ⌜ Laid (now s) layout ⌝ }
-    ensures { λ r. ⌜ r ≡ afterPedestrians (now (s .entry)) ⌝ }
+// Kind 7, which is there: a time of early cut-off green for each phase.
+fn early_section(s: &[u8], layout: Layout) -> Verdict
+    requires { ⌜ Laid (now s) layout × (layout .seven ≡ true) ⌝ }
+    ensures { λ r. ⌜ r ≡ earlySection (now (s .entry)) ⌝ }
 {
-    let place = layout.end;
+    timed_section(s, layout.early, 7, 10, 1, layout.p as usize)
+}
+
+// 17, where kind 7 is not there: the first group that stops early, if there is some. Kind 3 has been accepted, so every mark is in the
+// slice.
+fn early_missing(s: &[u8], layout: Layout, some: bool) -> Verdict
+    requires { ⌜ Laid (now s) layout × (layout .seven ≡ false) × (groupsSection (now s) ≡ Accepted)
+        × (some ≡ anyOf (stopsEarly (now s)) (groupCount (now s))) ⌝ }
+    ensures { λ r. ⌜ r ≡ earlyMissing (now (s .entry)) ⌝ }
+{
+    if !some {
+        return Verdict::Accepted;
+    }
+    let groups = layout.n as usize;
+    let head = layout.groups;
+    let mut g: usize = 0;
+    while g < groups {
+        let group = pair_at(s, head, g);
+        if group.second == 3 {
+            return Verdict::Refused {
+                number: 17,
+                place: head + 4 + g * 2,
+            };
+        }
+        g += 1;
+    }
+    Verdict::Accepted
+}
+
+// 12: bytes after the last section, which ends at the place given.
+fn left_over(s: &[u8], place: usize) -> Verdict
+    ensures { λ r. ⌜ r ≡ refuseIf (ltb place (length (now (s .entry)))) 12 place ⌝ }
+{
     if place < s.len() {
         return Verdict::Refused { number: 12, place };
     }
     Verdict::Accepted
+}
+
+// All three. Kind 3 has been accepted, and its marks are known.
+pub fn after_pedestrians(s: &[u8], layout: Layout, early: bool) -> Verdict
+    requires { ⌜ Laid (now s) layout × (groupsSection (now s) ≡ Accepted)
+        × (early ≡ anyOf (stopsEarly (now s)) (groupCount (now s))) ⌝ }
+    ensures { λ r. ⌜ r ≡ afterPedestrians (now (s .entry)) ⌝ }
+{
+    if layout.seven {
+        let times = early_section(s, layout);
+        if let Verdict::Refused { .. } = times {
+            return times;
+        }
+        return left_over(s, layout.early + 4 + (layout.p as usize) * 2);
+    }
+    let missing = early_missing(s, layout, early);
+    if let Verdict::Refused { .. } = missing {
+        return missing;
+    }
+    left_over(s, layout.early)
 }

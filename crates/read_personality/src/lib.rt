@@ -4,11 +4,13 @@ ghost use Rattle.rules.specs.Personality.{verdictOf};
 
 mod after;
 mod detectors;
+mod marks;
 mod pedestrians;
 mod site;
 
 use after::after_pedestrians;
 use detectors::detectors_section;
+use marks::marks_of;
 use pedestrians::pedestrians_section;
 use read_conflicts::conflicts_section;
 use read_groups::records::groups_section;
@@ -41,9 +43,10 @@ pub fn read(personality: &[u8]) -> Verdict
     if let Verdict::Refused { .. } = detectors {
         return detectors;
     }
-    let pedestrians = pedestrians_section(personality, layout);
+    let marks = marks_of(personality, layout);
+    let pedestrians = pedestrians_section(personality, layout, marks.movements);
     if let Verdict::Refused { .. } = pedestrians {
         return pedestrians;
     }
-    after_pedestrians(personality, layout)
+    after_pedestrians(personality, layout, marks.early)
 }

@@ -5,7 +5,7 @@ ghost use Rattle.read_sections.specs.Laid.{Laid};
 use read_sections::layout::Layout;
 use read_sections::sized_section;
 use read_sections::times::time;
-use read_sections::times::time_records;
+use read_sections::times::timed_section;
 use rules::answer::Verdict;
 
 // Kind 1. 4: P not 2 to 7 or N not 1 to 32. 5: start red outside its range.
@@ -39,10 +39,5 @@ pub fn phases_section(s: &[u8], layout: Layout) -> Verdict
     requires { ⌜ Laid (now s) layout ⌝ }
     ensures { λ r. ⌜ r ≡ phasesSection (now (s .entry)) ⌝ }
 {
-    let count = layout.p as usize;
-    let head = sized_section(s, 8, 2, count * 12);
-    if let Verdict::Refused { .. } = head {
-        return head;
-    }
-    time_records(s, 8, 1, 6, count)
+    timed_section(s, 8, 2, 1, 6, layout.p as usize)
 }

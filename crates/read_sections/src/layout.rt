@@ -1,9 +1,17 @@
 // Where the sections of a personality stand.
+ghost use Prim.Native.Nat.{_+_, _≤_};
+ghost use mathlib.Core.Bool.{_&&_};
+ghost use mathlib.Core.Path.{_≡_};
+ghost use lib.Dec.{leb, eqb};
+ghost use lib.ListN.{length};
+ghost use Rattle.rules.specs.Personality.{bodyLength, kindAt};
 ghost use Rattle.read_sections.specs.Laid.{Laid};
 use base_reads::byte;
 use base_reads::two;
+use base_reads::two_in;
 
-// The counts P and N, the heads of kinds 3 to 6, and where kind 6 ends. The heads of kinds 1 and 2 are at 0 and 8.
+// The counts P and N, and the heads of kinds 3 to 7: that of kind 7 is just past kind 6, and `seven` says whether it is there. The heads of
+// kinds 1 and 2 are at 0 and 8.
 pub struct Layout {
     pub p: u8,
     pub n: u8,
@@ -11,7 +19,30 @@ pub struct Layout {
     pub conflicts: usize,
     pub detectors: usize,
     pub pedestrians: usize,
-    pub end: usize,
+    pub early: usize,
+    pub seven: bool,
+}
+
+// The body length at a head, all of which need not be there; nearly always it is, and one test tells.
+fn length_at(s: &[u8], head: usize) -> usize
+    requires { ⌜ head ≤ 100000 ⌝ }
+    ensures { λ r. ⌜ (r ≡ bodyLength (now (s .entry)) head) × (r ≤ 65535) ⌝ }
+{
+    if head + 2 <= s.len() {
+        return two_in(s, head) as usize;
+    }
+    two(s, head) as usize
+}
+
+// Whether a whole head of the kind stands there.
+fn begins(s: &[u8], head: usize, kind: u16) -> bool
+    requires { ⌜ head ≤ 200000 ⌝ }
+    ensures { λ r. ⌜ r ≡ (leb (head + 4) (length (now (s .entry))) && eqb (kindAt (now (s .entry)) head) kind) ⌝ }
+{
+    if head + 4 <= s.len() {
+        return two_in(s, head + 2) == kind;
+    }
+    false
 }
 
 // The layout that the counts and the body lengths give, whether or not the sections are there: a byte past the end reads as 0.
@@ -23,8 +54,8 @@ pub fn laid_out(s: &[u8]) -> Layout
     let groups = 12 + (p as usize) * 12;
     let conflicts = groups + 4 + (n as usize) * 2;
     let detectors = conflicts + 4 + (n as usize) * 4;
-    let pedestrians = detectors + 4 + (two(s, detectors) as usize);
-    let end = pedestrians + 4 + (two(s, pedestrians) as usize);
+    let pedestrians = detectors + 4 + length_at(s, detectors);
+    let early = pedestrians + 4 + length_at(s, pedestrians);
     Layout {
         p,
         n,
@@ -32,6 +63,7 @@ pub fn laid_out(s: &[u8]) -> Layout
         conflicts,
         detectors,
         pedestrians,
-        end,
+        early,
+        seven: begins(s, early, 7),
     }
 }

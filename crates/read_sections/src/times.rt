@@ -1,14 +1,16 @@
-// Records of two-byte times that are in the slice, each field held to the one table of limits.
+// Records of two-byte times, each field held to the one table of limits.
 ghost use Prim.Native.Nat.{_+_, _*_, _≤_};
 ghost use mathlib.Core.Path.{_≡_};
+ghost use lib.Dec.{eqb};
 ghost use lib.ListN.{length};
-ghost use Rattle.rules.specs.Personality.{recordAt, timeAt, timesAt};
-ghost use Rattle.rules.specs.Verdicts.{firstOf};
+ghost use Rattle.rules.specs.Personality.{bodyLength, recordAt, sectionAt, timeAt, timesAt};
+ghost use Rattle.rules.specs.Verdicts.{_orElse_, firstOf};
+use crate::sized_section;
 use base_limits::admits;
 use base_reads::two_in;
 use rules::answer::Verdict;
 
-// 5: a time outside its range.
+// 5: a time outside its range. It is in the slice, and so are the records below.
 pub fn time(s: &[u8], place: usize, setting: usize) -> Verdict
     requires { ⌜ place + 2 ≤ length (now s) ⌝ }
     ensures { λ r. ⌜ r ≡ timeAt (now (s .entry)) place setting ⌝ }
@@ -52,4 +54,24 @@ pub fn time_records(s: &[u8], head: usize, setting: usize, fields: usize, count:
         i += 1;
     }
     Verdict::Accepted
+}
+
+// A section whose records are of times: its head and its body, and then the records.
+pub fn timed_section(
+    s: &[u8],
+    head: usize,
+    kind: u16,
+    setting: usize,
+    fields: usize,
+    count: usize,
+) -> Verdict
+    requires { ⌜ (head ≤ 200000) × (setting ≤ 10) × (fields ≤ 10) × (count ≤ 255) ⌝ }
+    ensures { λ r. ⌜ r ≡ (sectionAt (now (s .entry)) head kind (eqb (bodyLength (now (s .entry)) head) (count * (fields * 2)))
+        orElse firstOf (λ i. timesAt (now (s .entry)) (recordAt head (fields * 2) i) setting fields) count) ⌝ }
+{
+    let body = sized_section(s, head, kind, count * (fields * 2));
+    if let Verdict::Refused { .. } = body {
+        return body;
+    }
+    time_records(s, head, setting, fields, count)
 }

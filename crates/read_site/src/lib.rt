@@ -1,12 +1,12 @@
-// The site in the bytes of a personality that reach to the end of kind 6. Each section is passed once, and kind 3 once more for the
+// The site in the bytes of a personality that reach to the end of its last section. Each section is passed once, and kind 3 once more for the
 // pedestrian groups in it. The records go into an array from the front; entries past the section's own count stay blank.
-ghost use Prim.Native.Nat.{_+_, _*_, _≤_};
+ghost use Prim.Native.Nat.{_+_, _*_, _≤_, _<_};
 ghost use mathlib.Core.Path.{_≡_};
 ghost use lib.ListN.{length};
 ghost use Rattle.rules.specs.Personality.{detectorCount, movementCount};
-ghost use Rattle.rules.specs.Site.{phaseTimesAt, walkTimesAt, timesIn, siteOf};
+ghost use Rattle.rules.specs.Site.{earlyTimeAt, phaseTimesAt, walkTimesAt, timesIn, siteOf};
 ghost use Rattle.read_sections.specs.Laid.{Laid};
-ghost use Rattle.read_site.specs.Decoding.{Fitting, crossingsIn};
+ghost use Rattle.read_site.specs.Decoding.{Fitting, crossingsIn, timingIn};
 use base_reads::four_in;
 use base_reads::two_in;
 use read_sections::layout::Layout;
@@ -21,9 +21,20 @@ use rules::site::WalkTimes;
 
 // ---- Times ----
 
-// The record of phase p: L, M, X, G, Y, R.
-fn phase_times_at(s: &[u8], p: usize) -> PhaseTimes
-    requires { ⌜ 24 + p * 12 ≤ length (now s) ⌝ }
+// The time of early cut-off green of phase p, 0 without kind 7.
+fn early_time(s: &[u8], layout: Layout, p: usize) -> u16
+    requires { ⌜ Fitting (now s) layout × (p < layout .p) ⌝ }
+    ensures { λ r. ⌜ r ≡ earlyTimeAt (now (s .entry)) p ⌝ }
+{
+    if layout.seven {
+        return two_in(s, layout.early + 4 + p * 2);
+    }
+    0
+}
+
+// The record of phase p, L, M, X, G, Y, R, beside its time of early cut-off green.
+fn phase_times_at(s: &[u8], p: usize, early: u16) -> PhaseTimes
+    requires { ⌜ (24 + p * 12 ≤ length (now s)) × (early ≡ earlyTimeAt (now s) p) ⌝ }
     ensures { λ r. ⌜ r ≡ phaseTimesAt (now (s .entry)) p ⌝ }
 {
     let at = 12 + p * 12;
@@ -34,6 +45,7 @@ fn phase_times_at(s: &[u8], p: usize) -> PhaseTimes
         gap: two_in(s, at + 6),
         yellow: two_in(s, at + 8),
         red: two_in(s, at + 10),
+        early,
     }
 }
 
@@ -49,11 +61,12 @@ fn phase_times(s: &[u8], layout: Layout) -> [PhaseTimes; 7]
         gap: 0,
         yellow: 0,
         red: 0,
+        early: 0,
     };
     let mut phases = [blank; 7];
     let mut p: usize = 0;
     while p < count {
-        phases[p] = phase_times_at(s, p);
+        phases[p] = phase_times_at(s, p, early_time(s, layout, p));
         p += 1;
     }
     phases
@@ -90,7 +103,7 @@ fn walk_times(s: &[u8], layout: Layout, count: usize) -> [WalkTimes; 8]
     walks
 }
 
-// The times of kinds 1, 2 and 6.
+// The times of kinds 1, 2, 6 and 7.
 fn times(s: &[u8], layout: Layout, movements: usize) -> Times
     requires { ⌜ Fitting (now s) layout × (movements ≡ movementCount (now s)) ⌝ }
     ensures { λ r. ⌜ r ≡ timesIn (now (s .entry)) ⌝ }
@@ -214,6 +227,29 @@ pub fn site(s: &[u8], layout: Layout) -> Site
         conflicts: conflicts(s, layout),
         detectors: detectors(s, layout, size.detectors as usize),
         crossings: sets,
+        early: layout.seven,
         times: times(s, layout, found.count),
+    }
+}
+
+// The parts of the site that the wait bound goes by.
+pub struct Timing {
+    pub size: Size,
+    pub times: Times,
+    pub crossings: [u8; 8],
+}
+
+// Read apart from the rest, so that a step has the only call of `site` and the compiler takes it in there.
+pub fn timing_of(s: &[u8], layout: Layout) -> Timing
+    requires { ⌜ Fitting (now s) layout ⌝ }
+    ensures { λ r. ⌜ r ≡ timingIn (siteOf (now (s .entry))) ⌝ }
+{
+    let found = crossings(s, layout);
+    let size = size(s, layout, found.count);
+    let sets = found.sets;
+    Timing {
+        size,
+        times: times(s, layout, found.count),
+        crossings: sets,
     }
 }

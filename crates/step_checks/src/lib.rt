@@ -4,7 +4,7 @@ ghost use lib.ListN.{length};
 ghost use Rattle.rules.specs.Call.{strayInput};
 ghost use Rattle.rules.specs.Laws.{Sound};
 ghost use Rattle.rules.specs.Rows.{allOf};
-ghost use Rattle.rules.specs.State.{targetValid, cameValid, ageValid, positionValid, countsValid, demandExists, movementValid, movementsValid, valid};
+ghost use Rattle.rules.specs.State.{intervalValid, targetValid, cameValid, ageValid, positionValid, countsValid, demandExists, movementValid, movementsValid, valid};
 use rules::site::PhaseTimes;
 use rules::site::Site;
 use rules::state::Counts;
@@ -36,7 +36,14 @@ fn came_valid(phases: u8, came: Held) -> bool
     }
 }
 
-// A target unlike the phase, held in yellow and all-red only.
+// Without a section of kind 7 a state in early cut-off green is not valid.
+fn interval_valid(early: bool, interval: Interval) -> bool
+    ensures { λ r. ⌜ r ≡ intervalValid early interval ⌝ }
+{
+    early | !base_intervals::early(interval)
+}
+
+// A target unlike the phase, held in early cut-off green, yellow and all-red only.
 fn target_valid(phases: u8, phase: u8, leaving: bool, target: Held) -> bool
     ensures { λ r. ⌜ r ≡ targetValid phases phase leaving target ⌝ }
 {
@@ -46,9 +53,9 @@ fn target_valid(phases: u8, phase: u8, leaving: bool, target: Held) -> bool
     }
 }
 
-// The phase below P, the target, came-from and the age.
-fn position_valid(phases: u8, position: Position) -> bool
-    ensures { λ r. ⌜ r ≡ positionValid phases position ⌝ }
+// The phase below P, the interval, the target, came-from and the age.
+fn position_valid(early: bool, phases: u8, position: Position) -> bool
+    ensures { λ r. ⌜ r ≡ positionValid early phases position ⌝ }
 {
     let phase = position.phase;
     let interval = position.interval;
@@ -56,6 +63,7 @@ fn position_valid(phases: u8, position: Position) -> bool
     let came = position.came;
     let age = position.age;
     (phase < phases)
+        & interval_valid(early, interval)
         & target_valid(phases, phase, base_intervals::leaving(interval), target)
         & came_valid(phases, came)
         & age_valid(age)
@@ -83,7 +91,7 @@ fn demands_valid(demands: &[bool], count: u8) -> bool
 }
 
 // One movement record, by whether it is a movement of the phase: an idle one is at age 1. Any other has a valid age, is of the phase, is
-// not in walk or C1 in yellow and all-red, and is not in start red.
+// not in walk or C1 in early cut-off green, yellow and all-red, and is not in start red.
 fn movement_valid(of_phase: bool, interval: Interval, movement: Movement) -> bool
     ensures { λ r. ⌜ r ≡ movementValid «of_phase» interval movement ⌝ }
 {
@@ -137,7 +145,7 @@ pub fn valid_state(site: Site, state: State) -> bool
     let buttons = demands.buttons;
     let crossings = site.crossings;
     let movements = state.movements;
-    position_valid(phases, position)
+    position_valid(site.early, phases, position)
         & counts_valid(own, counts)
         & demands_valid(&locks, phases)
         & demands_valid(&buttons, count)

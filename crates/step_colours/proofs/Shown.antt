@@ -1,7 +1,7 @@
 -- The groups passed so far, and one more of them: a pedestrian group shows its movement's colour and takes the next movement, a vehicle
 -- group shows that of its phase's interval.
 use Prim.Native.Nat.{ℕ, suc, _+_, _≤_, _<_}
-use mathlib.Core.Bool.{true, false}
+use mathlib.Core.Bool.{Bool, true, false}
 use mathlib.Core.List.{List, _++_}
 use mathlib.Core.Path.{_≡_, refl, sym, ap, _∙_}
 use native.Mathlib.Numerals.{add-one}
@@ -31,16 +31,16 @@ module _ (groups : List Group) (g : ℕ) where
   unfolding isPedestrian
   vehicle-mark m = ne-eqb (groupOf groups g .mark) 2 m
 
-module _ (groups : List Group) (position : Position) (movements : List Movement) (g : ℕ) where
+module _ (groups : List Group) (closes : Bool) (position : Position) (movements : List Movement) (g : ℕ) where
   pedestrian-shows :
       groupOf groups g .mark ≡ 2 →
-      colourOf groups position movements g ≡ movementColour (getD movements (movementOf groups g) idle .stage)
+      colourOf groups closes position movements g ≡ movementColour (getD movements (movementOf groups g) idle .stage)
   unfolding colourOf
   pedestrian-shows m = rw (pedestrian-mark groups g m)
 
   vehicle-shows :
       (groupOf groups g .mark ≡ 2 → ⊥) →
-      colourOf groups position movements g ≡ vehicleShown position (groupOf groups g)
+      colourOf groups closes position movements g ≡ vehicleShown closes position (groupOf groups g)
   unfolding colourOf
   vehicle-shows m = rw (vehicle-mark groups g m)
 
@@ -55,25 +55,26 @@ stage-read movements k =
 -- ── The groups passed ──
 
 pub none-passed :
-    (groups : List Group) (count : ℕ) (position : Position) (movements : List Movement) (old : List ℕ) →
-    PassedTo groups count position movements old old 0 0
+    (groups : List Group) (count : ℕ) (closes : Bool) (position : Position) (movements : List Movement) (old : List ℕ) →
+    PassedTo groups count closes position movements old old 0 0
 unfolding movementOf countOf
-none-passed groups count position movements old =
-    record { within = omega arith; next = refl; shown = fill-none (colourOf groups position movements) old .told }
+none-passed groups count closes position movements old =
+    record { within = omega arith; next = refl; shown = fill-none (colourOf groups closes position movements) old .told }
 
 module _
     {groups : List Group}
     {count : ℕ}
+    {closes : Bool}
     {position : Position}
     {movements : List Movement}
     {old buffer : List ℕ}
     {k g : ℕ}
-    (p : PassedTo groups count position movements old buffer k g)
+    (p : PassedTo groups count closes position movements old buffer k g)
   where
-    filled : Filled (colourOf groups position movements) old buffer g
+    filled : Filled (colourOf groups closes position movements) old buffer g
     filled = record { told = p .shown }
 
-    pub all-passed : count ≤ g → buffer ≡ listOf (colourOf groups position movements) count ++ drop count old
+    pub all-passed : count ≤ g → buffer ≡ listOf (colourOf groups closes position movements) count ++ drop count old
     all-passed l = let e : g ≡ count = omega arith in rw e at (p .shown)
 
     pub passed-length : count ≤ length old → length buffer ≡ length old
@@ -87,9 +88,9 @@ module _
         (stored : after ≡ set buffer g colour)
       where
         one-passed :
-            colour ≡ colourOf groups position movements g →
+            colour ≡ colourOf groups closes position movements g →
             next ≡ movementOf groups (suc g) →
-            PassedTo groups count position movements old after next (g + 1)
+            PassedTo groups count closes position movements old after next (g + 1)
         one-passed e n =
             record {
               within = omega arith;
@@ -101,22 +102,22 @@ module _
             groupOf groups g .mark ≡ 2 →
             colour ≡ movementColour (getD movements k idle .stage) →
             next ≡ k + 1 →
-            PassedTo groups count position movements old after next (g + 1)
+            PassedTo groups count closes position movements old after next (g + 1)
         unfolding movementOf
         pedestrian-passed m e n =
             one-passed
             (e
             ∙ ap (λ (j : ℕ). movementColour (getD movements j idle .stage)) (p .next)
-            ∙ sym (pedestrian-shows groups position movements g m))
+            ∙ sym (pedestrian-shows groups closes position movements g m))
             (omega (arith, count-passed (isPedestrian groups) g (pedestrian-mark groups g m)))
 
         pub vehicle-passed :
             (groupOf groups g .mark ≡ 2 → ⊥) →
-            colour ≡ vehicleShown position (groupOf groups g) →
+            colour ≡ vehicleShown closes position (groupOf groups g) →
             next ≡ k →
-            PassedTo groups count position movements old after next (g + 1)
+            PassedTo groups count closes position movements old after next (g + 1)
         unfolding movementOf
         vehicle-passed m e n =
             one-passed
-            (e ∙ sym (vehicle-shows groups position movements g m))
+            (e ∙ sym (vehicle-shows groups closes position movements g m))
             (omega (arith, count-failed (isPedestrian groups) g (vehicle-mark groups g m)))

@@ -1,6 +1,7 @@
 -- A point of the pass over the groups, stated: the g groups passed have their colours, every other byte is as handed in, and the next
 -- pedestrian group is that of movement k.
 use Prim.Native.Nat.{ℕ, _≤_}
+use mathlib.Core.Bool.{Bool}
 use mathlib.Core.List.{List, _++_}
 use mathlib.Core.Path.{_≡_}
 use lib.ListN.{drop}
@@ -14,6 +15,7 @@ use Rattle.rules.specs.Colours.{colourOf}
 pub record PassedTo
     (groups : List Group)
     (count : ℕ)
+    (closes : Bool)
     (position : Position)
     (movements : List Movement)
     (old buffer : List ℕ)
@@ -21,4 +23,4 @@ pub record PassedTo
     : Type 0 where
   pub within : g ≤ count
   pub next : k ≡ movementOf groups g
-  pub shown : buffer ≡ listOf (colourOf groups position movements) g ++ drop g old
+  pub shown : buffer ≡ listOf (colourOf groups closes position movements) g ++ drop g old

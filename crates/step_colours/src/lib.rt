@@ -4,12 +4,14 @@ ghost use mathlib.Core.List.{_++_};
 ghost use mathlib.Core.Path.{_≡_};
 ghost use lib.ListN.{length, drop};
 ghost use Rattle.rules.specs.Intervals.{heldIn};
-ghost use Rattle.rules.specs.Rows.{listOf};
-ghost use Rattle.rules.specs.Colours.{vehicleColour, movementColour, vehicleShown, colourOf, coloursOf};
+ghost use Rattle.rules.specs.Rows.{if_then_else_, listOf};
+ghost use Rattle.rules.specs.Colours.{red, yellow, green, sinceCutOff, closing, vehicleColour, movementColour, vehicleShown, colourOf, coloursOf};
 ghost use Rattle.rules.specs.Laws.{Sound};
 ghost use Rattle.step_colours.specs.Showable.{Showable};
 use rules::site::Group;
+use rules::site::PhaseTimes;
 use rules::site::Site;
+use rules::site::Times;
 use rules::state::Held;
 use rules::state::Interval;
 use rules::state::Movement;
@@ -41,10 +43,24 @@ impl Colour {
 
     pub const FLASHING: u8 = 3;
 
-    // A vehicle group of the state's phase, by the interval. In late start mark 1 waits in red unless came-from is in its set; in yellow
-    // and all-red the group stays green if its set has the target also.
-    pub fn of_group(interval: Interval, came: Held, target: Held, group: Group) -> u8
-        ensures { λ r. ⌜ r ≡ vehicleColour interval came target group ⌝ }
+    // A vehicle group of a phase that is being left: green while it stays so, yellow while it closes, then red.
+    fn of_leaving(stays: bool, closes: bool) -> u8
+        ensures { λ r. ⌜ r ≡ if stays then green else (if closes then yellow else red) ⌝ }
+    {
+        if stays {
+            return Self::GREEN;
+        }
+        if closes {
+            return Self::YELLOW;
+        }
+        Self::RED
+    }
+
+    // A vehicle group of the state's phase, by the interval. In late start mark 1 waits in red unless came-from is in its set. In early
+    // cut-off green, yellow and all-red the group stays green if its set has the target also; else mark 3 is yellow while groups that
+    // stop early are closing, then red, and the others stay green in early cut-off green and are then yellow, then red.
+    pub fn of_group(interval: Interval, closes: bool, came: Held, target: Held, group: Group) -> u8
+        ensures { λ r. ⌜ r ≡ vehicleColour interval closes came target group ⌝ }
     {
         match interval {
             Interval::StartRed => Self::RED,
@@ -57,20 +73,15 @@ impl Colour {
             }
             Interval::MinimumGreen => Self::GREEN,
             Interval::Running => Self::GREEN,
+            Interval::EarlyCutOff => {
+                let stays = held_in(target, group.phases) | (group.mark != 3);
+                Self::of_leaving(stays, closes)
+            }
             Interval::Yellow => {
-                if held_in(target, group.phases) {
-                    Self::GREEN
-                } else {
-                    Self::YELLOW
-                }
+                let closing = closes | (group.mark != 3);
+                Self::of_leaving(held_in(target, group.phases), closing)
             }
-            Interval::AllRed => {
-                if held_in(target, group.phases) {
-                    Self::GREEN
-                } else {
-                    Self::RED
-                }
-            }
+            Interval::AllRed => Self::of_leaving(held_in(target, group.phases), false),
         }
     }
 
@@ -88,17 +99,39 @@ impl Colour {
 }
 
 // A vehicle group, by where the controller stands: one that is not of the phase is red.
-fn vehicle(position: Position, group: Group) -> u8
-    ensures { λ r. ⌜ r ≡ vehicleShown position group ⌝ }
+fn vehicle(closes: bool, position: Position, group: Group) -> u8
+    ensures { λ r. ⌜ r ≡ vehicleShown closes position group ⌝ }
 {
     if base_reads::bit8(position.phase, group.phases) {
         let interval = position.interval;
         let came = position.came;
         let target = position.target;
-        Colour::of_group(interval, came, target, group)
+        Colour::of_group(interval, closes, came, target, group)
     } else {
         Colour::RED
     }
+}
+
+// How many steps ago early cut-off green began, this step included, by the age in it or in yellow.
+fn since_cut_off(interval: Interval, times: PhaseTimes, age: u16) -> u32
+    ensures { λ r. ⌜ r ≡ sinceCutOff interval times age ⌝ }
+{
+    let before: u16 = if base_intervals::early(interval) {
+        0
+    } else {
+        times.early
+    };
+    before as u32 + age as u32
+}
+
+// Whether Y steps from there are not over: the groups that stop early are still closing.
+fn still_closing(times: Times, position: Position) -> bool
+    ensures { λ r. ⌜ r ≡ closing times position ⌝ }
+{
+    let settings = times.phases;
+    let own = step_counts::times_of(settings, position.phase);
+    let interval = position.interval;
+    since_cut_off(interval, own, position.age) <= own.yellow as u32
 }
 
 // Writes what the first count groups show. It takes the parts that this rests on, and not the site and the state: a parameter with an
@@ -106,12 +139,13 @@ fn vehicle(position: Position, group: Group) -> u8
 fn show(
     groups: [Group; 32],
     count: usize,
+    closes: bool,
     position: Position,
     movements: [Movement; 8],
     buffer: &mut [u8],
 )
     requires { ⌜ Showable groups count (length (now buffer)) ⌝ }
-    ensures { λ _. ⌜ now (buffer .exit) ≡ listOf (colourOf groups position movements) count ++ drop count (now (buffer .entry)) ⌝ }
+    ensures { λ _. ⌜ now (buffer .exit) ≡ listOf (colourOf groups closes position movements) count ++ drop count (now (buffer .entry)) ⌝ }
 {
     let mut movement: usize = 0;
     let mut g: usize = 0;
@@ -123,7 +157,7 @@ fn show(
             buffer[g] = Colour::of_movement(stage);
             movement += 1;
         } else {
-            buffer[g] = vehicle(position, group);
+            buffer[g] = vehicle(closes, position, group);
         }
         g += 1;
     }
@@ -138,5 +172,7 @@ pub fn write(site: Site, state: State, buffer: &mut [u8])
     let count = site.size.groups as usize;
     let position = state.position;
     let movements = state.movements;
-    show(groups, count, position, movements, buffer);
+    let times = site.times;
+    let closes = still_closing(times, position);
+    show(groups, count, closes, position, movements, buffer);
 }

@@ -22,6 +22,7 @@ pub fn times_of(settings: [PhaseTimes; 7], phase: u8) -> PhaseTimes
         gap: 0,
         yellow: 0,
         red: 0,
+        early: 0,
     }
 }
 

@@ -33,9 +33,9 @@ fn under_way(movements: [Movement; 8], count: u8) -> Busy
     Busy { walking, clearing }
 }
 
-// Start red, late start, minimum green and yellow end once the age is at least the setting. Running ends if another phase is
-// demanded, no movement is in walk or C1, and the gap count is 0 or the maximum count is X. All-red ends when its age is at least R
-// and no movement is in C2.
+// Start red, late start, minimum green, early cut-off green and yellow end once the age is at least the setting. Running ends if another
+// phase is demanded, no movement is in walk or C1, and the gap count is 0 or the maximum count is X. All-red ends when its age is at
+// least R and no movement is in C2.
 pub fn over(
     interval: Interval,
     start: u16,
@@ -61,6 +61,7 @@ pub fn over(
             let now = under_way(movements, count);
             !now.walking
         }
+        Interval::EarlyCutOff => times.early <= age,
         Interval::Yellow => times.yellow <= age,
         Interval::AllRed => {
             if age < times.red {

@@ -1,6 +1,6 @@
 // Part 4 of a step: what follows an interval.
 ghost use mathlib.Core.Path.{_≡_};
-ghost use Rattle.rules.specs.Interval.{entering, starting, following, staying, positionAfter};
+ghost use Rattle.rules.specs.Interval.{entering, starting, leaving, following, staying, positionAfter};
 use rules::site::Times;
 use rules::state::Held;
 use rules::state::Interval;
@@ -44,6 +44,19 @@ fn started(times: Times, phase: u8, came: Held) -> Position
     }
 }
 
+// Running is followed by early cut-off green, or by yellow if its time is 0. The target is the phase that is demanded next at that
+// moment.
+fn left(times: Times, next: Held, position: Position) -> Position
+    ensures { λ r. ⌜ r ≡ leaving times next position ⌝ }
+{
+    let settings = times.phases;
+    let own = step_counts::times_of(settings, position.phase);
+    if own.early == 0 {
+        return entered(Interval::Yellow, next, position);
+    }
+    entered(Interval::EarlyCutOff, next, position)
+}
+
 // What follows the interval once it has ended. The target is chosen when running ends, and kept.
 fn followed(times: Times, next: Held, position: Position) -> Position
     ensures { λ r. ⌜ r ≡ following (position .interval) times next position ⌝ }
@@ -55,7 +68,8 @@ fn followed(times: Times, next: Held, position: Position) -> Position
         Interval::StartRed => started(times, position.phase, came),
         Interval::LateStart => entered(Interval::MinimumGreen, Held::Nothing, position),
         Interval::MinimumGreen => entered(Interval::Running, Held::Nothing, position),
-        Interval::Running => entered(Interval::Yellow, next, position),
+        Interval::Running => left(times, next, position),
+        Interval::EarlyCutOff => entered(Interval::Yellow, target, position),
         Interval::Yellow => entered(Interval::AllRed, target, position),
         Interval::AllRed => started(
             times,

@@ -1,6 +1,6 @@
-// The wait bound of a site: start red plus, summed over phases, L + M + X + 2 × (A + Y + R + C), in steps. A is the greatest W + C1 among
-// the phase's movements and C the greatest C2, both 0 without movements. Every time is in the table of limits, and the greatest wait that
-// the table admits is a number of two bytes: so is every sum here.
+// The wait bound of a site: start red plus, summed over phases, L + M + X + 2 × (A + E + Y + R + C), in steps. A is the greatest W + C1
+// among the phase's movements and C the greatest C2, both 0 without movements; E is the time of early cut-off green. Every time is in the
+// table of limits, and the greatest wait that the table admits is a number of two bytes: so is every sum here.
 ghost use Prim.Native.Nat.{ℕ, _+_, _*_, _≤_, _<_, max};
 ghost use mathlib.Core.Bool.{_&&_};
 ghost use mathlib.Core.Path.{_≡_};
@@ -67,7 +67,10 @@ fn share(times: PhaseTimes, walk: u16, clearance: u16) -> u16
     requires { ⌜ phaseShare times walk clearance ≤ 65535 ⌝ }
     ensures { λ r. ⌜ r ≡ phaseShare times walk clearance ⌝ }
 {
-    times.late + times.minimum + times.maximum + 2 * (walk + times.yellow + times.red + clearance)
+    times.late
+        + times.minimum
+        + times.maximum
+        + 2 * (walk + times.early + times.yellow + times.red + clearance)
 }
 
 // The bound of a site, by the three parts of it that it goes by.

@@ -2,11 +2,12 @@
 use Prim.Native.Nat.{ℕ, _+_, _*_, _≤_}
 use mathlib.Core.Bool.{Bool, true, false}
 use mathlib.Core.List.{List}
-use mathlib.Core.Path.{_≡_, refl, sym, ap, subst, _∙_}
+use mathlib.Core.Path.{_≡_, refl, sym, ap, _∙_}
 use native.Mathlib.Nat.{zero-add, add-zero}
 use native.Mathlib.Omega.{arith}
 use lib.Dec.{eqb}
 use lib.ListN.{length}
+use borrow.Author.Tests.{eq-eqb}
 use Rattle.rules.specs.declared.answer.Answer.{Answer}
 use Rattle.rules.specs.declared.answer.Outcome.{Outcome}
 use Rattle.rules.specs.declared.answer.Outcome.the-variants.{Stepped, Declined}
@@ -16,16 +17,14 @@ use Rattle.rules.specs.declared.answer.Verdict.the-variants.{Accepted, Refused}
 use Rattle.rules.specs.declared.site.Site.{Site}
 use Rattle.rules.specs.declared.state.State.{State}
 use Rattle.rules.specs.Bytes.{twoAt}
-use Rattle.rules.specs.State.{every}
 use Rattle.rules.specs.Verdicts.{_orElse_, reportOf, stepReportOf, waitOf}
 use Rattle.rules.specs.Personality.{bodyAt, bodyLength, verdictOf}
 use Rattle.rules.specs.Site.{siteOf}
 use Rattle.rules.specs.Lookup.{lookupVerdict, lookupReport, headOf}
 use Rattle.rules.specs.Call.{stepVerdict, callVerdict, answerFor, bufferFor, boundFor, boundOf, answerOf, bufferOf}
-use Rattle.rules.proofs.Tests.{and-left}
 use Rattle.board_controller.proofs.Calls.{Answers, stepped-call}
-use Rattle.board_state.specs.declared.Decoded.{Decoded}
-use Rattle.board_state.specs.Layout.{stateBytes, isState, decoded, encoded, decodedOr, encodedOver}
+use Rattle.board_state.specs.Layout.{stateBytes, isState, decoded, encoded, encodedOver}
+use Rattle.board_state.proofs.Told.{state-told}
 use Rattle.willowera.specs.Board.{packed, packedVerdict, packedOutcome, stepAnswer, stateFor, stateAfter, coloursAfter, sectionFor, sectionAnswer}
 use Rattle.proof_acceptance.proofs.Places.{lastPlace, Named, personality-named, call-named, lookup-named}
 
@@ -98,21 +97,8 @@ module _ (b : List ℕ) (accepted : verdictOf b ≡ Accepted) (site : Site) (rea
 
 -- ── A step over bytes ──
 
-known-by : (t : Bool) (old : List ℕ) → isState old ≡ t → decodedOr old .known ≡ t
-unfolding decodedOr
-known-by true old e = rw e
-known-by false old e = rw e
-
-pub known-read : (old : List ℕ) (d : Decoded) (t : Bool) → d ≡ decodedOr old → d .known ≡ t → isState old ≡ t
-known-read old d t e f = sym (known-by (isState old) old refl) ∙ sym (ap (λ (x : Decoded). x .known) e) ∙ f
-
-state-read : (old : List ℕ) (d : Decoded) → d ≡ decodedOr old → isState old ≡ true → d .state ≡ decoded old
-unfolding decodedOr
-state-read old d e f = ap (λ (x : Decoded). x .state) e ∙ rw f
-
 state-long : (old : List ℕ) → isState old ≡ true → eqb (length old) stateBytes ≡ true
-unfolding isState every
-state-long old e = and-left (eqb (length old) stateBytes) _ e
+state-long old known = eq-eqb (length old) stateBytes (state-told old known .size)
 
 -- what a step call answers, with the state's bytes and the colours as they return
 abbrev pub Steps : List ℕ → List ℕ → ℕ → List ℕ → ℕ → List ℕ → List ℕ → Type 0
@@ -141,19 +127,14 @@ module _ (b old buffer : List ℕ) (inputs r : ℕ) where
       Steps b old inputs buffer r old buffer
   refuses v e f p = refused-by (isState old) refl (sym e ∙ f) p
 
-  module _ (accepted : verdictOf b ≡ Accepted) (d : Decoded) (e : d ≡ decodedOr old) where
-    pub no-state : d .known ≡ false → r ≡ packed 13 0 → Steps b old inputs buffer r old buffer
+  module _ (accepted : verdictOf b ≡ Accepted) where
+    pub no-state : isState old ≡ false → r ≡ packed 13 0 → Steps b old inputs buffer r old buffer
     unfolding stepAnswer stateAfter coloursAfter packedVerdict reportOf _orElse_
-    no-state f p = let other = known-read old d false e f in (rw (other, accepted, p), rw other, rw other)
+    no-state other p = (rw (other, accepted, p), rw other, rw other)
 
-    module _ (f : d .known ≡ true) (site : Site) (read : site ≡ siteOf b) (a : Answer) (out : List ℕ) (given : OnSite site (d .state) inputs buffer a out) where
-      known : isState old ≡ true
-      known = known-read old d true e f
-
+    module _ (known : isState old ≡ true) (s : State) (e : s ≡ decoded old) (site : Site) (read : site ≡ siteOf b) (a : Answer) (out : List ℕ) (given : OnSite site s inputs buffer a out) where
       called : OnBytes b (decoded old) inputs buffer a out
-      called =
-          subst (λ (s : State). OnBytes b s inputs buffer a out) (state-read old d e known)
-          (call b accepted site read (d .state) inputs buffer a out given)
+      called = rw e at (call b accepted site read s inputs buffer a out given)
 
       pub steps-on :
           (new : List ℕ) {wait : ℕ} →

@@ -1,6 +1,6 @@
 // The board's library for C and Rust: units one to three over bytes. A slice is passed as a pointer and a length. An answer's lowest
 // byte is the number of the refusal, 0 where the call is accepted; the rest is the place, or the wait bound of an accepted step.
-ghost use Prim.Native.Nat.{_+_, _*_, _≤_};
+ghost use Prim.Native.Nat.{_+_, _*_, _≤_, _<_};
 ghost use mathlib.Core.Path.{_≡_};
 ghost use lib.ListN.{length};
 ghost use Rattle.rules.specs.Call.{boundOf};
@@ -84,11 +84,11 @@ pub extern "C" fn willowera_step(
         return refusal(number, place);
     }
     let site = read_lookup::site(personality);
-    let decoded = board_state::decode(state);
-    if !decoded.known {
+    if !board_state::is_state(state) {
         return refusal(13, 0);
     }
-    let answer = board_controller::step_on(site, decoded.state, inputs, colours);
+    let before = board_state::decode(state);
+    let answer = board_controller::step_on(site, before, inputs, colours);
     let outcome = answer.outcome;
     match outcome {
         Outcome::Stepped { wait } => {
@@ -101,7 +101,7 @@ pub extern "C" fn willowera_step(
 
 // The place and the length of a part of the personality, above a lowest byte of 0: the place in 32 bits, the length in 24.
 fn part(start: usize, size: u16) -> u64
-    requires { ⌜ start ≤ 70153 ⌝ }
+    requires { ⌜ start < 4294967296 ⌝ }
     ensures { λ r. ⌜ r ≡ 256 * start + 1099511627776 * size ⌝ }
 {
     256 * (start as u64) + 1099511627776 * (size as u64)
@@ -123,7 +123,7 @@ pub extern "C" fn willowera_section(personality: &[u8], kind: u16) -> u64
 // The version of these calls.
 #[no_mangle]
 pub extern "C" fn willowera_version() -> u32
-    ensures { λ r. ⌜ r ≡ 1 ⌝ }
+    ensures { λ r. ⌜ r ≡ 2 ⌝ }
 {
-    1
+    2
 }

@@ -51,11 +51,14 @@ struct Times {
 }
 
 impl Bench {
-    /// The smallest site, the junction of two phases and the largest site.
-    pub fn all(seed: u64) -> [Bench; 3] {
+    /// The smallest site, the junction of two phases, the same with an arrow that
+    /// stops early, and the largest site.
+    pub fn all(seed: u64) -> [Bench; 4] {
+        let arrow = Plan::turning_arrow(Some(vec![20, 0]));
         [
             Bench::new("smallest site", Plan::smallest(), seed),
             Bench::new("junction of two phases", Plan::junction(), seed),
+            Bench::new("junction with early cut-off", arrow, seed),
             Bench::new("largest site", Plan::largest(), seed),
         ]
     }
@@ -183,4 +186,27 @@ impl Times {
 
 fn shown(time: &Time) -> String {
     format!("{:.1} ({:.1})", time.median, time.best)
+}
+
+#[cfg(test)]
+mod tests {
+    use super::*;
+    use model::Interval;
+
+    /// Whether the timed steps go through an interval.
+    fn reaches(bench: &Bench, interval: Interval) -> bool {
+        let site = Site::read(&bench.personality).unwrap();
+        let mut colours = [0; MAX_GROUPS];
+        let mut state = model::fresh();
+        bench.inputs.iter().any(|&inputs| {
+            state = step_on(&site, &state, inputs, &mut colours).unwrap();
+            state.interval == interval
+        })
+    }
+
+    #[test]
+    fn sites_with_early_cut_off_run_through_it() {
+        let early = Bench::all(1).map(|bench| reaches(&bench, Interval::EarlyCutOff));
+        assert_eq!(early, [false, false, true, true]);
+    }
 }

@@ -32,7 +32,7 @@ pub enum Kind {
 }
 
 /// The kinds take turns, those that matter most more often.
-const TURNS: [Kind; 26] = [
+const TURNS: [Kind; 27] = [
     Kind::Accepted,
     Kind::Damaged(1),
     Kind::Run,
@@ -58,6 +58,7 @@ const TURNS: [Kind; 26] = [
     Kind::Scrambled,
     Kind::Damaged(12),
     Kind::Run,
+    Kind::Damaged(17),
     Kind::Watched,
 ];
 

@@ -3,6 +3,9 @@
 use model::packed::Board;
 use willowera::packed;
 
+// The model's states have the library's layout.
+const _: () = assert!(model::STATE_LEN == willowera::STATE_LEN);
+
 /// The linked library.
 #[derive(Clone, Copy, Debug, Default)]
 pub struct Library;

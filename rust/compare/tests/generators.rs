@@ -67,6 +67,19 @@ fn accepted_plans_have_every_trait() {
         count("overlap", vehicles().any(|group| group[0].count_ones() > 1));
         count("empty set", vehicles().any(|group| group[0] == 0));
         count("late mark", vehicles().any(|group| group[1] == 1));
+        let early = plan.early_groups().count();
+        let times = &plan.early_cut_offs;
+        count("early mark", early > 0);
+        count("no early mark", times.is_some() && early == 0);
+        count("no early cut-off section", times.is_none());
+        let zero = times.iter().flatten().any(|&time| time == 0);
+        count("early cut-off of no time", zero && early > 0);
+        let yellow = |phase: usize| plan.phases[phase][4];
+        let pairs = || times.iter().flatten().copied().enumerate();
+        let shorter = pairs().any(|(phase, time)| (1..yellow(phase)).contains(&time));
+        count("early cut-off shorter than yellow", shorter);
+        let longer = pairs().any(|(phase, time)| time > yellow(phase));
+        count("early cut-off longer than yellow", longer);
         count("pedestrians only", vehicles().count() == 0);
         count("conflicts", plan.conflicts.iter().any(|&row| row != 0));
         count("no conflicts", plan.conflicts.iter().all(|&row| row == 0));
@@ -119,6 +132,8 @@ fn every_time_reaches_both_limits() {
     let movement_ends = [(10, 400), (1, 400), (1, 400)];
     assert_eq!(movement_times.each_ref().map(ends), movement_ends);
     assert_eq!(ends(&start_reds), (10, 150));
+    let early_cut_offs = plans(3_000).filter_map(|plan| plan.early_cut_offs);
+    assert_eq!(ends(&early_cut_offs.flatten().collect()), (0, 200));
 }
 
 #[test]
@@ -171,17 +186,15 @@ fn valid_states_are_valid_and_of_every_kind() {
             assert!(valid(&site, &state), "{state:?}");
             assert_eq!(State::from_bytes(&state.to_bytes()), Some(state));
             for movement in state.movements {
-                seen.insert((state.interval as u8, movement.stage as u8));
+                seen.insert((state.interval, movement.stage));
             }
         }
     }
-    // Start red has idle movements only; yellow and all-red idle and C2 only.
-    let count_of = |interval: Interval| {
-        let code = interval as u8;
-        seen.iter().filter(|(seen, _)| *seen == code).count()
-    };
-    assert_eq!(Interval::ALL.map(count_of), [1, 4, 4, 4, 2, 2]);
-    assert!(seen.contains(&(Interval::AllRed as u8, Stage::ClearanceTwo as u8)));
+    // Start red has idle movements only; early cut-off, yellow and all-red idle
+    // and C2 only.
+    let count_of = |interval: Interval| seen.iter().filter(|(seen, _)| *seen == interval).count();
+    assert_eq!(Interval::ALL.map(count_of), [1, 4, 4, 4, 2, 2, 2]);
+    assert!(seen.contains(&(Interval::AllRed, Stage::ClearanceTwo)));
 }
 
 #[test]
@@ -228,7 +241,7 @@ fn inputs_known_and_unknown() {
 #[test]
 fn every_refusal_number_occurs_in_the_cases() {
     let tally = compare::run_cases(&model::packed::Model, SEED, 0..2_000).unwrap();
-    for number in 0..=15 {
+    for number in (0..=15).chain([17]) {
         assert!(tally.answers(number) >= 20, "{number}\n{tally}");
     }
     for kind in compare::Kind::all() {

@@ -2,6 +2,7 @@
 
 use compare::{run_case, run_cases, Difference, Failure};
 use model::packed::{number, Board, Model};
+use model::{layout, STATE_LEN};
 
 /// Spoils an answer, and the state and colours that go with it.
 type SpoilStep = fn(u64, &mut [u8], &mut [u8]) -> u64;
@@ -111,10 +112,50 @@ fn a_section_for_a_kind_not_held() {
 }
 
 #[test]
+fn a_section_of_early_cut_off_times_not_found() {
+    let board = Wrong {
+        section: Some(|answer, kind| {
+            if kind == 7 && number(answer) == 0 {
+                2
+            } else {
+                answer
+            }
+        }),
+        ..Wrong::default()
+    };
+    assert_eq!(what(&board), "section: the answer");
+}
+
+#[test]
+fn bytes_left_over_before_early_cut_off_times_not_there() {
+    let board = Wrong {
+        read: Some(|answer| if number(answer) == 17 { 12 } else { answer }),
+        ..Wrong::default()
+    };
+    assert_eq!(what(&board), "read: the answer");
+}
+
+#[test]
+fn an_arrow_that_stays_green_in_early_cut_off() {
+    let board = Wrong {
+        step: Some(|answer, state, colours| {
+            let interval = state.get(layout::INTERVAL);
+            if number(answer) == 0 && interval == Some(&4) {
+                let yellow = colours.iter_mut().filter(|colour| **colour == 1);
+                yellow.for_each(|colour| *colour = 2);
+            }
+            answer
+        }),
+        ..Wrong::default()
+    };
+    assert_eq!(what(&board), "step: the colours");
+}
+
+#[test]
 fn a_fresh_state_in_a_longer_buffer() {
     let board = Wrong {
         fresh: Some(|answer, state| {
-            if state.len() > 51 {
+            if state.len() > STATE_LEN {
                 state[0] = !state[0];
             }
             answer
@@ -129,7 +170,7 @@ fn a_state_changed_by_a_refusal() {
     let board = Wrong {
         step: Some(|answer, state, _| {
             if number(answer) == 14 {
-                state[2] ^= 1;
+                state[layout::AGE] ^= 1;
             }
             answer
         }),

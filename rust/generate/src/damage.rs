@@ -6,9 +6,13 @@ use crate::rng::Rng;
 use model::{Limits, Mark, Setting, MAX_GROUPS, MAX_MOVEMENTS};
 
 /// The refusals that a personality can be aimed at.
-pub const AIMED: std::ops::RangeInclusive<u8> = 1..=12;
+pub const AIMED: [u8; 13] = [1, 2, 3, 4, 5, 6, 7, 8, 9, 10, 11, 12, 17];
 
 const PEDESTRIAN: u8 = Mark::Pedestrian as u8;
+const EARLY_CUT_OFF: u8 = Mark::EarlyCutOff as u8;
+
+/// Sections that every personality has.
+const NEEDED: usize = 6;
 
 /// A personality that is refused with this number, one of [`AIMED`].
 pub fn damaged(rng: &mut Rng, number: u8) -> Vec<u8> {
@@ -25,7 +29,7 @@ pub fn twice_damaged(rng: &mut Rng) -> Vec<u8> {
     loop {
         let mut plan = Plan::random(rng);
         let one = rng.range(5, 11) as u8;
-        let other = rng.range(1, 12) as u8;
+        let other = rng.pick(&AIMED);
         if damage_plan(rng, &mut plan, one).is_some() {
             if let Some(bytes) = damage(rng, plan, other) {
                 return bytes;
@@ -53,16 +57,18 @@ fn damage(rng: &mut Rng, mut plan: Plan, number: u8) -> Option<Vec<u8>> {
         damage_plan(rng, &mut plan, number)?;
         return Some(plan.bytes());
     }
+    if number == 17 {
+        leave_out_times(rng, &mut plan)?;
+    }
     let mut bytes = plan.bytes();
     match number {
-        1 => cut(rng, &mut bytes),
+        1 => cut(rng, &mut bytes)?,
         2 => change_kind(rng, &mut bytes),
         3 => change_length(rng, &mut bytes),
         4 => change_count(rng, &mut bytes),
-        12 => {
-            let count = rng.range(1, 8);
-            bytes.extend(rng.bytes(count));
-        }
+        12 => leave_over(rng, &plan, &mut bytes),
+        17 if rng.percent(50) => leave_over(rng, &plan, &mut bytes),
+        17 => {}
         _ => return None,
     }
     Some(bytes)
@@ -102,18 +108,62 @@ fn put(bytes: &mut [u8], at: usize, number: u16) {
     bytes[at..at + 2].copy_from_slice(&number.to_le_bytes());
 }
 
-/// Cuts anywhere, often at a section's head or just after it.
-fn cut(rng: &mut Rng, bytes: &mut Vec<u8>) {
+/// Cuts anywhere, often at a section's head or just after it. A cut at the head
+/// of a section that need not be there leaves nothing cut short.
+fn cut(rng: &mut Rng, bytes: &mut Vec<u8>) -> Option<()> {
     let length = match rng.below(3) {
         0 => rng.below(bytes.len()),
         1 => random_head(rng, bytes),
-        _ => random_head(rng, bytes) + rng.below(4),
+        _ => random_head(rng, bytes) + rng.below(5),
     };
+    let at_head = |head: &usize| (*head..head + 4).contains(&length);
+    if length >= bytes.len() || heads(bytes)[NEEDED..].iter().any(at_head) {
+        return None;
+    }
     bytes.truncate(length);
+    Some(())
+}
+
+/// Takes the early cut-off times away from groups that stop early.
+fn leave_out_times(rng: &mut Rng, plan: &mut Plan) -> Option<()> {
+    plan.early_cut_offs = None;
+    if plan.early_groups().next().is_none() {
+        let group = rng.below(plan.groups.len());
+        if plan.groups[group][1] == PEDESTRIAN {
+            return None;
+        }
+        plan.groups[group][1] = EARLY_CUT_OFF;
+    }
+    Some(())
+}
+
+/// Bytes after the last section: anything, a head cut short, a section of a kind
+/// that is not expected there, the last section once more.
+fn leave_over(rng: &mut Rng, plan: &Plan, bytes: &mut Vec<u8>) {
+    let length = 2 * plan.phases.len() as u16;
+    let [low, high] = length.to_le_bytes();
+    let head = [low, high, 7, 0];
+    let kinds = [0, 6, 8, 9, 0x0107, 0x0700];
+    let count = rng.range(1, 8);
+    match rng.below(4) {
+        0 => bytes.extend(rng.bytes(count)),
+        1 => bytes.extend(&head[..rng.range(1, 3)]),
+        2 => {
+            let section = bytes.len();
+            bytes.extend(head);
+            put(bytes, section + 2, rng.pick(&kinds));
+            bytes.resize(bytes.len() + rng.below(20), 0);
+        }
+        _ => {
+            let last = heads(bytes)[heads(bytes).len() - 1];
+            let again = bytes[last..].to_vec();
+            bytes.extend(again);
+        }
+    }
 }
 
 fn change_kind(rng: &mut Rng, bytes: &mut [u8]) {
-    let section = rng.below(6);
+    let section = rng.below(NEEDED);
     let right = section as u16 + 1;
     let random = rng.draw() as u16;
     let near = rng.range(0, 9) as u16;
@@ -124,8 +174,9 @@ fn change_kind(rng: &mut Rng, bytes: &mut [u8]) {
 
 /// A length that the counts do not allow; for kind 5 one that is odd or above 96.
 fn change_length(rng: &mut Rng, bytes: &mut [u8]) {
-    let section = rng.below(6);
-    let head = heads(bytes)[section];
+    let heads = heads(bytes);
+    let section = rng.below(heads.len());
+    let head = heads[section];
     let right = u16::from_le_bytes([bytes[head], bytes[head + 1]]);
     let odd = 2 * rng.below(50) as u16 + 1;
     let wrong = [
@@ -165,6 +216,11 @@ fn wrong_time(rng: &mut Rng, limits: Limits) -> u16 {
 fn change_time(rng: &mut Rng, plan: &mut Plan) {
     let phase_fields = 6 * plan.phases.len();
     let movement_fields = 3 * plan.movements.len();
+    if let Some(times) = plan.early_cut_offs.as_mut().filter(|_| rng.percent(20)) {
+        let phase = rng.below(times.len());
+        times[phase] = wrong_time(rng, Setting::EarlyCutOff.limits());
+        return;
+    }
     let mut field = rng.below(1 + phase_fields + movement_fields);
     if field == 0 {
         plan.start_red = wrong_time(rng, Setting::StartRed.limits());
@@ -192,7 +248,7 @@ fn change_group(rng: &mut Rng, plan: &mut Plan) {
             plan.groups[group][0] | 1 << rng.range(phases, 7),
             plan.groups[group][1],
         ],
-        1 => [plan.groups[group][0], rng.pick(&[3, 4, 130, 255])],
+        1 => [plan.groups[group][0], rng.pick(&[4, 5, 131, 255])],
         2 => [0, PEDESTRIAN],
         _ => [two_phases, PEDESTRIAN],
     };

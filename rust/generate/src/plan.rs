@@ -10,6 +10,7 @@ pub const MODES: [u8; 6] = [0, 1, 2, 4, 5, 6];
 const VEHICLE: u8 = Mark::Vehicle as u8;
 const LATE_START: u8 = Mark::LateStart as u8;
 const PEDESTRIAN: u8 = Mark::Pedestrian as u8;
+const EARLY_CUT_OFF: u8 = Mark::EarlyCutOff as u8;
 
 /// The plan of a site.
 #[derive(Clone, Debug, PartialEq, Eq)]
@@ -24,6 +25,8 @@ pub struct Plan {
     pub detectors: Vec<[u8; 2]>,
     /// Walk, clearance one, clearance two.
     pub movements: Vec<[u16; 3]>,
+    /// The early cut-off time of each phase, where there is such a section.
+    pub early_cut_offs: Option<Vec<u16>>,
 }
 
 /// How a random plan chooses its times.
@@ -44,6 +47,7 @@ pub struct Shape {
     pub groups: usize,
     pub pedestrians: usize,
     pub detectors: usize,
+    pub early_cut_offs: bool,
     pub pace: Pace,
 }
 
@@ -56,6 +60,7 @@ impl Shape {
             groups,
             pedestrians: edged(rng, 0, MAX_MOVEMENTS.min(groups)),
             detectors: edged(rng, 0, MAX_DETECTORS),
+            early_cut_offs: rng.percent(60),
             pace: rng.pick(&[Pace::Short, Pace::Short, Pace::Edges, Pace::Anywhere]),
         }
     }
@@ -83,7 +88,15 @@ impl Plan {
         section(&mut bytes, 4, conflicts.collect());
         section(&mut bytes, 5, self.detectors.concat());
         section(&mut bytes, 6, times(self.movements.as_flattened()));
+        if let Some(early_cut_offs) = &self.early_cut_offs {
+            section(&mut bytes, 7, times(early_cut_offs));
+        }
         bytes
+    }
+
+    /// The groups that stop early.
+    pub fn early_groups(&self) -> impl Iterator<Item = usize> + '_ {
+        (0..self.groups.len()).filter(|&group| self.groups[group][1] == EARLY_CUT_OFF)
     }
 
     /// The junction of two phases of document 01.
@@ -95,6 +108,18 @@ impl Plan {
             conflicts: vec![2, 1],
             detectors: vec![[0, 6], [1, 6]],
             movements: vec![],
+            early_cut_offs: None,
+        }
+    }
+
+    /// The junction of two phases with a turning arrow of A beside its main
+    /// green, and early cut-off times of A and B.
+    pub fn turning_arrow(early_cut_offs: Option<Vec<u16>>) -> Plan {
+        Plan {
+            groups: vec![[1, VEHICLE], [1, EARLY_CUT_OFF], [2, VEHICLE]],
+            conflicts: vec![4, 4, 3],
+            early_cut_offs,
+            ..Plan::junction()
         }
     }
 
@@ -107,11 +132,13 @@ impl Plan {
             conflicts: vec![0],
             detectors: vec![],
             movements: vec![],
+            early_cut_offs: None,
         }
     }
 
     /// A site as large as they come: 7 phases, 32 groups, 48 detectors and 8
-    /// movements, with overlaps, late starts and every possible conflict.
+    /// movements, with overlaps, late starts, early cut-offs and every possible
+    /// conflict.
     pub fn largest() -> Plan {
         let vehicle = |group: usize| {
             let overlap = if group % 4 == 3 {
@@ -119,7 +146,11 @@ impl Plan {
             } else {
                 0
             };
-            let mark = if group % 5 == 2 { LATE_START } else { VEHICLE };
+            let mark = match group % 5 {
+                2 => LATE_START,
+                3 => EARLY_CUT_OFF,
+                _ => VEHICLE,
+            };
             [1 << (group % 7) | overlap, mark]
         };
         let pedestrian = |movement: usize| [1 << (movement % 7), PEDESTRIAN];
@@ -132,6 +163,7 @@ impl Plan {
                 .map(|d| [(d % 7) as u8, [6, 6, 5, 4, 2, 1][d % 6]])
                 .collect(),
             movements: vec![[60, 50, 40]; MAX_MOVEMENTS],
+            early_cut_offs: Some(vec![0, 10, 20, 35, 36, 50, 100]),
         };
         plan.make_conflicts(|| true);
         plan
@@ -162,6 +194,9 @@ impl Plan {
                 .map(|_| [rng.below(shape.phases) as u8, rng.pick(&MODES)])
                 .collect(),
             movements,
+            early_cut_offs: shape
+                .early_cut_offs
+                .then(|| random_early_cut_offs(rng, &shape)),
         };
         let density = rng.pick(&[0, 30, 70, 100, 100]);
         plan.make_conflicts(|| rng.percent(density));
@@ -217,6 +252,20 @@ fn random_phase(rng: &mut Rng, pace: Pace) -> [u16; 6] {
     times
 }
 
+/// The early cut-off times; some phases have none, some have one beside the
+/// lowest yellow.
+fn random_early_cut_offs(rng: &mut Rng, shape: &Shape) -> Vec<u16> {
+    let limits = Setting::EarlyCutOff.limits();
+    let yellow = Setting::Yellow.limits();
+    (0..shape.phases)
+        .map(|_| match rng.below(4) {
+            0 => 0,
+            1 => rng.time(yellow.low - 1, yellow.low + 13),
+            _ => random_time(rng, limits, shape.pace),
+        })
+        .collect()
+}
+
 /// Groups in which every phase is served.
 fn random_groups(rng: &mut Rng, shape: &Shape) -> Vec<[u8; 2]> {
     let mut groups: Vec<[u8; 2]> = (0..shape.groups)
@@ -224,7 +273,7 @@ fn random_groups(rng: &mut Rng, shape: &Shape) -> Vec<[u8; 2]> {
             if index < shape.pedestrians {
                 [1 << rng.below(shape.phases), PEDESTRIAN]
             } else {
-                random_vehicle_group(rng, shape.phases)
+                random_vehicle_group(rng, shape)
             }
         })
         .collect();
@@ -233,8 +282,10 @@ fn random_groups(rng: &mut Rng, shape: &Shape) -> Vec<[u8; 2]> {
     groups
 }
 
-/// A vehicle group: most have one phase, some overlap, a few have none.
-fn random_vehicle_group(rng: &mut Rng, phases: usize) -> [u8; 2] {
+/// A vehicle group: most have one phase, some overlap, a few have none. It may
+/// stop early only where the site has the times.
+fn random_vehicle_group(rng: &mut Rng, shape: &Shape) -> [u8; 2] {
+    let phases = shape.phases;
     let any = || (1_u16 << phases) - 1;
     let set = match rng.below(10) {
         0 => 0,
@@ -242,7 +293,12 @@ fn random_vehicle_group(rng: &mut Rng, phases: usize) -> [u8; 2] {
         6..=8 => 1 << rng.below(phases) | 1 << rng.below(phases),
         _ => (rng.draw() as u16 & any()) as u8,
     };
-    [set, rng.pick(&[VEHICLE, VEHICLE, LATE_START])]
+    let mark = if shape.early_cut_offs {
+        rng.pick(&[VEHICLE, VEHICLE, LATE_START, EARLY_CUT_OFF, EARLY_CUT_OFF])
+    } else {
+        rng.pick(&[VEHICLE, VEHICLE, LATE_START])
+    };
+    [set, mark]
 }
 
 /// Adds the phases that no group has. Pedestrian groups come first.

@@ -2,6 +2,7 @@
 //! state.
 
 use crate::rng::Rng;
+use model::layout;
 use model::{fresh, Interval, MovementState, Site, Stage, State, MAX_AGE, MAX_MOVEMENTS};
 
 /// A random valid state, reachable or not.
@@ -9,7 +10,7 @@ pub fn valid_state(rng: &mut Rng, site: &Site) -> State {
     let phases = site.phase_count();
     let phase = rng.below(phases) as u8;
     let times = site.phase(phase);
-    let interval = rng.pick(&Interval::ALL);
+    let interval = random_interval(rng, site);
     let mut state = State {
         phase,
         interval,
@@ -30,13 +31,21 @@ pub fn valid_state(rng: &mut Rng, site: &Site) -> State {
     state
 }
 
+/// Any interval; early cut-off only where the site has the times.
+fn random_interval(rng: &mut Rng, site: &Site) -> Interval {
+    match rng.pick(&Interval::ALL) {
+        Interval::EarlyCutOff if !site.has_early_cut_offs() => Interval::Yellow,
+        interval => interval,
+    }
+}
+
 /// A movement as its interval and phase allow.
 fn random_movement(rng: &mut Rng, site: &Site, state: &State, index: usize) -> MovementState {
     let movement = site.movement(index);
     let stages: &[Stage] = match state.interval {
         _ if movement.phase != state.phase => &[Stage::Idle],
         Interval::StartRed => &[Stage::Idle],
-        Interval::Yellow | Interval::AllRed => &[Stage::Idle, Stage::ClearanceTwo],
+        interval if interval.is_clearing() => &[Stage::Idle, Stage::ClearanceTwo],
         _ => &Stage::ALL,
     };
     let stage = rng.pick(stages);
@@ -60,6 +69,7 @@ fn setting_of(site: &Site, phase: u8, interval: Interval) -> u16 {
         Interval::LateStart => times.late_start,
         Interval::MinimumGreen => times.minimum_green,
         Interval::Running => 1,
+        Interval::EarlyCutOff => site.early_cut_off(phase),
         Interval::Yellow => times.yellow,
         Interval::AllRed => times.all_red,
     }
@@ -98,7 +108,7 @@ fn other_phase(rng: &mut Rng, phases: usize, phase: u8) -> u8 {
     ((usize::from(phase) + rng.range(1, phases - 1)) % phases) as u8
 }
 
-/// The ways a state can break a rule of document 01.
+/// The ways a state can break a rule of documents 01 and 02.
 #[derive(Clone, Copy, Debug, PartialEq, Eq)]
 pub enum Breakage {
     PhaseBeyond,
@@ -119,10 +129,11 @@ pub enum Breakage {
     IdleAged,
     MovementAge,
     MovementBeyond,
+    EarlyWithoutTimes,
 }
 
 impl Breakage {
-    pub const ALL: [Breakage; 18] = [
+    pub const ALL: [Breakage; 19] = [
         Breakage::PhaseBeyond,
         Breakage::CameFromBeyond,
         Breakage::TargetBeyond,
@@ -141,6 +152,7 @@ impl Breakage {
         Breakage::IdleAged,
         Breakage::MovementAge,
         Breakage::MovementBeyond,
+        Breakage::EarlyWithoutTimes,
     ];
 }
 
@@ -176,6 +188,11 @@ fn break_state(rng: &mut Rng, site: &Site, state: &mut State, breakage: Breakage
             state.demands |= 1 << rng.range(site.movement_count(), 7);
         }
         Breakage::DemandBeyond => return None,
+        Breakage::EarlyWithoutTimes
+            if state.interval.is_clearing() && !site.has_early_cut_offs() =>
+        {
+            state.interval = Interval::EarlyCutOff;
+        }
         _ => return break_movement(rng, site, state, breakage),
     }
     let untouched = match breakage {
@@ -222,17 +239,19 @@ fn break_movement(rng: &mut Rng, site: &Site, state: &mut State, breakage: Break
 /// The bytes of a valid state, one of them changed so that they are no state.
 pub fn broken_state_bytes(rng: &mut Rng, site: &Site) -> Vec<u8> {
     let mut bytes = valid_state(rng, site).to_bytes().to_vec();
-    let at = match rng.below(4) {
-        0 => 1,
-        1 => rng.pick(&[4, 6]),
-        2 => rng.range(12, 26),
-        _ => 27 + 3 * rng.below(MAX_MOVEMENTS),
-    };
-    bytes[at] = rng.pick(&[6, 7, 128, 255]);
-    if at < 12 && rng.percent(30) {
+    if rng.percent(10) {
         // A phase where there is none.
-        bytes[1] = 0;
-        bytes[4..8].copy_from_slice(&[0, 1, 0, 0]);
+        let at = rng.pick(&[layout::CAME_FROM, layout::TARGET]);
+        bytes[at..at + 2].copy_from_slice(&[0, 1]);
+        return bytes;
     }
+    let at = match rng.below(4) {
+        0 => layout::INTERVAL,
+        1 => rng.pick(&[layout::CAME_FROM, layout::TARGET]),
+        2 => rng.range(layout::LOCKS, layout::MOVEMENTS - 1),
+        _ => layout::MOVEMENTS + layout::MOVEMENT_LEN * rng.below(MAX_MOVEMENTS),
+    };
+    // No code, tag or flag is as great as these.
+    bytes[at] = rng.pick(&[Interval::ALL.len() as u8, 8, 128, 255]);
     bytes
 }

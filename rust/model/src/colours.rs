@@ -52,6 +52,8 @@ impl Aspects {
     fn of_vehicles(site: &Site, state: &State) -> Aspects {
         let groups_of = |phase: u8| site.groups.of_phase[usize::from(phase & 7)];
         let own = groups_of(state.phase) & !site.groups.pedestrian;
+        let next = state.target.map_or(0, groups_of);
+        let closing = own & !next;
         let (green, yellow) = match state.interval {
             Interval::StartRed => (0, 0),
             Interval::LateStart => {
@@ -59,11 +61,15 @@ impl Aspects {
                 (own & !(site.groups.late & !from), 0)
             }
             Interval::MinimumGreen | Interval::Running => (own, 0),
-            Interval::Yellow => {
-                let next = state.target.map_or(0, groups_of);
-                (own & next, own & !next)
+            Interval::EarlyCutOff => {
+                let early = closing & site.groups.early;
+                (own & !early, early & early_yellow(site, state))
             }
-            Interval::AllRed => (own & state.target.map_or(0, groups_of), 0),
+            Interval::Yellow => {
+                let others = closing & !site.groups.early;
+                (own & next, others | closing & early_yellow(site, state))
+            }
+            Interval::AllRed => (own & next, 0),
         };
         Aspects {
             yellow,
@@ -80,5 +86,20 @@ impl Aspects {
         coded(self.yellow, Colour::Yellow)
             | coded(self.green, Colour::Green)
             | coded(self.flashing_red, Colour::FlashingRed)
+    }
+}
+
+/// The groups that stop early, while their yellow lasts: Y steps from the start
+/// of early cut-off. None of them afterwards.
+#[inline]
+fn early_yellow(site: &Site, state: &State) -> u32 {
+    let before = match state.interval {
+        Interval::Yellow => site.early_cut_off(state.phase),
+        _ => 0,
+    };
+    if before + state.age <= site.phase(state.phase).yellow {
+        site.groups.early
+    } else {
+        0
     }
 }

@@ -7,7 +7,7 @@
 //! of the standard library but its core.
 //!
 //! [`packed`] holds the same functions in the shape of the board library: states
-//! as 51 bytes and answers as one number.
+//! as bytes, by [`layout`], and answers as one number.
 
 #![no_std]
 #![forbid(unsafe_code)]
@@ -17,6 +17,7 @@ extern crate std;
 
 mod bits;
 mod colours;
+pub mod layout;
 mod limits;
 mod lookup;
 pub mod packed;
@@ -29,12 +30,13 @@ mod valid;
 mod wait;
 
 pub use colours::Colour;
+pub use layout::STATE_LEN;
 pub use limits::{Limits, Setting};
 pub use lookup::{section, Part};
 pub use reader::read;
 pub use refusal::{Number, Refusal, Verdict};
 pub use site::{Detector, Group, Mark, Movement, PhaseTimes, Site};
-pub use state::{fresh, Interval, MovementState, Stage, State, MAX_AGE, STATE_LEN};
+pub use state::{fresh, Interval, MovementState, Stage, State, MAX_AGE};
 pub use step::{step, step_on, Answer};
 pub use valid::valid;
 pub use wait::wait_bound;

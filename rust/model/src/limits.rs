@@ -13,6 +13,7 @@ pub enum Setting {
     Walk,
     ClearanceOne,
     ClearanceTwo,
+    EarlyCutOff,
 }
 
 /// Lowest and highest value of a time setting, both allowed.
@@ -30,7 +31,7 @@ impl Limits {
     }
 }
 
-const TABLE: [Limits; 10] = [
+const TABLE: [Limits; 11] = [
     Limits { low: 10, high: 150 },
     Limits { low: 0, high: 200 },
     Limits { low: 10, high: 400 },
@@ -44,6 +45,7 @@ const TABLE: [Limits; 10] = [
     Limits { low: 10, high: 400 },
     Limits { low: 1, high: 400 },
     Limits { low: 1, high: 400 },
+    Limits { low: 0, high: 200 },
 ];
 
 impl Setting {

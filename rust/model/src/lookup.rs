@@ -20,9 +20,11 @@ pub fn section(personality: &[u8], kind: u16) -> Result<Part, Refusal> {
         4 * site.group_count(),
         2 * site.detector_count(),
         6 * site.movement_count(),
+        2 * site.phase_count(),
     ];
+    let held = if site.has_early_cut_offs() { 7 } else { 6 };
     let index = usize::from(kind).wrapping_sub(1);
-    let Some(length) = lengths.get(index) else {
+    let Some(length) = lengths[..held].get(index) else {
         return Err(Refusal::without_place(Number::UnexpectedKind));
     };
     let before: usize = lengths[..index].iter().sum();

@@ -1,4 +1,4 @@
-//! The model in the shape of the board library: a state is 51 bytes that a step
+//! The model in the shape of the board library: a state is bytes that a step
 //! replaces, and an answer is one number. Its low 8 bits are 0 where the call is
 //! accepted, else the number of the refusal; the rest is the wait bound or the
 //! place.

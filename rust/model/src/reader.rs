@@ -40,6 +40,15 @@ impl<'a> Site<'a> {
         let movements = sections.take(6, |length| length == 6 * groups.movement_count)?;
         check_times(&movements, &MOVEMENT_LIMITS)?;
 
+        let early_cut_offs = sections.take_optional(7, |length| length == 2 * phase_count)?;
+        if let Some(section) = &early_cut_offs {
+            check_times(section, &EARLY_LIMITS)?;
+        }
+
+        if early_cut_offs.is_none() && groups.early != 0 {
+            let first = groups.early.trailing_zeros() as usize;
+            return Err(group_section.refuse(Number::EarlyWithoutTimes, 2 * first));
+        }
         if sections.at < personality.len() {
             return Err(Refusal::at(Number::LeftOver, sections.at));
         }
@@ -50,6 +59,7 @@ impl<'a> Site<'a> {
             conflicts: conflicts.records(),
             detectors: detectors.records(),
             movements: movements.records(),
+            early_cut_offs: early_cut_offs.map(|section| section.records()),
         };
         Ok(Site { records, groups })
     }
@@ -90,6 +100,25 @@ impl<'a> Sections<'a> {
         };
         self.at = head + HEAD + length;
         Ok(Section { head, body })
+    }
+
+    /// Takes the next section where what is left begins with a whole head of
+    /// this kind.
+    #[inline]
+    fn take_optional(
+        &mut self,
+        kind: u16,
+        fits: impl FnOnce(usize) -> bool,
+    ) -> Result<Option<Section<'a>>, Refusal> {
+        let held = match self.bytes[self.at..].first_chunk::<HEAD>() {
+            Some(&[_, _, low, high]) => u16::from_le_bytes([low, high]) == kind,
+            None => false,
+        };
+        if held {
+            self.take(kind, fits).map(Some)
+        } else {
+            Ok(None)
+        }
     }
 }
 
@@ -135,6 +164,7 @@ fn read_counts(site: &Section) -> Result<(usize, usize, u16), Refusal> {
 
 const PHASE_LIMITS: [Limits; 6] = limits_of(Setting::OF_PHASE);
 const MOVEMENT_LIMITS: [Limits; 3] = limits_of(Setting::OF_MOVEMENT);
+const EARLY_LIMITS: [Limits; 1] = limits_of([Setting::EarlyCutOff]);
 
 const fn limits_of<const FIELDS: usize>(settings: [Setting; FIELDS]) -> [Limits; FIELDS] {
     let mut limits = [Setting::StartRed.limits(); FIELDS];
@@ -169,15 +199,14 @@ fn check_times<const FIELDS: usize>(
 fn read_groups(section: &Section, phase_count: usize) -> Result<Groups, Refusal> {
     const LATE_START: u8 = Mark::LateStart as u8;
     const PEDESTRIAN: u8 = Mark::Pedestrian as u8;
+    const EARLY: u8 = Mark::EarlyCutOff as u8;
 
     let mut groups = Groups::default();
     let mut sets = [0_u8; MAX_GROUPS];
     let mut served = 0;
     let records: &[[u8; 2]] = section.records();
     for (index, (&[set, mark], slot)) in records.iter().zip(&mut sets).enumerate() {
-        if set >> phase_count != 0
-            || mark > PEDESTRIAN
-            || (mark == PEDESTRIAN && !set.is_power_of_two())
+        if set >> phase_count != 0 || mark > EARLY || (mark == PEDESTRIAN && !set.is_power_of_two())
         {
             return Err(section.refuse(Number::WrongGroup, 2 * index));
         }
@@ -190,6 +219,7 @@ fn read_groups(section: &Section, phase_count: usize) -> Result<Groups, Refusal>
             groups.pedestrian |= 1 << index;
         }
         groups.late |= u32::from(mark == LATE_START) << index;
+        groups.early |= u32::from(mark == EARLY) << index;
         served |= set;
         *slot = set;
     }

@@ -1,4 +1,4 @@
-//! The refusals of document 01.
+//! The refusals of documents 01 and 02.
 
 /// What is wrong, by the number the paper gives it.
 #[derive(Clone, Copy, Debug, PartialEq, Eq, PartialOrd, Ord, Hash)]
@@ -35,6 +35,8 @@ pub enum Number {
     ShortBuffer = 14,
     /// An input bit is set without a detector or button there.
     UnknownInput = 15,
+    /// A group that stops early, without a section of early cut-off times.
+    EarlyWithoutTimes = 17,
 }
 
 /// A refusal: its number, and the byte of the personality it is about (0 where

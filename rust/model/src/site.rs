@@ -21,6 +21,8 @@ pub enum Mark {
     /// A vehicle group that waits in red during late start.
     LateStart = 1,
     Pedestrian = 2,
+    /// A vehicle group that stops early.
+    EarlyCutOff = 3,
 }
 
 /// A signal group.
@@ -66,7 +68,7 @@ pub struct Movement {
     pub clearance_two: u16,
 }
 
-/// The bytes of the six sections' records, each within its limits.
+/// The bytes of the sections' records, each within its limits.
 #[derive(Clone, Copy, Debug)]
 pub(crate) struct Records<'a> {
     pub start_red: u16,
@@ -75,6 +77,8 @@ pub(crate) struct Records<'a> {
     pub conflicts: &'a [[u8; 4]],
     pub detectors: &'a [[u8; 2]],
     pub movements: &'a [[u8; 6]],
+    /// The early cut-off times; none without their section.
+    pub early_cut_offs: Option<&'a [[u8; 2]]>,
 }
 
 /// What the group records say, turned round: sets of groups, bit g for group g.
@@ -86,6 +90,8 @@ pub(crate) struct Groups {
     pub late: u32,
     /// The pedestrian groups.
     pub pedestrian: u32,
+    /// The vehicle groups that stop early.
+    pub early: u32,
     /// The phase set of every movement: one bit.
     pub movement_set: [u8; MAX_MOVEMENTS],
     pub movement_count: usize,
@@ -125,13 +131,30 @@ impl Site<'_> {
         PhaseTimes::decode(&self.records.phases[usize::from(phase)])
     }
 
+    /// Whether the site has a section of early cut-off times.
+    #[inline]
+    pub fn has_early_cut_offs(&self) -> bool {
+        self.records.early_cut_offs.is_some()
+    }
+
+    /// The early cut-off time of a phase below the phase count: 0 without the
+    /// section.
+    #[inline]
+    pub fn early_cut_off(&self, phase: u8) -> u16 {
+        match self.records.early_cut_offs {
+            Some(times) => u16::from_le_bytes(times[usize::from(phase)]),
+            None => 0,
+        }
+    }
+
     /// A group below the group count.
     pub fn group(&self, group: usize) -> Group {
         let [set, mark] = self.records.groups[group];
         let mark = match mark {
             0 => Mark::Vehicle,
             1 => Mark::LateStart,
-            _ => Mark::Pedestrian,
+            2 => Mark::Pedestrian,
+            _ => Mark::EarlyCutOff,
         };
         Group { set, mark }
     }

@@ -169,8 +169,17 @@ fn run_interval(site: &Site, state: &mut State, others: u8) -> bool {
             state.maximum_count = 0;
         }
         Interval::Running if green_ends(state, times.maximum_green, others) => {
-            enter(state, Interval::Yellow);
+            let skipped = site.early_cut_off(state.phase) == 0;
+            let next = if skipped {
+                Interval::Yellow
+            } else {
+                Interval::EarlyCutOff
+            };
+            enter(state, next);
             state.target = Some(first_after(state.phase, others));
+        }
+        Interval::EarlyCutOff if state.age >= site.early_cut_off(state.phase) => {
+            enter(state, Interval::Yellow);
         }
         Interval::Yellow if state.age >= times.yellow => enter(state, Interval::AllRed),
         Interval::AllRed if state.age >= times.all_red && !any_in(state, Stage::ClearanceTwo) => {
@@ -182,7 +191,7 @@ fn run_interval(site: &Site, state: &mut State, others: u8) -> bool {
     false
 }
 
-/// Whether running gives way to yellow.
+/// Whether running gives way to early cut-off or yellow.
 #[inline]
 fn green_ends(state: &State, maximum_green: u16, others: u8) -> bool {
     others != 0

@@ -16,7 +16,9 @@ pub fn valid(site: &Site, state: &State) -> bool {
         None => !state.interval.is_clearing(),
         Some(target) => state.interval.is_clearing() && held(target) && target != state.phase,
     };
+    let interval_fits = state.interval != Interval::EarlyCutOff || site.has_early_cut_offs();
     target_fits
+        && interval_fits
         && state.came_from.is_none_or(held)
         && age_fits(state.age)
         && state.gap_count <= times.gap
@@ -52,7 +54,7 @@ fn movements_fit(site: &Site, state: &State) -> bool {
 fn stage_fits(stage: Stage, interval: Interval) -> bool {
     match interval {
         Interval::StartRed => false,
-        Interval::Yellow | Interval::AllRed => stage == Stage::ClearanceTwo,
+        interval if interval.is_clearing() => stage == Stage::ClearanceTwo,
         _ => true,
     }
 }

@@ -9,8 +9,9 @@ pub fn wait_bound(personality: &[u8]) -> Result<u32, Refusal> {
 }
 
 impl Site<'_> {
-    /// Start red plus, summed over phases, L + M + X + 2 × (A + Y + R + C), A
-    /// the greatest W + C1 and C the greatest C2 among the phase's movements.
+    /// Start red plus, summed over phases, L + M + X + 2 × (A + E + Y + R + C), A
+    /// the greatest W + C1 and C the greatest C2 among the phase's movements, E
+    /// the early cut-off time.
     #[inline]
     pub fn wait_bound(&self) -> u32 {
         let (walks, clearances) = self.longest_movements();
@@ -18,7 +19,8 @@ impl Site<'_> {
         for (phase, record) in self.records.phases.iter().enumerate() {
             let times = PhaseTimes::decode(record);
             let green = times.late_start + times.minimum_green + times.maximum_green;
-            let change = walks[phase & 7] + times.yellow + times.all_red + clearances[phase & 7];
+            let closing = self.early_cut_off(phase as u8) + times.yellow + times.all_red;
+            let change = walks[phase & 7] + closing + clearances[phase & 7];
             bound += u32::from(green) + 2 * u32::from(change);
         }
         bound

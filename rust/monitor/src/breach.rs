@@ -20,6 +20,8 @@ pub enum Breach {
         conflicting: usize,
         shown: Vec<(u8, u64)>,
     },
+    /// Early cut-off begins, and a group that stops early is not yellow.
+    StaysOpen { step: u64, group: usize },
     /// The locked demand of a phase is not met within the wait bound.
     LockUnmet {
         step: u64,
@@ -59,6 +61,9 @@ impl fmt::Display for Breach {
                 "step {step}: group {starting} starts a green, group {conflicting} has shown \
                  only {shown:?} since its own"
             ),
+            Breach::StaysOpen { step, group } => {
+                write!(f, "step {step}: group {group} does not stop early")
+            }
             Breach::LockUnmet {
                 step,
                 phase,

@@ -1,7 +1,7 @@
 //! Greens and clearances.
 
 use crate::{Breach, Seen};
-use model::{Colour, Mark, Site};
+use model::{Colour, Interval, Mark, Site};
 
 const RED: u8 = Colour::Red as u8;
 const YELLOW: u8 = Colour::Yellow as u8;
@@ -51,6 +51,7 @@ impl Clearances {
                 }
             }
         }
+        early_groups_close(site, seen, step)?;
         for (shown, &colour) in self.groups.iter_mut().zip(seen.colours) {
             shown.take(colour, seen.after.phase);
         }
@@ -88,6 +89,25 @@ fn no_green_beside(site: &Site, seen: &Seen, step: u64, group: usize) -> Result<
     }
 }
 
+/// Where early cut-off begins, its groups begin their yellow: those of the phase
+/// that stop early and are not of the target.
+fn early_groups_close(site: &Site, seen: &Seen, step: u64) -> Result<(), Breach> {
+    let early = Interval::EarlyCutOff;
+    if seen.after.interval != early || seen.before.interval == early {
+        return Ok(());
+    }
+    let has = |set: u8, phase: Option<u8>| phase.is_some_and(|phase| set >> phase & 1 != 0);
+    let stays_open = |group: &usize| {
+        let model::Group { set, mark } = site.group(*group);
+        let closing = has(set, Some(seen.after.phase)) && !has(set, seen.after.target);
+        mark == Mark::EarlyCutOff && closing && seen.colours[*group] != YELLOW
+    };
+    match (0..site.group_count()).find(stays_open) {
+        Some(group) => Err(Breach::StaysOpen { step, group }),
+        None => Ok(()),
+    }
+}
+
 impl Shown {
     fn take(&mut self, colour: u8, phase: u8) {
         self.colour = Some(colour);
@@ -115,9 +135,10 @@ impl SinceGreen {
                 let red_after = matches!(rest, [] | [(RED, _)]);
                 *flashing == pedestrian_clearance(site, group) && red_after
             }
-            (Mark::Vehicle | Mark::LateStart, [(YELLOW, yellow), (RED, red)]) => {
-                *yellow == u64::from(times.yellow) && *red >= u64::from(times.all_red)
-            }
+            (
+                Mark::Vehicle | Mark::LateStart | Mark::EarlyCutOff,
+                [(YELLOW, yellow), (RED, red)],
+            ) => *yellow == u64::from(times.yellow) && *red >= u64::from(times.all_red),
             _ => false,
         }
     }

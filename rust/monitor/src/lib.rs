@@ -1,6 +1,7 @@
 //! Watches a run of step calls from outside, for the three parts of demand 3:
 //! no conflicting greens together, full clearances before a conflicting green,
-//! and every registered demand met within the wait bound.
+//! and every registered demand met within the wait bound. A group that stops
+//! early begins its clearance with early cut-off.
 //!
 //! [`Monitor`] is told of accepted steps; [`watch`] drives a board with random
 //! or adversarial inputs and tells it.

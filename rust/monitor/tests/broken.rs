@@ -2,7 +2,7 @@
 
 use generate::{Pace, Plan, Rng, Shape};
 use model::packed::{self, number, Board, Model};
-use model::{Interval, MovementState, Site, Stage, State, MAX_AGE};
+use model::{layout, Interval, Mark, MovementState, Site, Stage, State, MAX_AGE};
 use monitor::{watch, Breach, Driver, Strategy};
 
 /// The model with its accepted steps spoilt.
@@ -74,6 +74,7 @@ fn busy_site(rng: &mut Rng) -> Plan {
         groups: rng.range(8, 20),
         pedestrians: rng.range(1, 8),
         detectors: 30,
+        early_cut_offs: true,
         pace: Pace::Short,
     };
     let mut plan = Plan::of_shape(rng, shape);
@@ -158,11 +159,112 @@ fn yellow_one_step_short() {
 fn yellow_shown_as_red() {
     assert_breach!(
         |outcome| {
-            for colour in outcome.colours.iter_mut().filter(|colour| **colour == 1) {
+            let yellow = outcome.state.interval == Interval::Yellow;
+            for colour in outcome
+                .colours
+                .iter_mut()
+                .filter(|code| yellow && **code == 1)
+            {
                 *colour = 0;
             }
         },
         Breach::Uncleared { .. }
+    );
+}
+
+/// Spoils the colours of the groups that stop early, in early cut-off or yellow.
+fn spoil_early(outcome: &mut Outcome, interval: Interval, spoil: fn(&Outcome, u8) -> u8) {
+    if outcome.state.interval != interval {
+        return;
+    }
+    for group in 0..outcome.site.group_count() {
+        if outcome.site.group(group).mark == Mark::EarlyCutOff {
+            outcome.colours[group] = spoil(outcome, outcome.colours[group]);
+        }
+    }
+}
+
+#[test]
+fn an_arrow_that_stays_green_in_early_cut_off() {
+    assert_breach!(
+        |outcome| spoil_early(outcome, Interval::EarlyCutOff, |_, colour| {
+            if colour == 0 {
+                0
+            } else {
+                2
+            }
+        }),
+        Breach::StaysOpen { .. }
+    );
+}
+
+#[test]
+fn an_arrow_that_closes_without_yellow() {
+    assert_breach!(
+        |outcome| spoil_early(outcome, Interval::EarlyCutOff, |_, colour| {
+            if colour == 1 {
+                0
+            } else {
+                colour
+            }
+        }),
+        Breach::StaysOpen { .. }
+    );
+}
+
+#[test]
+fn an_arrow_whose_yellow_ends_with_early_cut_off() {
+    assert_breach!(
+        |outcome| spoil_early(outcome, Interval::Yellow, |outcome, colour| {
+            let skipped = outcome.site.early_cut_off(outcome.state.phase) == 0;
+            if colour == 1 && !skipped {
+                0
+            } else {
+                colour
+            }
+        }),
+        Breach::Uncleared { .. }
+    );
+}
+
+#[test]
+fn an_arrow_whose_yellow_starts_again_with_yellow() {
+    assert_breach!(
+        |outcome| spoil_early(outcome, Interval::Yellow, |_, colour| {
+            if colour == 0 {
+                1
+            } else {
+                colour
+            }
+        }),
+        Breach::Uncleared { .. }
+    );
+}
+
+#[test]
+fn an_arrow_one_step_short_of_its_yellow() {
+    assert_breach!(
+        |outcome| spoil_early(outcome, Interval::EarlyCutOff, |outcome, colour| {
+            let yellow = outcome.site.phase(outcome.state.phase).yellow;
+            if colour == 1 && outcome.state.age == yellow {
+                0
+            } else {
+                colour
+            }
+        }),
+        Breach::Uncleared { .. }
+    );
+}
+
+#[test]
+fn early_cut_off_that_lasts_for_ever() {
+    assert_breach!(
+        |outcome| {
+            if outcome.state.interval == Interval::EarlyCutOff {
+                outcome.state.age = 1;
+            }
+        },
+        Breach::LockUnmet { .. } | Breach::PressUnmet { .. }
     );
 }
 
@@ -335,7 +437,7 @@ fn a_refusal_that_writes() {
 fn a_state_that_is_none() {
     let breach = first_breach(&Odd(|personality, state, inputs, colours| {
         let answer = Model.step(personality, state, inputs, colours);
-        state[1] = 9;
+        state[layout::INTERVAL] = 9;
         answer
     }));
     assert!(matches!(breach, Breach::NoState { .. }));

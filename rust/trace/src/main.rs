@@ -22,6 +22,7 @@ fn letter(interval: Interval) -> char {
         Interval::LateStart => 'L',
         Interval::MinimumGreen => 'M',
         Interval::Running => 'G',
+        Interval::EarlyCutOff => 'E',
         Interval::Yellow => 'Y',
         Interval::AllRed => 'R',
     }

@@ -56,7 +56,7 @@ mod tests {
     fn an_accepted_answer_has_the_wait_bound() {
         assert_eq!(wait_bound_or_refusal(0), Ok(0));
         assert_eq!(wait_bound_or_refusal(270 << 8), Ok(270));
-        assert_eq!(wait_bound_or_refusal(35_150 << 8), Ok(35_150));
+        assert_eq!(wait_bound_or_refusal(37_950 << 8), Ok(37_950));
     }
 
     #[test]

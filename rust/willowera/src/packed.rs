@@ -33,7 +33,7 @@ pub fn wait_bound(personality: &[u8]) -> u64 {
     unsafe { ffi::willowera_wait_bound(personality.as_ptr(), personality.len()) }
 }
 
-/// Writes the fresh state into a buffer of 51 bytes.
+/// Writes the fresh state into a buffer of [`crate::STATE_LEN`] bytes.
 pub fn fresh(state: &mut [u8]) -> u64 {
     // SAFETY: the pointer and the length are those of one slice, lent for writing.
     unsafe { ffi::willowera_fresh(state.as_mut_ptr(), state.len()) }

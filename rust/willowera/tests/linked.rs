@@ -2,7 +2,9 @@
 
 #![cfg(feature = "linked")]
 
-use willowera::{packed, read, section, version, wait_bound, Controller, Refusal, STATE_LEN};
+use willowera::{
+    packed, read, section, version, wait_bound, Controller, Refusal, STATE_LEN, VERSION,
+};
 
 /// The junction of two phases of document 01.
 const JUNCTION: [u8; 68] = [
@@ -25,7 +27,7 @@ fn reads_and_waits() {
     };
     assert_eq!(read(&JUNCTION[..66]), Err(cut));
     assert_eq!(wait_bound(&JUNCTION[..66]), Err(cut));
-    assert!(version() > 0);
+    assert_eq!(version(), VERSION);
 }
 
 #[test]

@@ -20,7 +20,10 @@ returns-5 : tie.Need-returns-5
 returns-5 c = let e : c .before .args .code ≡ 5 = omega (arith, c .before .pre, c .match .keys5) in rw e
 
 returns-6 : tie.Need-returns-6
-returns-6 c = let e : c .before .args .code ≡ 0 = omega (arith, c .before .pre, c .match .rest) in rw e
+returns-6 c = let e : c .before .args .code ≡ 6 = omega (arith, c .before .pre, c .match .keys6) in rw e
+
+returns-7 : tie.Need-returns-7
+returns-7 c = let e : c .before .args .code ≡ 0 = omega (arith, c .before .pre, c .match .rest) in rw e
 
 pub interval-of-spec : {M : Type 1} → statement M
-interval-of-spec = tie.close (tie.spec returns returns-2 returns-3 returns-4 returns-5 returns-6)
+interval-of-spec = tie.close (tie.spec returns returns-2 returns-3 returns-4 returns-5 returns-6 returns-7)

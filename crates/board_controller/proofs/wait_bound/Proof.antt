@@ -3,7 +3,7 @@ use borrow.Author.Needs.{needs}
 use mathlib.Core.Path.{_≡_, sym, _∙_}
 use Rattle.rules.specs.declared.answer.Verdict.the-variants.{Accepted}
 use Rattle.rules.specs.Personality.{verdictOf}
-use Rattle.board_controller.proofs.Calls.{sound-read, bound-refused, bound-given}
+use Rattle.board_controller.proofs.Calls.{bound-refused, timing-sound, bound-given}
 use Rattle.board_controller.proofs.wait_bound.Statement.{statement}
 use Rattle.board_controller.proofs.wait_bound.Tie as tie
 
@@ -23,19 +23,18 @@ enum-told c = search needs
 accepted : (c : tie.After-enum-told) → verdictOf (c .before .before .before .before .args .personality .now) ≡ Accepted
 accepted c = sym (c .before .before .read .ensures) ∙ c .enum-told .given .1
 
-site-requires : tie.Need-site-requires
-site-requires c κs = accepted c
+timing-requires : tie.Need-timing-requires
+timing-requires c κs = accepted c
 
 wait-bound-of-requires : tie.Need-wait-bound-of-requires
 wait-bound-of-requires c κs =
     let held = c .before .before .before in
-    let sound = sound-read _ (held .site .result) (accepted (held .before)) (held .site .ensures) in
-    (sound .phases .1, sound .movements, sound .times)
+    timing-sound _ (held .timing .result) (accepted (held .before)) (held .timing .ensures)
 
 returns-2 : tie.Need-returns-2
 returns-2 c =
     let held = c .before .before .before .before in
-    bound-given _ (held .site .result) (c .wait-bound-of .result) (accepted (held .before)) (held .site .ensures) (c .wait-bound-of .ensures)
+    bound-given _ (held .timing .result) (c .wait-bound-of .result) (accepted (held .before)) (held .timing .ensures) (c .wait-bound-of .ensures)
 
 pub wait-bound-spec : {M : Type 1} → statement M
 wait-bound-spec =
@@ -45,6 +44,6 @@ wait-bound-spec =
     enum-known-verdict
     returns
     enum-told
-    site-requires
+    timing-requires
     wait-bound-of-requires
     returns-2)

@@ -1,27 +1,30 @@
--- `board_state::decode` meets its contract, by the test of the bytes.
-use mathlib.Core.Path.{sym, _∙_}
-use Rattle.board_state.specs.Layout.{decodedOr}
-use borrow.Author.Needs.{needs}
+-- `board_state::decode` meets its contract: each part is read from bytes that the test passed.
+use native.Mathlib.Omega.{arith}
+use Rattle.board_state.specs.Layout.{decoded}
+use Rattle.board_state.proofs.Told.{StateTold, state-told}
 use Rattle.board_state.proofs.decode.Statement.{statement}
 use Rattle.board_state.proofs.decode.Tie as tie
 
-is-state-requires : tie.Need-is-state-requires
-is-state-requires c κs = search needs
+-- what the test tells
+told : (c : tie.Start) → StateTold (c .args .bytes .now)
+told c = state-told (c .args .bytes .now) (c .pre)
 
-state-requires : tie.Need-state-requires
-state-requires c κs = sym (c .before .is-state .ensures) ∙ c .if1 .taken
+read-requires : tie.Need-read-requires
+read-requires c κs = let t = told (c .before) in (omega (arith, t .size), t .position-known)
 
-fresh-state-requires : tie.Need-fresh-state-requires
-fresh-state-requires c κs = search needs
+read-requires-2 : tie.Need-read-requires-2
+read-requires-2 c κs = omega (arith, told (c .before .before) .size)
+
+read-requires-3 : tie.Need-read-requires-3
+read-requires-3 c κs = let t = told (c .before .before .before) in (omega (arith, t .size), t .demands-known)
+
+read-requires-4 : tie.Need-read-requires-4
+read-requires-4 c κs = let t = told (c .before .before .before .before) in (omega (arith, t .size), t .movements-known)
 
 returns : tie.Need-returns
-unfolding decodedOr
-returns c = rw (sym (c .before .before .is-state .ensures) ∙ c .before .if1 .taken, c .state .ensures)
-
-returns-2 : tie.Need-returns-2
-unfolding decodedOr
-returns-2 c = rw (sym (c .before .before .is-state .ensures) ∙ c .before .if1 .left, c .fresh-state .ensures)
+unfolding decoded
+returns c = rw (c .read4 .ensures, c .before .read3 .ensures, c .before .before .read2 .ensures, c .before .before .before .read .ensures)
 
 pub decode-spec : {M : Type 1} → statement M
 decode-spec =
-    tie.close (tie.spec is-state-requires state-requires fresh-state-requires returns returns-2)
+    tie.close (tie.spec read-requires read-requires-2 read-requires-3 read-requires-4 returns)

@@ -13,8 +13,8 @@ returns c =
     let other = ne-eqb (length (c .before .before .args .bytes .now)) stateBytes (c .if1 .taken) in
     (sym other, rw other)
 
-put-state-requires : tie.Need-put-state-requires
-put-state-requires c κs = search needs
+put-requires : tie.Need-put-requires
+put-requires c κs = search needs
 
 same-length : tie.Need-same-length
 same-length c = search needs
@@ -24,7 +24,7 @@ unfolding encodedOver
 returns-2 c =
     let start = c .before .before .before .before .before .before in
     let room = eq-eqb (length (start .args .bytes .now)) stateBytes (c .before .before .before .before .if1 .left) in
-    (sym room, rw room (c .before .before .put-state .ensures))
+    (sym room, rw room (c .before .before .put .ensures))
 
 pub encode-spec : {M : Type 1} → statement M
-encode-spec = tie.close (tie.spec returns put-state-requires same-length returns-2)
+encode-spec = tie.close (tie.spec returns put-requires same-length returns-2)

@@ -8,6 +8,8 @@ use Rattle.rules.specs.Verdicts.{_orElse_}
 use Rattle.rules.specs.declared.answer.Verdict.{Verdict}
 use Rattle.rules.specs.declared.answer.Verdict.the-variants.{Accepted}
 use Rattle.rules.proofs.Verdicts.{or-next, or-stop}
+use Rattle.read_sections.specs.declared.layout.Layout.{Layout}
+use Rattle.read_sections.specs.Laid.{Laid}
 use Rattle.read_personality.proofs.read.Statement.{statement}
 use Rattle.read_personality.proofs.read.Tie as tie
 
@@ -46,7 +48,18 @@ abbrev atDetectors : tie.After-enum-told10 → List ℕ
 atDetectors c = atConflicts (c .before .before .before)
 
 abbrev atPedestrians : tie.After-enum-told12 → List ℕ
-atPedestrians c = atDetectors (c .before .before .before)
+atPedestrians c = atDetectors (c .before .before .before .before)
+
+-- ── From there, the places where kinds 3 and 1 had passed, and the layout ──
+
+abbrev groupsBefore : tie.After-enum-told10 → tie.After-enum-told6
+groupsBefore c = c .before .before .before .before .before .before
+
+abbrev siteBefore : tie.After-enum-told6 → tie.After-enum-told2
+siteBefore c = c .before .before .before .before .before .before
+
+abbrev layoutAt : tie.After-enum-told2 → Layout
+layoutAt c = c .before .before .before .laid-out .result
 
 -- ── The calls ──
 
@@ -111,7 +124,7 @@ groupsAccepted c = sym (c .before .before .groups-section .ensures) ∙ c .enum-
 
 conflicts-section-requires : tie.Need-conflicts-section-requires
 conflicts-section-requires c κs =
-    let site = c .before .before .before .before .before .before in
+    let site = siteBefore c in
     (site .before .before .before .laid-out .ensures, siteAccepted site, groupsAccepted c)
 
 enum-told-7 : tie.Need-enum-told-7
@@ -145,27 +158,37 @@ enum-told-10 c = search needs
 afterDetectors : (c : tie.After-enum-told10) {v : Verdict} → v ≡ fromPedestrians (atDetectors c) → v ≡ verdictOf (atDetectors c)
 afterDetectors c e = afterConflicts (c .before .before .before) (or-next (c .before .before .detectors-section .ensures) (c .enum-told10 .given .1) e)
 
+-- what kind 3 left, after kind 5
+groupsLaid :
+    (c : tie.After-enum-told10) → Laid (atDetectors c) (layoutAt (siteBefore (groupsBefore c))) × (groupsSection (atDetectors c) ≡ Accepted)
+groupsLaid c =
+    let groups = groupsBefore c in
+    (siteBefore groups .before .before .before .laid-out .ensures, groupsAccepted groups)
+
+marks-of-requires : tie.Need-marks-of-requires
+marks-of-requires c κs = groupsLaid c
+
 pedestrians-section-requires : tie.Need-pedestrians-section-requires
-pedestrians-section-requires c κs =
-    let groups = c .before .before .before .before .before .before in
-    let site = groups .before .before .before .before .before .before in
-    (site .before .before .before .laid-out .ensures, groupsAccepted groups)
+pedestrians-section-requires c κs = (groupsLaid (c .before) .0, c .marks-of .ensures .0)
 
 enum-told-11 : tie.Need-enum-told-11
 enum-told-11 c = search needs
 
 returns-6 : tie.Need-returns-6
-returns-6 c = afterDetectors (c .before .before .before) (or-stop _ (c .before .before .pedestrians-section .ensures) (c .enum-told11 .given .1))
+returns-6 c = afterDetectors (c .before .before .before .before) (or-stop _ (c .before .before .pedestrians-section .ensures) (c .enum-told11 .given .1))
 
 enum-told-12 : tie.Need-enum-told-12
 enum-told-12 c = search needs
 
 -- kind 6 has passed: the answer is that of what follows
 pastPedestrians : (c : tie.After-enum-told12) {v : Verdict} → v ≡ afterPedestrians (atPedestrians c) → v ≡ verdictOf (atPedestrians c)
-pastPedestrians c e = afterDetectors (c .before .before .before) (or-next (c .before .before .pedestrians-section .ensures) (c .enum-told12 .given .1) e)
+pastPedestrians c e = afterDetectors (c .before .before .before .before) (or-next (c .before .before .pedestrians-section .ensures) (c .enum-told12 .given .1) e)
 
 after-pedestrians-requires : tie.Need-after-pedestrians-requires
-after-pedestrians-requires c κs = search needs
+after-pedestrians-requires c κs =
+    let marks = c .before .before .before in
+    let groups = groupsLaid (marks .before) in
+    (groups .0, groups .1, marks .marks-of .ensures .1)
 
 returns-7 : tie.Need-returns-7
 returns-7 c = pastPedestrians (c .before) (c .after-pedestrians .ensures)
@@ -195,6 +218,7 @@ read-spec =
     enum-told-9
     returns-5
     enum-told-10
+    marks-of-requires
     pedestrians-section-requires
     enum-told-11
     returns-6

@@ -11,10 +11,10 @@ use Rattle.read_site.proofs.phase_times.Statement.{statement}
 use Rattle.read_site.proofs.phase_times.Tie as tie
 
 abbrev Inv-loop : tie.InvT-loop
-Inv-loop s count phases₀ p₀ phases p = Filled (phaseTimesAt s) (phaseCount s) 7 noPhaseTimes p phases
+Inv-loop s layout count phases₀ p₀ phases p = Filled (phaseTimesAt s) (phaseCount s) 7 noPhaseTimes p phases
 
 abbrev μ-loop : tie.MeasureT-loop
-μ-loop s count phases₀ p₀ phases p = count - p
+μ-loop s layout count phases₀ p₀ phases p = count - p
 
 cast-count : tie.Need-cast-count Inv-loop μ-loop
 cast-count c = search needs
@@ -22,11 +22,21 @@ cast-count c = search needs
 loop-holds : tie.Need-loop-holds Inv-loop μ-loop
 loop-holds c = filled-none
 
+early-time-requires : tie.Need-early-time-requires Inv-loop μ-loop
+early-time-requires c κs = search needs
+
 phase-times-at-requires : tie.Need-phase-times-at-requires Inv-loop μ-loop
 unfolding recordAt bodyAt
 phase-times-at-requires c κs =
-    let atStart = c .before .before .before .before in
-    omega (arith, phases-end (atStart .pre), record-within phasesHead 12 (atStart .args .layout .p) (c .before .loop .p) (c .loop-test .taken))
+    let atTurn = c .before in
+    let atStart = atTurn .before .before .before .before in (
+      omega (
+        arith,
+        phases-end (atStart .pre),
+        record-within phasesHead 12 (atStart .args .layout .p) (atTurn .before .loop .p) (atTurn .loop-test .taken),
+      ),
+      c .early-time .ensures,
+    )
 
 mul-phases : tie.Need-mul-phases Inv-loop μ-loop
 mul-phases c = search needs
@@ -41,7 +51,7 @@ loop-less : tie.Need-loop-less Inv-loop μ-loop
 loop-less c = search needs
 
 loop-again : tie.Need-loop-again Inv-loop μ-loop
-loop-again c = filled-more (c .before .before .loop .inv) (c .phase-times-at .ensures) (omega arith) (omega arith)
+loop-again c = filled-more (c .before .before .before .loop .inv) (c .phase-times-at .ensures) (omega arith) (omega arith)
 
 returns : tie.Need-returns Inv-loop μ-loop
 unfolding timesIn
@@ -55,6 +65,7 @@ phase-times-spec =
     μ-loop
     cast-count
     loop-holds
+    early-time-requires
     phase-times-at-requires
     mul-phases
     array-set-from-phases

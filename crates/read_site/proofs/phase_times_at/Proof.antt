@@ -1,4 +1,4 @@
--- `read_site::phase_times_at` meets its contract: its six times stand two bytes apart from the record's place on.
+-- `read_site::phase_times_at` meets its contract: six times stand two bytes apart from the record's place on, and the seventh is given.
 use Rattle.rules.specs.Personality.{bodyAt, recordAt}
 use Rattle.rules.specs.Site.{phaseTimesAt}
 use borrow.Author.Needs.{needs}
@@ -55,6 +55,7 @@ returns c =
       third .two-in3 .ensures,
       third .before .two-in2 .ensures,
       third .before .before .two-in .ensures,
+      third .before .before .before .before .pre .1,
     )
 
 pub phase-times-at-spec : {M : Type 1} → statement M

@@ -49,6 +49,7 @@ returns c =
       listed .before .groups .ensures,
       sized .size .ensures,
       sized .before .crossings .ensures,
+      sized .before .before .before .pre .laid .seven,
     )
 
 pub site-spec : {M : Type 1} → statement M

@@ -1,6 +1,4 @@
 -- `read_site::size` meets its contract: the counts are those of the sections, and each fits a byte.
-use Prim.Native.Nat.{_/_}
-use mathlib.Core.Path.{ap}
 use native.Mathlib.Omega.{arith}
 use Rattle.rules.specs.Personality.{detectorCount}
 use Rattle.rules.specs.Site.{siteOf}

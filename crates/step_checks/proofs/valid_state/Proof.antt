@@ -64,7 +64,7 @@ returns c =
       locks-seven entry,
       buttons-eight entry,
     )
-    (joined-every (positionValid (site .size .phases) (s .position))
+    (joined-every (positionValid (site .early) (site .size .phases) (s .position))
     (countsValid (phaseTimes (site .times) (s .position .phase)) (s .counts)
     ∷ allOf (demandExists (s .demands .locks) (site .size .phases)) 7
     ∷ allOf (demandExists (s .demands .buttons) (site .size .movements)) 8

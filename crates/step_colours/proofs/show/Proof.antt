@@ -14,16 +14,16 @@ use Rattle.step_colours.proofs.show.Statement.{statement}
 use Rattle.step_colours.proofs.show.Tie as tie
 
 abbrev Inv-loop : tie.InvT-loop
-Inv-loop count position buffer₀ groups movements movement₀ g₀ buffer movement g =
-    PassedTo groups count position movements buffer₀ buffer movement g
+Inv-loop count closes position buffer₀ groups movements movement₀ g₀ buffer movement g =
+    PassedTo groups count closes position movements buffer₀ buffer movement g
 
 abbrev μ-loop : tie.MeasureT-loop
-μ-loop count position buffer₀ groups movements movement₀ g₀ buffer movement g = count - g
+μ-loop count closes position buffer₀ groups movements movement₀ g₀ buffer movement g = count - g
 
 loop-holds : tie.Need-loop-holds Inv-loop μ-loop
 loop-holds c =
     let args = c .before .args in
-    none-passed (args .t1) (args .count) (args .position) (args .t4) (args .buffer .now)
+    none-passed (args .t1) (args .count) (args .closes) (args .position) (args .t5) (args .buffer .now)
 
 -- the store is within the buffer
 room : (c : tie.In-loop Inv-loop μ-loop) → c .before .loop .g < length (c .before .loop .buffer)
@@ -87,7 +87,7 @@ loop-again c =
     ⊎-elim
     (λ w.
     pedestrian-passed passed (start .pre .fits) (turn .loop-test .taken) (w .3) (w .0 .taken)
-    (w .2 .ensures ∙ ap movementColour (stage-read (start .args .t4) (head .loop .movement)))
+    (w .2 .ensures ∙ ap movementColour (stage-read (start .args .t5) (head .loop .movement)))
     (w .4))
     (λ w. vehicle-passed passed (start .pre .fits) (turn .loop-test .taken) (w .2) (w .0 .left) (w .1 .ensures) (w .3))
     (c .if1 .came)

@@ -19,8 +19,9 @@ returns c = chosen red (sym (c .before .before .bit8 .ensures) ∙ c .before .if
 returns-2 : tie.Need-returns-2
 unfolding vehicleShown
 returns-2 c =
-    let position = c .before .before .args .position in
-    passed-by (vehicleColour (position .interval) (position .came) (position .target) (c .before .before .args .group))
+    let args = c .before .before .args in
+    let position = args .position in
+    passed-by (vehicleColour (position .interval) (args .closes) (position .came) (position .target) (args .group))
     (sym (c .before .bit8 .ensures) ∙ c .if1 .left)
     refl
 

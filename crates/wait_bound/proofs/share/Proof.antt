@@ -24,13 +24,17 @@ add-result-5 : tie.Need-add-result-5
 unfolding phaseShare
 add-result-5 c = search needs
 
+add-result-6 : tie.Need-add-result-6
+unfolding phaseShare
+add-result-6 c = search needs
+
 mul-result : tie.Need-mul-result
 unfolding phaseShare
 mul-result c = search needs
 
-add-result-6 : tie.Need-add-result-6
+add-result-7 : tie.Need-add-result-7
 unfolding phaseShare
-add-result-6 c = search needs
+add-result-7 c = search needs
 
 returns : tie.Need-returns
 unfolding phaseShare
@@ -45,6 +49,7 @@ share-spec =
     add-result-3
     add-result-4
     add-result-5
-    mul-result
     add-result-6
+    mul-result
+    add-result-7
     returns)

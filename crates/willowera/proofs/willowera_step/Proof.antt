@@ -1,10 +1,12 @@
 -- `willowera::willowera_step` meets its contract: a refused personality, bytes that are no state, a refused step and a step.
+use mathlib.Core.Bool.{true}
 use mathlib.Core.Path.{_≡_, sym, _∙_}
 use borrow.Author.Needs.{needs}
 use borrow.Author.Tests.{not-true, not-false}
 use Rattle.rules.specs.declared.answer.Verdict.the-variants.{Accepted}
 use Rattle.rules.specs.Personality.{verdictOf}
 use Rattle.board_controller.proofs.Calls.{sound-read}
+use Rattle.board_state.specs.Layout.{isState}
 use Rattle.willowera.proofs.Answers.{refused-near, refuses, no-state, answer-near, steps-on, stays}
 use Rattle.willowera.proofs.willowera_step.Statement.{statement}
 use Rattle.willowera.proofs.willowera_step.Tie as tie
@@ -42,8 +44,8 @@ accepted c = sym (c .before .before .read .ensures) ∙ c .enum-told .given .1
 site-requires : tie.Need-site-requires
 site-requires c κs = accepted c
 
-decode-requires : tie.Need-decode-requires
-decode-requires c κs = search needs
+is-state-requires : tie.Need-is-state-requires
+is-state-requires c κs = search needs
 
 refusal-requires-2 : tie.Need-refusal-requires-2
 refusal-requires-2 c κs = search needs
@@ -53,20 +55,26 @@ same-length c = search needs
 
 returns-2 : tie.Need-returns-2
 returns-2 c =
-    let bytes = c .before .before .before in
-    let told = bytes .before .before .before in
+    let tested = c .before .before in
+    let told = tested .before .before .before in
     let a = told .before .before .before .before .before .before .args in
     no-state (a .personality .now) (a .state .now) (a .colours .now) (a .inputs) (c .refusal2 .result) (accepted told)
-    (bytes .decode .result)
-    (bytes .decode .ensures)
-    (not-true (bytes .decode .result .known) (c .before .if1 .taken))
+    (sym (tested .is-state .ensures) ∙ not-true (tested .is-state .result) (c .before .if1 .taken))
     (c .refusal2 .ensures)
 
 -- ── A state: the step on the site, refused or not ──
 
+known :
+    (c : tie.Else1) →
+    isState (c .before .before .before .before .before .before .before .before .before .before .args .state .now) ≡ true
+known c = sym (c .before .is-state .ensures) ∙ not-false (c .before .is-state .result) (c .if1 .left)
+
+decode-requires : tie.Need-decode-requires
+decode-requires c κs = known (c .before)
+
 step-on-requires : tie.Need-step-on-requires
 step-on-requires c κs =
-    let held = c .before .before .before .before .before in
+    let held = c .before .before .before .before .before .before in
     sound-read _ (held .site .result) (accepted (held .before)) (held .site .ensures)
 
 enum-known-outcome : tie.Need-enum-known-outcome
@@ -84,11 +92,11 @@ enum-known-outcome-2 c = search needs
 refusal-requires-3 : tie.Need-refusal-requires-3
 refusal-requires-3 c κs =
     let called = c .before .before .before .before .before in
-    let bytes = called .before .before .before .before in
-    let held = bytes .before .before in
+    let bytes = called .before .before in
+    let held = bytes .before .before .before .before .before in
     let told = held .before in
     let a = told .before .before .before .before .before .before .args in
-    answer-near (a .personality .now) (accepted told) (held .site .result) (held .site .ensures) (bytes .decode .result .state) (a .inputs)
+    answer-near (a .personality .now) (accepted told) (held .site .result) (held .site .ensures) (bytes .decode .result) (a .inputs)
     (a .colours .now) (called .step-on .result) _
     (called .step-on .ensures)
     (c .before .outcome2 .given .1)
@@ -103,15 +111,15 @@ returns-3 : tie.Need-returns-3
 returns-3 c =
     let moved = c .before .before .before .before .before .before in
     let called = moved .before .before .before .before in
-    let choice = called .before .before in
-    let bytes = choice .before .before in
-    let held = bytes .before .before in
+    let bytes = called .before .before in
+    let past = bytes .before .before in
+    let held = past .before .before .before in
     let told = held .before in
     let a = told .before .before .before .before .before .before .args in
     steps-on (a .personality .now) (a .state .now) (a .colours .now) (a .inputs) (c .pack .result) (accepted told)
+    (known past)
     (bytes .decode .result)
     (bytes .decode .ensures)
-    (not-false (bytes .decode .result .known) (choice .if1 .left))
     (held .site .result)
     (held .site .ensures)
     (called .step-on .result) _
@@ -129,15 +137,15 @@ same-length-5 c = search needs
 returns-4 : tie.Need-returns-4
 returns-4 c =
     let called = c .before .before .before .before .before .before in
-    let choice = called .before .before in
-    let bytes = choice .before .before in
-    let held = bytes .before .before in
+    let bytes = called .before .before in
+    let past = bytes .before .before in
+    let held = past .before .before .before in
     let told = held .before in
     let a = told .before .before .before .before .before .before .args in
     stays (a .personality .now) (a .state .now) (a .colours .now) (a .inputs) (c .refusal3 .result) (accepted told)
+    (known past)
     (bytes .decode .result)
     (bytes .decode .ensures)
-    (not-false (bytes .decode .result .known) (choice .if1 .left))
     (held .site .result)
     (held .site .ensures)
     (called .step-on .result) _
@@ -155,10 +163,11 @@ willowera-step-spec =
     returns
     enum-told
     site-requires
-    decode-requires
+    is-state-requires
     refusal-requires-2
     same-length
     returns-2
+    decode-requires
     step-on-requires
     enum-known-outcome
     encode-requires

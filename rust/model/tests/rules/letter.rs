@@ -5,6 +5,7 @@ use generate::{invalid_state, known_inputs, valid_state, Breakage, Plan, Rng};
 use model::packed;
 use model::{
     fresh, step, valid, wait_bound, Interval, MovementState, Number, Site, Stage, State, MAX_AGE,
+    STATE_LEN,
 };
 
 const SEED: u64 = 5_493;
@@ -26,6 +27,14 @@ impl<'a> Letter<'a> {
         Letter { plan, movements }
     }
 
+    /// The early cut-off time of a phase, 0 without the section.
+    fn early_cut_off(&self, phase: usize) -> u16 {
+        match &self.plan.early_cut_offs {
+            Some(times) => times[phase],
+            None => 0,
+        }
+    }
+
     fn has_phase(&self, group: usize, phase: u8) -> bool {
         self.plan.groups[group][0] >> phase & 1 == 1
     }
@@ -36,7 +45,12 @@ impl<'a> Letter<'a> {
             return false;
         }
         let times = self.plan.phases[usize::from(state.phase)];
-        let clearing = state.interval == Interval::Yellow || state.interval == Interval::AllRed;
+        let clearing = state.interval == Interval::EarlyCutOff
+            || state.interval == Interval::Yellow
+            || state.interval == Interval::AllRed;
+        if state.interval == Interval::EarlyCutOff && self.plan.early_cut_offs.is_none() {
+            return false;
+        }
         if let Some(target) = state.target {
             if target >= phases || target == state.phase {
                 return false;
@@ -183,7 +197,11 @@ impl<'a> Letter<'a> {
             Interval::Running => {
                 let ends = state.gap_count == 0 || state.maximum_count == maximum;
                 if other_demanded && !in_walk_or_first && ends {
-                    entered = Some(Interval::Yellow);
+                    entered = Some(if self.early_cut_off(running) > 0 {
+                        Interval::EarlyCutOff
+                    } else {
+                        Interval::Yellow
+                    });
                     let phases = self.plan.phases.len();
                     let mut next = (running + 1) % phases;
                     while !demanded[next] {
@@ -191,6 +209,9 @@ impl<'a> Letter<'a> {
                     }
                     state.target = Some(next as u8);
                 }
+            }
+            Interval::EarlyCutOff if before.age >= self.early_cut_off(running) => {
+                entered = Some(Interval::Yellow);
             }
             Interval::Yellow if before.age >= yellow => entered = Some(Interval::AllRed),
             Interval::AllRed if before.age >= all_red && !in_second => {
@@ -266,11 +287,18 @@ impl<'a> Letter<'a> {
         let came_green = state
             .came_from
             .is_some_and(|phase| self.has_phase(group, phase));
+        let yellow_time = self.plan.phases[usize::from(state.phase)][4];
+        let early_time = self.early_cut_off(usize::from(state.phase));
+        let stops_early = self.plan.groups[group][1] == 3;
         match state.interval {
             Interval::StartRed => RED,
             Interval::LateStart if self.plan.groups[group][1] == 1 && !came_green => RED,
             Interval::LateStart | Interval::MinimumGreen | Interval::Running => GREEN,
-            Interval::Yellow | Interval::AllRed if stays => GREEN,
+            Interval::EarlyCutOff | Interval::Yellow | Interval::AllRed if stays => GREEN,
+            Interval::EarlyCutOff if !stops_early => GREEN,
+            Interval::EarlyCutOff if state.age <= yellow_time => YELLOW,
+            Interval::EarlyCutOff => RED,
+            Interval::Yellow if stops_early && early_time + state.age > yellow_time => RED,
             Interval::Yellow => YELLOW,
             Interval::AllRed => RED,
         }
@@ -289,6 +317,9 @@ impl<'a> Letter<'a> {
                 }
             }
             bound += late_start + minimum + maximum + 2 * (walk + yellow + all_red + clearance);
+        }
+        for &time in self.plan.early_cut_offs.iter().flatten() {
+            bound += 2 * u32::from(time);
         }
         bound
     }
@@ -363,7 +394,7 @@ fn valid_and_invalid_states() {
         }
         for _ in 0..100 {
             let mut bytes = valid_state(&mut rng, &site).to_bytes();
-            bytes[rng.below(51)] = rng.byte() & rng.byte();
+            bytes[rng.below(STATE_LEN)] = rng.byte() & rng.byte();
             if let Some(state) = State::from_bytes(&bytes) {
                 assert_eq!(valid(&site, &state), letter.valid(&state), "{state:?}");
             }

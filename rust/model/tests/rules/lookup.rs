@@ -48,5 +48,6 @@ fn the_parts_of_the_largest_site_hold_its_records() {
     assert_eq!(body(3), plan.groups.concat());
     assert_eq!(body(5), plan.detectors.concat());
     assert_eq!(body(6).len(), 48);
-    assert_eq!(bytes.len(), 448);
+    assert_eq!(body(7), [0, 0, 10, 0, 20, 0, 35, 0, 36, 0, 50, 0, 100, 0]);
+    assert_eq!(bytes.len(), 466);
 }

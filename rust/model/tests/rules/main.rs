@@ -1,6 +1,8 @@
-//! The rules of document 01, case by case.
+//! The rules of document 01, and of the requests of document 02 that are built,
+//! case by case.
 
 mod calls;
+mod early_cut_off;
 mod junction;
 mod late_start;
 mod letter;

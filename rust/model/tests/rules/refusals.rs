@@ -176,10 +176,10 @@ fn wrong_groups_are_6_at_their_record() {
     for set in [4, 128, 255] {
         assert_eq!(junction_with(&[(42, set)]), (6, 42));
     }
-    for mark in [3, 255] {
+    for mark in [4, 255] {
         assert_eq!(junction_with(&[(43, mark)]), (6, 42));
     }
-    assert_eq!(junction_with(&[(41, 3), (42, 4)]), (6, 40));
+    assert_eq!(junction_with(&[(41, 4), (42, 4)]), (6, 40));
     for set in [0, 3] {
         assert_eq!(junction_with(&[(42, set), (43, 2)]), (6, 42));
     }

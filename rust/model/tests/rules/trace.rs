@@ -44,6 +44,7 @@ impl Run {
             Interval::LateStart => 'L',
             Interval::MinimumGreen => 'M',
             Interval::Running => 'G',
+            Interval::EarlyCutOff => 'E',
             Interval::Yellow => 'Y',
             Interval::AllRed => 'R',
         };

@@ -4,16 +4,27 @@ use generate::Plan;
 use model::{wait_bound, Number};
 
 #[test]
-fn the_greatest_bound_is_35150() {
-    let plan = Plan {
+fn the_greatest_bound_is_37950() {
+    let mut plan = Plan {
         start_red: 150,
         phases: vec![[200, 400, 1500, 100, 100, 150]; 7],
         groups: (0..7).map(|phase| [1 << phase, 2]).collect(),
         conflicts: vec![0; 7],
         detectors: vec![],
         movements: vec![[400; 3]; 7],
+        early_cut_offs: Some(vec![200; 7]),
     };
+    assert_eq!(wait_bound(&plan.bytes()), Ok(37_950));
+    plan.early_cut_offs = None;
     assert_eq!(wait_bound(&plan.bytes()), Ok(35_150));
+}
+
+#[test]
+fn every_early_cut_off_time_counts_twice() {
+    let with = |times: [u16; 2]| wait_bound(&Plan::turning_arrow(Some(times.to_vec())).bytes());
+    assert_eq!(with([0, 0]), Ok(270));
+    assert_eq!(with([20, 0]), Ok(310));
+    assert_eq!(with([20, 7]), Ok(324), "B has no group that stops early");
 }
 
 #[test]

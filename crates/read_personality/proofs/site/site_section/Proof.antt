@@ -1,9 +1,7 @@
 -- `site::site_section` meets its contract: head, the two counts and start red in order, the first refusal being the answer.
-use mathlib.Core.Bool.{not, _&&_}
-use mathlib.Core.Path.{_≡_, refl, sym, _∙_}
+use mathlib.Core.Path.{refl, sym, _∙_}
 use native.Mathlib.Omega.{arith}
-use lib.Dec.{leb}
-use Rattle.rules.specs.Personality.{bodyAt, siteHead, phaseCount, groupCount, siteSection}
+use Rattle.rules.specs.Personality.{bodyAt, siteHead, siteSection}
 use Rattle.rules.proofs.Verdicts.{refuse-yes, refuse-no, or-next, or-stop}
 use Rattle.proof_acceptance.proofs.Sections.{records-held}
 use borrow.Author.Needs.{needs}

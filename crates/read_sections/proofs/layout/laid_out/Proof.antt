@@ -1,7 +1,7 @@
 -- `layout::laid_out` meets its contract: each head follows the body before it, and a body length is read at its own head.
 use native.Mathlib.Omega.{arith}
+use Rattle.rules.specs.Personality.{bodyAt, phaseCount, groupCount, groupsHead, conflictsHead, detectorsHead, pedestriansHead, earlyHead, hasEarly}
 use borrow.Author.Needs.{needs}
-use Rattle.rules.specs.Personality.{bodyAt, bodyLength, phaseCount, groupCount, groupsHead, conflictsHead, detectorsHead, pedestriansHead, endOf}
 use Rattle.read_sections.proofs.layout.laid_out.Statement.{statement}
 use Rattle.read_sections.proofs.layout.laid_out.Tie as tie
 
@@ -47,42 +47,40 @@ add-detectors-2 c = search needs
 add-pedestrians : tie.Need-add-pedestrians
 add-pedestrians c = search needs
 
-two-requires : tie.Need-two-requires
-two-requires c κs = search needs
-
-cast-pedestrians : tie.Need-cast-pedestrians
-cast-pedestrians c = search needs
+length-at-requires : tie.Need-length-at-requires
+length-at-requires c κs = search needs
 
 add-pedestrians-2 : tie.Need-add-pedestrians-2
 add-pedestrians-2 c = search needs
 
-add-end : tie.Need-add-end
-add-end c = search needs
+add-early : tie.Need-add-early
+add-early c = search needs
 
-two-requires-2 : tie.Need-two-requires-2
-two-requires-2 c κs = search needs
+length-at-requires-2 : tie.Need-length-at-requires-2
+length-at-requires-2 c κs = search needs
 
-cast-end : tie.Need-cast-end
-cast-end c = search needs
+add-early-2 : tie.Need-add-early-2
+add-early-2 c = search needs
 
-add-end-2 : tie.Need-add-end-2
-add-end-2 c = search needs
+begins-requires : tie.Need-begins-requires
+begins-requires c κs = search needs
 
 returns : tie.Need-returns
-unfolding phaseCount groupCount groupsHead conflictsHead detectorsHead pedestriansHead endOf bodyAt bodyLength
+unfolding phaseCount groupCount groupsHead conflictsHead detectorsHead pedestriansHead earlyHead hasEarly bodyAt
 returns c =
-    let n = c .before .before .byte2 .ensures in
-    let p = c .before .before .before .byte .ensures in
-    let fifth = c .before .two .ensures in
-    let sixth = c .two2 .ensures in
+    let sixth = c .before in
+    let fifth = sixth .before in
+    let n = fifth .before .byte2 .ensures in
+    let p = fifth .before .before .byte .ensures in
     record {
       p = p;
       n = n;
       groups = simp p;
       conflicts = simp (n, p);
       detectors = simp (n, p);
-      pedestrians = simp (fifth, n, p);
-      end = simp (sixth, fifth, n, p);
+      pedestrians = simp (fifth .length-at .ensures .0, n, p);
+      early = simp (sixth .length-at2 .ensures .0, fifth .length-at .ensures .0, n, p);
+      seven = simp (c .begins .ensures, sixth .length-at2 .ensures .0, fifth .length-at .ensures .0, n, p);
       near = (omega arith, omega arith, omega arith, omega arith, omega arith);
     }
 
@@ -104,11 +102,10 @@ laid-out-spec =
     mul-detectors
     add-detectors-2
     add-pedestrians
-    two-requires
-    cast-pedestrians
+    length-at-requires
     add-pedestrians-2
-    add-end
-    two-requires-2
-    cast-end
-    add-end-2
+    add-early
+    length-at-requires-2
+    add-early-2
+    begins-requires
     returns)

@@ -4,7 +4,7 @@ use mathlib.Core.Path.{_≡_, refl, sym, _∙_}
 use lib.Dec.{eqb}
 use borrow.Author.Needs.{needs}
 use Rattle.rules.specs.Intervals.{heldIn}
-use Rattle.rules.specs.Colours.{red, yellow, green, vehicleColour}
+use Rattle.rules.specs.Colours.{red, green, vehicleColour}
 use Rattle.step_colours.proofs.Choices.{chosen, passed-by}
 use Rattle.step_colours.proofs.Colour.of_group.Statement.{statement}
 use Rattle.step_colours.proofs.Colour.of_group.Tie as tie
@@ -30,11 +30,26 @@ enum-told-5 c = search needs
 held-in-requires-2 : tie.Need-held-in-requires-2
 held-in-requires-2 c κs = search needs
 
+of-leaving-requires : tie.Need-of-leaving-requires
+of-leaving-requires c κs = search needs
+
 enum-told-6 : tie.Need-enum-told-6
 enum-told-6 c = search needs
 
 held-in-requires-3 : tie.Need-held-in-requires-3
 held-in-requires-3 c κs = search needs
+
+of-leaving-requires-2 : tie.Need-of-leaving-requires-2
+of-leaving-requires-2 c κs = search needs
+
+enum-told-7 : tie.Need-enum-told-7
+enum-told-7 c = search needs
+
+held-in-requires-4 : tie.Need-held-in-requires-4
+held-in-requires-4 c κs = search needs
+
+of-leaving-requires-3 : tie.Need-of-leaving-requires-3
+of-leaving-requires-3 c κs = search needs
 
 -- the code's test of late start is the rule's
 waits :
@@ -65,19 +80,21 @@ returns-5 c = rw (c .enum-told4 .given .1)
 
 returns-6 : tie.Need-returns-6
 unfolding vehicleColour
-returns-6 c = rw (c .before .before .enum-told5 .given .1) (chosen yellow (sym (c .before .held-in2 .ensures) ∙ c .if2 .taken) refl)
+returns-6 c =
+    let asked = c .before .before in
+    rw (asked .before .enum-told5 .given .1, c .of-leaving .ensures, asked .held-in2 .ensures)
 
 returns-7 : tie.Need-returns-7
 unfolding vehicleColour
-returns-7 c = rw (c .before .before .enum-told5 .given .1) (passed-by green (sym (c .before .held-in2 .ensures) ∙ c .if2 .left) refl)
+returns-7 c =
+    let asked = c .before in
+    rw (asked .before .before .enum-told6 .given .1, c .of-leaving2 .ensures, asked .held-in3 .ensures)
 
 returns-8 : tie.Need-returns-8
 unfolding vehicleColour
-returns-8 c = rw (c .before .before .enum-told6 .given .1) (chosen red (sym (c .before .held-in3 .ensures) ∙ c .if3 .taken) refl)
-
-returns-9 : tie.Need-returns-9
-unfolding vehicleColour
-returns-9 c = rw (c .before .before .enum-told6 .given .1) (passed-by green (sym (c .before .held-in3 .ensures) ∙ c .if3 .left) refl)
+returns-8 c =
+    let asked = c .before in
+    rw (asked .before .enum-told7 .given .1, c .of-leaving3 .ensures, asked .held-in4 .ensures)
 
 pub of-group-spec : {M : Type 1} → statement M
 of-group-spec =
@@ -90,8 +107,13 @@ of-group-spec =
     enum-told-4
     enum-told-5
     held-in-requires-2
+    of-leaving-requires
     enum-told-6
     held-in-requires-3
+    of-leaving-requires-2
+    enum-told-7
+    held-in-requires-4
+    of-leaving-requires-3
     returns
     returns-2
     returns-3
@@ -99,5 +121,4 @@ of-group-spec =
     returns-5
     returns-6
     returns-7
-    returns-8
-    returns-9)
+    returns-8)

@@ -31,6 +31,9 @@ enum-told-5 c = search needs
 enum-told-6 : tie.Need-enum-told-6
 enum-told-6 c = search needs
 
+enum-told-7 : tie.Need-enum-told-7
+enum-told-7 c = search needs
+
 under-way-requires-2 : tie.Need-under-way-requires-2
 under-way-requires-2 c κs = search needs
 
@@ -47,7 +50,7 @@ unfolding ends
 returns-2 c =
     let told = c .before .before in
     let a = told .before .before .args in
-    rw (told .enum-told6 .given .1, lt-leb (a .times .red) (a .age) (c .if2 .taken))
+    rw (told .enum-told7 .given .1, lt-leb (a .times .red) (a .age) (c .if2 .taken))
 
 returns-3 : tie.Need-returns-3
 unfolding ends
@@ -77,11 +80,15 @@ returns-7 c = rw (c .before .enum-told5 .given .1)
 
 returns-8 : tie.Need-returns-8
 unfolding ends
-returns-8 c =
+returns-8 c = rw (c .before .enum-told6 .given .1)
+
+returns-9 : tie.Need-returns-9
+unfolding ends
+returns-9 c =
     let asked = c .before .before in
     let told = asked .before .before in
     let a = told .before .before .args in
-    ap not (c .before .under-way2 .ensures .1) ∙ rw (told .enum-told6 .given .1, le-leb (a .times .red) (a .age) (asked .if2 .left))
+    ap not (c .before .under-way2 .ensures .1) ∙ rw (told .enum-told7 .given .1, le-leb (a .times .red) (a .age) (asked .if2 .left))
 
 pub over-spec : {M : Type 1} → statement M
 over-spec =
@@ -95,6 +102,7 @@ over-spec =
     under-way-requires
     enum-told-5
     enum-told-6
+    enum-told-7
     returns-2
     under-way-requires-2
     returns-3
@@ -102,4 +110,5 @@ over-spec =
     returns-5
     returns-6
     returns-7
-    returns-8)
+    returns-8
+    returns-9)

@@ -25,17 +25,23 @@ entered-requires-2 c κs = search needs
 enum-told-4 : tie.Need-enum-told-4
 enum-told-4 c = search needs
 
-entered-requires-3 : tie.Need-entered-requires-3
-entered-requires-3 c κs = search needs
+left-requires : tie.Need-left-requires
+left-requires c κs = search needs
 
 enum-told-5 : tie.Need-enum-told-5
 enum-told-5 c = search needs
 
-entered-requires-4 : tie.Need-entered-requires-4
-entered-requires-4 c κs = search needs
+entered-requires-3 : tie.Need-entered-requires-3
+entered-requires-3 c κs = search needs
 
 enum-told-6 : tie.Need-enum-told-6
 enum-told-6 c = search needs
+
+entered-requires-4 : tie.Need-entered-requires-4
+entered-requires-4 c κs = search needs
+
+enum-told-7 : tie.Need-enum-told-7
+enum-told-7 c = search needs
 
 held-phase-requires : tie.Need-held-phase-requires
 held-phase-requires c κs = search needs
@@ -57,15 +63,19 @@ returns-3 c = rw (c .entered2 .ensures, c .before .enum-told3 .given .1)
 
 returns-4 : tie.Need-returns-4
 unfolding following
-returns-4 c = rw (c .entered3 .ensures, c .before .enum-told4 .given .1)
+returns-4 c = rw (c .left .ensures, c .before .enum-told4 .given .1)
 
 returns-5 : tie.Need-returns-5
 unfolding following
-returns-5 c = rw (c .entered4 .ensures, c .before .enum-told5 .given .1)
+returns-5 c = rw (c .entered3 .ensures, c .before .enum-told5 .given .1)
 
 returns-6 : tie.Need-returns-6
 unfolding following
-returns-6 c = rw (c .started2 .ensures, c .before .held-phase .ensures, c .before .before .enum-told6 .given .1)
+returns-6 c = rw (c .entered4 .ensures, c .before .enum-told6 .given .1)
+
+returns-7 : tie.Need-returns-7
+unfolding following
+returns-7 c = rw (c .started2 .ensures, c .before .held-phase .ensures, c .before .before .enum-told7 .given .1)
 
 pub followed-spec : {M : Type 1} → statement M
 followed-spec =
@@ -78,10 +88,12 @@ followed-spec =
     enum-told-3
     entered-requires-2
     enum-told-4
-    entered-requires-3
+    left-requires
     enum-told-5
-    entered-requires-4
+    entered-requires-3
     enum-told-6
+    entered-requires-4
+    enum-told-7
     held-phase-requires
     started-requires-2
     returns
@@ -89,4 +101,5 @@ followed-spec =
     returns-3
     returns-4
     returns-5
-    returns-6)
+    returns-6
+    returns-7)

@@ -1,0 +1,5 @@
+pub mod Joined
+pub mod Lawful
+pub mod Parts
+pub mod Places
+pub mod Stores

@@ -1,0 +1,224 @@
+//! The state as bytes. This file alone knows where each field lies and which
+//! code an interval and a stage have.
+
+use crate::state::{Interval, MovementState, Stage, State};
+use crate::{MAX_MOVEMENTS, MAX_PHASES};
+
+/// Where each field begins.
+pub const PHASE: usize = 0;
+pub const INTERVAL: usize = 1;
+pub const AGE: usize = 2;
+pub const CAME_FROM: usize = 4;
+pub const TARGET: usize = 6;
+pub const GAP_COUNT: usize = 8;
+pub const MAXIMUM_COUNT: usize = 10;
+/// One byte a phase, then one byte a movement, each 0 or 1.
+pub const LOCKS: usize = 12;
+pub const DEMANDS: usize = LOCKS + MAX_PHASES;
+/// Records of a stage and an age of two bytes.
+pub const MOVEMENTS: usize = DEMANDS + MAX_MOVEMENTS;
+pub const MOVEMENT_LEN: usize = 3;
+
+/// The length of a state in bytes.
+pub const STATE_LEN: usize = MOVEMENTS + MOVEMENT_LEN * MAX_MOVEMENTS;
+
+/// The intervals and stages, each at the place of its code.
+const INTERVALS: [Interval; 7] = [
+    Interval::StartRed,
+    Interval::LateStart,
+    Interval::MinimumGreen,
+    Interval::Running,
+    Interval::EarlyCutOff,
+    Interval::Yellow,
+    Interval::AllRed,
+];
+const STAGES: [Stage; 4] = [
+    Stage::Idle,
+    Stage::Walk,
+    Stage::ClearanceOne,
+    Stage::ClearanceTwo,
+];
+
+#[inline]
+fn interval_code(interval: Interval) -> u8 {
+    match interval {
+        Interval::StartRed => 0,
+        Interval::LateStart => 1,
+        Interval::MinimumGreen => 2,
+        Interval::Running => 3,
+        Interval::EarlyCutOff => 4,
+        Interval::Yellow => 5,
+        Interval::AllRed => 6,
+    }
+}
+
+#[inline]
+fn stage_code(stage: Stage) -> u8 {
+    match stage {
+        Stage::Idle => 0,
+        Stage::Walk => 1,
+        Stage::ClearanceOne => 2,
+        Stage::ClearanceTwo => 3,
+    }
+}
+
+impl State {
+    /// The state in its bytes, or none where they are no state.
+    #[inline]
+    pub fn from_bytes(bytes: &[u8]) -> Option<State> {
+        let bytes: &[u8; STATE_LEN] = bytes.try_into().ok()?;
+        let number = |at: usize| u16::from_le_bytes([bytes[at], bytes[at + 1]]);
+        let optional = |at: usize| optional_phase(bytes[at], bytes[at + 1]);
+        let mut movements = [MovementState::IDLE; MAX_MOVEMENTS];
+        for (index, movement) in movements.iter_mut().enumerate() {
+            let at = MOVEMENTS + MOVEMENT_LEN * index;
+            movement.stage = *STAGES.get(usize::from(bytes[at]))?;
+            movement.age = number(at + 1);
+        }
+        Some(State {
+            phase: bytes[PHASE],
+            interval: *INTERVALS.get(usize::from(bytes[INTERVAL]))?,
+            age: number(AGE),
+            came_from: optional(CAME_FROM)?,
+            target: optional(TARGET)?,
+            gap_count: number(GAP_COUNT),
+            maximum_count: number(MAXIMUM_COUNT),
+            locks: gather_flags(&bytes[LOCKS..DEMANDS])?,
+            demands: gather_flags(&bytes[DEMANDS..MOVEMENTS])?,
+            movements,
+        })
+    }
+
+    /// The bytes of the state.
+    #[inline]
+    pub fn to_bytes(&self) -> [u8; STATE_LEN] {
+        let mut bytes = [0; STATE_LEN];
+        bytes[PHASE] = self.phase;
+        bytes[INTERVAL] = interval_code(self.interval);
+        let mut put = |at: usize, two: [u8; 2]| bytes[at..at + 2].copy_from_slice(&two);
+        put(AGE, self.age.to_le_bytes());
+        put(CAME_FROM, tagged_phase(self.came_from));
+        put(TARGET, tagged_phase(self.target));
+        put(GAP_COUNT, self.gap_count.to_le_bytes());
+        put(MAXIMUM_COUNT, self.maximum_count.to_le_bytes());
+        bytes[LOCKS..DEMANDS].copy_from_slice(&spread_flags(self.locks)[..MAX_PHASES]);
+        bytes[DEMANDS..MOVEMENTS].copy_from_slice(&spread_flags(self.demands));
+        for (index, movement) in self.movements.iter().enumerate() {
+            let at = MOVEMENTS + MOVEMENT_LEN * index;
+            let [low, high] = movement.age.to_le_bytes();
+            bytes[at..at + MOVEMENT_LEN].copy_from_slice(&[stage_code(movement.stage), low, high]);
+        }
+        bytes
+    }
+}
+
+/// A phase or none, as a tag and a phase.
+#[inline]
+fn optional_phase(tag: u8, phase: u8) -> Option<Option<u8>> {
+    match (tag, phase) {
+        (0, 0) => Some(None),
+        (1, phase) => Some(Some(phase)),
+        _ => None,
+    }
+}
+
+#[inline]
+fn tagged_phase(phase: Option<u8>) -> [u8; 2] {
+    phase.map_or([0, 0], |phase| [1, phase])
+}
+
+/// A set from one byte a member, each 0 or 1.
+#[inline]
+fn gather_flags(flags: &[u8]) -> Option<u8> {
+    let mut wide = [0; 8];
+    wide[..flags.len()].copy_from_slice(flags);
+    let wide = u64::from_le_bytes(wide);
+    if wide & !0x0101_0101_0101_0101 != 0 {
+        return None;
+    }
+    // Byte i moves to bit i of the highest byte.
+    Some((wide.wrapping_mul(0x0102_0408_1020_4080) >> 56) as u8)
+}
+
+#[inline]
+fn spread_flags(set: u8) -> [u8; 8] {
+    crate::bits::spread(set).to_le_bytes()
+}
+
+#[cfg(test)]
+mod tests {
+    use super::*;
+    use crate::fresh;
+
+    #[test]
+    fn codes_are_places_in_their_tables() {
+        assert_eq!(INTERVALS.len(), Interval::ALL.len());
+        for interval in Interval::ALL {
+            assert_eq!(INTERVALS[usize::from(interval_code(interval))], interval);
+        }
+        for stage in Stage::ALL {
+            assert_eq!(STAGES[usize::from(stage_code(stage))], stage);
+        }
+    }
+
+    #[test]
+    fn flags_are_gathered_as_they_are_spread() {
+        for set in 0..=255 {
+            assert_eq!(gather_flags(&spread_flags(set)), Some(set));
+        }
+        assert_eq!(gather_flags(&[0, 2, 0, 0, 0, 0, 0]), None);
+    }
+
+    #[test]
+    fn the_fresh_state_has_the_bytes_of_the_data_sheet() {
+        let mut bytes = [0; STATE_LEN];
+        bytes[2] = 1;
+        for movement in 0..MAX_MOVEMENTS {
+            bytes[MOVEMENTS + 3 * movement + 1] = 1;
+        }
+        assert_eq!(fresh().to_bytes(), bytes);
+        assert_eq!(State::from_bytes(&bytes), Some(fresh()));
+    }
+
+    #[test]
+    fn every_field_has_its_own_bytes() {
+        let mut state = fresh();
+        state.phase = 3;
+        state.interval = Interval::AllRed;
+        state.age = 0x0102;
+        state.came_from = Some(0);
+        state.target = Some(6);
+        state.gap_count = 0x0304;
+        state.maximum_count = 0x0506;
+        state.locks = 0b0100_0001;
+        state.demands = 0b1000_0010;
+        state.movements[7] = MovementState {
+            stage: Stage::ClearanceTwo,
+            age: 0x0708,
+        };
+        let bytes = state.to_bytes();
+        assert_eq!(bytes[..12], [3, 6, 2, 1, 1, 0, 1, 6, 4, 3, 6, 5]);
+        assert_eq!(bytes[12..19], [1, 0, 0, 0, 0, 0, 1]);
+        assert_eq!(bytes[19..27], [0, 1, 0, 0, 0, 0, 0, 1]);
+        assert_eq!(bytes[48..], [3, 8, 7]);
+        assert_eq!(State::from_bytes(&bytes), Some(state));
+    }
+
+    #[test]
+    fn bytes_that_are_no_state() {
+        let good = fresh().to_bytes();
+        for (at, byte) in [(1, 7), (4, 2), (5, 1), (6, 2), (7, 1), (12, 2), (26, 255)] {
+            let mut bytes = good;
+            bytes[at] = byte;
+            assert_eq!(State::from_bytes(&bytes), None, "byte {at}");
+        }
+        for movement in 0..MAX_MOVEMENTS {
+            let mut bytes = good;
+            bytes[MOVEMENTS + 3 * movement] = 4;
+            assert_eq!(State::from_bytes(&bytes), None, "movement {movement}");
+        }
+        assert_eq!(State::from_bytes(&good[..50]), None);
+        let longer = [good.as_slice(), &[0]].concat();
+        assert_eq!(State::from_bytes(&longer), None);
+    }
+}
