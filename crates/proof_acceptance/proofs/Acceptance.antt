@@ -1,29 +1,31 @@
 -- Every accepted personality holds a sound site: each fact that acceptance tells of the bytes is carried to the site's entries, and
 -- past the counts the entries are blank. The one phase of a movement is the one bit that its group's set is counted to have.
 use Prim.Native.Nat.{ℕ, _+_, _≤_, _<_}
-use mathlib.Core.Bool.{true, false}
+use mathlib.Core.Bool.{Bool, true, false}
 use mathlib.Core.List.{List}
 use mathlib.Core.Logic.{⊎-elim}
-use mathlib.Core.Path.{_≡_, sym, subst, ap, _∙_}
+use mathlib.Core.Path.{_≡_, refl, sym, subst, ap, _∙_}
+use borrow.Author.Tests.{eqb-true, eq-eqb}
+use lib.Dec.{eqb}
 use lib.ListN.{getD}
 use native.Mathlib.Nat.{add-zero}
 use native.Mathlib.Omega.{arith}
 use Rattle.rules.specs.declared.site.Detector.{Detector}
 use Rattle.rules.specs.declared.site.Group.{Group}
 use Rattle.rules.specs.declared.site.PhaseTimes.{PhaseTimes}
-use Rattle.rules.specs.Rows.{indicesOf}
+use Rattle.rules.specs.Rows.{countOf, indicesOf}
 use Rattle.rules.specs.Bytes.{twoAt, bit}
 use Rattle.rules.specs.Limits.{limits, limitOf, phaseSettings, walkSettings, earlySetting}
-use Rattle.rules.specs.Personality.{recordAt, phasesHead, pedestriansHead, phaseCount, groupCount, movementCount, groupSet, groupMark, conflictSet, detectorPhase, knownMode, pedestrian, pedestriansBefore, hasEarly}
-use Rattle.rules.specs.Site.{earlyTimeAt, phaseTimesAt, walkTimesAt, timesIn, crossingAt, siteOf, groupOf, phaseTimes, inPhase, crosses, isPedestrian, movementOf, conflict}
+use Rattle.rules.specs.Personality.{recordAt, phasesHead, pedestriansHead, phaseCount, groupCount, movementCount, groupSet, groupMark, conflictSet, detectorPhase, knownMode, pedestrian, pedestriansBefore, hasEarly, hasOrder}
+use Rattle.rules.specs.Site.{earlyTimeAt, phaseTimesAt, walkTimesAt, timesIn, crossingAt, orderIn, siteOf, groupOf, phaseTimes, inPhase, crosses, isPedestrian, movementOf, conflict}
 use Rattle.rules.specs.Laws.{InTable, PhaseTimesIn, WalkTimesIn, TimesIn, OnePhase, Sound, AcceptedIsSound, AcceptedIsInTable}
 use Rattle.rules.proofs.Tests.{decided, never-both}
 use Rattle.rules.proofs.Rows.{IthPassing, indices-at}
-use Rattle.rules.proofs.Counts.{below-or-past, passes-below, count-before, count-apart, count-one}
+use Rattle.rules.proofs.Counts.{below-or-past, passes-below, count-before, count-apart, count-same, count-within, count-one}
 use Rattle.rules.proofs.Bits.{bit-below}
 use Rattle.rules.proofs.Settings.{table-is-usable}
-use Rattle.proof_acceptance.proofs.Sections.{PhasesAccepted, GroupsAccepted, ConflictsAccepted, PedestriansAccepted, EarlyAccepted, SectionsAccepted, sections-accepted}
-use Rattle.proof_acceptance.proofs.Entries.{phase-times-at, phase-times-past, walk-times-at, group-at, group-past, in-phase-at, in-phase-past, pedestrian-at, conflict-at, conflict-past, detector-at, crosses-at, crosses-past, movement-at}
+use Rattle.proof_acceptance.proofs.Sections.{PhasesAccepted, GroupsAccepted, ConflictsAccepted, PedestriansAccepted, EarlyAccepted, OrderAccepted, SectionsAccepted, sections-accepted}
+use Rattle.proof_acceptance.proofs.Entries.{phase-times-at, phase-times-past, walk-times-at, order-at, group-at, group-past, in-phase-at, in-phase-past, pedestrian-at, conflict-at, conflict-past, detector-at, crosses-at, crosses-past, movement-at}
 
 -- ── Times ──
 
@@ -93,6 +95,35 @@ times-in b s =
 pub accepted-is-in-table : AcceptedIsInTable
 unfolding AcceptedIsInTable
 accepted-is-in-table b h = times-in b (sections-accepted b h)
+
+-- ── The order of phases ──
+
+-- the only index that passes is counted once
+only-one : (f : ℕ → Bool) (n i : ℕ) → i < n → f i ≡ true → ((j : ℕ) → f j ≡ true → j ≡ i) → countOf f n ≡ 1
+only-one f n i l passes only =
+    omega (
+      arith,
+      count-before f i n l passes,
+      count-within f n 1
+          (λ j m p e.
+          let first = indices-at f j 0 (omega arith) in
+          omega (arith, only j p, only (getD (indicesOf f j) 0 0) (first .1), first .0)),
+    )
+
+-- as kind 9 lists them, or by letter without it
+order-once :
+    (b : List ℕ) →
+    (hasOrder b ≡ true → OrderAccepted b) →
+    (p : ℕ) →
+    p < phaseCount b →
+    countOf (λ i. eqb (getD (siteOf b .order) i 0) p) (phaseCount b) ≡ 1
+unfolding orderIn
+order-once b s p l =
+    count-same _ _ (phaseCount b) (λ i m. ap (λ (x : ℕ). eqb x p) (order-at b i m))
+    ∙ ⊎-elim
+    (λ (there : hasOrder b ≡ true). rw there (s there .once p l))
+    (λ (missing : hasOrder b ≡ false). rw missing (only-one (λ i. eqb i p) (phaseCount b) p l (eq-eqb p p refl) (λ j e. eqb-true j p e)))
+    (decided (hasOrder b))
 
 -- ── Groups ──
 
@@ -227,6 +258,7 @@ sound b s =
       times = record { table = limits; tableUsable = table-is-usable; inTable = times-in b s };
       noEarlyTime = no-early-time b;
       noEarlyGroup = no-early-group b s;
+      orderOnce = order-once b (s .order);
       groupPhase = group-phase b (s .groups);
       groupMark = group-mark b (s .groups);
       phaseGroup = phase-group b (s .groups);

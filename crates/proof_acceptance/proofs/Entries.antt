@@ -4,11 +4,12 @@ use mathlib.Core.Bool.{false}
 use mathlib.Core.List.{List}
 use mathlib.Core.Path.{_≡_, ap, _∙_}
 use lib.Dec.{eqb}
+use lib.ListN.{getD}
 use native.Mathlib.Omega.{arith}
 use Rattle.rules.specs.declared.site.Group.{Group}
 use Rattle.rules.specs.Bytes.{bit}
 use Rattle.rules.specs.Personality.{phaseCount, groupCount, detectorCount, movementCount, groupSet, groupMark, conflictSet, detectorPhase, detectorMode, pedestrian, pedestriansBefore}
-use Rattle.rules.specs.Site.{noPhaseTimes, noWalkTimes, noGroup, noDetector, phaseTimesAt, walkTimesAt, timesIn, crossingAt, siteOf, groupOf, detectorOf, phaseTimes, walkTimes, inPhase, crosses, isPedestrian, movementOf, conflict}
+use Rattle.rules.specs.Site.{noPhaseTimes, noWalkTimes, noGroup, noDetector, phaseTimesAt, walkTimesAt, timesIn, crossingAt, orderIn, siteOf, groupOf, detectorOf, phaseTimes, walkTimes, inPhase, crosses, isPedestrian, movementOf, conflict}
 use Rattle.rules.proofs.Rows.{row-at, row-past}
 use Rattle.rules.proofs.Counts.{count-same}
 use Rattle.rules.proofs.Bits.{bit-blank}
@@ -27,6 +28,12 @@ module _ (b : List ℕ) where
   pub walk-times-at : (k : ℕ) → k < movementCount b → walkTimes (siteOf b .times) k ≡ walkTimesAt b k
   unfolding walkTimes siteOf timesIn
   walk-times-at k l = row-at (walkTimesAt b) (movementCount b) 8 k noWalkTimes l
+
+  -- ── The order of phases ──
+
+  pub order-at : (i : ℕ) → i < phaseCount b → getD (siteOf b .order) i 0 ≡ orderIn b i
+  unfolding siteOf
+  order-at i l = row-at (orderIn b) (phaseCount b) 7 i 0 l
 
   -- ── Groups ──
 

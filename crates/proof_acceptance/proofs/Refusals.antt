@@ -15,12 +15,11 @@ use Rattle.rules.specs.declared.state.KeptState.{KeptState}
 use Rattle.rules.specs.Limits.{phaseSettings, walkSettings}
 use Rattle.rules.specs.Rows.{if_then_else_}
 use Rattle.rules.specs.Verdicts.{_orElse_, refuseIf, firstOf}
-use Rattle.rules.specs.Personality.{bodyAt, bodyLength, recordAt, phaseCount, groupCount, siteHead, phasesHead, groupsHead, conflictsHead, detectorsHead, pedestriansHead, movementCount, detectorCount, earlyHead, hasEarly, endOf, sectionAt, timeAt, timesAt, siteSection, phasesSection, groupRecord, groupsSection, conflictsSection, detectorsSection, pedestriansSection, earlySection, earlyMissing, afterPedestrians, verdictOf}
+use Rattle.rules.specs.Personality.{bodyAt, bodyLength, recordAt, phaseCount, groupCount, siteHead, phasesHead, groupsHead, conflictsHead, detectorsHead, pedestriansHead, movementCount, detectorCount, pastSection, earlyHead, hasEarly, orderHead, hasOrder, endOf, sectionAt, timeAt, timesAt, siteSection, phasesSection, groupRecord, groupsSection, conflictsSection, detectorsSection, pedestriansSection, earlySection, orderSection, earlyMissing, afterPedestrians, verdictOf}
 use Rattle.rules.specs.Call.{stepVerdict, callVerdict}
 use Rattle.rules.specs.Laws.{readingNumber, stepNumber, sectionLength, greatestLength, AcceptedIsShort, PlaceIn, Written, RefusalIsWritten}
-use Rattle.rules.proofs.Tests.{decided}
 use Rattle.rules.proofs.Verdicts.{refused-not-accepted, or-refused, refuse-failed, first-refused}
-use Rattle.proof_acceptance.proofs.Sections.{SiteAccepted, GroupsAccepted, DetectorsAccepted, PedestriansAccepted, EarlyAccepted, records-held, record-within, detectors-held, site-accepted, phases-accepted, groups-accepted, conflicts-accepted, detectors-accepted, pedestrians-accepted, early-accepted, end-with, end-without, sections-accepted}
+use Rattle.proof_acceptance.proofs.Sections.{SiteAccepted, GroupsAccepted, DetectorsAccepted, PedestriansAccepted, EarlyAccepted, OrderAccepted, records-held, record-within, detectors-held, site-accepted, phases-accepted, groups-accepted, conflicts-accepted, detectors-accepted, pedestrians-accepted, early-accepted, order-accepted, sections-accepted}
 
 -- ── A check, checks in order, and the first of a row ──
 
@@ -53,23 +52,41 @@ module _ (Allowed : ℕ → ℕ → Type 0) where
 -- ── How far the sections go ──
 
 module _ (b : List ℕ) where
-  -- there is room for kind 7 after kind 6
+  -- there is room for kinds 7 and 9 after kind 6
   end-near :
       SiteAccepted b →
       GroupsAccepted b →
       bodyLength b (detectorsHead b) ≤ 96 →
-      bodyAt (pedestriansHead b) + movementCount b * 6 + sectionLength (phaseCount b) 2 ≤ greatestLength
+      bodyAt (pedestriansHead b) + movementCount b * 6 + sectionLength (phaseCount b) 2 + sectionLength (phaseCount b) 1 ≤ greatestLength
   unfolding pedestriansHead detectorsHead conflictsHead groupsHead bodyAt
   end-near counts groups short = omega arith
 
-  -- and the personality ends with one of the two
-  end-placed : PedestriansAccepted b → (hasEarly b ≡ true → EarlyAccepted b) → (endOf b ≤ length b) × (endOf b ≤ earlyHead b + sectionLength (phaseCount b) 2)
-  unfolding bodyAt
-  end-placed told early =
-      ⊎-elim
-      (λ (there : hasEarly b ≡ true). let last = early there in omega (arith, end-with b there))
-      (λ (missing : hasEarly b ≡ false). omega (arith, end-without b missing))
-      (decided (hasEarly b))
+  -- a section that may be there, with a record for each phase, ends within the bytes and no further on than its records do
+  optional-placed :
+      (t : Bool) (head width : ℕ) →
+      head ≤ length b →
+      (t ≡ true → (bodyLength b head ≡ phaseCount b * width) × (bodyAt head + phaseCount b * width ≤ length b)) →
+      let end = if t then pastSection b head else head in
+      (end ≤ length b) × (end ≤ head + sectionLength (phaseCount b) width)
+  unfolding pastSection bodyAt
+  optional-placed true head width l there = omega (arith, there refl)
+  optional-placed false head width l there = omega arith
+
+  order-placed :
+      PedestriansAccepted b →
+      (hasEarly b ≡ true → EarlyAccepted b) →
+      (orderHead b ≤ length b) × (orderHead b ≤ earlyHead b + sectionLength (phaseCount b) 2)
+  unfolding orderHead
+  order-placed told early =
+      optional-placed (hasEarly b) (earlyHead b) 2 (told .next) (λ there. (early there .body, early there .next))
+
+  end-placed :
+      orderHead b ≤ length b →
+      (hasOrder b ≡ true → OrderAccepted b) →
+      (endOf b ≤ length b) × (endOf b ≤ orderHead b + sectionLength (phaseCount b) 1)
+  unfolding endOf
+  end-placed l order =
+      optional-placed (hasOrder b) (orderHead b) 1 l (λ there. omega (arith, order there .body, order there .next))
 
 -- ── The personality's checks ──
 
@@ -166,9 +183,9 @@ module _
             (times (pedestriansHead b) (movementCount b) 6 walkSettings 3 (omega arith))
 
         module _ (told : PedestriansAccepted b) where
-          -- just past kind 6, and with kind 7 there
-          early-near : earlyHead b + sectionLength (phaseCount b) 2 ≤ greatestLength
-          unfolding earlyHead
+          -- just past kind 6, and with kinds 7 and 9 there
+          early-near : earlyHead b + sectionLength (phaseCount b) 2 + sectionLength (phaseCount b) 1 ≤ greatestLength
+          unfolding earlyHead pastSection
           early-near = omega (arith, end-near b counts few (short .short), told .body)
 
           early : Refusals Allowed (earlySection b)
@@ -183,12 +200,27 @@ module _
           unfolding earlyMissing conflictsHead groupsHead bodyAt
           missing = each _ (groupsHead b) (groupCount b) 2 (omega arith) (λ g m. check _ 17 _ refl (omega arith))
 
+          module _ (timed : hasEarly b ≡ true → EarlyAccepted b) where
+            order : Refusals Allowed (orderSection b)
+            unfolding orderSection
+            order =
+                let placed : PlaceIn b (orderHead b) = omega (arith, early-near, order-placed b told timed) in
+                under-refusals Allowed (hasOrder b) _
+                (or-refusals Allowed _ _ (section (orderHead b) 9 _ placed) (λ e. check _ 18 (orderHead b) refl placed))
+
+            end : (hasOrder b ≡ true → OrderAccepted b) → PlaceIn b (endOf b)
+            end listed =
+                let placed = order-placed b told timed in
+                omega (arith, early-near, placed, end-placed b (placed .0) listed)
+
           after : Refusals Allowed (afterPedestrians b)
           unfolding afterPedestrians
           after =
               or-refusals Allowed _ _ early
-              (λ e. or-refusals Allowed _ _ missing
-              (λ f. check _ 12 (endOf b) refl (omega (arith, early-near, end-placed b told (early-accepted b e)))))
+              (λ e.
+              let timed = early-accepted b e in
+              or-refusals Allowed _ _ (order timed)
+              (λ f. or-refusals Allowed _ _ missing (λ g. check _ 12 (endOf b) refl (end timed (order-accepted b f)))))
 
     pub personality-refusals : Refusals Allowed (verdictOf b)
     unfolding verdictOf
@@ -226,13 +258,15 @@ refusal-is-written b s inputs room =
 -- ── An accepted personality ──
 
 pub accepted-is-short : AcceptedIsShort
-unfolding AcceptedIsShort earlyHead
+unfolding AcceptedIsShort earlyHead pastSection
 accepted-is-short b h =
     let s = sections-accepted b h in
+    let placed = order-placed b (s .pedestrians) (s .early) in
     omega (
       arith,
       end-near b (s .site) (s .groups) (s .detectors .short),
       s .pedestrians .body,
-      end-placed b (s .pedestrians) (s .early),
+      placed,
+      end-placed b (placed .0) (s .order),
       s .last,
     )

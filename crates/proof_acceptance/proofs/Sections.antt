@@ -14,7 +14,7 @@ use Rattle.rules.specs.Rows.{anyOf, countOf}
 use Rattle.rules.specs.Bytes.{twoAt, bit}
 use Rattle.rules.specs.Limits.{limits, within, startRedSetting, phaseSettings, walkSettings, earlySetting}
 use Rattle.rules.specs.Verdicts.{firstOf}
-use Rattle.rules.specs.Personality.{bodyLength, bodyAt, recordAt, phaseCount, groupCount, siteHead, phasesHead, groupsHead, conflictsHead, detectorsHead, pedestriansHead, groupSet, groupMark, pedestrian, pedestriansBefore, movementCount, conflictSet, detectorCount, detectorPhase, sectionAt, timeAt, timesAt, siteSection, phasesSection, badGroup, ninthPedestrian, groupRecord, phaseWithoutGroup, groupsSection, badConflict, sharePhase, conflictInPhase, conflictsSection, badDetector, detectorsSection, pedestriansSection, earlyHead, hasEarly, earlySection, stopsEarly, earlyMissing, afterPedestrians, endOf, verdictOf, detectorMode, knownMode}
+use Rattle.rules.specs.Personality.{bodyLength, bodyAt, pastSection, recordAt, phaseCount, groupCount, siteHead, phasesHead, groupsHead, conflictsHead, detectorsHead, pedestriansHead, groupSet, groupMark, pedestrian, pedestriansBefore, movementCount, conflictSet, detectorCount, detectorPhase, sectionAt, timeAt, timesAt, siteSection, phasesSection, badGroup, ninthPedestrian, groupRecord, phaseWithoutGroup, groupsSection, badConflict, sharePhase, conflictInPhase, conflictsSection, badDetector, detectorsSection, pedestriansSection, earlyHead, hasEarly, earlySection, orderHead, hasOrder, orderAt, phaseNotOnce, orderSection, stopsEarly, earlyMissing, afterPedestrians, endOf, verdictOf, detectorMode, knownMode}
 use Rattle.rules.specs.Laws.{InTable}
 use Rattle.rules.proofs.Tests.{and-left, and-right, or-false-left, or-false-right, never-both}
 use Rattle.rules.proofs.Rows.{any-false, any-found}
@@ -146,6 +146,12 @@ pub record EarlyAccepted (b : List ℕ) : Type 0 where
   pub next : bodyAt (earlyHead b) + phaseCount b * 2 ≤ length b
   pub time : (p : ℕ) → p < phaseCount b → InTable limits earlySetting (twoAt b (recordAt (earlyHead b) 2 p))
 
+-- where kind 9 is there
+pub record OrderAccepted (b : List ℕ) : Type 0 where
+  pub body : bodyLength b (orderHead b) ≡ phaseCount b
+  pub next : bodyAt (orderHead b) + phaseCount b ≤ length b
+  pub once : (p : ℕ) → p < phaseCount b → countOf (λ i. eqb (orderAt b i) p) (phaseCount b) ≡ 1
+
 pub site-accepted : (b : List ℕ) → siteSection b ≡ Accepted → SiteAccepted b
 unfolding siteSection bodyAt
 site-accepted b h =
@@ -238,7 +244,7 @@ detectors-accepted b h =
     }
 
 pub pedestrians-accepted : (b : List ℕ) → pedestriansSection b ≡ Accepted → PedestriansAccepted b
-unfolding pedestriansSection earlyHead
+unfolding pedestriansSection earlyHead pastSection
 pedestrians-accepted b h =
     let body = body-held b (pedestriansHead b) 6 _ (or-first _ _ h) in
     record {
@@ -258,16 +264,19 @@ early-accepted b h there =
       time = λ p l. time-passed b _ earlySetting (first-each _ _ p (or-later _ _ passed) l);
     }
 
+pub order-accepted : (b : List ℕ) → orderSection b ≡ Accepted → hasOrder b ≡ true → OrderAccepted b
+unfolding orderSection phaseNotOnce
+order-accepted b h there =
+    let passed = rw there at h in
+    let body = body-held b (orderHead b) 9 _ (or-first _ _ passed) in
+    let size = eqb-true _ _ (body .0) in
+    record {
+      body = size;
+      next = rw (← size) (body .1);
+      once = λ p l. eqb-true _ _ (not-false _ (any-false _ _ p (refuse-passed _ _ _ (or-later _ _ passed)) l));
+    }
+
 -- ── All of them, with nothing after the last ──
-
--- the last section is kind 7 where it is there, and kind 6 where it is not
-pub end-with : (b : List ℕ) → hasEarly b ≡ true → endOf b ≡ bodyAt (earlyHead b) + bodyLength b (earlyHead b)
-unfolding endOf
-end-with b there = rw there
-
-pub end-without : (b : List ℕ) → hasEarly b ≡ false → endOf b ≡ earlyHead b
-unfolding endOf
-end-without b missing = rw missing
 
 pub record SectionsAccepted (b : List ℕ) : Type 0 where
   pub site : SiteAccepted b
@@ -277,6 +286,7 @@ pub record SectionsAccepted (b : List ℕ) : Type 0 where
   pub detectors : DetectorsAccepted b
   pub pedestrians : PedestriansAccepted b
   pub early : hasEarly b ≡ true → EarlyAccepted b
+  pub order : hasOrder b ≡ true → OrderAccepted b
   pub noneEarly : hasEarly b ≡ false → (g : ℕ) → g < groupCount b → groupMark b g ≡ 3 → ⊥
   pub last : length b ≤ endOf b
 
@@ -289,7 +299,8 @@ sections-accepted b h =
     let fromDetectors = or-later _ _ fromConflicts in
     let fromPedestrians = or-later _ _ fromDetectors in
     let fromEarly = or-later _ _ fromPedestrians in
-    let fromMissing = or-later _ _ fromEarly in
+    let fromOrder = or-later _ _ fromEarly in
+    let fromMissing = or-later _ _ fromOrder in
     record {
       site = site-accepted b (or-first _ _ h);
       phases = phases-accepted b (or-first _ _ fromPhases);
@@ -298,6 +309,7 @@ sections-accepted b h =
       detectors = detectors-accepted b (or-first _ _ fromDetectors);
       pedestrians = pedestrians-accepted b (or-first _ _ fromPedestrians);
       early = early-accepted b (or-first _ _ fromEarly);
+      order = order-accepted b (or-first _ _ fromOrder);
       noneEarly = λ missing g l mark.
           never-both
           (not-false _ (joined-failed _ (refuse-passed _ _ _ (first-each _ _ g (or-first _ _ fromMissing) l)) (eq-eqb _ _ mark)))

@@ -22,7 +22,7 @@ use Rattle.rules.proofs.Tests.{and-left, and-right, and-both, or-left, or-right
 use Rattle.rules.proofs.Rows.{any-found, any-at, all-at}
 use Rattle.proof_ring.proofs.Turns.{turn}
 use Rattle.proof_ring.proofs.Ring.{found-same}
-use Rattle.proof_ring.proofs.Letters.{ring-of}
+use Rattle.proof_ring.proofs.Orders.{ring-of}
 use Rattle.proof_runs.proofs.Steps.{askedNow, lockedNow, asked-at, locked-at}
 
 same-told : (a b : Bool) → same a b ≡ true → a ≡ b

@@ -29,7 +29,7 @@ use Rattle.proof_runs.proofs.Steps.{another, now}
 use Rattle.proof_runs.proofs.Ends.{by-early, by-end, running-ends}
 use Rattle.proof_ring.proofs.Turns.{turn}
 use Rattle.proof_ring.proofs.Ring.{found-other}
-use Rattle.proof_ring.proofs.Letters.{ring-of}
+use Rattle.proof_ring.proofs.Orders.{ring-of}
 
 -- what the clauses of a valid state tell of its position
 pub record ValidPosition (early : Bool) (count : ℕ) (position : Position) : Type 0 where

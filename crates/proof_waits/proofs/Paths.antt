@@ -16,7 +16,7 @@ use Rattle.rules.proofs.Tests.{never-both}
 use Rattle.proof_runs.proofs.Steps.{another}
 use Rattle.proof_ring.proofs.Turns.{turn}
 use Rattle.proof_ring.proofs.Ring.{rest, from, from-own, from-other, other-found, rest-own, rest-other, from-most, nearer}
-use Rattle.proof_ring.proofs.Letters.{ring-of}
+use Rattle.proof_ring.proofs.Orders.{ring-of}
 use Rattle.proof_waits.proofs.Left.{visit}
 use Rattle.proof_waits.proofs.Bound.{visits}
 

@@ -1,6 +1,6 @@
 -- What acceptance gives to the code: every count fits its array, and every section lies within the bytes.
 use Prim.Native.Nat.{ℕ, zero, suc, _+_, _≤_, _<_}
-use mathlib.Core.Bool.{true, _&&_}
+use mathlib.Core.Bool.{Bool, true, _&&_, _||_}
 use mathlib.Core.List.{List}
 use mathlib.Core.Logic.{⊎-elim}
 use mathlib.Core.Path.{_≡_, sym, subst, _∙_}
@@ -9,7 +9,7 @@ use lib.Dec.{leb, eqb}
 use lib.ListN.{length}
 use borrow.Author.Tests.{leb-true, eqb-true}
 use Rattle.rules.specs.declared.answer.Verdict.the-variants.{Accepted}
-use Rattle.rules.specs.Personality.{bodyAt, bodyLength, siteHead, phasesHead, groupsHead, conflictsHead, detectorsHead, pedestriansHead, earlyHead, hasEarly, siteSection, phasesSection, groupsSection, conflictsSection, detectorsSection, pedestriansSection, verdictOf}
+use Rattle.rules.specs.Personality.{bodyAt, bodyLength, siteHead, phasesHead, groupsHead, conflictsHead, detectorsHead, pedestriansHead, earlyHead, pastSection, hasEarly, hasOrder, siteSection, phasesSection, groupsSection, conflictsSection, detectorsSection, pedestriansSection, verdictOf}
 use Rattle.rules.specs.Lookup.{heldKind, headOf}
 use Rattle.rules.proofs.Tests.{and-left, and-right, or-cases}
 use Rattle.rules.proofs.Verdicts.{or-first, or-later}
@@ -19,7 +19,7 @@ use Rattle.read_sections.specs.Laid.{Laid}
 use Rattle.read_site.specs.Decoding.{Fitting}
 
 pub accepted-fits : {b : List ℕ} {w : Layout} → verdictOf b ≡ Accepted → Laid b w → Fitting b w
-unfolding earlyHead
+unfolding earlyHead pastSection
 accepted-fits {b} h laid =
     let told = sections-accepted b h in
     record {
@@ -30,6 +30,7 @@ accepted-fits {b} h laid =
       movements = told .groups .movements;
       whole = rw (laid .pedestrians, ← told .pedestrians .body) (told .pedestrians .next);
       early = λ there. rw (laid .early, laid .p) (told .early (sym (laid .seven) ∙ there) .next);
+      order = λ there. rw (laid .order, laid .p) (told .order (sym (laid .nine) ∙ there) .next);
     }
 
 -- the section with this head ends within the bytes
@@ -60,13 +61,29 @@ module _ (b : List ℕ) (h : verdictOf b ≡ Accepted) where
   unfolding headOf
   seventh there = let told = sections-accepted b h .early there in rw (told .body) (told .next)
 
+  ninth : hasOrder b ≡ true → BodyWithin b (headOf b 9)
+  unfolding headOf
+  ninth there = let told = sections-accepted b h .order there in rw (told .body) (told .next)
+
+  -- an optional kind is held where it is there
+  optional :
+      (kind own : ℕ) (there : Bool) →
+      (there ≡ true → BodyWithin b (headOf b own)) →
+      (eqb kind own && there) ≡ true →
+      BodyWithin b (headOf b kind)
+  optional kind own there within held =
+      let same = eqb-true kind own (and-left _ _ held) in
+      subst (λ (k : ℕ). BodyWithin b (headOf b k)) (sym same) (within (and-right (eqb kind own) _ held))
+
   pub section-within : (kind : ℕ) → heldKind b kind ≡ true → BodyWithin b (headOf b kind)
   unfolding heldKind
   section-within kind held =
       ⊎-elim
+      (λ (first : ((leb 1 kind && leb kind 6) || (eqb kind 7 && hasEarly b)) ≡ true).
+      ⊎-elim
       (λ (six : (leb 1 kind && leb kind 6) ≡ true).
       first-six kind (leb-true _ _ (and-left _ _ six)) (leb-true _ _ (and-right (leb 1 kind) _ six)))
-      (λ (seven : (eqb kind 7 && hasEarly b) ≡ true).
-      let same = eqb-true kind 7 (and-left _ _ seven) in
-      subst (λ (k : ℕ). BodyWithin b (headOf b k)) (sym same) (seventh (and-right (eqb kind 7) _ seven)))
+      (optional kind 7 (hasEarly b) seventh)
+      (or-cases _ _ first))
+      (optional kind 9 (hasOrder b) ninth)
       (or-cases _ _ held)

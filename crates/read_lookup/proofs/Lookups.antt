@@ -1,17 +1,17 @@
 -- The lookup by cases: a refused personality refuses every kind, an accepted one those that are not held.
 use Prim.Native.Nat.{ℕ, zero, suc, _+_, _-_, _≤_}
-use mathlib.Core.Bool.{true, false, _&&_, or-false}
+use mathlib.Core.Bool.{true, false, _&&_}
 use mathlib.Core.List.{List, [], _∷_}
 use mathlib.Core.Logic.{⊎-elim}
-use mathlib.Core.Path.{_≡_, refl, sym, ap, _∙_}
+use mathlib.Core.Path.{_≡_, ap, _∙_}
 use native.Mathlib.Omega.{arith}
-use lib.Dec.{leb, eqb}
+use lib.Dec.{leb}
 use lib.ListN.{length, getD, take, drop, List·getD-eq-default}
 use borrow.Author.Tests.{leb-true, leb-false, not-false}
 use Rattle.rules.specs.declared.answer.Verdict.the-variants.{Accepted, Refused}
 use Rattle.rules.specs.Bytes.{twoAt}
 use Rattle.rules.specs.Verdicts.{_orElse_, refuseIf, reportOf}
-use Rattle.rules.specs.Personality.{bodyAt, bodyLength, hasEarly, verdictOf}
+use Rattle.rules.specs.Personality.{bodyAt, bodyLength, verdictOf}
 use Rattle.rules.specs.Lookup.{heldKind, heads, headOf, lookupVerdict, lookupReport, sectionPart, partFor, sectionOf}
 use Rattle.rules.proofs.Tests.{and-left, and-right, and-false-cases}
 use Rattle.rules.proofs.Verdicts.{or-first, or-later, refuse-passed}
@@ -35,15 +35,6 @@ lookup-unheld b kind e h = rw (e, h)
 pub lookup-told : (b : List ℕ) (kind : ℕ) → lookupVerdict b kind ≡ Accepted → (verdictOf b ≡ Accepted) × (heldKind b kind ≡ true)
 unfolding lookupVerdict
 lookup-told b kind h = (or-first _ _ h, not-false (heldKind b kind) (refuse-passed _ _ _ (or-later _ _ h)))
-
--- whether kind 7 is held, and whether any other is
-pub seven-held : (b : List ℕ) → hasEarly b ≡ heldKind b 7
-unfolding heldKind
-seven-held b = refl
-
-pub other-held : (b : List ℕ) (kind : ℕ) → eqb kind 7 ≡ false → (leb 1 kind && leb kind 6) ≡ heldKind b kind
-unfolding heldKind
-other-held b kind e = rw e (sym (or-false (leb 1 kind && leb kind 6)))
 
 -- ── The report and the part ──
 
@@ -73,22 +64,22 @@ module _ (b : List ℕ) (kind : ℕ) where
 
 -- ── Heads ──
 
--- a number of the list
-pub kind-told : (kind : ℕ) → (leb 1 kind && leb kind 7) ≡ true → (1 ≤ kind) × (kind ≤ 7)
-kind-told kind h = (leb-true 1 kind (and-left _ _ h), leb-true kind 7 (and-right (leb 1 kind) _ h))
+-- a number that is in the list of heads
+pub kind-told : (kind : ℕ) → (leb 1 kind && leb kind 9) ≡ true → (1 ≤ kind) × (kind ≤ 9)
+kind-told kind h = (leb-true 1 kind (and-left _ _ h), leb-true kind 9 (and-right (leb 1 kind) _ h))
 
 -- no kind has the number: it is 0, or one past the list
-pub no-head : (b : List ℕ) (kind : ℕ) → (leb 1 kind && leb kind 7) ≡ false → headOf b kind ≡ 0
+pub no-head : (b : List ℕ) (kind : ℕ) → (leb 1 kind && leb kind 9) ≡ false → headOf b kind ≡ 0
 unfolding headOf
 no-head b kind h =
     ⊎-elim
     (λ (l : leb 1 kind ≡ false).
     let first : kind - 1 ≡ 0 = omega (arith, leb-false 1 kind l) in
     rw first)
-    (λ (l : leb kind 7 ≡ false).
-    let past : 7 ≤ kind - 1 = omega (arith, leb-false kind 7 l) in
+    (λ (l : leb kind 9 ≡ false).
+    let past : 9 ≤ kind - 1 = omega (arith, leb-false kind 9 l) in
     List·getD-eq-default (heads b) 0 past)
-    (and-false-cases (leb 1 kind) (leb kind 7) h)
+    (and-false-cases (leb 1 kind) (leb kind 9) h)
 
 -- every entry is at most m
 abbrev AllNear : ℕ → List ℕ → Type 0

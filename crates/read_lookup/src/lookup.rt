@@ -8,21 +8,19 @@ use read_sections::layout::laid_out;
 use rules::answer::Report;
 use rules::answer::Verdict;
 
-// A personality has the kinds 1 to 6, and may have kind 7.
+// A personality has the kinds 1 to 6, and may have kinds 7 and 9.
 fn held(s: &[u8], kind: u16) -> bool
     ensures { λ r. ⌜ r ≡ heldKind (now (s .entry)) kind ⌝ }
 {
-    if kind == 7 {
-        return laid_out(s).seven;
-    }
-    (1 <= kind) & (kind <= 6)
+    let layout = laid_out(s);
+    ((1 <= kind) & (kind <= 6)) | ((kind == 7) & layout.seven) | ((kind == 9) & layout.nine)
 }
 
-// The head of the section of a kind, that of kind 7 whether or not it is there, and 0 for any other number.
+// The head of the section of a kind, those of kinds 7 and 9 whether or not they are there, and 0 for any other number.
 pub fn head_of(s: &[u8], kind: u16) -> usize
-    ensures { λ r. ⌜ (r ≡ headOf (now (s .entry)) kind) × (r ≤ 135688) ⌝ }
+    ensures { λ r. ⌜ (r ≡ headOf (now (s .entry)) kind) × (r ≤ 201227) ⌝ }
 {
-    if !((1 <= kind) & (kind <= 7)) {
+    if !((1 <= kind) & (kind <= 9)) {
         return 0;
     }
     let layout = laid_out(s);
@@ -34,6 +32,8 @@ pub fn head_of(s: &[u8], kind: u16) -> usize
         layout.detectors,
         layout.pedestrians,
         layout.early,
+        0,
+        layout.order,
     ];
     heads[kind as usize - 1]
 }

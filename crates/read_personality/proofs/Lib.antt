@@ -2,3 +2,4 @@ pub mod Modes
 pub mod Words
 pub mod GroupMarks
 pub mod Seventh
+pub mod Ninth

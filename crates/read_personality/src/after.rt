@@ -1,35 +1,37 @@
-// What may follow kind 6: kind 7 where it is there; then 17, a group that stops early without kind 7; then 12, bytes left over.
-ghost use Prim.Native.Nat.{_≤_};
-ghost use mathlib.Core.Bool.{true, false};
+// What may follow kind 6: kinds 7 and 9 where they are there; then 17, a group that stops early without kind 7; then 12, bytes left over.
 ghost use mathlib.Core.Path.{_≡_};
 ghost use lib.Dec.{ltb};
 ghost use lib.ListN.{length};
 ghost use Rattle.rules.specs.declared.answer.Verdict.the-variants.{Accepted};
 ghost use Rattle.rules.specs.Rows.{anyOf};
 ghost use Rattle.rules.specs.Verdicts.{refuseIf};
-ghost use Rattle.rules.specs.Personality.{groupCount, groupsSection, stopsEarly, earlySection, earlyMissing, afterPedestrians};
+ghost use Rattle.rules.specs.Personality.{groupCount, siteSection, groupsSection, stopsEarly, earlySection, earlyMissing, afterPedestrians};
 ghost use Rattle.read_sections.specs.Laid.{Laid};
+use crate::order::order_section;
 use read_sections::layout::Layout;
+use read_sections::layout::past;
 use read_sections::records::pair_at;
 use read_sections::times::timed_section;
 use rules::answer::Verdict;
 
-// Kind 7, which is there: a time of early cut-off green for each phase.
+// Kind 7, where it is there: a time of early cut-off green for each phase.
 fn early_section(s: &[u8], layout: Layout) -> Verdict
-    requires { ⌜ Laid (now s) layout × (layout .seven ≡ true) ⌝ }
+    requires { ⌜ Laid (now s) layout ⌝ }
     ensures { λ r. ⌜ r ≡ earlySection (now (s .entry)) ⌝ }
 {
+    if !layout.seven {
+        return Verdict::Accepted;
+    }
     timed_section(s, layout.early, 7, 10, 1, layout.p as usize)
 }
 
-// 17, where kind 7 is not there: the first group that stops early, if there is some. Kind 3 has been accepted, so every mark is in the
-// slice.
+// 17: the first group that stops early, if there is some and kind 7 is not there. Kind 3 has been accepted, so every mark is in the slice.
 fn early_missing(s: &[u8], layout: Layout, some: bool) -> Verdict
-    requires { ⌜ Laid (now s) layout × (layout .seven ≡ false) × (groupsSection (now s) ≡ Accepted)
+    requires { ⌜ Laid (now s) layout × (groupsSection (now s) ≡ Accepted)
         × (some ≡ anyOf (stopsEarly (now s)) (groupCount (now s))) ⌝ }
     ensures { λ r. ⌜ r ≡ earlyMissing (now (s .entry)) ⌝ }
 {
-    if !some {
+    if layout.seven | !some {
         return Verdict::Accepted;
     }
     let groups = layout.n as usize;
@@ -58,22 +60,23 @@ fn left_over(s: &[u8], place: usize) -> Verdict
     Verdict::Accepted
 }
 
-// All three. Kind 3 has been accepted, and its marks are known.
+// All of them. Kinds 1 and 3 have been accepted, so there are at most 7 phases, and the marks of the groups are known.
 pub fn after_pedestrians(s: &[u8], layout: Layout, early: bool) -> Verdict
-    requires { ⌜ Laid (now s) layout × (groupsSection (now s) ≡ Accepted)
+    requires { ⌜ Laid (now s) layout × (siteSection (now s) ≡ Accepted) × (groupsSection (now s) ≡ Accepted)
         × (early ≡ anyOf (stopsEarly (now s)) (groupCount (now s))) ⌝ }
     ensures { λ r. ⌜ r ≡ afterPedestrians (now (s .entry)) ⌝ }
 {
-    if layout.seven {
-        let times = early_section(s, layout);
-        if let Verdict::Refused { .. } = times {
-            return times;
-        }
-        return left_over(s, layout.early + 4 + (layout.p as usize) * 2);
+    let times = early_section(s, layout);
+    if let Verdict::Refused { .. } = times {
+        return times;
+    }
+    let order = order_section(s, layout);
+    if let Verdict::Refused { .. } = order {
+        return order;
     }
     let missing = early_missing(s, layout, early);
     if let Verdict::Refused { .. } = missing {
         return missing;
     }
-    left_over(s, layout.early)
+    left_over(s, past(s, layout.order, layout.nine))
 }

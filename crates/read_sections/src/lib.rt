@@ -13,7 +13,7 @@ use rules::answer::Verdict;
 
 // A section's head, and that its body is there: 1, 2, 3, 1, all at the head.
 pub fn section(s: &[u8], head: usize, kind: u16, right: bool) -> Verdict
-    requires { ⌜ head ≤ 200000 ⌝ }
+    requires { ⌜ head ≤ 300000 ⌝ }
     ensures { λ r. ⌜ r ≡ sectionAt (now (s .entry)) head kind right ⌝ }
 {
     if s.len() < head + 4 {
@@ -45,7 +45,7 @@ pub fn section(s: &[u8], head: usize, kind: u16, right: bool) -> Verdict
 
 // The same where the body has to have just so many bytes.
 pub fn sized_section(s: &[u8], head: usize, kind: u16, bytes: usize) -> Verdict
-    requires { ⌜ head ≤ 200000 ⌝ }
+    requires { ⌜ head ≤ 300000 ⌝ }
     ensures { λ r. ⌜ r ≡ sectionAt (now (s .entry)) head kind (eqb (bodyLength (now (s .entry)) head) bytes) ⌝ }
 {
     if s.len() < head + 4 {

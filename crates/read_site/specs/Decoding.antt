@@ -21,6 +21,7 @@ pub record Fitting (b : List ℕ) (w : Layout) : Type 0 where
   pub movements : movementCount b ≤ 8
   pub whole : bodyAt (w .pedestrians) + movementCount b * 6 ≤ length b
   pub early : w .seven ≡ true → bodyAt (w .early) + w .p * 2 ≤ length b
+  pub order : w .nine ≡ true → bodyAt (w .order) + w .p ≤ length b
 
 -- how many movements the site has, and the phase set of each movement's group
 unfoldable pub crossingsIn : List ℕ → PedestrianSets

@@ -4,9 +4,10 @@ ghost use Prim.Native.Nat.{_+_, _*_, _≤_, _<_};
 ghost use mathlib.Core.Path.{_≡_};
 ghost use lib.ListN.{length};
 ghost use Rattle.rules.specs.Personality.{detectorCount, movementCount};
-ghost use Rattle.rules.specs.Site.{earlyTimeAt, phaseTimesAt, walkTimesAt, timesIn, siteOf};
+ghost use Rattle.rules.specs.Site.{earlyTimeAt, orderIn, phaseTimesAt, walkTimesAt, timesIn, siteOf};
 ghost use Rattle.read_sections.specs.Laid.{Laid};
 ghost use Rattle.read_site.specs.Decoding.{Fitting, crossingsIn, timingIn};
+use base_reads::byte_in;
 use base_reads::four_in;
 use base_reads::two_in;
 use read_sections::layout::Layout;
@@ -113,6 +114,33 @@ fn times(s: &[u8], layout: Layout, movements: usize) -> Times
         phases: phase_times(s, layout),
         walks: walk_times(s, layout, movements),
     }
+}
+
+// ---- The running order ----
+
+// Its i-th phase: as kind 9 lists it, or by letter without it.
+fn phase_at(s: &[u8], layout: Layout, i: u8) -> u8
+    requires { ⌜ Fitting (now s) layout × (i < layout .p) ⌝ }
+    ensures { λ r. ⌜ r ≡ orderIn (now (s .entry)) i ⌝ }
+{
+    if layout.nine {
+        return byte_in(s, layout.order + 4 + i as usize);
+    }
+    i
+}
+
+fn order(s: &[u8], layout: Layout) -> [u8; 7]
+    requires { ⌜ Fitting (now s) layout ⌝ }
+    ensures { λ r. ⌜ r ≡ siteOf (now (s .entry)) .order ⌝ }
+{
+    let count = layout.p;
+    let mut phases = [0u8; 7];
+    let mut i: u8 = 0;
+    while i < count {
+        phases[i as usize] = phase_at(s, layout, i);
+        i += 1;
+    }
+    phases
 }
 
 // ---- Groups, conflicts, detectors ----
@@ -228,6 +256,7 @@ pub fn site(s: &[u8], layout: Layout) -> Site
         detectors: detectors(s, layout, size.detectors as usize),
         crossings: sets,
         early: layout.seven,
+        order: order(s, layout),
         times: times(s, layout, found.count),
     }
 }

@@ -31,20 +31,25 @@ detectors-requires c κs =
     let sized = c .before .before .before .before in
     (sized .before .before .before .pre, ap (λ (x : Size). x .detectors) (sized .size .ensures))
 
+order-requires : tie.Need-order-requires
+order-requires c κs = search needs
+
 times-requires : tie.Need-times-requires
 unfolding crossingsIn
 times-requires c κs =
-    let found = c .before .before .before .before .before .before in
+    let found = c .before .before .before .before .before .before .before in
     (found .before .before .pre, ap (λ (x : PedestrianSets). x .count) (found .crossings .ensures))
 
 returns : tie.Need-returns
 unfolding siteOf crossingsIn
 returns c =
-    let listed = c .before .before .before in
+    let detected = c .before .before in
+    let listed = detected .before .before in
     let sized = listed .before .before .before in
     simp (
       c .times .ensures,
-      c .before .detectors .ensures,
+      c .before .order .ensures,
+      detected .detectors .ensures,
       listed .conflicts .ensures,
       listed .before .groups .ensures,
       sized .size .ensures,
@@ -62,5 +67,6 @@ site-spec =
     conflicts-requires
     cast-detectors
     detectors-requires
+    order-requires
     times-requires
     returns)

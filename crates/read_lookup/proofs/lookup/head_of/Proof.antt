@@ -17,7 +17,7 @@ laid-out-requires : tie.Need-laid-out-requires
 laid-out-requires c κs = search needs
 
 -- the kind has a head in the list
-listed : (c : tie.After-laid-out) → let kind = c .before .before .before .args .kind in (1 ≤ kind) × (kind ≤ 7)
+listed : (c : tie.After-laid-out) → let kind = c .before .before .before .args .kind in (1 ≤ kind) × (kind ≤ 9)
 listed c = kind-told (c .before .before .before .args .kind) (not-false _ (c .before .if1 .left))
 
 sub-result : tie.Need-sub-result
@@ -34,10 +34,10 @@ unfolding headOf
 returns-2 c =
     let w = c .laid-out .result in
     let laid = c .laid-out .ensures in
-    let heads : List ℕ = 0 ∷ 8 ∷ w .groups ∷ w .conflicts ∷ w .detectors ∷ w .pedestrians ∷ w .early ∷ [] in (
-      rw (laid .groups, laid .conflicts, laid .detectors, laid .pedestrians, laid .early),
-      all-near 135688 heads
-          (omega arith, (omega arith, (omega arith, (omega arith, (omega arith, (omega arith, (omega arith, tt)))))))
+    let heads : List ℕ = 0 ∷ 8 ∷ w .groups ∷ w .conflicts ∷ w .detectors ∷ w .pedestrians ∷ w .early ∷ 0 ∷ w .order ∷ [] in (
+      rw (laid .groups, laid .conflicts, laid .detectors, laid .pedestrians, laid .early, laid .order),
+      all-near 201227 heads
+          (omega arith, (omega arith, (omega arith, (omega arith, (omega arith, (omega arith, (omega arith, (omega arith, (omega arith, tt)))))))))
           (c .before .before .before .args .kind - 1),
     )
 

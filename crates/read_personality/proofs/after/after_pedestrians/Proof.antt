@@ -1,12 +1,20 @@
--- `after::after_pedestrians` meets its contract, by whether kind 7 is there.
-use mathlib.Core.Path.{sym, _∙_}
-use native.Mathlib.Omega.{arith}
+-- `after::after_pedestrians` meets its contract: the checks in their order, the first refusal being the answer.
+use Prim.Native.Nat.{ℕ}
+use mathlib.Core.List.{List}
+use mathlib.Core.Path.{_≡_}
+use lib.Dec.{ltb}
+use lib.ListN.{length}
 use borrow.Author.Needs.{needs}
-use Rattle.rules.specs.Personality.{bodyAt, afterPedestrians}
+use Rattle.rules.specs.declared.answer.Verdict.{Verdict}
+use Rattle.rules.specs.Verdicts.{_orElse_, refuseIf}
+use Rattle.rules.specs.Personality.{endOf, orderSection, earlyMissing, afterPedestrians}
 use Rattle.rules.proofs.Verdicts.{or-next, or-stop}
-use Rattle.read_personality.proofs.Seventh.{with-early, without-early}
 use Rattle.read_personality.proofs.after.after_pedestrians.Statement.{statement}
 use Rattle.read_personality.proofs.after.after_pedestrians.Tie as tie
+
+-- the check of bytes left over
+abbrev restFrom : List ℕ → Verdict
+restFrom b = refuseIf (ltb (endOf b) (length b)) 12 (endOf b)
 
 early-section-requires : tie.Need-early-section-requires
 early-section-requires c κs = search needs
@@ -21,56 +29,63 @@ returns c = or-stop _ (c .before .before .early-section .ensures) (c .enum-told 
 enum-told-2 : tie.Need-enum-told-2
 enum-told-2 c = search needs
 
-add-left-over : tie.Need-add-left-over
-add-left-over c = search needs
+-- kind 7 has passed: the answer is that of what follows
+pastEarly :
+    (c : tie.After-enum-told2) {v : Verdict} →
+    let b = c .before .before .before .before .args .s .now in
+    v ≡ (orderSection b orElse earlyMissing b orElse restFrom b) →
+    v ≡ afterPedestrians b
+unfolding afterPedestrians
+pastEarly c e = or-next (c .before .before .early-section .ensures) (c .enum-told2 .given .1) e
 
-cast-left-over : tie.Need-cast-left-over
-cast-left-over c = search needs
-
-mul-left-over : tie.Need-mul-left-over
-mul-left-over c = search needs
-
-add-left-over-2 : tie.Need-add-left-over-2
-add-left-over-2 c = search needs
-
-left-over-requires : tie.Need-left-over-requires
-left-over-requires c κs = search needs
-
-returns-2 : tie.Need-returns-2
-unfolding bodyAt
-returns-2 c =
-    let passed = c .before .before .before in
-    let call = passed .before .before in
-    let laid = call .before .before .before .pre .0 in
-    with-early _ (sym (laid .seven) ∙ call .before .if1 .taken) (call .early-section .ensures) (passed .enum-told2 .given .1)
-    (omega (arith, laid .early, laid .p))
-    (c .left-over .ensures)
-
-early-missing-requires : tie.Need-early-missing-requires
-early-missing-requires c κs = search needs
+order-section-requires : tie.Need-order-section-requires
+order-section-requires c κs = search needs
 
 enum-told-3 : tie.Need-enum-told-3
 enum-told-3 c = search needs
 
-returns-3 : tie.Need-returns-3
-returns-3 c =
-    let call = c .before .before in
-    let laid = call .before .before .before .pre .0 in
-    without-early _ (sym (laid .seven) ∙ call .before .if1 .left) (or-stop _ (call .early-missing .ensures) (c .enum-told3 .given .1))
+returns-2 : tie.Need-returns-2
+returns-2 c = pastEarly (c .before .before .before) (or-stop _ (c .before .before .order-section .ensures) (c .enum-told3 .given .1))
 
 enum-told-4 : tie.Need-enum-told-4
 enum-told-4 c = search needs
 
-left-over-requires-2 : tie.Need-left-over-requires-2
-left-over-requires-2 c κs = search needs
+-- and so has kind 9
+pastOrder :
+    (c : tie.After-enum-told4) {v : Verdict} →
+    let b = c .before .before .before .before .before .before .before .args .s .now in
+    v ≡ (earlyMissing b orElse restFrom b) →
+    v ≡ afterPedestrians b
+pastOrder c e =
+    pastEarly (c .before .before .before) (or-next (c .before .before .order-section .ensures) (c .enum-told4 .given .1) e)
+
+early-missing-requires : tie.Need-early-missing-requires
+early-missing-requires c κs = search needs
+
+enum-told-5 : tie.Need-enum-told-5
+enum-told-5 c = search needs
+
+returns-3 : tie.Need-returns-3
+returns-3 c = pastOrder (c .before .before .before) (or-stop _ (c .before .before .early-missing .ensures) (c .enum-told5 .given .1))
+
+enum-told-6 : tie.Need-enum-told-6
+enum-told-6 c = search needs
+
+past-requires : tie.Need-past-requires
+past-requires c κs = search needs
+
+left-over-requires : tie.Need-left-over-requires
+left-over-requires c κs = search needs
 
 returns-4 : tie.Need-returns-4
+unfolding endOf
 returns-4 c =
-    let passed = c .before in
-    let call = passed .before .before in
-    let laid = call .before .before .before .pre .0 in
-    without-early _ (sym (laid .seven) ∙ call .before .if1 .left)
-    (or-next (call .early-missing .ensures) (passed .enum-told4 .given .1) (rw (laid .early) at (c .left-over2 .ensures)))
+    let passed = c .before .before in
+    let missing = passed .before .before in
+    let laid = missing .before .before .before .before .before .before .before .before .pre .0 in
+    pastOrder (missing .before)
+    (or-next (missing .early-missing .ensures) (passed .enum-told6 .given .1)
+    (rw (c .before .past .ensures .0, laid .order, laid .nine) at (c .left-over .ensures)))
 
 pub after-pedestrians-spec : {M : Type 1} → statement M
 after-pedestrians-spec =
@@ -80,15 +95,14 @@ after-pedestrians-spec =
     enum-told
     returns
     enum-told-2
-    add-left-over
-    cast-left-over
-    mul-left-over
-    add-left-over-2
-    left-over-requires
-    returns-2
-    early-missing-requires
+    order-section-requires
     enum-told-3
-    returns-3
+    returns-2
     enum-told-4
-    left-over-requires-2
+    early-missing-requires
+    enum-told-5
+    returns-3
+    enum-told-6
+    past-requires
+    left-over-requires
     returns-4)

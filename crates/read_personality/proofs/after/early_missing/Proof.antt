@@ -1,7 +1,8 @@
--- `after::early_missing` meets its contract: with no such group each passes, and else the first one found is refused. The invariant: no
+-- `after::early_missing` meets its contract: with kind 7 or with no such group each passes, and else the first one found is refused. The invariant: no
 -- group before g stops early.
 use Prim.Native.Nat.{_-_, _≤_}
-use mathlib.Core.Bool.{false}
+use mathlib.Core.Bool.{true, false, not}
+use mathlib.Core.Logic.{⊎-elim}
 use mathlib.Core.Path.{_≡_, refl, sym, _∙_}
 use native.Mathlib.Omega.{arith}
 use borrow.Author.Needs.{needs}
@@ -9,8 +10,9 @@ use borrow.Author.Tests.{eq-eqb, ne-eqb, not-true}
 use Rattle.rules.specs.Personality.{bodyAt, recordAt, groupMark, stopsEarly}
 use Rattle.rules.specs.Rows.{anyOf}
 use Rattle.rules.proofs.Rows.{any-more, any-done}
+use Rattle.rules.proofs.Tests.{or-cases, or-false-left}
 use Rattle.read_personality.proofs.GroupMarks.{group-held, mark-read}
-use Rattle.read_personality.proofs.Seventh.{none-stops, one-stops}
+use Rattle.read_personality.proofs.Seventh.{none-stops, none-missing, one-stops}
 use Rattle.read_personality.proofs.after.early_missing.Statement.{statement}
 use Rattle.read_personality.proofs.after.early_missing.Tie as tie
 
@@ -22,8 +24,13 @@ abbrev μ-loop : tie.MeasureT-loop
 
 returns : tie.Need-returns Inv-loop μ-loop
 returns c =
-    let start = c .before .before in
-    none-stops _ (sym (start .pre .0 .seven) ∙ start .pre .1) (sym (start .pre .3) ∙ not-true _ (c .if1 .taken))
+    let start = c .before .before .before in
+    let asked = start .pre in
+    let some = start .args .some in
+    ⊎-elim
+    (λ (there : start .args .layout .seven ≡ true). none-missing _ (sym (asked .0 .seven) ∙ there))
+    (λ (none : not some ≡ true). none-stops _ (sym (asked .2) ∙ not-true some none))
+    (or-cases _ _ (c .if1 .taken))
 
 cast-groups : tie.Need-cast-groups Inv-loop μ-loop
 cast-groups c = search needs
@@ -34,34 +41,34 @@ loop-holds c = (omega arith, refl)
 
 pair-at-requires : tie.Need-pair-at-requires Inv-loop μ-loop
 pair-at-requires c κs =
-    let start = c .before .before .before .before .before in
-    group-held (start .pre .0) (start .pre .2) (c .before .loop .g) (c .loop-test .taken)
+    let start = c .before .before .before .before .before .before in
+    group-held (start .pre .0) (start .pre .1) (c .before .loop .g) (c .loop-test .taken)
 
 -- the byte read is the mark of group g
 marked :
     (c : tie.After-pair-at Inv-loop μ-loop) →
     let atLoop = c .before .before in
-    c .pair-at .result .second ≡ groupMark (atLoop .before .before .before .before .args .s .now) (atLoop .loop .g)
+    c .pair-at .result .second ≡ groupMark (atLoop .before .before .before .before .before .args .s .now) (atLoop .loop .g)
 marked c =
     let atLoop = c .before .before in
-    mark-read (atLoop .before .before .before .before .pre .0) (atLoop .loop .g) (c .pair-at .ensures .1)
+    mark-read (atLoop .before .before .before .before .before .pre .0) (atLoop .loop .g) (c .pair-at .ensures .1)
 
-add-t10 : tie.Need-add-t10 Inv-loop μ-loop
-add-t10 c = search needs
+add-t11 : tie.Need-add-t11 Inv-loop μ-loop
+add-t11 c = search needs
 
-mul-t11 : tie.Need-mul-t11 Inv-loop μ-loop
-mul-t11 c = search needs
+mul-t12 : tie.Need-mul-t12 Inv-loop μ-loop
+mul-t12 c = search needs
 
-add-t12 : tie.Need-add-t12 Inv-loop μ-loop
-add-t12 c = search needs
+add-t13 : tie.Need-add-t13 Inv-loop μ-loop
+add-t13 c = search needs
 
 returns-2 : tie.Need-returns-2 Inv-loop μ-loop
 unfolding stopsEarly recordAt bodyAt
 returns-2 c =
     let read = c .before .before in
     let atLoop = read .before .before in
-    let asked = atLoop .before .before .before .before .pre in
-    one-stops _ (sym (asked .0 .seven) ∙ asked .1) (atLoop .loop .g) (omega arith) (atLoop .loop .inv .1)
+    let asked = atLoop .before .before .before .before .before .pre in
+    one-stops _ (sym (asked .0 .seven) ∙ or-false-left _ _ (atLoop .before .before .if1 .left)) (atLoop .loop .g) (omega arith) (atLoop .loop .inv .1)
     (eq-eqb _ _ (sym (marked read) ∙ c .if2 .taken))
     (omega (arith, asked .0 .groups))
 
@@ -79,8 +86,8 @@ loop-again c =
 
 returns-3 : tie.Need-returns-3 Inv-loop μ-loop
 returns-3 c =
-    let asked = c .before .before .before .before .before .pre in
-    none-stops _ (sym (asked .0 .seven) ∙ asked .1) (sym (any-done _ _ _ (c .before .loop .inv .1) (omega (arith, asked .0 .n))))
+    let asked = c .before .before .before .before .before .before .pre in
+    none-stops _ (sym (any-done _ _ _ (c .before .loop .inv .1) (omega (arith, asked .0 .n))))
 
 pub early-missing-spec : {M : Type 1} → statement M
 early-missing-spec =
@@ -92,9 +99,9 @@ early-missing-spec =
     cast-groups
     loop-holds
     pair-at-requires
-    add-t10
-    mul-t11
-    add-t12
+    add-t11
+    mul-t12
+    add-t13
     returns-2
     add-g
     loop-less

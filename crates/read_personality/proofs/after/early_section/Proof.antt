@@ -1,9 +1,13 @@
 -- `after::early_section` meets its contract: a section of times with one to a record, counted by P.
 use mathlib.Core.Path.{sym, _∙_}
 use borrow.Author.Needs.{needs}
-use Rattle.read_personality.proofs.Seventh.{early-checked}
+use borrow.Author.Tests.{not-true, not-false}
+use Rattle.read_personality.proofs.Seventh.{early-checked, none-early}
 use Rattle.read_personality.proofs.after.early_section.Statement.{statement}
 use Rattle.read_personality.proofs.after.early_section.Tie as tie
+
+returns : tie.Need-returns
+returns c = none-early _ (sym (c .before .before .before .pre .seven) ∙ not-true _ (c .if1 .taken))
 
 cast-timed-section : tie.Need-cast-timed-section
 cast-timed-section c = search needs
@@ -11,11 +15,12 @@ cast-timed-section c = search needs
 timed-section-requires : tie.Need-timed-section-requires
 timed-section-requires c κs = search needs
 
-returns : tie.Need-returns
-returns c =
-    let asked = c .before .before .before .pre in
-    let laid = asked .0 in
-    (rw (laid .early, laid .p) at (c .timed-section .ensures)) ∙ early-checked _ (sym (laid .seven) ∙ asked .1)
+returns-2 : tie.Need-returns-2
+returns-2 c =
+    let tested = c .before .before in
+    let laid = tested .before .before .before .pre in
+    (rw (laid .early, laid .p) at (c .timed-section .ensures)) ∙ early-checked _ (sym (laid .seven) ∙ not-false _ (tested .if1 .left))
 
 pub early-section-spec : {M : Type 1} → statement M
-early-section-spec = tie.close (tie.spec cast-timed-section timed-section-requires returns)
+early-section-spec =
+    tie.close (tie.spec returns cast-timed-section timed-section-requires returns-2)

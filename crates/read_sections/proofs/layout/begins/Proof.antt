@@ -1,7 +1,7 @@
 -- `layout::begins` meets its contract: the kind is read only where four bytes are there.
 use borrow.Author.Needs.{needs}
 use borrow.Author.Tests.{le-leb, lt-leb}
-use Rattle.rules.specs.Personality.{kindAt}
+use Rattle.rules.specs.Personality.{kindAt, hasHead}
 use Rattle.read_sections.proofs.layout.begins.Statement.{statement}
 use Rattle.read_sections.proofs.layout.begins.Tie as tie
 
@@ -15,10 +15,11 @@ two-in-requires : tie.Need-two-in-requires
 two-in-requires c κs = search needs
 
 returns : tie.Need-returns
-unfolding kindAt
+unfolding hasHead kindAt
 returns c = rw (le-leb _ _ (c .before .if1 .taken), c .two-in .ensures)
 
 returns-2 : tie.Need-returns-2
+unfolding hasHead
 returns-2 c = rw (lt-leb _ _ (c .if1 .left))
 
 pub begins-spec : {M : Type 1} → statement M

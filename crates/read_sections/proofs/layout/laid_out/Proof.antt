@@ -1,6 +1,6 @@
 -- `layout::laid_out` meets its contract: each head follows the body before it, and a body length is read at its own head.
 use native.Mathlib.Omega.{arith}
-use Rattle.rules.specs.Personality.{bodyAt, phaseCount, groupCount, groupsHead, conflictsHead, detectorsHead, pedestriansHead, earlyHead, hasEarly}
+use Rattle.rules.specs.Personality.{bodyAt, phaseCount, groupCount, groupsHead, conflictsHead, detectorsHead, pedestriansHead, earlyHead, hasEarly, orderHead, hasOrder, pastSection}
 use borrow.Author.Needs.{needs}
 use Rattle.read_sections.proofs.layout.laid_out.Statement.{statement}
 use Rattle.read_sections.proofs.layout.laid_out.Tie as tie
@@ -65,10 +65,18 @@ add-early-2 c = search needs
 begins-requires : tie.Need-begins-requires
 begins-requires c κs = search needs
 
+past-requires : tie.Need-past-requires
+past-requires c κs = search needs
+
+begins-requires-2 : tie.Need-begins-requires-2
+begins-requires-2 c κs = search needs
+
 returns : tie.Need-returns
-unfolding phaseCount groupCount groupsHead conflictsHead detectorsHead pedestriansHead earlyHead hasEarly bodyAt
+unfolding phaseCount groupCount groupsHead conflictsHead detectorsHead pedestriansHead earlyHead hasEarly orderHead hasOrder pastSection bodyAt
 returns c =
-    let sixth = c .before in
+    let ninth = c .before in
+    let seventh = ninth .before in
+    let sixth = seventh .before in
     let fifth = sixth .before in
     let n = fifth .before .byte2 .ensures in
     let p = fifth .before .before .byte .ensures in
@@ -80,8 +88,10 @@ returns c =
       detectors = simp (n, p);
       pedestrians = simp (fifth .length-at .ensures .0, n, p);
       early = simp (sixth .length-at2 .ensures .0, fifth .length-at .ensures .0, n, p);
-      seven = simp (c .begins .ensures, sixth .length-at2 .ensures .0, fifth .length-at .ensures .0, n, p);
-      near = (omega arith, omega arith, omega arith, omega arith, omega arith);
+      seven = simp (seventh .begins .ensures, sixth .length-at2 .ensures .0, fifth .length-at .ensures .0, n, p);
+      order = simp (ninth .past .ensures .0, seventh .begins .ensures, sixth .length-at2 .ensures .0, fifth .length-at .ensures .0, n, p);
+      nine = simp (c .begins2 .ensures, ninth .past .ensures .0, seventh .begins .ensures, sixth .length-at2 .ensures .0, fifth .length-at .ensures .0, n, p);
+      near = (omega arith, omega arith, omega arith, omega arith, omega arith, omega arith);
     }
 
 pub laid-out-spec : {M : Type 1} → statement M
@@ -108,4 +118,6 @@ laid-out-spec =
     length-at-requires-2
     add-early-2
     begins-requires
+    past-requires
+    begins-requires-2
     returns)
