@@ -39,7 +39,7 @@ extern "C" {
 
 /* ── Sizes ── */
 
-#define WILLOWERA_STATE_BYTES 51
+#define WILLOWERA_STATE_BYTES 58
 #define WILLOWERA_MOST_PHASES 7
 #define WILLOWERA_MOST_GROUPS 32
 #define WILLOWERA_MOST_DETECTORS 48
@@ -119,7 +119,7 @@ uint64_t willowera_step(const uint8_t *personality, size_t personality_length, u
 uint64_t willowera_section(const uint8_t *personality, size_t personality_length, uint16_t kind);
 
 /* The version of the archive's interface: WILLOWERA_VERSION where this header belongs to it. */
-#define WILLOWERA_VERSION 2
+#define WILLOWERA_VERSION 3
 uint32_t willowera_version(void);
 
 #ifdef __cplusplus

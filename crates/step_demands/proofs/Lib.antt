@@ -1,4 +1,4 @@
-pub mod Letters
+pub mod Orders
 pub mod Crossed
 pub mod Bits
 pub mod Table

@@ -1,3 +1,3 @@
 pub mod Sensed
 pub mod Asked
-pub mod Letters
+pub mod Orders

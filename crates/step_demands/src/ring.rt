@@ -1,36 +1,53 @@
-// The search along the ring of phases.
+// The search along the ring of phases, which stand there in running order.
 ghost use mathlib.Core.Bool.{false, _||_};
 ghost use mathlib.Core.Path.{_≡_};
-ghost use Prim.Native.Nat.{_-_, _≤_, _<_};
+ghost use Prim.Native.Nat.{_-_, _≤_};
 ghost use lib.ListN.{getD};
 ghost use Rattle.rules.specs.Bytes.{bit};
 ghost use Rattle.rules.specs.Demands.{firstIn};
-ghost use Rattle.step_demands.specs.Letters.{run, others};
+ghost use Rattle.step_demands.specs.Orders.{run, others, PlaceOf, Marked};
 use rules::state::Held;
 
-// The first phase with a mark or in the set, from a letter on, up to and without another.
-fn search(marks: [bool; 7], set: u8, from: u8, to: u8) -> Held
-    requires { ⌜ (from ≤ to) × (to ≤ 7) ⌝ }
-    ensures { λ r. ⌜ r ≡ firstIn (λ p. getD marks p false || bit p set) (run from (to - from)) ⌝ }
+// Where the phase stands among the first phases of the order, or past them where it does not.
+fn place_of(order: [u8; 7], phase: u8, phases: u8) -> u8
+    requires { ⌜ phases ≤ 7 ⌝ }
+    ensures { λ r. ⌜ PlaceOf order phase phases r ⌝ }
 {
-    let mut p = from;
-    while p < to {
-        if marks[p as usize] | base_reads::bit8(p, set) {
-            return Held::Phase { phase: p };
+    let mut i: u8 = 0;
+    while i < phases {
+        if order[i as usize] == phase {
+            return i;
         }
-        p += 1;
+        i += 1;
+    }
+    phases
+}
+
+// The first phase with a mark or in the set, from a place of the order on, up to and without another.
+fn search(marks: [bool; 7], set: u8, order: [u8; 7], from: u8, to: u8) -> Held
+    requires { ⌜ Marked order to ⌝ }
+    ensures { λ r. ⌜ r ≡ firstIn (λ p. getD marks p false || bit p set) (run order from (to - from)) ⌝ }
+{
+    let mut i = from;
+    while i < to {
+        let phase = order[i as usize];
+        if marks[phase as usize] | base_reads::bit8(phase, set) {
+            return Held::Phase { phase };
+        }
+        i += 1;
     }
     Held::Nothing
 }
 
-// The first phase with a mark or in the set after this one in cyclic letter order: the phases after it, then those before it.
-pub fn next(marks: [bool; 7], set: u8, phase: u8, phases: u8) -> Held
-    requires { ⌜ (phase < phases) × (phases ≤ 7) ⌝ }
-    ensures { λ r. ⌜ r ≡ firstIn (λ p. getD marks p false || bit p set) (others phase phases) ⌝ }
+// The first phase with a mark or in the set after this one in cyclic order: the phases after it, then those before it.
+pub fn next(marks: [bool; 7], set: u8, phase: u8, order: [u8; 7], phases: u8) -> Held
+    requires { ⌜ Marked order phases ⌝ }
+    ensures { λ r. ⌜ r ≡ firstIn (λ p. getD marks p false || bit p set) (others phase order phases) ⌝ }
 {
-    let later = search(marks, set, phase + 1, phases);
+    let at = place_of(order, phase, phases);
+    let later = search(marks, set, order, at + 1, phases);
     if let Held::Phase { phase: found } = later {
         return Held::Phase { phase: found };
     }
-    search(marks, set, 0, phase)
+    search(marks, set, order, 0, at)
 }

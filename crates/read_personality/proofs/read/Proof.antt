@@ -189,8 +189,7 @@ pastPedestrians c e = afterDetectors (c .before .before .before) (or-next (c .be
 after-pedestrians-requires : tie.Need-after-pedestrians-requires
 after-pedestrians-requires c κs =
     let detected = c .before .before .before in
-    let groups = groupsLaid detected in
-    (
+    let groups = groupsLaid detected in (
       groups .0,
       siteAccepted (siteBefore (groupsBefore detected)),
       groups .1,

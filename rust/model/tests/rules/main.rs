@@ -2,6 +2,7 @@
 //! case by case.
 
 mod calls;
+mod demanded;
 mod early_cut_off;
 mod junction;
 mod late_start;
@@ -10,6 +11,7 @@ mod lookup;
 mod overlaps;
 mod pedestrians;
 mod refusals;
+mod resting_walk;
 mod running;
 mod states;
 mod trace;
