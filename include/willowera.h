@@ -39,7 +39,7 @@ extern "C" {
 
 /* ── Sizes ── */
 
-#define WILLOWERA_STATE_BYTES 51
+#define WILLOWERA_STATE_BYTES 58
 #define WILLOWERA_MOST_PHASES 7
 #define WILLOWERA_MOST_GROUPS 32
 #define WILLOWERA_MOST_DETECTORS 48
@@ -91,6 +91,7 @@ extern "C" {
 #define WILLOWERA_BUFFER_SHORT 14       /* colour buffer shorter than the number of groups; place 0 */
 #define WILLOWERA_STRAY_INPUT 15        /* input bit without a detector or button; place 0 */
 #define WILLOWERA_NO_EARLY_TIMES 17     /* a group stops early, without a section of kind 7; place: the record */
+#define WILLOWERA_WRONG_ORDER 18        /* kind 9 has not each phase once; place: its head */
 
 /* ── Answers: the number in the low 8 bits, and above it the place of a refusal, or what an accepted call gives ── */
 
@@ -119,7 +120,7 @@ uint64_t willowera_step(const uint8_t *personality, size_t personality_length, u
 uint64_t willowera_section(const uint8_t *personality, size_t personality_length, uint16_t kind);
 
 /* The version of the archive's interface: WILLOWERA_VERSION where this header belongs to it. */
-#define WILLOWERA_VERSION 2
+#define WILLOWERA_VERSION 3
 uint32_t willowera_version(void);
 
 #ifdef __cplusplus

@@ -2,7 +2,7 @@
 
 use compare::{run_case, run_cases, Difference, Failure};
 use model::packed::{number, Board, Model};
-use model::{layout, STATE_LEN};
+use model::{layout, scan, section, MovementState, Site, Stage, State, STATE_LEN};
 
 /// Spoils an answer, and the state and colours that go with it.
 type SpoilStep = fn(u64, &mut [u8], &mut [u8]) -> u64;
@@ -127,6 +127,30 @@ fn a_section_of_early_cut_off_times_not_found() {
 }
 
 #[test]
+fn a_section_with_the_order_not_found() {
+    let board = Wrong {
+        section: Some(|answer, kind| {
+            if kind == 9 && number(answer) == 0 {
+                2
+            } else {
+                answer
+            }
+        }),
+        ..Wrong::default()
+    };
+    assert_eq!(what(&board), "section: the answer");
+}
+
+#[test]
+fn any_order_accepted() {
+    let board = Wrong {
+        read: Some(|answer| if number(answer) == 18 { 0 } else { answer }),
+        ..Wrong::default()
+    };
+    assert_eq!(what(&board), "read: the answer");
+}
+
+#[test]
 fn bytes_left_over_before_early_cut_off_times_not_there() {
     let board = Wrong {
         read: Some(|answer| if number(answer) == 17 { 12 } else { answer }),
@@ -149,6 +173,114 @@ fn an_arrow_that_stays_green_in_early_cut_off() {
         ..Wrong::default()
     };
     assert_eq!(what(&board), "step: the colours");
+}
+
+#[test]
+fn a_phase_kept_that_is_not_demanded() {
+    let board = Wrong {
+        step: Some(|answer, state, _| {
+            if number(answer) == 0 {
+                state[layout::DEMANDED] = 1;
+            }
+            answer
+        }),
+        ..Wrong::default()
+    };
+    assert_eq!(what(&board), "step: the state");
+}
+
+/// The model, but the demanded phases handed in are not looked at.
+struct ScansAnew;
+
+impl Board for ScansAnew {
+    fn read(&self, personality: &[u8]) -> u64 {
+        Model.read(personality)
+    }
+
+    fn wait_bound(&self, personality: &[u8]) -> u64 {
+        Model.wait_bound(personality)
+    }
+
+    fn fresh(&self, state: &mut [u8]) -> u64 {
+        Model.fresh(state)
+    }
+
+    fn step(&self, personality: &[u8], state: &mut [u8], inputs: u64, colours: &mut [u8]) -> u64 {
+        let site = Site::read(personality);
+        if let (Ok(site), Some(mut handed)) = (site, State::from_bytes(state)) {
+            handed.demanded = scan(&site, &handed);
+            let mut bytes = handed.to_bytes();
+            let answer = Model.step(personality, &mut bytes, inputs, colours);
+            if number(answer) == 0 {
+                state.copy_from_slice(&bytes);
+            }
+            return answer;
+        }
+        Model.step(personality, state, inputs, colours)
+    }
+
+    fn section(&self, personality: &[u8], kind: u16) -> u64 {
+        Model.section(personality, kind)
+    }
+}
+
+#[test]
+fn kept_phases_that_are_not_looked_at() {
+    assert_eq!(what(&ScansAnew), "step: the answer");
+}
+
+/// The model, but it steps by letters whatever the order.
+struct GoesByLetters;
+
+impl Board for GoesByLetters {
+    fn read(&self, personality: &[u8]) -> u64 {
+        Model.read(personality)
+    }
+
+    fn wait_bound(&self, personality: &[u8]) -> u64 {
+        Model.wait_bound(personality)
+    }
+
+    fn fresh(&self, state: &mut [u8]) -> u64 {
+        Model.fresh(state)
+    }
+
+    fn step(&self, personality: &[u8], state: &mut [u8], inputs: u64, colours: &mut [u8]) -> u64 {
+        // The order, a head of four bytes and its body, is the last section.
+        let unordered = match section(personality, 9) {
+            Ok(part) => &personality[..part.offset as usize - 4],
+            Err(_) => personality,
+        };
+        Model.step(unordered, state, inputs, colours)
+    }
+
+    fn section(&self, personality: &[u8], kind: u16) -> u64 {
+        Model.section(personality, kind)
+    }
+}
+
+#[test]
+fn phases_in_letter_order_where_there_is_another() {
+    assert_eq!(what(&GoesByLetters), "step: the state");
+}
+
+#[test]
+fn a_walk_that_does_not_rest() {
+    let board = Wrong {
+        step: Some(|answer, state, _| {
+            if number(answer) == 0 {
+                let mut next = State::from_bytes(state).unwrap();
+                let walks = next.movements.iter_mut();
+                // No walk of a fixed time lasts longer.
+                let too_long = walks.filter(|m| m.stage == Stage::Walk && m.age > 400);
+                too_long.for_each(|m| *m = MovementState::begin(Stage::ClearanceOne));
+                state.copy_from_slice(&next.to_bytes());
+            }
+            answer
+        }),
+        ..Wrong::default()
+    };
+    assert_eq!(what(&board), "step: the state");
 }
 
 #[test]

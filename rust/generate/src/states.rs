@@ -3,7 +3,9 @@
 
 use crate::rng::Rng;
 use model::layout;
-use model::{fresh, Interval, MovementState, Site, Stage, State, MAX_AGE, MAX_MOVEMENTS};
+use model::{
+    fresh, scan, Interval, MovementState, Site, Stage, State, MAX_AGE, MAX_MOVEMENTS, MAX_PHASES,
+};
 
 /// A random valid state, reachable or not.
 pub fn valid_state(rng: &mut Rng, site: &Site) -> State {
@@ -28,6 +30,7 @@ pub fn valid_state(rng: &mut Rng, site: &Site) -> State {
     for index in 0..site.movement_count() {
         state.movements[index] = random_movement(rng, site, &state, index);
     }
+    state.demanded = scan(site, &state);
     state
 }
 
@@ -130,10 +133,11 @@ pub enum Breakage {
     MovementAge,
     MovementBeyond,
     EarlyWithoutTimes,
+    DemandedDiffers,
 }
 
 impl Breakage {
-    pub const ALL: [Breakage; 19] = [
+    pub const ALL: [Breakage; 20] = [
         Breakage::PhaseBeyond,
         Breakage::CameFromBeyond,
         Breakage::TargetBeyond,
@@ -153,6 +157,7 @@ impl Breakage {
         Breakage::MovementAge,
         Breakage::MovementBeyond,
         Breakage::EarlyWithoutTimes,
+        Breakage::DemandedDiffers,
     ];
 }
 
@@ -183,7 +188,11 @@ fn break_state(rng: &mut Rng, site: &Site, state: &mut State, breakage: Breakage
         Breakage::AgeAbove => state.age = rng.pick(&[MAX_AGE + 1, u16::MAX]),
         Breakage::GapAbove => state.gap_count = times.gap + 1,
         Breakage::MaximumAbove => state.maximum_count = times.maximum_green + 1,
-        Breakage::LockBeyond => state.locks |= 1 << rng.range(phases.into(), 7),
+        Breakage::DemandedDiffers => break_demanded(rng, site, state)?,
+        Breakage::LockBeyond => {
+            state.locks |= 1 << rng.range(phases.into(), 7);
+            state.demanded = scan(site, state);
+        }
         Breakage::DemandBeyond if site.movement_count() < MAX_MOVEMENTS => {
             state.demands |= 1 << rng.range(site.movement_count(), 7);
         }
@@ -201,6 +210,17 @@ fn break_state(rng: &mut Rng, site: &Site, state: &mut State, breakage: Breakage
         _ => false,
     };
     (!untouched).then_some(())
+}
+
+/// One phase kept too many or too few, or a lock or demand changed and not kept.
+fn break_demanded(rng: &mut Rng, site: &Site, state: &mut State) -> Option<()> {
+    match rng.below(3) {
+        0 => state.demanded ^= 1 << rng.below(MAX_PHASES),
+        1 => state.locks ^= 1 << rng.below(site.phase_count()),
+        _ if site.movement_count() == 0 => return None,
+        _ => state.demands ^= 1 << rng.below(site.movement_count()),
+    }
+    (state.demanded != scan(site, state)).then_some(())
 }
 
 fn break_movement(rng: &mut Rng, site: &Site, state: &mut State, breakage: Breakage) -> Option<()> {
@@ -245,10 +265,11 @@ pub fn broken_state_bytes(rng: &mut Rng, site: &Site) -> Vec<u8> {
         bytes[at..at + 2].copy_from_slice(&[0, 1]);
         return bytes;
     }
-    let at = match rng.below(4) {
+    let at = match rng.below(5) {
         0 => layout::INTERVAL,
         1 => rng.pick(&[layout::CAME_FROM, layout::TARGET]),
         2 => rng.range(layout::LOCKS, layout::MOVEMENTS - 1),
+        3 => layout::DEMANDED + rng.below(MAX_PHASES),
         _ => layout::MOVEMENTS + layout::MOVEMENT_LEN * rng.below(MAX_MOVEMENTS),
     };
     // No code, tag or flag is as great as these.

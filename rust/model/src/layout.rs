@@ -18,9 +18,11 @@ pub const DEMANDS: usize = LOCKS + MAX_PHASES;
 /// Records of a stage and an age of two bytes.
 pub const MOVEMENTS: usize = DEMANDS + MAX_MOVEMENTS;
 pub const MOVEMENT_LEN: usize = 3;
+/// One byte a phase, each 0 or 1.
+pub const DEMANDED: usize = MOVEMENTS + MOVEMENT_LEN * MAX_MOVEMENTS;
 
 /// The length of a state in bytes.
-pub const STATE_LEN: usize = MOVEMENTS + MOVEMENT_LEN * MAX_MOVEMENTS;
+pub const STATE_LEN: usize = DEMANDED + MAX_PHASES;
 
 /// The intervals and stages, each at the place of its code.
 const INTERVALS: [Interval; 7] = [
@@ -85,6 +87,7 @@ impl State {
             maximum_count: number(MAXIMUM_COUNT),
             locks: gather_flags(&bytes[LOCKS..DEMANDS])?,
             demands: gather_flags(&bytes[DEMANDS..MOVEMENTS])?,
+            demanded: gather_flags(&bytes[DEMANDED..])?,
             movements,
         })
     }
@@ -103,6 +106,7 @@ impl State {
         put(MAXIMUM_COUNT, self.maximum_count.to_le_bytes());
         bytes[LOCKS..DEMANDS].copy_from_slice(&spread_flags(self.locks)[..MAX_PHASES]);
         bytes[DEMANDS..MOVEMENTS].copy_from_slice(&spread_flags(self.demands));
+        bytes[DEMANDED..].copy_from_slice(&spread_flags(self.demanded)[..MAX_PHASES]);
         for (index, movement) in self.movements.iter().enumerate() {
             let at = MOVEMENTS + MOVEMENT_LEN * index;
             let [low, high] = movement.age.to_le_bytes();
@@ -192,6 +196,7 @@ mod tests {
         state.maximum_count = 0x0506;
         state.locks = 0b0100_0001;
         state.demands = 0b1000_0010;
+        state.demanded = 0b0010_0100;
         state.movements[7] = MovementState {
             stage: Stage::ClearanceTwo,
             age: 0x0708,
@@ -200,14 +205,24 @@ mod tests {
         assert_eq!(bytes[..12], [3, 6, 2, 1, 1, 0, 1, 6, 4, 3, 6, 5]);
         assert_eq!(bytes[12..19], [1, 0, 0, 0, 0, 0, 1]);
         assert_eq!(bytes[19..27], [0, 1, 0, 0, 0, 0, 0, 1]);
-        assert_eq!(bytes[48..], [3, 8, 7]);
+        assert_eq!(bytes[48..51], [3, 8, 7]);
+        assert_eq!(bytes[51..], [0, 0, 1, 0, 0, 1, 0]);
         assert_eq!(State::from_bytes(&bytes), Some(state));
     }
 
     #[test]
     fn bytes_that_are_no_state() {
         let good = fresh().to_bytes();
-        for (at, byte) in [(1, 7), (4, 2), (5, 1), (6, 2), (7, 1), (12, 2), (26, 255)] {
+        for (at, byte) in [
+            (1, 7),
+            (4, 2),
+            (5, 1),
+            (6, 2),
+            (7, 1),
+            (12, 2),
+            (26, 255),
+            (57, 2),
+        ] {
             let mut bytes = good;
             bytes[at] = byte;
             assert_eq!(State::from_bytes(&bytes), None, "byte {at}");
@@ -217,7 +232,7 @@ mod tests {
             bytes[MOVEMENTS + 3 * movement] = 4;
             assert_eq!(State::from_bytes(&bytes), None, "movement {movement}");
         }
-        assert_eq!(State::from_bytes(&good[..50]), None);
+        assert_eq!(State::from_bytes(&good[..STATE_LEN - 1]), None);
         let longer = [good.as_slice(), &[0]].concat();
         assert_eq!(State::from_bytes(&longer), None);
     }

@@ -37,7 +37,7 @@ pub use reader::read;
 pub use refusal::{Number, Refusal, Verdict};
 pub use site::{Detector, Group, Mark, Movement, PhaseTimes, Site};
 pub use state::{fresh, Interval, MovementState, Stage, State, MAX_AGE};
-pub use step::{step, step_on, Answer};
+pub use step::{scan, step, step_on, Answer};
 pub use valid::valid;
 pub use wait::wait_bound;
 

@@ -105,6 +105,8 @@ pub struct State {
     pub locks: u8,
     /// The movements with a button demand; bit 0 is the first movement.
     pub demands: u8,
+    /// The phases demanded by lock or movement, kept ready; bit 0 is phase A.
+    pub demanded: u8,
     pub movements: [MovementState; MAX_MOVEMENTS],
 }
 
@@ -120,6 +122,7 @@ pub const fn fresh() -> State {
         maximum_count: 0,
         locks: 0,
         demands: 0,
+        demanded: 0,
         movements: [MovementState::IDLE; MAX_MOVEMENTS],
     }
 }

@@ -64,11 +64,20 @@ fn advance(site: &Site, before: &State, inputs: u64) -> State {
     let occupied = Occupied::by(site, inputs);
     let demanded = register_demands(site, &mut state, &occupied, inputs);
     let others = demanded & !(1 << state.phase);
-    run_movements(site, &mut state);
+    run_movements(site, &mut state, others != 0);
     run_counts(site, &mut state, &occupied, others != 0);
     let phase_starts = run_interval(site, &mut state, others);
     begin_walks(site, &mut state, phase_starts, others != 0);
+    state.demanded = scan(site, &state);
     state
+}
+
+/// The phases demanded by lock or movement, found in the locks and demands.
+#[inline]
+pub fn scan(site: &Site, state: &State) -> u8 {
+    set_bits(state.demands.into()).fold(state.locks, |set, movement| {
+        set | site.groups.movement_set[movement & 7]
+    })
 }
 
 /// The phases with an occupied detector that calls, locks or extends.
@@ -108,25 +117,26 @@ fn register_demands(site: &Site, state: &mut State, occupied: &Occupied, inputs:
             state.demands |= 1 << movement;
         }
     }
-    let mut demanded = state.locks | occupied.calling & !green;
-    for movement in set_bits(state.demands.into()) {
-        demanded |= site.groups.movement_set[movement & 7];
-    }
-    demanded
+    scan(site, state) | occupied.calling & !green
 }
 
-/// Part 2: walk and the clearances follow each other.
+/// Part 2: walk and the clearances follow each other. Walk lasts at least its
+/// time, and then until running would give way; the counts are those before
+/// part 3.
 #[inline]
-fn run_movements(site: &Site, state: &mut State) {
+fn run_movements(site: &Site, state: &mut State, other_demanded: bool) {
+    let maximum_green = site.phase(state.phase).maximum_green;
+    let gives_way =
+        state.interval == Interval::Running && other_demanded && counts_end(state, maximum_green);
     for (movement, record) in state.movements.iter_mut().zip(site.records.movements) {
         let [walk, clearance_one, clearance_two] = movement_times(record);
-        let setting = match movement.stage {
+        let ends = match movement.stage {
             Stage::Idle => continue,
-            Stage::Walk => walk,
-            Stage::ClearanceOne => clearance_one,
-            Stage::ClearanceTwo => clearance_two,
+            Stage::Walk => gives_way && movement.age >= walk,
+            Stage::ClearanceOne => movement.age >= clearance_one,
+            Stage::ClearanceTwo => movement.age >= clearance_two,
         };
-        if movement.age >= setting {
+        if ends {
             *movement = MovementState::begin(movement.stage.next());
         } else {
             movement.age = older(movement.age);
@@ -176,7 +186,7 @@ fn run_interval(site: &Site, state: &mut State, others: u8) -> bool {
                 Interval::EarlyCutOff
             };
             enter(state, next);
-            state.target = Some(first_after(state.phase, others));
+            state.target = Some(site.first_after(state.phase, others));
         }
         Interval::EarlyCutOff if state.age >= site.early_cut_off(state.phase) => {
             enter(state, Interval::Yellow);
@@ -195,18 +205,15 @@ fn run_interval(site: &Site, state: &mut State, others: u8) -> bool {
 #[inline]
 fn green_ends(state: &State, maximum_green: u16, others: u8) -> bool {
     others != 0
-        && (state.gap_count == 0 || state.maximum_count == maximum_green)
+        && counts_end(state, maximum_green)
         && !any_in(state, Stage::Walk)
         && !any_in(state, Stage::ClearanceOne)
 }
 
-/// The first phase of a set after a phase, in cyclic letter order. The set has
-/// a phase, and not this one.
+/// Whether the counts let running end: the gap is over, or the maximum reached.
 #[inline]
-fn first_after(phase: u8, set: u8) -> u8 {
-    let later = set & (u8::MAX << phase);
-    let from = if later != 0 { later } else { set };
-    from.trailing_zeros() as u8
+fn counts_end(state: &State, maximum_green: u16) -> bool {
+    state.gap_count == 0 || state.maximum_count == maximum_green
 }
 
 #[inline]

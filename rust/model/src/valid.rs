@@ -2,6 +2,7 @@
 
 use crate::site::Site;
 use crate::state::{Interval, MovementState, Stage, State, MAX_AGE};
+use crate::step::scan;
 
 /// Whether a state may be stepped at a site.
 #[inline]
@@ -25,6 +26,7 @@ pub fn valid(site: &Site, state: &State) -> bool {
         && state.maximum_count <= times.maximum_green
         && state.locks & !site.all_phases() == 0
         && state.demands & !site.all_movements() == 0
+        && state.demanded == scan(site, state)
         && movements_fit(site, state)
 }
 

@@ -22,6 +22,8 @@ pub enum Breach {
     },
     /// Early cut-off begins, and a group that stops early is not yellow.
     StaysOpen { step: u64, group: usize },
+    /// The phases kept as demanded are not those that a scan finds.
+    DemandedDiffers { step: u64, kept: u8, found: u8 },
     /// The locked demand of a phase is not met within the wait bound.
     LockUnmet {
         step: u64,
@@ -64,6 +66,10 @@ impl fmt::Display for Breach {
             Breach::StaysOpen { step, group } => {
                 write!(f, "step {step}: group {group} does not stop early")
             }
+            Breach::DemandedDiffers { step, kept, found } => write!(
+                f,
+                "step {step}: demanded phases {kept:#b} are kept, and {found:#b} are demanded"
+            ),
             Breach::LockUnmet {
                 step,
                 phase,

@@ -26,10 +26,13 @@ pub enum Strategy {
     Ambush,
     /// Holds the green and calls the other phases in every other step only.
     Flicker,
+    /// Presses each button once, and afterwards only while its movement clears;
+    /// calls the other phases now and then.
+    Late,
 }
 
 impl Strategy {
-    pub const ALL: [Strategy; 8] = [
+    pub const ALL: [Strategy; 9] = [
         Strategy::Quiet,
         Strategy::Flood,
         Strategy::Random,
@@ -38,6 +41,7 @@ impl Strategy {
         Strategy::Greedy,
         Strategy::Ambush,
         Strategy::Flicker,
+        Strategy::Late,
     ];
 }
 
@@ -50,6 +54,8 @@ pub struct Driver {
     victim: u64,
     /// Inputs that last, and for how many more steps.
     lasting: (u64, usize),
+    /// The movements whose buttons were pressed.
+    pressed: u8,
     steps: u64,
 }
 
@@ -61,6 +67,7 @@ impl Driver {
             rng,
             victim,
             lasting: (0, 0),
+            pressed: 0,
             steps: 0,
         }
     }
@@ -78,6 +85,10 @@ impl Driver {
             Strategy::Ambush => self.ambush(site, state),
             Strategy::Flicker if self.steps.is_multiple_of(2) => hold_green(site, state),
             Strategy::Flicker => hold_green(site, state) | call_others(site, state),
+            Strategy::Late if self.rng.percent(3) => {
+                self.late_presses(site, state) | call_others(site, state)
+            }
+            Strategy::Late => self.late_presses(site, state),
         }
     }
 
@@ -94,6 +105,23 @@ impl Driver {
         }
         self.lasting.1 -= 1;
         self.lasting.0
+    }
+
+    /// Presses of movements that clear, and of those that were never pressed.
+    fn late_presses(&mut self, site: &Site, state: &State) -> u64 {
+        let mut presses = 0;
+        for movement in 0..site.movement_count() {
+            let clears = matches!(
+                state.movements[movement].stage,
+                Stage::ClearanceOne | Stage::ClearanceTwo
+            );
+            let first = self.pressed >> movement & 1 == 0;
+            if (clears || first) && self.rng.percent(5) {
+                self.pressed |= 1 << movement;
+                presses |= 1 << (FIRST_BUTTON as usize + movement);
+            }
+        }
+        presses
     }
 
     /// Demands for the victim, and everything that keeps it waiting.

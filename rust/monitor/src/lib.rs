@@ -1,7 +1,8 @@
 //! Watches a run of step calls from outside, for the three parts of demand 3:
 //! no conflicting greens together, full clearances before a conflicting green,
 //! and every registered demand met within the wait bound. A group that stops
-//! early begins its clearance with early cut-off.
+//! early begins its clearance with early cut-off, and the phases kept as demanded
+//! are those that are.
 //!
 //! [`Monitor`] is told of accepted steps; [`watch`] drives a board with random
 //! or adversarial inputs and tells it.
@@ -32,6 +33,22 @@ pub struct Seen<'a> {
     pub colours: &'a [u8],
 }
 
+/// The phases kept as demanded are those of the locks and of the demanded
+/// movements.
+fn demanded_kept(site: &Site, state: &State, step: u64) -> Result<(), Breach> {
+    let kept = state.demanded;
+    let found = (0..site.movement_count())
+        .filter(|movement| state.demands >> movement & 1 != 0)
+        .fold(state.locks, |set, movement| {
+            set | 1 << site.movement(movement).phase
+        });
+    if kept == found {
+        Ok(())
+    } else {
+        Err(Breach::DemandedDiffers { step, kept, found })
+    }
+}
+
 /// Watches one run on one site.
 #[derive(Clone, Debug)]
 pub struct Monitor {
@@ -52,6 +69,7 @@ impl Monitor {
     /// Takes in an accepted step; a breach of demand 3 is an error.
     pub fn accepted_step(&mut self, site: &Site, seen: &Seen) -> Result<(), Breach> {
         self.accepted += 1;
+        demanded_kept(site, seen.after, self.accepted)?;
         self.clearances.step(site, seen, self.accepted)?;
         self.waits.step(site, seen, self.accepted)
     }

@@ -37,6 +37,7 @@ impl<F: Fn(&mut Outcome)> Board for Broken<F> {
                 colours,
             };
             (self.0)(&mut outcome);
+            outcome.state.demanded = demanded_phases(&outcome.site, &outcome.state);
             state.copy_from_slice(&outcome.state.to_bytes());
         }
         answer
@@ -75,6 +76,7 @@ fn busy_site(rng: &mut Rng) -> Plan {
         pedestrians: rng.range(1, 8),
         detectors: 30,
         early_cut_offs: true,
+        order: rng.percent(50),
         pace: Pace::Short,
     };
     let mut plan = Plan::of_shape(rng, shape);
@@ -362,6 +364,34 @@ fn running_that_never_ends() {
 }
 
 #[test]
+fn a_walk_that_rests_for_ever() {
+    assert_breach!(
+        |outcome| {
+            for movement in &mut outcome.state.movements {
+                if *movement == MovementState::begin(Stage::ClearanceOne) {
+                    movement.stage = Stage::Walk;
+                }
+            }
+        },
+        Breach::LockUnmet { .. } | Breach::PressUnmet { .. }
+    );
+}
+
+#[test]
+fn a_resting_walk_that_ends_without_its_first_clearance() {
+    assert_breach!(
+        |outcome| {
+            for movement in &mut outcome.state.movements {
+                if movement.stage == Stage::Walk && movement.age > 100 {
+                    *movement = MovementState::begin(Stage::ClearanceTwo);
+                }
+            }
+        },
+        Breach::Uncleared { .. }
+    );
+}
+
+#[test]
 fn lights_that_never_alter() {
     assert_breach!(
         |outcome| outcome.state = model::fresh(),
@@ -413,6 +443,28 @@ fn blind_to_detectors() {
         breach,
         Breach::LockUnmet { .. } | Breach::PressUnmet { .. }
     ));
+}
+
+#[test]
+fn a_demanded_phase_not_kept() {
+    let breach = first_breach(&Odd(|personality, state, inputs, colours| {
+        let answer = packed::step(personality, state, inputs, colours);
+        state[layout::DEMANDED + 2] = 0;
+        answer
+    }));
+    assert!(matches!(breach, Breach::DemandedDiffers { .. }));
+}
+
+#[test]
+fn a_phase_kept_that_is_not_demanded() {
+    let breach = first_breach(&Odd(|personality, state, inputs, colours| {
+        let answer = packed::step(personality, state, inputs, colours);
+        if number(answer) == 0 {
+            state[layout::DEMANDED] = 1;
+        }
+        answer
+    }));
+    assert!(matches!(breach, Breach::DemandedDiffers { .. }));
 }
 
 #[test]

@@ -2,6 +2,7 @@
 
 use generate::{Pace, Plan, Rng, Shape};
 use model::packed::Model;
+use model::Stage;
 use monitor::{watch, Driver, Report, Strategy};
 
 const SEED: u64 = 20_260_101;
@@ -50,6 +51,29 @@ fn random_sites() {
         for strategy in Strategy::ALL {
             watched(&plan, strategy, seed, 600);
         }
+    }
+}
+
+#[test]
+fn walks_rest_under_the_drivers() {
+    for strategy in [Strategy::Bursts, Strategy::Single, Strategy::Late] {
+        let mut rng = Rng::new(SEED);
+        let rested = (0..20).filter(|&seed| {
+            let personality = Plan::random(&mut rng).bytes();
+            let site = model::Site::read(&personality).unwrap();
+            let mut driver = Driver::new(strategy, &site, Rng::new(seed));
+            let mut state = model::fresh();
+            (0..2_000).any(|_| {
+                let inputs = driver.inputs(&site, &state);
+                state = model::step_on(&site, &state, inputs, &mut [0; 32]).unwrap();
+                (0..site.movement_count()).any(|index| {
+                    let movement = state.movements[index];
+                    movement.stage == Stage::Walk && movement.age > site.movement(index).walk
+                })
+            })
+        });
+        let rested = rested.count();
+        assert!(rested >= 5, "{strategy:?}: at {rested} of 20 sites");
     }
 }
 

@@ -15,7 +15,7 @@ pub use answer::{part, wait_bound_or_refusal, Part, Refusal};
 pub use board::{read, section, version, wait_bound, Controller};
 
 /// The version of the interface that these wrappers are for.
-pub const VERSION: u32 = 2;
+pub const VERSION: u32 = 3;
 
 /// The length of a state in bytes.
-pub const STATE_LEN: usize = 51;
+pub const STATE_LEN: usize = 58;

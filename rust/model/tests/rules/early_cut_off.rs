@@ -144,12 +144,12 @@ fn second_clearances_run_on_in_it() {
     plan.movements = vec![[10, 15, 70]];
     let inputs = |now| once(5, 1 << 48)(now) | once(12, detector(1))(now);
     let mut run = Run::new(&plan);
-    run.until(34, inputs);
+    run.until(45, inputs);
     assert_eq!(run.shown(), "A G GGRF");
     run.step(0);
     assert_eq!(run.shown(), "A E GYRF", "in the step that ends C1");
     assert_eq!(run.state.movements[0].stage, Stage::ClearanceTwo);
-    run.until(104, inputs);
+    run.until(115, inputs);
     assert_eq!(run.shown(), "A R RRRF", "C2 outlasts E, yellow and all-red");
     run.step(0);
     assert_eq!(run.shown(), "B M RRGR");

@@ -68,6 +68,9 @@ impl<'a> Letter<'a> {
         if state.gap_count > times[3] || state.maximum_count > times[2] {
             return false;
         }
+        if state.demanded != self.demanded(state) {
+            return false;
+        }
         for phase in 0..8 {
             if state.locks >> phase & 1 == 1 && phase >= phases {
                 return false;
@@ -96,6 +99,38 @@ impl<'a> Letter<'a> {
             }
         }
         true
+    }
+
+    /// The first demanded phase after a phase, in the order of the phases.
+    fn first_after(&self, phase: u8, demanded: [bool; 7]) -> u8 {
+        let phases = self.plan.phases.len();
+        let letters = (0..phases as u8).collect();
+        let order = self.plan.order.as_ref().unwrap_or(&letters);
+        let mut place = 0;
+        while order[place] != phase {
+            place += 1;
+        }
+        loop {
+            place = (place + 1) % phases;
+            if demanded[usize::from(order[place])] {
+                return order[place];
+            }
+        }
+    }
+
+    /// The phases demanded by lock or movement.
+    fn demanded(&self, state: &State) -> u8 {
+        let mut demanded = 0;
+        for phase in 0..8 {
+            let by_movement =
+                self.movements.iter().enumerate().any(|(index, movement)| {
+                    movement.1 == phase && state.demands >> index & 1 == 1
+                });
+            if state.locks >> phase & 1 == 1 || by_movement {
+                demanded |= 1 << phase;
+            }
+        }
+        demanded
     }
 
     fn step(&self, before: &State, inputs: u64) -> State {
@@ -132,7 +167,11 @@ impl<'a> Letter<'a> {
         let running = usize::from(before.phase);
         let other_demanded = (0..7).any(|phase| phase != running && demanded[phase]);
 
-        // 2. Movements.
+        // 2. Movements: walk rests until running would give way.
+        let maximum_green = self.plan.phases[running][2];
+        let gives_way = before.interval == Interval::Running
+            && other_demanded
+            && (before.gap_count == 0 || before.maximum_count == maximum_green);
         for (index, times) in self.plan.movements.iter().enumerate() {
             let movement = &mut state.movements[index];
             let (setting, next) = match movement.stage {
@@ -141,7 +180,8 @@ impl<'a> Letter<'a> {
                 Stage::ClearanceOne => (times[1], Stage::ClearanceTwo),
                 Stage::ClearanceTwo => (times[2], Stage::Idle),
             };
-            if movement.age >= setting {
+            let rests = movement.stage == Stage::Walk && !gives_way;
+            if movement.age >= setting && !rests {
                 movement.stage = next;
                 movement.age = 1;
             } else if movement.age < MAX_AGE {
@@ -202,12 +242,7 @@ impl<'a> Letter<'a> {
                     } else {
                         Interval::Yellow
                     });
-                    let phases = self.plan.phases.len();
-                    let mut next = (running + 1) % phases;
-                    while !demanded[next] {
-                        next = (next + 1) % phases;
-                    }
-                    state.target = Some(next as u8);
+                    state.target = Some(self.first_after(before.phase, demanded));
                 }
             }
             Interval::EarlyCutOff if before.age >= self.early_cut_off(running) => {
@@ -259,6 +294,7 @@ impl<'a> Letter<'a> {
                 state.demands &= !(1 << index);
             }
         }
+        state.demanded = self.demanded(&state);
         state
     }
 

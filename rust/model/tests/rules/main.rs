@@ -2,14 +2,17 @@
 //! case by case.
 
 mod calls;
+mod demanded;
 mod early_cut_off;
 mod junction;
 mod late_start;
 mod letter;
 mod lookup;
+mod order;
 mod overlaps;
 mod pedestrians;
 mod refusals;
+mod resting_walk;
 mod running;
 mod states;
 mod trace;

@@ -27,9 +27,7 @@ fn a_press_brings_the_phase_and_the_walk_in_its_first_step() {
             "31 A Y YRR",
             "61 A R RRR",
             "71 B M RGG",
-            "81 B M RGF",
-            "91 B G RGF",
-            "93 B G RGR",
+            "91 B G RGG",
         ]
     );
 }
@@ -61,12 +59,12 @@ fn the_second_clearance_holds_the_all_red() {
         lines[5..],
         [
             "71 B M RGG",
-            "81 B M RGF",
-            "91 B G RGF",
-            "92 B Y RYF",
-            "122 B R RRF",
-            "146 A M GRR",
-            "166 A G GRR",
+            "91 B G RGG",
+            "92 B G RGF",
+            "97 B Y RYF",
+            "127 B R RRF",
+            "157 A M GRR",
+            "177 A G GRR",
         ]
     );
 }
@@ -76,7 +74,9 @@ fn a_press_in_walk_is_not_registered() {
     let mut run = Run::new(&crossing([10, 5, 7]));
     run.until(71, once(1, button(0)));
     assert_eq!(run.state.movements[0].stage, Stage::Walk);
-    run.until(81, |_| button(0));
+    run.until(91, |_| button(0));
+    assert_eq!(run.state.movements[0].stage, Stage::Walk);
+    run.step(button(0) | detector(0));
     assert_eq!(run.state.movements[0].stage, Stage::ClearanceOne);
     assert_eq!(
         run.state.demands, 0,
@@ -86,13 +86,17 @@ fn a_press_in_walk_is_not_registered() {
 
 #[test]
 fn a_press_in_clearance_is_kept() {
-    for pressed in 82..=93 {
-        let mut run = Run::new(&crossing([10, 5, 7]));
+    let mut plan = crossing([10, 5, 7]);
+    plan.detectors[0][1] = 1;
+    for pressed in 93..=104 {
+        let mut run = Run::new(&plan);
         run.until(71, once(1, button(0)));
-        run.until(92, once(pressed, button(0)));
+        // A calls without lock in one step: the walk ends, and B runs on.
+        let inputs = |step| once(92, detector(0))(step) | once(pressed, button(0))(step);
+        run.until(103, inputs);
         let stage = run.state.movements[0].stage;
         assert_eq!(stage, Stage::ClearanceTwo);
-        run.until(93, once(pressed, button(0)));
+        run.until(104, inputs);
         let movement = run.state.movements[0];
         assert_eq!(
             (movement.stage, movement.age),
@@ -106,12 +110,22 @@ fn a_press_in_clearance_is_kept() {
 
 #[test]
 fn no_new_walk_while_another_phase_is_demanded() {
-    let inputs = |step| once(1, button(0))(step) | once(95, detector(0) | button(0))(step);
+    // B is held by its detector, and A is locked before the press.
+    let inputs = |step| match step {
+        20 | 71..95 => detector(1),
+        95 => detector(1) | detector(0),
+        96 => detector(1) | button(0),
+        97..105 => detector(1),
+        _ => 0,
+    };
     let mut run = Run::new(&crossing([10, 5, 7]));
-    run.until(95, inputs);
-    assert_eq!(run.state.interval, Interval::Yellow);
+    run.until(104, inputs);
+    assert_eq!(run.state.interval, Interval::Running);
+    assert_eq!(run.state.movements[0].stage, Stage::Idle);
     assert_eq!(run.state.demands, 1);
-    run.until(200, inputs);
+    run.until(109, inputs);
+    assert_eq!(run.state.interval, Interval::Yellow);
+    run.until(220, inputs);
     assert_eq!(
         (run.state.phase, run.state.demands),
         (1, 0),
@@ -163,16 +177,18 @@ fn the_movements_of_a_phase_walk_together_and_end_apart() {
         ..Plan::junction()
     };
     let presses = button(1) | button(2);
-    let lines = changes(&plan, 110, once(2, presses));
+    let inputs = |step| once(2, presses)(step) | once(72, detector(0))(step);
+    let lines = changes(&plan, 130, inputs);
     assert_eq!(
         lines[5..],
         [
             "71 B M RGRGG",
-            "81 B M RFRGG",
-            "82 B M RFRGF",
-            "86 B M RRRGF",
-            "90 B M RRRGR",
-            "91 B G RRRGR",
+            "91 B G RGRGG",
+            "92 B G RFRGF",
+            "96 B Y RFRYF",
+            "97 B Y RRRYF",
+            "100 B Y RRRYR",
+            "126 B R RRRRR",
         ]
     );
 }

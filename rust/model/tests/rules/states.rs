@@ -1,7 +1,9 @@
 //! Which states are valid, and what a step makes of odd ones.
 
 use generate::Plan;
-use model::{fresh, step, valid, Interval, MovementState, Number, Site, Stage, State, MAX_AGE};
+use model::{
+    fresh, scan, step, valid, Interval, MovementState, Number, Site, Stage, State, MAX_AGE,
+};
 
 /// Two phases with a vehicle group and a pedestrian group each.
 fn crossing() -> Plan {
@@ -13,12 +15,14 @@ fn crossing() -> Plan {
     }
 }
 
-/// Whether the fresh state, changed, is valid.
+/// Whether the fresh state, changed, is valid. Its demanded phases are kept.
 fn holds(change: impl FnOnce(&mut State)) -> bool {
     let bytes = crossing().bytes();
+    let site = Site::read(&bytes).unwrap();
     let mut state = fresh();
     change(&mut state);
-    valid(&Site::read(&bytes).unwrap(), &state)
+    state.demanded = scan(&site, &state);
+    valid(&site, &state)
 }
 
 fn in_stage(stage: Stage, age: u16) -> MovementState {
@@ -137,9 +141,11 @@ fn no_walk_or_first_clearance_in_yellow_and_all_red() {
 
 /// The state after one step without inputs.
 fn next(change: impl FnOnce(&mut State)) -> State {
+    let bytes = crossing().bytes();
     let mut state = fresh();
     change(&mut state);
-    let answer = step(&crossing().bytes(), &state, 0, &mut [0; 4]);
+    state.demanded = scan(&Site::read(&bytes).unwrap(), &state);
+    let answer = step(&bytes, &state, 0, &mut [0; 4]);
     assert_eq!(answer.wait_bound, Ok(10 + 2 * (50 + 2 * (15 + 40 + 7))));
     answer.state
 }
@@ -166,11 +172,16 @@ fn late_start_without_a_setting_ends_at_once() {
 
 #[test]
 fn a_stage_older_than_its_setting_ends_once() {
-    let state = next(|state| {
-        state.interval = Interval::Running;
-        state.movements[0] = in_stage(Stage::Walk, MAX_AGE);
-    });
-    assert_eq!(state.movements[0], in_stage(Stage::ClearanceOne, 1));
+    let walking = |locks| {
+        next(|state| {
+            state.interval = Interval::Running;
+            state.locks = locks;
+            state.movements[0] = in_stage(Stage::Walk, MAX_AGE);
+        })
+        .movements[0]
+    };
+    assert_eq!(walking(0b10), in_stage(Stage::ClearanceOne, 1));
+    assert_eq!(walking(0b00), in_stage(Stage::Walk, MAX_AGE), "it rests");
 }
 
 #[test]
