@@ -6,7 +6,7 @@ import random
 import sys
 
 from model import (EARLY_CUT_OFF, PEDESTRIAN, PHASE_FIELDS, RANGES, VEHICLE, WALK_FIELDS, build, junction, largest, number, random_site,
-                   turning_arrow, twos, verdict)
+                   section, three_phases, turning_arrow, twos, verdict)
 
 
 def put(data, at, value, size=2):
@@ -29,7 +29,8 @@ def limits(data):
     fields += [(h[1] + 4 + 12 * p + 2 * i, n) for p in range(data[4]) for i, n in enumerate(PHASE_FIELDS)]
     pedestrians = number(data, h[5], 2) // 6
     fields += [(h[5] + 4 + 6 * k + 2 * i, n) for k in range(pedestrians) for i, n in enumerate(WALK_FIELDS)]
-    fields += [(h[6] + 4 + 2 * p, "E") for p in range(data[4] if len(h) > 6 else 0)]
+    early = next((head for head in h if number(data, head + 2, 2) == 7), None)
+    fields += [(early + 4 + 2 * p, "E") for p in range(0 if early is None else data[4])]
     for at, name in fields:
         low, high = RANGES[name]
         for value in (low - 1, low, high, high + 1):
@@ -50,6 +51,7 @@ def refusals(data):
         yield put(data, head, number(data, head, 2) + 1)
         yield put(data, head + 2, 7)
         yield put(data, head + 2, 8)
+        yield put(data, head + 2, 9)
         yield data[:head + 3]
         yield data[:head + 4]
     for at, values in ((4, (0, 1, 2, 7, 8, 255)), (5, (0, 1, 32, 33, 255))):
@@ -114,6 +116,28 @@ def early_cut_offs():
     yield without + b"\4\0\7\0" + twos((200, 200))
 
 
+def orders():
+    """A section with the order of the phases: every order and every wrong one of three phases, cut before each byte, of another length,
+    behind it more bytes, and beside early cut-off times; each phase of seven at each place, and a phase twice at sites of any size."""
+    for order in range(64):
+        yield three_phases((order & 3, order >> 2 & 3, order >> 4))
+    first, both = three_phases(), three_phases(early=(1, 2, 3))
+    for data in (first, both):
+        yield from (data[:size] for size in range(88, len(data) + 1))
+        yield from (data + more for more in (b"\1", data[heads(data)[-1]:], section(7, twos((1, 2, 3))), data[heads(data)[5]:]))
+        yield put(data, 53, EARLY_CUT_OFF, 1)
+        yield put(put(data, 53, EARLY_CUT_OFF, 1), len(data) - 1, 2, 1)
+    for length in (0, 1, 2, 4, 5, 6, 255, 256, 259):
+        yield first[:88] + section(9, bytes(range(3)).ljust(length, b"\0")[:length])
+    yield first + section(7, twos((1, 2, 3)))
+    yield put(first, 53, EARLY_CUT_OFF, 1) + section(7, twos((1, 2, 3)))
+    yield from each_byte(both, (0, 2, 9, 255))
+    big, rng = largest(), random.Random(9)
+    yield from (put(big, at, phase, 1) for at in range(len(big) - 7, len(big)) for phase in range(8))
+    sites = [random_site(rng) for _ in range(30)]
+    yield from (site[:-1] + site[-2:-1] for site in sites if number(site, heads(site)[-1] + 2, 2) == 9)
+
+
 def damaged(rng, data):
     """A byte changed, cut, doubled or added."""
     at = rng.randrange(len(data))
@@ -139,6 +163,7 @@ def vectors():
         yield from refusals(data)
     yield from groups_refused()
     yield from early_cut_offs()
+    yield from orders()
     for _ in range(100):
         site = random_site(rng)
         yield site

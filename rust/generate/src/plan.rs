@@ -27,6 +27,8 @@ pub struct Plan {
     pub movements: Vec<[u16; 3]>,
     /// The early cut-off time of each phase, where there is such a section.
     pub early_cut_offs: Option<Vec<u16>>,
+    /// The phases in running order, where there is such a section.
+    pub order: Option<Vec<u8>>,
 }
 
 /// How a random plan chooses its times.
@@ -48,6 +50,7 @@ pub struct Shape {
     pub pedestrians: usize,
     pub detectors: usize,
     pub early_cut_offs: bool,
+    pub order: bool,
     pub pace: Pace,
 }
 
@@ -61,6 +64,7 @@ impl Shape {
             pedestrians: edged(rng, 0, MAX_MOVEMENTS.min(groups)),
             detectors: edged(rng, 0, MAX_DETECTORS),
             early_cut_offs: rng.percent(60),
+            order: rng.percent(50),
             pace: rng.pick(&[Pace::Short, Pace::Short, Pace::Edges, Pace::Anywhere]),
         }
     }
@@ -91,6 +95,9 @@ impl Plan {
         if let Some(early_cut_offs) = &self.early_cut_offs {
             section(&mut bytes, 7, times(early_cut_offs));
         }
+        if let Some(order) = &self.order {
+            section(&mut bytes, 9, order.clone());
+        }
         bytes
     }
 
@@ -109,6 +116,7 @@ impl Plan {
             detectors: vec![[0, 6], [1, 6]],
             movements: vec![],
             early_cut_offs: None,
+            order: None,
         }
     }
 
@@ -123,6 +131,19 @@ impl Plan {
         }
     }
 
+    /// Three phases in conflict, with a group and a locking detector each and every
+    /// phase as in the junction of two phases, in this order.
+    pub fn three_phases(order: Option<Vec<u8>>) -> Plan {
+        Plan {
+            phases: vec![[0, 20, 30, 5, 30, 10]; 3],
+            groups: vec![[1, VEHICLE], [2, VEHICLE], [4, VEHICLE]],
+            conflicts: vec![6, 5, 3],
+            detectors: vec![[0, 6], [1, 6], [2, 6]],
+            order,
+            ..Plan::junction()
+        }
+    }
+
     /// The smallest site there is: two phases that share the only group.
     pub fn smallest() -> Plan {
         Plan {
@@ -133,12 +154,13 @@ impl Plan {
             detectors: vec![],
             movements: vec![],
             early_cut_offs: None,
+            order: None,
         }
     }
 
     /// A site as large as they come: 7 phases, 32 groups, 48 detectors and 8
-    /// movements, with overlaps, late starts, early cut-offs and every possible
-    /// conflict.
+    /// movements, with overlaps, late starts, early cut-offs, an order of its own
+    /// and every possible conflict.
     pub fn largest() -> Plan {
         let vehicle = |group: usize| {
             let overlap = if group % 4 == 3 {
@@ -164,6 +186,7 @@ impl Plan {
                 .collect(),
             movements: vec![[60, 50, 40]; MAX_MOVEMENTS],
             early_cut_offs: Some(vec![0, 10, 20, 35, 36, 50, 100]),
+            order: Some(vec![0, 2, 4, 6, 1, 3, 5]),
         };
         plan.make_conflicts(|| true);
         plan
@@ -197,6 +220,7 @@ impl Plan {
             early_cut_offs: shape
                 .early_cut_offs
                 .then(|| random_early_cut_offs(rng, &shape)),
+            order: shape.order.then(|| random_order(rng, shape.phases)),
         };
         let density = rng.pick(&[0, 30, 70, 100, 100]);
         plan.make_conflicts(|| rng.percent(density));
@@ -264,6 +288,13 @@ fn random_early_cut_offs(rng: &mut Rng, shape: &Shape) -> Vec<u16> {
             _ => random_time(rng, limits, shape.pace),
         })
         .collect()
+}
+
+/// The phases in any order.
+fn random_order(rng: &mut Rng, phases: usize) -> Vec<u8> {
+    let mut order: Vec<u8> = (0..phases as u8).collect();
+    rng.shuffle(&mut order);
+    order
 }
 
 /// Groups in which every phase is served.

@@ -45,6 +45,11 @@ impl<'a> Site<'a> {
             check_times(section, &EARLY_LIMITS)?;
         }
 
+        let order = sections.take_optional(9, |length| length == phase_count)?;
+        if let Some(section) = &order {
+            check_order(section)?;
+        }
+
         if early_cut_offs.is_none() && groups.early != 0 {
             let first = groups.early.trailing_zeros() as usize;
             return Err(group_section.refuse(Number::EarlyWithoutTimes, 2 * first));
@@ -60,6 +65,7 @@ impl<'a> Site<'a> {
             detectors: detectors.records(),
             movements: movements.records(),
             early_cut_offs: early_cut_offs.map(|section| section.records()),
+            order: order.map(|section| section.body),
         };
         Ok(Site { records, groups })
     }
@@ -192,6 +198,18 @@ fn check_times<const FIELDS: usize>(
         }
     }
     Ok(())
+}
+
+/// Checks that an order, one byte a phase, has each phase once.
+#[inline]
+fn check_order(section: &Section) -> Result<(), Refusal> {
+    let phases = 0..section.body.len();
+    let mut each_once = phases.map(|phase| section.body.contains(&(phase as u8)));
+    if each_once.all(|found| found) {
+        Ok(())
+    } else {
+        Err(Refusal::at(Number::WrongOrder, section.head))
+    }
 }
 
 /// Checks the group records and gathers what they say.

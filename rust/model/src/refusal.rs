@@ -37,6 +37,8 @@ pub enum Number {
     UnknownInput = 15,
     /// A group that stops early, without a section of early cut-off times.
     EarlyWithoutTimes = 17,
+    /// An order that has not each phase once.
+    WrongOrder = 18,
 }
 
 /// A refusal: its number, and the byte of the personality it is about (0 where
