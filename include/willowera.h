@@ -24,7 +24,7 @@
  *   that matters.
  *
  * The archive is for x86-64 Linux, System V calling convention, C or C++. It may be linked into programs and shared objects, and needs
- * memcpy and memset. It uses the vector registers (SSE2) and the red zone, and leaves the floating-point environment alone.
+ * nothing but memcpy and memset. It uses the vector registers (SSE2) and the red zone, and leaves the floating-point environment alone.
  * All numbers are unsigned; a byte is a uint8_t.
  */
 #ifndef WILLOWERA_H

@@ -1,7 +1,7 @@
 #!/usr/bin/env bash
 # Checks the static library from C, one part at a time:
 #
-#     check.sh needs         it needs memcpy and memset, and has no data that could be written
+#     check.sh needs         it needs nothing but memcpy and memset, and has no data that could be written
 #     check.sh conditions    what include/willowera.h says of buffers and threads, tried by conditions.c
 #     check.sh steps         steps.c prints the colours of the trace of the junction of two phases
 #
@@ -28,7 +28,7 @@ changes() { awk 'NR > 1 && $4 != last { print $1, $4; last = $4 }' "$1"; }
 case "${1:-}" in
 needs)
     echo "needs: $(undefined_names); sections that can be written: $(writable_sections | wc -w)"
-    [ "$(undefined_names)" = 'memcpy memset' ] && [ -z "$(writable_sections)" ]
+    [ -z "$(undefined_names | tr ' ' '\n' | grep -vxE 'memcpy|memset')" ] && [ -z "$(writable_sections)" ]
     ;;
 conditions)
     run conditions examples/*/personality.bin

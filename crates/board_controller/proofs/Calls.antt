@@ -12,65 +12,66 @@ use Rattle.rules.specs.declared.answer.Outcome.the-variants.{Stepped, Declined}
 use Rattle.rules.specs.declared.answer.Verdict.{Verdict}
 use Rattle.rules.specs.declared.answer.Verdict.the-variants.{Accepted, Refused}
 use Rattle.rules.specs.declared.site.Site.{Site}
-use Rattle.rules.specs.declared.state.State.{State}
+use Rattle.rules.specs.declared.state.KeptState.{KeptState}
 use Rattle.rules.specs.Verdicts.{_orElse_, refuseIf}
 use Rattle.rules.specs.Personality.{verdictOf}
 use Rattle.rules.specs.Site.{siteOf}
-use Rattle.rules.specs.State.{valid}
-use Rattle.rules.specs.Step.{stepped}
+use Rattle.rules.specs.Kept.{keptValid, keptStepped}
 use Rattle.rules.specs.Colours.{coloursOf}
 use Rattle.rules.specs.WaitBound.{waitBound, waitBoundBy}
-use Rattle.rules.specs.Call.{strayInput, stepVerdict, callVerdict, answerFor, bufferFor, boundFor, boundOf}
+use Rattle.rules.specs.Call.{strayInput, stepVerdict, callVerdict, boundFor, handedBack, bufferFor, boundOf}
 use Rattle.rules.specs.Laws.{Sound, SoundTimes, AcceptedIsSound}
 use Rattle.read_site.specs.declared.Timing.{Timing}
 use Rattle.read_site.specs.Decoding.{timingIn}
 use Rattle.proof_acceptance.proofs.Acceptance.{accepted-is-sound}
 
-module _ (site : Site) (s : State) (inputs room : ℕ) where
-  pub invalid : valid site s ≡ false → stepVerdict site s inputs room ≡ Refused 13 0
+module _ (site : Site) {isValid : Bool} (inputs room : ℕ) where
+  pub invalid : isValid ≡ false → stepVerdict site isValid inputs room ≡ Refused 13 0
   unfolding stepVerdict _orElse_ refuseIf
   invalid e = rw e
 
-  pub strays : valid site s ≡ true → strayInput site inputs ≡ true → stepVerdict site s inputs room ≡ Refused 15 0
+  pub strays : isValid ≡ true → strayInput site inputs ≡ true → stepVerdict site isValid inputs room ≡ Refused 15 0
   unfolding stepVerdict _orElse_ refuseIf
   strays e f = rw (e, f)
 
   pub short :
-      valid site s ≡ true →
+      isValid ≡ true →
       strayInput site inputs ≡ false →
       room < site .size .groups →
-      stepVerdict site s inputs room ≡ Refused 14 0
+      stepVerdict site isValid inputs room ≡ Refused 14 0
   unfolding stepVerdict _orElse_ refuseIf
   short e f l = rw (e, f, lt-ltb room (site .size .groups) l)
 
   pub passes :
-      valid site s ≡ true →
+      isValid ≡ true →
       strayInput site inputs ≡ false →
       site .size .groups ≤ room →
-      stepVerdict site s inputs room ≡ Accepted
+      stepVerdict site isValid inputs room ≡ Accepted
   unfolding stepVerdict _orElse_ refuseIf
   passes e f l = rw (e, f, le-ltb room (site .size .groups) l)
 
 -- what a call answers, and the buffer as it returns
-abbrev pub Answers : Verdict → Site → State → ℕ → List ℕ → Answer → List ℕ → Type 0
-Answers v site s inputs buffer answer out = (answer ≡ answerFor v site s inputs) × (out ≡ bufferFor v site s inputs buffer)
+abbrev pub Answers : Verdict → Site → KeptState → ℕ → List ℕ → Answer → List ℕ → Type 0
+Answers v site s inputs buffer answer out =
+    (answer ≡ record { outcome = boundFor v site; state = handedBack v (keptStepped site s inputs) s })
+    × (out ≡ bufferFor v site (keptStepped site s inputs .rest) buffer)
 
 pub declines :
-    (v : Verdict) (site : Site) (s : State) (inputs : ℕ) (buffer : List ℕ) (answer : Answer) (number place : ℕ) →
+    (v : Verdict) (site : Site) (s : KeptState) (inputs : ℕ) (buffer : List ℕ) (answer : Answer) (number place : ℕ) →
     v ≡ Refused number place →
     answer ≡ record { outcome = Declined number place; state = s } →
     Answers v site s inputs buffer answer buffer
-unfolding answerFor bufferFor
+unfolding boundFor handedBack bufferFor
 declines v site s inputs buffer answer number place e r = (rw (e, r), rw e)
 
 pub goes-on :
-    (v : Verdict) (site : Site) (s next : State) (inputs wait : ℕ) (buffer out : List ℕ) →
+    (v : Verdict) (site : Site) (s next : KeptState) (inputs wait : ℕ) (buffer out : List ℕ) →
     v ≡ Accepted →
     wait ≡ waitBound site →
-    next ≡ stepped site s inputs →
-    out ≡ coloursOf site next ++ drop (site .size .groups) buffer →
+    next ≡ keptStepped site s inputs →
+    out ≡ coloursOf site (next .rest) ++ drop (site .size .groups) buffer →
     Answers v site s inputs buffer (record { outcome = Stepped wait; state = next }) out
-unfolding answerFor bufferFor
+unfolding boundFor handedBack bufferFor
 goes-on v site s next inputs wait buffer out e w n o = (rw (e, w, n), rw (e, o, n))
 
 -- ── The personality first ──
@@ -80,7 +81,7 @@ unfolding AcceptedIsSound
 sound-read b site e f = subst⁻¹ Sound f (accepted-is-sound b e)
 
 pub call-refused :
-    (b : List ℕ) (s : State) (inputs room number place : ℕ) →
+    (b : List ℕ) (s : KeptState) (inputs room number place : ℕ) →
     verdictOf b ≡ Refused number place →
     callVerdict b s inputs room ≡ Refused number place
 unfolding callVerdict _orElse_
@@ -88,15 +89,15 @@ call-refused b s inputs room number place e = rw e
 
 -- a step on the site of the bytes is the call's
 pub stepped-call :
-    (b : List ℕ) (site : Site) (s : State) (inputs : ℕ) (buffer : List ℕ) (answer : Answer) (out : List ℕ) →
+    (b : List ℕ) (site : Site) (s : KeptState) (inputs : ℕ) (buffer : List ℕ) (answer : Answer) (out : List ℕ) →
     verdictOf b ≡ Accepted →
     site ≡ siteOf b →
-    Answers (stepVerdict site s inputs (length buffer)) site s inputs buffer answer out →
+    Answers (stepVerdict site (keptValid site s) inputs (length buffer)) site s inputs buffer answer out →
     Answers (callVerdict b s inputs (length buffer)) (siteOf b) s inputs buffer answer out
 unfolding callVerdict _orElse_
 stepped-call b site s inputs buffer answer out e f w =
     rw e
-    (subst (λ (x : Site). Answers (stepVerdict x s inputs (length buffer)) x s inputs buffer answer out) f w)
+    (subst (λ (x : Site). Answers (stepVerdict x (keptValid x s) inputs (length buffer)) x s inputs buffer answer out) f w)
 
 -- ── Unit three ──
 

@@ -2,9 +2,9 @@
 ghost use lib.ListN.{length};
 ghost use mathlib.Core.Path.{_≡_};
 ghost use Rattle.rules.specs.declared.answer.Outcome.the-variants.{Declined};
-ghost use Rattle.rules.specs.Call.{stepVerdict, answerFor, bufferFor, answerOf, bufferOf, boundOf};
+ghost use Rattle.rules.specs.Call.{stepVerdict, boundFor, handedBack, bufferFor, answerOf, bufferOf, boundOf};
+ghost use Rattle.rules.specs.Kept.{freshKept, keptValid, keptStepped};
 ghost use Rattle.rules.specs.Laws.{Sound};
-ghost use Rattle.rules.specs.State.{fresh as freshState};
 use rules::answer::Answer;
 use rules::answer::Outcome;
 use rules::answer::Verdict;
@@ -13,38 +13,42 @@ use rules::state::Counts;
 use rules::state::Demands;
 use rules::state::Held;
 use rules::state::Interval;
+use rules::state::KeptState;
 use rules::state::Movement;
 use rules::state::Position;
 use rules::state::Stage;
 use rules::state::State;
 
-// Phase A in start red, age 1, came-from none, counts 0, no demands, movements idle.
-pub fn fresh() -> State
-    ensures { λ r. ⌜ r ≡ freshState ⌝ }
+// Phase A in start red, age 1, came-from none, counts 0, no demands, movements idle; no phase is kept.
+pub fn fresh() -> KeptState
+    ensures { λ r. ⌜ r ≡ freshKept ⌝ }
 {
     let idle = Movement {
         stage: Stage::Idle,
         age: 1,
     };
-    State {
-        position: Position {
-            phase: 0,
-            interval: Interval::StartRed,
-            age: 1,
-            came: Held::Nothing,
-            target: Held::Nothing,
+    KeptState {
+        rest: State {
+            position: Position {
+                phase: 0,
+                interval: Interval::StartRed,
+                age: 1,
+                came: Held::Nothing,
+                target: Held::Nothing,
+            },
+            counts: Counts { gap: 0, maximum: 0 },
+            demands: Demands {
+                locks: [false; 7],
+                buttons: [false; 8],
+            },
+            movements: [idle; 8],
         },
-        counts: Counts { gap: 0, maximum: 0 },
-        demands: Demands {
-            locks: [false; 7],
-            buttons: [false; 8],
-        },
-        movements: [idle; 8],
+        kept: [false; 7],
     }
 }
 
 // A refused step hands back the old state.
-fn declined(number: u8, place: usize, state: State) -> Answer
+fn declined(number: u8, place: usize, state: KeptState) -> Answer
     ensures { λ r. ⌜ r ≡ record { outcome = Declined number place; state = state } ⌝ }
 {
     Answer {
@@ -54,12 +58,14 @@ fn declined(number: u8, place: usize, state: State) -> Answer
 }
 
 // A step on the site of an accepted personality, for callers that step many times: 13, then 15, then 14, then the step.
-pub fn step_on(site: Site, state: State, inputs: u64, colours: &mut [u8]) -> Answer
+pub fn step_on(site: Site, state: KeptState, inputs: u64, colours: &mut [u8]) -> Answer
     requires { ⌜ Sound site ⌝ }
-    ensures { λ r. ⌜ (r ≡ answerFor (stepVerdict site state inputs (length (now (colours .entry)))) site state inputs)
-        × (now (colours .exit) ≡ bufferFor (stepVerdict site state inputs (length (now (colours .entry)))) site state inputs (now (colours .entry))) ⌝ }
+    ensures { λ r. ⌜ (let verdict = stepVerdict site (keptValid site state) inputs (length (now (colours .entry))) in
+        let next = keptStepped site state inputs in
+        (r ≡ record { outcome = boundFor verdict site; state = handedBack verdict next state })
+        × (now (colours .exit) ≡ bufferFor verdict site (next .rest) (now (colours .entry)))) ⌝ }
 {
-    if !step_checks::valid_state(site, state) {
+    if !step_checks::valid_kept(site, state) {
         return declined(13, 0, state);
     }
     if step_checks::stray(site, inputs) {
@@ -69,7 +75,8 @@ pub fn step_on(site: Site, state: State, inputs: u64, colours: &mut [u8]) -> Ans
         return declined(14, 0, state);
     }
     let next = step_whole::advance(site, state, inputs);
-    step_colours::write(site, next, colours);
+    let rest = next.rest;
+    step_colours::write(site, rest, colours);
     let size = site.size;
     let times = site.times;
     let crossings = site.crossings;
@@ -82,7 +89,7 @@ pub fn step_on(site: Site, state: State, inputs: u64, colours: &mut [u8]) -> Ans
 }
 
 // A step call: the personality is read and checked first, then the step.
-pub fn step(personality: &[u8], state: State, inputs: u64, colours: &mut [u8]) -> Answer
+pub fn step(personality: &[u8], state: KeptState, inputs: u64, colours: &mut [u8]) -> Answer
     ensures { λ r. ⌜ (r ≡ answerOf (now (personality .entry)) state inputs (length (now (colours .entry))))
         × (now (colours .exit) ≡ bufferOf (now (personality .entry)) state inputs (now (colours .entry))) ⌝ }
 {

@@ -11,7 +11,7 @@ use Rattle.rules.specs.Intervals.{intervalRow, intervals, stageRow, stages}
 use Rattle.rules.specs.State.{idle}
 use Rattle.board_forms.specs.Forms.{flag}
 use Rattle.board_forms.proofs.Lawful.{Lawful, inOrder, byte-law, two-law, coded-law, flag-law, held-law, row-law, placed-law, both-law, made-law}
-use Rattle.board_state.specs.Layout.{interval, stage, positionRows, positionOf, position, countsRows, countsOf, counts, demandsRows, demandsOf, demands, movementRows, movementOf, movement, countsAt, demandsAt, movementsAt, stateRows, stateOf, state}
+use Rattle.board_state.specs.Layout.{interval, stage, positionRows, positionOf, position, countsRows, countsOf, counts, demandsRows, demandsOf, demands, movementRows, movementOf, movement, countsAt, demandsAt, movementsAt, keptAt, stateRows, stateOf, state}
 
 -- ── Intervals and stages by their codes ──
 
@@ -63,4 +63,5 @@ state-law =
     made-law stateRows stateOf (λ s. refl) (λ a. refl)
     (both-law (placed-law 0 position-law)
     (both-law (placed-law countsAt counts-law)
-    (both-law (placed-law demandsAt demands-law) (placed-law movementsAt (row-law movement movement-law 8 idle)))))
+    (both-law (placed-law demandsAt demands-law)
+    (both-law (placed-law movementsAt (row-law movement movement-law 8 idle)) (placed-law keptAt (row-law flag flag-law 7 false))))))

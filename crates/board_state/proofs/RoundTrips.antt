@@ -11,25 +11,26 @@ use borrow.Author.Tests.{eq-eqb}
 use Rattle.rules.specs.declared.state.Held.the-variants.{Phase}
 use Rattle.rules.specs.declared.state.Interval.the-variants.{Yellow}
 use Rattle.rules.specs.declared.state.Stage.the-variants.{ClearanceOne, ClearanceTwo}
-use Rattle.rules.specs.declared.state.State.{State}
+use Rattle.rules.specs.declared.state.KeptState.{KeptState}
 use Rattle.rules.specs.Intervals.{isHeld, phaseHeld}
 use Rattle.rules.specs.State.{fresh, idle}
+use Rattle.rules.specs.Kept.{freshKept}
 use Rattle.rules.proofs.Tests.{and-both}
 use Rattle.board_forms.specs.Forms.{partsOf, AreBytes}
 use Rattle.board_state.specs.Layout.{stateBytes, encoded, decoded, isState, Proper}
 use Rattle.board_state.proofs.Laws.{state-law}
 use Rattle.board_state.proofs.Told.{state-told}
 
-pub encoded-is-state : (s : State) → isState (encoded s) ≡ true
+pub encoded-is-state : (s : KeptState) → isState (encoded s) ≡ true
 unfolding isState encoded
 encoded-is-state s =
     and-both (eq-eqb (length (encoded s)) stateBytes (state-law .sized s)) (rw append-nil at (state-law .passes s [] [] 0 refl))
 
-pub encoded-bytes : (s : State) → Proper s → AreBytes (encoded s)
+pub encoded-bytes : (s : KeptState) → Proper s → AreBytes (encoded s)
 unfolding Proper encoded
 encoded-bytes s proper = state-law .bytes s proper
 
-pub decoded-encoded : (s : State) → Proper s → decoded (encoded s) ≡ s
+pub decoded-encoded : (s : KeptState) → Proper s → decoded (encoded s) ≡ s
 unfolding Proper encoded decoded
 decoded-encoded s proper = rw append-nil at (state-law .back s [] [] 0 proper refl)
 
@@ -46,32 +47,38 @@ decoded-proper b bytes = state-law .proper b 0 bytes
 -- ── Byte by byte ──
 
 pub fresh-bytes :
-    encoded fresh
+    encoded freshKept
     ≡ 0 ∷ 0 ∷ 1 ∷ 0 ∷ 0 ∷ 0 ∷ 0 ∷ 0 ∷ 0 ∷ 0 ∷ 0 ∷ 0
     ∷ 0 ∷ 0 ∷ 0 ∷ 0 ∷ 0 ∷ 0 ∷ 0
     ∷ 0 ∷ 0 ∷ 0 ∷ 0 ∷ 0 ∷ 0 ∷ 0 ∷ 0
     ∷ 0 ∷ 1 ∷ 0 ∷ 0 ∷ 1 ∷ 0 ∷ 0 ∷ 1 ∷ 0 ∷ 0 ∷ 1 ∷ 0 ∷ 0 ∷ 1 ∷ 0 ∷ 0 ∷ 1 ∷ 0 ∷ 0 ∷ 1 ∷ 0 ∷ 0 ∷ 1 ∷ 0
+    ∷ 0 ∷ 0 ∷ 0 ∷ 0 ∷ 0 ∷ 0 ∷ 0
     ∷ []
-unfolding encoded fresh partsOf isHeld phaseHeld
+unfolding encoded freshKept fresh partsOf isHeld phaseHeld
 fresh-bytes = refl
 
--- phase C in yellow at age 300, from A to F, with the locks of B and G, the button of movement 1, and two movements that are not idle
-abbrev leaving : State
+-- phase C in yellow at age 300, from A to F, with the locks of B and G, the button of movement 1, two movements that are not idle, and B, C
+-- and G kept
+abbrev leaving : KeptState
 leaving =
     record {
-      position = record { phase = 2; interval = Yellow; age = 300; came = Phase 0; target = Phase 5 };
-      counts = record { gap = 513; maximum = 1500 };
-      demands =
+      rest =
           record {
-            locks = false ∷ true ∷ false ∷ false ∷ false ∷ false ∷ true ∷ [];
-            buttons = false ∷ true ∷ false ∷ false ∷ false ∷ false ∷ false ∷ false ∷ [];
+            position = record { phase = 2; interval = Yellow; age = 300; came = Phase 0; target = Phase 5 };
+            counts = record { gap = 513; maximum = 1500 };
+            demands =
+                record {
+                  locks = false ∷ true ∷ false ∷ false ∷ false ∷ false ∷ true ∷ [];
+                  buttons = false ∷ true ∷ false ∷ false ∷ false ∷ false ∷ false ∷ false ∷ [];
+                };
+            movements =
+                idle
+                ∷ record { stage = ClearanceTwo; age = 260 }
+                ∷ idle ∷ idle ∷ idle ∷ idle ∷ idle
+                ∷ record { stage = ClearanceOne; age = 7 }
+                ∷ [];
           };
-      movements =
-          idle
-          ∷ record { stage = ClearanceTwo; age = 260 }
-          ∷ idle ∷ idle ∷ idle ∷ idle ∷ idle
-          ∷ record { stage = ClearanceOne; age = 7 }
-          ∷ [];
+      kept = false ∷ true ∷ true ∷ false ∷ false ∷ false ∷ true ∷ [];
     }
 
 pub leaving-bytes :
@@ -80,6 +87,7 @@ pub leaving-bytes :
     ∷ 0 ∷ 1 ∷ 0 ∷ 0 ∷ 0 ∷ 0 ∷ 1
     ∷ 0 ∷ 1 ∷ 0 ∷ 0 ∷ 0 ∷ 0 ∷ 0 ∷ 0
     ∷ 0 ∷ 1 ∷ 0 ∷ 3 ∷ 4 ∷ 1 ∷ 0 ∷ 1 ∷ 0 ∷ 0 ∷ 1 ∷ 0 ∷ 0 ∷ 1 ∷ 0 ∷ 0 ∷ 1 ∷ 0 ∷ 0 ∷ 1 ∷ 0 ∷ 2 ∷ 7 ∷ 0
+    ∷ 0 ∷ 1 ∷ 1 ∷ 0 ∷ 0 ∷ 0 ∷ 1
     ∷ []
 unfolding encoded partsOf isHeld phaseHeld
 leaving-bytes = refl

@@ -12,7 +12,7 @@ use Rattle.rules.specs.Rows.{allOf}
 use Rattle.rules.specs.State.{idle}
 use Rattle.rules.proofs.Tests.{and-left, and-right}
 use Rattle.board_forms.specs.Forms.{held, flag, row}
-use Rattle.board_state.specs.Layout.{interval, stage, position, demands, movement, movements, demandsAt, movementsAt, state, stateBytes, isState}
+use Rattle.board_state.specs.Layout.{interval, stage, position, demands, movement, movements, kept, demandsAt, movementsAt, keptAt, state, stateBytes, isState}
 
 -- both of two tests that pass
 split : (a b : Bool) → (a && b) ≡ true → (a ≡ true) × (b ≡ true)
@@ -50,6 +50,7 @@ pub record StateTold (b : List ℕ) : Type 0 where
   pub position-known : position .known b 0 ≡ true
   pub demands-known : demands .known b demandsAt ≡ true
   pub movements-known : movements .known b movementsAt ≡ true
+  pub kept-known : kept .known b keptAt ≡ true
 
 pub state-told : (b : List ℕ) → isState b ≡ true → StateTold b
 unfolding isState
@@ -57,4 +58,5 @@ state-told b h =
     let first = split (eqb (length b) stateBytes) _ h in
     let second = split (position .known b 0) _ (first .1) in
     let third = split (demands .known b demandsAt) _ (second .1) in
-    record { size = eqb-true (length b) stateBytes (first .0); known = first .1; position-known = second .0; demands-known = third .0; movements-known = third .1 }
+    let fourth = split (movements .known b movementsAt) _ (third .1) in
+    record { size = eqb-true (length b) stateBytes (first .0); known = first .1; position-known = second .0; demands-known = third .0; movements-known = fourth .0; kept-known = fourth .1 }

@@ -5,29 +5,36 @@ use mathlib.Core.Path.{_≡_, sym, _∙_}
 use native.Mathlib.Omega.{arith}
 use lib.ListN.{length}
 use lib.Seq.{sets}
-use Rattle.rules.specs.declared.state.State.{State}
+use Rattle.rules.specs.declared.state.KeptState.{KeptState}
+use Rattle.rules.specs.State.{idle}
 use Rattle.board_forms.proofs.Stores.{sets-next, sets-whole}
-use Rattle.board_state.specs.Layout.{position, counts, demands, movements, countsAt, demandsAt, movementsAt, stateBytes, encoded}
-use Rattle.board_state.proofs.Laws.{position-law, counts-law, demands-law, state-law}
+use Rattle.board_forms.proofs.Lawful.{row-law}
+use Rattle.board_state.specs.Layout.{position, counts, demands, movement, movements, kept, countsAt, demandsAt, movementsAt, keptAt, stateBytes, encoded}
+use Rattle.board_state.proofs.Laws.{position-law, counts-law, demands-law, movement-law, state-law}
 
 pub written :
-    (s : State) (b : List ℕ) →
+    (s : KeptState) (b : List ℕ) →
     length b ≡ stateBytes →
     sets
     (sets
-    (sets (sets b 0 (position .written (s .position))) countsAt (counts .written (s .counts)))
+    (sets
+    (sets (sets b 0 (position .written (s .rest .position))) countsAt (counts .written (s .rest .counts)))
     demandsAt
-    (demands .written (s .demands)))
+    (demands .written (s .rest .demands)))
     movementsAt
-    (movements .written (s .movements))
+    (movements .written (s .rest .movements)))
+    keptAt
+    (kept .written (s .kept))
     ≡ encoded s
 unfolding encoded
 written s b e =
-    let head = position .written (s .position) in
-    let count = counts .written (s .counts) in
-    let demand = demands .written (s .demands) in
-    let records = movements .written (s .movements) in
-    sets-next (sets (sets b 0 head) countsAt count) demand records demandsAt movementsAt (omega (arith, demands-law .sized (s .demands)))
-    ∙ sets-next (sets b 0 head) count (demand ++ records) countsAt demandsAt (omega (arith, counts-law .sized (s .counts)))
-    ∙ sets-next b head (count ++ (demand ++ records)) 0 countsAt (omega (arith, position-law .sized (s .position)))
-    ∙ sets-whole b (head ++ (count ++ (demand ++ records))) (state-law .sized s ∙ sym e)
+    let head = position .written (s .rest .position) in
+    let count = counts .written (s .rest .counts) in
+    let demand = demands .written (s .rest .demands) in
+    let records = movements .written (s .rest .movements) in
+    let flags = kept .written (s .kept) in
+    sets-next (sets (sets (sets b 0 head) countsAt count) demandsAt demand) records flags movementsAt keptAt (omega (arith, row-law movement movement-law 8 idle .sized (s .rest .movements)))
+    ∙ sets-next (sets (sets b 0 head) countsAt count) demand (records ++ flags) demandsAt movementsAt (omega (arith, demands-law .sized (s .rest .demands)))
+    ∙ sets-next (sets b 0 head) count (demand ++ (records ++ flags)) countsAt demandsAt (omega (arith, counts-law .sized (s .rest .counts)))
+    ∙ sets-next b head (count ++ (demand ++ (records ++ flags))) 0 countsAt (omega (arith, position-law .sized (s .rest .position)))
+    ∙ sets-whole b (head ++ (count ++ (demand ++ (records ++ flags)))) (state-law .sized s ∙ sym e)

@@ -14,7 +14,7 @@ use Rattle.rules.specs.declared.state.Movement.{Movement}
 use Rattle.rules.specs.declared.state.Position.{Position}
 use Rattle.rules.specs.declared.state.Stage.{Stage}
 use Rattle.rules.specs.declared.state.Stage.the-variants.{Idle}
-use Rattle.rules.specs.declared.state.State.{State}
+use Rattle.rules.specs.declared.state.KeptState.{KeptState}
 use Rattle.rules.specs.Intervals.{intervalRow, intervals, stageRow, stages}
 use Rattle.rules.specs.Rows.{if_then_else_}
 use Rattle.rules.specs.State.{idle}
@@ -77,10 +77,13 @@ movementOf = λ (stage, age). record { stage = stage; age = age }
 abbrev pub movement : Form Movement
 movement = made movementRows movementOf
 
--- ── The state: 51 bytes, its parts one behind the other ──
+-- ── The state: 58 bytes, its parts one behind the other ──
 
 abbrev pub movements : Form (List Movement)
 movements = row 8 idle movement
+
+abbrev pub kept : Form (List Bool)
+kept = row 7 false flag
 
 -- byte 8
 abbrev pub countsAt : ℕ
@@ -94,37 +97,42 @@ demandsAt = countsAt + counts .width
 abbrev pub movementsAt : ℕ
 movementsAt = demandsAt + demands .width
 
-abbrev pub stateRows : Table State
+-- byte 51
+abbrev pub keptAt : ℕ
+keptAt = movementsAt + movements .width
+
+abbrev pub stateRows : Table KeptState
 stateRows =
-    field 0 position (λ s. s .position)
-    ⊗ field countsAt counts (λ s. s .counts)
-    ⊗ field demandsAt demands (λ s. s .demands)
-    ⊗ field movementsAt movements (λ s. s .movements)
+    field 0 position (λ s. s .rest .position)
+    ⊗ field countsAt counts (λ s. s .rest .counts)
+    ⊗ field demandsAt demands (λ s. s .rest .demands)
+    ⊗ field movementsAt movements (λ s. s .rest .movements)
+    ⊗ field keptAt kept (λ s. s .kept)
 
-abbrev pub stateOf : stateRows .Fields → State
+abbrev pub stateOf : stateRows .Fields → KeptState
 stateOf =
-    λ (position, (counts, (demands, movements))).
-    record { position = position; counts = counts; demands = demands; movements = movements }
+    λ (position, (counts, (demands, (movements, kept)))).
+    record { rest = record { position = position; counts = counts; demands = demands; movements = movements }; kept = kept }
 
-abbrev pub state : Form State
+abbrev pub state : Form KeptState
 state = made stateRows stateOf
 
 abbrev pub stateBytes : ℕ
 stateBytes = state .width
 
-unfoldable pub encoded : State → List ℕ
+unfoldable pub encoded : KeptState → List ℕ
 encoded = state .written
 
-unfoldable pub decoded : List ℕ → State
+unfoldable pub decoded : List ℕ → KeptState
 decoded b = state .read b 0
 
 unfoldable pub isState : List ℕ → Bool
 isState b = eqb (length b) stateBytes && state .known b 0
 
 -- each number fits its type, and each array has its length
-unfoldable pub Proper : State → Type 0
+unfoldable pub Proper : KeptState → Type 0
 Proper = state .fits
 
 -- a buffer of another length stays as it is
-unfoldable pub encodedOver : State → List ℕ → List ℕ
+unfoldable pub encodedOver : KeptState → List ℕ → List ℕ
 encodedOver s b = if eqb (length b) stateBytes then encoded s else b

@@ -62,6 +62,11 @@ any-past f n (suc m) h fails =
 
 -- ── All indices pass ──
 
+pub all-same : (f g : ℕ → Bool) (n : ℕ) → ((i : ℕ) → i < n → f i ≡ g i) → allOf f n ≡ allOf g n
+unfolding allOf
+all-same f g zero h = refl
+all-same f g (suc n) h = rw (all-same f g n (λ i l. h i (omega arith)), h n (omega arith))
+
 -- the first i of n indices are tested, and all says whether they all pass
 pub record Tested (f : ℕ → Bool) (n : ℕ) (all : Bool) (i : ℕ) : Type 0 where
   pub within : i ≤ n

@@ -12,26 +12,27 @@ use lib.ListN.{length}
 use Rattle.rules.specs.declared.answer.Outcome.the-variants.{Stepped, Declined}
 use Rattle.rules.specs.declared.answer.Verdict.{Verdict}
 use Rattle.rules.specs.declared.answer.Verdict.the-variants.{Accepted, Refused}
-use Rattle.rules.specs.declared.state.State.{State}
+use Rattle.rules.specs.declared.state.KeptState.{KeptState}
 use Rattle.rules.specs.Rows.{if_then_else_}
 use Rattle.rules.specs.Verdicts.{_orElse_, refuseIf, reportOf, stepReportOf, waitOf}
 use Rattle.rules.specs.Personality.{verdictOf}
 use Rattle.rules.specs.Site.{siteOf}
-use Rattle.rules.specs.State.{fresh, valid}
+use Rattle.rules.specs.Kept.{freshKept, keptValid, keptStepped}
 use Rattle.rules.specs.WaitBound.{waitBound}
-use Rattle.rules.specs.Call.{callVerdict, answerFor, answerOf, bufferOf}
-use Rattle.rules.specs.Laws.{Sound, AcceptedIsSound, FreshIsValid, RefusalIsWritten}
+use Rattle.rules.specs.Call.{callVerdict, boundFor, handedBack, answerOf, bufferOf}
+use Rattle.rules.specs.Laws.{Sound, AcceptedIsSound, RefusalIsWritten}
+use Rattle.rules.specs.Scanning.{FreshKeptIsValid, StepKeepsKept}
 use Rattle.rules.specs.Runs.{ruled, Call, takenFrom, SafeRun, DemandThreeOf, DemandThree}
 use Rattle.board_state.specs.Layout.{stateBytes, decoded, encoded, encodedOver, Proper}
 use Rattle.board_state.proofs.RoundTrips.{encoded-is-state, decoded-encoded}
 use Rattle.willowera.specs.Board.{packed, packedVerdict, packedOutcome, freshAnswer, stepAnswer, stateFor, stateAfter, coloursAfter}
-use Rattle.proof_runs.proofs.Chains.{accepted-told}
+use Rattle.proof_runs.proofs.Chains.{checks-told}
 use Rattle.proof_acceptance.proofs.Acceptance.{accepted-is-sound}
 use Rattle.proof_acceptance.proofs.Refusals.{refusal-is-written}
 use Rattle.proof_acceptance.proofs.Places.{number-fits}
 use Rattle.proof_validity.proofs.Fresh.{fresh-is-valid}
 use Rattle.proof_validity.proofs.Validity.{step-keeps-valid}
-use Rattle.proof_guarantees.proofs.DeadEnds.{valid-for}
+use Rattle.proof_kept.proofs.Forgets.{fresh-kept-is-valid, step-keeps-kept}
 use Rattle.proof_guarantees.proofs.DemandThree.{demand-three}
 use Rattle.proof_board.specs.BoardRuns.{outcomeIn, verdictIn, board, BoardDemandThree, StepIsProper}
 use Rattle.proof_board.proofs.Proper.{step-is-proper, fresh-is-proper}
@@ -63,13 +64,13 @@ outcome-stepped : (wait : ℕ) → outcomeIn (packed 0 wait) ≡ Stepped wait
 unfolding outcomeIn
 outcome-stepped wait = rw (low-part 0 wait (omega arith), high-part 0 wait (omega arith))
 
-module _ (b : List ℕ) (s : State) (inputs room : ℕ) where
+module _ (b : List ℕ) (s : KeptState) (inputs room : ℕ) where
   -- the outcome of a call reads back
   outcome-for :
       (v : Verdict) →
       callVerdict b s inputs room ≡ v →
-      outcomeIn (packedOutcome (answerFor v (siteOf b) s inputs .outcome)) ≡ answerFor v (siteOf b) s inputs .outcome
-  unfolding answerFor packedOutcome stepReportOf waitOf RefusalIsWritten
+      outcomeIn (packedOutcome (boundFor v (siteOf b))) ≡ boundFor v (siteOf b)
+  unfolding boundFor packedOutcome stepReportOf waitOf RefusalIsWritten
   outcome-for Accepted e = rw (zero-add (waitBound (siteOf b))) (outcome-stepped (waitBound (siteOf b)))
   outcome-for (Refused number place) e =
       rw (add-zero place) (outcome-refused number place (number-fits b number place (refusal-is-written b s inputs room number place e)))
@@ -83,20 +84,20 @@ read-for : (b : List ℕ) (v : Verdict) → verdictOf b ≡ v → verdictIn (pac
 unfolding packedVerdict packed reportOf verdictIn RefusalIsWritten callVerdict _orElse_
 read-for b Accepted e = refl
 read-for b (Refused number place) e =
-    verdict-refused number place (number-fits b number place (refusal-is-written b fresh 0 0 number place (rw e)))
+    verdict-refused number place (number-fits b number place (refusal-is-written b freshKept 0 0 number place (rw e)))
 
 -- ── One call ──
 
-module _ (b : List ℕ) (s : State) (proper : Proper s) (inputs : ℕ) where
+module _ (b : List ℕ) (s : KeptState) (proper : Proper s) (inputs : ℕ) where
   same-outcome : (room : ℕ) → outcomeIn (stepAnswer b (encoded s) inputs room) ≡ answerOf b s inputs room .outcome
   unfolding stepAnswer
   same-outcome room = rw (encoded-is-state s, decoded-encoded s proper) (outcome-back b s inputs room)
 
   next-for :
       (v : Verdict) →
-      stateFor (answerFor v (siteOf b) s inputs .outcome) (answerFor v (siteOf b) s inputs .state) (encoded s)
-      ≡ encoded (answerFor v (siteOf b) s inputs .state)
-  unfolding answerFor stateFor
+      let next = handedBack v (keptStepped (siteOf b) s inputs) s in
+      stateFor (boundFor v (siteOf b)) next (encoded s) ≡ encoded next
+  unfolding boundFor handedBack stateFor
   next-for Accepted = refl
   next-for (Refused number place) = refl
 
@@ -111,21 +112,24 @@ module _ (b : List ℕ) (s : State) (proper : Proper s) (inputs : ℕ) where
 -- ── A list of calls ──
 
 module _ (b : List ℕ) (sound : Sound (siteOf b)) (buffer : List ℕ) where
-  -- a call leads to a state that the types hold
-  proper-for :
-      (s : State) →
-      valid (siteOf b) s ≡ true →
+  -- a call leads to a state that is valid and that the types hold
+  kept-for :
+      (s : KeptState) →
+      keptValid (siteOf b) s ≡ true →
       Proper s →
       (inputs room : ℕ) (v : Verdict) →
       callVerdict b s inputs room ≡ v →
-      Proper (answerFor v (siteOf b) s inputs .state)
-  unfolding answerFor StepIsProper
-  proper-for s sane proper inputs room Accepted e = step-is-proper (siteOf b) sound s inputs sane (accepted-told b s inputs room e .1)
-  proper-for s sane proper inputs room (Refused number place) e = proper
+      let next = handedBack v (keptStepped (siteOf b) s inputs) s in
+      (keptValid (siteOf b) next ≡ true) × Proper next
+  unfolding callVerdict handedBack StepKeepsKept StepIsProper
+  kept-for s sane proper inputs room Accepted e =
+      let wired = checks-told b inputs room (keptValid (siteOf b) s) e .1 in
+      (step-keeps-kept step-keeps-valid (siteOf b) sound s inputs sane wired, step-is-proper (siteOf b) sound s inputs sane wired)
+  kept-for s sane proper inputs room (Refused number place) e = (sane, proper)
 
   same-run :
-      (calls : List Call) (s : State) →
-      valid (siteOf b) s ≡ true →
+      (calls : List Call) (s : KeptState) →
+      keptValid (siteOf b) s ≡ true →
       Proper s →
       takenFrom (board buffer) b (encoded s) calls ≡ takenFrom ruled b s calls
   unfolding takenFrom board ruled answerOf
@@ -133,18 +137,18 @@ module _ (b : List ℕ) (sound : Sound (siteOf b)) (buffer : List ℕ) where
   same-run (c ∷ calls) s sane proper =
       let room = length (c .buffer) in
       let v = callVerdict b s (c .inputs) room in
-      let next = answerFor v (siteOf b) s (c .inputs) .state in
-      let there = proper-for s sane proper (c .inputs) room v refl in
+      let next = handedBack v (keptStepped (siteOf b) s (c .inputs)) s in
+      let there = kept-for s sane proper (c .inputs) room v refl in
       let bytes = same-next b s proper (c .inputs) room in
-      let later = ap (λ (state : List ℕ). takenFrom (board buffer) b state calls) bytes ∙ same-run calls next (valid-for step-keeps-valid b sound s sane (c .inputs) room v refl) there in
-      let after = ap decoded bytes ∙ decoded-encoded next there in
+      let later = ap (λ (state : List ℕ). takenFrom (board buffer) b state calls) bytes ∙ same-run calls next (there .0) (there .1) in
+      let after = ap decoded bytes ∙ decoded-encoded next (there .1) in
       λ i.
       record {
-        before = decoded-encoded s proper i;
+        before = decoded-encoded s proper i .rest;
         inputs = c .inputs;
         room = room;
         outcome = same-outcome b s proper (c .inputs) room i;
-        after = after i;
+        after = after i .rest;
         shown = same-buffer b s proper (c .inputs) (c .buffer) i;
       }
       ∷ later i
@@ -153,18 +157,18 @@ module _ (b : List ℕ) (sound : Sound (siteOf b)) (buffer : List ℕ) where
 
 -- a buffer that `willowera_fresh` accepts then holds the bytes of the fresh state
 fresh-bytes :
-    (fits : Bool) → packedVerdict (refuseIf (not fits) 13 0) ≡ 0 → (old : List ℕ) → (if fits then encoded fresh else old) ≡ encoded fresh
+    (fits : Bool) → packedVerdict (refuseIf (not fits) 13 0) ≡ 0 → (old : List ℕ) → (if fits then encoded freshKept else old) ≡ encoded freshKept
 unfolding packedVerdict packed refuseIf reportOf
 fresh-bytes true e old = refl
 fresh-bytes false e old = absurd (omega (arith, e))
 
 pub board-demand-three : BoardDemandThree
-unfolding BoardDemandThree DemandThree DemandThreeOf AcceptedIsSound FreshIsValid freshAnswer encodedOver ruled board
+unfolding BoardDemandThree DemandThree DemandThreeOf AcceptedIsSound FreshKeptIsValid freshAnswer encodedOver ruled board
 board-demand-three buffer written b read calls =
     let known = sym (read-for b (verdictOf b) refl) ∙ read in
     let sound = accepted-is-sound b known in
     let bytes = fresh-bytes (eqb (length buffer) stateBytes) written buffer in
     let same =
     ap (λ (state : List ℕ). takenFrom (board buffer) b state calls) bytes
-    ∙ same-run b sound buffer calls fresh (fresh-is-valid (siteOf b) sound) (fresh-is-proper (siteOf b) sound) in
+    ∙ same-run b sound buffer calls freshKept (fresh-kept-is-valid fresh-is-valid (siteOf b) sound) (fresh-is-proper (siteOf b) sound) in
     subst (SafeRun (siteOf b)) (sym same) (demand-three b known calls)

@@ -10,21 +10,24 @@ use lib.ListN.{length}
 use Rattle.rules.specs.declared.site.Site.{Site}
 use Rattle.rules.specs.declared.state.Held.{Held}
 use Rattle.rules.specs.declared.state.Held.the-variants.{Nothing, Phase}
-use Rattle.rules.specs.declared.state.State.{State}
+use Rattle.rules.specs.declared.state.KeptState.{KeptState}
 use Rattle.rules.specs.Site.{phaseTimes}
 use Rattle.rules.specs.Intervals.{isLeaving, phaseHeld}
-use Rattle.rules.specs.State.{fresh, movement, targetValid, cameValid}
-use Rattle.rules.specs.Step.{stepped}
+use Rattle.rules.specs.State.{fresh, movement, targetValid, cameValid, valid}
+use Rattle.rules.specs.Step.{steppedTo}
+use Rattle.rules.specs.Kept.{freshKept, keptValid, keptStepped}
 use Rattle.rules.specs.Interval.{locksLeft}
 use Rattle.rules.specs.Walks.{walksBegun, buttonsLeft}
-use Rattle.rules.specs.Laws.{Sound, FreshIsValid, StepKeepsValid}
+use Rattle.rules.specs.Laws.{Sound}
+use Rattle.rules.specs.Scanning.{FreshKeptIsValid, StepKeepsKept}
 use Rattle.rules.proofs.Tests.{and-left, and-right}
 use Rattle.rules.proofs.Rows.{list-length}
 use Rattle.rules.proofs.Settings.{phase-timed}
-use Rattle.board_state.specs.Layout.{position as positionForm, counts as countsForm, demands as demandsForm, Proper}
-use Rattle.proof_runs.proofs.ValidStates.{ValidState, state-told}
+use Rattle.board_state.specs.Layout.{position as positionForm, counts as countsForm, demands as demandsForm, movements as movementsForm, Proper}
+use Rattle.proof_runs.proofs.ValidStates.{state-told}
 use Rattle.proof_validity.proofs.Fresh.{fresh-is-valid}
 use Rattle.proof_validity.proofs.Validity.{step-keeps-valid}
+use Rattle.proof_kept.proofs.Forgets.{fresh-kept-is-valid, step-keeps-kept}
 use Rattle.proof_board.specs.BoardRuns.{StepIsProper}
 
 target-below : (count phase : ℕ) (leaving : Bool) (target : Held) → targetValid count phase leaving target ≡ true → 1 ≤ count → phaseHeld target < count
@@ -41,32 +44,36 @@ came-below count (Phase q) h some = ltb-true q count h
 -- a valid state is one that the types hold, if its rows have their lengths
 proper-of :
     (site : Site) → Sound site →
-    (s : State) →
-    ValidState site s →
-    length (s .demands .locks) ≡ 7 →
-    length (s .demands .buttons) ≡ 8 →
-    length (s .movements) ≡ 8 →
+    (s : KeptState) →
+    keptValid site s ≡ true →
+    length (s .rest .demands .locks) ≡ 7 →
+    length (s .rest .demands .buttons) ≡ 8 →
+    length (s .rest .movements) ≡ 8 →
+    length (s .kept) ≡ 7 →
     Proper s
-unfolding Proper movement
-proper-of site sound s told locks buttons movements =
+unfolding Proper movement keptValid
+proper-of site sound s sane locks buttons movements kept =
+    let told = state-told site (s .rest) (and-left (valid site (s .rest)) _ sane) in
+    let place = s .rest .position in
     let count = sound .phases in
-    let times = phase-timed site sound (s .position .phase) (told .phase) in
-    let came = came-below (site .size .phases) (s .position .came) (told .came) (omega arith) in
-    let target =
-    target-below (site .size .phases) (s .position .phase) (isLeaving (s .position .interval)) (s .position .target) (told .target) (omega arith) in
-    let position : positionForm .fits (s .position) = (omega (arith, told .phase), (record {}, (omega (arith, told .age), (omega (arith, came), omega (arith, target))))) in
-    let counts : countsForm .fits (s .counts) = (omega (arith, told .gap, times .gap), omega (arith, told .maximum, times .maximum .1)) in
-    let demands : demandsForm .fits (s .demands) = ((locks, λ k below. record {}), (buttons, λ k below. record {})) in
-    (position, (counts, (demands, (movements, λ k below. (record {}, omega (arith, told .movements k below .age))))))
+    let times = phase-timed site sound (place .phase) (told .phase) in
+    let came = came-below (site .size .phases) (place .came) (told .came) (omega arith) in
+    let target = target-below (site .size .phases) (place .phase) (isLeaving (place .interval)) (place .target) (told .target) (omega arith) in
+    let position : positionForm .fits place = (omega (arith, told .phase), (record {}, (omega (arith, told .age), (omega (arith, came), omega (arith, target))))) in
+    let counts : countsForm .fits (s .rest .counts) = (omega (arith, told .gap, times .gap), omega (arith, told .maximum, times .maximum .1)) in
+    let demands : demandsForm .fits (s .rest .demands) = ((locks, λ k below. record {}), (buttons, λ k below. record {})) in
+    let records : movementsForm .fits (s .rest .movements) = (movements, λ k below. (record {}, omega (arith, told .movements k below .age))) in
+    (position, (counts, (demands, (records, (kept, λ p below. record {})))))
 
 pub step-is-proper : StepIsProper
-unfolding StepIsProper StepKeepsValid stepped locksLeft walksBegun buttonsLeft
+unfolding StepIsProper StepKeepsKept keptStepped steppedTo locksLeft walksBegun buttonsLeft
 step-is-proper site sound s inputs sane wired =
-    proper-of site sound (stepped site s inputs) (state-told site (stepped site s inputs) (step-keeps-valid site sound s inputs sane wired))
+    proper-of site sound (keptStepped site s inputs) (step-keeps-kept step-keeps-valid site sound s inputs sane wired)
     (list-length _ 7)
     (list-length _ 8)
     (list-length _ 8)
+    (list-length _ 7)
 
-pub fresh-is-proper : (site : Site) → Sound site → Proper fresh
-unfolding FreshIsValid fresh
-fresh-is-proper site sound = proper-of site sound fresh (state-told site fresh (fresh-is-valid site sound)) refl refl refl
+pub fresh-is-proper : (site : Site) → Sound site → Proper freshKept
+unfolding FreshKeptIsValid freshKept fresh
+fresh-is-proper site sound = proper-of site sound freshKept (fresh-kept-is-valid fresh-is-valid site sound) refl refl refl refl

@@ -10,11 +10,10 @@ use Rattle.rules.specs.declared.answer.Outcome.the-variants.{Stepped, Declined}
 use Rattle.rules.specs.declared.answer.Verdict.{Verdict}
 use Rattle.rules.specs.declared.answer.Verdict.the-variants.{Accepted, Refused}
 use Rattle.rules.specs.declared.site.Site.{Site}
-use Rattle.rules.specs.declared.state.State.{State}
+use Rattle.rules.specs.declared.state.KeptState.{KeptState}
 use Rattle.rules.specs.Rows.{if_then_else_}
 use Rattle.rules.specs.Personality.{verdictOf}
-use Rattle.rules.specs.State.{fresh, valid}
-use Rattle.rules.specs.Step.{stepped}
+use Rattle.rules.specs.Kept.{freshKept, keptValid, keptStepped}
 use Rattle.rules.specs.Call.{strayInput}
 use Rattle.rules.specs.Laws.{Sound}
 use Rattle.rules.specs.Runs.{Controller, DemandThreeOf}
@@ -36,11 +35,11 @@ unfoldable pub board : List ℕ → Controller (List ℕ)
 board buffer =
     record {
       verdict = λ b. verdictIn (packedVerdict (verdictOf b));
-      fresh = encodedOver fresh buffer;
+      fresh = encodedOver freshKept buffer;
       outcome = λ b state inputs room. outcomeIn (stepAnswer b state inputs room);
       next = stateAfter;
       buffer = coloursAfter;
-      seen = decoded;
+      seen = λ state. decoded state .rest;
     }
 
 -- whatever buffer `willowera_fresh` accepts and writes the fresh state into
@@ -54,7 +53,7 @@ unfoldable pub StepIsProper : Type 0
 StepIsProper =
     (site : Site) →
     Sound site →
-    (s : State) (inputs : ℕ) →
-    valid site s ≡ true →
+    (s : KeptState) (inputs : ℕ) →
+    keptValid site s ≡ true →
     strayInput site inputs ≡ false →
-    Proper (stepped site s inputs)
+    Proper (keptStepped site s inputs)

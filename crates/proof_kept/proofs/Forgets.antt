@@ -6,7 +6,6 @@ use mathlib.Core.List.{List, [], _∷_}
 use mathlib.Core.Path.{_≡_, refl, sym, ap, subst, _∙_}
 use native.Mathlib.Omega.{arith}
 use borrow.Author.Tests.{not-false}
-use lib.Dec.{ltb}
 use lib.ListN.{length, getD, getD-replicate}
 use Rattle.rules.specs.declared.answer.Verdict.{Verdict}
 use Rattle.rules.specs.declared.answer.Verdict.the-variants.{Accepted, Refused}
@@ -16,7 +15,7 @@ use Rattle.rules.specs.declared.state.Held.{Held}
 use Rattle.rules.specs.declared.state.KeptState.{KeptState}
 use Rattle.rules.specs.declared.state.State.{State}
 use Rattle.rules.specs.Rows.{allOf, listOf, anyOf}
-use Rattle.rules.specs.Verdicts.{_orElse_, refuseIf}
+use Rattle.rules.specs.Verdicts.{_orElse_}
 use Rattle.rules.specs.Personality.{verdictOf}
 use Rattle.rules.specs.Site.{siteOf, crosses}
 use Rattle.rules.specs.State.{fresh, locked, asked, valid}
@@ -24,13 +23,14 @@ use Rattle.rules.specs.Demands.{stands, movementDemands, demandsAfter, nextDema
 use Rattle.rules.specs.Interval.{clearsLock}
 use Rattle.rules.specs.Step.{steppedTo, stepped}
 use Rattle.rules.specs.Kept.{freshKept, isKept, same, keptValid, keptAfter, nextKept, keptLeft, keptStepped}
-use Rattle.rules.specs.Call.{strayInput, stepVerdict, callVerdict, boundFor, handedBack, bufferFor, answerOf, bufferOf}
+use Rattle.rules.specs.Call.{stepVerdict, callVerdict, boundFor, handedBack, bufferFor, answerOf, bufferOf}
 use Rattle.rules.specs.Runs.{Call, Taken, ruled, takenFrom}
 use Rattle.rules.specs.Laws.{Sound, AcceptedIsSound, FreshIsValid, StepKeepsValid}
 use Rattle.rules.specs.Scanning.{scanVerdict, scanning, FreshKeptIsValid, StepKeepsKept, StepForgets, RunForgets}
 use Rattle.rules.proofs.Tests.{and-left, and-right, and-both, and-false-left}
 use Rattle.rules.proofs.Rows.{all-each, list-at, any-none}
-use Rattle.rules.proofs.Verdicts.{or-first, or-later, refuse-passed}
+use Rattle.rules.proofs.Verdicts.{or-first}
+use Rattle.proof_runs.proofs.Chains.{checks-told}
 use Rattle.proof_runs.proofs.Steps.{askedNow, lockedNow, begun, ended, now, asked-at, locked-at, locked-of, asked-of}
 use Rattle.proof_kept.proofs.Scans.{standingAfter, kept-after, next-kept, kept-left}
 
@@ -124,17 +124,13 @@ module _ (sound : AcceptedIsSound) (keeps : StepKeepsValid) (b : List ℕ) where
       _≡_ {A = List Taken}
       (entry v (s .rest) (keptStepped (siteOf b) s (c .inputs) .rest) (handedBack v (keptStepped (siteOf b) s (c .inputs)) s .rest) c ∷ takenFrom ruled b (handedBack v (keptStepped (siteOf b) s (c .inputs)) s) calls)
       (entry v (s .rest) (stepped (siteOf b) (s .rest) (c .inputs)) (handedBack v (stepped (siteOf b) (s .rest) (c .inputs)) (s .rest)) c ∷ takenFrom scanning b (handedBack v (stepped (siteOf b) (s .rest) (c .inputs)) (s .rest)) calls)
-  unfolding entry handedBack boundFor bufferFor AcceptedIsSound StepForgets StepKeepsKept callVerdict stepVerdict
+  unfolding entry handedBack boundFor bufferFor AcceptedIsSound StepForgets StepKeepsKept callVerdict
   taken-alike Accepted s c calls v e later =
       let site = siteOf b in
       let next = keptStepped site s (c .inputs) in
       let room = length (c .buffer) in
       let fine = sound b (or-first (verdictOf b) (stepVerdict site (keptValid site s) (c .inputs) room) e) in
-      let checks = or-later (verdictOf b) (stepVerdict site (keptValid site s) (c .inputs) room) e in
-      let first = refuseIf (not (keptValid site s)) 13 0 in
-      let second = refuseIf (strayInput site (c .inputs)) 15 0 in
-      let third = refuseIf (ltb room (site .size .groups)) 14 0 in
-      let wired = refuse-passed (strayInput site (c .inputs)) 15 0 (or-first second third (or-later first (second orElse third) checks)) in
+      let wired = checks-told b (c .inputs) room (keptValid site s) e .1 in
       subst
       (λ (t : State).
       _≡_ {A = List Taken} (entry Accepted (s .rest) (next .rest) (next .rest) c ∷ takenFrom ruled b next calls) (entry Accepted (s .rest) t t c ∷ takenFrom scanning b t calls))

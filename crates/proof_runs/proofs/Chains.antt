@@ -1,7 +1,7 @@
 -- A run of step calls as a chain of accepted steps. A refused call leaves the state as it was and adds no step, so the steps that
 -- a list of calls takes are linked state by state.
 use Prim.Native.Nat.{ℕ, _<_}
-use mathlib.Core.Bool.{true, false, not}
+use mathlib.Core.Bool.{Bool, true, false, not}
 use mathlib.Core.List.{List, [], _∷_, _++_}
 use mathlib.Core.Path.{_≡_, refl, sym, subst, _∙_}
 use borrow.Author.Tests.{not-false}
@@ -45,18 +45,28 @@ front-shown site s rest g h =
     List·getD-append (coloursOf site s) rest 0 g (subst (λ (n : ℕ). g < n) (sym (list-length (shownIn site s) (site .size .groups))) h)
     ∙ list-at (shownIn site s) (site .size .groups) g 0 h
 
-module _ (b : List ℕ) (s : State) (inputs room : ℕ) where
-  -- a call that is accepted has a valid state and no stray input
-  pub accepted-told : scanVerdict b s inputs room ≡ Accepted → (valid (siteOf b) s ≡ true) × (strayInput (siteOf b) inputs ≡ false)
-  unfolding scanVerdict stepVerdict
-  accepted-told e =
-      let checks = or-later (verdictOf b) (stepVerdict (siteOf b) (valid (siteOf b) s) inputs room) e in
-      let first = refuseIf (not (valid (siteOf b) s)) 13 0 in
+module _ (b : List ℕ) (inputs room : ℕ) where
+  -- a call whose checks pass has a valid state and no stray input
+  pub checks-told :
+      (isValid : Bool) →
+      (verdictOf b orElse stepVerdict (siteOf b) isValid inputs room) ≡ Accepted →
+      (isValid ≡ true) × (strayInput (siteOf b) inputs ≡ false)
+  unfolding stepVerdict
+  checks-told isValid e =
+      let checks = or-later (verdictOf b) (stepVerdict (siteOf b) isValid inputs room) e in
+      let first = refuseIf (not isValid) 13 0 in
       let second = refuseIf (strayInput (siteOf b) inputs) 15 0 in
       let third = refuseIf (ltb room (siteOf b .size .groups)) 14 0 in (
-        not-false (valid (siteOf b) s) (refuse-passed (not (valid (siteOf b) s)) 13 0 (or-first first (second orElse third) checks)),
+        not-false isValid (refuse-passed (not isValid) 13 0 (or-first first (second orElse third) checks)),
         refuse-passed (strayInput (siteOf b) inputs) 15 0 (or-first second third (or-later first (second orElse third) checks)),
       )
+
+pub accepted-told :
+    (b : List ℕ) (s : State) (inputs room : ℕ) →
+    scanVerdict b s inputs room ≡ Accepted →
+    (valid (siteOf b) s ≡ true) × (strayInput (siteOf b) inputs ≡ false)
+unfolding scanVerdict
+accepted-told b s inputs room e = checks-told b inputs room (valid (siteOf b) s) e
 
 module _ (b : List ℕ) (s : State) (c : Call) where
   -- the call as it is taken where it has such a verdict

@@ -7,6 +7,7 @@ ghost use lib.Dec.{leb, ltb, eqb};
 ghost use lib.ListN.{length};
 ghost use Rattle.rules.specs.Verdicts.{_orElse_, refuseIf, firstOf};
 ghost use Rattle.rules.specs.Personality.{bodyAt, groupCount, groupsHead, groupRecord, phaseWithoutGroup, groupsSection};
+ghost use Rattle.read_groups.specs.Told.{Told};
 ghost use Rattle.read_sections.specs.Laid.{Laid};
 use read_sections::layout::Layout;
 use read_sections::records::pair_at;
@@ -33,17 +34,36 @@ fn bad_group(set: u8, mark: u8, bound: u32) -> bool
     3 < mark
 }
 
+// The verdict on the groups and, where it is acceptance, what later sections go by: how many pedestrian movements the site has, one for each
+// pedestrian group, and whether some group stops early.
+pub struct Groups {
+    pub verdict: Verdict,
+    pub movements: usize,
+    pub early: bool,
+}
+
+fn refused(verdict: Verdict) -> Groups
+    ensures { λ r. ⌜ r .verdict ≡ verdict ⌝ }
+{
+    Groups {
+        verdict,
+        movements: 0,
+        early: false,
+    }
+}
+
 // One pass over the records: each is checked for 6 and then for 7, the ninth pedestrian group. The union of the sets tells 8, a phase
 // in no group's set.
-fn group_records(s: &[u8], layout: Layout) -> Verdict
+fn group_records(s: &[u8], layout: Layout) -> Groups
     requires { ⌜ Laid (now s) layout × (bodyAt (layout .groups) + layout .n * 2 ≤ length (now s)) ⌝ }
-    ensures { λ r. ⌜ r ≡ (firstOf (groupRecord (now (s .entry))) (groupCount (now (s .entry)))
-        orElse refuseIf (phaseWithoutGroup (now (s .entry))) 8 (groupsHead (now (s .entry)))) ⌝ }
+    ensures { λ r. ⌜ Told (now (s .entry)) (firstOf (groupRecord (now (s .entry))) (groupCount (now (s .entry)))
+        orElse refuseIf (phaseWithoutGroup (now (s .entry))) 8 (groupsHead (now (s .entry)))) r ⌝ }
 {
     let bound = set_bound(layout.p);
     let head = layout.groups;
     let count = layout.n as usize;
-    let mut pedestrians: usize = 0;
+    let mut movements: usize = 0;
+    let mut early = false;
     let mut served: u8 = 0;
     let mut g: usize = 0;
     while g < count {
@@ -52,33 +72,38 @@ fn group_records(s: &[u8], layout: Layout) -> Verdict
         let mark = group.second;
         let place = head + 4 + g * 2;
         if bad_group(set, mark, bound) {
-            return Verdict::Refused { number: 6, place };
+            return refused(Verdict::Refused { number: 6, place });
         }
         if mark == 2 {
-            if pedestrians == 8 {
-                return Verdict::Refused { number: 7, place };
+            if movements == 8 {
+                return refused(Verdict::Refused { number: 7, place });
             }
-            pedestrians += 1;
+            movements += 1;
         }
+        early = early | (mark == 3);
         served = served | set;
         g += 1;
     }
     if served as u32 + 1 == bound {
-        return Verdict::Accepted;
+        return Groups {
+            verdict: Verdict::Accepted,
+            movements,
+            early,
+        };
     }
-    Verdict::Refused {
+    refused(Verdict::Refused {
         number: 8,
         place: head,
-    }
+    })
 }
 
-pub fn groups_section(s: &[u8], layout: Layout) -> Verdict
+pub fn groups_section(s: &[u8], layout: Layout) -> Groups
     requires { ⌜ Laid (now s) layout ⌝ }
-    ensures { λ r. ⌜ r ≡ groupsSection (now (s .entry)) ⌝ }
+    ensures { λ r. ⌜ Told (now (s .entry)) (groupsSection (now (s .entry))) r ⌝ }
 {
     let head = sized_section(s, layout.groups, 3, (layout.n as usize) * 2);
     if let Verdict::Refused { .. } = head {
-        return head;
+        return refused(head);
     }
     group_records(s, layout)
 }

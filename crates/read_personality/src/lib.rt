@@ -4,14 +4,12 @@ ghost use Rattle.rules.specs.Personality.{verdictOf};
 
 mod after;
 mod detectors;
-mod marks;
 mod order;
 mod pedestrians;
 mod site;
 
 use after::after_pedestrians;
 use detectors::detectors_section;
-use marks::marks_of;
 use pedestrians::pedestrians_section;
 use read_conflicts::conflicts_section;
 use read_groups::records::groups_section;
@@ -33,8 +31,9 @@ pub fn read(personality: &[u8]) -> Verdict
         return phases;
     }
     let groups = groups_section(personality, layout);
-    if let Verdict::Refused { .. } = groups {
-        return groups;
+    let grouped = groups.verdict;
+    if let Verdict::Refused { .. } = grouped {
+        return grouped;
     }
     let conflicts = conflicts_section(personality, layout);
     if let Verdict::Refused { .. } = conflicts {
@@ -44,10 +43,9 @@ pub fn read(personality: &[u8]) -> Verdict
     if let Verdict::Refused { .. } = detectors {
         return detectors;
     }
-    let marks = marks_of(personality, layout);
-    let pedestrians = pedestrians_section(personality, layout, marks.movements);
+    let pedestrians = pedestrians_section(personality, layout, groups.movements);
     if let Verdict::Refused { .. } = pedestrians {
         return pedestrians;
     }
-    after_pedestrians(personality, layout, marks.early)
+    after_pedestrians(personality, layout, groups.early)
 }

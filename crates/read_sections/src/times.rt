@@ -22,7 +22,7 @@ pub fn time(s: &[u8], place: usize, setting: usize) -> Verdict
 }
 
 // A record of two-byte times, field by field, where the first is that of the setting given.
-pub fn times(s: &[u8], place: usize, setting: usize, fields: usize) -> Verdict
+fn times(s: &[u8], place: usize, setting: usize, fields: usize) -> Verdict
     requires { ⌜ (place ≤ 300000) × (setting ≤ 10) × (fields ≤ 10) × (place + fields * 2 ≤ length (now s)) ⌝ }
     ensures { λ r. ⌜ r ≡ timesAt (now (s .entry)) place setting fields ⌝ }
 {
@@ -38,7 +38,7 @@ pub fn times(s: &[u8], place: usize, setting: usize, fields: usize) -> Verdict
 }
 
 // A section's records of times, one after the other.
-pub fn time_records(s: &[u8], head: usize, setting: usize, fields: usize, count: usize) -> Verdict
+fn time_records(s: &[u8], head: usize, setting: usize, fields: usize, count: usize) -> Verdict
     requires { ⌜ (head ≤ 200000) × (setting ≤ 10) × (fields ≤ 10) × (count ≤ 255)
         × (head + 4 + count * (fields * 2) ≤ length (now s)) ⌝ }
     ensures { λ r. ⌜ r ≡ firstOf (λ i. timesAt (now (s .entry)) (recordAt head (fields * 2) i) setting fields) count ⌝ }

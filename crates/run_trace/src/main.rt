@@ -5,8 +5,8 @@ use libc::STDIN_FILENO;
 use libc::STDOUT_FILENO;
 use rules::answer::Outcome;
 use rules::answer::Verdict;
+use rules::state::KeptState;
 use rules::state::Position;
-use rules::state::State;
 
 // An hour of steps. What the input holds past them is not read.
 const STEPS: u64 = 36000;
@@ -21,7 +21,7 @@ enum Record {
 // How a turn left the trace: whether it goes on, and the state to go on from.
 struct Turn {
     goes: bool,
-    state: State,
+    state: KeptState,
 }
 
 // The line of a refusal.
@@ -57,7 +57,7 @@ fn show(step: u64, position: Position, colours: &[u8], personality: &[u8]) {
 }
 
 // One step call, and what it prints.
-fn advance(personality: &[u8], state: State, bits: u64, step: u64) -> Turn {
+fn advance(personality: &[u8], state: KeptState, bits: u64, step: u64) -> Turn {
     let mut colours = [0u8; 32];
     let answer = board_controller::step(personality, state, bits, &mut colours);
     let outcome = answer.outcome;
@@ -69,7 +69,8 @@ fn advance(personality: &[u8], state: State, bits: u64, step: u64) -> Turn {
             state: after,
         };
     }
-    let position = after.position;
+    let rest = after.rest;
+    let position = rest.position;
     show(step, position, &colours, personality);
     Turn {
         goes: true,
@@ -78,7 +79,7 @@ fn advance(personality: &[u8], state: State, bits: u64, step: u64) -> Turn {
 }
 
 // The turn of the step record that is next in the input.
-fn take_turn(personality: &[u8], state: State, step: u64) -> Turn {
+fn take_turn(personality: &[u8], state: KeptState, step: u64) -> Turn {
     let record = read_record();
     match record {
         Record::Inputs { bits } => advance(personality, state, bits, step),

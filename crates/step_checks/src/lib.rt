@@ -1,7 +1,10 @@
 // The checks of a step call on its state and on its input bits.
+ghost use mathlib.Core.Bool.{false, _||_};
 ghost use mathlib.Core.Path.{_≡_};
-ghost use lib.ListN.{length};
+ghost use lib.ListN.{length, getD};
+ghost use Rattle.rules.specs.Bytes.{bit};
 ghost use Rattle.rules.specs.Call.{strayInput};
+ghost use Rattle.rules.specs.Kept.{same, keptValid};
 ghost use Rattle.rules.specs.Laws.{Sound};
 ghost use Rattle.rules.specs.Rows.{allOf};
 ghost use Rattle.rules.specs.State.{intervalValid, targetValid, cameValid, ageValid, positionValid, countsValid, demandExists, movementValid, movementsValid, valid};
@@ -10,6 +13,7 @@ use rules::site::Site;
 use rules::state::Counts;
 use rules::state::Held;
 use rules::state::Interval;
+use rules::state::KeptState;
 use rules::state::Movement;
 use rules::state::Position;
 use rules::state::State;
@@ -129,8 +133,8 @@ fn movements_valid(
     true
 }
 
-// Whether the state is valid for the site.
-pub fn valid_state(site: Site, state: State) -> bool
+// Whether the state is valid for the site, apart from its kept set.
+fn valid_state(site: Site, state: State) -> bool
     ensures { λ r. ⌜ r ≡ valid site state ⌝ }
 {
     let phases = site.size.phases;
@@ -150,6 +154,35 @@ pub fn valid_state(site: Site, state: State) -> bool
         & demands_valid(&locks, phases)
         & demands_valid(&buttons, count)
         & movements_valid(count, crossings, position, movements)
+}
+
+// The marks of the kept set are those of the phases that are locked or in the set of a demanded movement.
+fn kept_valid(kept: [bool; 7], locks: [bool; 7], crossed: u8) -> bool
+    ensures { λ r. ⌜ r ≡ allOf (λ p. same (getD kept p false) (getD locks p false || bit p crossed)) 7 ⌝ }
+{
+    let mut all = true;
+    let mut p: u8 = 0;
+    while p < 7 {
+        let i = p as usize;
+        all = all & (kept[i] == (locks[i] | base_reads::bit8(p, crossed)));
+        p += 1;
+    }
+    all
+}
+
+// Whether the state is valid for the site: a kept set that differs from a scan of its locks and demanded movements is not.
+pub fn valid_kept(site: Site, state: KeptState) -> bool
+    requires { ⌜ Sound site ⌝ }
+    ensures { λ r. ⌜ r ≡ keptValid site state ⌝ }
+{
+    let rest = state.rest;
+    let demands = rest.demands;
+    let locks = demands.locks;
+    let buttons = demands.buttons;
+    let crossings = site.crossings;
+    let kept = state.kept;
+    let crossed = step_demands::movements::crossed(crossings, buttons, site.size.movements);
+    valid_state(site, rest) & kept_valid(kept, locks, crossed)
 }
 
 // Whether an input bit is set without a detector or button there.

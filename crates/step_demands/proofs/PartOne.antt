@@ -10,15 +10,20 @@ use lib.ListN.{getD}
 use Rattle.rules.specs.declared.site.Site.{Site}
 use Rattle.rules.specs.declared.state.Demands.{Demands}
 use Rattle.rules.specs.declared.state.Held.{Held}
-use Rattle.rules.specs.declared.state.State.{State}
+use Rattle.rules.specs.declared.state.KeptState.{KeptState}
 use Rattle.rules.specs.Bytes.{bit}
-use Rattle.rules.specs.Rows.{listOf}
+use Rattle.rules.specs.Rows.{anyOf, listOf}
+use Rattle.rules.specs.Site.{crosses}
 use Rattle.rules.specs.State.{locked, asked}
-use Rattle.rules.specs.Demands.{calling, locking, extending, detectedAmong, detected, inGreen, registersLock, registersButton, calls, demandsAfter, movementDemands, stands, demanded, firstIn, nextDemanded}
+use Rattle.rules.specs.Demands.{calling, locking, extending, detectedAmong, detected, inGreen, registersLock, registersButton, calls, demandsAfter, firstIn, nextAfter}
+use Rattle.rules.specs.Kept.{isKept, pressKeeps, keptAfter, nextKept}
 use Rattle.rules.specs.Laws.{Sound}
+use Rattle.rules.proofs.Rows.{list-at}
+use Rattle.rules.proofs.Tests.{and-false-right}
 use Rattle.base_reads.proofs.Common.{bit-and}
 use Rattle.base_reads.proofs.Union.{bit-or}
 use Rattle.proof_arrays.proofs.Fill.{list-same}
+use Rattle.proof_arrays.proofs.Passing.{any-past}
 use Rattle.step_demands.specs.declared.Asked.{Asked}
 use Rattle.step_demands.specs.declared.detectors.Sensed.{Sensed}
 use Rattle.step_demands.specs.Orders.{others}
@@ -27,9 +32,9 @@ use Rattle.step_demands.specs.Asked.{askedOf}
 use Rattle.step_demands.proofs.Orders.{ring-same}
 
 module _
-    (site : Site) (s : State) (inputs : ℕ) (sensed : Sensed) (waiting : ℕ)
-    (scanned : SensedBy (site .detectors) (site .size .detectors) inputs (s .position .phase) sensed)
-    (waits : (p : ℕ) → p < 8 → bit p waiting ≡ not (inGreen (s .position) p))
+    (site : Site) (s : KeptState) (inputs : ℕ) (sensed : Sensed) (waiting : ℕ)
+    (scanned : SensedBy (site .detectors) (site .size .detectors) inputs (s .rest .position .phase) sensed)
+    (waits : (p : ℕ) → p < 8 → bit p waiting ≡ not (inGreen (s .rest .position) p))
   where
     -- of a set of phases those that may be demanded
     outside :
@@ -37,57 +42,80 @@ module _
         ((p : ℕ) → p < 8 → bit p set ≡ detectedAmong (site .detectors) (site .size .detectors) kind inputs p) →
         (p : ℕ) →
         p < 7 →
-        bit p (bitAnd set waiting) ≡ (detected kind site inputs p && not (inGreen (s .position) p))
+        bit p (bitAnd set waiting) ≡ (detected kind site inputs p && not (inGreen (s .rest .position) p))
     unfolding detected
     outside kind set told p l = bit-and p set waiting ∙ rw (told p (omega arith), waits p (omega arith))
 
+    lock-told : (p : ℕ) → p < 7 → bit p (bitAnd (sensed .locks) waiting) ≡ registersLock site (s .rest) inputs p
+    unfolding registersLock
+    lock-told p l = outside locking (sensed .locks) (scanned .locks) p l
+
+    call-told : (p : ℕ) → p < 7 → bit p (bitAnd (sensed .calls) waiting) ≡ calls site (s .rest) inputs p
+    unfolding calls
+    call-told p l = outside calling (sensed .calls) (scanned .calls) p l
+
     module _
-        (locks buttons : List Bool) (crossed : ℕ) (next : Held)
-        (joined : locks ≡ listOf (λ p. getD (s .demands .locks) p false || bit p (bitAnd (sensed .locks) waiting)) 7)
-        (pressed : buttons ≡ listOf (λ k. getD (s .demands .buttons) k false || registersButton (s .movements) inputs k) 8)
-        (crossing : (p : ℕ) → bit p crossed ≡ movementDemands (site .crossings) (site .size .movements) buttons p)
+        (locks buttons kept : List Bool) (pressing : ℕ) (next : Held)
+        (joined : locks ≡ listOf (λ p. getD (s .rest .demands .locks) p false || bit p (bitAnd (sensed .locks) waiting)) 7)
+        (pressed : buttons ≡ listOf (λ k. getD (s .rest .demands .buttons) k false || registersButton (s .rest .movements) inputs k) 8)
+        (presses : (p : ℕ) → bit p pressing ≡ anyOf (λ k. registersButton (s .rest .movements) inputs k && crosses (site .crossings) k p) 8)
+        (keeps : kept ≡ listOf (λ p. getD (s .kept) p false || bit p (bitOr (bitAnd (sensed .locks) waiting) pressing)) 7)
         (searched :
         next
-        ≡ firstIn (λ p. getD locks p false || bit p (bitOr crossed (bitAnd (sensed .calls) waiting)))
-        (others (s .position .phase) (site .order) (site .size .phases)))
+        ≡ firstIn (λ p. getD kept p false || bit p (bitAnd (sensed .calls) waiting)) (others (s .rest .position .phase) (site .order) (site .size .phases)))
         (sound : Sound site)
       where
         abbrev standing : Demands
         standing = record { locks = locks; buttons = buttons }
 
         -- the demands that stand
-        standing-told : standing ≡ demandsAfter site s inputs
-        unfolding demandsAfter registersLock locked asked
+        standing-told : standing ≡ demandsAfter site (s .rest) inputs
+        unfolding demandsAfter locked asked
         standing-told =
             rw (pressed, joined)
-            (ap (λ (l : List Bool). record { locks = l; buttons = listOf (λ k. getD (s .demands .buttons) k false || registersButton (s .movements) inputs k) 8 })
-            (list-same (λ p. getD (s .demands .locks) p false || bit p (bitAnd (sensed .locks) waiting))
-            (λ p. getD (s .demands .locks) p false || (detected locking site inputs p && not (inGreen (s .position) p))) 7
-            (λ p l. ap (λ (t : Bool). getD (s .demands .locks) p false || t) (outside locking (sensed .locks) (scanned .locks) p l))))
+            (ap (λ (l : List Bool). record { locks = l; buttons = listOf (λ k. getD (s .rest .demands .buttons) k false || registersButton (s .rest .movements) inputs k) 8 })
+            (list-same (λ p. getD (s .rest .demands .locks) p false || bit p (bitAnd (sensed .locks) waiting))
+            (λ p. getD (s .rest .demands .locks) p false || registersLock site (s .rest) inputs p) 7
+            (λ p l. ap (λ (t : Bool). getD (s .rest .demands .locks) p false || t) (lock-told p l))))
 
-        -- a phase is demanded by lock, by a movement or by a detector
+        -- a movement that the site has not is of no phase
+        press-told : (p : ℕ) → bit p pressing ≡ pressKeeps site s inputs p
+        unfolding pressKeeps
+        press-told p =
+            presses p
+            ∙ sym
+            (any-past (λ k. registersButton (s .rest .movements) inputs k && crosses (site .crossings) k p) (site .size .movements) 8
+            (sound .movements)
+            (λ k past l. and-false-right (registersButton (s .rest .movements) inputs k) (sound .noCrossing k p past)))
+
+        -- the phases kept
+        kept-told : kept ≡ listOf (keptAfter site s inputs) 7
+        unfolding keptAfter isKept
+        kept-told =
+            keeps
+            ∙ list-same (λ p. getD (s .kept) p false || bit p (bitOr (bitAnd (sensed .locks) waiting) pressing)) (keptAfter site s inputs) 7
+            (λ p l.
+            rw (bit-or p (bitAnd (sensed .locks) waiting) pressing, lock-told p l, press-told p)
+            (sym (or-assoc (getD (s .kept) p false) (registersLock site (s .rest) inputs p) (pressKeeps site s inputs p))))
+
+        -- a phase is demanded that is kept, or called by a detector
         demanded-told :
             (p : ℕ) →
             p < 7 →
-            (getD locks p false || bit p (bitOr crossed (bitAnd (sensed .calls) waiting))) ≡ demanded site s inputs p
-        unfolding demanded stands calls
-        demanded-told p l =
-            rw (bit-or p crossed (bitAnd (sensed .calls) waiting), outside calling (sensed .calls) (scanned .calls) p l, crossing p)
-            (sym (or-assoc (getD locks p false) (movementDemands (site .crossings) (site .size .movements) buttons p)
-            (detected calling site inputs p && not (inGreen (s .position) p)))
-            ∙ ap (λ (d : Demands). stands site d p || calls site s inputs p) standing-told)
+            (getD kept p false || bit p (bitAnd (sensed .calls) waiting)) ≡ (keptAfter site s inputs p || calls site (s .rest) inputs p)
+        demanded-told p l = rw (kept-told, list-at (keptAfter site s inputs) 7 p false l, call-told p l)
 
-        next-told : next ≡ nextDemanded site s inputs
-        unfolding nextDemanded
+        next-told : next ≡ nextKept site s inputs
+        unfolding nextKept nextAfter
         next-told =
             searched
-            ∙ ring-same site sound (λ p. getD locks p false || bit p (bitOr crossed (bitAnd (sensed .calls) waiting)))
-            (demanded site s inputs) (s .position .phase) demanded-told
+            ∙ ring-same site sound (λ p. getD kept p false || bit p (bitAnd (sensed .calls) waiting))
+            (λ p. keptAfter site s inputs p || calls site (s .rest) inputs p) (s .rest .position .phase) demanded-told
 
-        extended-told : sensed .extended ≡ detected extending site inputs (s .position .phase)
+        extended-told : sensed .extended ≡ detected extending site inputs (s .rest .position .phase)
         unfolding detected
         extended-told = scanned .extended
 
-        pub asked-told : _≡_ {A = Asked} (record { demands = standing; next = next; extended = sensed .extended }) (askedOf site s inputs)
+        pub asked-told : _≡_ {A = Asked} (record { demands = standing; kept = kept; next = next; extended = sensed .extended }) (askedOf site s inputs)
         unfolding askedOf
-        asked-told = rw (standing-told, next-told, extended-told)
+        asked-told = rw (standing-told, kept-told, next-told, extended-told)

@@ -1,4 +1,4 @@
-// Part 1 of a step: what detectors and buttons demand, which phases are demanded, and which of them is next in the ring.
+// Part 1 of a step: what detectors and buttons demand, which phases are kept for it, and which demanded phase is next in the ring.
 ghost use Prim.Native.Nat.{_<_};
 ghost use mathlib.Core.Path.{_≡_};
 ghost use Rattle.rules.specs.Laws.{Sound};
@@ -6,44 +6,51 @@ ghost use Rattle.step_demands.specs.Asked.{askedOf};
 use rules::site::Site;
 use rules::state::Demands;
 use rules::state::Held;
-use rules::state::State;
+use rules::state::KeptState;
 
 mod buttons;
 mod detectors;
+pub mod movements;
 mod phases;
 mod ring;
 
-// What part 1 hands on: the demands that stand, the next demanded phase other than the one on, and whether a detector extends
-// the phase that is on.
+// What part 1 hands on: the demands that stand, the phases kept, the next demanded phase other than the one on, and whether a detector
+// extends the phase that is on.
 pub struct Asked {
     pub demands: Demands,
+    pub kept: [bool; 7],
     pub next: Held,
     pub extended: bool,
 }
 
-// Part 1. A phase is demanded by lock, by a demanded movement, or in this step only by a calling detector.
-pub fn register(site: Site, state: State, inputs: u64) -> Asked
-    requires { ⌜ Sound site × (state .position .phase < site .size .phases) ⌝ }
+// Part 1. A lock and a registered press keep their phase. A phase is demanded that is kept, or called by a detector in this step only.
+pub fn register(site: Site, state: KeptState, inputs: u64) -> Asked
+    requires { ⌜ Sound site × (state .rest .position .phase < site .size .phases) ⌝ }
     ensures { λ r. ⌜ r ≡ askedOf site state inputs ⌝ }
 {
-    let position = state.position;
+    let rest = state.rest;
+    let position = rest.position;
     let phase = position.phase;
     let size = site.size;
     let detectors = site.detectors;
     let sensed = detectors::scan(detectors, size.detectors, inputs, phase);
     let waiting = phases::waiting(position);
-    let old = state.demands;
+    let locking = sensed.locks & waiting;
+    let old = rest.demands;
     let locked = old.locks;
-    let locks = phases::joined(locked, sensed.locks & waiting);
+    let locks = phases::joined(locked, locking);
     let demanded = old.buttons;
-    let movements = state.movements;
-    let buttons = buttons::press(demanded, movements, inputs);
+    let movements = rest.movements;
     let crossings = site.crossings;
-    let called = buttons::crossed(crossings, buttons, size.movements) | (sensed.calls & waiting);
+    let pressed = buttons::press(demanded, movements, crossings, inputs);
+    let buttons = pressed.buttons;
+    let marks = state.kept;
+    let kept = phases::joined(marks, locking | pressed.phases);
     let order = site.order;
     Asked {
         demands: Demands { locks, buttons },
-        next: ring::next(locks, called, phase, order, size.phases),
+        kept: kept,
+        next: ring::next(kept, sensed.calls & waiting, phase, order, size.phases),
         extended: sensed.extended,
     }
 }

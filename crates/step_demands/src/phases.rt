@@ -8,10 +8,13 @@ ghost use Rattle.rules.specs.Rows.{listOf};
 ghost use Rattle.rules.specs.Demands.{inGreen};
 use rules::state::Position;
 
-// The marks, and the phases of a set.
+// The marks, and the phases of a set. In most steps the set is empty.
 pub fn joined(marks: [bool; 7], set: u8) -> [bool; 7]
     ensures { λ r. ⌜ r ≡ listOf (λ p. getD marks p false || bit p set) 7 ⌝ }
 {
+    if set == 0 {
+        return marks;
+    }
     let mut out = marks;
     let mut p: u8 = 0;
     while p < 7 {

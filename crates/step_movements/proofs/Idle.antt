@@ -1,6 +1,6 @@
 -- The records past the movements that a site has are idle, and a step leaves them as they are.
 use Prim.Native.Nat.{ℕ, _≤_, _<_}
-use mathlib.Core.Bool.{true}
+use mathlib.Core.Bool.{Bool, true}
 use mathlib.Core.List.{List}
 use mathlib.Core.Path.{_≡_, refl, sym, ap, _∙_}
 use lib.ListN.{getD}
@@ -24,29 +24,31 @@ idle-only Walk e = absurd (never-both e refl)
 idle-only ClearanceOne e = absurd (never-both e refl)
 idle-only ClearanceTwo e = absurd (never-both e refl)
 
-stays : (m : Movement) (times : WalkTimes) → m .stage ≡ Idle → m ≡ advanced (m .stage) times (m .age)
+stays : (mayEnd : Bool) (m : Movement) (times : WalkTimes) → m .stage ≡ Idle → m ≡ advanced mayEnd (m .stage) times (m .age)
 unfolding advanced
-stays m times e = rw e
+stays mayEnd m times e = rw e
 
-module _ (settings : List WalkTimes) (movements : List Movement) where
+module _ (settings : List WalkTimes) (mayEnd : Bool) (movements : List Movement) where
   -- movement k, a step on
   abbrev pub after : ℕ → Movement
-  after k = advanced (getD movements k idle .stage) (getD settings k noWalkTimes) (getD movements k idle .age)
+  after k = advanced mayEnd (getD movements k idle .stage) (getD settings k noWalkTimes) (getD movements k idle .age)
 
   pub idle-stays : (k : ℕ) → getD movements k idle .stage ≡ Idle → getD movements k idle ≡ after k
-  idle-stays k e = stays (getD movements k idle) (getD settings k noWalkTimes) e
+  idle-stays k e = stays mayEnd (getD movements k idle) (getD settings k noWalkTimes) e
 
   pub past-stays : (count : ℕ) → IdlePast count movements → (k : ℕ) → count ≤ k → k < 8 → getD movements k idle ≡ after k
   past-stays count known k a b = idle-stays k (known .past k a b)
 
 pub still-past :
-    (times : Times) (movements : List Movement) (count : ℕ) → IdlePast count movements → IdlePast count (movementsAfter times movements)
+    (times : Times) (mayEnd : Bool) (movements : List Movement) (count : ℕ) →
+    IdlePast count movements →
+    IdlePast count (movementsAfter times mayEnd movements)
 unfolding movementsAfter walkTimes
-still-past times movements count known =
+still-past times mayEnd movements count known =
     record {
       room = known .room;
       past = λ k a b.
           ap (λ (m : Movement). m .stage)
-          (list-at (after (times .walks) movements) 8 k idle b ∙ sym (past-stays (times .walks) movements count known k a b))
+          (list-at (after (times .walks) mayEnd movements) 8 k idle b ∙ sym (past-stays (times .walks) mayEnd movements count known k a b))
           ∙ known .past k a b;
     }

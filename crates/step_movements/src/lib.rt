@@ -1,9 +1,13 @@
-// Part 2 of a step: movements. Walk, C1 and C2 follow each other once the age is at least the setting; after C2 the movement is idle.
+// Part 2 of a step: movements. Walk, C1 and C2 follow each other once the age is at least the setting; after C2 the movement is idle. A walk
+// that has lasted goes on until it may end.
 ghost use mathlib.Core.Path.{_≡_};
-ghost use Rattle.rules.specs.Movements.{older, lasting, advanced, movementsAfter};
+ghost use Rattle.rules.specs.Movements.{older, walkMayEnd, lasting, advanced, movementsAfter};
 ghost use Rattle.step_movements.specs.IdlePast.{IdlePast};
+use rules::site::PhaseTimes;
 use rules::site::Times;
 use rules::site::WalkTimes;
+use rules::state::Counts;
+use rules::state::Interval;
 use rules::state::Movement;
 use rules::state::Stage;
 
@@ -14,11 +18,20 @@ pub fn aged(age: u16) -> u16
     if age < 2000 { age + 1 } else { 2000 }
 }
 
-// A stage that lasts for the setting, and what follows it.
-fn lasted(setting: u16, stage: Stage, next: Stage, age: u16) -> Movement
-    ensures { λ r. ⌜ r ≡ lasting setting stage next age ⌝ }
+// Whether a walk that has lasted may end: running has another phase demanded, and the gap count is 0 or the maximum count is X. The interval
+// and the counts are those handed in.
+pub fn walk_may_end(interval: Interval, times: PhaseTimes, another: bool, counts: Counts) -> bool
+    ensures { λ r. ⌜ r ≡ walkMayEnd interval times another counts ⌝ }
 {
-    if setting <= age {
+    let due = (counts.gap == 0) | (counts.maximum == times.maximum);
+    base_intervals::running(interval) & another & due
+}
+
+// A stage that lasts for the setting at least and then until it may end, and what follows it.
+fn lasted(may_end: bool, setting: u16, stage: Stage, next: Stage, age: u16) -> Movement
+    ensures { λ r. ⌜ r ≡ lasting «may_end» setting stage next age ⌝ }
+{
+    if may_end & (setting <= age) {
         return Movement {
             stage: next,
             age: 1,
@@ -30,25 +43,31 @@ fn lasted(setting: u16, stage: Stage, next: Stage, age: u16) -> Movement
     }
 }
 
-// One movement, a step on.
-fn one_moved(stage: Stage, times: WalkTimes, age: u16) -> Movement
-    ensures { λ r. ⌜ r ≡ advanced stage times age ⌝ }
+// One movement, a step on. Only a walk waits until it may end.
+fn one_moved(may_end: bool, stage: Stage, times: WalkTimes, age: u16) -> Movement
+    ensures { λ r. ⌜ r ≡ advanced «may_end» stage times age ⌝ }
 {
     match stage {
         Stage::Idle => Movement {
             stage: Stage::Idle,
             age: age,
         },
-        Stage::Walk => lasted(times.walk, Stage::Walk, Stage::ClearanceOne, age),
-        Stage::ClearanceOne => lasted(times.first, Stage::ClearanceOne, Stage::ClearanceTwo, age),
-        Stage::ClearanceTwo => lasted(times.second, Stage::ClearanceTwo, Stage::Idle, age),
+        Stage::Walk => lasted(may_end, times.walk, Stage::Walk, Stage::ClearanceOne, age),
+        Stage::ClearanceOne => lasted(
+            true,
+            times.first,
+            Stage::ClearanceOne,
+            Stage::ClearanceTwo,
+            age,
+        ),
+        Stage::ClearanceTwo => lasted(true, times.second, Stage::ClearanceTwo, Stage::Idle, age),
     }
 }
 
 // All movements, a step on. The count is of those that the site has: the records past them are idle and stay.
-pub fn moved(times: Times, movements: [Movement; 8], count: u8) -> [Movement; 8]
+pub fn moved(times: Times, may_end: bool, movements: [Movement; 8], count: u8) -> [Movement; 8]
     requires { ⌜ IdlePast count movements ⌝ }
-    ensures { λ r. ⌜ r ≡ movementsAfter times movements ⌝ }
+    ensures { λ r. ⌜ r ≡ movementsAfter times «may_end» movements ⌝ }
 {
     let n = count as usize;
     if n == 0 {
@@ -62,7 +81,7 @@ pub fn moved(times: Times, movements: [Movement; 8], count: u8) -> [Movement; 8]
         let stage = movement.stage;
         if !base_intervals::idle(stage) {
             let own = settings[k];
-            out[k] = one_moved(stage, own, movement.age);
+            out[k] = one_moved(may_end, stage, own, movement.age);
         }
         k += 1;
     }

@@ -2,21 +2,24 @@
 ghost use mathlib.Core.Bool.{true};
 ghost use mathlib.Core.Path.{_≡_};
 ghost use Rattle.rules.specs.Laws.{Sound};
-ghost use Rattle.rules.specs.State.{valid};
-ghost use Rattle.rules.specs.Step.{stepped};
+ghost use Rattle.rules.specs.Kept.{keptValid, keptStepped};
 use rules::site::Site;
 use rules::state::Demands;
+use rules::state::KeptState;
 use rules::state::State;
 use step_interval::changes;
 use step_interval::ending;
 use step_interval::following;
 
+mod kept;
+
 // The state after a step from a valid state of an accepted site.
-pub fn advance(site: Site, state: State, inputs: u64) -> State
-    requires { ⌜ Sound site × (valid site state ≡ true) ⌝ }
-    ensures { λ r. ⌜ r ≡ stepped site state inputs ⌝ }
+pub fn advance(site: Site, state: KeptState, inputs: u64) -> KeptState
+    requires { ⌜ Sound site × (keptValid site state ≡ true) ⌝ }
+    ensures { λ r. ⌜ r ≡ keptStepped site state inputs ⌝ }
 {
-    let old = state.position;
+    let rest = state.rest;
+    let old = rest.position;
     let interval = old.interval;
     let times = site.times;
     let settings = times.phases;
@@ -28,10 +31,11 @@ pub fn advance(site: Site, state: State, inputs: u64) -> State
     let next = asked.next;
     let another = base_intervals::held(next);
     // 2. movements
-    let stages = state.movements;
-    let moved = step_movements::moved(times, stages, count);
+    let counts = rest.counts;
+    let may_end = step_movements::walk_may_end(interval, own, another, counts);
+    let stages = rest.movements;
+    let moved = step_movements::moved(times, may_end, stages, count);
     // 3. counts
-    let counts = state.counts;
     let counted = step_counts::counted(interval, own, asked.extended, another, counts);
     // 4. interval
     let ended = ending::over(
@@ -53,13 +57,18 @@ pub fn advance(site: Site, state: State, inputs: u64) -> State
     let locks = demands.locks;
     let left = walked.buttons;
     let movements = walked.movements;
-    State {
-        position: now,
-        counts: changes::counts_changed(ended, times, old, now, counted),
-        demands: Demands {
-            locks: changes::locks_left(ended, now, locks),
-            buttons: left,
+    let standing = Demands {
+        locks: changes::locks_left(ended, now, locks),
+        buttons: left,
+    };
+    let kept = asked.kept;
+    KeptState {
+        rest: State {
+            position: now,
+            counts: changes::counts_changed(ended, times, old, now, counted),
+            demands: standing,
+            movements: movements,
         },
-        movements: movements,
+        kept: kept::left(kept, now.phase, standing, crossings, count),
     }
 }

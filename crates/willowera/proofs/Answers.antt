@@ -15,13 +15,14 @@ use Rattle.rules.specs.declared.answer.Report.{Report}
 use Rattle.rules.specs.declared.answer.Verdict.{Verdict}
 use Rattle.rules.specs.declared.answer.Verdict.the-variants.{Accepted, Refused}
 use Rattle.rules.specs.declared.site.Site.{Site}
-use Rattle.rules.specs.declared.state.State.{State}
+use Rattle.rules.specs.declared.state.KeptState.{KeptState}
 use Rattle.rules.specs.Bytes.{twoAt}
 use Rattle.rules.specs.Verdicts.{_orElse_, reportOf, stepReportOf, waitOf}
 use Rattle.rules.specs.Personality.{bodyAt, bodyLength, verdictOf}
 use Rattle.rules.specs.Site.{siteOf}
 use Rattle.rules.specs.Lookup.{lookupVerdict, lookupReport, headOf}
-use Rattle.rules.specs.Call.{stepVerdict, callVerdict, answerFor, bufferFor, boundFor, boundOf, answerOf, bufferOf}
+use Rattle.rules.specs.Kept.{keptValid}
+use Rattle.rules.specs.Call.{stepVerdict, callVerdict, boundFor, handedBack, bufferFor, boundOf, answerOf, bufferOf}
 use Rattle.board_controller.proofs.Calls.{Answers, stepped-call}
 use Rattle.board_state.specs.Layout.{stateBytes, isState, decoded, encoded, encodedOver}
 use Rattle.board_state.proofs.Told.{state-told}
@@ -71,20 +72,15 @@ pub bound-near : (b : List ℕ) (o : Outcome) {number place : ℕ} → o ≡ bou
 unfolding boundOf
 bound-near b o {number} {place} e f = personality-named b number place (bound-declined (verdictOf b) (siteOf b) (sym e ∙ f)) .1
 
-answer-declined : (v : Verdict) (site : Site) (s : State) (inputs : ℕ) {n p : ℕ} → answerFor v site s inputs .outcome ≡ Declined n p → v ≡ Refused n p
-unfolding answerFor
-answer-declined Accepted site s inputs h = absurd (stepped-not-declined h)
-answer-declined (Refused m q) site s inputs h = same-refusal h
-
 -- what a step on a site answers, and what the call on bytes answers, each with the buffer as it returns
-abbrev pub OnSite : Site → State → ℕ → List ℕ → Answer → List ℕ → Type 0
-OnSite site s inputs buffer a out = Answers (stepVerdict site s inputs (length buffer)) site s inputs buffer a out
+abbrev pub OnSite : Site → KeptState → ℕ → List ℕ → Answer → List ℕ → Type 0
+OnSite site s inputs buffer a out = Answers (stepVerdict site (keptValid site s) inputs (length buffer)) site s inputs buffer a out
 
-abbrev pub OnBytes : List ℕ → State → ℕ → List ℕ → Answer → List ℕ → Type 0
+abbrev pub OnBytes : List ℕ → KeptState → ℕ → List ℕ → Answer → List ℕ → Type 0
 OnBytes b s inputs buffer a out = (a ≡ answerOf b s inputs (length buffer)) × (out ≡ bufferOf b s inputs buffer)
 
 module _ (b : List ℕ) (accepted : verdictOf b ≡ Accepted) (site : Site) (read : site ≡ siteOf b) where
-  module _ (s : State) (inputs : ℕ) (buffer : List ℕ) (a : Answer) (out : List ℕ) (given : OnSite site s inputs buffer a out) where
+  module _ (s : KeptState) (inputs : ℕ) (buffer : List ℕ) (a : Answer) (out : List ℕ) (given : OnSite site s inputs buffer a out) where
     call : OnBytes b s inputs buffer a out
     unfolding answerOf bufferOf
     call = stepped-call b site s inputs buffer a out accepted read given
@@ -93,7 +89,7 @@ module _ (b : List ℕ) (accepted : verdictOf b ≡ Accepted) (site : Site) (rea
     unfolding answerOf
     answer-near {number} {place} f =
         call-named b s inputs (length buffer) number place
-        (answer-declined (callVerdict b s inputs (length buffer)) (siteOf b) s inputs (sym (ap (λ (x : Answer). x .outcome) (call .0)) ∙ f)) .1
+        (bound-declined (callVerdict b s inputs (length buffer)) (siteOf b) (sym (ap (λ (x : Answer). x .outcome) (call .0)) ∙ f)) .1
 
 -- ── A step over bytes ──
 
@@ -114,7 +110,7 @@ module _ (b old buffer : List ℕ) (inputs r : ℕ) where
       verdictOf b ≡ Refused number place →
       r ≡ packed number place →
       Steps b old inputs buffer r old buffer
-  unfolding stepAnswer stateAfter coloursAfter answerOf bufferOf callVerdict _orElse_ answerFor bufferFor packedVerdict packedOutcome reportOf stepReportOf waitOf stateFor
+  unfolding stepAnswer stateAfter coloursAfter answerOf bufferOf callVerdict _orElse_ boundFor handedBack bufferFor packedVerdict packedOutcome reportOf stepReportOf waitOf stateFor
   refused-by true {place = place} k e p = (rw (k, e, p, add-zero place), rw (k, e), rw (k, e))
   refused-by false k e p = (rw (k, e, p), rw k, rw k)
 
@@ -132,7 +128,7 @@ module _ (b old buffer : List ℕ) (inputs r : ℕ) where
     unfolding stepAnswer stateAfter coloursAfter packedVerdict reportOf _orElse_
     no-state other p = (rw (other, accepted, p), rw other, rw other)
 
-    module _ (known : isState old ≡ true) (s : State) (e : s ≡ decoded old) (site : Site) (read : site ≡ siteOf b) (a : Answer) (out : List ℕ) (given : OnSite site s inputs buffer a out) where
+    module _ (known : isState old ≡ true) (s : KeptState) (e : s ≡ decoded old) (site : Site) (read : site ≡ siteOf b) (a : Answer) (out : List ℕ) (given : OnSite site s inputs buffer a out) where
       called : OnBytes b (decoded old) inputs buffer a out
       called = rw e at (call b accepted site read s inputs buffer a out given)
 

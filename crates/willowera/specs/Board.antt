@@ -9,7 +9,7 @@ use Rattle.rules.specs.declared.answer.Outcome.{Outcome}
 use Rattle.rules.specs.declared.answer.Outcome.the-variants.{Stepped, Declined}
 use Rattle.rules.specs.declared.answer.Verdict.{Verdict}
 use Rattle.rules.specs.declared.answer.Verdict.the-variants.{Accepted, Refused}
-use Rattle.rules.specs.declared.state.State.{State}
+use Rattle.rules.specs.declared.state.KeptState.{KeptState}
 use Rattle.rules.specs.Rows.{if_then_else_}
 use Rattle.rules.specs.Verdicts.{_orElse_, refuseIf, reportOf, stepReportOf, waitOf}
 use Rattle.rules.specs.Personality.{verdictOf, bodyAt, bodyLength}
@@ -41,7 +41,7 @@ stepAnswer b old inputs room =
     then packedOutcome (answerOf b (decoded old) inputs room .outcome)
     else packedVerdict (verdictOf b orElse Refused 13 0)
 
-unfoldable pub stateFor : Outcome → State → List ℕ → List ℕ
+unfoldable pub stateFor : Outcome → KeptState → List ℕ → List ℕ
 stateFor (Stepped wait) next old = encoded next
 stateFor (Declined number place) next old = old
 

@@ -6,7 +6,7 @@ ghost use lib.ListN.{length};
 ghost use Rattle.rules.specs.Call.{boundOf};
 ghost use Rattle.rules.specs.Laws.{greatestLength};
 ghost use Rattle.rules.specs.Personality.{verdictOf};
-ghost use Rattle.rules.specs.State.{fresh};
+ghost use Rattle.rules.specs.Kept.{freshKept};
 ghost use Rattle.board_state.specs.Layout.{encodedOver};
 ghost use Rattle.willowera.specs.Board.{packed, packedVerdict, packedOutcome, freshAnswer, stepAnswer, stateAfter, coloursAfter, sectionAnswer};
 use base_reads::two;
@@ -53,10 +53,10 @@ pub extern "C" fn willowera_wait_bound(personality: &[u8]) -> u64
     }
 }
 
-// Writes the fresh state into a buffer of 51 bytes. Another buffer stays as it is, and the answer is 13.
+// Writes the fresh state into a buffer of 58 bytes. Another buffer stays as it is, and the answer is 13.
 #[no_mangle]
 pub extern "C" fn willowera_fresh(state: &mut [u8]) -> u64
-    ensures { λ r. ⌜ (r ≡ freshAnswer (now (state .entry))) × (now (state .exit) ≡ encodedOver fresh (now (state .entry))) ⌝ }
+    ensures { λ r. ⌜ (r ≡ freshAnswer (now (state .entry))) × (now (state .exit) ≡ encodedOver freshKept (now (state .entry))) ⌝ }
 {
     if board_state::encode(board_controller::fresh(), state) {
         0
@@ -123,7 +123,7 @@ pub extern "C" fn willowera_section(personality: &[u8], kind: u16) -> u64
 // The version of these calls.
 #[no_mangle]
 pub extern "C" fn willowera_version() -> u32
-    ensures { λ r. ⌜ r ≡ 2 ⌝ }
+    ensures { λ r. ⌜ r ≡ 3 ⌝ }
 {
-    2
+    3
 }

@@ -1,11 +1,12 @@
 -- `board_controller::fresh` meets its contract: the fields are those of the definition.
 use mathlib.Core.Path.{refl}
 use Rattle.rules.specs.State.{fresh}
+use Rattle.rules.specs.Kept.{freshKept}
 use Rattle.board_controller.proofs.fresh.Statement.{statement}
 use Rattle.board_controller.proofs.fresh.Tie as tie
 
 returns : tie.Need-returns
-unfolding fresh
+unfolding freshKept fresh
 returns c = refl
 
 pub fresh-spec : {M : Type 1} → statement M

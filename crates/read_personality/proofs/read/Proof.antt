@@ -2,12 +2,14 @@
 use Prim.Native.Nat.{ℕ}
 use mathlib.Core.List.{List}
 use mathlib.Core.Path.{_≡_, sym, _∙_}
+use native.Mathlib.Omega.{arith}
 use borrow.Author.Needs.{needs}
 use Rattle.rules.specs.Personality.{siteSection, phasesSection, groupsSection, conflictsSection, detectorsSection, pedestriansSection, afterPedestrians, verdictOf}
 use Rattle.rules.specs.Verdicts.{_orElse_}
 use Rattle.rules.specs.declared.answer.Verdict.{Verdict}
 use Rattle.rules.specs.declared.answer.Verdict.the-variants.{Accepted}
 use Rattle.rules.proofs.Verdicts.{or-next, or-stop}
+use Rattle.proof_acceptance.proofs.Sections.{groups-accepted}
 use Rattle.read_sections.specs.declared.layout.Layout.{Layout}
 use Rattle.read_sections.specs.Laid.{Laid}
 use Rattle.read_personality.proofs.read.Statement.{statement}
@@ -48,7 +50,7 @@ abbrev atDetectors : tie.After-enum-told10 → List ℕ
 atDetectors c = atConflicts (c .before .before .before)
 
 abbrev atPedestrians : tie.After-enum-told12 → List ℕ
-atPedestrians c = atDetectors (c .before .before .before .before)
+atPedestrians c = atDetectors (c .before .before .before)
 
 -- ── From there, the places where kinds 3 and 1 had passed, and the layout ──
 
@@ -110,17 +112,17 @@ enum-told-5 : tie.Need-enum-told-5
 enum-told-5 c = search needs
 
 returns-3 : tie.Need-returns-3
-returns-3 c = afterPhases (c .before .before .before) (or-stop _ (c .before .before .groups-section .ensures) (c .enum-told5 .given .1))
+returns-3 c = afterPhases (c .before .before .before) (or-stop _ (c .before .before .groups-section .ensures .verdict) (c .enum-told5 .given .1))
 
 enum-told-6 : tie.Need-enum-told-6
 enum-told-6 c = search needs
 
 -- kind 3 has passed: the answer is that of what follows
 afterGroups : (c : tie.After-enum-told6) {v : Verdict} → v ≡ fromConflicts (atGroups c) → v ≡ verdictOf (atGroups c)
-afterGroups c e = afterPhases (c .before .before .before) (or-next (c .before .before .groups-section .ensures) (c .enum-told6 .given .1) e)
+afterGroups c e = afterPhases (c .before .before .before) (or-next (c .before .before .groups-section .ensures .verdict) (c .enum-told6 .given .1) e)
 
 groupsAccepted : (c : tie.After-enum-told6) → groupsSection (atGroups c) ≡ Accepted
-groupsAccepted c = sym (c .before .before .groups-section .ensures) ∙ c .enum-told6 .given .1
+groupsAccepted c = sym (c .before .before .groups-section .ensures .verdict) ∙ c .enum-told6 .given .1
 
 conflicts-section-requires : tie.Need-conflicts-section-requires
 conflicts-section-requires c κs =
@@ -165,30 +167,34 @@ groupsLaid c =
     let groups = groupsBefore c in
     (siteBefore groups .before .before .before .laid-out .ensures, groupsAccepted groups)
 
-marks-of-requires : tie.Need-marks-of-requires
-marks-of-requires c κs = groupsLaid c
-
 pedestrians-section-requires : tie.Need-pedestrians-section-requires
-pedestrians-section-requires c κs = (groupsLaid (c .before) .0, c .marks-of .ensures .0)
+pedestrians-section-requires c κs =
+    let groups = groupsLaid c in
+    let movements = groupsBefore c .before .before .groups-section .ensures .movements (groups .1) in
+    (groups .0, movements, omega (arith, movements, groups-accepted _ (groups .1) .movements))
 
 enum-told-11 : tie.Need-enum-told-11
 enum-told-11 c = search needs
 
 returns-6 : tie.Need-returns-6
-returns-6 c = afterDetectors (c .before .before .before .before) (or-stop _ (c .before .before .pedestrians-section .ensures) (c .enum-told11 .given .1))
+returns-6 c = afterDetectors (c .before .before .before) (or-stop _ (c .before .before .pedestrians-section .ensures) (c .enum-told11 .given .1))
 
 enum-told-12 : tie.Need-enum-told-12
 enum-told-12 c = search needs
 
 -- kind 6 has passed: the answer is that of what follows
 pastPedestrians : (c : tie.After-enum-told12) {v : Verdict} → v ≡ afterPedestrians (atPedestrians c) → v ≡ verdictOf (atPedestrians c)
-pastPedestrians c e = afterDetectors (c .before .before .before .before) (or-next (c .before .before .pedestrians-section .ensures) (c .enum-told12 .given .1) e)
+pastPedestrians c e = afterDetectors (c .before .before .before) (or-next (c .before .before .pedestrians-section .ensures) (c .enum-told12 .given .1) e)
 
 after-pedestrians-requires : tie.Need-after-pedestrians-requires
 after-pedestrians-requires c κs =
-    let marks = c .before .before .before in
-    let groups = groupsLaid (marks .before) in
-    (groups .0, siteAccepted (siteBefore (groupsBefore (marks .before))), groups .1, marks .marks-of .ensures .1)
+    let detected = c .before .before .before in
+    let groups = groupsLaid detected in (
+      groups .0,
+      siteAccepted (siteBefore (groupsBefore detected)),
+      groups .1,
+      groupsBefore detected .before .before .groups-section .ensures .early (groups .1),
+    )
 
 returns-7 : tie.Need-returns-7
 returns-7 c = pastPedestrians (c .before) (c .after-pedestrians .ensures)
@@ -218,7 +224,6 @@ read-spec =
     enum-told-9
     returns-5
     enum-told-10
-    marks-of-requires
     pedestrians-section-requires
     enum-told-11
     returns-6

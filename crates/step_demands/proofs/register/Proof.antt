@@ -1,4 +1,5 @@
--- `step_demands::register` meets its contract: the sets that the scan gives are those of the rules, and the parts of part 1 follow from them.
+-- `step_demands::register` meets its contract: the sets that the scan and the buttons give are those of the rules, and the parts of part 1
+-- follow from them.
 use borrow.Author.Needs.{needs}
 use native.Mathlib.Omega.{arith}
 use Rattle.step_demands.proofs.Modes.{tabled}
@@ -9,7 +10,10 @@ use Rattle.step_demands.proofs.register.Tie as tie
 
 scan-requires : tie.Need-scan-requires
 scan-requires c κs =
-    let start = c .before .before .before in (tabled (start .args .site) (start .pre .0), omega (arith, start .pre .1, start .pre .0 .phases .1))
+    let start = c .before .before .before .before in (
+      tabled (start .args .site) (start .pre .0),
+      omega (arith, start .pre .1, start .pre .0 .phases .1),
+    )
 
 waiting-requires : tie.Need-waiting-requires
 waiting-requires c κs = search needs
@@ -20,28 +24,31 @@ joined-requires c κs = search needs
 press-requires : tie.Need-press-requires
 press-requires c κs = search needs
 
-crossed-requires : tie.Need-crossed-requires
-crossed-requires c κs = search needs
+joined-requires-2 : tie.Need-joined-requires-2
+joined-requires-2 c κs = search needs
 
 next-requires : tie.Need-next-requires
 next-requires c κs =
-    let pressed = c .before .before .before .before in
-    let waiting = pressed .before .before .before .before .before .before .before in
-    let start = waiting .before .before .before .before .before in
+    let kept = c .before .before in
+    let pressed = kept .before .before .before .before in
+    let joined = pressed .before .before .before .before in
+    let scanned = joined .before .before .before .before .before in
+    let start = scanned .before .before .before .before .before in
     order-marked (start .args .site) (start .pre .0)
 
 returns : tie.Need-returns
 returns c =
-    let crossed = c .before .before .before in
-    let pressed = crossed .before .before in
-    let joined = pressed .before .before .before in
+    let kept = c .before .before .before in
+    let pressed = kept .before .before .before .before in
+    let joined = pressed .before .before .before .before in
     let waiting = joined .before .before .before .before in
     let scanned = waiting .before in
-    let start = scanned .before .before .before .before in
+    let start = scanned .before .before .before .before .before in
     asked-told (start .args .site) (start .args .state) (start .args .inputs) (scanned .scan .result) (waiting .waiting .result)
     (scanned .scan .ensures) (waiting .waiting .ensures)
-    (joined .joined .result) (pressed .press .result) (crossed .crossed .result) (c .next .result)
-    (joined .joined .ensures) (pressed .press .ensures) (crossed .crossed .ensures) (c .next .ensures) (start .pre .0)
+    (joined .joined .result) (pressed .press .result .buttons) (kept .joined2 .result) (pressed .press .result .phases) (c .next .result)
+    (joined .joined .ensures) (pressed .press .ensures .0) (pressed .press .ensures .1) (kept .joined2 .ensures) (c .next .ensures)
+    (start .pre .0)
 
 pub register-spec : {M : Type 1} → statement M
 register-spec =
@@ -51,6 +58,6 @@ register-spec =
     waiting-requires
     joined-requires
     press-requires
-    crossed-requires
+    joined-requires-2
     next-requires
     returns)

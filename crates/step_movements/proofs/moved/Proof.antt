@@ -20,18 +20,18 @@ use Rattle.step_movements.proofs.moved.Statement.{statement}
 use Rattle.step_movements.proofs.moved.Tie as tie
 
 abbrev Inv-loop : tie.InvT-loop
-Inv-loop count n settings out₀ k₀ out k = (k ≤ n) × Filled (after settings out₀) out₀ out k
+Inv-loop may-end count n settings out₀ k₀ out k = (k ≤ n) × Filled (after settings may-end out₀) out₀ out k
 
 abbrev μ-loop : tie.MeasureT-loop
-μ-loop count n settings out₀ k₀ out k = n - k
+μ-loop may-end count n settings out₀ k₀ out k = n - k
 
 returns : tie.Need-returns Inv-loop μ-loop
 unfolding movementsAfter walkTimes
 returns c =
     let start = c .before in
     let args = start .args in
-    list-told (after (args .times .walks) (args .movements)) (args .movements) 8 idle (start .good .1 .0 .1 .0 .1)
-    (λ k b. past-stays (args .times .walks) (args .movements) (args .count) (start .pre) k (omega (arith, c .if1 .taken)) b)
+    list-told (after (args .times .walks) (args .may-end) (args .movements)) (args .movements) 8 idle (start .good .1 .1 .0 .1 .0 .1)
+    (λ k b. past-stays (args .times .walks) (args .may-end) (args .movements) (args .count) (start .pre) k (omega (arith, c .if1 .taken)) b)
 
 loop-holds : tie.Need-loop-holds Inv-loop μ-loop
 loop-holds c = (search needs, fill-none _ _)
@@ -74,20 +74,20 @@ loop-again c =
     let args = start .args in
     let k = at .loop .k in
     let filled = at .loop .inv .1 in
-    let inside : k < length (args .movements) = omega (arith, start .good .1 .0 .1 .0 .1, start .pre .room) in
+    let inside : k < length (args .movements) = omega (arith, start .good .1 .1 .0 .1 .0 .1, start .pre .room) in
     let blank : Movement = record { stage = Idle; age = 0 } in
     let entry = fill-seam blank k filled inside ∙ entry-same (args .movements) k blank idle inside in (
       search needs,
       ⊎-elim
           (λ w.
           fill-set (w .3) filled inside
-          (w .2 .ensures ∙ ap (λ (m : Movement). advanced (m .stage) (getD (args .times .walks) k noWalkTimes) (m .age)) entry))
+          (w .2 .ensures ∙ ap (λ (m : Movement). advanced (args .may-end) (m .stage) (getD (args .times .walks) k noWalkTimes) (m .age)) entry))
           (λ w.
           let rests : isIdle (getD (args .movements) k idle .stage) ≡ true =
           ap (λ (m : Movement). isIdle (m .stage)) (sym entry)
           ∙ sym (tested .idle .ensures)
           ∙ not-false (tested .idle .result) (w .0 .left) in
-          fill-skip idle (w .1) filled inside (idle-stays (args .times .walks) (args .movements) k (idle-only _ rests)))
+          fill-skip idle (w .1) filled inside (idle-stays (args .times .walks) (args .may-end) (args .movements) k (idle-only _ rests)))
           (c .if2 .came),
     )
 
@@ -97,8 +97,8 @@ returns-2 c =
     let at = c .before in
     let start = at .before .before .before in
     let args = start .args in
-    fill-kept idle (at .loop .k) 8 (at .loop .inv .1) (start .good .1 .0 .1 .0 .1) (omega (arith, at .loop .inv .0, start .pre .room))
-    (λ k a b. past-stays (args .times .walks) (args .movements) (args .count) (start .pre) k (omega (arith, c .loop-test .left)) b)
+    fill-kept idle (at .loop .k) 8 (at .loop .inv .1) (start .good .1 .1 .0 .1 .0 .1) (omega (arith, at .loop .inv .0, start .pre .room))
+    (λ k a b. past-stays (args .times .walks) (args .may-end) (args .movements) (args .count) (start .pre) k (omega (arith, c .loop-test .left)) b)
 
 pub moved-spec : {M : Type 1} → statement M
 moved-spec =

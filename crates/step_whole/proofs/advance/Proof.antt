@@ -1,11 +1,11 @@
--- `step_whole::advance` meets its contract: its calls are the five parts of the rules' step, one after the other.
+-- `step_whole::advance` meets its contract: its calls are the five parts of the rules' step, one after the other, and what they leave of the
+-- kept marks.
 use borrow.Author.Needs.{needs}
 use Rattle.rules.specs.Site.{phaseTimes}
-use Rattle.rules.specs.Step.{stepped}
-use Rattle.step_demands.specs.Asked.{askedOf}
+use Rattle.rules.specs.Demands.{stands}
 use Rattle.step_movements.proofs.Idle.{still-past}
-use Rattle.step_walks.specs.Walked.{walkedBy}
-use Rattle.step_whole.proofs.Ready.{on, idle-past, none-past}
+use Rattle.step_whole.proofs.Marks.{whole-told}
+use Rattle.step_whole.proofs.Ready.{on, now-on, idle-past, none-past}
 use Rattle.step_whole.proofs.advance.Statement.{statement}
 use Rattle.step_whole.proofs.advance.Tie as tie
 
@@ -14,28 +14,33 @@ times-of-requires c κs = search needs
 
 register-requires : tie.Need-register-requires
 register-requires c κs =
-    let start = c .before .before .before .before in
+    let start = c .before .before .before .before .before in
     (start .pre .0, on (start .args .site) (start .args .state) (start .pre))
 
 held-requires : tie.Need-held-requires
 held-requires c κs = search needs
 
+-- the start, from where the movements are read
+abbrev start : tie.After-stages → tie.Start
+start c = c .before .before .before .before .before .before .before .before .before .before .before
+
+walk-may-end-requires : tie.Need-walk-may-end-requires
+walk-may-end-requires c κs = search needs
+
 moved-requires : tie.Need-moved-requires
-moved-requires c κs =
-    let start = c .before .before .before .before .before .before .before .before in
-    idle-past (start .args .site) (start .args .state) (start .pre)
+moved-requires c κs = idle-past (start c .args .site) (start c .args .state) (start c .pre)
 
 counted-requires : tie.Need-counted-requires
 counted-requires c κs = search needs
 
 over-requires : tie.Need-over-requires
 over-requires c κs =
-    let moved = c .before .before in
-    let start = moved .before .before .before .before .before .before .before .before .before in
-    let site = start .args .site in
-    let state = start .args .state in
+    let moved = c .before in
+    let entry = start (moved .before) in
+    let site = entry .args .site in
+    let state = entry .args .state in
     rw (moved .moved .ensures)
-    (still-past (site .times) (state .movements) (site .size .movements) (idle-past site state (start .pre)))
+    (still-past (site .times) _ (state .rest .movements) (site .size .movements) (idle-past site state (entry .pre)))
 
 position-after-requires : tie.Need-position-after-requires
 position-after-requires c κs = search needs
@@ -45,42 +50,42 @@ starts-requires c κs = search needs
 
 begin-requires : tie.Need-begin-requires
 begin-requires c κs =
-    let moved = c .before .before .before .before .before .before .before in
-    let start = moved .before .before .before .before .before .before .before .before .before in
-    none-past (start .args .site) (start .args .state) (start .pre)
-
-counts-changed-requires : tie.Need-counts-changed-requires
-counts-changed-requires c κs = search needs
+    let entry = start (c .before .before .before .before .before .before .before) in
+    none-past (entry .args .site) (entry .args .state) (entry .pre)
 
 locks-left-requires : tie.Need-locks-left-requires
 locks-left-requires c κs = search needs
 
+counts-changed-requires : tie.Need-counts-changed-requires
+counts-changed-requires c κs = search needs
+
+left-requires : tie.Need-left-requires
+left-requires c κs =
+    let now = c .before .before .before .before .before .before .before .before .before .before in
+    let entry = start (now .before .before .before .before) in
+    let site = entry .args .site in
+    (rw (now .position-after .ensures) (now-on site (entry .args .state) (entry .pre) _ _), entry .pre .0 .movements)
+
 returns : tie.Need-returns
-unfolding stepped askedOf walkedBy phaseTimes
+unfolding phaseTimes stands
 returns c =
     let changed = c .before in
-    let begun = changed .before .before .before .before in
+    let lefts = changed .before .before in
+    let begun = lefts .before .before .before .before in
     let started = begun .before .before in
     let now = started .before .before in
     let over = now .before in
     let counted = over .before in
-    let moved = counted .before .before in
-    let held = moved .before .before in
+    let moved = counted .before in
+    let mayEnd = moved .before .before in
+    let held = mayEnd .before .before in
     let asked = held .before .before in
     let own = asked .before in
-    rw (
-      c .locks-left .ensures,
-      changed .counts-changed .ensures,
-      begun .begin .ensures,
-      started .starts .ensures,
-      now .position-after .ensures,
-      over .over .ensures,
-      counted .counted .ensures,
-      moved .moved .ensures,
-      held .held .ensures,
-      asked .register .ensures,
-      own .times-of .ensures,
-    )
+    let entry = own .before .before .before .before .before in
+    whole-told (entry .args .site) (entry .pre .0) (entry .args .state) (entry .args .inputs) (entry .pre .1)
+    (own .times-of .ensures) (asked .register .ensures) (held .held .ensures) (mayEnd .walk-may-end .ensures) (moved .moved .ensures) (counted .counted .ensures) (over .over .ensures)
+    (now .position-after .ensures) (started .starts .ensures) (begun .begin .ensures) (lefts .locks-left .ensures)
+    (changed .counts-changed .ensures) (c .left2 .ensures)
 
 pub advance-spec : {M : Type 1} → statement M
 advance-spec =
@@ -89,12 +94,14 @@ advance-spec =
     times-of-requires
     register-requires
     held-requires
+    walk-may-end-requires
     moved-requires
     counted-requires
     over-requires
     position-after-requires
     starts-requires
     begin-requires
-    counts-changed-requires
     locks-left-requires
+    counts-changed-requires
+    left-requires
     returns)

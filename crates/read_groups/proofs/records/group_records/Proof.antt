@@ -1,14 +1,16 @@
 -- `records::group_records` meets its contract. The invariant: every record before g has passed, the running count is how many pedestrian
--- groups stand before g, and the union so far is that of their sets.
+-- groups stand before g, early says whether one of them stops early, and the union so far is that of their sets.
 use Prim.Native.Nat.{ℕ, _+_, _*_, _-_, _^_, _≤_, min}
-use mathlib.Core.Bool.{false}
+use mathlib.Core.Bool.{false, _||_}
 use mathlib.Core.Logic.{⊎-elim}
-use mathlib.Core.Path.{_≡_, refl, sym, ap, _∙_}
+use mathlib.Core.Path.{_≡_, refl, sym, ap, ap₂, _∙_}
+use native.Mathlib.Numerals.{add-one}
 use native.Mathlib.Omega.{arith}
+use lib.Dec.{eqb}
 use borrow.Author.Needs.{needs}
 use borrow.Author.Tests.{eq-eqb, ne-eqb}
-use Rattle.rules.specs.Personality.{bodyAt, recordAt, phaseCount, groupCount, groupsHead, groupSet, groupMark, pedestrian, pedestriansBefore, badGroup, ninthPedestrian, groupRecord, phaseWithoutGroup}
-use Rattle.rules.specs.Rows.{countOf}
+use Rattle.rules.specs.Personality.{bodyAt, recordAt, phaseCount, groupCount, groupsHead, groupSet, groupMark, pedestrian, pedestriansBefore, movementCount, badGroup, ninthPedestrian, groupRecord, phaseWithoutGroup, stopsEarly}
+use Rattle.rules.specs.Rows.{anyOf, countOf}
 use Rattle.rules.specs.Verdicts.{_orElse_, refuseIf, firstOf}
 use Rattle.rules.specs.declared.answer.Verdict.{Verdict}
 use Rattle.rules.specs.declared.answer.Verdict.the-variants.{Accepted, Refused}
@@ -17,17 +19,21 @@ use Rattle.rules.proofs.Rows.{count-most}
 use Rattle.rules.proofs.Tests.{and-both, and-false-left, and-false-right}
 use Rattle.rules.proofs.Verdicts.{refuse-yes, refuse-no, or-next, or-stop, first-more, first-stop, first-done}
 use Rattle.proof_acceptance.proofs.Sections.{record-within}
-use Rattle.read_groups.proofs.GroupChecks.{group-passed}
+use Rattle.read_groups.proofs.GroupChecks.{group-passed, refused-told}
 use Rattle.read_groups.proofs.PhaseSets.{Gathered, gathered-none, gathered-more, bad-decided, all-served, one-unserved}
 use Rattle.read_groups.proofs.records.group_records.Statement.{statement}
 use Rattle.read_groups.proofs.records.group_records.Tie as tie
 
 abbrev Inv-loop : tie.InvT-loop
-Inv-loop s bound head count pedestrians₀ served₀ g₀ pedestrians served g =
-    (g ≤ count) × (pedestrians ≡ countOf (pedestrian s) g) × (firstOf (groupRecord s) g ≡ Accepted) × Gathered s served g
+Inv-loop s bound head count movements₀ early₀ served₀ g₀ movements early served g =
+    (g ≤ count)
+    × (movements ≡ countOf (pedestrian s) g)
+    × (firstOf (groupRecord s) g ≡ Accepted)
+    × Gathered s served g
+    × (early ≡ anyOf (stopsEarly s) g)
 
 abbrev μ-loop : tie.MeasureT-loop
-μ-loop s bound head count pedestrians₀ served₀ g₀ pedestrians served g = count - g
+μ-loop s bound head count movements₀ early₀ served₀ g₀ movements early served g = count - g
 
 set-bound-requires : tie.Need-set-bound-requires Inv-loop μ-loop
 set-bound-requires c κs = search needs
@@ -42,8 +48,8 @@ cast-count : tie.Need-cast-count Inv-loop μ-loop
 cast-count c = search needs
 
 loop-holds : tie.Need-loop-holds Inv-loop μ-loop
-unfolding countOf firstOf
-loop-holds c = (omega arith, refl, refl, gathered-none _)
+unfolding countOf firstOf anyOf
+loop-holds c = (omega arith, refl, refl, gathered-none _, refl)
 
 pair-at-requires : tie.Need-pair-at-requires Inv-loop μ-loop
 pair-at-requires c κs =
@@ -100,28 +106,37 @@ refusedAt c e r =
     let atLoop = c .before .before .before in
     or-stop _ (first-stop _ _ (atLoop .loop .g) (omega arith) (atLoop .loop .inv .2) e r) r
 
+refused-requires : tie.Need-refused-requires Inv-loop μ-loop
+refused-requires c κs = search needs
+
 returns : tie.Need-returns Inv-loop μ-loop
 unfolding groupRecord
 returns c =
-    let bad = sym (recordRead (c .before) .2) ∙ c .if1 .taken in
-    refusedAt (c .before)
-    (or-stop _ (ap (Refused 6) (place (c .before .before .before .before)) ∙ refuse-yes 6 _ bad) refl)
-    refl
+    let atTest = c .before in
+    let atRecord = atTest .before in
+    let bad = sym (recordRead atRecord .2) ∙ atTest .if1 .taken in
+    refused-told _ (c .refused .ensures)
+    (refusedAt atRecord (or-stop _ (ap (Refused 6) (place (atRecord .before .before .before)) ∙ refuse-yes 6 _ bad) refl) refl)
+
+refused-requires-2 : tie.Need-refused-requires-2 Inv-loop μ-loop
+refused-requires-2 c κs = search needs
 
 returns-2 : tie.Need-returns-2 Inv-loop μ-loop
 unfolding groupRecord pedestrian pedestriansBefore ninthPedestrian
 returns-2 c =
-    let atRecord = c .before .before .before in
+    let atTest = c .before in
+    let atRecord = atTest .before .before .before in
     let atLoop = atRecord .before .before .before in
-    let good = sym (recordRead atRecord .2) ∙ c .before .before .if1 .left in
-    let marked = eq-eqb _ _ (sym (recordRead atRecord .1) ∙ c .before .if2 .taken) in
-    let eight = eq-eqb _ _ (sym (atLoop .loop .inv .1) ∙ c .if3 .taken) in
-    refusedAt atRecord
+    let good = sym (recordRead atRecord .2) ∙ atTest .before .before .if1 .left in
+    let marked = eq-eqb _ _ (sym (recordRead atRecord .1) ∙ atTest .before .if2 .taken) in
+    let eight = eq-eqb _ _ (sym (atLoop .loop .inv .1) ∙ atTest .if3 .taken) in
+    refused-told _ (c .refused2 .ensures)
+    (refusedAt atRecord
     (or-next refl (refuse-no 6 _ good) (ap (Refused 7) (place atLoop) ∙ refuse-yes 7 _ (and-both marked eight)))
-    refl
+    refl)
 
-add-pedestrians : tie.Need-add-pedestrians Inv-loop μ-loop
-add-pedestrians c =
+add-movements : tie.Need-add-movements Inv-loop μ-loop
+add-movements c =
     let atLoop = c .before .before .before .before .before .before in
     let atStart = atLoop .before .before .before .before in
     omega (arith, count-most (pedestrian (atStart .args .s .now)) (atLoop .loop .g))
@@ -138,7 +153,7 @@ counted :
     let atLoop = c .before .before .before .before .before in
     let b = atLoop .before .before .before .before .args .s .now in
     let g = atLoop .loop .g in
-    (c .if2 .pedestrians ≡ countOf (pedestrian b) (g + 1)) × (ninthPedestrian b g ≡ false)
+    (c .if2 .movements ≡ countOf (pedestrian b) (g + 1)) × (ninthPedestrian b g ≡ false)
 unfolding pedestrian ninthPedestrian pedestriansBefore
 counted c =
     let atLoop = c .before .before .before .before .before in
@@ -157,6 +172,7 @@ counted c =
     (c .if2 .came)
 
 loop-again : tie.Need-loop-again Inv-loop μ-loop
+unfolding stopsEarly anyOf
 loop-again c =
     let atRecord = c .before .before in
     let atLoop = atRecord .before .before .before in
@@ -166,6 +182,7 @@ loop-again c =
       counted c .0,
       first-more _ _ (atLoop .loop .inv .2) (group-passed _ _ good (counted c .1)),
       gathered-more _ _ _ (omega arith) (read .0) good (atLoop .loop .inv .3),
+      rw add-one (ap₂ (λ s t. s || t) (atLoop .loop .inv .4) (ap (λ m. eqb m 3) (read .1))),
     )
 
 cast-if4 : tie.Need-cast-if4 Inv-loop μ-loop
@@ -182,26 +199,40 @@ afterRecords :
     v ≡ refuseIf (phaseWithoutGroup b) 8 (groupsHead b) →
     v ≡ (firstOf (groupRecord b) (groupCount b) orElse refuseIf (phaseWithoutGroup b) 8 (groupsHead b)))
     × Gathered b (c .before .loop .served) (groupCount b)
+    × (c .before .loop .g ≡ groupCount b)
 afterRecords c =
     let b = c .before .before .before .before .before .args .s .now in
     let last : c .before .loop .g ≡ groupCount b = omega arith in
     let inv = c .before .loop .inv in (
       λ v e. or-next (first-done _ _ _ (inv .2) last) refl e,
       rw (← last) (inv .3),
+      last,
     )
 
 returns-3 : tie.Need-returns-3 Inv-loop μ-loop
+unfolding movementCount pedestriansBefore
 returns-3 c =
     let passed = afterRecords (c .before) in
-    passed .0 _ (sym (refuse-no 8 _ (all-served _ _ (bounded (c .before .before .before .before)) (passed .1) (c .if4 .taken))))
+    let inv = c .before .before .loop .inv in
+    record {
+      verdict =
+          passed .0 _ (sym (refuse-no 8 _ (all-served _ _ (bounded (c .before .before .before .before)) (passed .1) (c .if4 .taken))));
+      movements = λ accepted. inv .1 ∙ ap (countOf (pedestrian _)) (passed .2);
+      early = λ accepted. inv .4 ∙ ap (anyOf (stopsEarly _)) (passed .2);
+    }
+
+refused-requires-3 : tie.Need-refused-requires-3 Inv-loop μ-loop
+refused-requires-3 c κs = search needs
 
 returns-4 : tie.Need-returns-4 Inv-loop μ-loop
 returns-4 c =
-    let passed = afterRecords (c .before) in
-    let atBound = c .before .before .before .before in
-    passed .0 _
+    let atTest = c .before in
+    let passed = afterRecords (atTest .before) in
+    let atBound = atTest .before .before .before .before in
+    refused-told _ (c .refused3 .ensures)
+    (passed .0 _
     (ap (Refused 8) (atBound .before .before .pre .0 .groups)
-    ∙ refuse-yes 8 _ (one-unserved _ _ (bounded atBound) (passed .1) (c .if4 .left)))
+    ∙ refuse-yes 8 _ (one-unserved _ _ (bounded atBound) (passed .1) (atTest .if4 .left))))
 
 pub group-records-spec : {M : Type 1} → statement M
 group-records-spec =
@@ -217,13 +248,16 @@ group-records-spec =
     mul-place
     add-place-2
     bad-group-requires
+    refused-requires
     returns
+    refused-requires-2
     returns-2
-    add-pedestrians
+    add-movements
     add-g
     loop-less
     loop-again
     cast-if4
     add-if4
     returns-3
+    refused-requires-3
     returns-4)

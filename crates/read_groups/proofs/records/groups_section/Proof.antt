@@ -4,8 +4,9 @@ use mathlib.Core.Path.{_≡_, sym, _∙_}
 use lib.Dec.{eqb}
 use borrow.Author.Needs.{needs}
 use Rattle.rules.specs.Personality.{bodyLength, groupCount, groupsHead, sectionAt, groupsSection}
-use Rattle.rules.proofs.Verdicts.{or-next, or-stop}
+use Rattle.rules.proofs.Verdicts.{or-stop}
 use Rattle.proof_acceptance.proofs.Sections.{records-held}
+use Rattle.read_groups.proofs.GroupChecks.{refused-told, told-next}
 use Rattle.read_groups.proofs.records.groups_section.Statement.{statement}
 use Rattle.read_groups.proofs.records.groups_section.Tie as tie
 
@@ -28,9 +29,15 @@ checked :
     c .sized-section .result ≡ sectionAt b (groupsHead b) 3 (eqb (bodyLength b (groupsHead b)) (groupCount b * 2))
 checked c = let laid = c .before .before .before .pre in rw (laid .groups, laid .n) at (c .sized-section .ensures)
 
+refused-requires : tie.Need-refused-requires
+refused-requires c κs = search needs
+
 returns : tie.Need-returns
 unfolding groupsSection
-returns c = or-stop _ (checked (c .before .before)) (c .enum-told .given .1)
+returns c =
+    let told = c .before in
+    let head = told .enum-told .given .1 in
+    refused-told _ (c .refused .ensures ∙ head) (sym head ∙ or-stop _ (checked (told .before .before)) head)
 
 enum-told-2 : tie.Need-enum-told-2
 enum-told-2 c = search needs
@@ -44,7 +51,7 @@ returns-2 : tie.Need-returns-2
 unfolding groupsSection
 returns-2 c =
     let passed = c .before in
-    or-next (checked (passed .before .before)) (passed .enum-told2 .given .1) (c .group-records .ensures)
+    told-next _ (checked (passed .before .before)) (passed .enum-told2 .given .1) (c .group-records .ensures)
 
 pub groups-section-spec : {M : Type 1} → statement M
 groups-section-spec =
@@ -54,6 +61,7 @@ groups-section-spec =
     mul-sized-section
     sized-section-requires
     enum-told
+    refused-requires
     returns
     enum-told-2
     group-records-requires

@@ -1,4 +1,4 @@
--- `step_demands::buttons::crossed` meets its contract. The loop's invariant: the set is that of the demanded movements passed.
+-- `step_demands::movements::crossed` meets its contract. The loop's invariant: the set is that of the demanded movements passed.
 use borrow.Author.Needs.{needs}
 use native.Mathlib.Omega.{arith}
 use Prim.Native.Nat.{ℕ, _-_, _≤_}
@@ -7,8 +7,8 @@ use mathlib.Core.Path.{_≡_, ap, _∙_}
 use Rattle.rules.specs.Bytes.{bit}
 use Rattle.rules.specs.Demands.{movementDemands}
 use Rattle.step_demands.proofs.Crossed.{none-crossed, more-crossed, same-crossed}
-use Rattle.step_demands.proofs.buttons.crossed.Statement.{statement}
-use Rattle.step_demands.proofs.buttons.crossed.Tie as tie
+use Rattle.step_demands.proofs.movements.crossed.Statement.{statement}
+use Rattle.step_demands.proofs.movements.crossed.Tie as tie
 
 abbrev Inv-loop : tie.InvT-loop
 Inv-loop count crossings buttons n set₀ k₀ set k = (k ≤ n) × ((p : ℕ) → bit p set ≡ movementDemands crossings k buttons p)

@@ -1,0 +1,196 @@
+-- The kept marks after parts 4 and 5. Only demands of the phase that is on are cleared, so every other mark stays; and as the marks were
+-- those of the demands that stood, the mark of that phase stays where one of its demands is left.
+use Prim.Native.Nat.{ℕ, _<_}
+use mathlib.Core.Bool.{Bool, true, false, not, _&&_, _||_, and-true}
+use mathlib.Core.List.{List}
+use mathlib.Core.Logic.{⊎-elim}
+use mathlib.Core.Path.{_≡_, refl, sym, ap, _∙_}
+use native.Mathlib.Omega.{arith}
+use borrow.Author.Tests.{eqb-true, eqb-false, eq-eqb, ne-eqb}
+use lib.Dec.{eqb}
+use lib.ListN.{length, getD, set}
+use Rattle.rules.specs.declared.site.PhaseTimes.{PhaseTimes}
+use Rattle.rules.specs.declared.site.Site.{Site}
+use Rattle.rules.specs.declared.state.Counts.{Counts}
+use Rattle.rules.specs.declared.state.Demands.{Demands}
+use Rattle.rules.specs.declared.state.Held.{Held}
+use Rattle.rules.specs.declared.state.KeptState.{KeptState}
+use Rattle.rules.specs.declared.state.Movement.{Movement}
+use Rattle.rules.specs.declared.state.Position.{Position}
+use Rattle.rules.specs.Rows.{anyOf, listOf}
+use Rattle.rules.specs.Site.{phaseTimes, crosses}
+use Rattle.rules.specs.Intervals.{isMinimumGreen, isRunning, isIdle, isHeld}
+use Rattle.rules.specs.State.{idle}
+use Rattle.rules.specs.Demands.{demandsAfter, stands}
+use Rattle.rules.specs.Movements.{walkMayEnd, movementsAfter}
+use Rattle.rules.specs.Counts.{countsAfter}
+use Rattle.rules.specs.Interval.{ends, positionAfter, countsChanged, clearsLock, locksLeft, starts}
+use Rattle.rules.specs.Walks.{begins, buttonsLeft}
+use Rattle.rules.specs.Step.{steppedTo}
+use Rattle.rules.specs.Kept.{keptValid, keptAfter, nextKept, gone, cleared, keptLeft, keptStepped}
+use Rattle.rules.specs.Laws.{Sound}
+use Rattle.rules.proofs.Rows.{list-at, any-none}
+use Rattle.rules.proofs.Tests.{and-left, and-right, and-false-left, and-false-right, or-false-both, decided, not-true-false}
+use Rattle.proof_arrays.proofs.Fill.{list-told, list-same, list-set}
+use Rattle.proof_kept.proofs.Scans.{kept-after, kept-left}
+use Rattle.step_demands.specs.declared.Asked.{Asked}
+use Rattle.step_demands.specs.Asked.{askedOf}
+use Rattle.step_walks.specs.declared.Walked.{Walked}
+use Rattle.step_walks.specs.Walked.{walkedBy}
+
+-- a test that stays as it was is not gone
+still : (a : Bool) {b : Bool} → b ≡ (a && not false) → (a && not b) ≡ false
+still true e = ap not e
+still false e = refl
+
+-- ── The marks by phase ──
+
+module _ (kept : List Bool) (phase : ℕ) (test : ℕ → Bool) (len : length kept ≡ 7) where
+  -- the marks, where that of the phase stays by the test
+  abbrev pub onlyOf : ℕ → Bool
+  onlyOf p = getD kept p false && (not (eqb p phase) || test p)
+
+  others-stay : (p : ℕ) → eqb p phase ≡ false → getD kept p false ≡ onlyOf p
+  others-stay p e = rw e (sym (and-true (getD kept p false)))
+
+  -- nothing to give up: no mark, or the test passes
+  pub mark-stays : (getD kept phase false ≡ true → test phase ≡ true) → kept ≡ listOf onlyOf 7
+  mark-stays own =
+      list-told onlyOf kept 7 false len
+      (λ p l.
+      ⊎-elim
+      (λ (e : eqb p phase ≡ true). rw (e, eqb-true p phase e) (agrees (getD kept phase false) (test phase) own))
+      (λ (e : eqb p phase ≡ false). others-stay p e)
+      (decided (eqb p phase)))
+    where
+      agrees : (a b : Bool) → (a ≡ true → b ≡ true) → a ≡ (a && b)
+      agrees true b h = sym (h refl)
+      agrees false b h = refl
+
+  pub mark-set : phase < 7 → getD kept phase false ≡ true → {t : Bool} → t ≡ test phase → set kept phase t ≡ listOf onlyOf 7
+  mark-set l was {t} e =
+      list-set onlyOf kept 7 phase t false len l (rw (eq-eqb phase phase refl, was, e)) (λ p m apart. sym (others-stay p (ne-eqb p phase apart)))
+
+-- ── What is cleared ──
+
+module _
+    (site : Site) (sound : Sound site) (old : Demands) (ended : Bool) (now : Position) (begun : ℕ → Bool)
+    (own : (k : ℕ) → begun k ≡ true → crosses (site .crossings) k (now .phase) ≡ true)
+  where
+    -- the demands that are left
+    abbrev pub leftOver : Demands
+    leftOver = record { locks = locksLeft ended now (old .locks); buttons = buttonsLeft begun (old .buttons) }
+
+    lock-at : (p : ℕ) → p < 7 → getD (leftOver .locks) p false ≡ (getD (old .locks) p false && not (clearsLock ended now p))
+    unfolding locksLeft
+    lock-at p l = list-at (λ p. getD (old .locks) p false && not (clearsLock ended now p)) 7 p false l
+
+    button-at : (k : ℕ) → k < site .size .movements → getD (leftOver .buttons) k false ≡ (getD (old .buttons) k false && not (begun k))
+    unfolding buttonsLeft
+    button-at k l = list-at (λ k. getD (old .buttons) k false && not (begun k)) 8 k false (omega (arith, sound .movements))
+
+    -- a movement of another phase does not begin walk
+    none-begun : (p k : ℕ) → k < site .size .movements → eqb p (now .phase) ≡ false → crosses (site .crossings) k p ≡ true → begun k ≡ false
+    none-begun p k l apart of =
+        let one = sound .crossing k l in
+        not-true-false (begun k)
+        (λ h. eqb-false p (now .phase) apart (one .3 p of ∙ sym (one .3 (now .phase) (own k h))))
+
+    none-cleared : (p : ℕ) → p < 7 → eqb p (now .phase) ≡ false → cleared site old leftOver p ≡ false
+    unfolding cleared gone clearsLock
+    none-cleared p l apart =
+        or-false-both
+        (still (getD (old .locks) p false)
+        (lock-at p l ∙ ap (λ (t : Bool). getD (old .locks) p false && not t) (and-false-right (ended && isMinimumGreen (now .interval)) apart)))
+        (any-none (λ k. gone (old .buttons) (leftOver .buttons) k && crosses (site .crossings) k p) (site .size .movements)
+        (λ k m.
+        ⊎-elim
+        (λ (of : crosses (site .crossings) k p ≡ true).
+        and-false-left (crosses (site .crossings) k p)
+        (still (getD (old .buttons) k false)
+        (button-at k m ∙ ap (λ (t : Bool). getD (old .buttons) k false && not t) (none-begun p k m apart of))))
+        (λ (none : crosses (site .crossings) k p ≡ false). and-false-right (gone (old .buttons) (leftOver .buttons) k) none)
+        (decided (crosses (site .crossings) k p))))
+
+    pub only-own :
+        (kept : ℕ → Bool) →
+        (p : ℕ) →
+        p < 7 →
+        kept p ≡ stands site old p →
+        (kept p && (not (eqb p (now .phase)) || stands site leftOver p)) ≡ keptLeft site old leftOver kept p
+    unfolding keptLeft
+    only-own kept p l e =
+        let scan =
+        kept-left site old leftOver
+        (λ p l h. and-left (getD (old .locks) p false) (not (clearsLock ended now p)) (sym (lock-at p l) ∙ h))
+        (λ k l h. and-left (getD (old .buttons) k false) (not (begun k)) (sym (button-at k l) ∙ h)) p l kept e in
+        ⊎-elim
+        (λ (same : eqb p (now .phase) ≡ true). rw same (ap (λ (t : Bool). kept p && t) (sym scan) ∙ twice (kept p) _))
+        (λ (apart : eqb p (now .phase) ≡ false). rw (apart, none-cleared p l apart))
+        (decided (eqb p (now .phase)))
+      where
+        twice : (a b : Bool) → (a && (a && b)) ≡ (a && b)
+        twice true b = refl
+        twice false b = refl
+
+-- ── The step ──
+
+-- a movement that begins walk is of the phase that is on
+begins-own :
+    (crossings : List ℕ) (started another : Bool) (now : Position) (buttons : List Bool) (movements : List Movement) (k : ℕ) →
+    begins crossings started another now buttons movements k ≡ true →
+    crosses crossings k (now .phase) ≡ true
+unfolding begins
+begins-own crossings started another now buttons movements k h =
+    let asked = getD buttons k false in
+    let may = started || (isRunning (now .interval) && not another && isIdle (getD movements k idle .stage)) in
+    and-right asked (crosses crossings k (now .phase)) (and-left (asked && crosses crossings k (now .phase)) may h)
+
+module _ (site : Site) (sound : Sound site) (s : KeptState) (inputs : ℕ) (v : keptValid site s ≡ true) where
+  abbrev next : Held
+  next = nextKept site s inputs
+
+  -- what the step leaves of the marks, by the phase that is on then and the demands that are left
+  marks-told :
+      (p : ℕ) →
+      p < 7 →
+      let rest = steppedTo next site (s .rest) inputs in
+      (keptAfter site s inputs p && (not (eqb p (rest .position .phase)) || stands site (rest .demands) p))
+      ≡ keptLeft site (demandsAfter site (s .rest) inputs) (rest .demands) (keptAfter site s inputs) p
+  unfolding steppedTo
+  marks-told p l =
+      only-own site sound (demandsAfter site (s .rest) inputs) _ _ _ (begins-own (site .crossings) _ _ _ _ _) (keptAfter site s inputs) p l
+      (kept-after site sound s inputs v p l)
+
+  -- the whole step, by what each of its parts gives
+  pub whole-told :
+      {own : PhaseTimes} {asked : Asked} {another : Bool} {mayEnd : Bool} {moved : List Movement} {counted : Counts} {ended : Bool} {now : Position} {started : Bool}
+      {walked : Walked} {locks : List Bool} {counts : Counts} {marks : List Bool} →
+      own ≡ phaseTimes (site .times) (s .rest .position .phase) →
+      asked ≡ askedOf site s inputs →
+      another ≡ isHeld (asked .next) →
+      mayEnd ≡ walkMayEnd (s .rest .position .interval) own another (s .rest .counts) →
+      moved ≡ movementsAfter (site .times) mayEnd (s .rest .movements) →
+      counted ≡ countsAfter (s .rest .position .interval) own (asked .extended) another (s .rest .counts) →
+      ended ≡ ends (s .rest .position .interval) (site .times .start) own (s .rest .position .age) another moved counted →
+      now ≡ positionAfter ended (site .times) (asked .next) (s .rest .position) →
+      started ≡ starts ended (s .rest .position) →
+      walked ≡ walkedBy (begins (site .crossings) started another now (asked .demands .buttons) moved) (asked .demands .buttons) moved →
+      locks ≡ locksLeft ended now (asked .demands .locks) →
+      counts ≡ countsChanged ended (site .times) (s .rest .position) now counted →
+      marks ≡ listOf (λ p. getD (asked .kept) p false && (not (eqb p (now .phase)) || stands site (record { locks = locks; buttons = walked .buttons }) p)) 7 →
+      _≡_ {A = KeptState}
+      (record {
+        rest = record { position = now; counts = counts; demands = record { locks = locks; buttons = walked .buttons }; movements = walked .movements };
+        kept = marks;
+      })
+      (keptStepped site s inputs)
+  unfolding keptStepped steppedTo askedOf walkedBy
+  whole-told e1 e2 e3 e4 e5 e6 e7 e8 e9 e10 e11 e12 e13 =
+      let after = steppedTo next site (s .rest) inputs in
+      rw (e13, e12, e11, e10, e9, e8, e7, e6, e5, e4, e3, e2, e1)
+      (ap (λ (l : List Bool). record { rest = after; kept = l })
+      (list-same
+      (λ p. getD (listOf (keptAfter site s inputs) 7) p false && (not (eqb p (after .position .phase)) || stands site (after .demands) p))
+      (keptLeft site (demandsAfter site (s .rest) inputs) (after .demands) (keptAfter site s inputs)) 7
+      (λ p l. rw (list-at (keptAfter site s inputs) 7 p false l) (marks-told p l))))
