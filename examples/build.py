@@ -200,6 +200,14 @@ def detector_rows(lines, count, place):
     return [detector_row(line, number, count) for number, line in enumerate(lines)]
 
 
+def check_calls(detectors, groups, count, place):
+    """Every phase has a calling detector or a pedestrian group."""
+    for p in range(count):
+        by_detector = any(phase == p and mode & ~EXTENDS for phase, mode in detectors)
+        by_button = any(group.phases >> p & 1 for group in pedestrians_of(groups))
+        need(by_detector or by_button, place, f"nobody can call phase {LETTERS[p]}")
+
+
 def walk_rows(lines, groups, place):
     names = [group.name for group in pedestrians_of(groups)]
     need([line.words[0] for line in lines] == names, place, f"section pedestrians needs the rows {' '.join(names)}")
@@ -232,6 +240,7 @@ def site_of(path):
     groups = group_rows(text["groups"], len(phases), place)
     conflicts = conflict_rows(text["conflicts"], groups, place)
     detectors = detector_rows(text["detectors"], len(phases), place)
+    check_calls(detectors, groups, len(phases), place)
     walks = walk_rows(text["pedestrians"], groups, place)
     early = early_rows(text, len(phases), groups, place)
     order = order_row(text, len(phases), place)

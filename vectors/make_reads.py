@@ -94,7 +94,7 @@ def groups_refused():
     yield nine_pedestrians(0, 1)
     yield nine_pedestrians(23, 0)
     yield build(10, [row] * 3, [(1, 0), (4, 0)], {(0, 1)}, [], [])
-    yield build(10, [row] * 2, [(0, 0), (3, 0)], set(), [], [])
+    yield build(10, [row] * 2, [(0, 0), (3, 0)], set(), [(0, 1), (1, 1)], [])
     yield sharing(2, 0, 1)
     yield sharing(32, 30, 31)
 
@@ -138,6 +138,33 @@ def orders():
     yield from (site[:-1] + site[-2:-1] for site in sites if number(site, heads(site)[-1] + 2, 2) == 9)
 
 
+def silenced(data, phase):
+    """The bytes with the detectors of a phase that only extend, or do nothing."""
+    head = heads(data)[4]
+    for at in range(head + 4, head + 4 + number(data, head, 2), 2):
+        if data[at] == phase:
+            data = put(data, at + 1, data[at + 1] & 4, 1)
+    return data
+
+
+def uncalled():
+    """A phase that nobody can call: every mode of both detectors of the junction, no detectors, calls by pedestrian groups; before mark 3
+    without times and bytes left over; each phase of sites of any size without its calls."""
+    row = (0, 20, 30, 5, 30, 10)
+    modes = (0, 1, 2, 4, 5, 6)
+    yield from (put(put(junction(), 61, a, 1), 63, b, 1) for a in modes for b in modes)
+    for detectors in ([], [(0, 1)], [(1, 1)], [(0, 4), (1, 5)]):
+        for groups, walks in (([(3, 0)], 0), ([(3, 0), (1, 2)], 1), ([(3, 0), (2, 2)], 1), ([(1, 2), (2, 2)], 2)):
+            yield build(10, [row] * 2, groups, set(), detectors, [(10, 1, 1)] * walks)
+    yield put(turning_arrow(None), 69, 4, 1) + b"\0"
+    yield put(turning_arrow(), 69, 4, 1) + b"\0"
+    yield put(three_phases((0, 0, 0)), 83, 4, 1)
+    rng = random.Random(21)
+    for _ in range(20):
+        site = random_site(rng)
+        yield from (silenced(site, phase) for phase in range(site[4]))
+
+
 def damaged(rng, data):
     """A byte changed, cut, doubled or added."""
     at = rng.randrange(len(data))
@@ -164,6 +191,7 @@ def vectors():
     yield from groups_refused()
     yield from early_cut_offs()
     yield from orders()
+    yield from uncalled()
     for _ in range(100):
         site = random_site(rng)
         yield site

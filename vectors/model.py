@@ -70,7 +70,7 @@ class Reader:
 
     def group_records(self):
         head, _ = self.head(3, lambda n: n == 2 * self.groups)
-        self.sets, self.early, pedestrians = [], [], 0
+        self.sets, self.early, self.called, pedestrians = [], [], 0, 0
         for g in range(self.groups):
             at = head + 4 + 2 * g
             members, mark = self.data[at], self.data[at + 1]
@@ -81,6 +81,7 @@ class Reader:
                 pedestrians += 1
                 if pedestrians == 9:
                     raise Refusal(7, at)
+                self.called |= members
             if mark == EARLY_CUT_OFF:
                 self.early.append(at)
             self.sets.append(members)
@@ -104,9 +105,12 @@ class Reader:
 
     def detector_records(self):
         head, length = self.head(5, lambda n: n % 2 == 0 and n <= 96)
+        self.detectors_head = head
         for at in range(head + 4, head + 4 + length, 2):
             if self.data[at] >= self.phases or self.data[at + 1] not in (0, 1, 2, 4, 5, 6):
                 raise Refusal(11, at)
+            if self.data[at + 1] in (1, 2, 5, 6):
+                self.called |= 1 << self.data[at]
 
     def pedestrian_records(self):
         head, _ = self.head(6, lambda n: n == 6 * self.pedestrians)
@@ -129,6 +133,8 @@ class Reader:
 
     def whole(self):
         """What is checked after all sections."""
+        if self.called != (1 << self.phases) - 1:
+            raise Refusal(21, self.detectors_head)
         if self.early and not self.times:
             raise Refusal(17, self.early[0])
 
@@ -209,6 +215,16 @@ def largest():
                  (6, 4, 2, 0, 5, 3, 1))
 
 
+def called(groups, detectors):
+    """The phases that have a calling detector or a pedestrian group."""
+    phases = 0
+    for members, mark in groups:
+        phases |= members if mark == PEDESTRIAN else 0
+    for phase, mode in detectors:
+        phases |= 1 << phase if mode in (1, 2, 5, 6) else 0
+    return phases
+
+
 def random_site(rng):
     """An accepted personality of any size, its settings drawn from the whole of each range."""
     phases = rng.randint(2, 7)
@@ -231,9 +247,11 @@ def random_site(rng):
             return random_site(rng)
         groups[vehicle] = (groups[vehicle][0] | missing, groups[vehicle][1])
     conflicts = {pair for pair in conflicts_of(groups) if rng.random() < 0.6}
+    detectors = [(rng.randrange(phases), rng.choice((0, 1, 2, 4, 5, 6))) for _ in range(rng.randint(0, 41))]
+    detectors += [(p, rng.choice((1, 2, 5, 6))) for p in range(phases) if not called(groups, detectors) >> p & 1]
     draw = lambda name: rng.choice((RANGES[name][0], RANGES[name][1], rng.randint(*RANGES[name])))
     return build(draw("start"), [tuple(draw(n) for n in PHASE_FIELDS) for _ in range(phases)], groups, conflicts,
-                 [(rng.randrange(phases), rng.choice((0, 1, 2, 4, 5, 6))) for _ in range(rng.randint(0, 48))],
+                 detectors,
                  [tuple(draw(n) for n in WALK_FIELDS) for _ in range(pedestrians)],
                  [draw("E") for _ in range(phases)] if closing_early else None,
                  rng.sample(range(phases), phases) if rng.random() < 0.5 else None)

@@ -32,7 +32,7 @@ pub enum Kind {
 }
 
 /// The kinds take turns, those that matter most more often.
-const TURNS: [Kind; 28] = [
+const TURNS: [Kind; 29] = [
     Kind::Accepted,
     Kind::Damaged(1),
     Kind::Run,
@@ -60,6 +60,7 @@ const TURNS: [Kind; 28] = [
     Kind::Run,
     Kind::Damaged(17),
     Kind::Damaged(18),
+    Kind::Damaged(21),
     Kind::Watched,
 ];
 

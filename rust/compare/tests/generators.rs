@@ -181,7 +181,7 @@ fn damage_without_an_aim_hits_many_numbers() {
         scrambles.insert(number(packed::read(&scrambled(&mut rng))));
     }
     // Bytes left over are only noticed where nothing else is wrong.
-    let mut numbers = (1..=11).chain([17, 18]);
+    let mut numbers = (1..=11).chain([17, 18, 21]);
     assert!(numbers.all(|number| twice.contains(&number)), "{twice:?}");
     assert!(scrambles.len() >= 12, "{scrambles:?}");
 }
@@ -253,7 +253,7 @@ fn inputs_known_and_unknown() {
 #[test]
 fn every_refusal_number_occurs_in_the_cases() {
     let tally = compare::run_cases(&model::packed::Model, SEED, 0..2_000).unwrap();
-    for number in (0..=15).chain([17, 18]) {
+    for number in (0..=15).chain([17, 18, 21]) {
         assert!(tally.answers(number) >= 20, "{number}\n{tally}");
     }
     for kind in compare::Kind::all() {

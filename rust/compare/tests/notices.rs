@@ -142,6 +142,15 @@ fn a_section_with_the_order_not_found() {
 }
 
 #[test]
+fn a_phase_nobody_can_call() {
+    let board = Wrong {
+        read: Some(|answer| if number(answer) == 21 { 0 } else { answer }),
+        ..Wrong::default()
+    };
+    assert_eq!(what(&board), "read: the answer");
+}
+
+#[test]
 fn any_order_accepted() {
     let board = Wrong {
         read: Some(|answer| if number(answer) == 18 { 0 } else { answer }),

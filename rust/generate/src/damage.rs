@@ -6,10 +6,10 @@ use crate::rng::Rng;
 use model::{Limits, Mark, Setting, MAX_GROUPS, MAX_MOVEMENTS};
 
 /// The refusals that a personality can be aimed at.
-pub const AIMED: [u8; 14] = [1, 2, 3, 4, 5, 6, 7, 8, 9, 10, 11, 12, 17, 18];
+pub const AIMED: [u8; 15] = [1, 2, 3, 4, 5, 6, 7, 8, 9, 10, 11, 12, 17, 18, 21];
 
 /// Those that a plan can hold, so that the bytes can be damaged besides.
-const PLANNED: [u8; 9] = [5, 6, 7, 8, 9, 10, 11, 17, 18];
+const PLANNED: [u8; 10] = [5, 6, 7, 8, 9, 10, 11, 17, 18, 21];
 
 const PEDESTRIAN: u8 = Mark::Pedestrian as u8;
 const EARLY_CUT_OFF: u8 = Mark::EarlyCutOff as u8;
@@ -66,7 +66,7 @@ fn damage(rng: &mut Rng, mut plan: Plan, number: u8) -> Option<Vec<u8>> {
         3 => change_length(rng, &mut bytes),
         4 => change_count(rng, &mut bytes),
         12 => leave_over(rng, &plan, &mut bytes),
-        17 if rng.percent(50) => leave_over(rng, &plan, &mut bytes),
+        17 | 21 if rng.percent(50) => leave_over(rng, &plan, &mut bytes),
         _ => {}
     }
     Some(bytes)
@@ -83,6 +83,7 @@ fn damage_plan(rng: &mut Rng, plan: &mut Plan, number: u8) -> Option<()> {
         11 => change_detector(rng, plan)?,
         17 => leave_out_times(rng, plan)?,
         18 => change_order(rng, plan)?,
+        21 => silence_phase(rng, plan)?,
         _ => return None,
     }
     Some(())
@@ -121,6 +122,25 @@ fn cut(rng: &mut Rng, bytes: &mut Vec<u8>) -> Option<()> {
         return None;
     }
     bytes.truncate(length);
+    Some(())
+}
+
+/// Takes every call away from a phase without a pedestrian group: its detectors
+/// only extend, do nothing, or go to another phase.
+fn silence_phase(rng: &mut Rng, plan: &mut Plan) -> Option<()> {
+    let phases = plan.phases.len();
+    let phase = rng.below(phases) as u8;
+    let other = ((usize::from(phase) + rng.range(1, phases - 1)) % phases) as u8;
+    let walks = |group: &[u8; 2]| group[1] == PEDESTRIAN && group[0] == 1 << phase;
+    if plan.groups.iter().any(walks) {
+        return None;
+    }
+    for detector in &mut plan.detectors {
+        if detector[0] == phase {
+            let mode = detector[1];
+            *detector = rng.pick(&[[phase, 0], [phase, 4], [phase, mode & 4], [other, mode]]);
+        }
+    }
     Some(())
 }
 

@@ -6,6 +6,8 @@ use model::{Limits, Mark, Setting, MAX_DETECTORS, MAX_GROUPS, MAX_MOVEMENTS, MAX
 
 /// The modes a detector may have.
 pub const MODES: [u8; 6] = [0, 1, 2, 4, 5, 6];
+/// Those that call.
+const CALLING: [u8; 4] = [1, 2, 5, 6];
 
 const VEHICLE: u8 = Mark::Vehicle as u8;
 const LATE_START: u8 = Mark::LateStart as u8;
@@ -144,14 +146,15 @@ impl Plan {
         }
     }
 
-    /// The smallest site there is: two phases that share the only group.
+    /// The smallest site there is: two phases that share the only group, each with
+    /// a detector.
     pub fn smallest() -> Plan {
         Plan {
             start_red: 10,
             phases: vec![[0, 20, 30, 5, 30, 10]; 2],
             groups: vec![[3, VEHICLE]],
             conflicts: vec![0],
-            detectors: vec![],
+            detectors: vec![[0, 6], [1, 6]],
             movements: vec![],
             early_cut_offs: None,
             order: None,
@@ -222,9 +225,39 @@ impl Plan {
                 .then(|| random_early_cut_offs(rng, &shape)),
             order: shape.order.then(|| random_order(rng, shape.phases)),
         };
+        plan.make_callable(rng);
         let density = rng.pick(&[0, 30, 70, 100, 100]);
         plan.make_conflicts(|| rng.percent(density));
         plan
+    }
+
+    /// The phases that a detector calls or a pedestrian group has.
+    pub fn called_phases(&self) -> u8 {
+        let by_group = self.groups.iter().filter(|group| group[1] == PEDESTRIAN);
+        let by_groups = by_group.fold(0, |called, group| called | group[0]);
+        let calling = self.detectors.iter().filter(|[_, mode]| mode & 3 != 0);
+        calling.fold(by_groups, |called, [phase, _]| called | 1 << phase)
+    }
+
+    /// Gives every phase that nobody can call a calling detector: one that another
+    /// phase can spare, or one more.
+    fn make_callable(&mut self, rng: &mut Rng) {
+        for phase in 0..self.phases.len() as u8 {
+            if self.called_phases() >> phase & 1 != 0 {
+                continue;
+            }
+            let calling = [phase, rng.pick(&CALLING)];
+            let before = self.called_phases();
+            let spare = (0..self.detectors.len()).find(|&detector| {
+                let mut without = self.clone();
+                without.detectors[detector] = calling;
+                without.called_phases() == before | 1 << phase
+            });
+            match spare {
+                Some(detector) => self.detectors[detector] = calling,
+                None => self.detectors.push(calling),
+            }
+        }
     }
 
     /// Lets two groups conflict where they share no phase and the choice says so.
@@ -332,8 +365,14 @@ fn random_vehicle_group(rng: &mut Rng, shape: &Shape) -> [u8; 2] {
     [set, mark]
 }
 
-/// Adds the phases that no group has. Pedestrian groups come first.
+/// Adds the phases that no group has. Pedestrian groups come first; without
+/// detectors they call the phases, where there are enough.
 fn serve_every_phase(rng: &mut Rng, groups: &mut [[u8; 2]], shape: &Shape) {
+    if shape.detectors == 0 && shape.pedestrians >= shape.phases {
+        for (phase, group) in groups.iter_mut().take(shape.phases).enumerate() {
+            group[0] = 1 << phase;
+        }
+    }
     if shape.pedestrians == shape.groups {
         if shape.groups < shape.phases {
             groups[shape.groups - 1][1] = VEHICLE;

@@ -50,6 +50,9 @@ impl<'a> Site<'a> {
             check_order(section)?;
         }
 
+        if !every_phase_called(&detectors, &groups, phase_count) {
+            return Err(Refusal::at(Number::UncalledPhase, detectors.head));
+        }
         if early_cut_offs.is_none() && groups.early != 0 {
             let first = groups.early.trailing_zeros() as usize;
             return Err(group_section.refuse(Number::EarlyWithoutTimes, 2 * first));
@@ -317,4 +320,22 @@ fn check_detectors(section: &Section, phase_count: usize) -> Result<(), Refusal>
         Some(detector) => Err(section.refuse(Number::WrongDetector, 2 * detector)),
         None => Ok(()),
     }
+}
+
+/// Whether every phase has a calling detector or a pedestrian group.
+#[inline]
+fn every_phase_called(section: &Section, groups: &Groups, phase_count: usize) -> bool {
+    let by_movements = groups
+        .movement_set
+        .iter()
+        .fold(0, |called, set| called | set);
+    let called = section
+        .records()
+        .iter()
+        .fold(by_movements, |called, record| {
+            let &[phase, mode] = record;
+            let calls = mode & 3 != 0;
+            called | u8::from(calls) << (phase & 7)
+        });
+    called == !(u8::MAX << phase_count)
 }
