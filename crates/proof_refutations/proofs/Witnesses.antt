@@ -30,8 +30,8 @@ crossings clearance =
     (1 ∷ 5 ∷ [])
     (walk ++ walk)
 
--- A, B and C: group 0, with a mark that is given, is of A and C, group 1 of B; detectors 0, 1 and 2 are of B, C
--- and A
+-- A, B and C: group 0, with a mark that is given, is of A and C, group 1 of B; detector 0 is of B, detector 1 of C,
+-- detector 2 of A
 unfoldable pub shared : ℕ → List ℕ
 shared mark =
     sections
