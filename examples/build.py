@@ -14,7 +14,7 @@ sys.dont_write_bytecode = True
 sys.path.insert(0, str(HERE.parent / "vectors"))
 from model import PHASE_FIELDS, RANGES, WALK_FIELDS, verdict
 
-SECTIONS = ("site", "phases", "groups", "conflicts", "detectors", "pedestrians", "early-cut-off")
+SECTIONS = ("site", "phases", "groups", "conflicts", "detectors", "pedestrians", "early-cut-off", "order")
 NEEDED = 6  # the sections after these need not be there
 LETTERS = tuple("ABCDEFG")
 MARKS = {"vehicle": 0, "late-start": 1, "pedestrian": 2, "early-cut-off": 3}
@@ -47,6 +47,7 @@ class Site(NamedTuple):
     detectors: list
     walks: list
     early: list  # the early cut-off time of each phase, or nothing where there is no such section
+    order: list  # the phases as they run, or nothing where there is no such section
 
 
 def need(truth, place, what):
@@ -85,13 +86,19 @@ def times(line, names, words):
 
 # ── Reading a site ──
 
+def sections_after(names):
+    """The sections that may follow those that are there: the next one needed, or any later one that need not be there."""
+    last = SECTIONS.index(names[-1]) + 1 if names else 0
+    return SECTIONS[last:last + 1] if last < NEEDED else SECTIONS[last:]
+
+
 def sections_of(path):
     """The lines of each section; the headings stand in their order, each once."""
     sections = {}
     for line in lines_of(path):
         if len(line.words) == 1 and line.words[0] in SECTIONS:
             name = line.words[0]
-            need(SECTIONS[len(sections):][:1] == (name,), line.place, f"{name} is not the section expected here")
+            need(name in sections_after(list(sections)), line.place, f"{name} is not the section expected here")
             sections[name] = []
         else:
             need(sections, line.place, "stands before the first section")
@@ -193,6 +200,14 @@ def detector_rows(lines, count, place):
     return [detector_row(line, number, count) for number, line in enumerate(lines)]
 
 
+def check_calls(detectors, groups, count, place):
+    """Every phase has a calling detector or a pedestrian group."""
+    for p in range(count):
+        by_detector = any(phase == p and mode & ~EXTENDS for phase, mode in detectors)
+        by_button = any(group.phases >> p & 1 for group in pedestrians_of(groups))
+        need(by_detector or by_button, place, f"nobody can call phase {LETTERS[p]}")
+
+
 def walk_rows(lines, groups, place):
     names = [group.name for group in pedestrians_of(groups)]
     need([line.words[0] for line in lines] == names, place, f"section pedestrians needs the rows {' '.join(names)}")
@@ -209,6 +224,13 @@ def early_rows(text, count, groups, place):
     return [times(line, ("E",), line.words[1:])[0] for line in lines]
 
 
+def order_row(text, count, place):
+    """The phases as they run, each once; nothing where there is no such section."""
+    letters = [word for line in text.get("order", []) for word in line.words]
+    need("order" not in text or sorted(letters) == list(LETTERS[:count]), place, "section order needs each phase once")
+    return [LETTERS.index(letter) for letter in letters]
+
+
 def site_of(path):
     """The site, and the wait bound that its text states."""
     place = path.parent.name
@@ -218,9 +240,11 @@ def site_of(path):
     groups = group_rows(text["groups"], len(phases), place)
     conflicts = conflict_rows(text["conflicts"], groups, place)
     detectors = detector_rows(text["detectors"], len(phases), place)
+    check_calls(detectors, groups, len(phases), place)
     walks = walk_rows(text["pedestrians"], groups, place)
     early = early_rows(text, len(phases), groups, place)
-    return Site(start_red, phases, groups, conflicts, detectors, walks, early), bound
+    order = order_row(text, len(phases), place)
+    return Site(start_red, phases, groups, conflicts, detectors, walks, early, order), bound
 
 
 # ── The wait bound ──
@@ -265,9 +289,12 @@ def personality_of(site):
               packed([site.conflicts], 4),
               packed(site.detectors, 1),
               packed(site.walks, 2)]
+    sections = list(enumerate(bodies, 1))
     if site.early:
-        bodies.append(packed([site.early], 2))
-    return b"".join(section(kind, body) for kind, body in enumerate(bodies, 1))
+        sections.append((7, packed([site.early], 2)))
+    if site.order:
+        sections.append((9, bytes(site.order)))
+    return b"".join(section(kind, body) for kind, body in sections)
 
 
 # ── Input scripts ──

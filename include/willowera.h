@@ -100,6 +100,8 @@ extern "C" {
 #define WILLOWERA_BUFFER_SHORT 14       /* colour buffer shorter than the number of groups; place 0 */
 #define WILLOWERA_STRAY_INPUT 15        /* input bit without a detector or button; place 0 */
 #define WILLOWERA_NO_EARLY_TIMES 17     /* a group stops early, without a section of kind 7; place: the record */
+#define WILLOWERA_WRONG_ORDER 18        /* kind 9 has not each phase once; place: its head */
+#define WILLOWERA_UNCALLED_PHASE 21     /* neither a calling detector nor a pedestrian group; place: the kind 5 head */
 
 /* Those of a site sheet. */
 #define WILLOWERA_SHEET_OUT_OF_RANGE 19 /* speed not 20 to 110, metres not 0 to 300, or no such detector; place 0 */

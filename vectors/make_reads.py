@@ -6,7 +6,7 @@ import random
 import sys
 
 from model import (EARLY_CUT_OFF, PEDESTRIAN, PHASE_FIELDS, RANGES, VEHICLE, WALK_FIELDS, build, junction, largest, number, random_site,
-                   turning_arrow, twos, verdict)
+                   section, three_phases, turning_arrow, twos, verdict)
 
 
 def put(data, at, value, size=2):
@@ -29,7 +29,8 @@ def limits(data):
     fields += [(h[1] + 4 + 12 * p + 2 * i, n) for p in range(data[4]) for i, n in enumerate(PHASE_FIELDS)]
     pedestrians = number(data, h[5], 2) // 6
     fields += [(h[5] + 4 + 6 * k + 2 * i, n) for k in range(pedestrians) for i, n in enumerate(WALK_FIELDS)]
-    fields += [(h[6] + 4 + 2 * p, "E") for p in range(data[4] if len(h) > 6 else 0)]
+    early = next((head for head in h if number(data, head + 2, 2) == 7), None)
+    fields += [(early + 4 + 2 * p, "E") for p in range(0 if early is None else data[4])]
     for at, name in fields:
         low, high = RANGES[name]
         for value in (low - 1, low, high, high + 1):
@@ -50,6 +51,7 @@ def refusals(data):
         yield put(data, head, number(data, head, 2) + 1)
         yield put(data, head + 2, 7)
         yield put(data, head + 2, 8)
+        yield put(data, head + 2, 9)
         yield data[:head + 3]
         yield data[:head + 4]
     for at, values in ((4, (0, 1, 2, 7, 8, 255)), (5, (0, 1, 32, 33, 255))):
@@ -92,7 +94,7 @@ def groups_refused():
     yield nine_pedestrians(0, 1)
     yield nine_pedestrians(23, 0)
     yield build(10, [row] * 3, [(1, 0), (4, 0)], {(0, 1)}, [], [])
-    yield build(10, [row] * 2, [(0, 0), (3, 0)], set(), [], [])
+    yield build(10, [row] * 2, [(0, 0), (3, 0)], set(), [(0, 1), (1, 1)], [])
     yield sharing(2, 0, 1)
     yield sharing(32, 30, 31)
 
@@ -112,6 +114,55 @@ def early_cut_offs():
     yield put(without, 41, EARLY_CUT_OFF, 1)
     yield put(without, 69, 3, 1)
     yield without + b"\4\0\7\0" + twos((200, 200))
+
+
+def orders():
+    """A section with the order of the phases: every order and every wrong one of three phases, cut before each byte, of another length,
+    behind it more bytes, and beside early cut-off times; each phase of seven at each place, and a phase twice at sites of any size."""
+    for order in range(64):
+        yield three_phases((order & 3, order >> 2 & 3, order >> 4))
+    first, both = three_phases(), three_phases(early=(1, 2, 3))
+    for data in (first, both):
+        yield from (data[:size] for size in range(88, len(data) + 1))
+        yield from (data + more for more in (b"\1", data[heads(data)[-1]:], section(7, twos((1, 2, 3))), data[heads(data)[5]:]))
+        yield put(data, 53, EARLY_CUT_OFF, 1)
+        yield put(put(data, 53, EARLY_CUT_OFF, 1), len(data) - 1, 2, 1)
+    for length in (0, 1, 2, 4, 5, 6, 255, 256, 259):
+        yield first[:88] + section(9, bytes(range(3)).ljust(length, b"\0")[:length])
+    yield first + section(7, twos((1, 2, 3)))
+    yield put(first, 53, EARLY_CUT_OFF, 1) + section(7, twos((1, 2, 3)))
+    yield from each_byte(both, (0, 2, 9, 255))
+    big, rng = largest(), random.Random(9)
+    yield from (put(big, at, phase, 1) for at in range(len(big) - 7, len(big)) for phase in range(8))
+    sites = [random_site(rng) for _ in range(30)]
+    yield from (site[:-1] + site[-2:-1] for site in sites if number(site, heads(site)[-1] + 2, 2) == 9)
+
+
+def silenced(data, phase):
+    """The bytes with the detectors of a phase that only extend, or do nothing."""
+    head = heads(data)[4]
+    for at in range(head + 4, head + 4 + number(data, head, 2), 2):
+        if data[at] == phase:
+            data = put(data, at + 1, data[at + 1] & 4, 1)
+    return data
+
+
+def uncalled():
+    """A phase that nobody can call: every mode of both detectors of the junction, no detectors, calls by pedestrian groups; before mark 3
+    without times and bytes left over; each phase of sites of any size without its calls."""
+    row = (0, 20, 30, 5, 30, 10)
+    modes = (0, 1, 2, 4, 5, 6)
+    yield from (put(put(junction(), 61, a, 1), 63, b, 1) for a in modes for b in modes)
+    for detectors in ([], [(0, 1)], [(1, 1)], [(0, 4), (1, 5)]):
+        for groups, walks in (([(3, 0)], 0), ([(3, 0), (1, 2)], 1), ([(3, 0), (2, 2)], 1), ([(1, 2), (2, 2)], 2)):
+            yield build(10, [row] * 2, groups, set(), detectors, [(10, 1, 1)] * walks)
+    yield put(turning_arrow(None), 69, 4, 1) + b"\0"
+    yield put(turning_arrow(), 69, 4, 1) + b"\0"
+    yield put(three_phases((0, 0, 0)), 83, 4, 1)
+    rng = random.Random(21)
+    for _ in range(20):
+        site = random_site(rng)
+        yield from (silenced(site, phase) for phase in range(site[4]))
 
 
 def damaged(rng, data):
@@ -139,6 +190,8 @@ def vectors():
         yield from refusals(data)
     yield from groups_refused()
     yield from early_cut_offs()
+    yield from orders()
+    yield from uncalled()
     for _ in range(100):
         site = random_site(rng)
         yield site

@@ -70,7 +70,7 @@ class Reader:
 
     def group_records(self):
         head, _ = self.head(3, lambda n: n == 2 * self.groups)
-        self.sets, self.early, pedestrians = [], [], 0
+        self.sets, self.early, self.called, pedestrians = [], [], 0, 0
         for g in range(self.groups):
             at = head + 4 + 2 * g
             members, mark = self.data[at], self.data[at + 1]
@@ -81,6 +81,7 @@ class Reader:
                 pedestrians += 1
                 if pedestrians == 9:
                     raise Refusal(7, at)
+                self.called |= members
             if mark == EARLY_CUT_OFF:
                 self.early.append(at)
             self.sets.append(members)
@@ -104,9 +105,12 @@ class Reader:
 
     def detector_records(self):
         head, length = self.head(5, lambda n: n % 2 == 0 and n <= 96)
+        self.detectors_head = head
         for at in range(head + 4, head + 4 + length, 2):
             if self.data[at] >= self.phases or self.data[at + 1] not in (0, 1, 2, 4, 5, 6):
                 raise Refusal(11, at)
+            if self.data[at + 1] in (1, 2, 5, 6):
+                self.called |= 1 << self.data[at]
 
     def pedestrian_records(self):
         head, _ = self.head(6, lambda n: n == 6 * self.pedestrians)
@@ -121,8 +125,16 @@ class Reader:
             for at in range(head + 4, head + 4 + length, 2):
                 self.time(at, "E")
 
+    def order(self):
+        if self.begins(9):
+            head, length = self.head(9, lambda n: n == self.phases)
+            if sorted(self.data[head + 4:head + 4 + length]) != list(range(self.phases)):
+                raise Refusal(18, head)
+
     def whole(self):
         """What is checked after all sections."""
+        if self.called != (1 << self.phases) - 1:
+            raise Refusal(21, self.detectors_head)
         if self.early and not self.times:
             raise Refusal(17, self.early[0])
 
@@ -136,7 +148,7 @@ def verdict(data):
     reader = Reader(data)
     try:
         for part in (reader.site, reader.phase_records, reader.group_records, reader.conflict_records,
-                     reader.detector_records, reader.pedestrian_records, reader.early_cut_offs, reader.whole,
+                     reader.detector_records, reader.pedestrian_records, reader.early_cut_offs, reader.order, reader.whole,
                      reader.leftover):
             part()
     except Refusal as refusal:
@@ -154,9 +166,9 @@ def twos(values):
     return b"".join(v.to_bytes(2, "little") for v in values)
 
 
-def build(start, phases, groups, conflicts, detectors, walks, early=None):
+def build(start, phases, groups, conflicts, detectors, walks, early=None, order=None):
     """phases: rows of six times; groups, detectors: pairs; conflicts: a set of pairs of groups; walks: rows of three times; early: a
-    time for each phase, or none where there is no such section."""
+    time for each phase; order: the phases as they run. Of the last two, none where there is no such section."""
     rows = [0] * len(groups)
     for g, j in conflicts:
         rows[g] |= 1 << j
@@ -167,7 +179,8 @@ def build(start, phases, groups, conflicts, detectors, walks, early=None):
             + section(4, b"".join(row.to_bytes(4, "little") for row in rows))
             + section(5, bytes(v for pair in detectors for v in pair))
             + section(6, b"".join(twos(row) for row in walks))
-            + (b"" if early is None else section(7, twos(early))))
+            + (b"" if early is None else section(7, twos(early)))
+            + (b"" if order is None else section(9, bytes(order))))
 
 
 def junction():
@@ -183,16 +196,33 @@ def turning_arrow(early=(20, 0)):
     return build(10, [row, row], groups, {(0, 2), (1, 2)}, [(0, 6), (1, 6)], [], early)
 
 
+def three_phases(order=(0, 2, 1), early=None):
+    """Three phases in conflict, each as in the junction of two phases, in an order of their own."""
+    groups = [(1, VEHICLE), (2, VEHICLE), (4, VEHICLE)]
+    return build(10, [(0, 20, 30, 5, 30, 10)] * 3, groups, conflicts_of(groups), [(0, 6), (1, 6), (2, 6)], [], early, order)
+
+
 def conflicts_of(groups):
     """Every pair of groups that shares no phase."""
     return {(g, j) for g in range(len(groups)) for j in range(g) if not groups[g][0] & groups[j][0]}
 
 
 def largest():
-    """7 phases, 32 groups, 48 detectors, 8 movements, early cut-offs, every setting the highest."""
+    """7 phases, 32 groups, 48 detectors, 8 movements, early cut-offs, an order, every setting the highest."""
     groups = [(1 << g % 7, PEDESTRIAN if g < 8 else (VEHICLE, LATE_START, EARLY_CUT_OFF)[g % 3]) for g in range(32)]
     return build(150, [(200, 400, 1500, 100, 100, 150)] * 7, groups, conflicts_of(groups),
-                 [(d % 7, (0, 1, 2, 4, 5, 6)[d % 6]) for d in range(48)], [(400, 400, 400)] * 8, [200] * 7)
+                 [(d % 7, (0, 1, 2, 4, 5, 6)[d % 6]) for d in range(48)], [(400, 400, 400)] * 8, [200] * 7,
+                 (6, 4, 2, 0, 5, 3, 1))
+
+
+def called(groups, detectors):
+    """The phases that have a calling detector or a pedestrian group."""
+    phases = 0
+    for members, mark in groups:
+        phases |= members if mark == PEDESTRIAN else 0
+    for phase, mode in detectors:
+        phases |= 1 << phase if mode in (1, 2, 5, 6) else 0
+    return phases
 
 
 def random_site(rng):
@@ -217,8 +247,11 @@ def random_site(rng):
             return random_site(rng)
         groups[vehicle] = (groups[vehicle][0] | missing, groups[vehicle][1])
     conflicts = {pair for pair in conflicts_of(groups) if rng.random() < 0.6}
+    detectors = [(rng.randrange(phases), rng.choice((0, 1, 2, 4, 5, 6))) for _ in range(rng.randint(0, 41))]
+    detectors += [(p, rng.choice((1, 2, 5, 6))) for p in range(phases) if not called(groups, detectors) >> p & 1]
     draw = lambda name: rng.choice((RANGES[name][0], RANGES[name][1], rng.randint(*RANGES[name])))
     return build(draw("start"), [tuple(draw(n) for n in PHASE_FIELDS) for _ in range(phases)], groups, conflicts,
-                 [(rng.randrange(phases), rng.choice((0, 1, 2, 4, 5, 6))) for _ in range(rng.randint(0, 48))],
+                 detectors,
                  [tuple(draw(n) for n in WALK_FIELDS) for _ in range(pedestrians)],
-                 [draw("E") for _ in range(phases)] if closing_early else None)
+                 [draw("E") for _ in range(phases)] if closing_early else None,
+                 rng.sample(range(phases), phases) if rng.random() < 0.5 else None)

@@ -1,11 +1,11 @@
 -- Every accepted personality holds a sound site: each fact that acceptance tells of the bytes is carried to the site's entries, and
 -- past the counts the entries are blank. The one phase of a movement is the one bit that its group's set is counted to have.
-use Prim.Native.Nat.{ℕ, _+_, _≤_, _<_}
+use Prim.Native.Nat.{ℕ, _+_, _%_, _≤_, _<_}
 use mathlib.Core.Bool.{Bool, true, false}
 use mathlib.Core.List.{List}
-use mathlib.Core.Logic.{⊎-elim}
+use mathlib.Core.Logic.{inl, inr, ⊎-elim}
 use mathlib.Core.Path.{_≡_, refl, sym, subst, ap, _∙_}
-use borrow.Author.Tests.{eqb-true, eq-eqb}
+use borrow.Author.Tests.{eqb-true, eqb-false, eq-eqb, not-true}
 use lib.Dec.{eqb}
 use lib.ListN.{getD}
 use native.Mathlib.Nat.{add-zero}
@@ -13,14 +13,14 @@ use native.Mathlib.Omega.{arith}
 use Rattle.rules.specs.declared.site.Detector.{Detector}
 use Rattle.rules.specs.declared.site.Group.{Group}
 use Rattle.rules.specs.declared.site.PhaseTimes.{PhaseTimes}
-use Rattle.rules.specs.Rows.{countOf, indicesOf}
+use Rattle.rules.specs.Rows.{anyOf, countOf, indicesOf}
 use Rattle.rules.specs.Bytes.{twoAt, bit}
 use Rattle.rules.specs.Limits.{limits, limitOf, phaseSettings, walkSettings, earlySetting}
-use Rattle.rules.specs.Personality.{recordAt, phasesHead, pedestriansHead, phaseCount, groupCount, movementCount, groupSet, groupMark, conflictSet, detectorPhase, knownMode, pedestrian, pedestriansBefore, hasEarly, hasOrder}
+use Rattle.rules.specs.Personality.{recordAt, phasesHead, pedestriansHead, phaseCount, groupCount, detectorCount, movementCount, groupSet, groupMark, conflictSet, detectorPhase, knownMode, pedestrian, pedestriansBefore, hasEarly, hasOrder, callsPhase, walksPhase}
 use Rattle.rules.specs.Site.{earlyTimeAt, phaseTimesAt, walkTimesAt, timesIn, crossingAt, orderIn, siteOf, groupOf, phaseTimes, inPhase, crosses, isPedestrian, movementOf, conflict}
-use Rattle.rules.specs.Laws.{InTable, PhaseTimesIn, WalkTimesIn, TimesIn, OnePhase, Sound, AcceptedIsSound, AcceptedIsInTable}
-use Rattle.rules.proofs.Tests.{decided, never-both}
-use Rattle.rules.proofs.Rows.{IthPassing, indices-at}
+use Rattle.rules.specs.Laws.{InTable, PhaseTimesIn, WalkTimesIn, TimesIn, OnePhase, Caller, Sound, AcceptedIsSound, AcceptedIsInTable}
+use Rattle.rules.proofs.Tests.{decided, never-both, and-left, and-right, or-cases}
+use Rattle.rules.proofs.Rows.{IthPassing, any-found, indices-at}
 use Rattle.rules.proofs.Counts.{below-or-past, passes-below, count-before, count-apart, count-same, count-within, count-one}
 use Rattle.rules.proofs.Bits.{bit-below}
 use Rattle.rules.proofs.Settings.{table-is-usable}
@@ -206,6 +206,35 @@ crossing-of-group b g l e p =
     in
     crosses-at b k p m ∙ ap (λ (x : ℕ). bit p (groupSet b x)) same ∙ sym (in-phase-at b g p l)
 
+-- ── Callers ──
+
+caller : (b : List ℕ) → SectionsAccepted b → (p : ℕ) → p < phaseCount b → Caller (siteOf b) p
+unfolding callsPhase walksPhase siteOf
+caller b s p l =
+    ⊎-elim
+    (λ (some : anyOf (callsPhase b p) (detectorCount b) ≡ true).
+    let found = any-found _ _ some in
+    let d = found .0 in
+    let at = detector-at b d (found .1) in
+    let calls = eqb (detectorPhase b d) p in
+    inl (
+      d,
+      found .1,
+      ap (λ (x : Detector). x .phase) at ∙ eqb-true _ _ (and-left calls _ (found .2)),
+      λ none.
+          eqb-false _ _ (not-true _ (and-right calls _ (found .2))) (sym (ap (λ (x : Detector). x .mode % 4) at) ∙ none),
+    ))
+    (λ (some : anyOf (walksPhase b p) (groupCount b) ≡ true).
+    let found = any-found _ _ some in
+    let g = found .0 in
+    let walks = pedestrian-at b g (found .1) ∙ and-left (pedestrian b g) _ (found .2) in
+    inr (
+      movementOf (siteOf b .groups) g,
+      movement-of-group b g (found .1) walks,
+      crossing-of-group b g (found .1) walks p ∙ in-phase-at b g p (found .1) ∙ and-right (pedestrian b g) _ (found .2),
+    ))
+    (or-cases _ _ (s .called p l))
+
 -- ── Conflicts ──
 
 conflict-groups :
@@ -265,6 +294,7 @@ sound b s =
       detectorPhase =
           λ d l. subst (λ (x : Detector). x .phase < phaseCount b) (sym (detector-at b d l)) (s .detectors .phase d l);
       detectorMode = λ d l. subst (λ (x : Detector). knownMode (x .mode) ≡ true) (sym (detector-at b d l)) (s .detectors .mode d l);
+      caller = caller b s;
       crossing = one-phase b (s .groups);
       noCrossing = crosses-past b;
       movementOfGroup = movement-of-group b;

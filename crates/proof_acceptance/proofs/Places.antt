@@ -1,7 +1,7 @@
 -- Every refusal has a number of one byte that is not 0, and a place that is no further on than the longest personality goes, so that both
 -- fit one answer beside each other: the walk over the checks, for a step call and a lookup too.
 use Prim.Native.Nat.{ℕ, _≤_, _<_}
-use mathlib.Core.Bool.{true, _&&_, _||_}
+use mathlib.Core.Bool.{Bool, true, _&&_, _||_}
 use mathlib.Core.List.{List}
 use mathlib.Core.Logic.{⊎-elim}
 use mathlib.Core.Path.{_≡_}
@@ -25,16 +25,22 @@ in-range low high number known = (
   leb-true number high (and-right (leb low number) (leb number high) known),
 )
 
+-- one number more
+or-fits :
+    (test : Bool) (n number : ℕ) →
+    (test ≡ true → (1 ≤ number) × (number < 256)) →
+    (1 ≤ n) × (n < 256) →
+    (test || eqb number n) ≡ true →
+    (1 ≤ number) × (number < 256)
+or-fits test n number others own known = ⊎-elim others (λ e. omega (arith, own, eqb-true number n e)) (or-cases test (eqb number n) known)
+
 reading-fits : (number : ℕ) → readingNumber number ≡ true → (1 ≤ number) × (number < 256)
-reading-fits number known =
-    ⊎-elim
-    (λ (others : ((leb 1 number && leb number 12) || eqb number 17) ≡ true).
-    ⊎-elim
-    (λ (sections : (leb 1 number && leb number 12) ≡ true). omega (arith, in-range 1 12 number sections))
-    (λ (missing : eqb number 17 ≡ true). omega (arith, eqb-true number 17 missing))
-    (or-cases _ _ others))
-    (λ (order : eqb number 18 ≡ true). omega (arith, eqb-true number 18 order))
-    (or-cases _ _ known)
+reading-fits number =
+    or-fits _ 21 number
+    (or-fits _ 18 number
+    (or-fits _ 17 number (λ (sections : (leb 1 number && leb number 12) ≡ true). omega (arith, in-range 1 12 number sections)) (omega arith))
+    (omega arith))
+    (omega arith)
 
 step-fits : (number : ℕ) → stepNumber number ≡ true → (1 ≤ number) × (number < 256)
 step-fits number known = omega (arith, in-range 13 15 number known)

@@ -15,7 +15,7 @@ use Rattle.rules.specs.declared.state.KeptState.{KeptState}
 use Rattle.rules.specs.Limits.{phaseSettings, walkSettings}
 use Rattle.rules.specs.Rows.{if_then_else_}
 use Rattle.rules.specs.Verdicts.{_orElse_, refuseIf, firstOf}
-use Rattle.rules.specs.Personality.{bodyAt, bodyLength, recordAt, phaseCount, groupCount, siteHead, phasesHead, groupsHead, conflictsHead, detectorsHead, pedestriansHead, movementCount, detectorCount, pastSection, earlyHead, hasEarly, orderHead, hasOrder, endOf, sectionAt, timeAt, timesAt, siteSection, phasesSection, groupRecord, groupsSection, conflictsSection, detectorsSection, pedestriansSection, earlySection, orderSection, earlyMissing, afterPedestrians, verdictOf}
+use Rattle.rules.specs.Personality.{bodyAt, bodyLength, recordAt, phaseCount, groupCount, siteHead, phasesHead, groupsHead, conflictsHead, detectorsHead, pedestriansHead, movementCount, detectorCount, pastSection, earlyHead, hasEarly, orderHead, hasOrder, endOf, sectionAt, timeAt, timesAt, siteSection, phasesSection, groupRecord, groupsSection, conflictsSection, detectorsSection, pedestriansSection, earlySection, orderSection, phaseWithoutCaller, earlyMissing, afterPedestrians, verdictOf}
 use Rattle.rules.specs.Call.{stepVerdict, callVerdict}
 use Rattle.rules.specs.Laws.{readingNumber, stepNumber, sectionLength, greatestLength, AcceptedIsShort, PlaceIn, Written, RefusalIsWritten}
 use Rattle.rules.proofs.Verdicts.{refused-not-accepted, or-refused, refuse-failed, first-refused}
@@ -196,6 +196,10 @@ module _
               (records (earlyHead b) 7 (phaseCount b) 2 _ (omega arith) (omega arith)
               (λ body. each _ (earlyHead b) (phaseCount b) 2 body (λ p m. check _ 5 _ refl (omega arith))))
 
+          callers : Refusals Allowed (refuseIf (phaseWithoutCaller b) 21 (detectorsHead b))
+          unfolding pedestriansHead bodyAt
+          callers = check _ 21 (detectorsHead b) refl (omega (arith, end-near b counts few (short .short), short .next))
+
           missing : Refusals Allowed (earlyMissing b)
           unfolding earlyMissing conflictsHead groupsHead bodyAt
           missing = each _ (groupsHead b) (groupCount b) 2 (omega arith) (λ g m. check _ 17 _ refl (omega arith))
@@ -220,7 +224,8 @@ module _
               (λ e.
               let timed = early-accepted b e in
               or-refusals Allowed _ _ (order timed)
-              (λ f. or-refusals Allowed _ _ missing (λ g. check _ 12 (endOf b) refl (end timed (order-accepted b f)))))
+              (λ f. or-refusals Allowed _ _ callers
+              (λ g. or-refusals Allowed _ _ missing (λ h. check _ 12 (endOf b) refl (end timed (order-accepted b f))))))
 
     pub personality-refusals : Refusals Allowed (verdictOf b)
     unfolding verdictOf

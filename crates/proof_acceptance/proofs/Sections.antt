@@ -14,7 +14,7 @@ use Rattle.rules.specs.Rows.{anyOf, countOf}
 use Rattle.rules.specs.Bytes.{twoAt, bit}
 use Rattle.rules.specs.Limits.{limits, within, startRedSetting, phaseSettings, walkSettings, earlySetting}
 use Rattle.rules.specs.Verdicts.{firstOf}
-use Rattle.rules.specs.Personality.{bodyLength, bodyAt, pastSection, recordAt, phaseCount, groupCount, siteHead, phasesHead, groupsHead, conflictsHead, detectorsHead, pedestriansHead, groupSet, groupMark, pedestrian, pedestriansBefore, movementCount, conflictSet, detectorCount, detectorPhase, sectionAt, timeAt, timesAt, siteSection, phasesSection, badGroup, ninthPedestrian, groupRecord, phaseWithoutGroup, groupsSection, badConflict, sharePhase, conflictInPhase, conflictsSection, badDetector, detectorsSection, pedestriansSection, earlyHead, hasEarly, earlySection, orderHead, hasOrder, orderAt, phaseNotOnce, orderSection, stopsEarly, earlyMissing, afterPedestrians, endOf, verdictOf, detectorMode, knownMode}
+use Rattle.rules.specs.Personality.{bodyLength, bodyAt, pastSection, recordAt, phaseCount, groupCount, siteHead, phasesHead, groupsHead, conflictsHead, detectorsHead, pedestriansHead, groupSet, groupMark, pedestrian, pedestriansBefore, movementCount, conflictSet, detectorCount, detectorPhase, sectionAt, timeAt, timesAt, siteSection, phasesSection, badGroup, ninthPedestrian, groupRecord, phaseWithoutGroup, groupsSection, badConflict, sharePhase, conflictInPhase, conflictsSection, badDetector, detectorsSection, pedestriansSection, earlyHead, hasEarly, earlySection, orderHead, hasOrder, orderAt, phaseNotOnce, orderSection, callsPhase, walksPhase, phaseWithoutCaller, stopsEarly, earlyMissing, afterPedestrians, endOf, verdictOf, detectorMode, knownMode}
 use Rattle.rules.specs.Laws.{InTable}
 use Rattle.rules.proofs.Tests.{and-left, and-right, or-false-left, or-false-right, never-both}
 use Rattle.rules.proofs.Rows.{any-false, any-found}
@@ -287,11 +287,12 @@ pub record SectionsAccepted (b : List ℕ) : Type 0 where
   pub pedestrians : PedestriansAccepted b
   pub early : hasEarly b ≡ true → EarlyAccepted b
   pub order : hasOrder b ≡ true → OrderAccepted b
+  pub called : (p : ℕ) → p < phaseCount b → (anyOf (callsPhase b p) (detectorCount b) || anyOf (walksPhase b p) (groupCount b)) ≡ true
   pub noneEarly : hasEarly b ≡ false → (g : ℕ) → g < groupCount b → groupMark b g ≡ 3 → ⊥
   pub last : length b ≤ endOf b
 
 pub sections-accepted : (b : List ℕ) → verdictOf b ≡ Accepted → SectionsAccepted b
-unfolding verdictOf afterPedestrians earlyMissing stopsEarly
+unfolding verdictOf afterPedestrians phaseWithoutCaller earlyMissing stopsEarly
 sections-accepted b h =
     let fromPhases = or-later _ _ h in
     let fromGroups = or-later _ _ fromPhases in
@@ -300,7 +301,8 @@ sections-accepted b h =
     let fromPedestrians = or-later _ _ fromDetectors in
     let fromEarly = or-later _ _ fromPedestrians in
     let fromOrder = or-later _ _ fromEarly in
-    let fromMissing = or-later _ _ fromOrder in
+    let fromCallers = or-later _ _ fromOrder in
+    let fromMissing = or-later _ _ fromCallers in
     record {
       site = site-accepted b (or-first _ _ h);
       phases = phases-accepted b (or-first _ _ fromPhases);
@@ -310,6 +312,7 @@ sections-accepted b h =
       pedestrians = pedestrians-accepted b (or-first _ _ fromPedestrians);
       early = early-accepted b (or-first _ _ fromEarly);
       order = order-accepted b (or-first _ _ fromOrder);
+      called = λ p l. not-false _ (any-false _ _ p (refuse-passed _ _ _ (or-first _ _ fromCallers)) l);
       noneEarly = λ missing g l mark.
           never-both
           (not-false _ (joined-failed _ (refuse-passed _ _ _ (first-each _ _ g (or-first _ _ fromMissing) l)) (eq-eqb _ _ mark)))

@@ -30,7 +30,8 @@ crossings clearance =
     (1 ∷ 5 ∷ [])
     (walk ++ walk)
 
--- A, B and C: group 0, with a mark that is given, is of A and C, group 1 of B; detector 0 is of B, detector 1 of C
+-- A, B and C: group 0, with a mark that is given, is of A and C, group 1 of B; detector 0 is of B, detector 1 of C,
+-- detector 2 of A
 unfoldable pub shared : ℕ → List ℕ
 shared mark =
     sections
@@ -38,7 +39,7 @@ shared mark =
     (shortPhase ++ shortPhase ++ shortPhase)
     (5 ∷ mark ∷ 2 ∷ 0 ∷ [])
     (fours (2 ∷ 1 ∷ []))
-    (1 ∷ 6 ∷ 2 ∷ 6 ∷ [])
+    (1 ∷ 6 ∷ 2 ∷ 6 ∷ 0 ∷ 6 ∷ [])
     []
 
 -- the same, where group 0 stops early: A has an early cut-off green as long as its yellow

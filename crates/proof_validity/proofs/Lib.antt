@@ -6,3 +6,4 @@ pub mod Movements
 pub mod Walks
 pub mod Validity
 pub mod Fresh
+pub mod Callers

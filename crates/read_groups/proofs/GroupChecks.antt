@@ -29,6 +29,7 @@ refused-told b e q =
     record {
       verdict = e ∙ q;
       movements = λ accepted. absurd (refused-not-accepted (q ∙ accepted));
+      walked = λ accepted. absurd (refused-not-accepted (q ∙ accepted));
       early = λ accepted. absurd (refused-not-accepted (q ∙ accepted));
     }
 
@@ -38,6 +39,7 @@ told-next b e passed told =
     record {
       verdict = or-next e passed (told .verdict);
       movements = λ accepted. told .movements (or-later _ _ accepted);
+      walked = λ accepted. told .walked (or-later _ _ accepted);
       early = λ accepted. told .early (or-later _ _ accepted);
     }
 

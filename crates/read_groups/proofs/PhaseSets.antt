@@ -1,7 +1,7 @@
 -- Phase sets as numbers. A set below 2 ^ P has as many phases as its number has ones, and has them all exactly where it is one less than
 -- 2 ^ P. So a record is bad by its two bytes, and the union of the sets tells whether a phase is in none.
 use Prim.Native.Nat.{ℕ, zero, suc, _+_, _-_, _/_, _%_, _^_, _<_, min}
-use mathlib.Core.Bool.{true, false, not, _&&_, _||_}
+use mathlib.Core.Bool.{true, false, not, _&&_, _||_, or-false}
 use mathlib.Core.List.{List}
 use mathlib.Core.Logic.{⊎-elim}
 use mathlib.Core.Path.{_≡_, refl, sym, ap, _∙_}
@@ -15,7 +15,7 @@ use lib.Dec.{leb, ltb, eqb}
 use lib.Pow.{pow-pos}
 use borrow.Author.Tests.{leb-true, leb-false, le-leb, lt-leb, not-false}
 use Rattle.rules.specs.Bytes.{bit}
-use Rattle.rules.specs.Personality.{phaseCount, groupCount, groupSet, groupMark, pedestrian, badGroup, phaseWithoutGroup}
+use Rattle.rules.specs.Personality.{phaseCount, groupCount, groupSet, groupMark, pedestrian, badGroup, phaseWithoutGroup, walksPhase}
 use Rattle.rules.specs.Rows.{if_then_else_, anyOf, countOf}
 use Rattle.rules.proofs.Bits.{bit-blank}
 use Rattle.rules.proofs.Rows.{any-none, any-false}
@@ -24,6 +24,7 @@ use Rattle.base_reads.proofs.Common.{same-bits}
 use Rattle.base_reads.proofs.Parity.{odd-bit}
 use Rattle.base_reads.proofs.Shifts.{half-bit}
 use Rattle.base_reads.proofs.Union.{bit-or}
+use Rattle.read_groups.specs.Told.{Walked}
 
 -- ── How many phases a set has ──
 
@@ -94,6 +95,11 @@ module _ (b : List ℕ) where
   unfolding anyOf
   gathered-none = (omega arith, pow-pos (phaseCount b), bit-blank)
 
+  -- the set of a group that is not bad
+  set-within : (g : ℕ) → badGroup b g ≡ false → groupSet b g < 2 ^ phaseCount b
+  unfolding badGroup
+  set-within g good = leb-false _ _ (or-false-left _ _ (or-false-left _ _ good))
+
   pub gathered-more :
       (served g : ℕ) {set : ℕ} →
       set < 256 →
@@ -101,13 +107,31 @@ module _ (b : List ℕ) where
       badGroup b g ≡ false →
       Gathered served g →
       Gathered (bitOr served set) (g + 1)
-  unfolding anyOf badGroup
+  unfolding anyOf
   gathered-more served g {set} h e good gathered = (
     or-lt 8 served set (gathered .0) h,
-    or-lt (phaseCount b) served set (gathered .1)
-        (rw e (leb-false _ _ (or-false-left _ _ (or-false-left _ _ good)))),
+    or-lt (phaseCount b) served set (gathered .1) (rw e (set-within g good)),
     λ p. rw (add-one g, bit-or p served set, gathered .2 p, e),
   )
+
+  -- the union of the sets of the pedestrian groups alone
+  pub walked-none : Walked b 0 0
+  unfolding anyOf
+  walked-none = record { within = pow-pos (phaseCount b); told = bit-blank }
+
+  module _ {walked g : ℕ} (gathered : Walked b walked g) where
+    pub walked-more : {set : ℕ} → set ≡ groupSet b g → badGroup b g ≡ false → pedestrian b g ≡ true → Walked b (bitOr walked set) (g + 1)
+    unfolding anyOf walksPhase
+    walked-more {set} e good walks =
+        record {
+          within = or-lt (phaseCount b) walked set (gathered .within) (rw e (set-within g good));
+          told = λ p. rw (add-one g, bit-or p walked set, gathered .told p, e, walks);
+        }
+
+    pub walked-same : pedestrian b g ≡ false → Walked b walked (g + 1)
+    unfolding anyOf walksPhase
+    walked-same vehicle =
+        record { within = gathered .within; told = λ p. gathered .told p ∙ rw (add-one g, vehicle) (sym (or-false _)) }
 
   -- the union of all is one less than the bound: no phase is without a group
   pub all-served :

@@ -34,11 +34,12 @@ fn bad_group(set: u8, mark: u8, bound: u32) -> bool
     3 < mark
 }
 
-// The verdict on the groups and, where it is acceptance, what later sections go by: how many pedestrian movements the site has, one for each
-// pedestrian group, and whether some group stops early.
+// The verdict on the groups and, where it is acceptance, what later checks go by: how many pedestrian movements the site has, one for each
+// pedestrian group, the phases of these groups as a set, and whether some group stops early.
 pub struct Groups {
     pub verdict: Verdict,
     pub movements: usize,
+    pub walked: u8,
     pub early: bool,
 }
 
@@ -48,6 +49,7 @@ fn refused(verdict: Verdict) -> Groups
     Groups {
         verdict,
         movements: 0,
+        walked: 0,
         early: false,
     }
 }
@@ -63,6 +65,7 @@ fn group_records(s: &[u8], layout: Layout) -> Groups
     let head = layout.groups;
     let count = layout.n as usize;
     let mut movements: usize = 0;
+    let mut walked: u8 = 0;
     let mut early = false;
     let mut served: u8 = 0;
     let mut g: usize = 0;
@@ -79,6 +82,7 @@ fn group_records(s: &[u8], layout: Layout) -> Groups
                 return refused(Verdict::Refused { number: 7, place });
             }
             movements += 1;
+            walked = walked | set;
         }
         early = early | (mark == 3);
         served = served | set;
@@ -88,6 +92,7 @@ fn group_records(s: &[u8], layout: Layout) -> Groups
         return Groups {
             verdict: Verdict::Accepted,
             movements,
+            walked,
             early,
         };
     }

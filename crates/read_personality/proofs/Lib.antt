@@ -3,3 +3,4 @@ pub mod Words
 pub mod GroupMarks
 pub mod Seventh
 pub mod Ninth
+pub mod Called

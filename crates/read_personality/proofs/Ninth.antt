@@ -27,6 +27,10 @@ use Rattle.base_reads.proofs.Lowest.{bit-one}
 use Rattle.base_reads.proofs.Union.{bit-or}
 use Rattle.read_groups.proofs.PhaseSets.{full-each, all-full}
 
+-- one bit of a byte
+pub shifted : (k : ℕ) → k ≤ 7 → 1 * 2 ^ k % 2 ^ 8 ≡ 1 * 2 ^ k
+shifted k l = shl-exact 1 k 8 (omega arith) (omega arith)
+
 -- ── As many entries as phases ──
 
 -- an entry counts for one phase at most
@@ -114,9 +118,6 @@ module _ (b : List ℕ) where
   listed-none = record { within = pow-pos (phaseCount b); told = λ q l. bit-blank q }
 
   module _ (few : phaseCount b ≤ 7) where
-    pub shifted : (k : ℕ) → k ≤ 7 → 1 * 2 ^ k % 2 ^ 8 ≡ 1 * 2 ^ k
-    shifted k l = shl-exact 1 k 8 (omega arith) (omega arith)
-
     module _ {set i phase : ℕ} (listed : Listed b set i) (read : phase ≡ orderAt b i) where
       pub listed-more : phase < phaseCount b → Listed b (bitOr set (1 * 2 ^ phase % 2 ^ 8)) (i + 1)
       unfolding anyOf

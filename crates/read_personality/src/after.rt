@@ -1,12 +1,15 @@
-// What may follow kind 6: kinds 7 and 9 where they are there; then 17, a group that stops early without kind 7; then 12, bytes left over.
+// What follows kind 6: kinds 7 and 9 where they are there; then 21, a phase without a caller; then 17, a group that stops early without kind 7;
+// then 12, bytes left over.
 ghost use mathlib.Core.Path.{_≡_};
 ghost use lib.Dec.{ltb};
 ghost use lib.ListN.{length};
 ghost use Rattle.rules.specs.declared.answer.Verdict.the-variants.{Accepted};
 ghost use Rattle.rules.specs.Rows.{anyOf};
 ghost use Rattle.rules.specs.Verdicts.{refuseIf};
-ghost use Rattle.rules.specs.Personality.{groupCount, siteSection, groupsSection, stopsEarly, earlySection, earlyMissing, afterPedestrians};
+ghost use Rattle.rules.specs.Personality.{groupCount, siteSection, groupsSection, detectorsSection, stopsEarly, earlySection, earlyMissing, afterPedestrians};
+ghost use Rattle.read_groups.specs.Told.{Walked};
 ghost use Rattle.read_sections.specs.Laid.{Laid};
+use crate::callers::each_called;
 use crate::order::order_section;
 use read_sections::layout::Layout;
 use read_sections::layout::past;
@@ -60,9 +63,10 @@ fn left_over(s: &[u8], place: usize) -> Verdict
     Verdict::Accepted
 }
 
-// All of them. Kinds 1 and 3 have been accepted, so there are at most 7 phases, and the marks of the groups are known.
-pub fn after_pedestrians(s: &[u8], layout: Layout, early: bool) -> Verdict
+// All of them. Kinds 1, 3 and 5 have been accepted, so there are at most 7 phases, and what the groups' marks say is known.
+pub fn after_pedestrians(s: &[u8], layout: Layout, walked: u8, early: bool) -> Verdict
     requires { ⌜ Laid (now s) layout × (siteSection (now s) ≡ Accepted) × (groupsSection (now s) ≡ Accepted)
+        × (detectorsSection (now s) ≡ Accepted) × Walked (now s) walked (groupCount (now s))
         × (early ≡ anyOf (stopsEarly (now s)) (groupCount (now s))) ⌝ }
     ensures { λ r. ⌜ r ≡ afterPedestrians (now (s .entry)) ⌝ }
 {
@@ -73,6 +77,12 @@ pub fn after_pedestrians(s: &[u8], layout: Layout, early: bool) -> Verdict
     let order = order_section(s, layout);
     if let Verdict::Refused { .. } = order {
         return order;
+    }
+    if !each_called(s, layout, walked) {
+        return Verdict::Refused {
+            number: 21,
+            place: layout.detectors,
+        };
     }
     let missing = early_missing(s, layout, early);
     if let Verdict::Refused { .. } = missing {

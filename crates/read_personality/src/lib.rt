@@ -3,6 +3,7 @@ ghost use mathlib.Core.Path.{_≡_};
 ghost use Rattle.rules.specs.Personality.{verdictOf};
 
 mod after;
+mod callers;
 mod detectors;
 mod order;
 mod pedestrians;
@@ -47,5 +48,5 @@ pub fn read(personality: &[u8]) -> Verdict
     if let Verdict::Refused { .. } = pedestrians {
         return pedestrians;
     }
-    after_pedestrians(personality, layout, groups.early)
+    after_pedestrians(personality, layout, groups.walked, groups.early)
 }

@@ -363,10 +363,28 @@ inOrder =
     ∷ reading (turning ++ ordered (1 ∷ 0 ∷ [])) (Refused 17 42)
     ∷ []
 
+-- ── Request seven: a phase nobody can call ──
+
+unfoldable pub callers : List Case
+callers =
+    -- a detector that only extends, or does nothing, calls no phase
+    reading (set junction 63 4) (Refused 21 56)
+    ∷ reading (set junction 63 0) (Refused 21 56)
+    ∷ reading (set junction 63 1) Accepted
+    ∷ reading (set junction 63 5) Accepted
+    -- a pedestrian group calls its phase
+    ∷ reading (set crossing 67 4) Accepted
+    -- after all sections 21 comes before 17, and 17 before 12
+    ∷ reading (set turning 69 4) (Refused 21 62)
+    ∷ reading (set turning 69 4 ++ (1 ∷ [])) (Refused 21 62)
+    ∷ reading (turning ++ (1 ∷ [])) (Refused 17 42)
+    ∷ reading (set turning 69 4 ++ cutOffs (201 ∷ 0 ∷ [])) (Refused 5 78)
+    ∷ []
+
 -- ── The list and its statement ──
 
 unfoldable pub cases : List Case
-cases = starred ++ ours ++ early ++ keeping ++ resting ++ inOrder
+cases = starred ++ ours ++ early ++ keeping ++ resting ++ inOrder ++ callers
 
 abbrev pub AllHold : List Case → Type 0
 AllHold [] = Unit {0}

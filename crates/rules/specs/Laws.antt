@@ -1,7 +1,7 @@
 -- Laws that show the rules fit together, stated: what a table of limits has to give, what acceptance tells of a site, which refusals
--- there are, how large a wait bound can be, what the buffer holds at each point of the pass over the groups, and that steps lead from valid
--- states to valid states.
-use Prim.Native.Nat.{ℕ, _+_, _*_, _≤_, _<_}
+-- there are, how large a wait bound can be, what the buffer holds at each point of the pass over the groups, that every phase can be
+-- called, and that steps lead from valid states to valid states.
+use Prim.Native.Nat.{ℕ, _+_, _*_, _%_, _≤_, _<_}
 use mathlib.Core.Bool.{Bool, true, false, _&&_, _||_}
 use mathlib.Core.List.{List}
 use mathlib.Core.Logic.{_⊎_}
@@ -22,6 +22,7 @@ use Rattle.rules.specs.Limits.{limits, limitOf, startRedSetting, phaseSe
 use Rattle.rules.specs.Personality.{knownMode, verdictOf}
 use Rattle.rules.specs.Site.{siteOf, groupOf, detectorOf, phaseTimes, walkTimes, inPhase, crosses, isPedestrian, movementOf, conflict}
 use Rattle.rules.specs.State.{highestAge, fresh, valid}
+use Rattle.rules.specs.Demands.{demanded}
 use Rattle.rules.specs.Step.{stepped}
 use Rattle.rules.specs.Colours.{shownIn, bufferAt}
 use Rattle.rules.specs.WaitBound.{phaseShare, waitBound}
@@ -113,6 +114,12 @@ pub record SoundTimes (size : Size) (times : Times) : Type 0 where
 abbrev pub OnePhase : Site → ℕ → Type 0
 OnePhase site k = (p : ℕ) × (p < site .size .phases) × (crosses (site .crossings) k p ≡ true) × ((q : ℕ) → crosses (site .crossings) k q ≡ true → q ≡ p)
 
+-- a detector calls the phase, with lock or without, or a movement is one of it
+abbrev pub Caller : Site → ℕ → Type 0
+Caller site p =
+    ((d : ℕ) × (d < site .size .detectors) × (detectorOf (site .detectors) d .phase ≡ p) × (detectorOf (site .detectors) d .mode % 4 ≡ 0 → ⊥))
+    ⊎ ((k : ℕ) × (k < site .size .movements) × (crosses (site .crossings) k p ≡ true))
+
 pub record Sound (site : Site) : Type 0 where
   pub phases : (2 ≤ site .size .phases) × (site .size .phases ≤ 7)
   pub groups : (1 ≤ site .size .groups) × (site .size .groups ≤ 32)
@@ -130,6 +137,7 @@ pub record Sound (site : Site) : Type 0 where
   pub phaseGroup : (p : ℕ) → p < site .size .phases → (g : ℕ) × (g < site .size .groups) × (inPhase (site .groups) g p ≡ true)
   pub detectorPhase : (d : ℕ) → d < site .size .detectors → detectorOf (site .detectors) d .phase < site .size .phases
   pub detectorMode : (d : ℕ) → d < site .size .detectors → knownMode (detectorOf (site .detectors) d .mode) ≡ true
+  pub caller : (p : ℕ) → p < site .size .phases → Caller site p
   pub crossing : (k : ℕ) → k < site .size .movements → OnePhase site k
   pub noCrossing : (k p : ℕ) → site .size .movements ≤ k → crosses (site .crossings) k p ≡ false
   -- a pedestrian group has a movement, which is of the group's phase
@@ -156,7 +164,7 @@ AcceptedIsInTable = (b : List ℕ) → verdictOf b ≡ Accepted → TimesIn limi
 
 -- the numbers of the personality's checks, and those of a step's
 abbrev pub readingNumber : ℕ → Bool
-readingNumber number = (leb 1 number && leb number 12) || eqb number 17 || eqb number 18
+readingNumber number = (leb 1 number && leb number 12) || eqb number 17 || eqb number 18 || eqb number 21
 
 abbrev pub stepNumber : ℕ → Bool
 stepNumber number = leb 13 number && leb number 15
@@ -217,6 +225,21 @@ unfoldable pub PassEndsInColours : Type 0
 PassEndsInColours =
     (site : Site) (s : State) (buffer : List ℕ) →
     bufferAt (shownIn site s) buffer (site .size .groups) ≡ bufferFor Accepted site s buffer
+
+-- ── Every phase can be called ──
+
+-- From every valid state there are inputs, none of them stray, that demand any phase other than the one of the state. (The only caller of
+-- that one may be a movement in walk.)
+unfoldable pub PhasesCanBeCalled : Type 0
+PhasesCanBeCalled =
+    (site : Site) →
+    Sound site →
+    (s : State) →
+    valid site s ≡ true →
+    (p : ℕ) →
+    p < site .size .phases →
+    (p ≡ s .position .phase → ⊥) →
+    (inputs : ℕ) × (strayInput site inputs ≡ false) × (demanded site s inputs p ≡ true)
 
 -- ── Valid states ──
 

@@ -1,4 +1,4 @@
--- The personality's sections and the order of checks: numbers 1 to 12, 17 and 18, each with its place. Places count from the first byte.
+-- The personality's sections and the order of checks: numbers 1 to 12, 17, 18 and 21, each with its place. Places count from the first byte.
 use Prim.Native.Nat.{ℕ, _+_, _*_, _/_, _%_, _^_}
 use mathlib.Core.Bool.{Bool, not, _&&_, _||_}
 use mathlib.Core.List.{List, [], _∷_}
@@ -228,6 +228,19 @@ orderSection b =
     orElse refuseIf (phaseNotOnce b) 18 (orderHead b)
     else Accepted
 
+-- detector d calls phase p, with lock or without
+unfoldable pub callsPhase : List ℕ → ℕ → ℕ → Bool
+callsPhase b p d = eqb (detectorPhase b d) p && not (eqb (detectorMode b d % 4) 0)
+
+-- group g is a pedestrian group of phase p
+unfoldable pub walksPhase : List ℕ → ℕ → ℕ → Bool
+walksPhase b p g = pedestrian b g && bit p (groupSet b g)
+
+-- 21: a phase with neither a calling detector nor a pedestrian group
+unfoldable pub phaseWithoutCaller : List ℕ → Bool
+phaseWithoutCaller b =
+    anyOf (λ p. not (anyOf (callsPhase b p) (detectorCount b) || anyOf (walksPhase b p) (groupCount b))) (phaseCount b)
+
 -- a group that stops early
 unfoldable pub stopsEarly : List ℕ → ℕ → Bool
 stopsEarly b g = eqb (groupMark b g) 3
@@ -237,11 +250,12 @@ unfoldable pub earlyMissing : List ℕ → Verdict
 earlyMissing b =
     firstOf (λ g. refuseIf (stopsEarly b g && not (hasEarly b)) 17 (recordAt (groupsHead b) 2 g)) (groupCount b)
 
--- What follows kind 6: kinds 7 and 9 where they are there; then 17; then 12, bytes left over.
+-- What follows kind 6: kinds 7 and 9 where they are there; then 21; then 17; then 12, bytes left over.
 unfoldable pub afterPedestrians : List ℕ → Verdict
 afterPedestrians b =
     earlySection b
     orElse orderSection b
+    orElse refuseIf (phaseWithoutCaller b) 21 (detectorsHead b)
     orElse earlyMissing b
     orElse refuseIf (ltb (endOf b) (length b)) 12 (endOf b)
 

@@ -52,13 +52,15 @@ struct Times {
 
 impl Bench {
     /// The smallest site, the junction of two phases, the same with an arrow that
-    /// stops early, and the largest site.
-    pub fn all(seed: u64) -> [Bench; 4] {
+    /// stops early, three phases not in letter order, and the largest site.
+    pub fn all(seed: u64) -> [Bench; 5] {
         let arrow = Plan::turning_arrow(Some(vec![20, 0]));
+        let ordered = Plan::three_phases(Some(vec![0, 2, 1]));
         [
             Bench::new("smallest site", Plan::smallest(), seed),
             Bench::new("junction of two phases", Plan::junction(), seed),
             Bench::new("junction with early cut-off", arrow, seed),
+            Bench::new("three phases, C before B", ordered, seed),
             Bench::new("largest site", Plan::largest(), seed),
         ]
     }
@@ -191,22 +193,31 @@ fn shown(time: &Time) -> String {
 #[cfg(test)]
 mod tests {
     use super::*;
-    use model::Interval;
+    use model::{Interval, State};
 
-    /// Whether the timed steps go through an interval.
-    fn reaches(bench: &Bench, interval: Interval) -> bool {
+    /// Whether the timed steps go through such a state.
+    fn reaches(bench: &Bench, wanted: impl Fn(&State) -> bool) -> bool {
         let site = Site::read(&bench.personality).unwrap();
         let mut colours = [0; MAX_GROUPS];
         let mut state = model::fresh();
         bench.inputs.iter().any(|&inputs| {
             state = step_on(&site, &state, inputs, &mut colours).unwrap();
-            state.interval == interval
+            wanted(&state)
         })
     }
 
     #[test]
     fn sites_with_early_cut_off_run_through_it() {
-        let early = Bench::all(1).map(|bench| reaches(&bench, Interval::EarlyCutOff));
-        assert_eq!(early, [false, false, true, true]);
+        let early = |state: &State| state.interval == Interval::EarlyCutOff;
+        let found = Bench::all(1).map(|bench| reaches(&bench, early));
+        assert_eq!(found, [false, false, true, false, true]);
+    }
+
+    #[test]
+    fn sites_with_an_order_run_by_it() {
+        // C before B, both demanded.
+        let ahead = |state: &State| state.target == Some(2) && state.demanded & 0b110 == 0b110;
+        let found = Bench::all(1).map(|bench| reaches(&bench, ahead));
+        assert_eq!(found, [false, false, false, true, true]);
     }
 }

@@ -32,7 +32,7 @@ pub enum Kind {
 }
 
 /// The kinds take turns, those that matter most more often.
-const TURNS: [Kind; 27] = [
+const TURNS: [Kind; 29] = [
     Kind::Accepted,
     Kind::Damaged(1),
     Kind::Run,
@@ -59,6 +59,8 @@ const TURNS: [Kind; 27] = [
     Kind::Damaged(12),
     Kind::Run,
     Kind::Damaged(17),
+    Kind::Damaged(18),
+    Kind::Damaged(21),
     Kind::Watched,
 ];
 

@@ -70,6 +70,17 @@ fn accepted_plans_have_every_trait() {
         let early = plan.early_groups().count();
         let times = &plan.early_cut_offs;
         count("early mark", early > 0);
+        let order = &plan.order;
+        count("no order", order.is_none());
+        count(
+            "an order",
+            order.as_ref().is_some_and(|order| !order.is_sorted()),
+        );
+        count(
+            "an order as letters",
+            order.as_ref().is_some_and(|order| order.is_sorted()),
+        );
+        count("an order without times", order.is_some() && times.is_none());
         count("no early mark", times.is_some() && early == 0);
         count("no early cut-off section", times.is_none());
         let zero = times.iter().flatten().any(|&time| time == 0);
@@ -170,7 +181,8 @@ fn damage_without_an_aim_hits_many_numbers() {
         scrambles.insert(number(packed::read(&scrambled(&mut rng))));
     }
     // Bytes left over are only noticed where nothing else is wrong.
-    assert!((1..=11).all(|number| twice.contains(&number)), "{twice:?}");
+    let mut numbers = (1..=11).chain([17, 18, 21]);
+    assert!(numbers.all(|number| twice.contains(&number)), "{twice:?}");
     assert!(scrambles.len() >= 12, "{scrambles:?}");
 }
 
@@ -241,7 +253,7 @@ fn inputs_known_and_unknown() {
 #[test]
 fn every_refusal_number_occurs_in_the_cases() {
     let tally = compare::run_cases(&model::packed::Model, SEED, 0..2_000).unwrap();
-    for number in (0..=15).chain([17]) {
+    for number in (0..=15).chain([17, 18, 21]) {
         assert!(tally.answers(number) >= 20, "{number}\n{tally}");
     }
     for kind in compare::Kind::all() {

@@ -2,7 +2,7 @@
 
 use compare::{run_case, run_cases, Difference, Failure};
 use model::packed::{number, Board, Model};
-use model::{layout, scan, MovementState, Site, Stage, State, STATE_LEN};
+use model::{layout, scan, section, MovementState, Site, Stage, State, STATE_LEN};
 
 /// Spoils an answer, and the state and colours that go with it.
 type SpoilStep = fn(u64, &mut [u8], &mut [u8]) -> u64;
@@ -127,6 +127,39 @@ fn a_section_of_early_cut_off_times_not_found() {
 }
 
 #[test]
+fn a_section_with_the_order_not_found() {
+    let board = Wrong {
+        section: Some(|answer, kind| {
+            if kind == 9 && number(answer) == 0 {
+                2
+            } else {
+                answer
+            }
+        }),
+        ..Wrong::default()
+    };
+    assert_eq!(what(&board), "section: the answer");
+}
+
+#[test]
+fn a_phase_nobody_can_call() {
+    let board = Wrong {
+        read: Some(|answer| if number(answer) == 21 { 0 } else { answer }),
+        ..Wrong::default()
+    };
+    assert_eq!(what(&board), "read: the answer");
+}
+
+#[test]
+fn any_order_accepted() {
+    let board = Wrong {
+        read: Some(|answer| if number(answer) == 18 { 0 } else { answer }),
+        ..Wrong::default()
+    };
+    assert_eq!(what(&board), "read: the answer");
+}
+
+#[test]
 fn bytes_left_over_before_early_cut_off_times_not_there() {
     let board = Wrong {
         read: Some(|answer| if number(answer) == 17 { 12 } else { answer }),
@@ -203,6 +236,41 @@ impl Board for ScansAnew {
 #[test]
 fn kept_phases_that_are_not_looked_at() {
     assert_eq!(what(&ScansAnew), "step: the answer");
+}
+
+/// The model, but it steps by letters whatever the order.
+struct GoesByLetters;
+
+impl Board for GoesByLetters {
+    fn read(&self, personality: &[u8]) -> u64 {
+        Model.read(personality)
+    }
+
+    fn wait_bound(&self, personality: &[u8]) -> u64 {
+        Model.wait_bound(personality)
+    }
+
+    fn fresh(&self, state: &mut [u8]) -> u64 {
+        Model.fresh(state)
+    }
+
+    fn step(&self, personality: &[u8], state: &mut [u8], inputs: u64, colours: &mut [u8]) -> u64 {
+        // The order, a head of four bytes and its body, is the last section.
+        let unordered = match section(personality, 9) {
+            Ok(part) => &personality[..part.offset as usize - 4],
+            Err(_) => personality,
+        };
+        Model.step(unordered, state, inputs, colours)
+    }
+
+    fn section(&self, personality: &[u8], kind: u16) -> u64 {
+        Model.section(personality, kind)
+    }
+}
+
+#[test]
+fn phases_in_letter_order_where_there_is_another() {
+    assert_eq!(what(&GoesByLetters), "step: the state");
 }
 
 #[test]

@@ -6,7 +6,10 @@ use crate::rng::Rng;
 use model::{Limits, Mark, Setting, MAX_GROUPS, MAX_MOVEMENTS};
 
 /// The refusals that a personality can be aimed at.
-pub const AIMED: [u8; 13] = [1, 2, 3, 4, 5, 6, 7, 8, 9, 10, 11, 12, 17];
+pub const AIMED: [u8; 15] = [1, 2, 3, 4, 5, 6, 7, 8, 9, 10, 11, 12, 17, 18, 21];
+
+/// Those that a plan can hold, so that the bytes can be damaged besides.
+const PLANNED: [u8; 10] = [5, 6, 7, 8, 9, 10, 11, 17, 18, 21];
 
 const PEDESTRIAN: u8 = Mark::Pedestrian as u8;
 const EARLY_CUT_OFF: u8 = Mark::EarlyCutOff as u8;
@@ -28,7 +31,7 @@ pub fn damaged(rng: &mut Rng, number: u8) -> Vec<u8> {
 pub fn twice_damaged(rng: &mut Rng) -> Vec<u8> {
     loop {
         let mut plan = Plan::random(rng);
-        let one = rng.range(5, 11) as u8;
+        let one = rng.pick(&PLANNED);
         let other = rng.pick(&AIMED);
         if damage_plan(rng, &mut plan, one).is_some() {
             if let Some(bytes) = damage(rng, plan, other) {
@@ -53,12 +56,8 @@ pub fn scrambled(rng: &mut Rng) -> Vec<u8> {
 
 /// Damages a plan or its bytes; none where the plan has nothing to damage so.
 fn damage(rng: &mut Rng, mut plan: Plan, number: u8) -> Option<Vec<u8>> {
-    if (5..=11).contains(&number) {
+    if PLANNED.contains(&number) {
         damage_plan(rng, &mut plan, number)?;
-        return Some(plan.bytes());
-    }
-    if number == 17 {
-        leave_out_times(rng, &mut plan)?;
     }
     let mut bytes = plan.bytes();
     match number {
@@ -67,9 +66,8 @@ fn damage(rng: &mut Rng, mut plan: Plan, number: u8) -> Option<Vec<u8>> {
         3 => change_length(rng, &mut bytes),
         4 => change_count(rng, &mut bytes),
         12 => leave_over(rng, &plan, &mut bytes),
-        17 if rng.percent(50) => leave_over(rng, &plan, &mut bytes),
-        17 => {}
-        _ => return None,
+        17 | 21 if rng.percent(50) => leave_over(rng, &plan, &mut bytes),
+        _ => {}
     }
     Some(bytes)
 }
@@ -83,6 +81,9 @@ fn damage_plan(rng: &mut Rng, plan: &mut Plan, number: u8) -> Option<()> {
         9 => change_conflict(rng, plan)?,
         10 => share_phase(rng, plan)?,
         11 => change_detector(rng, plan)?,
+        17 => leave_out_times(rng, plan)?,
+        18 => change_order(rng, plan)?,
+        21 => silence_phase(rng, plan)?,
         _ => return None,
     }
     Some(())
@@ -124,6 +125,25 @@ fn cut(rng: &mut Rng, bytes: &mut Vec<u8>) -> Option<()> {
     Some(())
 }
 
+/// Takes every call away from a phase without a pedestrian group: its detectors
+/// only extend, do nothing, or go to another phase.
+fn silence_phase(rng: &mut Rng, plan: &mut Plan) -> Option<()> {
+    let phases = plan.phases.len();
+    let phase = rng.below(phases) as u8;
+    let other = ((usize::from(phase) + rng.range(1, phases - 1)) % phases) as u8;
+    let walks = |group: &[u8; 2]| group[1] == PEDESTRIAN && group[0] == 1 << phase;
+    if plan.groups.iter().any(walks) {
+        return None;
+    }
+    for detector in &mut plan.detectors {
+        if detector[0] == phase {
+            let mode = detector[1];
+            *detector = rng.pick(&[[phase, 0], [phase, 4], [phase, mode & 4], [other, mode]]);
+        }
+    }
+    Some(())
+}
+
 /// Takes the early cut-off times away from groups that stop early.
 fn leave_out_times(rng: &mut Rng, plan: &mut Plan) -> Option<()> {
     plan.early_cut_offs = None;
@@ -137,13 +157,25 @@ fn leave_out_times(rng: &mut Rng, plan: &mut Plan) -> Option<()> {
     Some(())
 }
 
+/// An order in which a phase is there twice, or one that the site lacks.
+fn change_order(rng: &mut Rng, plan: &mut Plan) -> Option<()> {
+    let order = plan.order.as_mut()?;
+    let phases = order.len();
+    let place = rng.below(phases);
+    let twice = order[(place + rng.range(1, phases - 1)) % phases];
+    order[place] = rng.pick(&[twice, twice, phases as u8, 7, 8, 255]);
+    Some(())
+}
+
 /// Bytes after the last section: anything, a head cut short, a section of a kind
 /// that is not expected there, the last section once more.
 fn leave_over(rng: &mut Rng, plan: &Plan, bytes: &mut Vec<u8>) {
     let length = 2 * plan.phases.len() as u16;
     let [low, high] = length.to_le_bytes();
-    let head = [low, high, 7, 0];
-    let kinds = [0, 6, 8, 9, 0x0107, 0x0700];
+    let head = [low, high, rng.pick(&[7, 9]), 0];
+    let ordered = plan.order.is_some();
+    let last = if ordered { rng.pick(&[7, 9]) } else { 8 };
+    let kinds = [0, 6, 8, last, 0x0107, 0x0700, 0x0109];
     let count = rng.range(1, 8);
     match rng.below(4) {
         0 => bytes.extend(rng.bytes(count)),

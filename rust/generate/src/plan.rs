@@ -6,6 +6,8 @@ use model::{Limits, Mark, Setting, MAX_DETECTORS, MAX_GROUPS, MAX_MOVEMENTS, MAX
 
 /// The modes a detector may have.
 pub const MODES: [u8; 6] = [0, 1, 2, 4, 5, 6];
+/// Those that call.
+const CALLING: [u8; 4] = [1, 2, 5, 6];
 
 const VEHICLE: u8 = Mark::Vehicle as u8;
 const LATE_START: u8 = Mark::LateStart as u8;
@@ -27,6 +29,8 @@ pub struct Plan {
     pub movements: Vec<[u16; 3]>,
     /// The early cut-off time of each phase, where there is such a section.
     pub early_cut_offs: Option<Vec<u16>>,
+    /// The phases in running order, where there is such a section.
+    pub order: Option<Vec<u8>>,
 }
 
 /// How a random plan chooses its times.
@@ -48,6 +52,7 @@ pub struct Shape {
     pub pedestrians: usize,
     pub detectors: usize,
     pub early_cut_offs: bool,
+    pub order: bool,
     pub pace: Pace,
 }
 
@@ -61,6 +66,7 @@ impl Shape {
             pedestrians: edged(rng, 0, MAX_MOVEMENTS.min(groups)),
             detectors: edged(rng, 0, MAX_DETECTORS),
             early_cut_offs: rng.percent(60),
+            order: rng.percent(50),
             pace: rng.pick(&[Pace::Short, Pace::Short, Pace::Edges, Pace::Anywhere]),
         }
     }
@@ -91,6 +97,9 @@ impl Plan {
         if let Some(early_cut_offs) = &self.early_cut_offs {
             section(&mut bytes, 7, times(early_cut_offs));
         }
+        if let Some(order) = &self.order {
+            section(&mut bytes, 9, order.clone());
+        }
         bytes
     }
 
@@ -109,6 +118,7 @@ impl Plan {
             detectors: vec![[0, 6], [1, 6]],
             movements: vec![],
             early_cut_offs: None,
+            order: None,
         }
     }
 
@@ -123,22 +133,37 @@ impl Plan {
         }
     }
 
-    /// The smallest site there is: two phases that share the only group.
+    /// Three phases in conflict, with a group and a locking detector each and every
+    /// phase as in the junction of two phases, in this order.
+    pub fn three_phases(order: Option<Vec<u8>>) -> Plan {
+        Plan {
+            phases: vec![[0, 20, 30, 5, 30, 10]; 3],
+            groups: vec![[1, VEHICLE], [2, VEHICLE], [4, VEHICLE]],
+            conflicts: vec![6, 5, 3],
+            detectors: vec![[0, 6], [1, 6], [2, 6]],
+            order,
+            ..Plan::junction()
+        }
+    }
+
+    /// The smallest site there is: two phases that share the only group, each with
+    /// a detector.
     pub fn smallest() -> Plan {
         Plan {
             start_red: 10,
             phases: vec![[0, 20, 30, 5, 30, 10]; 2],
             groups: vec![[3, VEHICLE]],
             conflicts: vec![0],
-            detectors: vec![],
+            detectors: vec![[0, 6], [1, 6]],
             movements: vec![],
             early_cut_offs: None,
+            order: None,
         }
     }
 
     /// A site as large as they come: 7 phases, 32 groups, 48 detectors and 8
-    /// movements, with overlaps, late starts, early cut-offs and every possible
-    /// conflict.
+    /// movements, with overlaps, late starts, early cut-offs, an order of its own
+    /// and every possible conflict.
     pub fn largest() -> Plan {
         let vehicle = |group: usize| {
             let overlap = if group % 4 == 3 {
@@ -164,6 +189,7 @@ impl Plan {
                 .collect(),
             movements: vec![[60, 50, 40]; MAX_MOVEMENTS],
             early_cut_offs: Some(vec![0, 10, 20, 35, 36, 50, 100]),
+            order: Some(vec![0, 2, 4, 6, 1, 3, 5]),
         };
         plan.make_conflicts(|| true);
         plan
@@ -197,10 +223,41 @@ impl Plan {
             early_cut_offs: shape
                 .early_cut_offs
                 .then(|| random_early_cut_offs(rng, &shape)),
+            order: shape.order.then(|| random_order(rng, shape.phases)),
         };
+        plan.make_callable(rng);
         let density = rng.pick(&[0, 30, 70, 100, 100]);
         plan.make_conflicts(|| rng.percent(density));
         plan
+    }
+
+    /// The phases that a detector calls or a pedestrian group has.
+    pub fn called_phases(&self) -> u8 {
+        let by_group = self.groups.iter().filter(|group| group[1] == PEDESTRIAN);
+        let by_groups = by_group.fold(0, |called, group| called | group[0]);
+        let calling = self.detectors.iter().filter(|[_, mode]| mode & 3 != 0);
+        calling.fold(by_groups, |called, [phase, _]| called | 1 << phase)
+    }
+
+    /// Gives every phase that nobody can call a calling detector: one that another
+    /// phase can spare, or one more.
+    fn make_callable(&mut self, rng: &mut Rng) {
+        for phase in 0..self.phases.len() as u8 {
+            if self.called_phases() >> phase & 1 != 0 {
+                continue;
+            }
+            let calling = [phase, rng.pick(&CALLING)];
+            let before = self.called_phases();
+            let spare = (0..self.detectors.len()).find(|&detector| {
+                let mut without = self.clone();
+                without.detectors[detector] = calling;
+                without.called_phases() == before | 1 << phase
+            });
+            match spare {
+                Some(detector) => self.detectors[detector] = calling,
+                None => self.detectors.push(calling),
+            }
+        }
     }
 
     /// Lets two groups conflict where they share no phase and the choice says so.
@@ -266,6 +323,13 @@ fn random_early_cut_offs(rng: &mut Rng, shape: &Shape) -> Vec<u16> {
         .collect()
 }
 
+/// The phases in any order.
+fn random_order(rng: &mut Rng, phases: usize) -> Vec<u8> {
+    let mut order: Vec<u8> = (0..phases as u8).collect();
+    rng.shuffle(&mut order);
+    order
+}
+
 /// Groups in which every phase is served.
 fn random_groups(rng: &mut Rng, shape: &Shape) -> Vec<[u8; 2]> {
     let mut groups: Vec<[u8; 2]> = (0..shape.groups)
@@ -301,8 +365,14 @@ fn random_vehicle_group(rng: &mut Rng, shape: &Shape) -> [u8; 2] {
     [set, mark]
 }
 
-/// Adds the phases that no group has. Pedestrian groups come first.
+/// Adds the phases that no group has. Pedestrian groups come first; without
+/// detectors they call the phases, where there are enough.
 fn serve_every_phase(rng: &mut Rng, groups: &mut [[u8; 2]], shape: &Shape) {
+    if shape.detectors == 0 && shape.pedestrians >= shape.phases {
+        for (phase, group) in groups.iter_mut().take(shape.phases).enumerate() {
+            group[0] = 1 << phase;
+        }
+    }
     if shape.pedestrians == shape.groups {
         if shape.groups < shape.phases {
             groups[shape.groups - 1][1] = VEHICLE;

@@ -13,23 +13,29 @@ pub struct Part {
 /// The body of the section of a kind, or why there is none.
 pub fn section(personality: &[u8], kind: u16) -> Result<Part, Refusal> {
     let site = Site::read(personality)?;
-    let lengths = [
-        4,
-        12 * site.phase_count(),
-        2 * site.group_count(),
-        4 * site.group_count(),
-        2 * site.detector_count(),
-        6 * site.movement_count(),
-        2 * site.phase_count(),
+    let early_cut_offs = site.has_early_cut_offs().then(|| 2 * site.phase_count());
+    let order = site.has_order().then(|| site.phase_count());
+    let sections = [
+        (1, Some(4)),
+        (2, Some(12 * site.phase_count())),
+        (3, Some(2 * site.group_count())),
+        (4, Some(4 * site.group_count())),
+        (5, Some(2 * site.detector_count())),
+        (6, Some(6 * site.movement_count())),
+        (7, early_cut_offs),
+        (9, order),
     ];
-    let held = if site.has_early_cut_offs() { 7 } else { 6 };
-    let index = usize::from(kind).wrapping_sub(1);
-    let Some(length) = lengths[..held].get(index) else {
-        return Err(Refusal::without_place(Number::UnexpectedKind));
-    };
-    let before: usize = lengths[..index].iter().sum();
-    Ok(Part {
-        offset: (before + 4 * (index + 1)) as u32,
-        length: *length as u32,
-    })
+    let mut head = 0;
+    for (held, length) in sections {
+        if let Some(length) = length {
+            if held == kind {
+                return Ok(Part {
+                    offset: head + 4,
+                    length: length as u32,
+                });
+            }
+            head += 4 + length as u32;
+        }
+    }
+    Err(Refusal::without_place(Number::UnexpectedKind))
 }

@@ -45,6 +45,14 @@ impl<'a> Site<'a> {
             check_times(section, &EARLY_LIMITS)?;
         }
 
+        let order = sections.take_optional(9, |length| length == phase_count)?;
+        if let Some(section) = &order {
+            check_order(section)?;
+        }
+
+        if !every_phase_called(&detectors, &groups, phase_count) {
+            return Err(Refusal::at(Number::UncalledPhase, detectors.head));
+        }
         if early_cut_offs.is_none() && groups.early != 0 {
             let first = groups.early.trailing_zeros() as usize;
             return Err(group_section.refuse(Number::EarlyWithoutTimes, 2 * first));
@@ -60,6 +68,7 @@ impl<'a> Site<'a> {
             detectors: detectors.records(),
             movements: movements.records(),
             early_cut_offs: early_cut_offs.map(|section| section.records()),
+            order: order.map(|section| section.body),
         };
         Ok(Site { records, groups })
     }
@@ -194,6 +203,18 @@ fn check_times<const FIELDS: usize>(
     Ok(())
 }
 
+/// Checks that an order, one byte a phase, has each phase once.
+#[inline]
+fn check_order(section: &Section) -> Result<(), Refusal> {
+    let phases = 0..section.body.len();
+    let mut each_once = phases.map(|phase| section.body.contains(&(phase as u8)));
+    if each_once.all(|found| found) {
+        Ok(())
+    } else {
+        Err(Refusal::at(Number::WrongOrder, section.head))
+    }
+}
+
 /// Checks the group records and gathers what they say.
 #[inline]
 fn read_groups(section: &Section, phase_count: usize) -> Result<Groups, Refusal> {
@@ -299,4 +320,22 @@ fn check_detectors(section: &Section, phase_count: usize) -> Result<(), Refusal>
         Some(detector) => Err(section.refuse(Number::WrongDetector, 2 * detector)),
         None => Ok(()),
     }
+}
+
+/// Whether every phase has a calling detector or a pedestrian group.
+#[inline]
+fn every_phase_called(section: &Section, groups: &Groups, phase_count: usize) -> bool {
+    let by_movements = groups
+        .movement_set
+        .iter()
+        .fold(0, |called, set| called | set);
+    let called = section
+        .records()
+        .iter()
+        .fold(by_movements, |called, record| {
+            let &[phase, mode] = record;
+            let calls = mode & 3 != 0;
+            called | u8::from(calls) << (phase & 7)
+        });
+    called == !(u8::MAX << phase_count)
 }

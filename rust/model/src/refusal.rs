@@ -37,6 +37,10 @@ pub enum Number {
     UnknownInput = 15,
     /// A group that stops early, without a section of early cut-off times.
     EarlyWithoutTimes = 17,
+    /// An order that has not each phase once.
+    WrongOrder = 18,
+    /// A phase with neither a calling detector nor a pedestrian group.
+    UncalledPhase = 21,
 }
 
 /// A refusal: its number, and the byte of the personality it is about (0 where

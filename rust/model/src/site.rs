@@ -79,6 +79,8 @@ pub(crate) struct Records<'a> {
     pub movements: &'a [[u8; 6]],
     /// The early cut-off times; none without their section.
     pub early_cut_offs: Option<&'a [[u8; 2]]>,
+    /// The phases in running order; none where letters rule.
+    pub order: Option<&'a [u8]>,
 }
 
 /// What the group records say, turned round: sets of groups, bit g for group g.
@@ -144,6 +146,26 @@ impl Site<'_> {
         match self.records.early_cut_offs {
             Some(times) => u16::from_le_bytes(times[usize::from(phase)]),
             None => 0,
+        }
+    }
+
+    /// Whether the site has a section with the order of its phases.
+    pub fn has_order(&self) -> bool {
+        self.records.order.is_some()
+    }
+
+    /// The first phase of a set after a phase in running order, which goes round.
+    /// The set has a phase, and not this one.
+    #[inline]
+    pub fn first_after(&self, phase: u8, set: u8) -> u8 {
+        match self.records.order {
+            None => first_letter_after(phase, set),
+            Some(order) => {
+                let after = order.iter().cycle().skip_while(|&&other| other != phase);
+                let mut round = after.skip(1).take(order.len());
+                let next = round.find(|&&other| set >> other & 1 != 0);
+                *next.unwrap_or(&phase)
+            }
         }
     }
 
@@ -225,4 +247,12 @@ impl PhaseTimes {
 #[inline]
 pub(crate) fn movement_times(record: &[u8; 6]) -> [u16; 3] {
     core::array::from_fn(|i| u16::from_le_bytes([record[2 * i], record[2 * i + 1]]))
+}
+
+/// The first phase of a set after a phase, in cyclic letter order.
+#[inline]
+fn first_letter_after(phase: u8, set: u8) -> u8 {
+    let later = set & (u8::MAX << phase);
+    let from = if later != 0 { later } else { set };
+    from.trailing_zeros() as u8
 }

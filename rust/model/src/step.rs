@@ -186,7 +186,7 @@ fn run_interval(site: &Site, state: &mut State, others: u8) -> bool {
                 Interval::EarlyCutOff
             };
             enter(state, next);
-            state.target = Some(first_after(state.phase, others));
+            state.target = Some(site.first_after(state.phase, others));
         }
         Interval::EarlyCutOff if state.age >= site.early_cut_off(state.phase) => {
             enter(state, Interval::Yellow);
@@ -214,15 +214,6 @@ fn green_ends(state: &State, maximum_green: u16, others: u8) -> bool {
 #[inline]
 fn counts_end(state: &State, maximum_green: u16) -> bool {
     state.gap_count == 0 || state.maximum_count == maximum_green
-}
-
-/// The first phase of a set after a phase, in cyclic letter order. The set has
-/// a phase, and not this one.
-#[inline]
-fn first_after(phase: u8, set: u8) -> u8 {
-    let later = set & (u8::MAX << phase);
-    let from = if later != 0 { later } else { set };
-    from.trailing_zeros() as u8
 }
 
 #[inline]

@@ -76,6 +76,7 @@ fn busy_site(rng: &mut Rng) -> Plan {
         pedestrians: rng.range(1, 8),
         detectors: 30,
         early_cut_offs: true,
+        order: rng.percent(50),
         pace: Pace::Short,
     };
     let mut plan = Plan::of_shape(rng, shape);

@@ -189,11 +189,14 @@ pastPedestrians c e = afterDetectors (c .before .before .before) (or-next (c .be
 after-pedestrians-requires : tie.Need-after-pedestrians-requires
 after-pedestrians-requires c κs =
     let detected = c .before .before .before in
-    let groups = groupsLaid detected in (
+    let groups = groupsLaid detected in
+    let told = groupsBefore detected .before .before .groups-section .ensures in (
       groups .0,
       siteAccepted (siteBefore (groupsBefore detected)),
       groups .1,
-      groupsBefore detected .before .before .groups-section .ensures .early (groups .1),
+      sym (detected .before .before .detectors-section .ensures) ∙ detected .enum-told10 .given .1,
+      told .walked (groups .1),
+      told .early (groups .1),
     )
 
 returns-7 : tie.Need-returns-7

@@ -57,7 +57,7 @@ fn bits_without_a_detector_or_button() {
 #[test]
 fn the_bit_of_a_detector_without_call_may_be_set() {
     let plan = Plan {
-        detectors: vec![[0, 0]],
+        detectors: vec![[0, 0], [0, 6], [1, 6]],
         ..Plan::junction()
     };
     assert_eq!(number(&plan, |_| {}, 1, 2), 0);

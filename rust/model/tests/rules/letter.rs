@@ -101,6 +101,23 @@ impl<'a> Letter<'a> {
         true
     }
 
+    /// The first demanded phase after a phase, in the order of the phases.
+    fn first_after(&self, phase: u8, demanded: [bool; 7]) -> u8 {
+        let phases = self.plan.phases.len();
+        let letters = (0..phases as u8).collect();
+        let order = self.plan.order.as_ref().unwrap_or(&letters);
+        let mut place = 0;
+        while order[place] != phase {
+            place += 1;
+        }
+        loop {
+            place = (place + 1) % phases;
+            if demanded[usize::from(order[place])] {
+                return order[place];
+            }
+        }
+    }
+
     /// The phases demanded by lock or movement.
     fn demanded(&self, state: &State) -> u8 {
         let mut demanded = 0;
@@ -225,12 +242,7 @@ impl<'a> Letter<'a> {
                     } else {
                         Interval::Yellow
                     });
-                    let phases = self.plan.phases.len();
-                    let mut next = (running + 1) % phases;
-                    while !demanded[next] {
-                        next = (next + 1) % phases;
-                    }
-                    state.target = Some(next as u8);
+                    state.target = Some(self.first_after(before.phase, demanded));
                 }
             }
             Interval::EarlyCutOff if before.age >= self.early_cut_off(running) => {

@@ -49,5 +49,6 @@ fn the_parts_of_the_largest_site_hold_its_records() {
     assert_eq!(body(5), plan.detectors.concat());
     assert_eq!(body(6).len(), 48);
     assert_eq!(body(7), [0, 0, 10, 0, 20, 0, 35, 0, 36, 0, 50, 0, 100, 0]);
-    assert_eq!(bytes.len(), 466);
+    assert_eq!(body(9), [0, 2, 4, 6, 1, 3, 5]);
+    assert_eq!(bytes.len(), 477);
 }

@@ -8,6 +8,7 @@ mod junction;
 mod late_start;
 mod letter;
 mod lookup;
+mod order;
 mod overlaps;
 mod pedestrians;
 mod refusals;

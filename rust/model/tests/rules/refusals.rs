@@ -266,10 +266,10 @@ fn wrong_detectors_are_11_at_their_record() {
         assert_eq!(junction_with(&[(62, phase)]), (11, 62));
     }
     for mode in 0..=255 {
-        let expected = if [0, 1, 2, 4, 5, 6].contains(&mode) {
-            (0, 0)
-        } else {
-            (11, 62)
+        let expected = match mode {
+            1 | 2 | 5 | 6 => (0, 0),
+            0 | 4 => (21, 56),
+            _ => (11, 62),
         };
         assert_eq!(junction_with(&[(63, mode)]), expected, "mode {mode}");
     }
@@ -277,12 +277,15 @@ fn wrong_detectors_are_11_at_their_record() {
 
 #[test]
 fn forty_eight_detectors_and_none() {
+    let with = |count: usize| Plan {
+        groups: vec![[3, 0], [1, 2], [2, 2]],
+        conflicts: vec![0; 3],
+        detectors: vec![[1, 6]; count],
+        movements: vec![[10, 5, 7]; 2],
+        ..Plan::junction()
+    };
     for count in [0, 1, 48] {
-        let plan = Plan {
-            detectors: vec![[1, 6]; count],
-            ..Plan::junction()
-        };
-        assert_eq!(verdict(&plan.bytes()), (0, 0));
+        assert_eq!(verdict(&with(count).bytes()), (0, 0));
     }
     let plan = Plan {
         detectors: vec![[1, 6]; 49],
@@ -298,6 +301,41 @@ fn pedestrian_records_as_many_as_pedestrian_groups() {
     assert_eq!(verdict(&plan.bytes()), (3, 70));
     plan.movements.clear();
     assert_eq!(verdict(&plan.bytes()), (3, 70));
+}
+
+#[test]
+fn a_phase_nobody_can_call_is_21_at_the_head_of_kind_5() {
+    for mode in [0, 4] {
+        assert_eq!(junction_with(&[(63, mode)]), (21, 56));
+        assert_eq!(junction_with(&[(61, mode)]), (21, 56));
+    }
+    for mode in [1, 2, 5, 6] {
+        assert_eq!(junction_with(&[(63, mode)]), (0, 0));
+    }
+    assert_eq!(junction_with(&[(62, 0)]), (21, 56), "both call A");
+    let mut plan = crossing();
+    plan.detectors = vec![[0, 1]];
+    assert_eq!(verdict(&plan.bytes()), (0, 0), "B has a pedestrian group");
+    plan.detectors = vec![[1, 1]];
+    assert_eq!(verdict(&plan.bytes()), (21, 62));
+    plan.detectors.clear();
+    assert_eq!(verdict(&plan.bytes()), (21, 62));
+}
+
+#[test]
+fn after_all_sections_21_then_17_then_12() {
+    let mut plan = Plan::turning_arrow(None);
+    let more = |plan: &Plan| verdict(&[plan.bytes().as_slice(), &[0]].concat());
+    plan.detectors[1][1] = 4;
+    assert_eq!(more(&plan), (21, 62));
+    plan.detectors[1][1] = 5;
+    assert_eq!(more(&plan), (17, 42));
+    plan.groups[1][1] = 0;
+    assert_eq!(more(&plan), (12, 74));
+    plan.detectors[1][1] = 4;
+    assert_eq!(more(&plan), (21, 62));
+    plan.order = Some(vec![0, 0]);
+    assert_eq!(more(&plan), (18, 74), "checked with its body");
 }
 
 #[test]

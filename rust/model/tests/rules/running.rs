@@ -30,7 +30,9 @@ fn a_non_locking_call_lasts_one_step() {
 #[test]
 fn no_call_and_extension_only_never_demand() {
     for mode in [0, 4] {
-        let mut run = Run::new(&with_modes(6, mode));
+        let mut plan = with_modes(6, mode);
+        plan.detectors.push([1, 6]);
+        let mut run = Run::new(&plan);
         run.until(300, |_| detector(1));
         assert_eq!(
             (run.state.phase, run.state.interval),
@@ -70,7 +72,7 @@ fn the_gap_count_runs_down_from_the_last_extension() {
 
 #[test]
 fn the_gap_count_runs_in_minimum_green_too() {
-    let mut run = Run::new(&with_modes(4, 2));
+    let mut run = Run::new(&with_modes(5, 2));
     run.until(10, |_| 0);
     assert_eq!(run.state.gap_count, 5);
     run.until(13, |_| 0);

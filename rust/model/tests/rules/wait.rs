@@ -13,6 +13,7 @@ fn the_greatest_bound_is_37950() {
         detectors: vec![],
         movements: vec![[400; 3]; 7],
         early_cut_offs: Some(vec![200; 7]),
+        order: None,
     };
     assert_eq!(wait_bound(&plan.bytes()), Ok(37_950));
     plan.early_cut_offs = None;

@@ -1,9 +1,9 @@
 -- `records::group_records` meets its contract. The invariant: every record before g has passed, the running count is how many pedestrian
--- groups stand before g, early says whether one of them stops early, and the union so far is that of their sets.
+-- groups stand before g and the set walked has their phases, early says whether a group stops early, and the union so far is that of all sets.
 use Prim.Native.Nat.{ℕ, _+_, _*_, _-_, _^_, _≤_, min}
 use mathlib.Core.Bool.{false, _||_}
 use mathlib.Core.Logic.{⊎-elim}
-use mathlib.Core.Path.{_≡_, refl, sym, ap, ap₂, _∙_}
+use mathlib.Core.Path.{_≡_, refl, sym, subst, ap, ap₂, _∙_}
 use native.Mathlib.Numerals.{add-one}
 use native.Mathlib.Omega.{arith}
 use lib.Dec.{eqb}
@@ -19,21 +19,23 @@ use Rattle.rules.proofs.Rows.{count-most}
 use Rattle.rules.proofs.Tests.{and-both, and-false-left, and-false-right}
 use Rattle.rules.proofs.Verdicts.{refuse-yes, refuse-no, or-next, or-stop, first-more, first-stop, first-done}
 use Rattle.proof_acceptance.proofs.Sections.{record-within}
+use Rattle.read_groups.specs.Told.{Walked}
 use Rattle.read_groups.proofs.GroupChecks.{group-passed, refused-told}
-use Rattle.read_groups.proofs.PhaseSets.{Gathered, gathered-none, gathered-more, bad-decided, all-served, one-unserved}
+use Rattle.read_groups.proofs.PhaseSets.{Gathered, gathered-none, gathered-more, walked-none, walked-more, walked-same, bad-decided, all-served, one-unserved}
 use Rattle.read_groups.proofs.records.group_records.Statement.{statement}
 use Rattle.read_groups.proofs.records.group_records.Tie as tie
 
 abbrev Inv-loop : tie.InvT-loop
-Inv-loop s bound head count movements₀ early₀ served₀ g₀ movements early served g =
+Inv-loop s bound head count movements₀ walked₀ early₀ served₀ g₀ movements walked early served g =
     (g ≤ count)
     × (movements ≡ countOf (pedestrian s) g)
     × (firstOf (groupRecord s) g ≡ Accepted)
     × Gathered s served g
     × (early ≡ anyOf (stopsEarly s) g)
+    × Walked s walked g
 
 abbrev μ-loop : tie.MeasureT-loop
-μ-loop s bound head count movements₀ early₀ served₀ g₀ movements early served g = count - g
+μ-loop s bound head count movements₀ walked₀ early₀ served₀ g₀ movements walked early served g = count - g
 
 set-bound-requires : tie.Need-set-bound-requires Inv-loop μ-loop
 set-bound-requires c κs = search needs
@@ -49,7 +51,7 @@ cast-count c = search needs
 
 loop-holds : tie.Need-loop-holds Inv-loop μ-loop
 unfolding countOf firstOf anyOf
-loop-holds c = (omega arith, refl, refl, gathered-none _, refl)
+loop-holds c = (omega arith, refl, refl, gathered-none _, refl, walked-none _)
 
 pair-at-requires : tie.Need-pair-at-requires Inv-loop μ-loop
 pair-at-requires c κs =
@@ -147,28 +149,35 @@ add-g c = search needs
 loop-less : tie.Need-loop-less Inv-loop μ-loop
 loop-less c = search needs
 
--- after the mark of group g was asked for: the count goes on, and the group is not the ninth pedestrian one
+-- after the mark of group g was asked for: the count and the set go on, and the group is not the ninth pedestrian one
 counted :
     (c : tie.Joined2 Inv-loop μ-loop) →
     let atLoop = c .before .before .before .before .before in
     let b = atLoop .before .before .before .before .args .s .now in
     let g = atLoop .loop .g in
-    (c .if2 .movements ≡ countOf (pedestrian b) (g + 1)) × (ninthPedestrian b g ≡ false)
+    (c .if2 .movements ≡ countOf (pedestrian b) (g + 1)) × Walked b (c .if2 .walked) (g + 1) × (ninthPedestrian b g ≡ false)
 unfolding pedestrian ninthPedestrian pedestriansBefore
 counted c =
     let atLoop = c .before .before .before .before .before in
     let b = atLoop .before .before .before .before .args .s .now in
     let g = atLoop .loop .g in
     let before = atLoop .loop .inv .1 in
-    let mark = recordRead (c .before .before) .1 in
+    let walked = atLoop .loop .inv .5 in
+    let read = recordRead (c .before .before) in
+    let mark = read .1 in
     ⊎-elim
-    (λ w. (
-      w .2 ∙ count-one-more _ _ before (eq-eqb _ _ (sym mark ∙ w .0 .taken)),
+    (λ w.
+    let walks = eq-eqb _ _ (sym mark ∙ w .0 .taken) in (
+      w .2 ∙ count-one-more _ _ before walks,
+      subst (λ (set : ℕ). Walked b set (g + 1)) (sym (w .3)) (walked-more b walked (read .0) (sym (read .2) ∙ c .before .if1 .left) walks),
       and-false-right (pedestrian b g) (ne-eqb _ _ (λ e. w .1 .left (before ∙ e))),
     ))
     (λ w.
-    let vehicle = ne-eqb _ _ (λ e. w .0 .left (mark ∙ e)) in
-    (w .1 ∙ count-as-before _ _ before vehicle, and-false-left _ vehicle))
+    let vehicle = ne-eqb _ _ (λ e. w .0 .left (mark ∙ e)) in (
+      w .1 ∙ count-as-before _ _ before vehicle,
+      subst (λ (set : ℕ). Walked b set (g + 1)) (sym (w .2)) (walked-same b walked vehicle),
+      and-false-left _ vehicle,
+    ))
     (c .if2 .came)
 
 loop-again : tie.Need-loop-again Inv-loop μ-loop
@@ -180,9 +189,10 @@ loop-again c =
     let good = sym (read .2) ∙ c .before .if1 .left in (
       omega arith,
       counted c .0,
-      first-more _ _ (atLoop .loop .inv .2) (group-passed _ _ good (counted c .1)),
+      first-more _ _ (atLoop .loop .inv .2) (group-passed _ _ good (counted c .2)),
       gathered-more _ _ _ (omega arith) (read .0) good (atLoop .loop .inv .3),
       rw add-one (ap₂ (λ s t. s || t) (atLoop .loop .inv .4) (ap (λ m. eqb m 3) (read .1))),
+      counted c .1,
     )
 
 cast-if4 : tie.Need-cast-if4 Inv-loop μ-loop
@@ -218,6 +228,7 @@ returns-3 c =
       verdict =
           passed .0 _ (sym (refuse-no 8 _ (all-served _ _ (bounded (c .before .before .before .before)) (passed .1) (c .if4 .taken))));
       movements = λ accepted. inv .1 ∙ ap (countOf (pedestrian _)) (passed .2);
+      walked = λ accepted. rw (← passed .2) (inv .5);
       early = λ accepted. inv .4 ∙ ap (anyOf (stopsEarly _)) (passed .2);
     }
 

@@ -1,20 +1,26 @@
 -- `after::after_pedestrians` meets its contract: the checks in their order, the first refusal being the answer.
 use Prim.Native.Nat.{ℕ}
 use mathlib.Core.List.{List}
-use mathlib.Core.Path.{_≡_}
+use mathlib.Core.Path.{_≡_, refl, sym, ap, _∙_}
 use lib.Dec.{ltb}
 use lib.ListN.{length}
 use borrow.Author.Needs.{needs}
+use borrow.Author.Tests.{not-true, not-false}
 use Rattle.rules.specs.declared.answer.Verdict.{Verdict}
+use Rattle.rules.specs.declared.answer.Verdict.the-variants.{Refused}
 use Rattle.rules.specs.Verdicts.{_orElse_, refuseIf}
-use Rattle.rules.specs.Personality.{endOf, orderSection, earlyMissing, afterPedestrians}
-use Rattle.rules.proofs.Verdicts.{or-next, or-stop}
+use Rattle.rules.specs.Personality.{detectorsHead, endOf, orderSection, phaseWithoutCaller, earlyMissing, afterPedestrians}
+use Rattle.rules.proofs.Verdicts.{or-next, or-stop, refuse-yes, refuse-no}
 use Rattle.read_personality.proofs.after.after_pedestrians.Statement.{statement}
 use Rattle.read_personality.proofs.after.after_pedestrians.Tie as tie
 
 -- the check of bytes left over
 abbrev restFrom : List ℕ → Verdict
 restFrom b = refuseIf (ltb (endOf b) (length b)) 12 (endOf b)
+
+-- the check of callers
+abbrev callers : List ℕ → Verdict
+callers b = refuseIf (phaseWithoutCaller b) 21 (detectorsHead b)
 
 early-section-requires : tie.Need-early-section-requires
 early-section-requires c κs = search needs
@@ -33,7 +39,7 @@ enum-told-2 c = search needs
 pastEarly :
     (c : tie.After-enum-told2) {v : Verdict} →
     let b = c .before .before .before .before .args .s .now in
-    v ≡ (orderSection b orElse earlyMissing b orElse restFrom b) →
+    v ≡ (orderSection b orElse callers b orElse earlyMissing b orElse restFrom b) →
     v ≡ afterPedestrians b
 unfolding afterPedestrians
 pastEarly c e = or-next (c .before .before .early-section .ensures) (c .enum-told2 .given .1) e
@@ -54,10 +60,34 @@ enum-told-4 c = search needs
 pastOrder :
     (c : tie.After-enum-told4) {v : Verdict} →
     let b = c .before .before .before .before .before .before .before .args .s .now in
-    v ≡ (earlyMissing b orElse restFrom b) →
+    v ≡ (callers b orElse earlyMissing b orElse restFrom b) →
     v ≡ afterPedestrians b
 pastOrder c e =
     pastEarly (c .before .before .before) (or-next (c .before .before .order-section .ensures) (c .enum-told4 .given .1) e)
+
+each-called-requires : tie.Need-each-called-requires
+each-called-requires c κs = search needs
+
+returns-3 : tie.Need-returns-3
+returns-3 c =
+    let call = c .before in
+    let laid = call .before .before .before .before .before .before .before .before .pre .0 in
+    pastOrder (call .before)
+    (or-stop _
+    (ap (Refused 21) (laid .detectors)
+    ∙ refuse-yes 21 _ (not-false _ (sym (call .each-called .ensures) ∙ not-true _ (c .if1 .taken))))
+    refl)
+
+-- and each phase has a caller
+pastCallers :
+    (c : tie.Else1) {v : Verdict} →
+    let b = c .before .before .before .before .before .before .before .before .before .args .s .now in
+    v ≡ (earlyMissing b orElse restFrom b) →
+    v ≡ afterPedestrians b
+pastCallers c e =
+    let call = c .before in
+    pastOrder (call .before)
+    (or-next refl (refuse-no 21 _ (not-true _ (sym (call .each-called .ensures) ∙ not-false _ (c .if1 .left)))) e)
 
 early-missing-requires : tie.Need-early-missing-requires
 early-missing-requires c κs = search needs
@@ -65,8 +95,8 @@ early-missing-requires c κs = search needs
 enum-told-5 : tie.Need-enum-told-5
 enum-told-5 c = search needs
 
-returns-3 : tie.Need-returns-3
-returns-3 c = pastOrder (c .before .before .before) (or-stop _ (c .before .before .early-missing .ensures) (c .enum-told5 .given .1))
+returns-4 : tie.Need-returns-4
+returns-4 c = pastCallers (c .before .before .before) (or-stop _ (c .before .before .early-missing .ensures) (c .enum-told5 .given .1))
 
 enum-told-6 : tie.Need-enum-told-6
 enum-told-6 c = search needs
@@ -77,13 +107,13 @@ past-requires c κs = search needs
 left-over-requires : tie.Need-left-over-requires
 left-over-requires c κs = search needs
 
-returns-4 : tie.Need-returns-4
+returns-5 : tie.Need-returns-5
 unfolding endOf
-returns-4 c =
+returns-5 c =
     let passed = c .before .before in
     let missing = passed .before .before in
-    let laid = missing .before .before .before .before .before .before .before .before .pre .0 in
-    pastOrder (missing .before)
+    let laid = missing .before .before .before .before .before .before .before .before .before .before .pre .0 in
+    pastCallers (missing .before)
     (or-next (missing .early-missing .ensures) (passed .enum-told6 .given .1)
     (rw (c .before .past .ensures .0, laid .order, laid .nine) at (c .left-over .ensures)))
 
@@ -99,10 +129,12 @@ after-pedestrians-spec =
     enum-told-3
     returns-2
     enum-told-4
+    each-called-requires
+    returns-3
     early-missing-requires
     enum-told-5
-    returns-3
+    returns-4
     enum-told-6
     past-requires
     left-over-requires
-    returns-4)
+    returns-5)

@@ -1,0 +1,165 @@
+-- Every other phase can be called. A phase has a detector that calls it, with lock or without, or a movement; one input bit, that detector's or
+-- that movement's button, demands the phase. The movement is not in walk, since in a valid state only movements of the phase on are.
+use Prim.Native.Nat.{ℕ, _+_, _%_, _^_, _<_}
+use mathlib.Core.Bool.{Bool, true, false, not, _&&_, _||_, true≢false}
+use mathlib.Core.Logic.{⊎-elim}
+use mathlib.Core.Path.{_≡_, refl, sym, ap, _∙_}
+use native.Mathlib.Omega.{arith}
+use lib.Dec.{ltb, eqb}
+use lib.ListN.{getD}
+use borrow.Author.Tests.{ltb-true, eqb-true, eqb-false, lt-ltb, le-leb, eq-eqb, ne-eqb}
+use Rattle.rules.specs.declared.site.Site.{Site}
+use Rattle.rules.specs.declared.state.Stage.{Stage}
+use Rattle.rules.specs.declared.state.Stage.the-variants.{Idle, Walk, ClearanceOne, ClearanceTwo}
+use Rattle.rules.specs.declared.state.State.{State}
+use Rattle.rules.specs.Bytes.{bit}
+use Rattle.rules.specs.Rows.{allOf}
+use Rattle.rules.specs.Personality.{knownMode}
+use Rattle.rules.specs.Site.{detectorOf, crosses}
+use Rattle.rules.specs.Intervals.{isIdle, isWalk, isGreen}
+use Rattle.rules.specs.State.{locked, asked, movement}
+use Rattle.rules.specs.Demands.{occupied, pressed, calling, locking, detectedAmong, detected, inGreen, registersLock, registersButton, calls, demandsAfter, movementDemands, stands, demanded}
+use Rattle.rules.specs.Call.{wired, strayInput}
+use Rattle.rules.specs.Laws.{Sound, PhasesCanBeCalled}
+use Rattle.rules.proofs.Rows.{any-at, any-none, all-at, list-at}
+use Rattle.rules.proofs.Tests.{decided, and-left, and-both, and-false-left, and-false-right, or-left, or-right, not-true-false}
+use Rattle.proof_runs.proofs.ValidStates.{ValidState, state-told}
+
+-- of the four rests of a mode the last that calls
+last-left : (rest : ℕ) → rest < 3 → (rest ≡ 0 → ⊥) → (rest ≡ 1 → ⊥) → rest ≡ 2
+last-left rest few some other = omega (arith, some, other)
+
+walk-not-idle : (stage : Stage) → isWalk stage ≡ true → isIdle stage ≡ false
+unfolding isWalk isIdle
+walk-not-idle Idle h = sym h
+walk-not-idle Walk h = refl
+walk-not-idle ClearanceOne h = refl
+walk-not-idle ClearanceTwo h = refl
+
+-- ── One input bit ──
+
+-- as a computed test
+abbrev agree : Bool → Bool → Bool
+agree true t = t
+agree false t = not t
+
+agree-told : (s t : Bool) → agree s t ≡ true → s ≡ t
+agree-told true t h = sym h
+agree-told false true h = absurd (true≢false (sym h))
+agree-told false false h = refl
+
+only-bit : (i j : ℕ) → i < 56 → j < 64 → bit j (2 ^ i) ≡ eqb i j
+unfolding bit allOf
+only-bit i j l m =
+    agree-told (bit j (2 ^ i)) (eqb i j)
+    (all-at (λ j. agree (bit j (2 ^ i)) (eqb i j)) 64 j
+    (all-at (λ i. allOf (λ j. agree (bit j (2 ^ i)) (eqb i j)) 64) 56 i refl l) m)
+
+own-bit : (i : ℕ) → i < 56 → bit i (2 ^ i) ≡ true
+own-bit i l = only-bit i i l (omega arith) ∙ eq-eqb i i refl
+
+module _ (site : Site) where
+  none-stray : (i : ℕ) → i < 56 → wired site i ≡ true → strayInput site (2 ^ i) ≡ false
+  unfolding strayInput
+  none-stray i l known =
+      any-none _ 64
+      (λ j m.
+      ⊎-elim
+      (λ (e : eqb i j ≡ true). and-false-right (bit j (2 ^ i)) (ap not (ap (wired site) (sym (eqb-true i j e)) ∙ known)))
+      (λ (e : eqb i j ≡ false). and-false-left (not (wired site j)) (only-bit i j l m ∙ e))
+      (decided (eqb i j)))
+
+  -- ── Demands ──
+
+  module _ (s : State) (p : ℕ) (other : p ≡ s .position .phase → ⊥) where
+    -- detectors may demand the phase
+    outside : not (inGreen (s .position) p) ≡ true
+    unfolding inGreen
+    outside = ap not (and-false-left (isGreen (s .position .interval)) (ne-eqb p (s .position .phase) other))
+
+    lock-demands : (inputs : ℕ) → p < 7 → detected locking site inputs p ≡ true → demanded site s inputs p ≡ true
+    unfolding demanded stands demandsAfter registersLock
+    lock-demands inputs l e =
+        or-left (calls site s inputs p)
+        (or-left _ (list-at _ 7 p false l ∙ or-right (locked s p) (and-both e outside)))
+
+    call-demands : (inputs : ℕ) → detected calling site inputs p ≡ true → demanded site s inputs p ≡ true
+    unfolding demanded calls
+    call-demands inputs e = or-right (stands site (demandsAfter site s inputs) p) (and-both e outside)
+
+    press-demands :
+        (inputs k : ℕ) →
+        k < site .size .movements →
+        k < 8 →
+        crosses (site .crossings) k p ≡ true →
+        registersButton (s .movements) inputs k ≡ true →
+        demanded site s inputs p ≡ true
+    unfolding demanded stands demandsAfter movementDemands
+    press-demands inputs k l room c e =
+        or-left (calls site s inputs p)
+        (or-right (getD (demandsAfter site s inputs .locks) p false)
+        (any-at (λ k. getD (demandsAfter site s inputs .buttons) k false && crosses (site .crossings) k p) (site .size .movements) k l
+        (and-both (list-at (λ k. asked s k || registersButton (s .movements) inputs k) 8 k false room ∙ or-right (asked s k) e) c)))
+
+    -- ── The callers ──
+
+    module _ (sound : Sound site) (v : ValidState site s) (here : p < site .size .phases) where
+      -- by that input alone
+      abbrev CalledBy : ℕ → Type 0
+      CalledBy i = (strayInput site (2 ^ i) ≡ false) × (demanded site s (2 ^ i) p ≡ true)
+
+      module _ (d : ℕ) (l : d < site .size .detectors) (own : detectorOf (site .detectors) d .phase ≡ p) where
+        detector-bit : d < 56
+        detector-bit = omega (arith, sound .detectors)
+
+        found : (kind : ℕ → Bool) → kind (detectorOf (site .detectors) d .mode) ≡ true → detected kind site (2 ^ d) p ≡ true
+        unfolding detected detectedAmong occupied
+        found kind e = any-at _ (site .size .detectors) d l (and-both (and-both (own-bit d detector-bit) (eq-eqb _ p own)) e)
+
+        by-detector : (detectorOf (site .detectors) d .mode % 4 ≡ 0 → ⊥) → CalledBy d
+        unfolding knownMode calling locking wired
+        by-detector some =
+            let rest = detectorOf (site .detectors) d .mode % 4 in
+            let few = ltb-true rest 3 (and-left (ltb rest 3) _ (sound .detectorMode d l)) in (
+              none-stray d detector-bit (or-left _ (lt-ltb d (site .size .detectors) l)),
+              ⊎-elim
+                  (λ (e : eqb rest 1 ≡ true). call-demands (2 ^ d) (found calling e))
+                  (λ (e : eqb rest 1 ≡ false).
+                  lock-demands (2 ^ d) (omega (arith, here, sound .phases .1))
+                  (found locking (eq-eqb rest 2 (last-left rest few some (eqb-false rest 1 e)))))
+                  (decided (eqb rest 1)),
+            )
+
+      module _ (k : ℕ) (l : k < site .size .movements) (own : crosses (site .crossings) k p ≡ true) where
+        room : k < 8
+        room = omega (arith, sound .movements)
+
+        -- in walk it would be of the phase on, and it is of p alone
+        not-walking : isWalk (movement s k .stage) ≡ false
+        not-walking =
+            not-true-false (isWalk (movement s k .stage))
+            (λ walking.
+            let on = v .movements k room .ofPhase (walk-not-idle (movement s k .stage) walking) .1 in
+            let one = sound .crossing k l in
+            other (one .3 p own ∙ sym (one .3 (s .position .phase) on)))
+
+        by-button : CalledBy (48 + k)
+        unfolding registersButton pressed movement wired
+        by-button =
+            let button : 48 + k < 56 = omega (arith, room) in (
+              none-stray (48 + k) button
+                  (or-right (ltb (48 + k) (site .size .detectors))
+                  (and-both (le-leb 48 (48 + k) (omega arith)) (lt-ltb (48 + k) (48 + site .size .movements) (omega arith)))),
+              press-demands (2 ^ (48 + k)) k l room own (and-both (own-bit (48 + k) button) (ap not not-walking)),
+            )
+
+      called : (inputs : ℕ) × (strayInput site inputs ≡ false) × (demanded site s inputs p ≡ true)
+      called =
+          ⊎-elim
+          (λ w. let by = by-detector (w .0) (w .1) (w .2) (w .3) in (2 ^ w .0, by .0, by .1))
+          (λ w. let by = by-button (w .0) (w .1) (w .2) in (2 ^ (48 + w .0), by .0, by .1))
+          (sound .caller p here)
+
+pub phases-can-be-called : PhasesCanBeCalled
+unfolding PhasesCanBeCalled
+phases-can-be-called site sound s h p here other = called site s p other sound (state-told site s h) here
