@@ -69,9 +69,13 @@ check 'library and model agree' compare_with_model 1 50000
 check 'demand 3 watched' compare_with_model 1 watch 4000000
 
 # The library from C: what it needs, the conditions that its header states, and the example program.
-for part in needs conditions steps; do
+for part in needs conditions steps settings; do
     check "examples/c/check.sh $part" examples/c/check.sh "$part"
 done
+
+# The settings of site sheets against exact arithmetic.
+compare_sheets() { (cd rust && cargo run --quiet --release --offline --features linked -p sheet -- "$@"); }
+check 'settings of site sheets agree' compare_sheets 1 1000000
 
 for edit in edits/*.edit; do
     check "$edit" edits/run.sh "$(basename "$edit" .edit)"

@@ -9,6 +9,7 @@
  *   a whole personality are refused with 12, a state of another length than WILLOWERA_STATE_BYTES with 13.
  * - Nothing else writes a buffer while a call has it, and nothing else reads the state or the colours that it writes.
  * - State and colours overlap neither each other nor the personality. They may touch it and each other.
+ * - willowera_settings is called in the default floating-point environment: numbers are rounded to nearest, subnormal ones are kept.
  *
  * What the caller need not see to, which examples/c/conditions.c tries:
  *
@@ -26,6 +27,9 @@
  * The archive is for x86-64 Linux, System V calling convention, C or C++. It may be linked into programs and shared objects, and needs
  * nothing but memcpy and memset. It uses the vector registers (SSE2) and the red zone, and leaves the floating-point environment alone.
  * All numbers are unsigned; a byte is a uint8_t.
+ *
+ * willowera_settings alone computes with floating-point numbers: the metres of a sheet are a double, and its arithmetic may raise the
+ * flags of the environment.
  */
 #ifndef WILLOWERA_H
 #define WILLOWERA_H
@@ -72,6 +76,11 @@ extern "C" {
 #define WILLOWERA_CLEARANCE_ONE 2
 #define WILLOWERA_CLEARANCE_TWO 3
 
+/* ── Detectors of a site sheet: in advance at a distance, or a stop-line zone of a length ── */
+
+#define WILLOWERA_ADVANCE 0
+#define WILLOWERA_STOP_LINE 1
+
 /* ── Refusals ── */
 
 #define WILLOWERA_ACCEPTED 0
@@ -94,6 +103,10 @@ extern "C" {
 #define WILLOWERA_WRONG_ORDER 18        /* kind 9 has not each phase once; place: its head */
 #define WILLOWERA_UNCALLED_PHASE 21     /* neither a calling detector nor a pedestrian group; place: the kind 5 head */
 
+/* Those of a site sheet. */
+#define WILLOWERA_SHEET_OUT_OF_RANGE 19 /* speed not 20 to 110, metres not 0 to 300, or no such detector; place 0 */
+#define WILLOWERA_ABOVE_LIMITS 20       /* minimum green above 400 or passage time above 100; place 0 */
+
 /* ── Answers: the number in the low 8 bits, and above it the place of a refusal, or what an accepted call gives ── */
 
 #define WILLOWERA_NUMBER(answer) ((unsigned)((answer) & 0xff))
@@ -101,6 +114,8 @@ extern "C" {
 #define WILLOWERA_WAIT(answer) ((uint32_t)((answer) >> 8))
 #define WILLOWERA_OFFSET(answer) ((size_t)((answer) >> 8 & 0xffffffff))
 #define WILLOWERA_LENGTH(answer) ((size_t)((answer) >> 40))
+#define WILLOWERA_MINIMUM_GREEN_SETTING(answer) ((uint16_t)((answer) >> 8))
+#define WILLOWERA_PASSAGE_TIME(answer) ((uint16_t)((answer) >> 24))
 
 /* ── Calls ── */
 
@@ -116,6 +131,11 @@ uint64_t willowera_fresh(uint8_t *state, size_t state_length);
 /* One step of 0.1 s: the next state and the colours in place, and the wait bound (WILLOWERA_WAIT); or a refusal. */
 uint64_t willowera_step(const uint8_t *personality, size_t personality_length, uint8_t *state, size_t state_length,
                         uint64_t inputs, uint8_t *colours, size_t colours_length);
+
+/* Minimum green and passage time in steps (WILLOWERA_MINIMUM_GREEN_SETTING, WILLOWERA_PASSAGE_TIME) of an approach: its speed in km/h,
+ * and its detector at a distance, or of a length, in metres; or a refusal. A NaN, an infinity and a detector that is neither
+ * WILLOWERA_ADVANCE nor WILLOWERA_STOP_LINE are refused with 19. */
+uint64_t willowera_settings(uint32_t speed, uint32_t detector, double metres);
 
 /* Where the body of the section of a kind is (WILLOWERA_OFFSET, WILLOWERA_LENGTH); or a refusal. */
 uint64_t willowera_section(const uint8_t *personality, size_t personality_length, uint16_t kind);

@@ -4,6 +4,7 @@
 #     check.sh needs         it needs nothing but memcpy and memset, and has no data that could be written
 #     check.sh conditions    what include/willowera.h says of buffers and threads, tried by conditions.c
 #     check.sh steps         steps.c prints the colours of the trace of the junction of two phases
+#     check.sh settings      settings.c prints the answers that the data sheet's table of site sheets has
 #
 # The programs are built with gcc's address and undefined-behaviour sanitizers, which watch the caller's side.
 set -u -o pipefail
@@ -23,6 +24,7 @@ run() { # NAME WORDS..
 
 undefined_names() { nm -u "$library" | awk '$1 == "U" { print $2 }' | sort | xargs; }
 writable_sections() { readelf -SW "$library" | sed 's/^ *\[ *[0-9]*\]//' | awk '$7 ~ /W/ { print $1 }'; }
+sheets() { awk -F ' *[|] *' "/^## / { here = /from a site sheet/ } here && \$2 ~ /^[0-9]+\$/ { print $1 }" docs/DATA-SHEET.md; }
 changes() { awk 'NR > 1 && $4 != last { print $1, $4; last = $4 }' "$1"; }
 
 case "${1:-}" in
@@ -37,8 +39,12 @@ steps)
     run steps examples/two_phases/personality.bin 80 12-12:1 |
         cmp - <(echo 'wait bound 270 steps' && changes examples/two_phases/trace_call.txt)
     ;;
+settings)
+    # shellcheck disable=SC2046 # three words of each row
+    run settings $(sheets '$2, $3, $4') | diff - <(sheets '$5')
+    ;;
 *)
-    sed -n '2,8s/^# \{0,1\}//p' "$0"
+    sed -n '2,9s/^# \{0,1\}//p' "$0"
     exit 2
     ;;
 esac

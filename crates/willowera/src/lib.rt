@@ -9,6 +9,9 @@ ghost use Rattle.rules.specs.Personality.{verdictOf};
 ghost use Rattle.rules.specs.Kept.{freshKept};
 ghost use Rattle.board_state.specs.Layout.{encodedOver};
 ghost use Rattle.willowera.specs.Board.{packed, packedVerdict, packedOutcome, freshAnswer, stepAnswer, stateAfter, coloursAfter, sectionAnswer};
+
+pub mod sheet;
+
 use base_reads::two;
 use read_lookup::lookup::head_of;
 use rules::answer::Outcome;

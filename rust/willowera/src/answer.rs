@@ -24,6 +24,13 @@ pub struct Part {
     pub length: usize,
 }
 
+/// The settings of a site sheet, in steps.
+#[derive(Clone, Copy, Debug, PartialEq, Eq)]
+pub struct Settings {
+    pub minimum_green: u16,
+    pub passage_time: u16,
+}
+
 /// What an answer carries where its number is 0 (the wait bound), or the refusal.
 pub fn wait_bound_or_refusal(answer: u64) -> Result<u64, Refusal> {
     let number = answer as u8;
@@ -45,6 +52,16 @@ pub fn part(answer: u64) -> Result<Part, Refusal> {
     Ok(Part {
         offset: (rest & 0xFFFF_FFFF) as usize,
         length: (rest >> 32) as usize,
+    })
+}
+
+/// The settings in the answer to a site sheet: minimum green in bits 8 to 23,
+/// the passage time in bits 24 to 39.
+pub fn sheet_settings(answer: u64) -> Result<Settings, Refusal> {
+    let rest = wait_bound_or_refusal(answer)?;
+    Ok(Settings {
+        minimum_green: rest as u16,
+        passage_time: (rest >> 16) as u16,
     })
 }
 
@@ -81,5 +98,15 @@ mod tests {
         };
         assert_eq!(part(0xFFFF_FFFF_FFFF_FF00), Ok(farthest));
         assert_eq!(part(2).unwrap_err().number, 2);
+    }
+
+    #[test]
+    fn settings_have_a_minimum_green_and_a_passage_time() {
+        let settings = Settings {
+            minimum_green: 400,
+            passage_time: 36,
+        };
+        assert_eq!(sheet_settings(400 << 8 | 36 << 24), Ok(settings));
+        assert_eq!(sheet_settings(19).unwrap_err().number, 19);
     }
 }

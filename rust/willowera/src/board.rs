@@ -1,6 +1,6 @@
 //! The calls of the library with their answers taken apart.
 
-use crate::answer::{part, wait_bound_or_refusal, Refusal};
+use crate::answer::{part, sheet_settings, wait_bound_or_refusal, Refusal, Settings};
 use crate::{packed, STATE_LEN};
 
 /// Accepts or refuses a personality.
@@ -17,6 +17,24 @@ pub fn wait_bound(personality: &[u8]) -> Result<u64, Refusal> {
 pub fn section(personality: &[u8], kind: u16) -> Result<&[u8], Refusal> {
     let part = part(packed::section(personality, kind))?;
     Ok(&personality[part.offset..part.offset + part.length])
+}
+
+/// Where an approach is detected, in metres.
+#[derive(Clone, Copy, Debug, PartialEq)]
+pub enum Detector {
+    /// In advance, at a distance from the stop line.
+    Advance(f64),
+    /// In a zone of a length at the stop line.
+    StopLine(f64),
+}
+
+/// Minimum green and passage time of an approach whose speed is in km/h.
+pub fn settings(speed: u32, detector: Detector) -> Result<Settings, Refusal> {
+    let (number, metres) = match detector {
+        Detector::Advance(metres) => (0, metres),
+        Detector::StopLine(metres) => (1, metres),
+    };
+    sheet_settings(packed::settings(speed, number, metres))
 }
 
 /// The version of the library.

@@ -10,9 +10,9 @@ mod board;
 #[cfg(feature = "linked")]
 pub mod packed;
 
-pub use answer::{part, wait_bound_or_refusal, Part, Refusal};
+pub use answer::{part, sheet_settings, wait_bound_or_refusal, Part, Refusal, Settings};
 #[cfg(feature = "linked")]
-pub use board::{read, section, version, wait_bound, Controller};
+pub use board::{read, section, settings, version, wait_bound, Controller, Detector};
 
 /// The version of the interface that these wrappers are for.
 pub const VERSION: u32 = 3;

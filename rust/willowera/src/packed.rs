@@ -17,6 +17,7 @@ mod ffi {
             colours_len: usize,
         ) -> u64;
         pub fn willowera_section(personality: *const u8, personality_len: usize, kind: u16) -> u64;
+        pub fn willowera_settings(speed: u32, detector: u32, metres: f64) -> u64;
         pub fn willowera_version() -> u32;
     }
 }
@@ -61,6 +62,13 @@ pub fn step(personality: &[u8], state: &mut [u8], inputs: u64, colours: &mut [u8
 pub fn section(personality: &[u8], kind: u16) -> u64 {
     // SAFETY: the pointer and the length are those of one slice, only read.
     unsafe { ffi::willowera_section(personality.as_ptr(), personality.len(), kind) }
+}
+
+/// The settings of a site sheet: minimum green in bits 8 to 23, the passage time
+/// in bits 24 to 39.
+pub fn settings(speed: u32, detector: u32, metres: f64) -> u64 {
+    // SAFETY: takes numbers and touches no memory of ours.
+    unsafe { ffi::willowera_settings(speed, detector, metres) }
 }
 
 /// The version of the library.

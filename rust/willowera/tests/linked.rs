@@ -38,6 +38,23 @@ fn sections_are_parts_of_the_personality() {
 }
 
 #[test]
+fn settings_of_a_sheet() {
+    use willowera::{settings, Detector, Settings};
+    let given = |minimum_green, passage_time| {
+        Ok(Settings {
+            minimum_green,
+            passage_time,
+        })
+    };
+    assert_eq!(settings(32, Detector::Advance(18.0)), given(100, 21));
+    assert_eq!(settings(32, Detector::StopLine(18.0)), given(100, 0));
+    let refused = |number| Err(Refusal { number, place: 0 });
+    assert_eq!(settings(32, Detector::Advance(f64::NAN)), refused(19));
+    assert_eq!(settings(32, Detector::StopLine(300.0)), refused(20));
+    assert_eq!(packed::settings(32, 2, 18.0), 19);
+}
+
+#[test]
 fn steps_to_the_first_green() {
     let mut controller = Controller::new(&JUNCTION).unwrap();
     let mut colours = [9; 3];

@@ -1,0 +1,4 @@
+pub mod Extremes
+pub mod Metres
+pub mod Stated
+pub mod Cases

@@ -1,0 +1,76 @@
+-- `willowera::sheet::settings_of` meets its contract, by the two cases of the answer; the place of a refusal is 0.
+use Prim.Native.Nat.{ℕ, _+_, _*_}
+use mathlib.Core.Path.{_≡_, sym, _∙_}
+use native.Mathlib.Nat.{zero-add, add-zero}
+use native.Mathlib.Omega.{arith}
+use borrow.Author.Needs.{needs}
+use Rattle.sheet_settings.specs.declared.Answer.{Answer}
+use Rattle.sheet_settings.specs.declared.Answer.the-variants.{Settings, Refused}
+use Rattle.sheet_settings.specs.Sheet.{settingsReportOf, minimumOf, passageOf}
+use Rattle.sheet_settings.proofs.Stated.{refused-place}
+use Rattle.willowera.specs.Board.{packed}
+use Rattle.willowera.specs.SheetCall.{packedSettings}
+use Rattle.willowera.proofs.sheet.settings_of.Statement.{statement}
+use Rattle.willowera.proofs.sheet.settings_of.Tie as tie
+
+packed-given : (a b : Answer) (r : ℕ) {m g : ℕ} → a ≡ b → a ≡ Settings m g → r ≡ packed 0 (m + 65536 * g) → r ≡ packedSettings b
+unfolding packedSettings settingsReportOf minimumOf passageOf
+packed-given a b r e f p = rw (sym e ∙ f, zero-add, p)
+
+packed-refused : (a b : Answer) (r : ℕ) {number place : ℕ} → a ≡ b → a ≡ Refused number place → r ≡ packed number place → r ≡ packedSettings b
+unfolding packedSettings settingsReportOf minimumOf passageOf
+packed-refused a b r e f p = rw (sym e ∙ f, p) (simp add-zero)
+
+settings-requires : tie.Need-settings-requires
+settings-requires c κs = search needs
+
+enum-known-answer : tie.Need-enum-known-answer
+enum-known-answer c = search needs
+
+cast-pack : tie.Need-cast-pack
+cast-pack c = search needs
+
+cast-pack-2 : tie.Need-cast-pack-2
+cast-pack-2 c = search needs
+
+mul-pack : tie.Need-mul-pack
+mul-pack c = search needs
+
+add-pack : tie.Need-add-pack
+add-pack c = search needs
+
+pack-requires : tie.Need-pack-requires
+pack-requires c κs = search needs
+
+enum-known-answer-2 : tie.Need-enum-known-answer-2
+enum-known-answer-2 c = search needs
+
+refusal-requires : tie.Need-refusal-requires
+refusal-requires c κs =
+    let z = refused-place (c .before .before .before .settings .ensures .1) (c .before .answer2 .given .1) in omega arith
+
+returns : tie.Need-returns
+returns c =
+    let made = c .before .before .before .before .settings in
+    packed-given (made .result) _ _ (made .ensures .0) (c .before .before .answer .given .1) (c .pack .ensures)
+
+returns-2 : tie.Need-returns-2
+returns-2 c =
+    let made = c .before .before .before .before .settings in
+    packed-refused (made .result) _ _ (made .ensures .0) (c .before .before .answer2 .given .1) (c .refusal .ensures)
+
+pub settings-of-spec : {M : Type 1} → statement M
+settings-of-spec =
+    tie.close
+    (tie.spec
+    settings-requires
+    enum-known-answer
+    cast-pack
+    cast-pack-2
+    mul-pack
+    add-pack
+    pack-requires
+    enum-known-answer-2
+    refusal-requires
+    returns
+    returns-2)

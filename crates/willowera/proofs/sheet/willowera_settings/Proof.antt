@@ -1,0 +1,40 @@
+-- `willowera::sheet::willowera_settings` meets its contract, by the detector's number.
+use borrow.Author.Needs.{needs}
+use borrow.Author.Tests.{ne-eqb}
+use Rattle.willowera.specs.SheetCall.{settingsAnswer}
+use Rattle.willowera.proofs.sheet.willowera_settings.Statement.{statement}
+use Rattle.willowera.proofs.sheet.willowera_settings.Tie as tie
+
+settings-of-requires : tie.Need-settings-of-requires
+settings-of-requires c κs = search needs
+
+returns : tie.Need-returns
+unfolding settingsAnswer
+returns c = rw (c .before .if1 .taken) (c .settings-of .ensures)
+
+settings-of-requires-2 : tie.Need-settings-of-requires-2
+settings-of-requires-2 c κs = search needs
+
+returns-2 : tie.Need-returns-2
+unfolding settingsAnswer
+returns-2 c = rw (c .before .if2 .taken) (c .settings-of2 .ensures)
+
+refusal-requires : tie.Need-refusal-requires
+refusal-requires c κs = search needs
+
+returns-3 : tie.Need-returns-3
+unfolding settingsAnswer
+returns-3 c =
+    let detector = c .before .before .before .args .detector in
+    rw (ne-eqb detector 0 (c .before .before .if1 .left), ne-eqb detector 1 (c .before .if2 .left)) (c .refusal .ensures)
+
+pub willowera-settings-spec : {M : Type 1} → statement M
+willowera-settings-spec =
+    tie.close
+    (tie.spec
+    settings-of-requires
+    returns
+    settings-of-requires-2
+    returns-2
+    refusal-requires
+    returns-3)
