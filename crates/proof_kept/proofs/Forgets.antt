@@ -32,12 +32,7 @@ use Rattle.rules.proofs.Rows.{all-each, list-at, any-none}
 use Rattle.rules.proofs.Verdicts.{or-first}
 use Rattle.proof_runs.proofs.Chains.{checks-told}
 use Rattle.proof_runs.proofs.Steps.{askedNow, lockedNow, begun, ended, now, asked-at, locked-at, locked-of, asked-of}
-use Rattle.proof_kept.proofs.Scans.{standingAfter, kept-after, next-kept, kept-left}
-
-same-holds : (a b : Bool) → a ≡ b → same a b ≡ true
-unfolding same
-same-holds true b e = sym e
-same-holds false b e = ap not (sym e)
+use Rattle.proof_kept.proofs.Scans.{same-holds, standingAfter, kept-after, next-kept, kept-left}
 
 pub step-forgets : StepForgets
 unfolding StepForgets keptStepped stepped

@@ -25,11 +25,16 @@ use Rattle.proof_ring.proofs.Ring.{found-same}
 use Rattle.proof_ring.proofs.Orders.{ring-of}
 use Rattle.proof_runs.proofs.Steps.{askedNow, lockedNow, asked-at, locked-at}
 
-same-told : (a b : Bool) → same a b ≡ true → a ≡ b
+pub same-told : (a b : Bool) → same a b ≡ true → a ≡ b
 unfolding same
 same-told true b h = sym h
 same-told false true h = h
 same-told false false h = refl
+
+pub same-holds : (a b : Bool) → a ≡ b → same a b ≡ true
+unfolding same
+same-holds true b e = sym e
+same-holds false b e = ap not (sym e)
 
 pub kept-is-scan : KeptIsScan
 unfolding KeptIsScan keptValid

@@ -7,3 +7,4 @@ pub mod Counts
 pub mod Bits
 pub mod Intervals
 pub mod Settings
+pub mod Pass

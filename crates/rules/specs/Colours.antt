@@ -1,9 +1,10 @@
 -- The colours that the groups show in a state.
 use Prim.Native.Nat.{ℕ, _+_}
 use mathlib.Core.Bool.{Bool, not, _&&_, _||_}
-use mathlib.Core.List.{List}
+use mathlib.Core.List.{List, _++_}
+use mathlib.Core.Path.{_≡_}
 use lib.Dec.{leb, eqb}
-use lib.ListN.{getD}
+use lib.ListN.{getD, drop}
 use Rattle.rules.specs.declared.site.Group.{Group}
 use Rattle.rules.specs.declared.site.PhaseTimes.{PhaseTimes}
 use Rattle.rules.specs.declared.site.Site.{Site}
@@ -89,3 +90,30 @@ shownIn site s = colourOf (site .groups) (closing (site .times) (s .position)) (
 
 unfoldable pub coloursOf : Site → State → List ℕ
 coloursOf site s = listOf (shownIn site s) (site .size .groups)
+
+-- ── The pass of the group list ──
+
+-- what the buffer holds once the first g groups are passed, by what each group shows: a byte for each of them, in their order, and every
+-- other byte as handed in
+unfoldable pub bufferAt : (ℕ → ℕ) → List ℕ → ℕ → List ℕ
+bufferAt shown handedIn g = listOf shown g ++ drop g handedIn
+
+-- A point of the pass, where the first g groups are passed: what the buffer holds, and how many of these groups are pedestrian ones, which is
+-- the movement of the next pedestrian group.
+pub record PassedTo
+    (groups : List Group)
+    (shown : ℕ → ℕ)
+    (handedIn : List ℕ)
+    (g : ℕ)
+    (buffer : List ℕ)
+    (pedestrians : ℕ)
+    : Type 0 where
+  pub bytes : buffer ≡ bufferAt shown handedIn g
+  pub counted : pedestrians ≡ movementOf groups g
+
+-- One turn of the pass: whatever buffer was handed in, it leads from the point where the first g groups are passed to that of one group more.
+abbrev pub Turn : List Group → (ℕ → ℕ) → ℕ → List ℕ → ℕ → List ℕ → ℕ → Type 0
+Turn groups shown g buffer pedestrians after more =
+    (handedIn : List ℕ) →
+    PassedTo groups shown handedIn g buffer pedestrians →
+    PassedTo groups shown handedIn (g + 1) after more

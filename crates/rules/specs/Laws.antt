@@ -1,5 +1,6 @@
 -- Laws that show the rules fit together, stated: what a table of limits has to give, what acceptance tells of a site, which refusals
--- there are, how large a wait bound can be, and that steps lead from valid states to valid states.
+-- there are, how large a wait bound can be, what the buffer holds at each point of the pass over the groups, and that steps lead from valid
+-- states to valid states.
 use Prim.Native.Nat.{ℕ, _+_, _*_, _≤_, _<_}
 use mathlib.Core.Bool.{Bool, true, false, _&&_, _||_}
 use mathlib.Core.List.{List}
@@ -22,8 +23,9 @@ use Rattle.rules.specs.Personality.{knownMode, verdictOf}
 use Rattle.rules.specs.Site.{siteOf, groupOf, detectorOf, phaseTimes, walkTimes, inPhase, crosses, isPedestrian, movementOf, conflict}
 use Rattle.rules.specs.State.{highestAge, fresh, valid}
 use Rattle.rules.specs.Step.{stepped}
+use Rattle.rules.specs.Colours.{shownIn, bufferAt}
 use Rattle.rules.specs.WaitBound.{phaseShare, waitBound}
-use Rattle.rules.specs.Call.{strayInput, callVerdict}
+use Rattle.rules.specs.Call.{strayInput, callVerdict, bufferFor}
 
 -- ── A table of limits ──
 
@@ -198,6 +200,23 @@ RefusalIsWritten =
 
 unfoldable pub WaitIsInTable : Type 0
 WaitIsInTable = (b : List ℕ) → verdictOf b ≡ Accepted → waitBound (siteOf b) ≤ greatestWait limits
+
+-- ── The pass of the group list ──
+
+-- once g groups are passed, byte by byte: theirs are what they show, every other one is as handed in, and there are as many as before
+unfoldable pub PassedBytes : Type 0
+PassedBytes =
+    (shown : ℕ → ℕ) (buffer : List ℕ) (g : ℕ) →
+    g ≤ length buffer →
+    ((i : ℕ) → i < g → getD (bufferAt shown buffer g) i 0 ≡ shown i)
+    × ((i : ℕ) → g ≤ i → getD (bufferAt shown buffer g) i 0 ≡ getD buffer i 0)
+    × (length (bufferAt shown buffer g) ≡ length buffer)
+
+-- once all groups are passed, the buffer is as an accepted step hands it back
+unfoldable pub PassEndsInColours : Type 0
+PassEndsInColours =
+    (site : Site) (s : State) (buffer : List ℕ) →
+    bufferAt (shownIn site s) buffer (site .size .groups) ≡ bufferFor Accepted site s buffer
 
 -- ── Valid states ──
 

@@ -1,10 +1,9 @@
 // The checks of a step call on its state and on its input bits.
-ghost use mathlib.Core.Bool.{false, _||_};
+ghost use Prim.Native.Nat.{_≤_};
 ghost use mathlib.Core.Path.{_≡_};
-ghost use lib.ListN.{length, getD};
-ghost use Rattle.rules.specs.Bytes.{bit};
+ghost use lib.ListN.{length};
 ghost use Rattle.rules.specs.Call.{strayInput};
-ghost use Rattle.rules.specs.Kept.{same, keptValid};
+ghost use Rattle.rules.specs.Kept.{keptValid};
 ghost use Rattle.rules.specs.Laws.{Sound};
 ghost use Rattle.rules.specs.Rows.{allOf};
 ghost use Rattle.rules.specs.State.{intervalValid, targetValid, cameValid, ageValid, positionValid, countsValid, demandExists, movementValid, movementsValid, valid};
@@ -17,6 +16,8 @@ use rules::state::KeptState;
 use rules::state::Movement;
 use rules::state::Position;
 use rules::state::State;
+use step_demands::movements;
+use step_demands::phases;
 
 // Ages are from 1 to 2,000 steps.
 const HIGHEST_AGE: u16 = 2000;
@@ -80,7 +81,15 @@ fn counts_valid(times: PhaseTimes, counts: Counts) -> bool
     (counts.gap <= times.gap) & (counts.maximum <= times.maximum)
 }
 
-// Demands only of phases or movements that exist: the last one, counted from 1, is within the count.
+// Locks only of phases that exist.
+fn phases_exist(locks: [bool; 7], count: u8) -> bool
+    requires { ⌜ count ≤ 7 ⌝ }
+    ensures { λ r. ⌜ r ≡ allOf (demandExists locks count) 7 ⌝ }
+{
+    phases::set_of(locks) >> count == 0
+}
+
+// Button demands only of movements that exist: the last one, counted from 1, is within the count.
 fn demands_valid(demands: &[bool], count: u8) -> bool
     ensures { λ r. ⌜ r ≡ allOf (demandExists (now (demands .entry)) count) (length (now (demands .entry))) ⌝ }
 {
@@ -135,6 +144,7 @@ fn movements_valid(
 
 // Whether the state is valid for the site, apart from its kept set.
 fn valid_state(site: Site, state: State) -> bool
+    requires { ⌜ site .size .phases ≤ 7 ⌝ }
     ensures { λ r. ⌜ r ≡ valid site state ⌝ }
 {
     let phases = site.size.phases;
@@ -151,23 +161,9 @@ fn valid_state(site: Site, state: State) -> bool
     let movements = state.movements;
     position_valid(site.early, phases, position)
         & counts_valid(own, counts)
-        & demands_valid(&locks, phases)
+        & phases_exist(locks, phases)
         & demands_valid(&buttons, count)
         & movements_valid(count, crossings, position, movements)
-}
-
-// The marks of the kept set are those of the phases that are locked or in the set of a demanded movement.
-fn kept_valid(kept: [bool; 7], locks: [bool; 7], crossed: u8) -> bool
-    ensures { λ r. ⌜ r ≡ allOf (λ p. same (getD kept p false) (getD locks p false || bit p crossed)) 7 ⌝ }
-{
-    let mut all = true;
-    let mut p: u8 = 0;
-    while p < 7 {
-        let i = p as usize;
-        all = all & (kept[i] == (locks[i] | base_reads::bit8(p, crossed)));
-        p += 1;
-    }
-    all
 }
 
 // Whether the state is valid for the site: a kept set that differs from a scan of its locks and demanded movements is not.
@@ -181,8 +177,9 @@ pub fn valid_kept(site: Site, state: KeptState) -> bool
     let buttons = demands.buttons;
     let crossings = site.crossings;
     let kept = state.kept;
-    let crossed = step_demands::movements::crossed(crossings, buttons, site.size.movements);
-    valid_state(site, rest) & kept_valid(kept, locks, crossed)
+    let scanned = phases::set_of(locks)
+        | movements::crossed(crossings, buttons, site.size.movements);
+    valid_state(site, rest) & (phases::set_of(kept) == scanned)
 }
 
 // Whether an input bit is set without a detector or button there.

@@ -1,2 +1,2 @@
 pub mod Showable
-pub mod Pass
+pub mod Turn

@@ -1,13 +1,14 @@
 // The colours that the signal groups show in a state, one byte a group.
-ghost use Prim.Native.Nat.{_≤_};
+ghost use Prim.Native.Nat.{_≤_, _<_};
 ghost use mathlib.Core.List.{_++_};
 ghost use mathlib.Core.Path.{_≡_};
 ghost use lib.ListN.{length, drop};
 ghost use Rattle.rules.specs.Intervals.{heldIn};
-ghost use Rattle.rules.specs.Rows.{if_then_else_, listOf};
-ghost use Rattle.rules.specs.Colours.{red, yellow, green, sinceCutOff, closing, vehicleColour, movementColour, vehicleShown, colourOf, coloursOf};
+ghost use Rattle.rules.specs.Rows.{if_then_else_};
+ghost use Rattle.rules.specs.Colours.{red, yellow, green, sinceCutOff, closing, vehicleColour, movementColour, vehicleShown, colourOf, coloursOf, bufferAt};
 ghost use Rattle.rules.specs.Laws.{Sound};
 ghost use Rattle.step_colours.specs.Showable.{Showable};
+ghost use Rattle.step_colours.specs.Turn.{TurnOf};
 use rules::site::Group;
 use rules::site::PhaseTimes;
 use rules::site::Site;
@@ -134,8 +135,30 @@ fn still_closing(times: Times, position: Position) -> bool
     since_cut_off(interval, own, position.age) <= own.yellow as u32
 }
 
-// Writes what the first count groups show. It takes the parts that this rests on, and not the site and the state: a parameter with an
-// array that is read by a running index is copied whole.
+// One turn of the pass: writes what group g shows, by its record and by its movement's stage if it is a pedestrian group, and answers how many
+// pedestrian groups are passed then. It takes no array: one that goes in by value would be copied at every turn.
+fn pass_group(
+    group: Group,
+    stage: Stage,
+    closes: bool,
+    position: Position,
+    g: usize,
+    k: usize,
+    buffer: &mut [u8],
+) -> usize
+    requires { ⌜ (g < length (now buffer)) × (k ≤ g) ⌝ }
+    ensures { λ next. ⌜ TurnOf group stage closes position g (now (buffer .entry)) k (now (buffer .exit)) next ⌝ }
+{
+    if group.mark == 2 {
+        buffer[g] = Colour::of_movement(stage);
+        return k + 1;
+    }
+    buffer[g] = vehicle(closes, position, group);
+    k
+}
+
+// Writes what the first count groups show, in one pass of the list. It takes the parts that this rests on, and not the site and the state: a
+// parameter with an array that is read by a running index is copied whole.
 fn show(
     groups: [Group; 32],
     count: usize,
@@ -145,20 +168,19 @@ fn show(
     buffer: &mut [u8],
 )
     requires { ⌜ Showable groups count (length (now buffer)) ⌝ }
-    ensures { λ _. ⌜ now (buffer .exit) ≡ listOf (colourOf groups closes position movements) count ++ drop count (now (buffer .entry)) ⌝ }
+    ensures { λ _. ⌜ now (buffer .exit) ≡ bufferAt (colourOf groups closes position movements) (now (buffer .entry)) count ⌝ }
 {
-    let mut movement: usize = 0;
+    let mut k: usize = 0;
     let mut g: usize = 0;
     while g < count {
         let group = groups[g];
-        if group.mark == 2 {
-            let own = movements[movement];
-            let stage = own.stage;
-            buffer[g] = Colour::of_movement(stage);
-            movement += 1;
+        let stage = if group.mark == 2 {
+            let own = movements[k];
+            own.stage
         } else {
-            buffer[g] = vehicle(closes, position, group);
-        }
+            Stage::Idle
+        };
+        k = pass_group(group, stage, closes, position, g, k, buffer);
         g += 1;
     }
 }

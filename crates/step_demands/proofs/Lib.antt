@@ -5,3 +5,4 @@ pub mod Table
 pub mod Modes
 pub mod Presses
 pub mod PartOne
+pub mod Marked

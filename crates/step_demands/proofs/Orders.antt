@@ -18,10 +18,10 @@ use Rattle.rules.specs.Site.{ring}
 use Rattle.rules.specs.Demands.{after, before, firstIn, nextAfter}
 use Rattle.rules.specs.Laws.{Sound}
 use Rattle.rules.proofs.Tests.{decided}
-use Rattle.proof_ring.proofs.Orders.{ring-of, entry-below}
+use Rattle.proof_ring.proofs.Orders.{ring-of}
 use Rattle.proof_ring.proofs.Ring.{found-same}
 use Rattle.proof_ring.proofs.Turns.{turn}
-use Rattle.step_demands.specs.Orders.{run, others, PlaceOf, Marked}
+use Rattle.step_demands.specs.Orders.{run, others, PlaceOf}
 
 -- ── A search of a run, entry by entry ──
 
@@ -135,10 +135,6 @@ module _ (order : List ℕ) where
 -- ── The ring of a site ──
 
 module _ (site : Site) (sound : Sound site) where
-  pub order-marked : Marked (site .order) (site .size .phases)
-  order-marked =
-      record { room = sound .phases .1; entry = λ i l. omega (arith, entry-below site sound i l, sound .phases .1) }
-
   -- tests that agree on every phase find the same
   pub ring-same :
       (f g : ℕ → Bool) (p : ℕ) →

@@ -1,7 +1,7 @@
 -- Part 1 put together: what its calls give from the sets of phases of which detectors are occupied is what the rules say, phase by
 -- phase.
 use Prim.Native.Nat.{ℕ, _<_}
-use mathlib.Core.Bool.{Bool, false, not, _&&_, _||_, or-assoc}
+use mathlib.Core.Bool.{Bool, false, not, _&&_, _||_}
 use mathlib.Core.List.{List}
 use mathlib.Core.Path.{_≡_, sym, ap, _∙_}
 use native.Mathlib.Omega.{arith}
@@ -18,17 +18,15 @@ use Rattle.rules.specs.State.{locked, asked}
 use Rattle.rules.specs.Demands.{calling, locking, extending, detectedAmong, detected, inGreen, registersLock, registersButton, calls, demandsAfter, firstIn, nextAfter}
 use Rattle.rules.specs.Kept.{isKept, pressKeeps, keptAfter, nextKept}
 use Rattle.rules.specs.Laws.{Sound}
-use Rattle.rules.proofs.Rows.{list-at}
 use Rattle.rules.proofs.Tests.{and-false-right}
 use Rattle.base_reads.proofs.Common.{bit-and}
 use Rattle.base_reads.proofs.Union.{bit-or}
 use Rattle.proof_arrays.proofs.Fill.{list-same}
 use Rattle.proof_arrays.proofs.Passing.{any-past}
-use Rattle.step_demands.specs.declared.Asked.{Asked}
 use Rattle.step_demands.specs.declared.detectors.Sensed.{Sensed}
 use Rattle.step_demands.specs.Orders.{others}
 use Rattle.step_demands.specs.Sensed.{SensedBy}
-use Rattle.step_demands.specs.Asked.{askedOf}
+use Rattle.step_demands.specs.Asked.{AskedBy}
 use Rattle.step_demands.proofs.Orders.{ring-same}
 
 module _
@@ -55,14 +53,15 @@ module _
     call-told p l = outside calling (sensed .calls) (scanned .calls) p l
 
     module _
-        (locks buttons kept : List Bool) (pressing : ℕ) (next : Held)
+        (locks buttons : List Bool) (marked pressing : ℕ) (next : Held)
         (joined : locks ≡ listOf (λ p. getD (s .rest .demands .locks) p false || bit p (bitAnd (sensed .locks) waiting)) 7)
         (pressed : buttons ≡ listOf (λ k. getD (s .rest .demands .buttons) k false || registersButton (s .rest .movements) inputs k) 8)
         (presses : (p : ℕ) → bit p pressing ≡ anyOf (λ k. registersButton (s .rest .movements) inputs k && crosses (site .crossings) k p) 8)
-        (keeps : kept ≡ listOf (λ p. getD (s .kept) p false || bit p (bitOr (bitAnd (sensed .locks) waiting) pressing)) 7)
+        (marks : (p : ℕ) → bit p marked ≡ getD (s .kept) p false)
         (searched :
         next
-        ≡ firstIn (λ p. getD kept p false || bit p (bitAnd (sensed .calls) waiting)) (others (s .rest .position .phase) (site .order) (site .size .phases)))
+        ≡ firstIn (λ p. bit p (bitOr (bitOr (bitOr marked (bitAnd (sensed .locks) waiting)) pressing) (bitAnd (sensed .calls) waiting)))
+        (others (s .rest .position .phase) (site .order) (site .size .phases)))
         (sound : Sound site)
       where
         abbrev standing : Demands
@@ -89,33 +88,32 @@ module _
             (λ k past l. and-false-right (registersButton (s .rest .movements) inputs k) (sound .noCrossing k p past)))
 
         -- the phases kept
-        kept-told : kept ≡ listOf (keptAfter site s inputs) 7
+        abbrev kept : ℕ
+        kept = bitOr (bitOr marked (bitAnd (sensed .locks) waiting)) pressing
+
+        kept-told : (p : ℕ) → p < 7 → bit p kept ≡ keptAfter site s inputs p
         unfolding keptAfter isKept
-        kept-told =
-            keeps
-            ∙ list-same (λ p. getD (s .kept) p false || bit p (bitOr (bitAnd (sensed .locks) waiting) pressing)) (keptAfter site s inputs) 7
-            (λ p l.
-            rw (bit-or p (bitAnd (sensed .locks) waiting) pressing, lock-told p l, press-told p)
-            (sym (or-assoc (getD (s .kept) p false) (registersLock site (s .rest) inputs p) (pressKeeps site s inputs p))))
+        kept-told p l =
+            rw (
+              bit-or p (bitOr marked (bitAnd (sensed .locks) waiting)) pressing,
+              bit-or p marked (bitAnd (sensed .locks) waiting),
+              marks p,
+              lock-told p l,
+              press-told p,
+            )
 
         -- a phase is demanded that is kept, or called by a detector
-        demanded-told :
-            (p : ℕ) →
-            p < 7 →
-            (getD kept p false || bit p (bitAnd (sensed .calls) waiting)) ≡ (keptAfter site s inputs p || calls site (s .rest) inputs p)
-        demanded-told p l = rw (kept-told, list-at (keptAfter site s inputs) 7 p false l, call-told p l)
-
         next-told : next ≡ nextKept site s inputs
         unfolding nextKept nextAfter
         next-told =
             searched
-            ∙ ring-same site sound (λ p. getD kept p false || bit p (bitAnd (sensed .calls) waiting))
-            (λ p. keptAfter site s inputs p || calls site (s .rest) inputs p) (s .rest .position .phase) demanded-told
+            ∙ ring-same site sound (λ p. bit p (bitOr kept (bitAnd (sensed .calls) waiting)))
+            (λ p. keptAfter site s inputs p || calls site (s .rest) inputs p) (s .rest .position .phase)
+            (λ p l. rw (bit-or p kept (bitAnd (sensed .calls) waiting), kept-told p l, call-told p l))
 
         extended-told : sensed .extended ≡ detected extending site inputs (s .rest .position .phase)
         unfolding detected
         extended-told = scanned .extended
 
-        pub asked-told : _≡_ {A = Asked} (record { demands = standing; kept = kept; next = next; extended = sensed .extended }) (askedOf site s inputs)
-        unfolding askedOf
-        asked-told = rw (standing-told, kept-told, next-told, extended-told)
+        pub asked-told : AskedBy site s inputs (record { demands = standing; kept = kept; next = next; extended = sensed .extended })
+        asked-told = record { demands = standing-told; kept = kept-told; next = next-told; extended = extended-told }

@@ -1,17 +1,16 @@
 -- What part 1 hands on.
-use Prim.Native.Nat.{ℕ}
+use Prim.Native.Nat.{ℕ, _<_}
+use mathlib.Core.Path.{_≡_}
 use Rattle.rules.specs.declared.site.Site.{Site}
 use Rattle.rules.specs.declared.state.KeptState.{KeptState}
-use Rattle.rules.specs.Rows.{listOf}
+use Rattle.rules.specs.Bytes.{bit}
 use Rattle.rules.specs.Demands.{extending, detected, demandsAfter}
 use Rattle.rules.specs.Kept.{keptAfter, nextKept}
 use Rattle.step_demands.specs.declared.Asked.{Asked}
 
-unfoldable pub askedOf : Site → KeptState → ℕ → Asked
-askedOf site s inputs =
-    record {
-      demands = demandsAfter site (s .rest) inputs;
-      kept = listOf (keptAfter site s inputs) 7;
-      next = nextKept site s inputs;
-      extended = detected extending site inputs (s .rest .position .phase);
-    }
+-- the set kept has the phases that are kept after part 1
+pub record AskedBy (site : Site) (s : KeptState) (inputs : ℕ) (asked : Asked) : Type 0 where
+  pub demands : asked .demands ≡ demandsAfter site (s .rest) inputs
+  pub kept : (p : ℕ) → p < 7 → bit p (asked .kept) ≡ keptAfter site s inputs p
+  pub next : asked .next ≡ nextKept site s inputs
+  pub extended : asked .extended ≡ detected extending site inputs (s .rest .position .phase)

@@ -20,8 +20,3 @@ pub record PlaceOf (order : List ℕ) (p n at : ℕ) : Type 0 where
   pub within : at ≤ n
   pub earlier : (j : ℕ) → j < at → getD order j 0 ≡ p → ⊥
   pub own : at < n → getD order at 0 ≡ p
-
--- there is room for the first n entries, and each is a phase that has a mark
-pub record Marked (order : List ℕ) (n : ℕ) : Type 0 where
-  pub room : n ≤ 7
-  pub entry : (i : ℕ) → i < n → getD order i 0 < 7

@@ -2,7 +2,7 @@
 ghost use Prim.Native.Nat.{_<_};
 ghost use mathlib.Core.Path.{_≡_};
 ghost use Rattle.rules.specs.Laws.{Sound};
-ghost use Rattle.step_demands.specs.Asked.{askedOf};
+ghost use Rattle.step_demands.specs.Asked.{AskedBy};
 use rules::site::Site;
 use rules::state::Demands;
 use rules::state::Held;
@@ -11,14 +11,14 @@ use rules::state::KeptState;
 mod buttons;
 mod detectors;
 pub mod movements;
-mod phases;
+pub mod phases;
 mod ring;
 
-// What part 1 hands on: the demands that stand, the phases kept, the next demanded phase other than the one on, and whether a detector
-// extends the phase that is on.
+// What part 1 hands on: the demands that stand, the phases kept as a set, the next demanded phase other than the one on, and whether a
+// detector extends the phase that is on.
 pub struct Asked {
     pub demands: Demands,
-    pub kept: [bool; 7],
+    pub kept: u8,
     pub next: Held,
     pub extended: bool,
 }
@@ -26,7 +26,7 @@ pub struct Asked {
 // Part 1. A lock and a registered press keep their phase. A phase is demanded that is kept, or called by a detector in this step only.
 pub fn register(site: Site, state: KeptState, inputs: u64) -> Asked
     requires { ⌜ Sound site × (state .rest .position .phase < site .size .phases) ⌝ }
-    ensures { λ r. ⌜ r ≡ askedOf site state inputs ⌝ }
+    ensures { λ r. ⌜ AskedBy site state inputs r ⌝ }
 {
     let rest = state.rest;
     let position = rest.position;
@@ -45,12 +45,12 @@ pub fn register(site: Site, state: KeptState, inputs: u64) -> Asked
     let pressed = buttons::press(demanded, movements, crossings, inputs);
     let buttons = pressed.buttons;
     let marks = state.kept;
-    let kept = phases::joined(marks, locking | pressed.phases);
+    let kept = phases::set_of(marks) | locking | pressed.phases;
     let order = site.order;
     Asked {
         demands: Demands { locks, buttons },
         kept: kept,
-        next: ring::next(kept, sensed.calls & waiting, phase, order, size.phases),
+        next: ring::next(kept | (sensed.calls & waiting), phase, order, size.phases),
         extended: sensed.extended,
     }
 }

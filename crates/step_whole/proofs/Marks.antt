@@ -1,14 +1,14 @@
 -- The kept marks after parts 4 and 5. Only demands of the phase that is on are cleared, so every other mark stays; and as the marks were
 -- those of the demands that stood, the mark of that phase stays where one of its demands is left.
 use Prim.Native.Nat.{ℕ, _<_}
-use mathlib.Core.Bool.{Bool, true, false, not, _&&_, _||_, and-true}
+use mathlib.Core.Bool.{Bool, true, false, not, _&&_, _||_, and-true, or-true, or-false}
 use mathlib.Core.List.{List}
 use mathlib.Core.Logic.{⊎-elim}
 use mathlib.Core.Path.{_≡_, refl, sym, ap, _∙_}
 use native.Mathlib.Omega.{arith}
-use borrow.Author.Tests.{eqb-true, eqb-false, eq-eqb, ne-eqb}
+use borrow.Author.Tests.{eqb-true, eqb-false}
 use lib.Dec.{eqb}
-use lib.ListN.{length, getD, set}
+use lib.ListN.{getD}
 use Rattle.rules.specs.declared.site.PhaseTimes.{PhaseTimes}
 use Rattle.rules.specs.declared.site.Site.{Site}
 use Rattle.rules.specs.declared.state.Counts.{Counts}
@@ -17,6 +17,7 @@ use Rattle.rules.specs.declared.state.Held.{Held}
 use Rattle.rules.specs.declared.state.KeptState.{KeptState}
 use Rattle.rules.specs.declared.state.Movement.{Movement}
 use Rattle.rules.specs.declared.state.Position.{Position}
+use Rattle.rules.specs.Bytes.{bit}
 use Rattle.rules.specs.Rows.{anyOf, listOf}
 use Rattle.rules.specs.Site.{phaseTimes, crosses}
 use Rattle.rules.specs.Intervals.{isMinimumGreen, isRunning, isIdle, isHeld}
@@ -31,10 +32,10 @@ use Rattle.rules.specs.Kept.{keptValid, keptAfter, nextKept, gone, cleared, kep
 use Rattle.rules.specs.Laws.{Sound}
 use Rattle.rules.proofs.Rows.{list-at, any-none}
 use Rattle.rules.proofs.Tests.{and-left, and-right, and-false-left, and-false-right, or-false-both, decided, not-true-false}
-use Rattle.proof_arrays.proofs.Fill.{list-told, list-same, list-set}
+use Rattle.proof_arrays.proofs.Fill.{list-same}
 use Rattle.proof_kept.proofs.Scans.{kept-after, kept-left}
 use Rattle.step_demands.specs.declared.Asked.{Asked}
-use Rattle.step_demands.specs.Asked.{askedOf}
+use Rattle.step_demands.specs.Asked.{AskedBy}
 use Rattle.step_walks.specs.declared.Walked.{Walked}
 use Rattle.step_walks.specs.Walked.{walkedBy}
 
@@ -45,31 +46,30 @@ still false e = refl
 
 -- ── The marks by phase ──
 
-module _ (kept : List Bool) (phase : ℕ) (test : ℕ → Bool) (len : length kept ≡ 7) where
+module _ (kept test : ℕ → Bool) (phase : ℕ) where
   -- the marks, where that of the phase stays by the test
   abbrev pub onlyOf : ℕ → Bool
-  onlyOf p = getD kept p false && (not (eqb p phase) || test p)
-
-  others-stay : (p : ℕ) → eqb p phase ≡ false → getD kept p false ≡ onlyOf p
-  others-stay p e = rw e (sym (and-true (getD kept p false)))
+  onlyOf p = kept p && (not (eqb p phase) || test p)
 
   -- nothing to give up: no mark, or the test passes
-  pub mark-stays : (getD kept phase false ≡ true → test phase ≡ true) → kept ≡ listOf onlyOf 7
-  mark-stays own =
-      list-told onlyOf kept 7 false len
-      (λ p l.
+  pub mark-stays : (kept phase ≡ true → test phase ≡ true) → (p : ℕ) → kept p ≡ onlyOf p
+  mark-stays own p =
       ⊎-elim
-      (λ (e : eqb p phase ≡ true). rw (e, eqb-true p phase e) (agrees (getD kept phase false) (test phase) own))
-      (λ (e : eqb p phase ≡ false). others-stay p e)
-      (decided (eqb p phase)))
+      (λ (e : eqb p phase ≡ true). rw (e, eqb-true p phase e) (agrees (kept phase) (test phase) own))
+      (λ (e : eqb p phase ≡ false). rw e (sym (and-true (kept p))))
+      (decided (eqb p phase))
     where
       agrees : (a b : Bool) → (a ≡ true → b ≡ true) → a ≡ (a && b)
       agrees true b h = sym (h refl)
       agrees false b h = refl
 
-  pub mark-set : phase < 7 → getD kept phase false ≡ true → {t : Bool} → t ≡ test phase → set kept phase t ≡ listOf onlyOf 7
-  mark-set l was {t} e =
-      list-set onlyOf kept 7 phase t false len l (rw (eq-eqb phase phase refl, was, e)) (λ p m apart. sym (others-stay p (ne-eqb p phase apart)))
+  -- another test settles it
+  pub mark-settled : (other : ℕ → Bool) → other phase ≡ test phase → (p : ℕ) → (kept p && (other p || not (eqb p phase))) ≡ onlyOf p
+  mark-settled other own p =
+      ⊎-elim
+      (λ (e : eqb p phase ≡ true). rw (e, eqb-true p phase e, own, or-false (test phase)))
+      (λ (e : eqb p phase ≡ false). rw (e, or-true (other p)))
+      (decided (eqb p phase))
 
 -- ── What is cleared ──
 
@@ -167,7 +167,7 @@ module _ (site : Site) (sound : Sound site) (s : KeptState) (inputs : ℕ) (v : 
       {own : PhaseTimes} {asked : Asked} {another : Bool} {mayEnd : Bool} {moved : List Movement} {counted : Counts} {ended : Bool} {now : Position} {started : Bool}
       {walked : Walked} {locks : List Bool} {counts : Counts} {marks : List Bool} →
       own ≡ phaseTimes (site .times) (s .rest .position .phase) →
-      asked ≡ askedOf site s inputs →
+      AskedBy site s inputs asked →
       another ≡ isHeld (asked .next) →
       mayEnd ≡ walkMayEnd (s .rest .position .interval) own another (s .rest .counts) →
       moved ≡ movementsAfter (site .times) mayEnd (s .rest .movements) →
@@ -178,19 +178,19 @@ module _ (site : Site) (sound : Sound site) (s : KeptState) (inputs : ℕ) (v : 
       walked ≡ walkedBy (begins (site .crossings) started another now (asked .demands .buttons) moved) (asked .demands .buttons) moved →
       locks ≡ locksLeft ended now (asked .demands .locks) →
       counts ≡ countsChanged ended (site .times) (s .rest .position) now counted →
-      marks ≡ listOf (λ p. getD (asked .kept) p false && (not (eqb p (now .phase)) || stands site (record { locks = locks; buttons = walked .buttons }) p)) 7 →
+      marks ≡ listOf (onlyOf (λ p. bit p (asked .kept)) (stands site (record { locks = locks; buttons = walked .buttons })) (now .phase)) 7 →
       _≡_ {A = KeptState}
       (record {
         rest = record { position = now; counts = counts; demands = record { locks = locks; buttons = walked .buttons }; movements = walked .movements };
         kept = marks;
       })
       (keptStepped site s inputs)
-  unfolding keptStepped steppedTo askedOf walkedBy
-  whole-told e1 e2 e3 e4 e5 e6 e7 e8 e9 e10 e11 e12 e13 =
+  unfolding keptStepped steppedTo walkedBy
+  whole-told {asked = asked} e1 e2 e3 e4 e5 e6 e7 e8 e9 e10 e11 e12 e13 =
       let after = steppedTo next site (s .rest) inputs in
-      rw (e13, e12, e11, e10, e9, e8, e7, e6, e5, e4, e3, e2, e1)
+      rw (e13, e12, e11, e10, e9, e8, e7, e6, e5, e4, e3, e2 .next, e2 .extended, e2 .demands, e1)
       (ap (λ (l : List Bool). record { rest = after; kept = l })
       (list-same
-      (λ p. getD (listOf (keptAfter site s inputs) 7) p false && (not (eqb p (after .position .phase)) || stands site (after .demands) p))
+      (onlyOf (λ p. bit p (asked .kept)) (stands site (after .demands)) (after .position .phase))
       (keptLeft site (demandsAfter site (s .rest) inputs) (after .demands) (keptAfter site s inputs)) 7
-      (λ p l. rw (list-at (keptAfter site s inputs) 7 p false l) (marks-told p l))))
+      (λ p l. rw (e2 .kept p l) (marks-told p l))))

@@ -14,10 +14,7 @@ use Rattle.step_checks.proofs.valid_state.Tie as tie
 abbrev start : tie.After-movements → tie.Start
 start c = c .before .before .before .before .before .before .before .before .before .before
 
--- the arrays of the state have their lengths
-locks-seven : (c : tie.Start) → length (c .args .state .demands .locks) ≡ 7
-locks-seven c = simp length-map at (c .good .1 .0 .1 .1 .1 .1 .0 .1 .1 .0 .1 .0 .1)
-
+-- the row of buttons has its length
 buttons-eight : (c : tie.Start) → length (c .args .state .demands .buttons) ≡ 8
 buttons-eight c = simp length-map at (c .good .1 .0 .1 .1 .1 .1 .0 .1 .1 .1 .0 .1 .0 .1)
 
@@ -30,17 +27,14 @@ position-valid-requires c κs = search needs
 counts-valid-requires : tie.Need-counts-valid-requires
 counts-valid-requires c κs = search needs
 
+phases-exist-requires : tie.Need-phases-exist-requires
+phases-exist-requires c κs = search needs
+
 slice-aggregate-demands-valid : tie.Need-slice-aggregate-demands-valid
-slice-aggregate-demands-valid c = sym (locks-seven (start (c .before .before .before)))
+slice-aggregate-demands-valid c = sym (buttons-eight (start (c .before .before .before .before)))
 
 demands-valid-requires : tie.Need-demands-valid-requires
 demands-valid-requires c κs = search needs
-
-slice-aggregate-demands-valid-2 : tie.Need-slice-aggregate-demands-valid-2
-slice-aggregate-demands-valid-2 c = sym (buttons-eight (start (c .before .before .before .before .before)))
-
-demands-valid-requires-2 : tie.Need-demands-valid-requires-2
-demands-valid-requires-2 c κs = search needs
 
 movements-valid-requires : tie.Need-movements-valid-requires
 movements-valid-requires c κs = search needs
@@ -48,7 +42,7 @@ movements-valid-requires c κs = search needs
 returns : tie.Need-returns
 unfolding valid phaseTimes
 returns c =
-    let counted = c .before .before .before .before .before in
+    let counted = c .before .before .before .before in
     let read = counted .before .before in
     let entry = start read in
     let site = entry .args .site in
@@ -57,11 +51,10 @@ returns c =
     rw (
       counted .before .position-valid .ensures,
       counted .counts-valid .ensures,
-      c .before .before .before .demands-valid .ensures,
-      c .before .demands-valid2 .ensures,
+      c .before .before .before .phases-exist .ensures,
+      c .before .demands-valid .ensures,
       c .movements-valid .ensures,
       own .times-of .ensures,
-      locks-seven entry,
       buttons-eight entry,
     )
     (joined-every (positionValid (site .early) (site .size .phases) (s .position))
@@ -78,9 +71,8 @@ valid-state-spec =
     times-of-requires
     position-valid-requires
     counts-valid-requires
+    phases-exist-requires
     slice-aggregate-demands-valid
     demands-valid-requires
-    slice-aggregate-demands-valid-2
-    demands-valid-requires-2
     movements-valid-requires
     returns)

@@ -1,7 +1,7 @@
 -- `step_colours::write` meets its contract: what the site's groups show of the state's position and movements is the colours of the state.
 use lib.ListN.{length}
 use borrow.Author.Needs.{needs}
-use Rattle.rules.specs.Colours.{shownIn, coloursOf}
+use Rattle.rules.specs.Colours.{shownIn, coloursOf, bufferAt}
 use Rattle.step_colours.proofs.Sizes.{showable}
 use Rattle.step_colours.proofs.write.Statement.{statement}
 use Rattle.step_colours.proofs.write.Tie as tie
@@ -21,7 +21,7 @@ same-length : tie.Need-same-length
 same-length c = search needs
 
 returns : tie.Need-returns
-unfolding coloursOf shownIn
+unfolding coloursOf shownIn bufferAt
 returns c = rw (c .before .before .before .before .still-closing .ensures) at (c .before .before .show .ensures)
 
 pub write-spec : {M : Type 1} → statement M

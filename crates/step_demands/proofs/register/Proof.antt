@@ -3,7 +3,6 @@
 use borrow.Author.Needs.{needs}
 use native.Mathlib.Omega.{arith}
 use Rattle.step_demands.proofs.Modes.{tabled}
-use Rattle.step_demands.proofs.Orders.{order-marked}
 use Rattle.step_demands.proofs.PartOne.{asked-told}
 use Rattle.step_demands.proofs.register.Statement.{statement}
 use Rattle.step_demands.proofs.register.Tie as tie
@@ -24,30 +23,30 @@ joined-requires c κs = search needs
 press-requires : tie.Need-press-requires
 press-requires c κs = search needs
 
-joined-requires-2 : tie.Need-joined-requires-2
-joined-requires-2 c κs = search needs
+set-of-requires : tie.Need-set-of-requires
+set-of-requires c κs = search needs
 
 next-requires : tie.Need-next-requires
 next-requires c κs =
-    let kept = c .before .before in
-    let pressed = kept .before .before .before .before in
+    let kept = c .before .before .before in
+    let pressed = kept .before .before .before in
     let joined = pressed .before .before .before .before in
     let scanned = joined .before .before .before .before .before in
     let start = scanned .before .before .before .before .before in
-    order-marked (start .args .site) (start .pre .0)
+    start .pre .0 .phases .1
 
 returns : tie.Need-returns
 returns c =
-    let kept = c .before .before .before in
-    let pressed = kept .before .before .before .before in
+    let kept = c .before .before .before .before in
+    let pressed = kept .before .before .before in
     let joined = pressed .before .before .before .before in
     let waiting = joined .before .before .before .before in
     let scanned = waiting .before in
     let start = scanned .before .before .before .before .before in
     asked-told (start .args .site) (start .args .state) (start .args .inputs) (scanned .scan .result) (waiting .waiting .result)
     (scanned .scan .ensures) (waiting .waiting .ensures)
-    (joined .joined .result) (pressed .press .result .buttons) (kept .joined2 .result) (pressed .press .result .phases) (c .next .result)
-    (joined .joined .ensures) (pressed .press .ensures .0) (pressed .press .ensures .1) (kept .joined2 .ensures) (c .next .ensures)
+    (joined .joined .result) (pressed .press .result .buttons) (kept .set-of .result) (pressed .press .result .phases) (c .next .result)
+    (joined .joined .ensures) (pressed .press .ensures .0) (pressed .press .ensures .1) (kept .set-of .ensures) (c .next .ensures)
     (start .pre .0)
 
 pub register-spec : {M : Type 1} → statement M
@@ -58,6 +57,6 @@ register-spec =
     waiting-requires
     joined-requires
     press-requires
-    joined-requires-2
+    set-of-requires
     next-requires
     returns)

@@ -61,7 +61,7 @@ counts-changed-requires c κs = search needs
 
 left-requires : tie.Need-left-requires
 left-requires c κs =
-    let now = c .before .before .before .before .before .before .before .before .before .before in
+    let now = c .before .before .before .before .before .before .before .before .before in
     let entry = start (now .before .before .before .before) in
     let site = entry .args .site in
     (rw (now .position-after .ensures) (now-on site (entry .args .state) (entry .pre) _ _), entry .pre .0 .movements)
@@ -70,7 +70,7 @@ returns : tie.Need-returns
 unfolding phaseTimes stands
 returns c =
     let changed = c .before in
-    let lefts = changed .before .before in
+    let lefts = changed .before in
     let begun = lefts .before .before .before .before in
     let started = begun .before .before in
     let now = started .before .before in

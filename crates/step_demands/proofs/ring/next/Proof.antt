@@ -2,9 +2,8 @@
 use borrow.Author.Needs.{needs}
 use native.Mathlib.Omega.{arith}
 use Prim.Native.Nat.{ℕ}
-use mathlib.Core.Bool.{Bool, false, _||_}
+use mathlib.Core.Bool.{Bool}
 use mathlib.Core.Path.{sym, _∙_}
-use lib.ListN.{getD}
 use Rattle.rules.specs.Bytes.{bit}
 use Rattle.step_demands.proofs.Orders.{next-later, next-earlier}
 use Rattle.step_demands.proofs.ring.next.Statement.{statement}
@@ -26,7 +25,7 @@ returns : tie.Need-returns
 returns c =
     let at = c .before .before .before in
     let args = at .before .before .args in
-    let test : ℕ → Bool = λ p. getD (args .marks) p false || bit p (args .set) in
+    let test : ℕ → Bool = λ p. bit p (args .set) in
     sym (next-later (args .order) (at .before .place-of .ensures) test (sym (at .search .ensures) ∙ c .before .later .given .1))
 
 enum-told : tie.Need-enum-told
@@ -35,15 +34,13 @@ enum-told c = search needs
 search-requires-2 : tie.Need-search-requires-2
 search-requires-2 c κs =
     let at = c .before .before in
-    let asked = at .before .before .pre in
-    let within = at .before .place-of .ensures .within in
-    record { room = omega (arith, asked .room, within); entry = λ i l. asked .entry i (omega (arith, within)) }
+    omega (arith, at .before .before .pre, at .before .place-of .ensures .within)
 
 returns-2 : tie.Need-returns-2
 returns-2 c =
     let at = c .before .before .before in
     let args = at .before .before .args in
-    let test : ℕ → Bool = λ p. getD (args .marks) p false || bit p (args .set) in
+    let test : ℕ → Bool = λ p. bit p (args .set) in
     c .search2 .ensures
     ∙ sym (next-earlier (args .order) (at .before .place-of .ensures) test (sym (at .search .ensures) ∙ c .before .enum-told .given .1))
 

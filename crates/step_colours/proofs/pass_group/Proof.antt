@@ -1,0 +1,56 @@
+-- `step_colours::pass_group` meets its contract: a pedestrian group shows its movement's stage, a vehicle group what its record says, and
+-- the byte is stored at the group's own place.
+use mathlib.Core.Path.{refl}
+use borrow.Author.Needs.{needs}
+use Rattle.step_colours.proofs.Shown.{pedestrian-passed, vehicle-passed}
+use Rattle.step_colours.proofs.pass_group.Statement.{statement}
+use Rattle.step_colours.proofs.pass_group.Tie as tie
+
+of-movement-requires : tie.Need-of-movement-requires
+of-movement-requires c κs = search needs
+
+slice-write-buffer : tie.Need-slice-write-buffer
+slice-write-buffer c = search needs
+
+add-result : tie.Need-add-result
+add-result c = search needs
+
+same-length : tie.Need-same-length
+same-length c = search needs
+
+returns : tie.Need-returns
+returns c =
+    let test = c .before in
+    let start = test .before .before .before in
+    let a = start .args in
+    pedestrian-passed (a .g) (start .pre .0) refl (a .group) (a .stage) (a .closes) (a .position) (test .if1 .taken) (c .of-movement .ensures) refl
+
+vehicle-requires : tie.Need-vehicle-requires
+vehicle-requires c κs = search needs
+
+slice-write-buffer-2 : tie.Need-slice-write-buffer-2
+slice-write-buffer-2 c = search needs
+
+same-length-2 : tie.Need-same-length-2
+same-length-2 c = search needs
+
+returns-2 : tie.Need-returns-2
+returns-2 c =
+    let test = c .before in
+    let start = test .before .before .before in
+    let a = start .args in
+    vehicle-passed (a .g) (start .pre .0) refl (a .group) (a .stage) (a .closes) (a .position) (test .if1 .left) (c .vehicle .ensures) refl
+
+pub pass-group-spec : {M : Type 1} → statement M
+pass-group-spec =
+    tie.close
+    (tie.spec
+    of-movement-requires
+    slice-write-buffer
+    add-result
+    same-length
+    returns
+    vehicle-requires
+    slice-write-buffer-2
+    same-length-2
+    returns-2)
