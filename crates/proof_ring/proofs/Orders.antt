@@ -1,20 +1,18 @@
 -- The ring of a sound site. Each phase is counted once among the entries of the running order, by index, so it stands once in the list of them. No
 -- other proof looks at the order: whatever is shown of the ring is shown of every order in which each phase stands once.
-use Prim.Native.Nat.{ℕ, zero, suc, _<_}
+use Prim.Native.Nat.{ℕ, zero, suc}
 use mathlib.Core.List.{[], _∷_}
 use mathlib.Core.Path.{_≡_, refl, _∙_}
 use native.Mathlib.Omega.{arith}
-use borrow.Author.Tests.{eq-eqb}
 use lib.Dec.{eqb}
 use lib.ListN.{getD}
 use Rattle.rules.specs.declared.site.Site.{Site}
 use Rattle.rules.specs.Rows.{countOf, listOf}
 use Rattle.rules.specs.Site.{ring}
 use Rattle.rules.specs.Laws.{Sound}
-use Rattle.rules.proofs.Counts.{count-before}
 use Rattle.rules.proofs.Rows.{list-length}
 use Rattle.proof_ring.proofs.Entries.{total, one, places, total-append}
-use Rattle.proof_ring.proofs.Ring.{RingOf, below}
+use Rattle.proof_ring.proofs.Ring.{RingOf}
 
 places-counted : (f : ℕ → ℕ) (p n : ℕ) → places p (listOf f n) ≡ countOf (λ i. eqb (f i) p) n
 unfolding total one listOf countOf
@@ -29,18 +27,3 @@ ring-of site sound =
       entries = list-length entry (site .size .phases);
       each = λ p h. places-counted entry p (site .size .phases) ∙ sound .orderOnce p h;
     }
-
--- and every entry of its order is a phase
-pub entry-below : (site : Site) → Sound site → (i : ℕ) → i < site .size .phases → getD (site .order) i 0 < site .size .phases
-unfolding ring
-entry-below site sound i h =
-    let entry : ℕ → ℕ = λ i. getD (site .order) i 0 in
-    let n = site .size .phases in
-    below (ring-of site sound)
-    (record {
-      found = omega (
-        arith,
-        places-counted entry (entry i) n,
-        count-before (λ j. eqb (entry j) (entry i)) i n h (eq-eqb (entry i) (entry i) refl),
-      );
-    })

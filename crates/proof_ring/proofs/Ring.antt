@@ -124,7 +124,7 @@ module _ {n : ℕ} {ring : List ℕ} (ofn : RingOf n ring) where
   stands : {p : ℕ} → p < n → In p ring
   stands {p} h = record { found = omega (arith, ofn .each p h) }
 
-  pub below : {p : ℕ} → In p ring → p < n
+  below : {p : ℕ} → In p ring → p < n
   below {p} i =
       ⊎-elim
       (λ (h : p < n). h)
