@@ -374,6 +374,8 @@ callers =
     ∷ reading (set junction 63 5) Accepted
     -- a pedestrian group calls its phase
     ∷ reading (set crossing 67 4) Accepted
+    -- it is checked after all sections: a wrong kind 6 comes first
+    ∷ reading (set (set junction 63 4) 66 7) (Refused 2 64)
     -- after all sections 21 comes before 17, and 17 before 12
     ∷ reading (set turning 69 4) (Refused 21 62)
     ∷ reading (set turning 69 4 ++ (1 ∷ [])) (Refused 21 62)
