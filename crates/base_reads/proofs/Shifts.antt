@@ -1,4 +1,4 @@
--- The bits of a shifted number are those of the number, as far away as the shift says; of a number cut to a width, those below it stay.
+-- The bits of a shifted number are those of the number, as far away as the shift says.
 use Prim.Native.Nat.{ℕ, suc, _+_, _-_, _*_, _/_, _%_, _^_, _<_}
 use mathlib.Core.Bool.{true, false, _&&_}
 use mathlib.Core.Logic.{⊎-elim}
@@ -7,9 +7,10 @@ use native.Mathlib.Nat.{div-div-eq-div-mul, mul-assoc, pow-succ'}
 use native.Mathlib.Omega.{arith}
 use lib.Bits.{shifted-even}
 use lib.Dec.{leb, eqb}
-use lib.Pow.{pow-add, shl-shr, shr-shr, field, mod-mod-pow}
+use lib.Pow.{pow-add, shl-shr, shr-shr}
 use borrow.Author.Tests.{leb-true, leb-false}
 use Rattle.rules.specs.Bytes.{bit}
+use Rattle.rules.proofs.Bits.{bit-lower}
 use Rattle.rules.proofs.Tests.{decided}
 
 -- to the right
@@ -35,14 +36,6 @@ vacated x d k =
 -- to the left, below the shift
 pub vacated-bit : (x s k : ℕ) → k < s → bit k (x * 2 ^ s) ≡ false
 vacated-bit x s k h = subst (λ (t : ℕ). bit k (x * 2 ^ t) ≡ false) (omega arith) (vacated x (s - k - 1) k)
-
-kept-bit : (d k x : ℕ) → bit k (x % 2 ^ (d + 1 + k)) ≡ bit k x
-unfolding bit
-kept-bit d k x = ap (λ (q : ℕ). eqb q 1) (ap (λ (q : ℕ). q % 2) (field x (d + 1) k) ∙ mod-mod-pow (x / 2 ^ k) d 1)
-
--- in a number cut to w bits
-pub bit-lower : (w k x : ℕ) → k < w → bit k (x % 2 ^ w) ≡ bit k x
-bit-lower w k x h = subst (λ (v : ℕ). bit k (x % 2 ^ v) ≡ bit k x) (omega arith) (kept-bit (w - k - 1) k x)
 
 -- to the left, in a number of w bits
 pub bit-up : (x s w k : ℕ) → k < w → bit k (x * 2 ^ s % 2 ^ w) ≡ (leb s k && bit (k - s) x)

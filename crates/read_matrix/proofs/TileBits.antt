@@ -14,7 +14,8 @@ use Rattle.rules.proofs.Rows.{last-or-below}
 use Rattle.rules.proofs.Tests.{or-left, or-right}
 use Rattle.base_reads.proofs.Union.{bit-or}
 use Rattle.base_reads.proofs.Parity.{bit-odd}
-use Rattle.base_reads.proofs.Shifts.{bit-down, bit-lower, vacated-bit}
+use Rattle.rules.proofs.Bits.{bit-lower}
+use Rattle.base_reads.proofs.Shifts.{bit-down, vacated-bit}
 use Rattle.read_matrix.specs.Matrix.{ByteRows}
 
 -- ── A byte under a number ──

@@ -5,6 +5,7 @@ pub mod Rows
 pub mod Verdicts
 pub mod Counts
 pub mod Bits
+pub mod Sets
 pub mod Intervals
 pub mod Settings
 pub mod Pass

@@ -249,17 +249,17 @@ early =
 
 -- ── Request two: demanded phases kept ready ──
 
--- A in start red, where B is locked or not, and kept or not
-unfoldable pub demandingB : Bool → Bool → KeptState
-demandingB lock keep =
+-- A in start red with a set of locks and a kept set; the set of B alone is 2
+unfoldable pub demandingB : ℕ → ℕ → KeptState
+demandingB locks kept =
     record {
       rest = record {
         position = fresh .position;
         counts = fresh .counts;
-        demands = record { locks = set (fresh .demands .locks) 1 lock; buttons = fresh .demands .buttons };
+        demands = record { locks = locks; buttons = 0 };
         movements = fresh .movements;
       };
-      kept = set (freshKept .kept) 1 keep;
+      kept = kept;
     }
 
 -- the state one step later
@@ -278,14 +278,14 @@ olderBy steps s =
 unfoldable pub keeping : List Case
 keeping =
     -- a lock that is kept stays kept
-    answering junction (demandingB true true) 0 (record { outcome = Stepped 270; state = olderBy 1 (demandingB true true) })
+    answering junction (demandingB 2 2) 0 (record { outcome = Stepped 270; state = olderBy 1 (demandingB 2 2) })
     -- an occupied locking detector keeps its phase
-    ∷ answering junction freshKept 2 (record { outcome = Stepped 270; state = olderBy 1 (demandingB true true) })
+    ∷ answering junction freshKept 2 (record { outcome = Stepped 270; state = olderBy 1 (demandingB 2 2) })
     -- a detector that calls without lock does not
     ∷ answering callingB freshKept 2 (record { outcome = Stepped 270; state = olderBy 1 freshKept })
     -- a kept set that differs from the scan is not valid, either way
-    ∷ answering junction (demandingB true false) 0 (record { outcome = Declined 13 0; state = demandingB true false })
-    ∷ answering junction (demandingB false true) 0 (record { outcome = Declined 13 0; state = demandingB false true })
+    ∷ answering junction (demandingB 2 0) 0 (record { outcome = Declined 13 0; state = demandingB 2 0 })
+    ∷ answering junction (demandingB 0 2) 0 (record { outcome = Declined 13 0; state = demandingB 0 2 })
     ∷ []
 
 -- ── Request three: the green man rests ──

@@ -1,6 +1,6 @@
 -- Part 1 of a step: demands.
 use Prim.Native.Nat.{ℕ, _+_, _%_}
-use mathlib.Core.Bool.{Bool, false, not, _&&_, _||_}
+use mathlib.Core.Bool.{Bool, not, _&&_, _||_}
 use mathlib.Core.List.{List, [], _∷_, _++_}
 use lib.Dec.{leb, eqb}
 use lib.ListN.{getD}
@@ -12,7 +12,7 @@ use Rattle.rules.specs.declared.state.Held.the-variants.{Nothing, Phase}
 use Rattle.rules.specs.declared.state.Movement.{Movement}
 use Rattle.rules.specs.declared.state.Position.{Position}
 use Rattle.rules.specs.declared.state.State.{State}
-use Rattle.rules.specs.Rows.{if_then_else_, anyOf, listOf}
+use Rattle.rules.specs.Rows.{if_then_else_, anyOf, setOf}
 use Rattle.rules.specs.Bytes.{bit}
 use Rattle.rules.specs.Site.{detectorOf, crosses, ring}
 use Rattle.rules.specs.Intervals.{isWalk, isGreen}
@@ -67,20 +67,20 @@ calls site s inputs p = detected calling site inputs p && not (inGreen (s .posit
 unfoldable pub demandsAfter : Site → State → ℕ → Demands
 demandsAfter site s inputs =
     record {
-      locks = listOf (λ p. locked s p || registersLock site s inputs p) 7;
-      buttons = listOf (λ k. asked s k || registersButton (s .movements) inputs k) 8;
+      locks = setOf (λ p. locked s p || registersLock site s inputs p);
+      buttons = setOf (λ k. asked s k || registersButton (s .movements) inputs k);
     }
 
 -- ── The phases demanded ──
 
 -- a demanded movement, one of count, demands its phase
-unfoldable pub movementDemands : List ℕ → ℕ → List Bool → ℕ → Bool
-movementDemands crossings count buttons p = anyOf (λ k. getD buttons k false && crosses crossings k p) count
+unfoldable pub movementDemands : List ℕ → ℕ → ℕ → ℕ → Bool
+movementDemands crossings count buttons p = anyOf (λ k. bit k buttons && crosses crossings k p) count
 
 -- demanded by its lock or by a demanded movement
 unfoldable pub stands : Site → Demands → ℕ → Bool
 stands site demands p =
-    getD (demands .locks) p false || movementDemands (site .crossings) (site .size .movements) (demands .buttons) p
+    bit p (demands .locks) || movementDemands (site .crossings) (site .size .movements) (demands .buttons) p
 
 unfoldable pub demanded : Site → State → ℕ → ℕ → Bool
 demanded site s inputs p = stands site (demandsAfter site s inputs) p || calls site s inputs p

@@ -1,6 +1,6 @@
 -- Part 4 of a step: the interval, judged by its age, at most one change a step.
 use Prim.Native.Nat.{ℕ}
-use mathlib.Core.Bool.{Bool, false, not, _&&_, _||_}
+use mathlib.Core.Bool.{Bool, not, _&&_, _||_}
 use mathlib.Core.List.{List}
 use lib.Dec.{leb, eqb}
 use lib.ListN.{getD}
@@ -14,7 +14,8 @@ use Rattle.rules.specs.declared.state.Interval.the-variants.{StartRed, L
 use Rattle.rules.specs.declared.state.Movement.{Movement}
 use Rattle.rules.specs.declared.state.Position.{Position}
 use Rattle.rules.specs.declared.state.Stage.{Stage}
-use Rattle.rules.specs.Rows.{if_then_else_, anyOf, listOf}
+use Rattle.rules.specs.Bytes.{bit}
+use Rattle.rules.specs.Rows.{if_then_else_, anyOf, setOf}
 use Rattle.rules.specs.Site.{phaseTimes}
 use Rattle.rules.specs.Intervals.{isWalkOrFirst, isSecond, isMinimumGreen, isRunning, isLeaving, isBeforeStart, phaseHeld}
 use Rattle.rules.specs.State.{idle}
@@ -108,8 +109,8 @@ countsChanged ended times old new counts =
 unfoldable pub clearsLock : Bool → Position → ℕ → Bool
 clearsLock ended new p = ended && isMinimumGreen (new .interval) && eqb p (new .phase)
 
-unfoldable pub locksLeft : Bool → Position → List Bool → List Bool
-locksLeft ended new locks = listOf (λ p. getD locks p false && not (clearsLock ended new p)) 7
+unfoldable pub locksLeft : Bool → Position → ℕ → ℕ
+locksLeft ended new locks = setOf (λ p. bit p locks && not (clearsLock ended new p))
 
 -- start red or all-red has ended: a phase starts
 unfoldable pub starts : Bool → Position → Bool

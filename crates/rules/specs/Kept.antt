@@ -1,14 +1,14 @@
 -- Demanded phases kept ready: the set of phases that are demanded by lock or by a demanded movement stands in the state, and every press,
 -- lock, walk and clearing holds it true. Non-locking calls count beside it, for their step only.
 use Prim.Native.Nat.{ℕ}
-use mathlib.Core.Bool.{Bool, true, false, not, _&&_, _||_}
-use mathlib.Core.List.{List}
-use lib.ListN.{getD, replicate}
+use mathlib.Core.Bool.{Bool, not, _&&_, _||_}
+use lib.Dec.{eqb}
 use Rattle.rules.specs.declared.site.Site.{Site}
 use Rattle.rules.specs.declared.state.Demands.{Demands}
 use Rattle.rules.specs.declared.state.Held.{Held}
 use Rattle.rules.specs.declared.state.KeptState.{KeptState}
-use Rattle.rules.specs.Rows.{if_then_else_, anyOf, allOf, listOf}
+use Rattle.rules.specs.Bytes.{bit}
+use Rattle.rules.specs.Rows.{anyOf, setOf}
 use Rattle.rules.specs.Site.{crosses}
 use Rattle.rules.specs.State.{fresh, valid}
 use Rattle.rules.specs.Demands.{registersLock, registersButton, calls, demandsAfter, stands, nextAfter}
@@ -16,19 +16,16 @@ use Rattle.rules.specs.Step.{steppedTo}
 
 -- the fresh state demands no phase
 unfoldable pub freshKept : KeptState
-freshKept = record { rest = fresh; kept = replicate 7 false }
+freshKept = record { rest = fresh; kept = 0 }
 
 unfoldable pub isKept : KeptState → ℕ → Bool
-isKept s p = getD (s .kept) p false
+isKept s p = bit p (s .kept)
 
 -- ── The valid state ──
 
-unfoldable pub same : Bool → Bool → Bool
-same a b = if a then b else not b
-
 -- a kept set that differs from a scan of the locks and the demanded movements is not valid
 unfoldable pub keptValid : Site → KeptState → Bool
-keptValid site s = valid site (s .rest) && allOf (λ p. same (isKept s p) (stands site (s .rest .demands) p)) 7
+keptValid site s = valid site (s .rest) && eqb (s .kept) (setOf (stands site (s .rest .demands)))
 
 -- ── Part 1: a lock and a press keep their phase ──
 
@@ -47,8 +44,8 @@ nextKept site s inputs = nextAfter site (s .rest .position .phase) (λ p. keptAf
 -- ── Parts 4 and 5: clearing a lock and beginning a walk give the phase up where no other demand of it is left ──
 
 -- the demand stood and stands no more
-unfoldable pub gone : List Bool → List Bool → ℕ → Bool
-gone old new i = getD old i false && not (getD new i false)
+unfoldable pub gone : ℕ → ℕ → ℕ → Bool
+gone old new i = bit i old && not (bit i new)
 
 -- the lock of phase p, or the demand of one of its movements, was cleared
 unfoldable pub cleared : Site → Demands → Demands → ℕ → Bool
@@ -65,4 +62,4 @@ unfoldable pub keptStepped : Site → KeptState → ℕ → KeptState
 keptStepped site s inputs =
     let rest = steppedTo (nextKept site s inputs) site (s .rest) inputs in
     let standing = demandsAfter site (s .rest) inputs in
-    record { rest = rest; kept = listOf (keptLeft site standing (rest .demands) (keptAfter site s inputs)) 7 }
+    record { rest = rest; kept = setOf (keptLeft site standing (rest .demands) (keptAfter site s inputs)) }

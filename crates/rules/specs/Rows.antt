@@ -1,5 +1,5 @@
 -- Choice by a test, and rows by index: what is said of the things 0 to n - 1, the last one outermost.
-use Prim.Native.Nat.{ℕ, zero, suc, _+_, max}
+use Prim.Native.Nat.{ℕ, zero, suc, _+_, _^_, max}
 use mathlib.Core.Bool.{Bool, true, false, _&&_, _||_}
 use mathlib.Core.List.{List, [], _∷_, _++_}
 
@@ -27,6 +27,10 @@ countOf f (suc n) = countOf f n + (if f n then 1 else 0)
 unfoldable pub sumOf : (ℕ → ℕ) → ℕ → ℕ
 sumOf f zero = 0
 sumOf f (suc n) = sumOf f n + f n
+
+-- the set of the indices below 8 that pass, as one byte: bit 0 is the lowest
+unfoldable pub setOf : (ℕ → Bool) → ℕ
+setOf f = sumOf (λ i. if f i then 2 ^ i else 0) 8
 
 -- the greatest of f 0 .. f (n - 1), or 0 where there is none
 unfoldable pub greatestOf : (ℕ → ℕ) → ℕ → ℕ

@@ -15,6 +15,7 @@ use Rattle.rules.specs.declared.state.Movement.{Movement}
 use Rattle.rules.specs.declared.state.Position.{Position}
 use Rattle.rules.specs.declared.state.Stage.the-variants.{Idle}
 use Rattle.rules.specs.declared.state.State.{State}
+use Rattle.rules.specs.Bytes.{bit}
 use Rattle.rules.specs.Rows.{allOf}
 use Rattle.rules.specs.Intervals.{isIdle, isWalkOrFirst, isStartRed, isEarly, isLeaving}
 use Rattle.rules.specs.Site.{phaseTimes, crosses}
@@ -28,7 +29,7 @@ fresh =
     record {
       position = record { phase = 0; interval = StartRed; age = 1; came = Nothing; target = Nothing };
       counts = record { gap = 0; maximum = 0 };
-      demands = record { locks = replicate 7 false; buttons = replicate 8 false };
+      demands = record { locks = 0; buttons = 0 };
       movements = replicate 8 idle;
     }
 
@@ -38,10 +39,10 @@ abbrev pub highestAge : ℕ
 highestAge = 2000
 
 unfoldable pub locked : State → ℕ → Bool
-locked s p = getD (s .demands .locks) p false
+locked s p = bit p (s .demands .locks)
 
 unfoldable pub asked : State → ℕ → Bool
-asked s k = getD (s .demands .buttons) k false
+asked s k = bit k (s .demands .buttons)
 
 unfoldable pub movement : State → ℕ → Movement
 movement s k = getD (s .movements) k idle
@@ -85,8 +86,8 @@ unfoldable pub countsValid : PhaseTimes → Counts → Bool
 countsValid times counts = leb (counts .gap) (times .gap) && leb (counts .maximum) (times .maximum)
 
 -- demand i is of a phase or movement that exists, there being count of them
-unfoldable pub demandExists : List Bool → ℕ → ℕ → Bool
-demandExists demands count i = not (getD demands i false) || ltb i count
+unfoldable pub demandExists : ℕ → ℕ → ℕ → Bool
+demandExists demands count i = not (bit i demands) || ltb i count
 
 -- movement k is one of phase p, and one of the count that the site has
 unfoldable pub movementIn : ℕ → List ℕ → ℕ → ℕ → Bool
@@ -113,7 +114,7 @@ valid site s =
     every
     (positionValid (site .early) (site .size .phases) (s .position)
     ∷ countsValid (phaseTimes (site .times) (s .position .phase)) (s .counts)
-    ∷ allOf (demandExists (s .demands .locks) (site .size .phases)) 7
+    ∷ allOf (demandExists (s .demands .locks) (site .size .phases)) 8
     ∷ allOf (demandExists (s .demands .buttons) (site .size .movements)) 8
     ∷ movementsValid (site .size .movements) (site .crossings) (s .position) (s .movements)
     ∷ [])

@@ -1,21 +1,22 @@
 -- Part 5 of a step: walks.
 use Prim.Native.Nat.{ℕ}
-use mathlib.Core.Bool.{Bool, false, not, _&&_, _||_}
+use mathlib.Core.Bool.{Bool, not, _&&_, _||_}
 use mathlib.Core.List.{List}
 use lib.ListN.{getD}
 use Rattle.rules.specs.declared.state.Movement.{Movement}
 use Rattle.rules.specs.declared.state.Position.{Position}
 use Rattle.rules.specs.declared.state.Stage.the-variants.{Walk}
-use Rattle.rules.specs.Rows.{if_then_else_, listOf}
+use Rattle.rules.specs.Bytes.{bit}
+use Rattle.rules.specs.Rows.{if_then_else_, listOf, setOf}
 use Rattle.rules.specs.Site.{crosses}
 use Rattle.rules.specs.Intervals.{isIdle, isRunning}
 use Rattle.rules.specs.State.{idle}
 
 -- When a phase starts, its demanded movements begin walk. When the interval is now running and no other phase is demanded, idle
 -- demanded movements of the phase begin walk.
-unfoldable pub begins : List ℕ → Bool → Bool → Position → List Bool → List Movement → ℕ → Bool
+unfoldable pub begins : List ℕ → Bool → Bool → Position → ℕ → List Movement → ℕ → Bool
 begins crossings started another now buttons movements k =
-    getD buttons k false
+    bit k buttons
     && crosses crossings k (now .phase)
     && (started || (isRunning (now .interval) && not another && isIdle (getD movements k idle .stage)))
 
@@ -24,5 +25,5 @@ unfoldable pub walksBegun : (ℕ → Bool) → List Movement → List Movement
 walksBegun begun movements = listOf (λ k. if begun k then record { stage = Walk; age = 1 } else getD movements k idle) 8
 
 -- beginning clears the demand
-unfoldable pub buttonsLeft : (ℕ → Bool) → List Bool → List Bool
-buttonsLeft begun buttons = listOf (λ k. getD buttons k false && not (begun k)) 8
+unfoldable pub buttonsLeft : (ℕ → Bool) → ℕ → ℕ
+buttonsLeft begun buttons = setOf (λ k. bit k buttons && not (begun k))

@@ -74,10 +74,10 @@ pub struct Counts {
     pub maximum: u16,
 }
 
-// The locked demands by phase, and the button demands by movement.
+// The set of the phases with a locked demand (bit 0 is A), and that of the movements with a button demand.
 pub struct Demands {
-    pub locks: [bool; 7],
-    pub buttons: [bool; 8],
+    pub locks: u8,
+    pub buttons: u8,
 }
 
 pub struct Movement {
@@ -96,5 +96,5 @@ pub struct State {
 // movement.
 pub struct KeptState {
     pub rest: State,
-    pub kept: [bool; 7],
+    pub kept: u8,
 }

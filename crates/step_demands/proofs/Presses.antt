@@ -19,13 +19,13 @@ use Rattle.rules.specs.Site.{crosses}
 use Rattle.rules.specs.Intervals.{isWalk}
 use Rattle.rules.specs.State.{idle}
 use Rattle.rules.specs.Demands.{pressed, registersButton}
-use Rattle.rules.proofs.Bits.{bit-blank}
+use Rattle.rules.proofs.Bits.{bit-blank, bit-lower}
 use Rattle.rules.proofs.Rows.{list-length, list-at, any-none}
 use Rattle.rules.proofs.Tests.{decided}
 use Rattle.proof_arrays.proofs.Fill.{list-told, list-same, list-set}
 use Rattle.proof_arrays.proofs.Passing.{any-same, any-with}
 use Rattle.base_reads.proofs.Lowest.{taken, Left, left-all, taken-none, taken-all, next-within, left-more, next-untaken, next-taken, taken-other}
-use Rattle.base_reads.proofs.Shifts.{bit-down, bit-lower}
+use Rattle.base_reads.proofs.Shifts.{bit-down}
 use Rattle.base_reads.proofs.Union.{bit-or}
 
 module _ (buttons : List Bool) (movements : List Movement) (crossings : List ℕ) (inputs : ℕ) where

@@ -17,12 +17,11 @@ use Rattle.rules.specs.Bytes.{bit}
 use Rattle.rules.specs.Rows.{anyOf}
 use Rattle.rules.specs.Site.{detectorOf}
 use Rattle.rules.specs.Demands.{occupied, detectedAmong}
-use Rattle.rules.proofs.Bits.{bit-blank}
+use Rattle.rules.proofs.Bits.{bit-blank, bit-lower}
 use Rattle.rules.proofs.Rows.{any-none}
 use Rattle.rules.proofs.Tests.{decided}
 use Rattle.proof_arrays.proofs.Passing.{any-same, any-with}
 use Rattle.base_reads.proofs.Lowest.{bit-one, taken, Left, left-all, taken-none, taken-all, next-within, left-more, next-untaken, next-taken, taken-other}
-use Rattle.base_reads.proofs.Shifts.{bit-lower}
 use Rattle.base_reads.proofs.Union.{bit-or}
 use Rattle.step_demands.specs.Sensed.{Tabled}
 

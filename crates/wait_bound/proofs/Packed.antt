@@ -11,11 +11,11 @@ use lib.Dec.{eqb, ltb}
 use lib.Pow.{pow-pos, shl-exact, shl-shr, shl-lt}
 use Rattle.rules.specs.Bytes.{bit}
 use Rattle.rules.specs.Rows.{anyOf}
-use Rattle.rules.proofs.Bits.{bit-blank, bit-above}
+use Rattle.rules.proofs.Bits.{bit-blank, bit-above, bit-lower}
 use Rattle.rules.proofs.Rows.{any-at, any-none}
 use Rattle.rules.proofs.Tests.{decided}
 use Rattle.base_reads.proofs.Union.{bit-or}
-use Rattle.base_reads.proofs.Shifts.{bit-down, bit-lower}
+use Rattle.base_reads.proofs.Shifts.{bit-down}
 
 -- ── One byte of the eight ──
 

@@ -2,7 +2,8 @@
 use borrow.Author.Needs.{needs}
 use Prim.Native.Nat.{_*_, _/_, _^_}
 use mathlib.Core.Path.{_∙_}
-use Rattle.base_reads.proofs.Shifts.{bit-down, bit-lower}
+use Rattle.rules.proofs.Bits.{bit-lower}
+use Rattle.base_reads.proofs.Shifts.{bit-down}
 use Rattle.step_demands.proofs.detectors.with_mode.Statement.{statement}
 use Rattle.step_demands.proofs.detectors.with_mode.Tie as tie
 
