@@ -4,3 +4,5 @@ pub mod Shifts
 pub mod Lowest
 pub mod Common
 pub mod Union
+pub mod Fields
+pub mod Members

@@ -6,6 +6,8 @@ ghost use Rattle.rules.specs.Rows.{anyOf};
 ghost use mathlib.Core.Bool.{_&&_};
 ghost use lib.ListN.{length};
 
+pub mod sets;
+
 pub fn byte(s: &[u8], i: usize) -> u8
     ensures { λ r. ⌜ r ≡ byteAt (now (s .entry)) i ⌝ }
 {

@@ -36,7 +36,7 @@ module _ (f : ℕ → Bool) where
   lower-bit : (t : Bool) (n i : ℕ) → i < n → bit i (below n + (if t then 2 ^ n else 0)) ≡ bit i (below n)
   lower-bit true n i h =
       let cut : (below n + 2 ^ n) % 2 ^ n ≡ below n =
-          ap (λ (x : ℕ). x % 2 ^ n) (omega arith) ∙ low 1 n (small n) in
+      ap (λ (x : ℕ). x % 2 ^ n) (omega arith) ∙ low 1 n (small n) in
       sym (bit-lower n i (below n + 2 ^ n) h) ∙ ap (bit i) cut
   lower-bit false n i h = ap (bit i) (add-zero (below n))
 

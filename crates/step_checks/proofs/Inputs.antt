@@ -15,7 +15,7 @@ use Rattle.rules.proofs.Counts.{below-or-past}
 use Rattle.rules.proofs.Rows.{any-found, any-false}
 use Rattle.rules.proofs.Tests.{and-left, and-right, and-false-cases, and-false-left, and-false-right, or-left, or-right, or-false-left, or-false-right, or-false-both, decided, never-both}
 use Rattle.rules.proofs.Bits.{bit-lower}
-use Rattle.step_checks.proofs.Fields.{no-bits-from, bit-from}
+use Rattle.base_reads.proofs.Fields.{no-bits-from, bit-from}
 
 module _ (site : Site) where
   -- ── Bits without a detector or button ──

@@ -26,7 +26,7 @@ use Rattle.base_reads.proofs.Common.{same-bits}
 use Rattle.base_reads.proofs.Union.{bit-or}
 use Rattle.proof_runs.proofs.ValidStates.{implied}
 use Rattle.proof_kept.proofs.Scans.{same-told, same-holds}
-use Rattle.step_checks.proofs.Fields.{no-bits-from, bit-from}
+use Rattle.base_reads.proofs.Fields.{no-bits-from, bit-from}
 
 -- a set has the phases that have a mark
 abbrev pub SetOf : List Bool → ℕ → Type 0

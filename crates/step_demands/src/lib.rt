@@ -11,7 +11,7 @@ use rules::state::KeptState;
 mod buttons;
 mod detectors;
 pub mod movements;
-pub mod phases;
+mod phases;
 mod ring;
 
 // What part 1 hands on: the demands that stand, the phases kept as a set, the next demanded phase other than the one on, and whether a
@@ -37,18 +37,16 @@ pub fn register(site: Site, state: KeptState, inputs: u64) -> Asked
     let waiting = phases::waiting(position);
     let locking = sensed.locks & waiting;
     let old = rest.demands;
-    let locked = old.locks;
-    let locks = phases::joined(locked, locking);
-    let demanded = old.buttons;
     let movements = rest.movements;
     let crossings = site.crossings;
-    let pressed = buttons::press(demanded, movements, crossings, inputs);
-    let buttons = pressed.buttons;
-    let marks = state.kept;
-    let kept = phases::set_of(marks) | locking | pressed.phases;
+    let pressed = buttons::press(old.buttons, movements, crossings, inputs);
+    let kept = state.kept | locking | pressed.phases;
     let order = site.order;
     Asked {
-        demands: Demands { locks, buttons },
+        demands: Demands {
+            locks: old.locks | locking,
+            buttons: pressed.buttons,
+        },
         kept: kept,
         next: ring::next(kept | (sensed.calls & waiting), phase, order, size.phases),
         extended: sensed.extended,

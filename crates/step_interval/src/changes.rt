@@ -1,6 +1,8 @@
 // What a change of interval does to the counts and to the lock of the phase, and whether a phase starts with it.
+ghost use Prim.Native.Nat.{_<_};
 ghost use mathlib.Core.Path.{_≡_};
 ghost use Rattle.rules.specs.Interval.{countsLeaving, countsEntering, countsChanged, locksLeft, starts as startsAt};
+use base_reads::sets;
 use rules::site::PhaseTimes;
 use rules::site::Times;
 use rules::state::Counts;
@@ -55,15 +57,13 @@ pub fn counts_changed(
 }
 
 // Entering minimum green clears the lock of the phase.
-pub fn locks_left(ended: bool, now: Position, locks: [bool; 7]) -> [bool; 7]
+pub fn locks_left(ended: bool, now: Position, locks: u8) -> u8
+    requires { ⌜ now .phase < 8 ⌝ }
     ensures { λ r. ⌜ r ≡ locksLeft ended now locks ⌝ }
 {
     let interval = now.interval;
-    let p = now.phase as usize;
-    if ended & base_intervals::minimum_green(interval) & (p < 7) {
-        let mut left = locks;
-        left[p] = false;
-        return left;
+    if ended & base_intervals::minimum_green(interval) {
+        return sets::without(locks, now.phase);
     }
     locks
 }
