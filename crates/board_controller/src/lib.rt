@@ -38,12 +38,12 @@ pub fn fresh() -> KeptState
             },
             counts: Counts { gap: 0, maximum: 0 },
             demands: Demands {
-                locks: [false; 7],
-                buttons: [false; 8],
+                locks: 0,
+                buttons: 0,
             },
             movements: [idle; 8],
         },
-        kept: [false; 7],
+        kept: 0,
     }
 }
 

@@ -1,15 +1,17 @@
 // The checks of a step call on its state and on its input bits.
 ghost use Prim.Native.Nat.{_≤_};
+ghost use mathlib.Core.Bool.{_&&_};
 ghost use mathlib.Core.Path.{_≡_};
-ghost use lib.ListN.{length};
 ghost use Rattle.rules.specs.Call.{strayInput};
 ghost use Rattle.rules.specs.Kept.{keptValid};
 ghost use Rattle.rules.specs.Laws.{Sound};
 ghost use Rattle.rules.specs.Rows.{allOf};
 ghost use Rattle.rules.specs.State.{intervalValid, targetValid, cameValid, ageValid, positionValid, countsValid, demandExists, movementValid, movementsValid, valid};
+use base_reads::sets;
 use rules::site::PhaseTimes;
 use rules::site::Site;
 use rules::state::Counts;
+use rules::state::Demands;
 use rules::state::Held;
 use rules::state::Interval;
 use rules::state::KeptState;
@@ -17,7 +19,6 @@ use rules::state::Movement;
 use rules::state::Position;
 use rules::state::State;
 use step_demands::movements;
-use step_demands::phases;
 
 // Ages are from 1 to 2,000 steps.
 const HIGHEST_AGE: u16 = 2000;
@@ -81,26 +82,12 @@ fn counts_valid(times: PhaseTimes, counts: Counts) -> bool
     (counts.gap <= times.gap) & (counts.maximum <= times.maximum)
 }
 
-// Locks only of phases that exist.
-fn phases_exist(locks: [bool; 7], count: u8) -> bool
-    requires { ⌜ count ≤ 7 ⌝ }
-    ensures { λ r. ⌜ r ≡ allOf (demandExists locks count) 7 ⌝ }
+// Locks only of phases that exist, button demands only of movements that exist.
+fn demands_valid(demands: Demands, phases: u8, count: u8) -> bool
+    requires { ⌜ (phases ≤ 8) × (count ≤ 8) ⌝ }
+    ensures { λ r. ⌜ r ≡ (allOf (demandExists (demands .locks) phases) 8 && allOf (demandExists (demands .buttons) count) 8) ⌝ }
 {
-    phases::set_of(locks) >> count == 0
-}
-
-// Button demands only of movements that exist: the last one, counted from 1, is within the count.
-fn demands_valid(demands: &[bool], count: u8) -> bool
-    ensures { λ r. ⌜ r ≡ allOf (demandExists (now (demands .entry)) count) (length (now (demands .entry))) ⌝ }
-{
-    let mut last: usize = 0;
-    let mut i: usize = 0;
-    while i < demands.len() {
-        let demand = demands[i];
-        i += 1;
-        last = if demand { i } else { last };
-    }
-    last <= count as usize
+    sets::all_below(demands.locks, phases) & sets::all_below(demands.buttons, count)
 }
 
 // One movement record, by whether it is a movement of the phase: an idle one is at age 1. Any other has a valid age, is of the phase, is
@@ -144,7 +131,7 @@ fn movements_valid(
 
 // Whether the state is valid for the site, apart from its kept set.
 fn valid_state(site: Site, state: State) -> bool
-    requires { ⌜ site .size .phases ≤ 7 ⌝ }
+    requires { ⌜ (site .size .phases ≤ 7) × (site .size .movements ≤ 8) ⌝ }
     ensures { λ r. ⌜ r ≡ valid site state ⌝ }
 {
     let phases = site.size.phases;
@@ -155,14 +142,11 @@ fn valid_state(site: Site, state: State) -> bool
     let own = step_counts::times_of(settings, position.phase);
     let counts = state.counts;
     let demands = state.demands;
-    let locks = demands.locks;
-    let buttons = demands.buttons;
     let crossings = site.crossings;
     let movements = state.movements;
     position_valid(site.early, phases, position)
         & counts_valid(own, counts)
-        & phases_exist(locks, phases)
-        & demands_valid(&buttons, count)
+        & demands_valid(demands, phases, count)
         & movements_valid(count, crossings, position, movements)
 }
 
@@ -173,13 +157,9 @@ pub fn valid_kept(site: Site, state: KeptState) -> bool
 {
     let rest = state.rest;
     let demands = rest.demands;
-    let locks = demands.locks;
-    let buttons = demands.buttons;
     let crossings = site.crossings;
-    let kept = state.kept;
-    let scanned = phases::set_of(locks)
-        | movements::crossed(crossings, buttons, site.size.movements);
-    valid_state(site, rest) & (phases::set_of(kept) == scanned)
+    let crossed = movements::crossed(crossings, demands.buttons, site.size.movements);
+    valid_state(site, rest) & (state.kept == demands.locks | crossed)
 }
 
 // Whether an input bit is set without a detector or button there.

@@ -52,16 +52,12 @@ pub fn advance(site: Site, state: KeptState, inputs: u64) -> KeptState
     // 5. walks
     let crossings = site.crossings;
     let starts = changes::starts(ended, old);
-    let buttons = demands.buttons;
-    let walked = step_walks::begin(crossings, count, starts, another, now, buttons, moved);
-    let locks = demands.locks;
-    let left = walked.buttons;
+    let walked = step_walks::begin(crossings, starts, another, now, demands.buttons, moved);
     let movements = walked.movements;
     let standing = Demands {
-        locks: changes::locks_left(ended, now, locks),
-        buttons: left,
+        locks: changes::locks_left(ended, now, demands.locks),
+        buttons: walked.buttons,
     };
-    let kept = asked.kept;
     KeptState {
         rest: State {
             position: now,
@@ -69,6 +65,6 @@ pub fn advance(site: Site, state: KeptState, inputs: u64) -> KeptState
             demands: standing,
             movements: movements,
         },
-        kept: kept::left(kept, now.phase, standing, crossings, count),
+        kept: kept::left(asked.kept, now.phase, standing, crossings, count),
     }
 }
