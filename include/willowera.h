@@ -43,7 +43,7 @@ extern "C" {
 
 /* ── Sizes ── */
 
-#define WILLOWERA_STATE_BYTES 58
+#define WILLOWERA_STATE_BYTES 39
 #define WILLOWERA_MOST_PHASES 7
 #define WILLOWERA_MOST_GROUPS 32
 #define WILLOWERA_MOST_DETECTORS 48
@@ -141,7 +141,7 @@ uint64_t willowera_settings(uint32_t speed, uint32_t detector, double metres);
 uint64_t willowera_section(const uint8_t *personality, size_t personality_length, uint16_t kind);
 
 /* The version of the archive's interface: WILLOWERA_VERSION where this header belongs to it. */
-#define WILLOWERA_VERSION 3
+#define WILLOWERA_VERSION 4
 uint32_t willowera_version(void);
 
 #ifdef __cplusplus

@@ -189,7 +189,7 @@ fn a_phase_kept_that_is_not_demanded() {
     let board = Wrong {
         step: Some(|answer, state, _| {
             if number(answer) == 0 {
-                state[layout::DEMANDED] = 1;
+                state[layout::DEMANDED] |= 1;
             }
             answer
         }),

@@ -265,14 +265,12 @@ pub fn broken_state_bytes(rng: &mut Rng, site: &Site) -> Vec<u8> {
         bytes[at..at + 2].copy_from_slice(&[0, 1]);
         return bytes;
     }
-    let at = match rng.below(5) {
+    let at = match rng.below(3) {
         0 => layout::INTERVAL,
         1 => rng.pick(&[layout::CAME_FROM, layout::TARGET]),
-        2 => rng.range(layout::LOCKS, layout::MOVEMENTS - 1),
-        3 => layout::DEMANDED + rng.below(MAX_PHASES),
         _ => layout::MOVEMENTS + layout::MOVEMENT_LEN * rng.below(MAX_MOVEMENTS),
     };
-    // No code, tag or flag is as great as these.
+    // No code and no tag is as great as these.
     bytes[at] = rng.pick(&[Interval::ALL.len() as u8, 8, 128, 255]);
     bytes
 }

@@ -2,7 +2,7 @@
 //! code an interval and a stage have.
 
 use crate::state::{Interval, MovementState, Stage, State};
-use crate::{MAX_MOVEMENTS, MAX_PHASES};
+use crate::MAX_MOVEMENTS;
 
 /// Where each field begins.
 pub const PHASE: usize = 0;
@@ -12,17 +12,17 @@ pub const CAME_FROM: usize = 4;
 pub const TARGET: usize = 6;
 pub const GAP_COUNT: usize = 8;
 pub const MAXIMUM_COUNT: usize = 10;
-/// One byte a phase, then one byte a movement, each 0 or 1.
+/// A set of phases, then a set of movements, one byte each; bit 0 is the first.
 pub const LOCKS: usize = 12;
-pub const DEMANDS: usize = LOCKS + MAX_PHASES;
+pub const DEMANDS: usize = LOCKS + 1;
 /// Records of a stage and an age of two bytes.
-pub const MOVEMENTS: usize = DEMANDS + MAX_MOVEMENTS;
+pub const MOVEMENTS: usize = DEMANDS + 1;
 pub const MOVEMENT_LEN: usize = 3;
-/// One byte a phase, each 0 or 1.
+/// A set of phases.
 pub const DEMANDED: usize = MOVEMENTS + MOVEMENT_LEN * MAX_MOVEMENTS;
 
 /// The length of a state in bytes.
-pub const STATE_LEN: usize = DEMANDED + MAX_PHASES;
+pub const STATE_LEN: usize = DEMANDED + 1;
 
 /// The intervals and stages, each at the place of its code.
 const INTERVALS: [Interval; 7] = [
@@ -85,9 +85,9 @@ impl State {
             target: optional(TARGET)?,
             gap_count: number(GAP_COUNT),
             maximum_count: number(MAXIMUM_COUNT),
-            locks: gather_flags(&bytes[LOCKS..DEMANDS])?,
-            demands: gather_flags(&bytes[DEMANDS..MOVEMENTS])?,
-            demanded: gather_flags(&bytes[DEMANDED..])?,
+            locks: bytes[LOCKS],
+            demands: bytes[DEMANDS],
+            demanded: bytes[DEMANDED],
             movements,
         })
     }
@@ -104,9 +104,9 @@ impl State {
         put(TARGET, tagged_phase(self.target));
         put(GAP_COUNT, self.gap_count.to_le_bytes());
         put(MAXIMUM_COUNT, self.maximum_count.to_le_bytes());
-        bytes[LOCKS..DEMANDS].copy_from_slice(&spread_flags(self.locks)[..MAX_PHASES]);
-        bytes[DEMANDS..MOVEMENTS].copy_from_slice(&spread_flags(self.demands));
-        bytes[DEMANDED..].copy_from_slice(&spread_flags(self.demanded)[..MAX_PHASES]);
+        bytes[LOCKS] = self.locks;
+        bytes[DEMANDS] = self.demands;
+        bytes[DEMANDED] = self.demanded;
         for (index, movement) in self.movements.iter().enumerate() {
             let at = MOVEMENTS + MOVEMENT_LEN * index;
             let [low, high] = movement.age.to_le_bytes();
@@ -131,24 +131,6 @@ fn tagged_phase(phase: Option<u8>) -> [u8; 2] {
     phase.map_or([0, 0], |phase| [1, phase])
 }
 
-/// A set from one byte a member, each 0 or 1.
-#[inline]
-fn gather_flags(flags: &[u8]) -> Option<u8> {
-    let mut wide = [0; 8];
-    wide[..flags.len()].copy_from_slice(flags);
-    let wide = u64::from_le_bytes(wide);
-    if wide & !0x0101_0101_0101_0101 != 0 {
-        return None;
-    }
-    // Byte i moves to bit i of the highest byte.
-    Some((wide.wrapping_mul(0x0102_0408_1020_4080) >> 56) as u8)
-}
-
-#[inline]
-fn spread_flags(set: u8) -> [u8; 8] {
-    crate::bits::spread(set).to_le_bytes()
-}
-
 #[cfg(test)]
 mod tests {
     use super::*;
@@ -163,14 +145,6 @@ mod tests {
         for stage in Stage::ALL {
             assert_eq!(STAGES[usize::from(stage_code(stage))], stage);
         }
-    }
-
-    #[test]
-    fn flags_are_gathered_as_they_are_spread() {
-        for set in 0..=255 {
-            assert_eq!(gather_flags(&spread_flags(set)), Some(set));
-        }
-        assert_eq!(gather_flags(&[0, 2, 0, 0, 0, 0, 0]), None);
     }
 
     #[test]
@@ -203,26 +177,16 @@ mod tests {
         };
         let bytes = state.to_bytes();
         assert_eq!(bytes[..12], [3, 6, 2, 1, 1, 0, 1, 6, 4, 3, 6, 5]);
-        assert_eq!(bytes[12..19], [1, 0, 0, 0, 0, 0, 1]);
-        assert_eq!(bytes[19..27], [0, 1, 0, 0, 0, 0, 0, 1]);
-        assert_eq!(bytes[48..51], [3, 8, 7]);
-        assert_eq!(bytes[51..], [0, 0, 1, 0, 0, 1, 0]);
+        assert_eq!(bytes[12..14], [0b0100_0001, 0b1000_0010]);
+        assert_eq!(bytes[35..38], [3, 8, 7]);
+        assert_eq!(bytes[38..], [0b0010_0100]);
         assert_eq!(State::from_bytes(&bytes), Some(state));
     }
 
     #[test]
     fn bytes_that_are_no_state() {
         let good = fresh().to_bytes();
-        for (at, byte) in [
-            (1, 7),
-            (4, 2),
-            (5, 1),
-            (6, 2),
-            (7, 1),
-            (12, 2),
-            (26, 255),
-            (57, 2),
-        ] {
+        for (at, byte) in [(1, 7), (4, 2), (5, 1), (6, 2), (7, 1)] {
             let mut bytes = good;
             bytes[at] = byte;
             assert_eq!(State::from_bytes(&bytes), None, "byte {at}");

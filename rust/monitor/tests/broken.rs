@@ -449,7 +449,7 @@ fn blind_to_detectors() {
 fn a_demanded_phase_not_kept() {
     let breach = first_breach(&Odd(|personality, state, inputs, colours| {
         let answer = packed::step(personality, state, inputs, colours);
-        state[layout::DEMANDED + 2] = 0;
+        state[layout::DEMANDED] &= !(1 << 2);
         answer
     }));
     assert!(matches!(breach, Breach::DemandedDiffers { .. }));
@@ -460,7 +460,7 @@ fn a_phase_kept_that_is_not_demanded() {
     let breach = first_breach(&Odd(|personality, state, inputs, colours| {
         let answer = packed::step(personality, state, inputs, colours);
         if number(answer) == 0 {
-            state[layout::DEMANDED] = 1;
+            state[layout::DEMANDED] |= 1;
         }
         answer
     }));

@@ -15,7 +15,7 @@ pub use answer::{part, sheet_settings, wait_bound_or_refusal, Part, Refusal, Set
 pub use board::{read, section, settings, version, wait_bound, Controller, Detector};
 
 /// The version of the interface that these wrappers are for.
-pub const VERSION: u32 = 3;
+pub const VERSION: u32 = 4;
 
 /// The length of a state in bytes.
-pub const STATE_LEN: usize = 58;
+pub const STATE_LEN: usize = 39;
