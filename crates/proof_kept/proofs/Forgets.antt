@@ -1,12 +1,12 @@
 -- Forgetting the kept set gives the scanning rules. In a valid state both searches find the same phase, so a step does the same to the rest of
 -- the state, and the set that it leaves is the scan of the demands that it leaves. A list of calls is then taken alike call by call.
-use Prim.Native.Nat.{ℕ, _≤_, _<_}
-use mathlib.Core.Bool.{Bool, true, false, not, _&&_, _||_, or-false}
+use Prim.Native.Nat.{ℕ, _<_}
+use mathlib.Core.Bool.{Bool, true, false, not, _&&_}
 use mathlib.Core.List.{List, [], _∷_}
 use mathlib.Core.Path.{_≡_, refl, sym, ap, subst, _∙_}
 use native.Mathlib.Omega.{arith}
-use borrow.Author.Tests.{not-false}
-use lib.ListN.{length, getD, getD-replicate}
+use borrow.Author.Tests.{eq-eqb}
+use lib.ListN.{length}
 use Rattle.rules.specs.declared.answer.Verdict.{Verdict}
 use Rattle.rules.specs.declared.answer.Verdict.the-variants.{Accepted, Refused}
 use Rattle.rules.specs.declared.site.Site.{Site}
@@ -14,25 +14,28 @@ use Rattle.rules.specs.declared.state.Demands.{Demands}
 use Rattle.rules.specs.declared.state.Held.{Held}
 use Rattle.rules.specs.declared.state.KeptState.{KeptState}
 use Rattle.rules.specs.declared.state.State.{State}
-use Rattle.rules.specs.Rows.{allOf, listOf, anyOf}
+use Rattle.rules.specs.Bytes.{bit}
+use Rattle.rules.specs.Rows.{setOf, sumOf}
 use Rattle.rules.specs.Verdicts.{_orElse_}
 use Rattle.rules.specs.Personality.{verdictOf}
 use Rattle.rules.specs.Site.{siteOf, crosses}
 use Rattle.rules.specs.State.{fresh, locked, asked, valid}
-use Rattle.rules.specs.Demands.{stands, movementDemands, demandsAfter, nextDemanded}
+use Rattle.rules.specs.Demands.{stands, movementDemands}
 use Rattle.rules.specs.Interval.{clearsLock}
 use Rattle.rules.specs.Step.{steppedTo, stepped}
-use Rattle.rules.specs.Kept.{freshKept, isKept, same, keptValid, keptAfter, nextKept, keptLeft, keptStepped}
+use Rattle.rules.specs.Kept.{freshKept, keptValid, keptAfter, keptLeft, keptStepped}
 use Rattle.rules.specs.Call.{stepVerdict, callVerdict, boundFor, handedBack, bufferFor, answerOf, bufferOf}
 use Rattle.rules.specs.Runs.{Call, Taken, ruled, takenFrom}
 use Rattle.rules.specs.Laws.{Sound, AcceptedIsSound, FreshIsValid, StepKeepsValid}
 use Rattle.rules.specs.Scanning.{scanVerdict, scanning, FreshKeptIsValid, StepKeepsKept, StepForgets, RunForgets}
-use Rattle.rules.proofs.Tests.{and-left, and-right, and-both, and-false-left}
-use Rattle.rules.proofs.Rows.{all-each, list-at, any-none}
+use Rattle.rules.proofs.Tests.{and-left, and-both, and-false-left, or-false-both}
+use Rattle.rules.proofs.Bits.{bit-blank}
+use Rattle.rules.proofs.Rows.{any-none}
+use Rattle.rules.proofs.Sets.{set-same}
 use Rattle.rules.proofs.Verdicts.{or-first}
 use Rattle.proof_runs.proofs.Chains.{checks-told}
 use Rattle.proof_runs.proofs.Steps.{askedNow, lockedNow, begun, ended, now, asked-at, locked-at, locked-of, asked-of}
-use Rattle.proof_kept.proofs.Scans.{same-holds, standingAfter, kept-after, next-kept, kept-left}
+use Rattle.proof_kept.proofs.Scans.{standingAfter, kept-after, next-kept, kept-left}
 
 pub step-forgets : StepForgets
 unfolding StepForgets keptStepped stepped
@@ -45,7 +48,7 @@ module _ (site : Site) (sound : Sound site) (s : KeptState) (inputs : ℕ) (v : 
   left : Demands
   left = stepped site (s .rest) inputs .demands
 
-  lock-was : (p : ℕ) → p < 7 → getD (left .locks) p false ≡ true → getD (standingAfter site s inputs .locks) p false ≡ true
+  lock-was : (p : ℕ) → p < 8 → bit p (left .locks) ≡ true → bit p (standingAfter site s inputs .locks) ≡ true
   unfolding left locked
   lock-was p l h =
       locked-at site (s .rest) inputs p l
@@ -53,41 +56,39 @@ module _ (site : Site) (sound : Sound site) (s : KeptState) (inputs : ℕ) (v : 
       (sym (locked-of site (s .rest) inputs p l) ∙ h)
 
   button-was :
-      (k : ℕ) → k < site .size .movements → getD (left .buttons) k false ≡ true → getD (standingAfter site s inputs .buttons) k false ≡ true
+      (k : ℕ) → k < site .size .movements → bit k (left .buttons) ≡ true → bit k (standingAfter site s inputs .buttons) ≡ true
   unfolding left asked
   button-was k l h =
       let small : k < 8 = omega (arith, sound .movements) in
       asked-at site (s .rest) inputs k small
       ∙ and-left (askedNow site (s .rest) inputs k) (not (begun site (s .rest) inputs k)) (sym (asked-of site (s .rest) inputs k small) ∙ h)
 
-  pub keeps-scan : (p : ℕ) → p < 7 → isKept (keptStepped site s inputs) p ≡ stands site (keptStepped site s inputs .rest .demands) p
-  unfolding isKept keptStepped left stepped
-  keeps-scan p l =
+  pub keeps-scan : keptStepped site s inputs .kept ≡ setOf (stands site (keptStepped site s inputs .rest .demands))
+  unfolding keptStepped left stepped
+  keeps-scan =
       rw (next-kept site sound s inputs v)
-      (list-at (keptLeft site (demandsAfter site (s .rest) inputs) left (keptAfter site s inputs)) 7 p false l
-      ∙ kept-left site (standingAfter site s inputs) left lock-was button-was p l (keptAfter site s inputs) (kept-after site sound s inputs v p l))
+      (set-same (keptLeft site (standingAfter site s inputs) left (keptAfter site s inputs)) (stands site left)
+      (λ p l.
+      kept-left site (standingAfter site s inputs) left lock-was button-was p l (keptAfter site s inputs) (kept-after site sound s inputs v p l)))
 
 pub step-keeps-kept : StepKeepsValid → StepKeepsKept
 unfolding StepKeepsValid StepKeepsKept StepForgets keptValid
 step-keeps-kept keeps site sound s inputs v wired =
-    let next = keptStepped site s inputs in
     and-both
     (ap (λ (t : State). valid site t) (step-forgets site sound s inputs v) ∙ keeps site sound (s .rest) inputs (and-left (valid site (s .rest)) _ v) wired)
-    (all-each (λ p. same (isKept next p) (stands site (next .rest .demands) p)) 7
-    (λ p l. same-holds (isKept next p) (stands site (next .rest .demands) p) (keeps-scan site sound s inputs v p l)))
+    (eq-eqb _ _ (keeps-scan site sound s inputs v))
 
 pub fresh-kept-is-valid : FreshIsValid → FreshKeptIsValid
-unfolding FreshIsValid FreshKeptIsValid keptValid freshKept isKept stands movementDemands fresh same
+unfolding FreshIsValid FreshKeptIsValid keptValid freshKept stands movementDemands fresh setOf sumOf
 fresh-kept-is-valid holds site sound =
     and-both (holds site sound)
-    (all-each (λ p. same (getD (freshKept .kept) p false) (stands site (fresh .demands) p)) 7
+    (eq-eqb 0 _
+    (set-same (λ p. false) (stands site (fresh .demands))
     (λ p l.
-    same-holds (getD (freshKept .kept) p false) (stands site (fresh .demands) p)
-    (sym
-    (ap (λ (crossed : Bool). getD (fresh .demands .locks) p false || crossed)
-    (any-none (λ k. getD (fresh .demands .buttons) k false && crosses (site .crossings) k p) (site .size .movements)
-    (λ k m. and-false-left (crosses (site .crossings) k p) (getD-replicate 8 k false false (omega (arith, sound .movements)))))
-    ∙ or-false (getD (fresh .demands .locks) p false)))))
+    sym
+    (or-false-both (bit-blank p)
+    (any-none (λ k. bit k 0 && crosses (site .crossings) k p) (site .size .movements)
+    (λ k m. and-false-left (crosses (site .crossings) k p) (bit-blank k)))))))
 
 -- ── A list of calls ──
 

@@ -1,46 +1,41 @@
 -- The kept set and the scan. After part 1 a phase is kept where the scan of the demands that stand finds it: a registered lock or press is
 -- the only thing that the scan finds and the old set has not. After parts 4 and 5 it is so again: where the scan of what is left no longer
 -- finds a phase, a demand of it was cleared, and where it still does the phase stays kept.
-use Prim.Native.Nat.{ℕ, _≤_, _<_}
+use Prim.Native.Nat.{ℕ, _<_}
 use mathlib.Core.Bool.{Bool, true, false, not, _&&_, _||_}
-use mathlib.Core.List.{List}
 use mathlib.Core.Logic.{_⊎_, inl, inr, ⊎-elim}
 use mathlib.Core.Path.{_≡_, refl, sym, ap, _∙_}
 use native.Mathlib.Omega.{arith}
-use lib.ListN.{getD}
+use borrow.Author.Tests.{eqb-true}
 use Rattle.rules.specs.declared.site.Site.{Site}
 use Rattle.rules.specs.declared.state.Demands.{Demands}
 use Rattle.rules.specs.declared.state.KeptState.{KeptState}
-use Rattle.rules.specs.Rows.{anyOf, allOf}
+use Rattle.rules.specs.Bytes.{bit}
+use Rattle.rules.specs.Rows.{anyOf, setOf}
 use Rattle.rules.specs.Site.{crosses, ring}
 use Rattle.rules.specs.State.{locked, asked, valid}
 use Rattle.rules.specs.Demands.{registersLock, registersButton, calls, demandsAfter, movementDemands, stands, demanded, nextAfter, nextDemanded}
-use Rattle.rules.specs.Kept.{isKept, same, keptValid, pressKeeps, keptAfter, nextKept, gone, cleared, keptLeft}
+use Rattle.rules.specs.Kept.{isKept, keptValid, pressKeeps, keptAfter, nextKept, gone, cleared, keptLeft}
 use Rattle.rules.specs.Laws.{Sound}
 use Rattle.rules.specs.Scanning.{KeptIsScan}
 use Rattle.rules.proofs.Tests.{and-left, and-right, and-both, or-left, or-right, or-cases, and-false-left, and-false-right, decided, never-both, not-true-false}
-use Rattle.rules.proofs.Rows.{any-found, any-at, all-at}
+use Rattle.rules.proofs.Rows.{any-found, any-at}
+use Rattle.rules.proofs.Sets.{bit-set}
 use Rattle.proof_ring.proofs.Turns.{turn}
 use Rattle.proof_ring.proofs.Ring.{found-same}
 use Rattle.proof_ring.proofs.Orders.{ring-of}
 use Rattle.proof_runs.proofs.Steps.{askedNow, lockedNow, asked-at, locked-at}
 
-pub same-told : (a b : Bool) → same a b ≡ true → a ≡ b
-unfolding same
-same-told true b h = sym h
-same-told false true h = h
-same-told false false h = refl
-
-pub same-holds : (a b : Bool) → a ≡ b → same a b ≡ true
-unfolding same
-same-holds true b e = sym e
-same-holds false b e = ap not (sym e)
+-- in a valid state the kept set is the scan's, so it has the scan's bits
+scan-at : (site : Site) (s : KeptState) → keptValid site s ≡ true → (p : ℕ) → p < 8 → isKept s p ≡ stands site (s .rest .demands) p
+unfolding keptValid isKept
+scan-at site s v p l =
+    let scan = stands site (s .rest .demands) in
+    ap (bit p) (eqb-true (s .kept) (setOf scan) (and-right (valid site (s .rest)) _ v)) ∙ bit-set scan p l
 
 pub kept-is-scan : KeptIsScan
-unfolding KeptIsScan keptValid
-kept-is-scan site s v p l =
-    same-told (isKept s p) (stands site (s .rest .demands) p)
-    (all-at (λ p. same (isKept s p) (stands site (s .rest .demands) p)) 7 p (and-right (valid site (s .rest)) _ v) l)
+unfolding KeptIsScan
+kept-is-scan site s v p l = scan-at site s v p (omega arith)
 
 -- two tests that imply each other are one
 either-way : (a b : Bool) → (a ≡ true → b ≡ true) → (b ≡ true → a ≡ true) → a ≡ b
@@ -54,35 +49,35 @@ module _ (site : Site) (d : Demands) (p : ℕ) where
   -- a lock, or a demanded movement of the phase
   pub Found : Type 0
   Found =
-      (getD (d .locks) p false ≡ true)
-      ⊎ ((k : ℕ) × (k < site .size .movements) × (getD (d .buttons) k false ≡ true) × (crosses (site .crossings) k p ≡ true))
+      (bit p (d .locks) ≡ true)
+      ⊎ ((k : ℕ) × (k < site .size .movements) × (bit k (d .buttons) ≡ true) × (crosses (site .crossings) k p ≡ true))
 
   scan-finds : stands site d p ≡ true → Found
   unfolding stands movementDemands Found
   scan-finds h =
       ⊎-elim
-      (λ (l : getD (d .locks) p false ≡ true). inl l)
-      (λ (m : anyOf (λ k. getD (d .buttons) k false && crosses (site .crossings) k p) (site .size .movements) ≡ true).
-      let found = any-found (λ k. getD (d .buttons) k false && crosses (site .crossings) k p) (site .size .movements) m in
+      (λ (l : bit p (d .locks) ≡ true). inl l)
+      (λ (m : anyOf (λ k. bit k (d .buttons) && crosses (site .crossings) k p) (site .size .movements) ≡ true).
+      let found = any-found (λ k. bit k (d .buttons) && crosses (site .crossings) k p) (site .size .movements) m in
       let k = found .0 in
       inr (
         k,
         found .1,
-        and-left (getD (d .buttons) k false) (crosses (site .crossings) k p) (found .2),
-        and-right (getD (d .buttons) k false) (crosses (site .crossings) k p) (found .2),
+        and-left (bit k (d .buttons)) (crosses (site .crossings) k p) (found .2),
+        and-right (bit k (d .buttons)) (crosses (site .crossings) k p) (found .2),
       ))
-      (or-cases (getD (d .locks) p false) _ h)
+      (or-cases (bit p (d .locks)) _ h)
 
-  by-lock : getD (d .locks) p false ≡ true → stands site d p ≡ true
+  by-lock : bit p (d .locks) ≡ true → stands site d p ≡ true
   unfolding stands
   by-lock h = or-left _ h
 
   by-button :
-      (k : ℕ) → k < site .size .movements → getD (d .buttons) k false ≡ true → crosses (site .crossings) k p ≡ true → stands site d p ≡ true
+      (k : ℕ) → k < site .size .movements → bit k (d .buttons) ≡ true → crosses (site .crossings) k p ≡ true → stands site d p ≡ true
   unfolding stands movementDemands
   by-button k l h c =
-      or-right (getD (d .locks) p false)
-      (any-at (λ k. getD (d .buttons) k false && crosses (site .crossings) k p) (site .size .movements) k l (and-both h c))
+      or-right (bit p (d .locks))
+      (any-at (λ k. bit k (d .buttons) && crosses (site .crossings) k p) (site .size .movements) k l (and-both h c))
 
 -- ── Part 1 ──
 
@@ -91,7 +86,7 @@ abbrev pub standingAfter : Site → KeptState → ℕ → Demands
 standingAfter site s inputs = demandsAfter site (s .rest) inputs
 
 module _ (site : Site) (sound : Sound site) (s : KeptState) (inputs : ℕ) (v : keptValid site s ≡ true) where
-  lock-stands : (p : ℕ) → p < 7 → (locked (s .rest) p || registersLock site (s .rest) inputs p) ≡ true → stands site (standingAfter site s inputs) p ≡ true
+  lock-stands : (p : ℕ) → p < 8 → (locked (s .rest) p || registersLock site (s .rest) inputs p) ≡ true → stands site (standingAfter site s inputs) p ≡ true
   unfolding lockedNow
   lock-stands p l h = by-lock site (standingAfter site s inputs) p (locked-at site (s .rest) inputs p l ∙ h)
 
@@ -105,20 +100,19 @@ module _ (site : Site) (sound : Sound site) (s : KeptState) (inputs : ℕ) (v : 
   button-stands p k l h c =
       by-button site (standingAfter site s inputs) p k l (asked-at site (s .rest) inputs k (omega (arith, sound .movements)) ∙ h) c
 
-  from-kept : (p : ℕ) → p < 7 → isKept s p ≡ true → stands site (standingAfter site s inputs) p ≡ true
-  unfolding KeptIsScan locked asked Found
+  from-kept : (p : ℕ) → p < 8 → isKept s p ≡ true → stands site (standingAfter site s inputs) p ≡ true
+  unfolding locked asked Found
   from-kept p l h =
       ⊎-elim
-      (λ (lock : getD (s .rest .demands .locks) p false ≡ true). lock-stands p l (or-left _ lock))
-      (λ (b : (k : ℕ) × (k < site .size .movements) × (getD (s .rest .demands .buttons) k false ≡ true) × (crosses (site .crossings) k p ≡ true)).
+      (λ (lock : bit p (s .rest .demands .locks) ≡ true). lock-stands p l (or-left _ lock))
+      (λ (b : (k : ℕ) × (k < site .size .movements) × (bit k (s .rest .demands .buttons) ≡ true) × (crosses (site .crossings) k p ≡ true)).
       button-stands p (b .0) (b .1) (or-left _ (b .2)) (b .3))
-      (scan-finds site (s .rest .demands) p (sym (kept-is-scan site s v p l) ∙ h))
+      (scan-finds site (s .rest .demands) p (sym (scan-at site s v p l) ∙ h))
 
-  to-kept : (p : ℕ) → p < 7 → stands site (s .rest .demands) p ≡ true → isKept s p ≡ true
-  unfolding KeptIsScan
-  to-kept p l h = kept-is-scan site s v p l ∙ h
+  to-kept : (p : ℕ) → p < 8 → stands site (s .rest .demands) p ≡ true → isKept s p ≡ true
+  to-kept p l h = scan-at site s v p l ∙ h
 
-  stands-kept : (p : ℕ) → p < 7 → keptAfter site s inputs p ≡ true → stands site (standingAfter site s inputs) p ≡ true
+  stands-kept : (p : ℕ) → p < 8 → keptAfter site s inputs p ≡ true → stands site (standingAfter site s inputs) p ≡ true
   unfolding keptAfter pressKeeps
   stands-kept p l h =
       ⊎-elim
@@ -136,16 +130,16 @@ module _ (site : Site) (sound : Sound site) (s : KeptState) (inputs : ℕ) (v : 
       (and-right press (crosses (site .crossings) k p) (found .2)))
       (or-cases (isKept s p || registersLock site (s .rest) inputs p) (pressKeeps site s inputs p) h)
 
-  kept-stands : (p : ℕ) → p < 7 → stands site (standingAfter site s inputs) p ≡ true → keptAfter site s inputs p ≡ true
+  kept-stands : (p : ℕ) → p < 8 → stands site (standingAfter site s inputs) p ≡ true → keptAfter site s inputs p ≡ true
   unfolding keptAfter pressKeeps Found lockedNow askedNow locked asked
   kept-stands p l h =
       ⊎-elim
-      (λ (lock : getD (standingAfter site s inputs .locks) p false ≡ true).
+      (λ (lock : bit p (standingAfter site s inputs .locks) ≡ true).
       ⊎-elim
       (λ (was : locked (s .rest) p ≡ true). or-left _ (or-left _ (to-kept p l (by-lock site (s .rest .demands) p was))))
       (λ (r : registersLock site (s .rest) inputs p ≡ true). or-left _ (or-right (isKept s p) r))
       (or-cases (locked (s .rest) p) (registersLock site (s .rest) inputs p) (sym (locked-at site (s .rest) inputs p l) ∙ lock)))
-      (λ (b : (k : ℕ) × (k < site .size .movements) × (getD (standingAfter site s inputs .buttons) k false ≡ true) × (crosses (site .crossings) k p ≡ true)).
+      (λ (b : (k : ℕ) × (k < site .size .movements) × (bit k (standingAfter site s inputs .buttons) ≡ true) × (crosses (site .crossings) k p ≡ true)).
       let k = b .0 in
       ⊎-elim
       (λ (was : asked (s .rest) k ≡ true). or-left _ (or-left _ (to-kept p l (by-button site (s .rest .demands) p k (b .1) was (b .3)))))
@@ -158,7 +152,7 @@ module _ (site : Site) (sound : Sound site) (s : KeptState) (inputs : ℕ) (v : 
       (scan-finds site (standingAfter site s inputs) p h)
 
   -- after part 1 a phase is kept where the scan finds it
-  pub kept-after : (p : ℕ) → p < 7 → keptAfter site s inputs p ≡ stands site (standingAfter site s inputs) p
+  pub kept-after : (p : ℕ) → p < 8 → keptAfter site s inputs p ≡ stands site (standingAfter site s inputs) p
   kept-after p l = either-way (keptAfter site s inputs p) (stands site (standingAfter site s inputs) p) (stands-kept p l) (kept-stands p l)
 
   -- so the search by the kept set finds what the search by the scan does
@@ -173,16 +167,16 @@ module _ (site : Site) (sound : Sound site) (s : KeptState) (inputs : ℕ) (v : 
 
 module _
     (site : Site) (old new : Demands)
-    (lock-was : (p : ℕ) → p < 7 → getD (new .locks) p false ≡ true → getD (old .locks) p false ≡ true)
-    (button-was : (k : ℕ) → k < site .size .movements → getD (new .buttons) k false ≡ true → getD (old .buttons) k false ≡ true)
-    (p : ℕ) (l : p < 7)
+    (lock-was : (p : ℕ) → p < 8 → bit p (new .locks) ≡ true → bit p (old .locks) ≡ true)
+    (button-was : (k : ℕ) → k < site .size .movements → bit k (new .buttons) ≡ true → bit k (old .buttons) ≡ true)
+    (p : ℕ) (l : p < 8)
   where
     still-stood : stands site new p ≡ true → stands site old p ≡ true
     unfolding Found
     still-stood h =
         ⊎-elim
-        (λ (lock : getD (new .locks) p false ≡ true). by-lock site old p (lock-was p l lock))
-        (λ (b : (k : ℕ) × (k < site .size .movements) × (getD (new .buttons) k false ≡ true) × (crosses (site .crossings) k p ≡ true)).
+        (λ (lock : bit p (new .locks) ≡ true). by-lock site old p (lock-was p l lock))
+        (λ (b : (k : ℕ) × (k < site .size .movements) × (bit k (new .buttons) ≡ true) × (crosses (site .crossings) k p ≡ true)).
         by-button site old p (b .0) (b .1) (button-was (b .0) (b .1) (b .2)) (b .3))
         (scan-finds site new p h)
 
@@ -191,16 +185,16 @@ module _
     unfolding cleared gone Found
     left-cleared h none =
         ⊎-elim
-        (λ (lock : getD (old .locks) p false ≡ true).
+        (λ (lock : bit p (old .locks) ≡ true).
         or-left _
-        (and-both lock (ap not (not-true-false (getD (new .locks) p false) (λ e. never-both (by-lock site new p e) none)))))
-        (λ (b : (k : ℕ) × (k < site .size .movements) × (getD (old .buttons) k false ≡ true) × (crosses (site .crossings) k p ≡ true)).
+        (and-both lock (ap not (not-true-false (bit p (new .locks)) (λ e. never-both (by-lock site new p e) none)))))
+        (λ (b : (k : ℕ) × (k < site .size .movements) × (bit k (old .buttons) ≡ true) × (crosses (site .crossings) k p ≡ true)).
         let k = b .0 in
         or-right (gone (old .locks) (new .locks) p)
         (any-at (λ k. gone (old .buttons) (new .buttons) k && crosses (site .crossings) k p) (site .size .movements) k (b .1)
         (and-both
         (and-both (b .2)
-        (ap not (not-true-false (getD (new .buttons) k false) (λ e. never-both (by-button site new p k (b .1) e (b .3)) none))))
+        (ap not (not-true-false (bit k (new .buttons)) (λ e. never-both (by-button site new p k (b .1) e (b .3)) none))))
         (b .3))))
         (scan-finds site old p h)
 

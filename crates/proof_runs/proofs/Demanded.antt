@@ -1,11 +1,11 @@
 -- Part 1 of a step: what is detected is a phase that exists, and a lock or a demanded movement demands its phase.
 use Prim.Native.Nat.{ℕ, _<_}
-use mathlib.Core.Bool.{Bool, true, false, _&&_}
+use mathlib.Core.Bool.{Bool, true, _&&_}
 use mathlib.Core.Path.{_≡_, _∙_}
-use lib.ListN.{getD}
 use borrow.Author.Tests.{eqb-true}
 use Rattle.rules.specs.declared.site.Site.{Site}
 use Rattle.rules.specs.declared.state.State.{State}
+use Rattle.rules.specs.Bytes.{bit}
 use Rattle.rules.specs.Site.{detectorOf, crosses}
 use Rattle.rules.specs.Demands.{occupied, detectedAmong, detected, calls, demandsAfter, movementDemands, stands, demanded}
 use Rattle.rules.specs.Laws.{Sound}
@@ -24,7 +24,7 @@ detected-below site sound kind inputs p h =
     rw (eqb-true (detectorOf (site .detectors) d .phase) p ofPhase) at (sound .detectorPhase d (found .1))
 
 module _ (site : Site) (s : State) (inputs : ℕ) where
-  pub lock-demands : (p : ℕ) → p < 7 → lockedNow site s inputs p ≡ true → demanded site s inputs p ≡ true
+  pub lock-demands : (p : ℕ) → p < 8 → lockedNow site s inputs p ≡ true → demanded site s inputs p ≡ true
   unfolding demanded stands
   lock-demands p room h = or-left (calls site s inputs p) (or-left _ (locked-at site s inputs p room ∙ h))
 
@@ -38,6 +38,6 @@ module _ (site : Site) (s : State) (inputs : ℕ) where
   unfolding demanded stands movementDemands
   button-demands k p room exists crossing h =
       or-left (calls site s inputs p)
-      (or-right (getD (demandsAfter site s inputs .locks) p false)
-      (any-at (λ (k : ℕ). getD (demandsAfter site s inputs .buttons) k false && crosses (site .crossings) k p) (site .size .movements) k exists
+      (or-right (bit p (demandsAfter site s inputs .locks))
+      (any-at (λ (k : ℕ). bit k (demandsAfter site s inputs .buttons) && crosses (site .crossings) k p) (site .size .movements) k exists
       (and-both (asked-at site s inputs k room ∙ h) crossing)))

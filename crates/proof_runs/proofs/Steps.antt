@@ -1,7 +1,7 @@
--- One step, taken apart: names for what each of its parts finds, and each field of the next state in terms of them. Lists of the
--- next state are rows by index, so each entry is read off by its index.
+-- One step, taken apart: names for what each of its parts finds, and each field of the next state in terms of them. The movements of the
+-- next state are a row by index and its demands are sets, so each entry and each bit is read off by its index.
 use Prim.Native.Nat.{ℕ, _<_}
-use mathlib.Core.Bool.{Bool, false, not, _&&_, _||_}
+use mathlib.Core.Bool.{Bool, not, _&&_, _||_}
 use mathlib.Core.List.{List}
 use mathlib.Core.Path.{_≡_, refl, ap, _∙_}
 use lib.ListN.{getD}
@@ -12,6 +12,7 @@ use Rattle.rules.specs.declared.state.Movement.{Movement}
 use Rattle.rules.specs.declared.state.Position.{Position}
 use Rattle.rules.specs.declared.state.Stage.the-variants.{Walk}
 use Rattle.rules.specs.declared.state.State.{State}
+use Rattle.rules.specs.Bytes.{bit}
 use Rattle.rules.specs.Rows.{if_then_else_}
 use Rattle.rules.specs.Site.{phaseTimes, walkTimes, crosses}
 use Rattle.rules.specs.Intervals.{isHeld, isIdle, isRunning}
@@ -23,6 +24,7 @@ use Rattle.rules.specs.Interval.{ends, positionAfter, countsChanged, clearsLock
 use Rattle.rules.specs.Walks.{begins, walksBegun, buttonsLeft}
 use Rattle.rules.specs.Step.{steppedTo, stepped}
 use Rattle.rules.proofs.Rows.{list-at}
+use Rattle.rules.proofs.Sets.{bit-set}
 
 -- the times of the phase that a state has
 abbrev pub timesNow : Site → State → PhaseTimes
@@ -85,13 +87,13 @@ module _ (site : Site) (s : State) (inputs : ℕ) where
   unfolding moving movementsAfter moved movement
   moved-at k h = list-at (λ (k : ℕ). advanced mayEnd (movement s k .stage) (walkTimes (site .times) k) (movement s k .age)) 8 k idle h
 
-  pub asked-at : (k : ℕ) → k < 8 → getD (demandsAfter site s inputs .buttons) k false ≡ askedNow k
+  pub asked-at : (k : ℕ) → k < 8 → bit k (demandsAfter site s inputs .buttons) ≡ askedNow k
   unfolding demandsAfter askedNow
-  asked-at k h = list-at (λ (k : ℕ). asked s k || registersButton (s .movements) inputs k) 8 k false h
+  asked-at k h = bit-set (λ (k : ℕ). asked s k || registersButton (s .movements) inputs k) k h
 
-  pub locked-at : (p : ℕ) → p < 7 → getD (demandsAfter site s inputs .locks) p false ≡ lockedNow p
+  pub locked-at : (p : ℕ) → p < 8 → bit p (demandsAfter site s inputs .locks) ≡ lockedNow p
   unfolding demandsAfter lockedNow
-  locked-at p h = list-at (λ (p : ℕ). locked s p || registersLock site s inputs p) 7 p false h
+  locked-at p h = bit-set (λ (p : ℕ). locked s p || registersLock site s inputs p) p h
 
   -- what part 5 asks of index k
   begins-at : ℕ → Bool
@@ -101,16 +103,16 @@ module _ (site : Site) (s : State) (inputs : ℕ) where
   unfolding begins begins-at begun
   begun-at k h = rw (asked-at k h, moved-at k h)
 
-  pub locked-of : (p : ℕ) → p < 7 → locked (stepped site s inputs) p ≡ (lockedNow p && not (clearsLock ended now p))
+  pub locked-of : (p : ℕ) → p < 8 → locked (stepped site s inputs) p ≡ (lockedNow p && not (clearsLock ended now p))
   unfolding stepped steppedTo another counted moving ended now locked locksLeft
   locked-of p h =
-      list-at (λ (p : ℕ). getD (demandsAfter site s inputs .locks) p false && not (clearsLock ended now p)) 7 p false h
+      bit-set (λ (p : ℕ). bit p (demandsAfter site s inputs .locks) && not (clearsLock ended now p)) p h
       ∙ ap (λ (t : Bool). t && not (clearsLock ended now p)) (locked-at p h)
 
   pub asked-of : (k : ℕ) → k < 8 → asked (stepped site s inputs) k ≡ (askedNow k && not (begun k))
   unfolding stepped steppedTo another counted moving ended now started asked buttonsLeft begins-at
   asked-of k h =
-      list-at (λ (k : ℕ). getD (demandsAfter site s inputs .buttons) k false && not (begins-at k)) 8 k false h
+      bit-set (λ (k : ℕ). bit k (demandsAfter site s inputs .buttons) && not (begins-at k)) k h
       ∙ rw (asked-at k h, begun-at k h)
 
   pub movement-of : (k : ℕ) → k < 8 → movement (stepped site s inputs) k ≡ (if begun k then record { stage = Walk; age = 1 } else moved k)

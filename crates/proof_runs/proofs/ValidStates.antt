@@ -36,7 +36,7 @@ pub record ValidState (site : Site) (s : State) : Type 0 where
   pub age : Aged (s .position .age)
   pub gap : s .counts .gap ≤ phaseTimes (site .times) (s .position .phase) .gap
   pub maximum : s .counts .maximum ≤ phaseTimes (site .times) (s .position .phase) .maximum
-  pub locks : (p : ℕ) → p < 7 → locked s p ≡ true → p < site .size .phases
+  pub locks : (p : ℕ) → p < 8 → locked s p ≡ true → p < site .size .phases
   pub buttons : (k : ℕ) → k < 8 → asked s k ≡ true → k < site .size .movements
   pub movements : (k : ℕ) → k < 8 → ValidMovement site (s .position) k (movement s k)
 
@@ -147,7 +147,7 @@ state-told site s h =
       locks = λ p l q.
           ltb-true p (site .size .phases)
           (implied (locked s p) (ltb p (site .size .phases))
-          (all-at (demandExists (s .demands .locks) (site .size .phases)) 7 p (every-head _ _ h2) l)
+          (all-at (demandExists (s .demands .locks) (site .size .phases)) 8 p (every-head _ _ h2) l)
           q);
       buttons = λ k l q.
           ltb-true k (site .size .movements)
@@ -172,7 +172,7 @@ state-holds site s v =
     (and-both (le-leb (s .counts .gap) (phaseTimes (site .times) (s .position .phase) .gap) (v .gap))
     (le-leb (s .counts .maximum) (phaseTimes (site .times) (s .position .phase) .maximum) (v .maximum)))
     (and-both
-    (all-each (demandExists (s .demands .locks) (site .size .phases)) 7
+    (all-each (demandExists (s .demands .locks) (site .size .phases)) 8
     (λ p l. implies (locked s p) (ltb p (site .size .phases)) (λ q. lt-ltb p (site .size .phases) (v .locks p l q))))
     (and-both
     (all-each (demandExists (s .demands .buttons) (site .size .movements)) 8

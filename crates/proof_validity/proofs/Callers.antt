@@ -1,12 +1,11 @@
 -- Every other phase can be called. A phase has a detector that calls it, with lock or without, or a movement; one input bit, that detector's or
 -- that movement's button, demands the phase. The movement is not in walk, since in a valid state only movements of the phase on are.
 use Prim.Native.Nat.{ℕ, _+_, _%_, _^_, _<_}
-use mathlib.Core.Bool.{Bool, true, false, not, _&&_, _||_, true≢false}
+use mathlib.Core.Bool.{Bool, true, false, not, true≢false}
 use mathlib.Core.Logic.{⊎-elim}
 use mathlib.Core.Path.{_≡_, refl, sym, ap, _∙_}
 use native.Mathlib.Omega.{arith}
 use lib.Dec.{ltb, eqb}
-use lib.ListN.{getD}
 use borrow.Author.Tests.{ltb-true, eqb-true, eqb-false, lt-ltb, le-leb, eq-eqb, ne-eqb}
 use Rattle.rules.specs.declared.site.Site.{Site}
 use Rattle.rules.specs.declared.state.Stage.{Stage}
@@ -18,11 +17,13 @@ use Rattle.rules.specs.Personality.{knownMode}
 use Rattle.rules.specs.Site.{detectorOf, crosses}
 use Rattle.rules.specs.Intervals.{isIdle, isWalk, isGreen}
 use Rattle.rules.specs.State.{locked, asked, movement}
-use Rattle.rules.specs.Demands.{occupied, pressed, calling, locking, detectedAmong, detected, inGreen, registersLock, registersButton, calls, demandsAfter, movementDemands, stands, demanded}
+use Rattle.rules.specs.Demands.{occupied, pressed, calling, locking, detectedAmong, detected, inGreen, registersLock, registersButton, calls, demandsAfter, stands, demanded}
 use Rattle.rules.specs.Call.{wired, strayInput}
 use Rattle.rules.specs.Laws.{Sound, PhasesCanBeCalled}
-use Rattle.rules.proofs.Rows.{any-at, any-none, all-at, list-at}
+use Rattle.rules.proofs.Rows.{any-at, any-none, all-at}
 use Rattle.rules.proofs.Tests.{decided, and-left, and-both, and-false-left, and-false-right, or-left, or-right, not-true-false}
+use Rattle.proof_runs.proofs.Demanded.{lock-demands, button-demands}
+use Rattle.proof_runs.proofs.Steps.{askedNow, lockedNow}
 use Rattle.proof_runs.proofs.ValidStates.{ValidState, state-told}
 
 -- of the four rests of a mode the last that calls
@@ -77,29 +78,13 @@ module _ (site : Site) where
     unfolding inGreen
     outside = ap not (and-false-left (isGreen (s .position .interval)) (ne-eqb p (s .position .phase) other))
 
-    lock-demands : (inputs : ℕ) → p < 7 → detected locking site inputs p ≡ true → demanded site s inputs p ≡ true
-    unfolding demanded stands demandsAfter registersLock
-    lock-demands inputs l e =
-        or-left (calls site s inputs p)
-        (or-left _ (list-at _ 7 p false l ∙ or-right (locked s p) (and-both e outside)))
+    locking-demands : (inputs : ℕ) → p < 8 → detected locking site inputs p ≡ true → demanded site s inputs p ≡ true
+    unfolding lockedNow registersLock
+    locking-demands inputs l e = lock-demands site s inputs p l (or-right (locked s p) (and-both e outside))
 
     call-demands : (inputs : ℕ) → detected calling site inputs p ≡ true → demanded site s inputs p ≡ true
     unfolding demanded calls
     call-demands inputs e = or-right (stands site (demandsAfter site s inputs) p) (and-both e outside)
-
-    press-demands :
-        (inputs k : ℕ) →
-        k < site .size .movements →
-        k < 8 →
-        crosses (site .crossings) k p ≡ true →
-        registersButton (s .movements) inputs k ≡ true →
-        demanded site s inputs p ≡ true
-    unfolding demanded stands demandsAfter movementDemands
-    press-demands inputs k l room c e =
-        or-left (calls site s inputs p)
-        (or-right (getD (demandsAfter site s inputs .locks) p false)
-        (any-at (λ k. getD (demandsAfter site s inputs .buttons) k false && crosses (site .crossings) k p) (site .size .movements) k l
-        (and-both (list-at (λ k. asked s k || registersButton (s .movements) inputs k) 8 k false room ∙ or-right (asked s k) e) c)))
 
     -- ── The callers ──
 
@@ -125,7 +110,7 @@ module _ (site : Site) where
               ⊎-elim
                   (λ (e : eqb rest 1 ≡ true). call-demands (2 ^ d) (found calling e))
                   (λ (e : eqb rest 1 ≡ false).
-                  lock-demands (2 ^ d) (omega (arith, here, sound .phases .1))
+                  locking-demands (2 ^ d) (omega (arith, here, sound .phases .1))
                   (found locking (eq-eqb rest 2 (last-left rest few some (eqb-false rest 1 e)))))
                   (decided (eqb rest 1)),
             )
@@ -144,13 +129,13 @@ module _ (site : Site) where
             other (one .3 p own ∙ sym (one .3 (s .position .phase) on)))
 
         by-button : CalledBy (48 + k)
-        unfolding registersButton pressed movement wired
+        unfolding askedNow registersButton pressed movement wired
         by-button =
             let button : 48 + k < 56 = omega (arith, room) in (
               none-stray (48 + k) button
                   (or-right (ltb (48 + k) (site .size .detectors))
                   (and-both (le-leb 48 (48 + k) (omega arith)) (lt-ltb (48 + k) (48 + site .size .movements) (omega arith)))),
-              press-demands (2 ^ (48 + k)) k l room own (and-both (own-bit (48 + k) button) (ap not not-walking)),
+              button-demands site s (2 ^ (48 + k)) k p room l own (or-right (asked s k) (and-both (own-bit (48 + k) button) (ap not not-walking))),
             )
 
       called : (inputs : ℕ) × (strayInput site inputs ≡ false) × (demanded site s inputs p ≡ true)

@@ -27,7 +27,7 @@ module _ (site : Site) (sound : Sound site) where
   -- ── Locks ──
 
   -- a phase that is locked after part 1 exists
-  locked-below : (s : State) (inputs p : ℕ) → ValidState site s → p < 7 → lockedNow site s inputs p ≡ true → p < site .size .phases
+  locked-below : (s : State) (inputs p : ℕ) → ValidState site s → p < 8 → lockedNow site s inputs p ≡ true → p < site .size .phases
   unfolding lockedNow registersLock
   locked-below s inputs p v l h =
       let seen = detected locking site inputs p in
@@ -38,7 +38,7 @@ module _ (site : Site) (sound : Sound site) where
       (or-cases (locked s p) (seen && free) h)
 
   pub next-locks :
-      (s : State) (inputs p : ℕ) → ValidState site s → p < 7 → locked (stepped site s inputs) p ≡ true → p < site .size .phases
+      (s : State) (inputs p : ℕ) → ValidState site s → p < 8 → locked (stepped site s inputs) p ≡ true → p < site .size .phases
   next-locks s inputs p v l h =
       locked-below s inputs p v l
       (and-left (lockedNow site s inputs p) (not (clearsLock (ended site s inputs) (now site s inputs) p)) (sym (locked-of site s inputs p l) ∙ h))

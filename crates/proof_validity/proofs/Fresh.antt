@@ -1,6 +1,5 @@
 -- The fresh state of a sound site is valid: its phase is A, which every site has, its counts are 0, nothing is demanded, and every
 -- movement is idle at age 1.
-use mathlib.Core.Bool.{false}
 use mathlib.Core.Path.{refl, sym, subst}
 use native.Mathlib.Omega.{arith}
 use lib.ListN.{getD-replicate}
@@ -9,6 +8,7 @@ use Rattle.rules.specs.declared.state.Movement.{Movement}
 use Rattle.rules.specs.Intervals.{isIdle, isEarly, isLeaving}
 use Rattle.rules.specs.State.{idle, fresh, locked, asked, movement, intervalValid, targetValid, cameValid}
 use Rattle.rules.specs.Laws.{Sound, FreshIsValid}
+use Rattle.rules.proofs.Bits.{bit-blank}
 use Rattle.rules.proofs.Tests.{or-right, never-both}
 use Rattle.proof_runs.proofs.ValidStates.{ValidState, ValidMovement, state-holds}
 use Rattle.proof_validity.proofs.Positions.{new-aged}
@@ -25,8 +25,8 @@ fresh-state site sound =
       age = new-aged;
       gap = omega arith;
       maximum = omega arith;
-      locks = λ p l h. absurd (never-both h (getD-replicate 7 p false false l));
-      buttons = λ k l h. absurd (never-both h (getD-replicate 8 k false false l));
+      locks = λ p l h. absurd (never-both h (bit-blank p));
+      buttons = λ k l h. absurd (never-both h (bit-blank k));
       movements = λ k l.
           subst (λ (m : Movement). ValidMovement site (fresh .position) k m) (sym (getD-replicate 8 k idle idle l))
           (idle-valid site (fresh .position) k idle refl refl);

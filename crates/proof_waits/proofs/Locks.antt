@@ -56,7 +56,7 @@ abbrev pub LockLeft : Site → ℕ → ℕ → State → Type 0
 LockLeft site q n s = Left site (ahead site q (late site q)) (onward site q (late site q)) 0 s n ⊎ OwnLate site q (s .position) n
 
 module _ (site : Site) (sound : Sound site) (q : ℕ) (below : q < site .size .phases) where
-  lock-room : q < 7
+  lock-room : q < 8
   lock-room = omega (arith, sound .phases)
 
   abbrev here : ℕ → ℕ
