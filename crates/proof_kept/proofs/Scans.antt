@@ -27,15 +27,11 @@ use Rattle.proof_ring.proofs.Orders.{ring-of}
 use Rattle.proof_runs.proofs.Steps.{askedNow, lockedNow, asked-at, locked-at}
 
 -- in a valid state the kept set is the scan's, so it has the scan's bits
-scan-at : (site : Site) (s : KeptState) → keptValid site s ≡ true → (p : ℕ) → p < 8 → isKept s p ≡ stands site (s .rest .demands) p
-unfolding keptValid isKept
-scan-at site s v p l =
+pub kept-is-scan : KeptIsScan
+unfolding KeptIsScan keptValid isKept
+kept-is-scan site s v p l =
     let scan = stands site (s .rest .demands) in
     ap (bit p) (eqb-true (s .kept) (setOf scan) (and-right (valid site (s .rest)) _ v)) ∙ bit-set scan p l
-
-pub kept-is-scan : KeptIsScan
-unfolding KeptIsScan
-kept-is-scan site s v p l = scan-at site s v p (omega arith)
 
 -- two tests that imply each other are one
 either-way : (a b : Bool) → (a ≡ true → b ≡ true) → (b ≡ true → a ≡ true) → a ≡ b
@@ -101,16 +97,17 @@ module _ (site : Site) (sound : Sound site) (s : KeptState) (inputs : ℕ) (v : 
       by-button site (standingAfter site s inputs) p k l (asked-at site (s .rest) inputs k (omega (arith, sound .movements)) ∙ h) c
 
   from-kept : (p : ℕ) → p < 8 → isKept s p ≡ true → stands site (standingAfter site s inputs) p ≡ true
-  unfolding locked asked Found
+  unfolding KeptIsScan locked asked Found
   from-kept p l h =
       ⊎-elim
       (λ (lock : bit p (s .rest .demands .locks) ≡ true). lock-stands p l (or-left _ lock))
       (λ (b : (k : ℕ) × (k < site .size .movements) × (bit k (s .rest .demands .buttons) ≡ true) × (crosses (site .crossings) k p ≡ true)).
       button-stands p (b .0) (b .1) (or-left _ (b .2)) (b .3))
-      (scan-finds site (s .rest .demands) p (sym (scan-at site s v p l) ∙ h))
+      (scan-finds site (s .rest .demands) p (sym (kept-is-scan site s v p l) ∙ h))
 
   to-kept : (p : ℕ) → p < 8 → stands site (s .rest .demands) p ≡ true → isKept s p ≡ true
-  to-kept p l h = scan-at site s v p l ∙ h
+  unfolding KeptIsScan
+  to-kept p l h = kept-is-scan site s v p l ∙ h
 
   stands-kept : (p : ℕ) → p < 8 → keptAfter site s inputs p ≡ true → stands site (standingAfter site s inputs) p ≡ true
   unfolding keptAfter pressKeeps

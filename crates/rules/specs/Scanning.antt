@@ -41,7 +41,7 @@ KeptIsScan =
     (site : Site) (s : KeptState) →
     keptValid site s ≡ true →
     (p : ℕ) →
-    p < 7 →
+    p < 8 →
     isKept s p ≡ stands site (s .rest .demands) p
 
 unfoldable pub FreshKeptIsValid : Type 0
