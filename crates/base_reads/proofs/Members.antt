@@ -23,7 +23,10 @@ use Rattle.base_reads.proofs.Union.{bit-or}
 pub set-told : (f : ℕ → Bool) (x : ℕ) → x < 256 → ((i : ℕ) → i < 8 → bit i x ≡ f i) → x ≡ setOf f
 set-told f x small told = same-bits 8 x (setOf f) small (set-small f) (λ i l. told i l ∙ sym (bit-set f i l))
 
--- a set of the same members, and the sets of those in either and in both
+pub self-told : (x : ℕ) → x < 256 → x ≡ setOf (λ i. bit i x)
+self-told x small = set-told (λ i. bit i x) x small (λ i l. refl)
+
+-- the members of either
 pub union-told : (f g : ℕ → Bool) (x y : ℕ) → x ≡ setOf f → y ≡ setOf g → bitOr x y ≡ setOf (λ i. f i || g i)
 union-told f g x y e k =
     set-told (λ i. f i || g i) (bitOr x y) (rw (e, k) (or-lt 8 (setOf f) (setOf g) (set-small f) (set-small g)))

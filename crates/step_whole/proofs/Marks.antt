@@ -1,5 +1,5 @@
--- The kept marks after parts 4 and 5. Only demands of the phase that is on are cleared, so every other mark stays; and as the marks were
--- those of the demands that stood, the mark of that phase stays where one of its demands is left.
+-- The kept set after parts 4 and 5. Only demands of the phase that is on are cleared, so every other phase stays; and as the set was that of
+-- the demands that stood, that phase stays where one of its demands is left.
 use Prim.Native.Nat.{ℕ, _<_}
 use mathlib.Core.Bool.{Bool, true, false, not, _&&_, _||_, and-true, or-true, or-false}
 use mathlib.Core.List.{List}
@@ -18,7 +18,7 @@ use Rattle.rules.specs.declared.state.KeptState.{KeptState}
 use Rattle.rules.specs.declared.state.Movement.{Movement}
 use Rattle.rules.specs.declared.state.Position.{Position}
 use Rattle.rules.specs.Bytes.{bit}
-use Rattle.rules.specs.Rows.{anyOf, listOf}
+use Rattle.rules.specs.Rows.{anyOf, setOf}
 use Rattle.rules.specs.Site.{phaseTimes, crosses}
 use Rattle.rules.specs.Intervals.{isMinimumGreen, isRunning, isIdle, isHeld}
 use Rattle.rules.specs.State.{idle}
@@ -30,9 +30,9 @@ use Rattle.rules.specs.Walks.{begins, buttonsLeft}
 use Rattle.rules.specs.Step.{steppedTo}
 use Rattle.rules.specs.Kept.{keptValid, keptAfter, nextKept, gone, cleared, keptLeft, keptStepped}
 use Rattle.rules.specs.Laws.{Sound}
-use Rattle.rules.proofs.Rows.{list-at, any-none}
+use Rattle.rules.proofs.Rows.{any-none}
+use Rattle.rules.proofs.Sets.{bit-set, set-same}
 use Rattle.rules.proofs.Tests.{and-left, and-right, and-false-left, and-false-right, or-false-both, decided, not-true-false}
-use Rattle.proof_arrays.proofs.Fill.{list-same}
 use Rattle.proof_kept.proofs.Scans.{kept-after, kept-left}
 use Rattle.step_demands.specs.declared.Asked.{Asked}
 use Rattle.step_demands.specs.Asked.{AskedBy}
@@ -44,14 +44,14 @@ still : (a : Bool) {b : Bool} → b ≡ (a && not false) → (a && not b) ≡ fa
 still true e = ap not e
 still false e = refl
 
--- ── The marks by phase ──
+-- ── Phase by phase ──
 
 module _ (kept test : ℕ → Bool) (phase : ℕ) where
-  -- the marks, where that of the phase stays by the test
+  -- the phases kept, where this one stays by the test
   abbrev pub onlyOf : ℕ → Bool
   onlyOf p = kept p && (not (eqb p phase) || test p)
 
-  -- nothing to give up: no mark, or the test passes
+  -- nothing to give up: it is not kept, or the test passes
   pub mark-stays : (kept phase ≡ true → test phase ≡ true) → (p : ℕ) → kept p ≡ onlyOf p
   mark-stays own p =
       ⊎-elim
@@ -63,12 +63,12 @@ module _ (kept test : ℕ → Bool) (phase : ℕ) where
       agrees true b h = sym (h refl)
       agrees false b h = refl
 
-  -- another test settles it
-  pub mark-settled : (other : ℕ → Bool) → other phase ≡ test phase → (p : ℕ) → (kept p && (other p || not (eqb p phase))) ≡ onlyOf p
-  mark-settled other own p =
+  -- the test fails at the phase
+  pub mark-gone : test phase ≡ false → (p : ℕ) → (kept p && not (eqb p phase)) ≡ onlyOf p
+  mark-gone none p =
       ⊎-elim
-      (λ (e : eqb p phase ≡ true). rw (e, eqb-true p phase e, own, or-false (test phase)))
-      (λ (e : eqb p phase ≡ false). rw (e, or-true (other p)))
+      (λ (e : eqb p phase ≡ true). rw (e, eqb-true p phase e, none))
+      (λ (e : eqb p phase ≡ false). rw e)
       (decided (eqb p phase))
 
 -- ── What is cleared ──
@@ -81,13 +81,13 @@ module _
     abbrev pub leftOver : Demands
     leftOver = record { locks = locksLeft ended now (old .locks); buttons = buttonsLeft begun (old .buttons) }
 
-    lock-at : (p : ℕ) → p < 7 → getD (leftOver .locks) p false ≡ (getD (old .locks) p false && not (clearsLock ended now p))
+    lock-at : (p : ℕ) → p < 8 → bit p (leftOver .locks) ≡ (bit p (old .locks) && not (clearsLock ended now p))
     unfolding locksLeft
-    lock-at p l = list-at (λ p. getD (old .locks) p false && not (clearsLock ended now p)) 7 p false l
+    lock-at p l = bit-set (λ p. bit p (old .locks) && not (clearsLock ended now p)) p l
 
-    button-at : (k : ℕ) → k < site .size .movements → getD (leftOver .buttons) k false ≡ (getD (old .buttons) k false && not (begun k))
+    button-at : (k : ℕ) → k < site .size .movements → bit k (leftOver .buttons) ≡ (bit k (old .buttons) && not (begun k))
     unfolding buttonsLeft
-    button-at k l = list-at (λ k. getD (old .buttons) k false && not (begun k)) 8 k false (omega (arith, sound .movements))
+    button-at k l = bit-set (λ k. bit k (old .buttons) && not (begun k)) k (omega (arith, sound .movements))
 
     -- a movement of another phase does not begin walk
     none-begun : (p k : ℕ) → k < site .size .movements → eqb p (now .phase) ≡ false → crosses (site .crossings) k p ≡ true → begun k ≡ false
@@ -96,34 +96,34 @@ module _
         not-true-false (begun k)
         (λ h. eqb-false p (now .phase) apart (one .3 p of ∙ sym (one .3 (now .phase) (own k h))))
 
-    none-cleared : (p : ℕ) → p < 7 → eqb p (now .phase) ≡ false → cleared site old leftOver p ≡ false
+    none-cleared : (p : ℕ) → p < 8 → eqb p (now .phase) ≡ false → cleared site old leftOver p ≡ false
     unfolding cleared gone clearsLock
     none-cleared p l apart =
         or-false-both
-        (still (getD (old .locks) p false)
-        (lock-at p l ∙ ap (λ (t : Bool). getD (old .locks) p false && not t) (and-false-right (ended && isMinimumGreen (now .interval)) apart)))
+        (still (bit p (old .locks))
+        (lock-at p l ∙ ap (λ (t : Bool). bit p (old .locks) && not t) (and-false-right (ended && isMinimumGreen (now .interval)) apart)))
         (any-none (λ k. gone (old .buttons) (leftOver .buttons) k && crosses (site .crossings) k p) (site .size .movements)
         (λ k m.
         ⊎-elim
         (λ (of : crosses (site .crossings) k p ≡ true).
         and-false-left (crosses (site .crossings) k p)
-        (still (getD (old .buttons) k false)
-        (button-at k m ∙ ap (λ (t : Bool). getD (old .buttons) k false && not t) (none-begun p k m apart of))))
+        (still (bit k (old .buttons))
+        (button-at k m ∙ ap (λ (t : Bool). bit k (old .buttons) && not t) (none-begun p k m apart of))))
         (λ (none : crosses (site .crossings) k p ≡ false). and-false-right (gone (old .buttons) (leftOver .buttons) k) none)
         (decided (crosses (site .crossings) k p))))
 
     pub only-own :
         (kept : ℕ → Bool) →
         (p : ℕ) →
-        p < 7 →
+        p < 8 →
         kept p ≡ stands site old p →
         (kept p && (not (eqb p (now .phase)) || stands site leftOver p)) ≡ keptLeft site old leftOver kept p
     unfolding keptLeft
     only-own kept p l e =
         let scan =
         kept-left site old leftOver
-        (λ p l h. and-left (getD (old .locks) p false) (not (clearsLock ended now p)) (sym (lock-at p l) ∙ h))
-        (λ k l h. and-left (getD (old .buttons) k false) (not (begun k)) (sym (button-at k l) ∙ h)) p l kept e in
+        (λ p l h. and-left (bit p (old .locks)) (not (clearsLock ended now p)) (sym (lock-at p l) ∙ h))
+        (λ k l h. and-left (bit k (old .buttons)) (not (begun k)) (sym (button-at k l) ∙ h)) p l kept e in
         ⊎-elim
         (λ (same : eqb p (now .phase) ≡ true). rw same (ap (λ (t : Bool). kept p && t) (sym scan) ∙ twice (kept p) _))
         (λ (apart : eqb p (now .phase) ≡ false). rw (apart, none-cleared p l apart))
@@ -137,12 +137,12 @@ module _
 
 -- a movement that begins walk is of the phase that is on
 begins-own :
-    (crossings : List ℕ) (started another : Bool) (now : Position) (buttons : List Bool) (movements : List Movement) (k : ℕ) →
+    (crossings : List ℕ) (started another : Bool) (now : Position) (buttons : ℕ) (movements : List Movement) (k : ℕ) →
     begins crossings started another now buttons movements k ≡ true →
     crosses crossings k (now .phase) ≡ true
 unfolding begins
 begins-own crossings started another now buttons movements k h =
-    let asked = getD buttons k false in
+    let asked = bit k buttons in
     let may = started || (isRunning (now .interval) && not another && isIdle (getD movements k idle .stage)) in
     and-right asked (crosses crossings k (now .phase)) (and-left (asked && crosses crossings k (now .phase)) may h)
 
@@ -150,10 +150,10 @@ module _ (site : Site) (sound : Sound site) (s : KeptState) (inputs : ℕ) (v : 
   abbrev next : Held
   next = nextKept site s inputs
 
-  -- what the step leaves of the marks, by the phase that is on then and the demands that are left
+  -- what the step leaves of the set, by the phase that is on then and the demands that are left
   marks-told :
       (p : ℕ) →
-      p < 7 →
+      p < 8 →
       let rest = steppedTo next site (s .rest) inputs in
       (keptAfter site s inputs p && (not (eqb p (rest .position .phase)) || stands site (rest .demands) p))
       ≡ keptLeft site (demandsAfter site (s .rest) inputs) (rest .demands) (keptAfter site s inputs) p
@@ -165,7 +165,7 @@ module _ (site : Site) (sound : Sound site) (s : KeptState) (inputs : ℕ) (v : 
   -- the whole step, by what each of its parts gives
   pub whole-told :
       {own : PhaseTimes} {asked : Asked} {another : Bool} {mayEnd : Bool} {moved : List Movement} {counted : Counts} {ended : Bool} {now : Position} {started : Bool}
-      {walked : Walked} {locks : List Bool} {counts : Counts} {marks : List Bool} →
+      {walked : Walked} {locks : ℕ} {counts : Counts} {kept : ℕ} →
       own ≡ phaseTimes (site .times) (s .rest .position .phase) →
       AskedBy site s inputs asked →
       another ≡ isHeld (asked .next) →
@@ -178,19 +178,19 @@ module _ (site : Site) (sound : Sound site) (s : KeptState) (inputs : ℕ) (v : 
       walked ≡ walkedBy (begins (site .crossings) started another now (asked .demands .buttons) moved) (asked .demands .buttons) moved →
       locks ≡ locksLeft ended now (asked .demands .locks) →
       counts ≡ countsChanged ended (site .times) (s .rest .position) now counted →
-      marks ≡ listOf (onlyOf (λ p. bit p (asked .kept)) (stands site (record { locks = locks; buttons = walked .buttons })) (now .phase)) 7 →
+      kept ≡ setOf (onlyOf (λ p. bit p (asked .kept)) (stands site (record { locks = locks; buttons = walked .buttons })) (now .phase)) →
       _≡_ {A = KeptState}
       (record {
         rest = record { position = now; counts = counts; demands = record { locks = locks; buttons = walked .buttons }; movements = walked .movements };
-        kept = marks;
+        kept = kept;
       })
       (keptStepped site s inputs)
   unfolding keptStepped steppedTo walkedBy
   whole-told {asked = asked} e1 e2 e3 e4 e5 e6 e7 e8 e9 e10 e11 e12 e13 =
       let after = steppedTo next site (s .rest) inputs in
       rw (e13, e12, e11, e10, e9, e8, e7, e6, e5, e4, e3, e2 .next, e2 .extended, e2 .demands, e1)
-      (ap (λ (l : List Bool). record { rest = after; kept = l })
-      (list-same
+      (ap (λ (set : ℕ). record { rest = after; kept = set })
+      (set-same
       (onlyOf (λ p. bit p (asked .kept)) (stands site (after .demands)) (after .position .phase))
-      (keptLeft site (demandsAfter site (s .rest) inputs) (after .demands) (keptAfter site s inputs)) 7
-      (λ p l. rw (e2 .kept p l) (marks-told p l))))
+      (keptLeft site (demandsAfter site (s .rest) inputs) (after .demands) (keptAfter site s inputs))
+      (λ p l. rw (e2 .kept, bit-set (keptAfter site s inputs) p l) (marks-told p l))))

@@ -1,5 +1,5 @@
 -- What the parts of a step ask of a site and a state holds in a valid state of an accepted site: the phase exists before and after part 4,
--- and the records past the movements that the site has are idle and of no phase.
+-- and the records past the movements that the site has are idle.
 use Prim.Native.Nat.{ℕ, _<_}
 use mathlib.Core.Bool.{Bool, true, false}
 use mathlib.Core.Logic.{⊎-elim}
@@ -22,7 +22,6 @@ use Rattle.rules.proofs.Tests.{decided, and-left}
 use Rattle.proof_runs.proofs.ValidStates.{ValidState, state-told, target-below}
 use Rattle.step_movements.specs.IdlePast.{IdlePast}
 use Rattle.step_movements.proofs.Idle.{idle-only}
-use Rattle.step_walks.specs.Walked.{NonePast}
 
 -- a change of interval stays in its phase, or goes to the target where the phase is left
 followed-below :
@@ -47,7 +46,7 @@ module _ (site : Site) (s : KeptState) (ready : Sound site × (keptValid site s 
   pub on : s .rest .position .phase < site .size .phases
   on = known .phase
 
-  pub now-on : (ended : Bool) (next : Held) → positionAfter ended (site .times) next (s .rest .position) .phase < 7
+  pub now-on : (ended : Bool) (next : Held) → positionAfter ended (site .times) next (s .rest .position) .phase < 8
   unfolding positionAfter staying
   now-on true next =
       let position = s .rest .position in
@@ -72,6 +71,3 @@ module _ (site : Site) (s : KeptState) (ready : Sound site × (keptValid site s 
             (λ (e : isIdle stage ≡ false). absurd (let below = known .movements k b .ofPhase e .0 in omega arith))
             (decided (isIdle stage)));
       }
-
-  pub none-past : NonePast (site .size .movements) (site .crossings)
-  none-past = record { room = ready .0 .movements; past = ready .0 .noCrossing }
