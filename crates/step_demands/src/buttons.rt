@@ -25,12 +25,7 @@ fn dropped(stage: Stage) -> bool
 
 // A pressed button demands its movement unless that movement is in walk, and keeps its phase. Button k is input bit 48 + k. Each turn takes
 // the lowest button that is left.
-pub fn press(
-    buttons: u8,
-    movements: [Movement; 8],
-    crossings: [u8; 8],
-    inputs: u64,
-) -> Pressed
+pub fn press(buttons: u8, movements: [Movement; 8], crossings: [u8; 8], inputs: u64) -> Pressed
     ensures { λ r. ⌜ (r .buttons ≡ setOf (λ k. bit k buttons || registersButton movements inputs k))
         × (r .phases ≡ setOf (λ p. anyOf (λ k. registersButton movements inputs k && crosses crossings k p) 8)) ⌝ }
 {
