@@ -1,35 +1,101 @@
--- The phases of the demanded movements, one movement more: a union has the bits of either set.
-use Prim.Native.Nat.{ℕ, _+_}
-use mathlib.Core.Bool.{Bool, true, false, or-false}
+-- A pass over the movements of a word, the lowest first: the phases of those that are taken and pass a test are in the set.
+use Prim.Native.Nat.{ℕ, _-_, _^_, _≤_, _<_}
+use mathlib.Core.Bool.{Bool, true, false, _&&_, and-false}
 use mathlib.Core.List.{List}
-use mathlib.Core.Path.{_≡_, sym, _∙_}
-use native.Mathlib.Numerals.{add-one}
-use lib.Bits.{bitOr}
+use mathlib.Core.Logic.{⊎-elim}
+use mathlib.Core.Path.{_≡_, sym, ap, _∙_}
+use native.Mathlib.Omega.{arith}
+use borrow.Author.Tests.{eqb-true, eqb-false}
+use lib.Bits.{bitAnd, bitOr, or-lt}
+use lib.Count.{trailingZeros}
+use lib.Dec.{eqb}
 use lib.ListN.{getD}
 use Rattle.rules.specs.Bytes.{bit}
-use Rattle.rules.specs.Rows.{anyOf}
+use Rattle.rules.specs.Rows.{anyOf, setOf}
 use Rattle.rules.specs.Site.{crosses}
-use Rattle.rules.specs.Demands.{movementDemands}
 use Rattle.rules.proofs.Bits.{bit-blank}
+use Rattle.rules.proofs.Rows.{any-none}
+use Rattle.rules.proofs.Tests.{decided}
+use Rattle.proof_arrays.proofs.Passing.{any-same, any-with}
+use Rattle.base_reads.proofs.Lowest.{taken, Left, left-all, taken-none, taken-all, next-within, left-more, next-untaken, next-taken, taken-other}
+use Rattle.base_reads.proofs.Members.{set-told}
 use Rattle.base_reads.proofs.Union.{bit-or}
 
-module _ (crossings : List ℕ) (buttons : List Bool) (p : ℕ) where
-  pub none-crossed : bit p 0 ≡ movementDemands crossings 0 buttons p
-  unfolding movementDemands anyOf
-  none-crossed = bit-blank p
+-- a movement of the word is taken, and passes
+abbrev pub counted : ℕ → (ℕ → Bool) → ℕ → ℕ → Bool
+counted word passes rest k = taken word rest k && passes k
 
-  pub more-crossed :
-      (set k : ℕ) →
-      getD buttons k false ≡ true →
-      bit p set ≡ movementDemands crossings k buttons p →
-      bit p (bitOr set (getD crossings k 0)) ≡ movementDemands crossings (k + 1) buttons p
-  unfolding movementDemands anyOf crosses
-  more-crossed set k asked e = rw (add-one k, bit-or p set (getD crossings k 0), e, asked)
+-- the set has the phases of the movements counted, and the bits of the rest are those of the word's n that are left
+pub record Crossed (crossings : List ℕ) (word n : ℕ) (passes : ℕ → Bool) (rest set : ℕ) : Type 0 where
+  pub left : Left word n rest
+  pub small : set < 256
+  pub told : (p : ℕ) → bit p set ≡ anyOf (λ k. counted word passes rest k && crosses crossings k p) n
 
-  pub same-crossed :
-      (set k : ℕ) →
-      getD buttons k false ≡ false →
-      bit p set ≡ movementDemands crossings k buttons p →
-      bit p set ≡ movementDemands crossings (k + 1) buttons p
-  unfolding movementDemands anyOf
-  same-crossed set k unasked e = rw (add-one k, unasked) (e ∙ sym (or-false (movementDemands crossings k buttons p)))
+pub none-crossed : (crossings : List ℕ) (word n : ℕ) (passes : ℕ → Bool) → word < 2 ^ n → Crossed crossings word n passes word 0
+none-crossed crossings word n passes within =
+    record {
+      left = left-all word n within;
+      small = omega arith;
+      told = λ p. bit-blank p ∙ sym (any-none _ n (λ k l. rw (taken-none word k)));
+    }
+
+module _ {crossings : List ℕ} {word n : ℕ} {passes : ℕ → Bool} {rest set : ℕ} (known : Crossed crossings word n passes rest set) where
+  module _ (some : 0 < rest) (few : n ≤ 64) where
+    abbrev next : ℕ
+    next = trailingZeros 64 rest
+
+    -- the movements that are left after this turn
+    abbrev others : ℕ
+    others = bitAnd rest (rest - 1)
+
+    pub turn-within : next < n
+    turn-within = next-within (known .left) some few
+
+    pub other-same : (k : ℕ) → (k ≡ next → ⊥) → counted word passes others k ≡ counted word passes rest k
+    other-same k apart = rw (taken-other (known .left) some few k apart)
+
+    pub own-counted : passes next ≡ true → counted word passes others next ≡ true
+    own-counted e = rw (next-taken (known .left) some few, e)
+
+    pub one-crossed :
+        getD crossings next 0 < 256 → passes next ≡ true → Crossed crossings word n passes others (bitOr set (getD crossings next 0))
+    unfolding crosses
+    one-crossed byte e =
+        record {
+          left = left-more (known .left) some few;
+          small = or-lt 8 set (getD crossings next 0) (known .small) byte;
+          told = λ p.
+              bit-or p set (getD crossings next 0)
+              ∙ rw (known .told p)
+              (any-with _ _ n next (crosses crossings next p) turn-within
+              (rw (next-untaken (known .left) some few))
+              (rw (own-counted e))
+              (λ k apart. ap (λ (t : Bool). t && crosses crossings k p) (other-same k apart)));
+        }
+
+    -- a movement that does not pass alters nothing
+    pub failed-same : passes next ≡ false → (k : ℕ) → counted word passes rest k ≡ counted word passes others k
+    failed-same e k =
+        ⊎-elim
+        (λ (t : eqb k next ≡ true). rw (eqb-true k next t, e) (and-false (taken word rest next) ∙ sym (and-false (taken word others next))))
+        (λ (t : eqb k next ≡ false). sym (other-same k (eqb-false k next t)))
+        (decided (eqb k next))
+
+    pub one-failed : passes next ≡ false → Crossed crossings word n passes others set
+    one-failed e =
+        record {
+          left = left-more (known .left) some few;
+          small = known .small;
+          told = λ p.
+              known .told p ∙ any-same _ _ n (λ k l. ap (λ (t : Bool). t && crosses crossings k p) (failed-same e k));
+        }
+
+  -- once none is left, the movements counted are all those of the word that pass
+  module _ (done : rest ≡ 0) (f : ℕ → Bool) (all : (k : ℕ) → k < n → (bit k word && passes k) ≡ f k) where
+    pub all-counted : (k : ℕ) → k < n → counted word passes rest k ≡ f k
+    all-counted k l = rw (taken-all word k done) (all k l)
+
+    pub all-crossed : set ≡ setOf (λ p. anyOf (λ k. f k && crosses crossings k p) n)
+    all-crossed =
+        set-told _ set (known .small)
+        (λ p l. known .told p ∙ any-same _ _ n (λ k m. ap (λ (t : Bool). t && crosses crossings k p) (all-counted k m)))

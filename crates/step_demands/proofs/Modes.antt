@@ -3,25 +3,25 @@
 use Prim.Native.Nat.{ℕ, zero, suc, _%_, _/_, _≤_, _<_}
 use mathlib.Core.Bool.{Bool, true, false, _&&_, _||_}
 use mathlib.Core.List.{List}
-use mathlib.Core.Path.{_≡_, refl, _∙_}
+use mathlib.Core.Path.{_≡_, refl, sym, ap, _∙_}
 use native.Mathlib.Omega.{arith}
 use borrow.Author.Tests.{ltb-true}
 use lib.Bits.{bitOr}
 use lib.Dec.{ltb, eqb}
+use lib.ListN.{getD}
 use Rattle.rules.specs.declared.site.Detector.{Detector}
 use Rattle.rules.specs.declared.site.Site.{Site}
 use Rattle.rules.specs.Bytes.{bit}
-use Rattle.rules.specs.Rows.{anyOf, allOf}
+use Rattle.rules.specs.Rows.{anyOf, listOf}
 use Rattle.rules.specs.Personality.{knownMode}
 use Rattle.rules.specs.Site.{detectorOf}
 use Rattle.rules.specs.Demands.{occupied, calling, locking, extending, detectedAmong}
 use Rattle.rules.specs.Laws.{Sound}
-use Rattle.rules.proofs.Rows.{all-at}
+use Rattle.rules.proofs.Rows.{list-at}
 use Rattle.rules.proofs.Tests.{and-left, and-right}
 use Rattle.base_reads.proofs.Union.{bit-or}
 use Rattle.proof_arrays.proofs.Passing.{any-same}
 use Rattle.step_demands.specs.Sensed.{Tabled}
-use Rattle.step_demands.proofs.Bits.{same, same-told}
 
 -- the detectors of an accepted site are within the table
 pub tabled : (site : Site) → Sound site → Tabled (site .detectors) (site .size .detectors)
@@ -46,20 +46,24 @@ tabled site sound =
 pub record Same (f g : ℕ → Bool) : Type 0 where
   pub told : (m : ℕ) → m ≤ 6 → f m ≡ g m
 
-tried : (f g : ℕ → Bool) → allOf (λ m. same (f m) (g m)) 7 ≡ true → Same f g
-tried f g all =
-    record { told = λ m l. same-told (f m) (g m) (all-at (λ m. same (f m) (g m)) 7 m all (omega arith)) }
+tried : (f g : ℕ → Bool) → listOf f 7 ≡ listOf g 7 → Same f g
+tried f g e =
+    record {
+      told = λ m l.
+          let below : m < 7 = omega arith in
+          sym (list-at f 7 m false below) ∙ ap (λ (row : List Bool). getD row m false) e ∙ list-at g 7 m false below;
+    }
 
 pub locking-modes : Same (λ m. eqb m 2 || eqb m 6) locking
-unfolding locking allOf
+unfolding locking listOf
 locking-modes = tried (λ m. eqb m 2 || eqb m 6) locking refl
 
 pub calling-modes : Same (λ m. eqb m 1 || eqb m 5) calling
-unfolding calling allOf
+unfolding calling listOf
 calling-modes = tried (λ m. eqb m 1 || eqb m 5) calling refl
 
 pub extending-modes : Same (λ m. (eqb m 4 || eqb m 5) || eqb m 6) extending
-unfolding extending allOf
+unfolding extending listOf
 extending-modes = tried (λ m. (eqb m 4 || eqb m 5) || eqb m 6) extending refl
 
 -- ── The rows of the table ──
@@ -98,8 +102,7 @@ module _ {detectors : List Detector} {n inputs : ℕ} {f g : ℕ → Bool} where
             let has-g : ℕ → Bool = λ d. has detectors inputs p d && g (detectorOf detectors d .mode) in
             bit-or p a b
             ∙ rw (left .told p l, right .told p l) (any-join has-f has-g n)
-            ∙ any-same (λ d. has-f d || has-g d)
-            (λ d. has detectors inputs p d && (f (detectorOf detectors d .mode) || g (detectorOf detectors d .mode))) n
+            ∙ any-same _ _ n
             (λ d k. either-of (has detectors inputs p d) (f (detectorOf detectors d .mode)) (g (detectorOf detectors d .mode)));
       }
 
@@ -113,7 +116,4 @@ module _ {detectors : List Detector} {n inputs : ℕ} {f g : ℕ → Bool} where
       bit p a ≡ detectedAmong detectors n g inputs p
   unfolding detectedAmong
   of-kind known agree own p l =
-      own .told p l
-      ∙ any-same (λ d. has detectors inputs p d && f (detectorOf detectors d .mode))
-      (λ d. has detectors inputs p d && g (detectorOf detectors d .mode)) n
-      (λ d k. rw (agree .told (detectorOf detectors d .mode) (known .mode d k)))
+      own .told p l ∙ any-same _ _ n (λ d k. rw (agree .told (detectorOf detectors d .mode) (known .mode d k)))

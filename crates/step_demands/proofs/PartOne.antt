@@ -1,27 +1,25 @@
--- Part 1 put together: what its calls give from the sets of phases of which detectors are occupied is what the rules say, phase by
--- phase.
+-- Part 1 put together: what its calls give from the sets of phases of which detectors are occupied is what the rules say, set by set.
 use Prim.Native.Nat.{ℕ, _<_}
-use mathlib.Core.Bool.{Bool, false, not, _&&_, _||_}
-use mathlib.Core.List.{List}
-use mathlib.Core.Path.{_≡_, sym, ap, _∙_}
+use mathlib.Core.Bool.{Bool, not, _&&_, _||_}
+use mathlib.Core.Path.{_≡_, refl, sym, ap, _∙_}
+use native.Mathlib.Nat.{lt-of-le-of-lt}
 use native.Mathlib.Omega.{arith}
-use lib.Bits.{bitAnd, bitOr}
-use lib.ListN.{getD}
+use lib.Bits.{bitAnd, bitOr, and-le-r}
 use Rattle.rules.specs.declared.site.Site.{Site}
 use Rattle.rules.specs.declared.state.Demands.{Demands}
 use Rattle.rules.specs.declared.state.Held.{Held}
 use Rattle.rules.specs.declared.state.KeptState.{KeptState}
 use Rattle.rules.specs.Bytes.{bit}
-use Rattle.rules.specs.Rows.{anyOf, listOf}
+use Rattle.rules.specs.Rows.{anyOf, setOf}
 use Rattle.rules.specs.Site.{crosses}
 use Rattle.rules.specs.State.{locked, asked}
-use Rattle.rules.specs.Demands.{calling, locking, extending, detectedAmong, detected, inGreen, registersLock, registersButton, calls, demandsAfter, firstIn, nextAfter}
+use Rattle.rules.specs.Demands.{calling, locking, extending, detectedAmong, detected, inGreen, registersLock, registersButton, calls, demandsAfter, firstIn}
 use Rattle.rules.specs.Kept.{isKept, pressKeeps, keptAfter, nextKept}
 use Rattle.rules.specs.Laws.{Sound}
+use Rattle.rules.proofs.Sets.{bit-set, set-small, set-same}
 use Rattle.rules.proofs.Tests.{and-false-right}
 use Rattle.base_reads.proofs.Common.{bit-and}
-use Rattle.base_reads.proofs.Union.{bit-or}
-use Rattle.proof_arrays.proofs.Fill.{list-same}
+use Rattle.base_reads.proofs.Members.{set-told, union-told}
 use Rattle.proof_arrays.proofs.Passing.{any-past}
 use Rattle.step_demands.specs.declared.detectors.Sensed.{Sensed}
 use Rattle.step_demands.specs.Orders.{others}
@@ -29,87 +27,79 @@ use Rattle.step_demands.specs.Sensed.{SensedBy}
 use Rattle.step_demands.specs.Asked.{AskedBy}
 use Rattle.step_demands.proofs.Orders.{ring-same}
 
+-- a byte is the set of its bits
+own-set : (x : ℕ) → x < 256 → x ≡ setOf (λ p. bit p x)
+own-set x small = set-told _ x small (λ p l. refl)
+
 module _
     (site : Site) (s : KeptState) (inputs : ℕ) (sensed : Sensed) (waiting : ℕ)
     (scanned : SensedBy (site .detectors) (site .size .detectors) inputs (s .rest .position .phase) sensed)
-    (waits : (p : ℕ) → p < 8 → bit p waiting ≡ not (inGreen (s .rest .position) p))
+    (waits : waiting ≡ setOf (λ p. not (inGreen (s .rest .position) p)))
   where
     -- of a set of phases those that may be demanded
     outside :
         (kind : ℕ → Bool) (set : ℕ) →
         ((p : ℕ) → p < 8 → bit p set ≡ detectedAmong (site .detectors) (site .size .detectors) kind inputs p) →
-        (p : ℕ) →
-        p < 7 →
-        bit p (bitAnd set waiting) ≡ (detected kind site inputs p && not (inGreen (s .rest .position) p))
+        bitAnd set waiting ≡ setOf (λ p. detected kind site inputs p && not (inGreen (s .rest .position) p))
     unfolding detected
-    outside kind set told p l = bit-and p set waiting ∙ rw (told p (omega arith), waits p (omega arith))
+    outside kind set told =
+        set-told _ _ (lt-of-le-of-lt (and-le-r set waiting) (rw waits (set-small _)))
+        (λ p l. bit-and p set waiting ∙ rw (told p l, waits, bit-set))
 
-    lock-told : (p : ℕ) → p < 7 → bit p (bitAnd (sensed .locks) waiting) ≡ registersLock site (s .rest) inputs p
+    lock-told : bitAnd (sensed .locks) waiting ≡ setOf (registersLock site (s .rest) inputs)
     unfolding registersLock
-    lock-told p l = outside locking (sensed .locks) (scanned .locks) p l
+    lock-told = outside locking (sensed .locks) (scanned .locks)
 
-    call-told : (p : ℕ) → p < 7 → bit p (bitAnd (sensed .calls) waiting) ≡ calls site (s .rest) inputs p
+    call-told : bitAnd (sensed .calls) waiting ≡ setOf (calls site (s .rest) inputs)
     unfolding calls
-    call-told p l = outside calling (sensed .calls) (scanned .calls) p l
+    call-told = outside calling (sensed .calls) (scanned .calls)
 
     module _
-        (locks buttons : List Bool) (marked pressing : ℕ) (next : Held)
-        (joined : locks ≡ listOf (λ p. getD (s .rest .demands .locks) p false || bit p (bitAnd (sensed .locks) waiting)) 7)
-        (pressed : buttons ≡ listOf (λ k. getD (s .rest .demands .buttons) k false || registersButton (s .rest .movements) inputs k) 8)
-        (presses : (p : ℕ) → bit p pressing ≡ anyOf (λ k. registersButton (s .rest .movements) inputs k && crosses (site .crossings) k p) 8)
-        (marks : (p : ℕ) → bit p marked ≡ getD (s .kept) p false)
+        (buttons pressing : ℕ) (next : Held)
+        (pressed : buttons ≡ setOf (λ k. bit k (s .rest .demands .buttons) || registersButton (s .rest .movements) inputs k))
+        (presses : pressing ≡ setOf (λ p. anyOf (λ k. registersButton (s .rest .movements) inputs k && crosses (site .crossings) k p) 8))
         (searched :
         next
-        ≡ firstIn (λ p. bit p (bitOr (bitOr (bitOr marked (bitAnd (sensed .locks) waiting)) pressing) (bitAnd (sensed .calls) waiting)))
+        ≡ firstIn (λ p. bit p (bitOr (bitOr (bitOr (s .kept) (bitAnd (sensed .locks) waiting)) pressing) (bitAnd (sensed .calls) waiting)))
         (others (s .rest .position .phase) (site .order) (site .size .phases)))
-        (sound : Sound site)
+        (sound : Sound site) (locksSmall : s .rest .demands .locks < 256) (keptSmall : s .kept < 256)
       where
         abbrev standing : Demands
-        standing = record { locks = locks; buttons = buttons }
+        standing = record { locks = bitOr (s .rest .demands .locks) (bitAnd (sensed .locks) waiting); buttons = buttons }
 
         -- the demands that stand
         standing-told : standing ≡ demandsAfter site (s .rest) inputs
         unfolding demandsAfter locked asked
         standing-told =
-            rw (pressed, joined)
-            (ap (λ (l : List Bool). record { locks = l; buttons = listOf (λ k. getD (s .rest .demands .buttons) k false || registersButton (s .rest .movements) inputs k) 8 })
-            (list-same (λ p. getD (s .rest .demands .locks) p false || bit p (bitAnd (sensed .locks) waiting))
-            (λ p. getD (s .rest .demands .locks) p false || registersLock site (s .rest) inputs p) 7
-            (λ p l. ap (λ (t : Bool). getD (s .rest .demands .locks) p false || t) (lock-told p l))))
+            rw (pressed, union-told _ _ _ _ (own-set (s .rest .demands .locks) locksSmall) lock-told)
 
         -- a movement that the site has not is of no phase
-        press-told : (p : ℕ) → bit p pressing ≡ pressKeeps site s inputs p
+        press-told : pressing ≡ setOf (pressKeeps site s inputs)
         unfolding pressKeeps
-        press-told p =
-            presses p
-            ∙ sym
-            (any-past (λ k. registersButton (s .rest .movements) inputs k && crosses (site .crossings) k p) (site .size .movements) 8
-            (sound .movements)
-            (λ k past l. and-false-right (registersButton (s .rest .movements) inputs k) (sound .noCrossing k p past)))
+        press-told =
+            presses
+            ∙ set-same _ _
+            (λ p l.
+            sym
+            (any-past _ (site .size .movements) 8 (sound .movements)
+            (λ k past l. and-false-right (registersButton (s .rest .movements) inputs k) (sound .noCrossing k p past))))
 
         -- the phases kept
         abbrev kept : ℕ
-        kept = bitOr (bitOr marked (bitAnd (sensed .locks) waiting)) pressing
+        kept = bitOr (bitOr (s .kept) (bitAnd (sensed .locks) waiting)) pressing
 
-        kept-told : (p : ℕ) → p < 7 → bit p kept ≡ keptAfter site s inputs p
+        kept-told : kept ≡ setOf (keptAfter site s inputs)
         unfolding keptAfter isKept
-        kept-told p l =
-            rw (
-              bit-or p (bitOr marked (bitAnd (sensed .locks) waiting)) pressing,
-              bit-or p marked (bitAnd (sensed .locks) waiting),
-              marks p,
-              lock-told p l,
-              press-told p,
-            )
+        kept-told = union-told _ _ _ _ (union-told _ _ _ _ (own-set (s .kept) keptSmall) lock-told) press-told
 
         -- a phase is demanded that is kept, or called by a detector
         next-told : next ≡ nextKept site s inputs
-        unfolding nextKept nextAfter
+        unfolding nextKept
         next-told =
             searched
             ∙ ring-same site sound (λ p. bit p (bitOr kept (bitAnd (sensed .calls) waiting)))
             (λ p. keptAfter site s inputs p || calls site (s .rest) inputs p) (s .rest .position .phase)
-            (λ p l. rw (bit-or p kept (bitAnd (sensed .calls) waiting), kept-told p l, call-told p l))
+            (λ p l. ap (bit p) (union-told _ _ _ _ kept-told call-told) ∙ bit-set _ p (omega arith))
 
         extended-told : sensed .extended ≡ detected extending site inputs (s .rest .position .phase)
         unfolding detected

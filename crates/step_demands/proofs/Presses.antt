@@ -1,6 +1,6 @@
 -- The pass over the pressed buttons: those that are taken and not dropped have their demands, and their movements' phases are in the set.
-use Prim.Native.Nat.{ℕ, _+_, _-_, _/_, _%_, _^_, _<_}
-use mathlib.Core.Bool.{Bool, true, false, not, _&&_, _||_, or-false, or-true, and-false}
+use Prim.Native.Nat.{ℕ, _-_, _/_, _%_, _^_, _<_}
+use mathlib.Core.Bool.{Bool, true, false, not, _&&_, _||_, or-false, or-true}
 use mathlib.Core.List.{List}
 use mathlib.Core.Logic.{⊎-elim}
 use mathlib.Core.Path.{_≡_, sym, ap, _∙_}
@@ -10,122 +10,104 @@ use borrow.Author.Tests.{eqb-true, eqb-false}
 use lib.Bits.{bitAnd, bitOr}
 use lib.Count.{trailingZeros}
 use lib.Dec.{eqb}
-use lib.ListN.{length, getD, set}
+use lib.ListN.{getD}
 use lib.Pow.{pow-pos}
 use Rattle.rules.specs.declared.state.Movement.{Movement}
 use Rattle.rules.specs.Bytes.{bit}
-use Rattle.rules.specs.Rows.{anyOf, listOf}
+use Rattle.rules.specs.Rows.{anyOf, setOf}
 use Rattle.rules.specs.Site.{crosses}
 use Rattle.rules.specs.Intervals.{isWalk}
 use Rattle.rules.specs.State.{idle}
 use Rattle.rules.specs.Demands.{pressed, registersButton}
-use Rattle.rules.proofs.Bits.{bit-blank, bit-lower}
-use Rattle.rules.proofs.Rows.{list-length, list-at, any-none}
+use Rattle.rules.proofs.Bits.{bit-lower}
+use Rattle.rules.proofs.Sets.{bit-set, set-same}
 use Rattle.rules.proofs.Tests.{decided}
-use Rattle.proof_arrays.proofs.Fill.{list-told, list-same, list-set}
-use Rattle.proof_arrays.proofs.Passing.{any-same, any-with}
-use Rattle.base_reads.proofs.Lowest.{taken, Left, left-all, taken-none, taken-all, next-within, left-more, next-untaken, next-taken, taken-other}
+use Rattle.base_reads.proofs.Lowest.{taken-none}
+use Rattle.base_reads.proofs.Members.{set-told}
 use Rattle.base_reads.proofs.Shifts.{bit-down}
-use Rattle.base_reads.proofs.Union.{bit-or}
+use Rattle.step_demands.proofs.Crossed.{counted, Crossed, none-crossed, other-same, own-counted, one-crossed, failed-same, one-failed, all-counted, all-crossed}
 
-module _ (buttons : List Bool) (movements : List Movement) (crossings : List ℕ) (inputs : ℕ) where
-  -- the inputs of the buttons
-  abbrev word : ℕ
-  word = inputs / 2 ^ 48 % 2 ^ 8
+-- the inputs of the buttons
+abbrev word : ℕ → ℕ
+word inputs = inputs / 2 ^ 48 % 2 ^ 8
 
-  abbrev pub walks : ℕ → Bool
-  walks k = isWalk (getD movements k idle .stage)
+-- a press is registered unless the movement is in walk
+abbrev pub stays : List Movement → ℕ → Bool
+stays movements k = not (isWalk (getD movements k idle .stage))
 
-  -- a button is registered where it is taken and its movement is not in walk
-  abbrev registered : ℕ → ℕ → Bool
-  registered rest k = taken word rest k && not (walks k)
+abbrev registered : List Movement → ℕ → ℕ → ℕ → Bool
+registered movements inputs rest k = counted (word inputs) (stays movements) rest k
 
-  pub record Pressed (rest : ℕ) (out : List Bool) (phases : ℕ) : Type 0 where
-    pub left : Left word 8 rest
-    pub told : out ≡ listOf (λ k. getD buttons k false || registered rest k) 8
-    pub keeps : (p : ℕ) → bit p phases ≡ anyOf (λ k. registered rest k && crosses crossings k p) 8
+pub record Pressed (buttons : ℕ) (movements : List Movement) (crossings : List ℕ) (inputs rest out phases : ℕ) : Type 0 where
+  pub keeps : Crossed crossings (word inputs) 8 (stays movements) rest phases
+  pub told : out ≡ setOf (λ k. bit k buttons || registered movements inputs rest k)
 
-  pub none-pressed : length buttons ≡ 8 → Pressed word buttons 0
-  none-pressed len =
-      record {
-        left = left-all word 8 (mod-lt (inputs / 2 ^ 48) (pow-pos 8));
-        told =
-            list-told (λ k. getD buttons k false || registered word k) buttons 8 false len
-            (λ k l. rw (taken-none word k) (sym (or-false (getD buttons k false))));
-        keeps = λ p. bit-blank p ∙ sym (any-none (λ k. registered word k && crosses crossings k p) 8 (λ k l. rw (taken-none word k)));
-      }
+pub none-pressed :
+    (buttons : ℕ) (movements : List Movement) (crossings : List ℕ) (inputs : ℕ) →
+    buttons < 256 →
+    Pressed buttons movements crossings inputs (word inputs) buttons 0
+none-pressed buttons movements crossings inputs small =
+    record {
+      keeps = none-crossed crossings (word inputs) 8 (stays movements) (mod-lt (inputs / 2 ^ 48) (pow-pos 8));
+      told = set-told _ buttons small (λ k l. rw (taken-none (word inputs) k) (sym (or-false (bit k buttons))));
+    }
 
-  module _ {rest phases : ℕ} {out : List Bool} (known : Pressed rest out phases) (some : 0 < rest) where
-    abbrev next : ℕ
-    next = trailingZeros 64 rest
+module _
+    {buttons : ℕ} {movements : List Movement} {crossings : List ℕ} {inputs rest out phases : ℕ}
+    (known : Pressed buttons movements crossings inputs rest out phases)
+  where
+    -- the buttons that have their demands where this is left
+    abbrev standing : ℕ → ℕ → Bool
+    standing rest k = bit k buttons || registered movements inputs rest k
 
-    -- the buttons that are left after this turn
-    abbrev others : ℕ
-    others = bitAnd rest (rest - 1)
+    module _ (some : 0 < rest) where
+      abbrev next : ℕ
+      next = trailingZeros 64 rest
 
-    pub turn-within : next < 8
-    turn-within = next-within (known .left) some (omega arith)
+      abbrev others : ℕ
+      others = bitAnd rest (rest - 1)
 
-    other-same : (k : ℕ) → (k ≡ next → ⊥) → registered others k ≡ registered rest k
-    other-same k apart = rw (taken-other (known .left) some (omega arith) k apart)
+      pub one-pressed :
+          getD crossings next 0 < 256 →
+          stays movements next ≡ true →
+          Pressed buttons movements crossings inputs others (setOf (λ k. bit k out || eqb k next)) (bitOr phases (getD crossings next 0))
+      one-pressed byte e =
+          record {
+            keeps = one-crossed (known .keeps) some (omega arith) byte e;
+            told =
+                set-same _ _
+                (λ k l.
+                rw (known .told, bit-set (standing rest) k l)
+                (⊎-elim
+                (λ (t : eqb k next ≡ true).
+                rw (t, eqb-true k next t, own-counted (known .keeps) some (omega arith) e)
+                (or-true (standing rest next) ∙ sym (or-true (bit next buttons))))
+                (λ (t : eqb k next ≡ false).
+                rw (t, other-same (known .keeps) some (omega arith) k (eqb-false k next t)) (or-false (standing rest k)))
+                (decided (eqb k next))));
+          }
 
-    pub one-pressed : walks next ≡ false → Pressed others (set out next true) (bitOr phases (getD crossings next 0))
-    unfolding crosses
-    one-pressed e =
-        record {
-          left = left-more (known .left) some (omega arith);
-          told =
-              list-set (λ k. getD buttons k false || registered others k) out 8 next true false
-              (rw (known .told) (list-length (λ k. getD buttons k false || registered rest k) 8))
-              turn-within
-              (rw (next-taken (known .left) some (omega arith), e) (or-true (getD buttons next false)))
-              (λ k l apart.
-              rw (other-same k apart, known .told) (sym (list-at (λ k. getD buttons k false || registered rest k) 8 k false l)));
-          keeps = λ p.
-              bit-or p phases (getD crossings next 0)
-              ∙ rw (known .keeps p)
-              (any-with (λ k. registered rest k && crosses crossings k p) (λ k. registered others k && crosses crossings k p) 8 next
-              (crosses crossings next p) turn-within
-              (rw (next-untaken (known .left) some (omega arith)))
-              (rw (next-taken (known .left) some (omega arith), e))
-              (λ k apart. ap (λ (t : Bool). t && crosses crossings k p) (other-same k apart)));
-        }
+      pub one-dropped : stays movements next ≡ false → Pressed buttons movements crossings inputs others out phases
+      one-dropped e =
+          record {
+            keeps = one-failed (known .keeps) some (omega arith) e;
+            told =
+                known .told
+                ∙ set-same _ _
+                (λ k l. ap (λ (t : Bool). bit k buttons || t) (failed-same (known .keeps) some (omega arith) e k));
+          }
 
-    -- a press in walk alters nothing
-    dropped-same : walks next ≡ true → (k : ℕ) → registered rest k ≡ registered others k
-    dropped-same e k =
-        ⊎-elim
-        (λ (t : eqb k next ≡ true). rw (eqb-true k next t, e) (and-false (taken word rest next) ∙ sym (and-false (taken word others next))))
-        (λ (t : eqb k next ≡ false). sym (other-same k (eqb-false k next t)))
-        (decided (eqb k next))
+    module _ (done : rest ≡ 0) where
+      all-registered : (k : ℕ) → k < 8 → (bit k (word inputs) && stays movements k) ≡ registersButton movements inputs k
+      unfolding registersButton pressed
+      all-registered k l = rw (bit-lower 8 k (inputs / 2 ^ 48) l ∙ bit-down inputs 48 k)
 
-    pub one-dropped : walks next ≡ true → Pressed others out phases
-    one-dropped e =
-        record {
-          left = left-more (known .left) some (omega arith);
-          told =
-              known .told
-              ∙ list-same (λ k. getD buttons k false || registered rest k) (λ k. getD buttons k false || registered others k) 8
-              (λ k l. ap (λ (t : Bool). getD buttons k false || t) (dropped-same e k));
-          keeps = λ p.
-              known .keeps p
-              ∙ any-same (λ k. registered rest k && crosses crossings k p) (λ k. registered others k && crosses crossings k p) 8
-              (λ k l. ap (λ (t : Bool). t && crosses crossings k p) (dropped-same e k));
-        }
+      pub all-pressed : out ≡ setOf (λ k. bit k buttons || registersButton movements inputs k)
+      all-pressed =
+          known .told
+          ∙ set-same _ _
+          (λ k l.
+          ap (λ (t : Bool). bit k buttons || t) (all-counted (known .keeps) done (registersButton movements inputs) all-registered k l))
 
-  module _ {rest phases : ℕ} {out : List Bool} (known : Pressed rest out phases) (done : rest ≡ 0) where
-    all-taken : (k : ℕ) → k < 8 → registered rest k ≡ registersButton movements inputs k
-    unfolding registersButton pressed
-    all-taken k l = rw (taken-all word k done, bit-lower 8 k (inputs / 2 ^ 48) l ∙ bit-down inputs 48 k)
-
-    pub all-pressed : out ≡ listOf (λ k. getD buttons k false || registersButton movements inputs k) 8
-    all-pressed =
-        known .told
-        ∙ list-same (λ k. getD buttons k false || registered rest k) (λ k. getD buttons k false || registersButton movements inputs k) 8
-        (λ k l. ap (λ (t : Bool). getD buttons k false || t) (all-taken k l))
-
-    pub all-kept : (p : ℕ) → bit p phases ≡ anyOf (λ k. registersButton movements inputs k && crosses crossings k p) 8
-    all-kept p =
-        known .keeps p
-        ∙ any-same (λ k. registered rest k && crosses crossings k p) (λ k. registersButton movements inputs k && crosses crossings k p) 8
-        (λ k l. ap (λ (t : Bool). t && crosses crossings k p) (all-taken k l))
+      pub all-kept : phases ≡ setOf (λ p. anyOf (λ k. registersButton movements inputs k && crosses crossings k p) 8)
+      all-kept = all-crossed (known .keeps) done (registersButton movements inputs) all-registered

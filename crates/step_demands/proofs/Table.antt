@@ -5,34 +5,26 @@ use mathlib.Core.Bool.{Bool, true, false, _&&_, _||_}
 use mathlib.Core.List.{List}
 use mathlib.Core.Logic.{⊎-elim}
 use mathlib.Core.Path.{_≡_, sym, ap, _∙_}
-use native.Mathlib.Nat.{mod-lt, one-mul}
 use native.Mathlib.Omega.{arith}
 use borrow.Author.Tests.{eqb-true, eqb-false, eq-eqb, ne-eqb}
 use lib.Bits.{bitAnd, bitOr}
 use lib.Count.{trailingZeros}
 use lib.Dec.{eqb}
-use lib.Pow.{pow-pos, shl-exact}
 use Rattle.rules.specs.declared.site.Detector.{Detector}
 use Rattle.rules.specs.Bytes.{bit}
 use Rattle.rules.specs.Rows.{anyOf}
 use Rattle.rules.specs.Site.{detectorOf}
 use Rattle.rules.specs.Demands.{occupied, detectedAmong}
-use Rattle.rules.proofs.Bits.{bit-blank, bit-lower}
+use Rattle.rules.proofs.Bits.{bit-blank}
 use Rattle.rules.proofs.Rows.{any-none}
 use Rattle.rules.proofs.Tests.{decided}
 use Rattle.proof_arrays.proofs.Passing.{any-same, any-with}
 use Rattle.base_reads.proofs.Lowest.{bit-one, taken, Left, left-all, taken-none, taken-all, next-within, left-more, next-untaken, next-taken, taken-other}
 use Rattle.base_reads.proofs.Union.{bit-or}
 use Rattle.step_demands.specs.Sensed.{Tabled}
+use Rattle.step_demands.proofs.Firsts.{shifted, firsts, firsts-within, firsts-bit}
 
 -- ── One cell ──
-
--- a one that is shifted by less than the width
-shifted : (k : ℕ) → k < 64 → 1 * 2 ^ k % 2 ^ 64 ≡ 1 * 2 ^ k
-shifted k l = shl-exact 1 k 64 (omega arith) (omega arith)
-
-pub shifted-some : (k : ℕ) → k < 64 → 0 < 1 * 2 ^ k % 2 ^ 64
-shifted-some k l = rw (shifted k l) (omega (arith, pow-pos k))
 
 cell-told : (phase mode m p : ℕ) → phase < 8 → p < 8 → eqb (8 * mode + phase) (8 * m + p) ≡ (eqb phase p && eqb mode m)
 cell-told phase mode m p room l =
@@ -64,7 +56,7 @@ cell-more set phase mode m p room few l =
 module _ (detectors : List Detector) (n inputs : ℕ) where
   -- the inputs of the detectors
   abbrev word : ℕ
-  word = inputs % (1 * 2 ^ n % 2 ^ 64)
+  word = firsts n inputs
 
   abbrev at : ℕ → Detector
   at d = detectorOf detectors d
@@ -78,17 +70,11 @@ module _ (detectors : List Detector) (n inputs : ℕ) where
         bit (8 * m + p) set ≡ anyOf (λ d. (taken word rest d && eqb (at d .phase) p) && eqb (at d .mode) m) n
 
   module _ (tabled : Tabled detectors n) where
-    word-is : word ≡ inputs % 2 ^ n
-    word-is = rw (shifted n (omega (arith, tabled .room)), one-mul (2 ^ n))
-
     pub none-entered : Entered word 0
     none-entered =
         record {
-          left = left-all word n (rw word-is (mod-lt inputs (pow-pos n)));
-          told = λ m p l.
-              bit-blank (8 * m + p)
-              ∙ sym
-              (any-none (λ d. (taken word word d && eqb (at d .phase) p) && eqb (at d .mode) m) n (λ d k. rw (taken-none word d)));
+          left = left-all word n (firsts-within n inputs (omega (arith, tabled .room)));
+          told = λ m p l. bit-blank (8 * m + p) ∙ sym (any-none _ n (λ d k. rw (taken-none word d)));
         }
 
     module _ {rest set : ℕ} (entered : Entered rest set) (some : 0 < rest) where
@@ -108,11 +94,7 @@ module _ (detectors : List Detector) (n inputs : ℕ) where
             told = λ m p l.
                 cell-more set (at next .phase) (at next .mode) m p (tabled .phase next turn-within) (tabled .mode next turn-within) l
                 ∙ rw (entered .told m p l)
-                (any-with
-                (λ d. (taken word rest d && eqb (at d .phase) p) && eqb (at d .mode) m)
-                (λ d. (taken word (bitAnd rest (rest - 1)) d && eqb (at d .phase) p) && eqb (at d .mode) m)
-                n next (eqb (at next .phase) p && eqb (at next .mode) m)
-                turn-within
+                (any-with _ _ n next (eqb (at next .phase) p && eqb (at next .mode) m) turn-within
                 (rw (next-untaken (entered .left) some few))
                 (rw (next-taken (entered .left) some few))
                 (λ d apart. rw (taken-other (entered .left) some few d apart)));
@@ -126,10 +108,6 @@ module _ (detectors : List Detector) (n inputs : ℕ) where
         p < 8 →
         bit (8 * m + p) set ≡ detectedAmong detectors n (λ mode. eqb mode m) inputs p
     unfolding detectedAmong occupied
-    all-entered {rest} entered e m p l =
+    all-entered entered e m p l =
         entered .told m p l
-        ∙ any-same
-        (λ d. (taken word rest d && eqb (at d .phase) p) && eqb (at d .mode) m)
-        (λ d. (bit d inputs && eqb (at d .phase) p) && eqb (at d .mode) m)
-        n
-        (λ d k. rw (taken-all word d e, ap (bit d) word-is ∙ bit-lower n d inputs k))
+        ∙ any-same _ _ n (λ d k. rw (taken-all word d e, firsts-bit n inputs (omega (arith, tabled .room)) d k))

@@ -1,6 +1,5 @@
 // Part 1 of a step: what detectors and buttons demand, which phases are kept for it, and which demanded phase is next in the ring.
 ghost use Prim.Native.Nat.{_<_};
-ghost use mathlib.Core.Path.{_≡_};
 ghost use Rattle.rules.specs.Laws.{Sound};
 ghost use Rattle.step_demands.specs.Asked.{AskedBy};
 use rules::site::Site;

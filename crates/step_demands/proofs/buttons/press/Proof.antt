@@ -1,40 +1,44 @@
 -- `step_demands::buttons::press` meets its contract. The loop's invariant: the buttons that are taken have their demands and their phases in
--- the set, and the bits of the rest are those that are left. The measure is the rest, which loses a bit a turn.
+-- the sets, and the bits of the rest are those that are left. The measure is the rest, which loses a bit a turn.
 use borrow.Author.Needs.{needs}
-use borrow.Author.Tests.{not-true, not-false}
 use native.Mathlib.Omega.{arith}
 use Prim.Native.Nat.{_<_}
+use mathlib.Core.Bool.{not}
 use mathlib.Core.Logic.{⊎-elim}
 use mathlib.Core.Path.{_≡_, sym, ap, _∙_}
 use lib.Count.{trailingZeros}
 use lib.ListN.{length, getD}
+use mir.Syntax.{w8}
+use mir.Val.{Fits}
 use Rattle.rules.specs.declared.state.Movement.{Movement}
 use Rattle.rules.specs.declared.state.Stage.the-variants.{Idle}
 use Rattle.rules.specs.Intervals.{isWalk}
 use Rattle.rules.specs.State.{idle}
 use Rattle.proof_arrays.proofs.Fill.{entry-same}
 use Rattle.base_reads.proofs.Lowest.{left-less}
-use Rattle.step_demands.proofs.Presses.{Pressed, none-pressed, one-pressed, one-dropped, all-pressed, all-kept, turn-within}
+use Rattle.step_demands.proofs.Crossed.{turn-within}
+use Rattle.step_demands.proofs.Presses.{Pressed, stays, none-pressed, one-pressed, one-dropped, all-pressed, all-kept}
 use Rattle.step_demands.proofs.buttons.press.Statement.{statement}
 use Rattle.step_demands.proofs.buttons.press.Tie as tie
 
 abbrev Inv-loop : tie.InvT-loop
-Inv-loop inputs movements crossings out₀ phases₀ rest₀ out phases rest = Pressed out₀ movements crossings inputs rest out phases
+Inv-loop buttons inputs movements crossings out₀ phases₀ rest₀ out phases rest = Pressed buttons movements crossings inputs rest out phases
 
 abbrev μ-loop : tie.MeasureT-loop
-μ-loop inputs movements crossings out₀ phases₀ rest₀ out phases rest = rest
+μ-loop buttons inputs movements crossings out₀ phases₀ rest₀ out phases rest = rest
 
 loop-holds : tie.Need-loop-holds Inv-loop μ-loop
-loop-holds c = none-pressed (c .args .buttons) (c .args .t2) (c .args .t3) (c .args .inputs) (c .good .0 .1 .0 .1)
+loop-holds c = none-pressed (c .args .buttons) (c .args .t2) (c .args .t3) (c .args .inputs) (c .fits .buttons .fits)
 
 -- the button of a turn is one of the eight
 own-within : (c : tie.In-loop Inv-loop μ-loop) → trailingZeros 64 (c .before .loop .rest) < 8
-own-within c =
-    let a = c .before .before .args in
-    turn-within (a .buttons) (a .t2) (a .t3) (a .inputs) (c .before .loop .inv) (omega (arith, c .loop-test .taken))
+own-within c = turn-within (c .before .loop .inv .keeps) (omega (arith, c .loop-test .taken)) (omega arith)
 
 cast-k : tie.Need-cast-k Inv-loop μ-loop
 cast-k c = omega (arith, own-within c)
+
+cast-i : tie.Need-cast-i Inv-loop μ-loop
+cast-i c = omega (arith, own-within c)
 
 mul-movement : tie.Need-mul-movement Inv-loop μ-loop
 mul-movement c = omega (arith, own-within c)
@@ -45,11 +49,11 @@ array-copy-out-movement c = own-within c
 dropped-requires : tie.Need-dropped-requires Inv-loop μ-loop
 dropped-requires c κs = search needs
 
-array-write-out : tie.Need-array-write-out Inv-loop μ-loop
-array-write-out c = own-within (c .before .before .before)
+with-requires : tie.Need-with-requires Inv-loop μ-loop
+with-requires c κs = own-within (c .before .before .before)
 
 array-read-phases : tie.Need-array-read-phases Inv-loop μ-loop
-array-read-phases c = own-within (c .before .before .before)
+array-read-phases c = own-within (c .before .before .before .before)
 
 sub-rest : tie.Need-sub-rest Inv-loop μ-loop
 sub-rest c = search needs
@@ -57,7 +61,7 @@ sub-rest c = search needs
 loop-less : tie.Need-loop-less Inv-loop μ-loop
 loop-less c =
     let turn = c .before .before .before in
-    left-less (turn .before .loop .inv .left) (omega (arith, turn .loop-test .taken)) (omega arith)
+    left-less (turn .before .loop .inv .keeps .left) (omega (arith, turn .loop-test .taken)) (omega arith)
 
 loop-again : tie.Need-loop-again Inv-loop μ-loop
 loop-again c =
@@ -69,24 +73,17 @@ loop-again c =
     let k = trailingZeros 64 (at .rest) in
     let some : 0 < at .rest = omega (arith, turn .loop-test .taken) in
     let inside : k < length (a .t2) = omega (arith, own-within turn, start .good .1 .0 .1 .0 .1) in
-    let own : dropped .dropped .result ≡ isWalk (getD (a .t2) k idle .stage) =
-    dropped .dropped .ensures ∙ ap (λ (m : Movement). isWalk (m .stage)) (entry-same (a .t2) k (record { stage = Idle; age = 0 }) idle inside) in
+    let byte : Fits w8 (getD (a .t3) k 0) = search needs in
+    let own : not (dropped .dropped .result) ≡ stays (a .t2) k =
+    ap not
+    (dropped .dropped .ensures ∙ ap (λ (m : Movement). isWalk (m .stage)) (entry-same (a .t2) k (record { stage = Idle; age = 0 }) idle inside)) in
     ⊎-elim
-    (λ w.
-    rw (w .1, w .2)
-    (one-pressed (a .buttons) (a .t2) (a .t3) (a .inputs) (at .inv) some (sym own ∙ not-true (dropped .dropped .result) (w .0 .taken))))
-    (λ w.
-    rw (w .1, w .2)
-    (one-dropped (a .buttons) (a .t2) (a .t3) (a .inputs) (at .inv) some (sym own ∙ not-false (dropped .dropped .result) (w .0 .left))))
+    (λ w. rw (w .2, w .3, w .1 .ensures) (one-pressed (at .inv) some (byte .fits) (sym own ∙ w .0 .taken)))
+    (λ w. rw (w .1, w .2) (one-dropped (at .inv) some (sym own ∙ w .0 .left)))
     (c .if1 .came)
 
 returns : tie.Need-returns Inv-loop μ-loop
-returns c =
-    let a = c .before .before .args in
-    let known = c .before .loop .inv in (
-      all-pressed (a .buttons) (a .t2) (a .t3) (a .inputs) known (c .loop-test .left),
-      all-kept (a .buttons) (a .t2) (a .t3) (a .inputs) known (c .loop-test .left),
-    )
+returns c = (all-pressed (c .before .loop .inv) (c .loop-test .left), all-kept (c .before .loop .inv) (c .loop-test .left))
 
 pub press-spec : {M : Type 1} → statement M
 press-spec =
@@ -96,10 +93,11 @@ press-spec =
     μ-loop
     loop-holds
     cast-k
+    cast-i
     mul-movement
     array-copy-out-movement
     dropped-requires
-    array-write-out
+    with-requires
     array-read-phases
     sub-rest
     loop-less

@@ -7,7 +7,8 @@ use lib.Count.{trailingZeros}
 use Rattle.rules.specs.declared.site.Detector.{Detector}
 use Rattle.rules.specs.Site.{detectorOf}
 use Rattle.base_reads.proofs.Lowest.{left-less}
-use Rattle.step_demands.proofs.Table.{Entered, shifted-some, none-entered, turn-within, one-entered, all-entered}
+use Rattle.step_demands.proofs.Firsts.{shifted-some}
+use Rattle.step_demands.proofs.Table.{Entered, none-entered, turn-within, one-entered, all-entered}
 use Rattle.step_demands.proofs.detectors.table.Statement.{statement}
 use Rattle.step_demands.proofs.detectors.table.Tie as tie
 
