@@ -1,79 +1,197 @@
--- Part 5, movement by movement: which movements begin walk, and what a movement and its demand are after it.
-use Prim.Native.Nat.{ℕ, _≤_}
-use mathlib.Core.Bool.{Bool, true, false, not, _&&_, _||_, and-true, and-false}
+-- Part 5, movement by movement: what the movements that have begun walk leave, and the pass over the demanded ones. A movement that is taken
+-- and may begin has begun, and every other one is as it was.
+use Prim.Native.Nat.{ℕ, _-_, _<_}
+use mathlib.Core.Bool.{Bool, true, false, not, _&&_, _||_, and-true, and-false, and-assoc}
 use mathlib.Core.List.{List}
-use mathlib.Core.Path.{_≡_, sym}
-use lib.ListN.{getD}
+use mathlib.Core.Logic.{⊎-elim}
+use mathlib.Core.Path.{_≡_, sym, _∙_}
+use native.Mathlib.Omega.{arith}
+use borrow.Author.Tests.{eqb-true, eqb-false}
+use lib.Bits.{bitAnd}
+use lib.Count.{trailingZeros}
+use lib.Dec.{eqb}
+use lib.ListN.{length, getD, set}
 use Rattle.rules.specs.declared.state.Movement.{Movement}
 use Rattle.rules.specs.declared.state.Position.{Position}
 use Rattle.rules.specs.declared.state.Stage.the-variants.{Walk}
-use Rattle.rules.specs.Rows.{if_then_else_, listOf}
+use Rattle.rules.specs.Bytes.{bit}
+use Rattle.rules.specs.Rows.{if_then_else_, listOf, setOf}
 use Rattle.rules.specs.Site.{crosses}
 use Rattle.rules.specs.Intervals.{isIdle, isRunning}
 use Rattle.rules.specs.State.{idle}
 use Rattle.rules.specs.Walks.{begins, walksBegun, buttonsLeft}
-use Rattle.rules.proofs.Tests.{and-false-left, and-false-right, or-false-left, or-false-right, or-false-both}
+use Rattle.rules.proofs.Rows.{list-length, list-at}
+use Rattle.rules.proofs.Sets.{bit-set, set-same}
+use Rattle.rules.proofs.Tests.{decided, and-false-left, and-false-right, or-false-left, or-false-right, or-false-both}
+use Rattle.proof_arrays.proofs.Fill.{list-told, list-same, list-set}
+use Rattle.base_reads.proofs.Lowest.{taken, Left, left-all, taken-none, next-within, left-more, next-untaken, next-taken, taken-other}
+use Rattle.base_reads.proofs.Members.{set-told}
 use Rattle.step_walks.specs.declared.Walked.{Walked}
-use Rattle.step_walks.specs.Walked.{walkedBy, NonePast}
+use Rattle.step_walks.specs.Walked.{walkedBy}
 
 -- ── Which movements begin walk ──
 
-module _ (crossings : List ℕ) (starts another : Bool) (now : Position) (buttons : List Bool) (movements : List Movement) (k : ℕ) where
-  abbrev pub Begins : Bool → Type 0
-  Begins t = begins crossings starts another now buttons movements k ≡ t
+module _ (crossings : List ℕ) (starts another : Bool) (now : Position) (movements : List Movement) where
+  -- movement k begins walk where it is demanded
+  abbrev pub may : ℕ → Bool
+  may k =
+      crosses crossings k (now .phase)
+      && (starts || ((isRunning (now .interval) && not another) && isIdle (getD movements k idle .stage)))
 
-  pub asked-begins :
-      {m : Movement} {own rests : Bool} →
-      getD buttons k false ≡ true →
+  pub may-told :
+      {m : Movement} {own rests : Bool} (k : ℕ) →
       m ≡ getD movements k idle →
       own ≡ crosses crossings k (now .phase) →
       rests ≡ isIdle (m .stage) →
-      Begins (own && (starts || ((isRunning (now .interval) && not another) && rests)))
-  unfolding begins
-  asked-begins asked entry of rest = rw (asked, of, rest, entry)
+      may k ≡ (own && (starts || ((isRunning (now .interval) && not another) && rests)))
+  may-told k entry of rest = rw (of, rest, entry)
 
-  pub unasked : getD buttons k false ≡ false → Begins false
-  unfolding begins
-  unasked e = rw e
+  module _ (buttons k : ℕ) where
+    pub asked-begins : (bit k buttons && may k) ≡ begins crossings starts another now buttons movements k
+    unfolding begins
+    asked-begins = sym (and-assoc (bit k buttons) (crosses crossings k (now .phase)) _)
 
-  -- a movement that the site has not is of no phase
-  pub none-past : (count : ℕ) → NonePast count crossings → count ≤ k → Begins false
-  unfolding begins
-  none-past count known h = and-false-left _ (and-false-right (getD buttons k false) (known .past k (now .phase) h))
+    -- no phase starts and walks may not begin
+    pub none-free :
+        (starts || (isRunning (now .interval) && not another)) ≡ false → begins crossings starts another now buttons movements k ≡ false
+    unfolding begins
+    none-free e =
+        let free = isRunning (now .interval) && not another in
+        and-false-right (bit k buttons && crosses crossings k (now .phase))
+        (or-false-both (or-false-left starts free e) (and-false-left (isIdle (getD movements k idle .stage)) (or-false-right starts free e)))
 
-  -- no phase starts and walks may not begin
-  pub none-free : (starts || (isRunning (now .interval) && not another)) ≡ false → Begins false
-  unfolding begins
-  none-free e =
-      let free = isRunning (now .interval) && not another in
-      and-false-right (getD buttons k false && crosses crossings k (now .phase))
-      (or-false-both (or-false-left starts free e) (and-false-left (isIdle (getD movements k idle .stage)) (or-false-right starts free e)))
+-- ── What those that have begun leave ──
 
--- ── What is left ──
+abbrev button : ℕ → (ℕ → Bool) → ℕ → Bool
+button buttons begun k = bit k buttons && not (begun k)
 
-module _ (begun : ℕ → Bool) (buttons : List Bool) (movements : List Movement) where
-  abbrev pub button : ℕ → Bool
-  button k = getD buttons k false && not (begun k)
+abbrev walk : List Movement → (ℕ → Bool) → ℕ → Movement
+walk movements begun k = if begun k then record { stage = Walk; age = 1 } else getD movements k idle
 
-  abbrev pub walk : ℕ → Movement
-  walk k = if begun k then record { stage = Walk; age = 1 } else getD movements k idle
+pub record Leaves (buttons : ℕ) (movements : List Movement) (begun : ℕ → Bool) (left : ℕ) (out : List Movement) : Type 0 where
+  pub demands : left ≡ setOf (button buttons begun)
+  pub walks : out ≡ listOf (walk movements begun) 8
 
-  pub button-cleared : (k : ℕ) → begun k ≡ true → false ≡ button k
-  button-cleared k e = rw e (sym (and-false (getD buttons k false)))
+pub leaves-none :
+    {buttons : ℕ} {movements : List Movement} (begun : ℕ → Bool) →
+    buttons < 256 →
+    length movements ≡ 8 →
+    ((k : ℕ) → begun k ≡ false) →
+    Leaves buttons movements begun buttons movements
+leaves-none {buttons} {movements} begun small len none =
+    record {
+      demands = set-told (button buttons begun) buttons small (λ k l. rw (none k) (sym (and-true (bit k buttons))));
+      walks = list-told (walk movements begun) movements 8 idle len (λ k l. rw (none k));
+    }
 
-  pub walk-begun : (k : ℕ) → begun k ≡ true → record { stage = Walk; age = 1 } ≡ walk k
-  walk-begun k e = rw e
+module _ {buttons left : ℕ} {movements out : List Movement} {f : ℕ → Bool} (known : Leaves buttons movements f left out) where
+  pub leaves-same : (g : ℕ → Bool) → ((k : ℕ) → f k ≡ g k) → Leaves buttons movements g left out
+  leaves-same g same =
+      record {
+        demands = known .demands ∙ set-same (button buttons f) (button buttons g) (λ k l. rw (same k));
+        walks = known .walks ∙ list-same (walk movements f) (walk movements g) 8 (λ k l. rw (same k));
+      }
 
-  pub button-stays : (k : ℕ) → begun k ≡ false → getD buttons k false ≡ button k
-  button-stays k e = rw e (sym (and-true (getD buttons k false)))
+  -- one movement more
+  leaves-one :
+      (g : ℕ → Bool) (k : ℕ) →
+      k < 8 →
+      g k ≡ true →
+      ((i : ℕ) → (i ≡ k → ⊥) → g i ≡ f i) →
+      Leaves buttons movements g (setOf (λ i. bit i left && not (eqb i k))) (set out k (record { stage = Walk; age = 1 }))
+  leaves-one g k l own same =
+      record {
+        demands =
+            set-same (λ i. bit i left && not (eqb i k)) (button buttons g)
+            (λ i m.
+            ⊎-elim
+            (λ (e : eqb i k ≡ true). rw (e, eqb-true i k e, own) (and-false (bit k left) ∙ sym (and-false (bit k buttons))))
+            (λ (e : eqb i k ≡ false).
+            rw (e, same i (eqb-false i k e), known .demands)
+            (and-true (bit i (setOf (button buttons f))) ∙ bit-set (button buttons f) i m))
+            (decided (eqb i k)));
+        walks =
+            list-set (walk movements g) out 8 k (record { stage = Walk; age = 1 }) idle
+            (rw (known .walks) (list-length (walk movements f) 8))
+            l
+            (rw own)
+            (λ i m apart. rw (same i apart, known .walks) (sym (list-at (walk movements f) 8 i idle m)));
+      }
 
-  pub walk-stays : (k : ℕ) → begun k ≡ false → getD movements k idle ≡ walk k
-  walk-stays k e = rw e
+  -- a movement that has not begun
+  entry-kept : (k : ℕ) (d : Movement) → k < 8 → f k ≡ false → getD out k d ≡ getD movements k idle
+  entry-kept k d l none = rw (known .walks) (list-at (walk movements f) 8 k d l ∙ rw none)
 
-  pub walked-told :
-      {left : List Bool} {out : List Movement} →
-      left ≡ listOf button 8 →
-      out ≡ listOf walk 8 →
-      _≡_ {A = Walked} (record { buttons = left; movements = out }) (walkedBy begun buttons movements)
+  pub walked-told : _≡_ {A = Walked} (record { buttons = left; movements = out }) (walkedBy f buttons movements)
   unfolding walkedBy buttonsLeft walksBegun
-  walked-told lefts outs = rw (lefts, outs)
+  walked-told = rw (known .demands, known .walks)
+
+-- ── The pass over the demanded movements ──
+
+abbrev begun : ℕ → (ℕ → Bool) → ℕ → ℕ → Bool
+begun buttons may rest k = taken buttons rest k && may k
+
+pub record Walking (buttons : ℕ) (movements : List Movement) (may : ℕ → Bool) (rest left : ℕ) (out : List Movement) : Type 0 where
+  pub untaken : Left buttons 8 rest
+  pub told : Leaves buttons movements (begun buttons may rest) left out
+
+pub none-walking :
+    (buttons : ℕ) (movements : List Movement) (may : ℕ → Bool) →
+    buttons < 256 →
+    length movements ≡ 8 →
+    Walking buttons movements may buttons buttons movements
+none-walking buttons movements may small len =
+    record {
+      untaken = left-all buttons 8 small;
+      told = leaves-none (begun buttons may buttons) small len (λ k. rw (taken-none buttons k));
+    }
+
+module _
+    {buttons rest left : ℕ} {movements out : List Movement} {may : ℕ → Bool}
+    (known : Walking buttons movements may rest left out) (some : 0 < rest)
+  where
+    abbrev next : ℕ
+    next = trailingZeros 64 rest
+
+    abbrev others : ℕ
+    others = bitAnd rest (rest - 1)
+
+    pub turn-within : next < 8
+    turn-within = next-within (known .untaken) some (omega arith)
+
+    -- the movement of a turn is as it was
+    pub turn-entry : (d : Movement) → getD out next d ≡ getD movements next idle
+    turn-entry d = entry-kept (known .told) next d turn-within (rw (next-untaken (known .untaken) some (omega arith)))
+
+    other-same : (k : ℕ) → (k ≡ next → ⊥) → begun buttons may others k ≡ begun buttons may rest k
+    other-same k apart = rw (taken-other (known .untaken) some (omega arith) k apart)
+
+    pub one-begun :
+        {left′ : ℕ} {out′ : List Movement} →
+        may next ≡ true →
+        left′ ≡ setOf (λ i. bit i left && not (eqb i next)) →
+        out′ ≡ set out next (record { stage = Walk; age = 1 }) →
+        Walking buttons movements may others left′ out′
+    one-begun e lefts outs =
+        rw (lefts, outs)
+        (record {
+          untaken = left-more (known .untaken) some (omega arith);
+          told =
+              leaves-one (known .told) (begun buttons may others) next turn-within
+              (rw (next-taken (known .untaken) some (omega arith), e))
+              other-same;
+        })
+
+    pub one-kept : may next ≡ false → Walking buttons movements may others left out
+    one-kept e =
+        record {
+          untaken = left-more (known .untaken) some (omega arith);
+          told =
+              leaves-same (known .told) (begun buttons may others)
+              (λ k.
+              ⊎-elim
+              (λ (t : eqb k next ≡ true).
+              rw (eqb-true k next t, e) (and-false (taken buttons rest next) ∙ sym (and-false (taken buttons others next))))
+              (λ (t : eqb k next ≡ false). sym (other-same k (eqb-false k next t)))
+              (decided (eqb k next)));
+        }

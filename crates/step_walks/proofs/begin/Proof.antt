@@ -1,69 +1,62 @@
--- `step_walks::begin` meets its contract. The loop's invariant: the movements passed have begun walk where they may, with their demands
--- cleared, and the others are as they were. Those past the count, and all where walks may not begin, do not begin walk.
+-- `step_walks::begin` meets its contract. The loop's invariant: the demanded movements that are taken and may begin walk have begun it, with
+-- their demands cleared, and the others are as they were. The measure is the rest, which loses a bit a turn.
 use borrow.Author.Needs.{needs}
-use borrow.Author.Tests.{eqb-true, not-true}
+use borrow.Author.Tests.{not-true}
 use native.Mathlib.Omega.{arith}
-use Prim.Native.Nat.{ℕ, _-_, _≤_, _<_}
-use mathlib.Core.Bool.{true, false, not, _||_, _&&_}
+use Prim.Native.Nat.{_<_}
+use mathlib.Core.Bool.{not, _||_, _&&_}
 use mathlib.Core.Logic.{⊎-elim}
-use mathlib.Core.Path.{_≡_, sym, _∙_}
-use lib.Dec.{eqb}
-use lib.ListN.{length}
-use Rattle.rules.specs.declared.state.Movement.{Movement}
+use mathlib.Core.Path.{_∙_}
+use lib.Count.{trailingZeros}
 use Rattle.rules.specs.declared.state.Stage.the-variants.{Idle}
 use Rattle.rules.specs.Site.{crosses}
-use Rattle.rules.specs.State.{idle}
 use Rattle.rules.specs.Walks.{begins}
-use Rattle.rules.proofs.Tests.{or-cases}
-use Rattle.proof_arrays.proofs.Fill.{Filled, fill-none, fill-seam, fill-set, fill-skip, fill-kept, entry-same, list-told}
-use Rattle.step_walks.proofs.Walking.{asked-begins, unasked, none-past, none-free, button, walk, button-cleared, walk-begun, button-stays, walk-stays, walked-told}
+use Rattle.base_reads.proofs.Lowest.{left-less, taken-all}
+use Rattle.step_walks.proofs.Walking.{Walking, may, may-told, asked-begins, none-free, leaves-none, leaves-same, walked-told, none-walking, turn-within, turn-entry, one-begun, one-kept}
 use Rattle.step_walks.proofs.begin.Statement.{statement}
 use Rattle.step_walks.proofs.begin.Tie as tie
 
 abbrev Inv-loop : tie.InvT-loop
-Inv-loop count starts another now crossings free n left₀ out₀ k₀ left out k = (k ≤ n)
-    × Filled (button (begins crossings starts another now left₀ out₀) left₀ out₀) left₀ left k
-    × Filled (walk (begins crossings starts another now left₀ out₀) left₀ out₀) out₀ out k
+Inv-loop starts another now buttons crossings free left₀ out₀ rest₀ left out rest =
+    Walking left₀ out₀ (may crossings starts another now out₀) rest left out
 
 abbrev μ-loop : tie.MeasureT-loop
-μ-loop count starts another now crossings free n left₀ out₀ k₀ left out k = n - k
+μ-loop starts another now buttons crossings free left₀ out₀ rest₀ left out rest = rest
 
 running-requires : tie.Need-running-requires Inv-loop μ-loop
 running-requires c κs = search needs
 
 returns : tie.Need-returns Inv-loop μ-loop
 returns c =
-    let start = c .before .before in
-    let a = start .args in
-    let begun = begins (a .t1) (a .starts) (a .another) (a .now) (a .buttons) (a .movements) in
-    let stays : (k : ℕ) → begun k ≡ false = λ k.
-    ⊎-elim
-    (λ (e : eqb (a .count) 0 ≡ true).
-    none-past (a .t1) (a .starts) (a .another) (a .now) (a .buttons) (a .movements) k (a .count) (start .pre) (omega (arith, eqb-true (a .count) 0 e)))
-    (λ (e : not (a .starts || (c .before .running .result && not (a .another))) ≡ true).
-    none-free (a .t1) (a .starts) (a .another) (a .now) (a .buttons) (a .movements) k
-    (rw (← c .before .running .ensures) (not-true (a .starts || (c .before .running .result && not (a .another))) e)))
-    (or-cases (eqb (a .count) 0) (not (a .starts || (c .before .running .result && not (a .another)))) (c .if1 .taken)) in
-    walked-told begun (a .buttons) (a .movements)
-    (list-told (button begun (a .buttons) (a .movements)) (a .buttons) 8 false (start .good .1 .1 .1 .1 .1 .0 .1 .0 .1)
-    (λ k l. button-stays begun (a .buttons) (a .movements) k (stays k)))
-    (list-told (walk begun (a .buttons) (a .movements)) (a .movements) 8 idle (start .good .1 .1 .1 .1 .1 .1 .0 .1 .0 .1)
-    (λ k l. walk-stays begun (a .buttons) (a .movements) k (stays k)))
+    let a = c .before .before .args in
+    let runs = c .before .running in
+    walked-told
+    (leaves-none (begins (a .t1) (a .starts) (a .another) (a .now) (a .buttons) (a .movements)) (search needs) (search needs)
+    (λ k.
+    none-free (a .t1) (a .starts) (a .another) (a .now) (a .movements) (a .buttons) k
+    (rw (← runs .ensures) (not-true (a .starts || (runs .result && not (a .another))) (c .if1 .taken)))))
 
 loop-holds : tie.Need-loop-holds Inv-loop μ-loop
-loop-holds c = (search needs, fill-none _ _, fill-none _ _)
+loop-holds c = none-walking _ _ _ (search needs) (search needs)
 
-array-read-if2 : tie.Need-array-read-if2 Inv-loop μ-loop
-array-read-if2 c = search needs
+-- the movement of a turn is one of the eight
+own-within : (c : tie.In-loop Inv-loop μ-loop) → trailingZeros 64 (c .before .loop .rest) < 8
+own-within c = turn-within (c .before .loop .inv) (omega (arith, c .loop-test .taken))
+
+cast-k : tie.Need-cast-k Inv-loop μ-loop
+cast-k c = omega (arith, own-within c)
+
+cast-i : tie.Need-cast-i Inv-loop μ-loop
+cast-i c = omega (arith, own-within c)
 
 mul-movement : tie.Need-mul-movement Inv-loop μ-loop
-mul-movement c = search needs
+mul-movement c = omega (arith, own-within c)
 
 array-copy-out-movement : tie.Need-array-copy-out-movement Inv-loop μ-loop
-array-copy-out-movement c = search needs
+array-copy-out-movement c = own-within c
 
 array-read-bit8 : tie.Need-array-read-bit8 Inv-loop μ-loop
-array-read-bit8 c = search needs
+array-read-bit8 c = own-within (c .before)
 
 bit8-requires : tie.Need-bit8-requires Inv-loop μ-loop
 bit8-requires c κs = search needs
@@ -71,76 +64,47 @@ bit8-requires c κs = search needs
 idle-requires : tie.Need-idle-requires Inv-loop μ-loop
 idle-requires c κs = search needs
 
-array-write-left : tie.Need-array-write-left Inv-loop μ-loop
-array-write-left c = search needs
+without-requires : tie.Need-without-requires Inv-loop μ-loop
+without-requires c κs = own-within (c .before .before .before .before)
 
 mul-out : tie.Need-mul-out Inv-loop μ-loop
-mul-out c = search needs
+mul-out c = omega (arith, own-within (c .before .before .before .before .before))
 
 array-set-from-out : tie.Need-array-set-from-out Inv-loop μ-loop
-array-set-from-out c = search needs
+array-set-from-out c = own-within (c .before .before .before .before .before)
 
-add-k : tie.Need-add-k Inv-loop μ-loop
-add-k c = search needs
+sub-rest : tie.Need-sub-rest Inv-loop μ-loop
+sub-rest c = search needs
 
 loop-less : tie.Need-loop-less Inv-loop μ-loop
-loop-less c = search needs
+loop-less c =
+    let turn = c .before .before .before .before in
+    left-less (turn .before .loop .inv .untaken) (omega (arith, turn .loop-test .taken)) (omega arith)
 
 loop-again : tie.Need-loop-again Inv-loop μ-loop
 unfolding crosses
 loop-again c =
-    let at = c .before .before in
-    let tested = at .before .before in
-    let start = tested .before in
-    let a = start .args in
-    let begun = begins (a .t1) (a .starts) (a .another) (a .now) (a .buttons) (a .movements) in
-    let k = at .loop .k in
-    let lefts = at .loop .inv .1 in
-    let outs = at .loop .inv .2 in
-    let within : k < length (a .buttons) = omega (arith, start .pre .room, start .good .1 .1 .1 .1 .1 .0 .1 .0 .1) in
-    let inside : k < length (a .movements) = omega (arith, start .pre .room, start .good .1 .1 .1 .1 .1 .1 .0 .1 .0 .1) in
-    let blank : Movement = record { stage = Idle; age = 0 } in
-    let seam = sym (fill-seam false k lefts within) in
-    let entry = fill-seam blank k outs inside ∙ entry-same (a .movements) k blank idle inside in
-    let runs = tested .running .ensures in
+    let idled = c .before in
+    let owned = idled .before in
+    let turn = owned .before .before in
+    let tested = turn .before .before .before in
+    let at = turn .before .loop in
+    let a = tested .before .args in
+    let some : 0 < at .rest = omega (arith, turn .loop-test .taken) in
+    let may-now =
+    may-told (a .t1) (a .starts) (a .another) (a .now) (a .movements) (trailingZeros 64 (at .rest))
+    (turn-entry (at .inv) some (record { stage = Idle; age = 0 })) (owned .bit8 .ensures) (idled .idle .ensures) in
     ⊎-elim
-    (λ w.
-    let begins-now = asked-begins (a .t1) (a .starts) (a .another) (a .now) (a .buttons) (a .movements) k (seam ∙ w .0 .taken) entry (w .2 .ensures) (w .3 .ensures) in
-    let yes = begins-now ∙ rw (← runs) (w .4 .taken) in (
-      search needs,
-      fill-set (w .5) lefts within (button-cleared begun (a .buttons) (a .movements) k yes),
-      fill-set (w .6) outs inside (walk-begun begun (a .buttons) (a .movements) k yes),
-    ))
-    (⊎-elim
-    (λ w.
-    let begins-now = asked-begins (a .t1) (a .starts) (a .another) (a .now) (a .buttons) (a .movements) k (seam ∙ w .0 .taken) entry (w .2 .ensures) (w .3 .ensures) in
-    let stays = begins-now ∙ rw (← runs) (w .4 .left) in (
-      search needs,
-      fill-skip false (w .5) lefts within (button-stays begun (a .buttons) (a .movements) k stays),
-      fill-skip idle (w .6) outs inside (walk-stays begun (a .buttons) (a .movements) k stays),
-    ))
-    (λ w.
-    let stays = unasked (a .t1) (a .starts) (a .another) (a .now) (a .buttons) (a .movements) k (seam ∙ w .0 .left) in (
-      search needs,
-      fill-skip false (w .1) lefts within (button-stays begun (a .buttons) (a .movements) k stays),
-      fill-skip idle (w .2) outs inside (walk-stays begun (a .buttons) (a .movements) k stays),
-    )))
+    (λ w. one-begun (at .inv) some (may-now ∙ rw (← tested .running .ensures) (w .0 .taken)) (w .2 ∙ w .1 .ensures) (w .3))
+    (λ w. rw (w .1, w .2) (one-kept (at .inv) some (may-now ∙ rw (← tested .running .ensures) (w .0 .left))))
     (c .if2 .came)
 
 returns-2 : tie.Need-returns-2 Inv-loop μ-loop
 returns-2 c =
-    let at = c .before in
-    let start = at .before .before .before in
-    let a = start .args in
-    let begun = begins (a .t1) (a .starts) (a .another) (a .now) (a .buttons) (a .movements) in
-    let within : at .loop .k ≤ 8 = omega (arith, at .loop .inv .0, start .pre .room) in
-    let stays : (k : ℕ) → at .loop .k ≤ k → begun k ≡ false = λ k h.
-    none-past (a .t1) (a .starts) (a .another) (a .now) (a .buttons) (a .movements) k (a .count) (start .pre) (omega (arith, c .loop-test .left)) in
-    walked-told begun (a .buttons) (a .movements)
-    (fill-kept false (at .loop .k) 8 (at .loop .inv .1) (start .good .1 .1 .1 .1 .1 .0 .1 .0 .1) within
-    (λ k h l. button-stays begun (a .buttons) (a .movements) k (stays k h)))
-    (fill-kept idle (at .loop .k) 8 (at .loop .inv .2) (start .good .1 .1 .1 .1 .1 .1 .0 .1 .0 .1) within
-    (λ k h l. walk-stays begun (a .buttons) (a .movements) k (stays k h)))
+    let a = c .before .before .before .before .args in
+    walked-told
+    (leaves-same (c .before .loop .inv .told) (begins (a .t1) (a .starts) (a .another) (a .now) (a .buttons) (a .movements))
+    (λ k. rw (taken-all (a .buttons) k (c .loop-test .left)) (asked-begins (a .t1) (a .starts) (a .another) (a .now) (a .movements) (a .buttons) k)))
 
 pub begin-spec : {M : Type 1} → statement M
 begin-spec =
@@ -151,16 +115,17 @@ begin-spec =
     running-requires
     returns
     loop-holds
-    array-read-if2
+    cast-k
+    cast-i
     mul-movement
     array-copy-out-movement
     array-read-bit8
     bit8-requires
     idle-requires
-    array-write-left
+    without-requires
     mul-out
     array-set-from-out
-    add-k
+    sub-rest
     loop-less
     loop-again
     returns-2)
