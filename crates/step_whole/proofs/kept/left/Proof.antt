@@ -6,6 +6,8 @@ use Prim.Native.Nat.{ℕ}
 use mathlib.Core.Bool.{Bool, true, not, _||_, _&&_}
 use mathlib.Core.Path.{_≡_, sym, ap, _∙_}
 use Rattle.rules.specs.Bytes.{bit}
+use lib.Dec.{eqb}
+use Rattle.rules.specs.Rows.{setOf}
 use Rattle.rules.specs.Demands.{movementDemands}
 use Rattle.rules.proofs.Sets.{bit-set, set-same}
 use Rattle.rules.proofs.Tests.{or-left, or-right, or-false-right, or-false-both}
@@ -25,3 +27,77 @@ crossing start = movementDemands (start .args .crossings) (start .args .count) (
 abbrev held : tie.Start → ℕ → Bool
 held start p = bit p (start .args .demands .locks) || crossing start p
 
+bit8-requires : tie.Need-bit8-requires
+bit8-requires c κs = search needs
+
+bit8-requires-2 : tie.Need-bit8-requires-2
+bit8-requires-2 c κs = search needs
+
+-- a phase that has a demand left stays, and the set is as it was
+stays :
+    (start : tie.Start) →
+    (kept start (start .args .phase) ≡ true → held start (start .args .phase) ≡ true) →
+    start .args .set ≡ setOf (onlyOf (kept start) (held start) (start .args .phase))
+stays start own =
+    set-told (onlyOf (kept start) (held start) (start .args .phase)) (start .args .set) (omega (arith, start .fits .set))
+    (λ p l. mark-stays (kept start) (held start) (start .args .phase) own p)
+
+returns : tie.Need-returns
+returns c =
+    let locked = c .before in
+    let read = locked .before in
+    let start = read .before in
+    stays start
+    (λ was.
+    or-left _
+    (sym (locked .bit82 .ensures) ∙ implied (read .bit8 .result) (locked .bit82 .result) (c .if1 .taken) (read .bit8 .ensures ∙ was)))
+
+crossed-requires : tie.Need-crossed-requires
+crossed-requires c κs = search needs
+
+bit8-requires-3 : tie.Need-bit8-requires-3
+bit8-requires-3 c κs = search needs
+
+-- whether a movement of the phase is demanded
+crossed-told : (c : tie.After-bit83) → let start = c .before .before .before .before .before in c .bit83 .result ≡ crossing start (start .args .phase)
+crossed-told c =
+    let crossed = c .before in
+    let start = crossed .before .before .before .before in
+    c .bit83 .ensures ∙ ap (bit (start .args .phase)) (crossed .crossed .ensures) ∙ bit-set (crossing start) (start .args .phase) (start .pre .0)
+
+returns-2 : tie.Need-returns-2
+returns-2 c =
+    let start = c .before .before .before .before .before .before in
+    stays start (λ was. or-right (bit (start .args .phase) (start .args .demands .locks)) (sym (crossed-told (c .before)) ∙ c .if2 .taken))
+
+without-requires : tie.Need-without-requires
+without-requires c κs = search needs
+
+returns-3 : tie.Need-returns-3
+returns-3 c =
+    let tested = c .before in
+    let crossed = tested .before .before in
+    let locked = crossed .before .before in
+    let read = locked .before in
+    let start = read .before in
+    let phase = start .args .phase in
+    let unlocked = or-false-right (not (read .bit8 .result)) (locked .bit82 .result) (crossed .before .if1 .left) in
+    c .without .ensures
+    ∙ set-same (λ p. kept start p && not (eqb p phase)) (onlyOf (kept start) (held start) phase)
+    (λ p l.
+    mark-gone (kept start) (held start) phase
+    (or-false-both (sym (locked .bit82 .ensures) ∙ unlocked) (sym (crossed-told (tested .before)) ∙ tested .if2 .left))
+    p)
+
+pub left-spec : {M : Type 1} → statement M
+left-spec =
+    tie.close
+    (tie.spec
+    bit8-requires
+    bit8-requires-2
+    returns
+    crossed-requires
+    bit8-requires-3
+    returns-2
+    without-requires
+    returns-3)
