@@ -8,12 +8,11 @@ root=$(dirname "$here")
 # The text of a line `KEY: TEXT` of an edit.
 value_of() { sed -n "s/^$1: //p" "$2"; }
 
-# A copy of the crates without the worked cases, and without what cites them.
+# A copy of the crates in which the worked cases of the rules are not proved. Nothing cites that proof.
 copy_without_cases() { # ROOM
     cp -R "$root/crates" "$root/crates.txt" "$1/"
-    rm -f "$1"/crates/rules/proofs/Cases.antt "$1"/crates/proof_guarantees/proofs/Junction.antt
+    rm -f "$1/crates/rules/proofs/Cases.antt"
     sed -i '/^pub mod Cases$/d' "$1/crates/rules/proofs/Lib.antt"
-    sed -i '/^pub mod Junction$/d' "$1/crates/proof_guarantees/proofs/Lib.antt"
 }
 
 # Puts the new text in the place of the old, which must stand in the file once.

@@ -1,5 +1,5 @@
--- Demand 3 applied to the junction of two phases. That the rules accept it, with a wait bound of 270, are two of the worked cases;
--- that its two groups conflict is computed.
+-- Demand 3 applied to the junction of two phases. That the rules accept it, with a wait bound of 270, and that its two groups conflict is
+-- computed.
 use Prim.Native.Nat.{ℕ, zero, suc, _≤_, _<_}
 use mathlib.Core.Bool.{true, false}
 use mathlib.Core.Path.{_≡_, refl, sym, ap, subst, _∙_}
@@ -16,19 +16,17 @@ use Rattle.rules.specs.WaitBound.{waitBound}
 use Rattle.rules.specs.Call.{strayInput, boundFor}
 use Rattle.rules.specs.Runs.{ruled, NoConflictingGreens, DemandsMet, NoDeadEnd, DemandThreeOf, DemandThree, comesWithin, minimumGreenBegins}
 use Rattle.rules.specs.Junctions.{junction}
-use Rattle.rules.specs.Cases.{CasesHold, cases, starred}
-use Rattle.rules.proofs.Cases.{cases-hold}
 use Rattle.rules.proofs.Opened.{opened}
 use Rattle.proof_guarantees.specs.Junction.{NeverTogether, MetIn270, AlwaysAnswered}
 use Rattle.proof_guarantees.proofs.DemandThree.{demand-three}
 
 junction-accepted : verdictOf junction ≡ Accepted
-unfolding CasesHold cases starred
-junction-accepted = cases-hold .1 .1 .1 .0
+unfolding opened
+junction-accepted = refl
 
 junction-bound : waitBound (siteOf junction) ≡ 270
-unfolding CasesHold cases starred
-junction-bound = cases-hold .0
+unfolding opened
+junction-bound = refl
 
 groups-conflict : conflict (siteOf junction) 0 1 ≡ true
 unfolding opened

@@ -1,396 +1,157 @@
--- The worked cases: document 01's starred ones, and our own below them, in a single list with
--- one statement: each of them holds.
-use Prim.Native.Nat.{ℕ, _+_, _^_}
-use mathlib.Core.Bool.{Bool, true, false, _&&_, _||_}
+-- Worked cases of one call each, in a list with one statement: each of them holds. Each can be checked by hand beside the papers; all of them
+-- compute in less than a second, and each must-fail edit of the rules makes one of them fail. All other worked cases, document 01's starred
+-- ones among them, are in the crate proof_cases; two of the starred ones stand here too, since an edit needs them.
+use Prim.Native.Nat.{ℕ, _^_}
 use mathlib.Core.Path.{_≡_}
 use mathlib.Core.List.{List, [], _∷_, _++_}
-use lib.Dec.{leb, eqb}
-use lib.ListN.{set}
+use lib.ListN.{set, replicate}
 use Rattle.rules.specs.declared.answer.Answer.{Answer}
 use Rattle.rules.specs.declared.answer.Outcome.the-variants.{Stepped, Declined}
 use Rattle.rules.specs.declared.answer.Verdict.{Verdict}
 use Rattle.rules.specs.declared.answer.Verdict.the-variants.{Accepted, Refused}
+use Rattle.rules.specs.declared.state.Counts.{Counts}
+use Rattle.rules.specs.declared.state.Demands.{Demands}
+use Rattle.rules.specs.declared.state.Held.{Held}
 use Rattle.rules.specs.declared.state.Held.the-variants.{Nothing, Phase}
 use Rattle.rules.specs.declared.state.Interval.{Interval}
-use Rattle.rules.specs.declared.state.Interval.the-variants.{StartRed, LateStart, MinimumGreen, Running, EarlyCutOff, Yellow, AllRed}
+use Rattle.rules.specs.declared.state.Interval.the-variants.{Running, EarlyCutOff, Yellow, AllRed}
 use Rattle.rules.specs.declared.state.KeptState.{KeptState}
-use Rattle.rules.specs.Rows.{if_then_else_}
+use Rattle.rules.specs.declared.state.Movement.{Movement}
+use Rattle.rules.specs.declared.state.Position.{Position}
+use Rattle.rules.specs.declared.state.Stage.{Stage}
+use Rattle.rules.specs.declared.state.Stage.the-variants.{Walk, ClearanceOne, ClearanceTwo}
 use Rattle.rules.specs.Personality.{groupCount, verdictOf}
 use Rattle.rules.specs.Site.{siteOf}
-use Rattle.rules.specs.State.{fresh}
-use Rattle.rules.specs.Kept.{freshKept}
-use Rattle.rules.specs.Colours.{red, yellow, green, flashing}
+use Rattle.rules.specs.State.{idle}
+use Rattle.rules.specs.Colours.{red, yellow, green, coloursOf}
 use Rattle.rules.specs.WaitBound.{waitBound}
 use Rattle.rules.specs.Call.{answerOf}
-use Rattle.rules.specs.Traces.{Line, line, changes}
 use Rattle.rules.specs.Junctions.{junction, putTwo, crossing, threePhases, callingB, overlap, cutOffs, turning, turningBoth, ordered}
 
--- What a case says of a personality: its verdict, its wait bound, the changes of n calls whose input bits are given by step, or the
--- answer to one call from a state, with room for every group.
-pub data Case : Type 0 where
-  reading : List ℕ → Verdict → Case
-  waiting : List ℕ → ℕ → Case
-  running : List ℕ → (ℕ → ℕ) → ℕ → List Line → Case
-  answering : List ℕ → KeptState → ℕ → Answer → Case
+-- What a case says of a personality: its verdict, its wait bound, the answer to a step call from a state, with room for every group, or the
+-- colours in a state.
+pub data CallCase : Type 0 where
+  reading : List ℕ → Verdict → CallCase
+  waiting : List ℕ → ℕ → CallCase
+  answering : List ℕ → KeptState → ℕ → Answer → CallCase
+  showing : List ℕ → KeptState → List ℕ → CallCase
 
-abbrev pub Holds : Case → Type 0
-Holds (reading b verdict) = verdictOf b ≡ verdict
-Holds (waiting b wait) = waitBound (siteOf b) ≡ wait
-Holds (running b inputs n lines) = changes b inputs n ≡ lines
-Holds (answering b s inputs answer) = answerOf b s inputs (groupCount b) ≡ answer
+abbrev pub CallHolds : CallCase → Type 0
+CallHolds (reading b verdict) = verdictOf b ≡ verdict
+CallHolds (waiting b wait) = waitBound (siteOf b) ≡ wait
+CallHolds (answering b s inputs answer) = answerOf b s inputs (groupCount b) ≡ answer
+CallHolds (showing b s colours) = coloursOf (siteOf b) (s .rest) ≡ colours
 
--- ── Document 01, the junction of two phases ──
+abbrev pub AllHold : {A : Type 0} → (A → Type 0) → List A → Type 0
+AllHold Holds [] = Unit {0}
+AllHold Holds (c ∷ cases) = Holds c × AllHold Holds cases
 
--- detector 1 in step 12 only
-unfoldable pub onceB : ℕ → ℕ
-onceB step = if eqb step 12 then 2 else 0
+-- ── Writing a state; as a set, 1 is A or the first movement, 2 is B, and 6 is B and C ──
 
--- the same with detector 0 always occupied
-unfoldable pub onceBAlwaysA : ℕ → ℕ
-onceBAlwaysA step = onceB step + 1
+-- a phase, its interval, the interval's age and the target; came-from is none
+abbrev pub at : ℕ → Interval → ℕ → Held → Position
+at phase interval age target = record { phase = phase; interval = interval; age = age; came = Nothing; target = target }
 
-unfoldable pub starred : List Case
-starred =
-    waiting junction 270
-    ∷ running junction onceB 72
-    (line 1 0 StartRed (red ∷ red ∷ [])
-    ∷ line 10 0 MinimumGreen (green ∷ red ∷ [])
-    ∷ line 30 0 Running (green ∷ red ∷ [])
-    ∷ line 31 0 Yellow (yellow ∷ red ∷ [])
-    ∷ line 61 0 AllRed (red ∷ red ∷ [])
-    ∷ line 71 1 MinimumGreen (red ∷ green ∷ [])
-    ∷ [])
-    ∷ running junction onceBAlwaysA 101
-    (line 1 0 StartRed (red ∷ red ∷ [])
-    ∷ line 10 0 MinimumGreen (green ∷ red ∷ [])
-    ∷ line 30 0 Running (green ∷ red ∷ [])
-    ∷ line 60 0 Yellow (yellow ∷ red ∷ [])
-    ∷ line 90 0 AllRed (red ∷ red ∷ [])
-    ∷ line 100 1 MinimumGreen (red ∷ green ∷ [])
-    ∷ [])
-    ∷ reading junction Accepted
-    ∷ reading [] (Refused 1 0)
-    ∷ reading (junction ++ (0 ∷ [])) (Refused 12 68)
-    ∷ reading (putTwo junction 20 29) (Refused 5 20)
-    ∷ reading (putTwo junction 20 30) Accepted
-    ∷ reading (putTwo junction 16 1501) (Refused 5 16)
-    ∷ reading (putTwo junction 16 1500) Accepted
-    ∷ reading (set junction 42 3) (Refused 10 48)
-    ∷ reading (set junction 42 1) (Refused 8 36)
-    ∷ reading (set junction 52 0) (Refused 9 48)
-    ∷ reading (set junction 60 2) (Refused 11 60)
-    ∷ []
+infix 6 gap_max_
+abbrev pub gap_max_ : ℕ → ℕ → Counts
+gap n max m = record { gap = n; maximum = m }
 
--- ── Our own ──
+infix 6 locks_buttons_
+abbrev pub locks_buttons_ : ℕ → ℕ → Demands
+locks ps buttons ks = record { locks = ps; buttons = ks }
 
--- the button of the crossing in step 12 and, in its first clearance, in step 45; detector 1 in step 31
-unfoldable pub walkTwice : ℕ → ℕ
-walkTwice step = if eqb step 12 || eqb step 45 then 2 ^ 48 else if eqb step 31 then 2 else 0
+abbrev pub moving : Stage → ℕ → Movement
+moving stage age = record { stage = stage; age = age }
 
--- detector 2 in step 12, and detector 1 in step 40, when A is in yellow for C
-unfoldable pub laterB : ℕ → ℕ
-laterB step = if eqb step 12 then 4 else if eqb step 40 then 2 else 0
-
--- detector 0 always; detector 1 in steps 31 to 35 and from 62 on
-unfoldable pub pausing : ℕ → ℕ
-pausing step = if (leb 31 step && leb step 35) || leb 62 step then 3 else 1
-
-unfoldable pub ours : List Case
-ours =
-    -- the second clearance holds all-red past R, and the press in the first clearance brings A back with a walk
-    running crossing walkTwice 162
-    (line 1 0 StartRed (red ∷ red ∷ red ∷ [])
-    ∷ line 10 0 MinimumGreen (green ∷ red ∷ red ∷ [])
-    ∷ line 30 0 Running (green ∷ red ∷ green ∷ [])
-    ∷ line 40 0 Running (green ∷ red ∷ flashing ∷ [])
-    ∷ line 50 0 Yellow (yellow ∷ red ∷ flashing ∷ [])
-    ∷ line 80 0 AllRed (red ∷ red ∷ flashing ∷ [])
-    ∷ line 100 1 MinimumGreen (red ∷ green ∷ red ∷ [])
-    ∷ line 120 1 Running (red ∷ green ∷ red ∷ [])
-    ∷ line 121 1 Yellow (red ∷ yellow ∷ red ∷ [])
-    ∷ line 151 1 AllRed (red ∷ red ∷ red ∷ [])
-    ∷ line 161 0 MinimumGreen (green ∷ red ∷ green ∷ [])
-    ∷ [])
-    -- the target stays the one chosen when running ended
-    ∷ running threePhases laterB 72
-    (line 1 0 StartRed (red ∷ red ∷ red ∷ [])
-    ∷ line 10 0 MinimumGreen (green ∷ red ∷ red ∷ [])
-    ∷ line 30 0 Running (green ∷ red ∷ red ∷ [])
-    ∷ line 31 0 Yellow (yellow ∷ red ∷ red ∷ [])
-    ∷ line 61 0 AllRed (red ∷ red ∷ red ∷ [])
-    ∷ line 71 2 MinimumGreen (red ∷ red ∷ green ∷ [])
-    ∷ [])
-    -- the maximum count goes on rising while the non-locking call is away
-    ∷ running callingB pausing 63
-    (line 1 0 StartRed (red ∷ red ∷ [])
-    ∷ line 10 0 MinimumGreen (green ∷ red ∷ [])
-    ∷ line 30 0 Running (green ∷ red ∷ [])
-    ∷ line 62 0 Yellow (yellow ∷ red ∷ [])
-    ∷ [])
-    -- a group of both phases stays green from A to B; one with late start waits where it was not green in A
-    ∷ running overlap onceB 92
-    (line 1 0 StartRed (red ∷ red ∷ red ∷ red ∷ [])
-    ∷ line 10 0 MinimumGreen (green ∷ red ∷ green ∷ red ∷ [])
-    ∷ line 30 0 Running (green ∷ red ∷ green ∷ red ∷ [])
-    ∷ line 31 0 Yellow (yellow ∷ red ∷ green ∷ red ∷ [])
-    ∷ line 61 0 AllRed (red ∷ red ∷ green ∷ red ∷ [])
-    ∷ line 71 1 LateStart (red ∷ green ∷ green ∷ red ∷ [])
-    ∷ line 91 1 MinimumGreen (red ∷ green ∷ green ∷ green ∷ [])
-    ∷ [])
-    -- all of number 9 is checked before any of number 10
-    ∷ reading (set (set junction 42 3) 52 0) (Refused 9 48)
-    -- a movement's walk and clearances count twice in its phase's share: 10 + 2 × 50 + 2 × 2 × 40 + 2 × (20 + 50)
-    ∷ waiting crossing 410
-    ∷ []
-
--- ── Request one: early cut-off green ──
-
--- detector 1 in step 12, and detector 0 in step 40, when A is in early cut-off green
-unfoldable pub lockA : ℕ → ℕ
-lockA step = onceB step + (if eqb step 40 then 1 else 0)
-
--- the fresh state's phase at an interval's age, with B as the target
-unfoldable pub leavingA : Interval → ℕ → KeptState
-leavingA interval age =
+-- the first movement is given, the others are idle; the kept set comes last
+abbrev pub state : Position → Counts → Demands → Movement → ℕ → KeptState
+state position counts demands first kept =
     record {
-      rest = record {
-        position = record { phase = 0; interval = interval; age = age; came = Nothing; target = Phase 1 };
-        counts = fresh .counts;
-        demands = fresh .demands;
-        movements = fresh .movements;
-      };
-      kept = freshKept .kept;
-    }
-
-unfoldable pub early : List Case
-early =
-    -- the arrow closes for Y steps from the start of early cut-off green, over the change to yellow
-    waiting (turning ++ cutOffs (20 ∷ 0 ∷ [])) 310
-    ∷ running (turning ++ cutOffs (20 ∷ 0 ∷ [])) onceB 92
-    (line 1 0 StartRed (red ∷ red ∷ red ∷ [])
-    ∷ line 10 0 MinimumGreen (green ∷ green ∷ red ∷ [])
-    ∷ line 30 0 Running (green ∷ green ∷ red ∷ [])
-    ∷ line 31 0 EarlyCutOff (green ∷ yellow ∷ red ∷ [])
-    ∷ line 51 0 Yellow (yellow ∷ yellow ∷ red ∷ [])
-    ∷ line 61 0 Yellow (yellow ∷ red ∷ red ∷ [])
-    ∷ line 81 0 AllRed (red ∷ red ∷ red ∷ [])
-    ∷ line 91 1 MinimumGreen (red ∷ red ∷ green ∷ [])
-    ∷ [])
-    -- a time longer than Y: the arrow is red from then on
-    ∷ running (turning ++ cutOffs (50 ∷ 0 ∷ [])) onceB 122
-    (line 1 0 StartRed (red ∷ red ∷ red ∷ [])
-    ∷ line 10 0 MinimumGreen (green ∷ green ∷ red ∷ [])
-    ∷ line 30 0 Running (green ∷ green ∷ red ∷ [])
-    ∷ line 31 0 EarlyCutOff (green ∷ yellow ∷ red ∷ [])
-    ∷ line 61 0 EarlyCutOff (green ∷ red ∷ red ∷ [])
-    ∷ line 81 0 Yellow (yellow ∷ red ∷ red ∷ [])
-    ∷ line 111 0 AllRed (red ∷ red ∷ red ∷ [])
-    ∷ line 121 1 MinimumGreen (red ∷ red ∷ green ∷ [])
-    ∷ [])
-    -- a time of 0 skips it, and the arrow closes with the rest
-    ∷ running (turning ++ cutOffs (0 ∷ 0 ∷ [])) onceB 72
-    (line 1 0 StartRed (red ∷ red ∷ red ∷ [])
-    ∷ line 10 0 MinimumGreen (green ∷ green ∷ red ∷ [])
-    ∷ line 30 0 Running (green ∷ green ∷ red ∷ [])
-    ∷ line 31 0 Yellow (yellow ∷ yellow ∷ red ∷ [])
-    ∷ line 61 0 AllRed (red ∷ red ∷ red ∷ [])
-    ∷ line 71 1 MinimumGreen (red ∷ red ∷ green ∷ [])
-    ∷ [])
-    -- an arrow that has the target in its set stays green
-    ∷ running (turningBoth ++ cutOffs (20 ∷ 0 ∷ [])) onceB 92
-    (line 1 0 StartRed (red ∷ red ∷ red ∷ [])
-    ∷ line 10 0 MinimumGreen (green ∷ green ∷ red ∷ [])
-    ∷ line 30 0 Running (green ∷ green ∷ red ∷ [])
-    ∷ line 31 0 EarlyCutOff (green ∷ green ∷ red ∷ [])
-    ∷ line 51 0 Yellow (yellow ∷ green ∷ red ∷ [])
-    ∷ line 81 0 AllRed (red ∷ green ∷ red ∷ [])
-    ∷ line 91 1 MinimumGreen (red ∷ green ∷ green ∷ [])
-    ∷ [])
-    -- the target is the one read at its start
-    ∷ running (threePhases ++ cutOffs (20 ∷ 0 ∷ 0 ∷ [])) laterB 92
-    (line 1 0 StartRed (red ∷ red ∷ red ∷ [])
-    ∷ line 10 0 MinimumGreen (green ∷ red ∷ red ∷ [])
-    ∷ line 30 0 Running (green ∷ red ∷ red ∷ [])
-    ∷ line 31 0 EarlyCutOff (green ∷ red ∷ red ∷ [])
-    ∷ line 51 0 Yellow (yellow ∷ red ∷ red ∷ [])
-    ∷ line 81 0 AllRed (red ∷ red ∷ red ∷ [])
-    ∷ line 91 2 MinimumGreen (red ∷ red ∷ green ∷ [])
-    ∷ [])
-    -- a locking detector of the phase locks in it
-    ∷ running (turning ++ cutOffs (20 ∷ 0 ∷ [])) lockA 153
-    (line 1 0 StartRed (red ∷ red ∷ red ∷ [])
-    ∷ line 10 0 MinimumGreen (green ∷ green ∷ red ∷ [])
-    ∷ line 30 0 Running (green ∷ green ∷ red ∷ [])
-    ∷ line 31 0 EarlyCutOff (green ∷ yellow ∷ red ∷ [])
-    ∷ line 51 0 Yellow (yellow ∷ yellow ∷ red ∷ [])
-    ∷ line 61 0 Yellow (yellow ∷ red ∷ red ∷ [])
-    ∷ line 81 0 AllRed (red ∷ red ∷ red ∷ [])
-    ∷ line 91 1 MinimumGreen (red ∷ red ∷ green ∷ [])
-    ∷ line 111 1 Running (red ∷ red ∷ green ∷ [])
-    ∷ line 112 1 Yellow (red ∷ red ∷ yellow ∷ [])
-    ∷ line 142 1 AllRed (red ∷ red ∷ red ∷ [])
-    ∷ line 152 0 MinimumGreen (green ∷ green ∷ red ∷ [])
-    ∷ [])
-    -- a state in it is not valid without the section; with one it is, even where the time is 0, and goes on
-    ∷ answering junction (leavingA EarlyCutOff 1) 0 (record { outcome = Declined 13 0; state = leavingA EarlyCutOff 1 })
-    ∷ answering (junction ++ cutOffs (0 ∷ 0 ∷ [])) (leavingA EarlyCutOff 1) 0
-    (record { outcome = Stepped 270; state = leavingA Yellow 1 })
-    -- mark 3 without the section, also where a part of a head follows; 12 after it
-    ∷ reading turning (Refused 17 42)
-    ∷ reading (turning ++ (4 ∷ 0 ∷ 7 ∷ [])) (Refused 17 42)
-    ∷ reading (junction ++ (4 ∷ 0 ∷ 7 ∷ [])) (Refused 12 68)
-    ∷ reading (turning ++ cutOffs (20 ∷ 0 ∷ [])) Accepted
-    ∷ reading (turning ++ cutOffs (20 ∷ 0 ∷ []) ++ (1 ∷ [])) (Refused 12 82)
-    ∷ reading (turning ++ cutOffs (201 ∷ 0 ∷ [])) (Refused 5 78)
-    ∷ reading (turning ++ cutOffs (200 ∷ 0 ∷ [])) Accepted
-    ∷ reading (turning ++ (3 ∷ 0 ∷ 7 ∷ 0 ∷ 0 ∷ 0 ∷ 0 ∷ [])) (Refused 3 74)
-    ∷ reading (turning ++ (4 ∷ 0 ∷ 7 ∷ 0 ∷ 0 ∷ 0 ∷ 0 ∷ [])) (Refused 1 74)
-    ∷ []
-
--- ── Request two: demanded phases kept ready ──
-
--- A in start red with a set of locks and a kept set; the set of B alone is 2
-unfoldable pub demandingB : ℕ → ℕ → KeptState
-demandingB locks kept =
-    record {
-      rest = record {
-        position = fresh .position;
-        counts = fresh .counts;
-        demands = record { locks = locks; buttons = 0 };
-        movements = fresh .movements;
-      };
+      rest = record { position = position; counts = counts; demands = demands; movements = first ∷ replicate 7 idle };
       kept = kept;
     }
 
--- the state one step later
-unfoldable pub olderBy : ℕ → KeptState → KeptState
-olderBy steps s =
-    record {
-      rest = record {
-        position = record { phase = 0; interval = StartRed; age = s .rest .position .age + steps; came = Nothing; target = Nothing };
-        counts = s .rest .counts;
-        demands = s .rest .demands;
-        movements = s .rest .movements;
-      };
-      kept = s .kept;
-    }
+-- ── Writing an answer ──
 
-unfoldable pub keeping : List Case
-keeping =
-    -- a lock that is kept stays kept
-    answering junction (demandingB 2 2) 0 (record { outcome = Stepped 270; state = olderBy 1 (demandingB 2 2) })
-    -- an occupied locking detector keeps its phase
-    ∷ answering junction freshKept 2 (record { outcome = Stepped 270; state = olderBy 1 (demandingB 2 2) })
-    -- a detector that calls without lock does not
-    ∷ answering callingB freshKept 2 (record { outcome = Stepped 270; state = olderBy 1 freshKept })
-    -- a kept set that differs from the scan is not valid, either way
-    ∷ answering junction (demandingB 2 0) 0 (record { outcome = Declined 13 0; state = demandingB 2 0 })
-    ∷ answering junction (demandingB 0 2) 0 (record { outcome = Declined 13 0; state = demandingB 0 2 })
-    ∷ []
+-- the step is accepted, and gives the wait bound and the new state
+abbrev pub stepping : ℕ → KeptState → Answer
+stepping wait new = record { outcome = Stepped wait; state = new }
 
--- ── Request three: the green man rests ──
+-- it is refused with a number, at 0, and hands back the old state
+abbrev pub declining : ℕ → KeptState → Answer
+declining number old = record { outcome = Declined number 0; state = old }
 
--- the button of the crossing in step 12 and detector 1 in step 100
-unfoldable pub callLater : ℕ → ℕ
-callLater step = if eqb step 12 then 2 ^ 48 else if eqb step 100 then 2 else 0
+-- ── A being left ──
 
--- the same with detector 0 always occupied
-unfoldable pub callLaterAlwaysA : ℕ → ℕ
-callLaterAlwaysA step = callLater step + 1
+-- for B, whose lock stands
+abbrev pub forB : Interval → ℕ → KeptState
+forB interval age = state (at 0 interval age (Phase 1)) (gap 0 max 1) (locks 2 buttons 0) idle 2
 
-unfoldable pub resting : List Case
-resting =
-    -- the walk rests until B is demanded
-    running crossing callLater 161
-    (line 1 0 StartRed (red ∷ red ∷ red ∷ [])
-    ∷ line 10 0 MinimumGreen (green ∷ red ∷ red ∷ [])
-    ∷ line 30 0 Running (green ∷ red ∷ green ∷ [])
-    ∷ line 100 0 Running (green ∷ red ∷ flashing ∷ [])
-    ∷ line 110 0 Yellow (yellow ∷ red ∷ flashing ∷ [])
-    ∷ line 140 0 AllRed (red ∷ red ∷ flashing ∷ [])
-    ∷ line 160 1 MinimumGreen (red ∷ green ∷ red ∷ [])
-    ∷ [])
-    -- and on until the maximum count is X
-    ∷ running crossing callLaterAlwaysA 191
-    (line 1 0 StartRed (red ∷ red ∷ red ∷ [])
-    ∷ line 10 0 MinimumGreen (green ∷ red ∷ red ∷ [])
-    ∷ line 30 0 Running (green ∷ red ∷ green ∷ [])
-    ∷ line 130 0 Running (green ∷ red ∷ flashing ∷ [])
-    ∷ line 140 0 Yellow (yellow ∷ red ∷ flashing ∷ [])
-    ∷ line 170 0 AllRed (red ∷ red ∷ flashing ∷ [])
-    ∷ line 190 1 MinimumGreen (red ∷ green ∷ red ∷ [])
-    ∷ [])
-    ∷ []
-
--- ── Request five: phases not in letter order ──
-
--- detectors 1 and 2 in step 12
-unfoldable pub bothOthers : ℕ → ℕ
-bothOthers step = if eqb step 12 then 6 else 0
-
-unfoldable pub inOrder : List Case
-inOrder =
-    -- A, C, B
-    running (threePhases ++ ordered (0 ∷ 2 ∷ 1 ∷ [])) bothOthers 133
-    (line 1 0 StartRed (red ∷ red ∷ red ∷ [])
-    ∷ line 10 0 MinimumGreen (green ∷ red ∷ red ∷ [])
-    ∷ line 30 0 Running (green ∷ red ∷ red ∷ [])
-    ∷ line 31 0 Yellow (yellow ∷ red ∷ red ∷ [])
-    ∷ line 61 0 AllRed (red ∷ red ∷ red ∷ [])
-    ∷ line 71 2 MinimumGreen (red ∷ red ∷ green ∷ [])
-    ∷ line 91 2 Running (red ∷ red ∷ green ∷ [])
-    ∷ line 92 2 Yellow (red ∷ red ∷ yellow ∷ [])
-    ∷ line 122 2 AllRed (red ∷ red ∷ red ∷ [])
-    ∷ line 132 1 MinimumGreen (red ∷ green ∷ red ∷ [])
-    ∷ [])
-    -- it moves no wait
-    ∷ waiting (threePhases ++ ordered (0 ∷ 2 ∷ 1 ∷ [])) 400
-    ∷ reading (threePhases ++ ordered (0 ∷ 2 ∷ 1 ∷ [])) Accepted
-    -- the order starts anywhere, and the fresh state is phase A all the same
-    ∷ reading (threePhases ++ ordered (2 ∷ 1 ∷ 0 ∷ [])) Accepted
-    -- not each phase once; a phase that is not one
-    ∷ reading (threePhases ++ ordered (0 ∷ 2 ∷ 2 ∷ [])) (Refused 18 88)
-    ∷ reading (threePhases ++ ordered (0 ∷ 2 ∷ 3 ∷ [])) (Refused 18 88)
-    -- a wrong length, a body cut short, a byte behind it
-    ∷ reading (threePhases ++ ordered (0 ∷ 2 ∷ [])) (Refused 3 88)
-    ∷ reading (threePhases ++ (3 ∷ 0 ∷ 9 ∷ 0 ∷ 0 ∷ 2 ∷ [])) (Refused 1 88)
-    ∷ reading (threePhases ++ ordered (0 ∷ 2 ∷ 1 ∷ []) ++ (1 ∷ [])) (Refused 12 95)
-    -- kind 9 after kind 7, and not before it
-    ∷ reading (threePhases ++ cutOffs (20 ∷ 0 ∷ 0 ∷ []) ++ ordered (0 ∷ 2 ∷ 1 ∷ [])) Accepted
-    ∷ reading (threePhases ++ ordered (0 ∷ 2 ∷ 1 ∷ []) ++ cutOffs (20 ∷ 0 ∷ 0 ∷ [])) (Refused 12 95)
-    -- 18 is checked with that body, so before 17
-    ∷ reading (turning ++ ordered (0 ∷ 0 ∷ [])) (Refused 18 74)
-    ∷ reading (turning ++ ordered (1 ∷ 0 ∷ [])) (Refused 17 42)
-    ∷ []
-
--- ── Request seven: a phase nobody can call ──
-
-unfoldable pub callers : List Case
-callers =
-    -- a detector that only extends, or does nothing, calls no phase
-    reading (set junction 63 4) (Refused 21 56)
-    ∷ reading (set junction 63 0) (Refused 21 56)
-    ∷ reading (set junction 63 1) Accepted
-    ∷ reading (set junction 63 5) Accepted
-    -- a pedestrian group calls its phase
-    ∷ reading (set crossing 67 4) Accepted
-    -- it is checked after all sections: a wrong kind 6 comes first
-    ∷ reading (set (set junction 63 4) 66 7) (Refused 2 64)
-    -- after all sections 21 comes before 17, and 17 before 12
-    ∷ reading (set turning 69 4) (Refused 21 62)
-    ∷ reading (set turning 69 4 ++ (1 ∷ [])) (Refused 21 62)
-    ∷ reading (turning ++ (1 ∷ [])) (Refused 17 42)
-    ∷ reading (set turning 69 4 ++ cutOffs (201 ∷ 0 ∷ [])) (Refused 5 78)
-    ∷ []
+-- for C, whose lock stands; by now that of B stands too
+abbrev pub forC : Interval → ℕ → KeptState
+forC interval age = state (at 0 interval age (Phase 2)) (gap 0 max 1) (locks 6 buttons 0) idle 6
 
 -- ── The list and its statement ──
 
-unfoldable pub cases : List Case
-cases = starred ++ ours ++ early ++ keeping ++ resting ++ inOrder ++ callers
+unfoldable pub callCases : List CallCase
+callCases =
+    -- starred: a yellow below its lowest value, and a maximum green above its highest
+    reading (putTwo junction 20 29) (Refused 5 20)
+    ∷ reading (putTwo junction 16 1501) (Refused 5 16)
+    -- number 9 is checked for all groups before number 10 for any: group 1 is of both phases, and its conflict record is empty
+    ∷ reading (set (set junction 42 3) 52 0) (Refused 9 48)
+    -- an order that has C twice
+    ∷ reading (threePhases ++ ordered (0 ∷ 2 ∷ 2 ∷ [])) (Refused 18 88)
+    -- the detector of B only extends, and calls no phase
+    ∷ reading (set junction 63 4) (Refused 21 56)
+    -- that of A only extends, and the pedestrian group calls A
+    ∷ reading (set crossing 67 4) Accepted
+    -- 21 is checked after kind 6, which is wrong here
+    ∷ reading (set (set junction 63 4) 66 7) (Refused 2 64)
+    -- 21 is checked before 17
+    ∷ reading (set turning 69 4) (Refused 21 62)
+    -- 17 is checked before 12
+    ∷ reading (turning ++ (1 ∷ [])) (Refused 17 42)
+    -- a movement's walk and clearances count twice in its phase's share: 10 + 2 × 50 + 2 × 2 × 40 + 2 × (20 + 50)
+    ∷ waiting crossing 410
+    -- early cut-off green is not valid without a section of kind 7; with one it is, even where the time is 0, and goes on to yellow
+    ∷ answering junction (forB EarlyCutOff 1) 0 (declining 13 (forB EarlyCutOff 1))
+    ∷ answering (junction ++ cutOffs (0 ∷ 0 ∷ [])) (forB EarlyCutOff 1) 0 (stepping 270 (forB Yellow 1))
+    -- part 1: a locking detector of the phase locks in early cut-off green
+    ∷ answering (junction ++ cutOffs (20 ∷ 0 ∷ [])) (forB EarlyCutOff 5) 1
+    (stepping 310 (state (at 0 EarlyCutOff 6 (Phase 1)) (gap 0 max 1) (locks 3 buttons 0) idle 3))
+    -- and a press is registered while its movement is in C1
+    ∷ answering crossing (state (at 0 Running 40 Nothing) (gap 0 max 1) (locks 2 buttons 0) (moving ClearanceOne 5) 2) (2 ^ 48)
+    (stepping 410 (state (at 0 Running 41 Nothing) (gap 0 max 2) (locks 2 buttons 1) (moving ClearanceOne 6) 3))
+    -- part 2: a walk that has lasted W goes on while no other phase is demanded
+    ∷ answering crossing (state (at 0 Running 40 Nothing) (gap 0 max 0) (locks 0 buttons 0) (moving Walk 10) 0) 0
+    (stepping 410 (state (at 0 Running 41 Nothing) (gap 0 max 0) (locks 0 buttons 0) (moving Walk 11) 0))
+    -- and where B is demanded, but the gap count is 0 only after part 3
+    ∷ answering crossing (state (at 0 Running 40 Nothing) (gap 1 max 1) (locks 2 buttons 0) (moving Walk 10) 2) 0
+    (stepping 410 (state (at 0 Running 41 Nothing) (gap 0 max 2) (locks 2 buttons 0) (moving Walk 11) 2))
+    -- part 3: the maximum count goes on rising while the non-locking call of B is away
+    ∷ answering callingB (state (at 0 Running 40 Nothing) (gap 0 max 5) (locks 0 buttons 0) idle 0) 0
+    (stepping 270 (state (at 0 Running 41 Nothing) (gap 0 max 6) (locks 0 buttons 0) idle 0))
+    -- part 4: running ends, and a time of 0 skips early cut-off green
+    ∷ answering (turning ++ cutOffs (0 ∷ 0 ∷ [])) (state (at 0 Running 1 Nothing) (gap 0 max 0) (locks 2 buttons 0) idle 2) 0
+    (stepping 270 (forB Yellow 1))
+    -- in the order A, C, B the target after A is C, where both others are demanded
+    ∷ answering (threePhases ++ ordered (0 ∷ 2 ∷ 1 ∷ [])) (state (at 0 Running 1 Nothing) (gap 0 max 0) (locks 6 buttons 0) idle 6) 0
+    (stepping 400 (forC Yellow 1))
+    -- the target stays C over the end of early cut-off green, and over that of yellow, though B would be next
+    ∷ answering (threePhases ++ cutOffs (20 ∷ 0 ∷ 0 ∷ [])) (forC EarlyCutOff 20) 0 (stepping 440 (forC Yellow 1))
+    ∷ answering threePhases (forC Yellow 30) 0 (stepping 400 (forC AllRed 1))
+    -- yellow lasts Y, which is 30, and not R, which is 10
+    ∷ answering junction (forB Yellow 10) 0 (stepping 270 (forB Yellow 11))
+    -- all-red stays past R while a movement is in C2
+    ∷ answering crossing (state (at 0 AllRed 10 (Phase 1)) (gap 0 max 1) (locks 2 buttons 0) (moving ClearanceTwo 40) 2) 0
+    (stepping 410 (state (at 0 AllRed 11 (Phase 1)) (gap 0 max 1) (locks 2 buttons 0) (moving ClearanceTwo 41) 2))
+    -- a group that has the target in its set stays green in yellow, and in early cut-off green where it stops early
+    ∷ showing overlap (forB Yellow 1) (yellow ∷ red ∷ green ∷ red ∷ [])
+    ∷ showing (turningBoth ++ cutOffs (20 ∷ 0 ∷ [])) (forB EarlyCutOff 1) (green ∷ green ∷ red ∷ [])
+    -- an arrow is red in yellow once Y steps are over since early cut-off green began: 20 + 11 is past 30
+    ∷ showing (turning ++ cutOffs (20 ∷ 0 ∷ [])) (forB Yellow 11) (yellow ∷ red ∷ red ∷ [])
+    ∷ []
 
-abbrev pub AllHold : List Case → Type 0
-AllHold [] = Unit {0}
-AllHold (c ∷ cases) = Holds c × AllHold cases
-
-unfoldable pub CasesHold : Type 0
-CasesHold = AllHold cases
+unfoldable pub CallsHold : Type 0
+CallsHold = AllHold CallHolds callCases

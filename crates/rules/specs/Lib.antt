@@ -21,6 +21,5 @@ pub mod Runs
 pub mod Laws
 pub mod Scanning
 pub mod TraceText
-pub mod Traces
 pub mod Junctions
 pub mod Cases

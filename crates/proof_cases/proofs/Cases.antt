@@ -1,0 +1,12 @@
+-- Every worked case holds: what the rules compute is, case by case, what it must be.
+use mathlib.Core.Path.{refl}
+use Rattle.rules.specs.Intervals.{letterOf}
+use Rattle.rules.proofs.Opened.{opened}
+use Rattle.proof_cases.specs.Traces.{unlessDeclined, linesFrom, sameColours, sameButStep, changesAfter, changesIn, changes}
+use Rattle.proof_cases.specs.Cases.{onceB, onceBAlwaysA, starred, walkTwice, laterB, pausing, ours, lockA, early, keeping, callLater, callLaterAlwaysA, resting, bothOthers, inOrder, callers, cases, CasesHold}
+
+pub cases-hold : CasesHold
+unfolding
+    opened letterOf unlessDeclined linesFrom sameColours sameButStep changesAfter changesIn changes onceB onceBAlwaysA starred walkTwice laterB pausing
+    ours lockA early keeping callLater callLaterAlwaysA resting bothOthers inOrder callers cases CasesHold
+cases-hold = (refl, (refl, (refl, (refl, (refl, (refl, (refl, (refl, (refl, (refl, (refl, (refl, (refl, (refl, (refl, (refl, (refl, (refl, (refl, (refl, (refl, (refl, (refl, (refl, (refl, (refl, (refl, (refl, (refl, (refl, (refl, (refl, (refl, (refl, (refl, (refl, (refl, (refl, (refl, (refl, (refl, (refl, (refl, (refl, (refl, (refl, (refl, (refl, (refl, (refl, (refl, (refl, (refl, (refl, (refl, (refl, (refl, (refl, tt))))))))))))))))))))))))))))))))))))))))))))))))))))))))))
