@@ -1,4 +1,2 @@
 pub mod Records
-pub mod LastDemand
 pub mod Inputs
-pub mod Sets

@@ -1,7 +1,7 @@
 -- `step_checks::valid_state` meets its contract: its tests are those of the rule's list.
+use mathlib.Core.Bool.{Bool, _&&_, and-assoc}
 use mathlib.Core.List.{[], _∷_}
-use mathlib.Core.Path.{_≡_, sym}
-use lib.ListN.{length, length-map}
+use mathlib.Core.Path.{sym, ap, _∙_}
 use borrow.Author.Needs.{needs}
 use Rattle.rules.specs.Rows.{allOf}
 use Rattle.rules.specs.Site.{phaseTimes}
@@ -9,14 +9,6 @@ use Rattle.rules.specs.State.{positionValid, countsValid, demandExists, movemen
 use Rattle.step_checks.proofs.Records.{joined-every}
 use Rattle.step_checks.proofs.valid_state.Statement.{statement}
 use Rattle.step_checks.proofs.valid_state.Tie as tie
-
--- the start, from where the parts are read
-abbrev start : tie.After-movements → tie.Start
-start c = c .before .before .before .before .before .before .before .before .before .before
-
--- the row of buttons has its length
-buttons-eight : (c : tie.Start) → length (c .args .state .demands .buttons) ≡ 8
-buttons-eight c = simp length-map at (c .good .1 .0 .1 .1 .1 .1 .0 .1 .1 .1 .0 .1 .0 .1)
 
 times-of-requires : tie.Need-times-of-requires
 times-of-requires c κs = search needs
@@ -27,12 +19,6 @@ position-valid-requires c κs = search needs
 counts-valid-requires : tie.Need-counts-valid-requires
 counts-valid-requires c κs = search needs
 
-phases-exist-requires : tie.Need-phases-exist-requires
-phases-exist-requires c κs = search needs
-
-slice-aggregate-demands-valid : tie.Need-slice-aggregate-demands-valid
-slice-aggregate-demands-valid c = sym (buttons-eight (start (c .before .before .before .before)))
-
 demands-valid-requires : tie.Need-demands-valid-requires
 demands-valid-requires c κs = search needs
 
@@ -42,27 +28,27 @@ movements-valid-requires c κs = search needs
 returns : tie.Need-returns
 unfolding valid phaseTimes
 returns c =
-    let counted = c .before .before .before .before in
-    let read = counted .before .before in
-    let entry = start read in
+    let demanded = c .before in
+    let counted = demanded .before in
+    let placed = counted .before in
+    let own = placed .before .before .before .before .before in
+    let entry = own .before .before .before .before in
     let site = entry .args .site in
     let s = entry .args .state in
-    let own = read .before .before .before .before .before .before in
+    let place = positionValid (site .early) (site .size .phases) (s .position) in
+    let counts = countsValid (phaseTimes (site .times) (s .position .phase)) (s .counts) in
+    let locks = allOf (demandExists (s .demands .locks) (site .size .phases)) 8 in
+    let buttons = allOf (demandExists (s .demands .buttons) (site .size .movements)) 8 in
+    let movements = movementsValid (site .size .movements) (site .crossings) (s .position) (s .movements) in
     rw (
-      counted .before .position-valid .ensures,
+      placed .position-valid .ensures,
       counted .counts-valid .ensures,
-      c .before .before .before .phases-exist .ensures,
-      c .before .demands-valid .ensures,
+      demanded .demands-valid .ensures,
       c .movements-valid .ensures,
       own .times-of .ensures,
-      buttons-eight entry,
     )
-    (joined-every (positionValid (site .early) (site .size .phases) (s .position))
-    (countsValid (phaseTimes (site .times) (s .position .phase)) (s .counts)
-    ∷ allOf (demandExists (s .demands .locks) (site .size .phases)) 7
-    ∷ allOf (demandExists (s .demands .buttons) (site .size .movements)) 8
-    ∷ movementsValid (site .size .movements) (site .crossings) (s .position) (s .movements)
-    ∷ []))
+    (ap (λ (t : Bool). t && movements) (sym (and-assoc (place && counts) locks buttons))
+    ∙ joined-every place (counts ∷ locks ∷ buttons ∷ movements ∷ []))
 
 pub valid-state-spec : {M : Type 1} → statement M
 valid-state-spec =
@@ -71,8 +57,6 @@ valid-state-spec =
     times-of-requires
     position-valid-requires
     counts-valid-requires
-    phases-exist-requires
-    slice-aggregate-demands-valid
     demands-valid-requires
     movements-valid-requires
     returns)

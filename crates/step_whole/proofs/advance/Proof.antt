@@ -1,11 +1,12 @@
 -- `step_whole::advance` meets its contract: its calls are the five parts of the rules' step, one after the other, and what they leave of the
--- kept marks.
+-- kept set.
 use borrow.Author.Needs.{needs}
+use Prim.Native.Nat.{_<_}
 use Rattle.rules.specs.Site.{phaseTimes}
 use Rattle.rules.specs.Demands.{stands}
 use Rattle.step_movements.proofs.Idle.{still-past}
 use Rattle.step_whole.proofs.Marks.{whole-told}
-use Rattle.step_whole.proofs.Ready.{on, now-on, idle-past, none-past}
+use Rattle.step_whole.proofs.Ready.{on, now-on, idle-past}
 use Rattle.step_whole.proofs.advance.Statement.{statement}
 use Rattle.step_whole.proofs.advance.Tie as tie
 
@@ -49,30 +50,32 @@ starts-requires : tie.Need-starts-requires
 starts-requires c κs = search needs
 
 begin-requires : tie.Need-begin-requires
-begin-requires c κs =
-    let entry = start (c .before .before .before .before .before .before .before) in
-    none-past (entry .args .site) (entry .args .state) (entry .pre)
+begin-requires c κs = search needs
+
+-- the phase that is on after part 4 is one of the site's
+now-within : (c : tie.After-position-after) → c .position-after .result .phase < 8
+now-within c =
+    let entry = start (c .before .before .before .before) in
+    rw (c .position-after .ensures) (now-on (entry .args .site) (entry .args .state) (entry .pre) _ _)
 
 locks-left-requires : tie.Need-locks-left-requires
-locks-left-requires c κs = search needs
+locks-left-requires c κs = now-within (c .before .before .before .before)
 
 counts-changed-requires : tie.Need-counts-changed-requires
 counts-changed-requires c κs = search needs
 
 left-requires : tie.Need-left-requires
 left-requires c κs =
-    let now = c .before .before .before .before .before .before .before .before .before in
-    let entry = start (now .before .before .before .before) in
-    let site = entry .args .site in
-    (rw (now .position-after .ensures) (now-on site (entry .args .state) (entry .pre) _ _), entry .pre .0 .movements)
+    let now = c .before .before .before .before .before .before in
+    (now-within now, start (now .before .before .before .before) .pre .0 .movements)
 
 returns : tie.Need-returns
 unfolding phaseTimes stands
 returns c =
     let changed = c .before in
     let lefts = changed .before in
-    let begun = lefts .before .before .before .before in
-    let started = begun .before .before in
+    let begun = lefts .before .before in
+    let started = begun .before in
     let now = started .before .before in
     let over = now .before in
     let counted = over .before in
@@ -85,7 +88,7 @@ returns c =
     whole-told (entry .args .site) (entry .pre .0) (entry .args .state) (entry .args .inputs) (entry .pre .1)
     (own .times-of .ensures) (asked .register .ensures) (held .held .ensures) (mayEnd .walk-may-end .ensures) (moved .moved .ensures) (counted .counted .ensures) (over .over .ensures)
     (now .position-after .ensures) (started .starts .ensures) (begun .begin .ensures) (lefts .locks-left .ensures)
-    (changed .counts-changed .ensures) (c .left2 .ensures)
+    (changed .counts-changed .ensures) (c .left .ensures)
 
 pub advance-spec : {M : Type 1} → statement M
 advance-spec =
