@@ -1,5 +1,5 @@
 -- States that the machine's types hold. The numbers of a valid state of a sound site are within the table of limits or below the
--- counts, and a step makes its rows anew, at their lengths.
+-- counts, and a step makes its sets and its row of movements anew, at their sizes.
 use Prim.Native.Nat.{ℕ, _≤_, _<_}
 use mathlib.Core.Bool.{Bool, true, not, _&&_}
 use mathlib.Core.Path.{_≡_, refl}
@@ -22,6 +22,7 @@ use Rattle.rules.specs.Laws.{Sound}
 use Rattle.rules.specs.Scanning.{FreshKeptIsValid, StepKeepsKept}
 use Rattle.rules.proofs.Tests.{and-left, and-right}
 use Rattle.rules.proofs.Rows.{list-length}
+use Rattle.rules.proofs.Sets.{set-small}
 use Rattle.rules.proofs.Settings.{phase-timed}
 use Rattle.board_state.specs.Layout.{position as positionForm, counts as countsForm, demands as demandsForm, movements as movementsForm, Proper}
 use Rattle.proof_runs.proofs.ValidStates.{state-told}
@@ -41,15 +42,15 @@ unfolding cameValid phaseHeld
 came-below count Nothing h some = some
 came-below count (Phase q) h some = ltb-true q count h
 
--- a valid state is one that the types hold, if its rows have their lengths
+-- a valid state is one that the types hold, if its sets are bytes and its row of movements has its length
 proper-of :
     (site : Site) → Sound site →
     (s : KeptState) →
     keptValid site s ≡ true →
-    length (s .rest .demands .locks) ≡ 7 →
-    length (s .rest .demands .buttons) ≡ 8 →
+    s .rest .demands .locks < 256 →
+    s .rest .demands .buttons < 256 →
     length (s .rest .movements) ≡ 8 →
-    length (s .kept) ≡ 7 →
+    s .kept < 256 →
     Proper s
 unfolding Proper movement keptValid
 proper-of site sound s sane locks buttons movements kept =
@@ -61,19 +62,19 @@ proper-of site sound s sane locks buttons movements kept =
     let target = target-below (site .size .phases) (place .phase) (isLeaving (place .interval)) (place .target) (told .target) (omega arith) in
     let position : positionForm .fits place = (omega (arith, told .phase), (record {}, (omega (arith, told .age), (omega (arith, came), omega (arith, target))))) in
     let counts : countsForm .fits (s .rest .counts) = (omega (arith, told .gap, times .gap), omega (arith, told .maximum, times .maximum .1)) in
-    let demands : demandsForm .fits (s .rest .demands) = ((locks, λ k below. record {}), (buttons, λ k below. record {})) in
+    let demands : demandsForm .fits (s .rest .demands) = (locks, buttons) in
     let records : movementsForm .fits (s .rest .movements) = (movements, λ k below. (record {}, omega (arith, told .movements k below .age))) in
-    (position, (counts, (demands, (records, (kept, λ p below. record {})))))
+    (position, (counts, (demands, (records, kept))))
 
 pub step-is-proper : StepIsProper
 unfolding StepIsProper StepKeepsKept keptStepped steppedTo locksLeft walksBegun buttonsLeft
 step-is-proper site sound s inputs sane wired =
     proper-of site sound (keptStepped site s inputs) (step-keeps-kept step-keeps-valid site sound s inputs sane wired)
-    (list-length _ 7)
+    (set-small _)
+    (set-small _)
     (list-length _ 8)
-    (list-length _ 8)
-    (list-length _ 7)
+    (set-small _)
 
 pub fresh-is-proper : (site : Site) → Sound site → Proper freshKept
 unfolding FreshKeptIsValid freshKept fresh
-fresh-is-proper site sound = proper-of site sound freshKept (fresh-kept-is-valid fresh-is-valid site sound) refl refl refl refl
+fresh-is-proper site sound = proper-of site sound freshKept (fresh-kept-is-valid fresh-is-valid site sound) (omega arith) (omega arith) refl (omega arith)

@@ -56,7 +56,7 @@ pub extern "C" fn willowera_wait_bound(personality: &[u8]) -> u64
     }
 }
 
-// Writes the fresh state into a buffer of 58 bytes. Another buffer stays as it is, and the answer is 13.
+// Writes the fresh state into a buffer of 39 bytes. Another buffer stays as it is, and the answer is 13.
 #[no_mangle]
 pub extern "C" fn willowera_fresh(state: &mut [u8]) -> u64
     ensures { λ r. ⌜ (r ≡ freshAnswer (now (state .entry))) × (now (state .exit) ≡ encodedOver freshKept (now (state .entry))) ⌝ }
@@ -126,7 +126,7 @@ pub extern "C" fn willowera_section(personality: &[u8], kind: u16) -> u64
 // The version of these calls.
 #[no_mangle]
 pub extern "C" fn willowera_version() -> u32
-    ensures { λ r. ⌜ r ≡ 3 ⌝ }
+    ensures { λ r. ⌜ r ≡ 4 ⌝ }
 {
-    3
+    4
 }
