@@ -1,7 +1,7 @@
 -- The laws of a form: written and read again a value is the same, and so are bytes that are a value, read and written again. Each way of
 -- putting forms together keeps the laws, so those of a whole layout follow row by row.
 use Prim.Native.Nat.{ℕ, zero, suc, _+_, _*_, _/_, _%_, _≤_, _<_}
-use mathlib.Core.Bool.{Bool, true, false, _&&_, _||_}
+use mathlib.Core.Bool.{Bool, true, false, _&&_}
 use mathlib.Core.List.{List, [], _∷_, _++_, append-assoc}
 use mathlib.Core.Logic.{⊎-elim}
 use mathlib.Core.Path.{_≡_, refl, sym, ap, subst⁻¹, _∙_}
@@ -15,9 +15,9 @@ use Rattle.rules.specs.declared.state.Held.the-variants.{Nothing, Phase}
 use Rattle.rules.specs.Bytes.{byteAt, twoAt}
 use Rattle.rules.specs.Intervals.{isHeld, phaseHeld}
 use Rattle.rules.specs.Rows.{if_then_else_, allOf, listOf}
-use Rattle.rules.proofs.Rows.{all-each, all-at, list-length, list-at}
+use Rattle.rules.proofs.Rows.{all-at, list-length, list-at}
 use Rattle.rules.proofs.Tests.{decided, and-left, and-right, and-both, or-cases}
-use Rattle.board_forms.specs.Forms.{Form, Table, byte, two, coded, flags, flagCode, flag, heldKnown, heldOf, held, partsOf, row, placed, both, made, AreBytes}
+use Rattle.board_forms.specs.Forms.{Form, Table, byte, two, coded, flagCode, heldKnown, heldOf, held, partsOf, row, placed, both, made, AreBytes}
 use Rattle.board_forms.proofs.Parts.{first-byte, second-byte, part, part-one, part-two, part-more, parts-joined, parts-same, parts-length, record-within, listed, no-bytes, one-more, bytes-joined, parts-bytes}
 
 -- The bytes of a value stand from a start on, counted from the place that is given.
@@ -101,14 +101,6 @@ module _ {A : Type 0} (first : A) (code : A → ℕ) where
           proper = λ b at bytes. record {};
         }
 
-flag-back : (f : Bool) → getD flags (flagCode f) false ≡ f
-flag-back true = refl
-flag-back false = refl
-
-pub flag-law : Lawful flag 0
-unfolding inOrder
-flag-law = coded-law false flagCode flags (omega arith) (omega arith) flag-back refl
-
 -- a known tag is 0 or 1
 pub tag-known : (tag phase : ℕ) → heldKnown tag phase ≡ true → tag < 2
 tag-known tag phase h =
@@ -152,7 +144,7 @@ held-law =
           let l : length p ≡ at = omega arith in
           rw (first-byte p (phaseHeld h ∷ q) (flagCode (isHeld h)) at l, second-byte p q (flagCode (isHeld h)) (phaseHeld h) at l) (held-back h);
       same = λ b at bytes room known. rw (add-zero at) (held-same (byteAt b at) (byteAt b (at + 1)) known ∙ part-two b at (omega arith));
-      bytes = λ h small. one-more (omega (arith, code-within false flagCode flags (omega arith) (omega arith) flag-back (isHeld h))) (one-more small no-bytes);
+      bytes = λ h small. one-more (omega (arith, tag-known (flagCode (isHeld h)) (phaseHeld h) (held-passes h))) (one-more small no-bytes);
       proper = λ b at bytes. held-proper (byteAt b at) (byteAt b (at + 1)) (bytes .each (at + 1));
     }
 

@@ -1,7 +1,7 @@
 -- How values stand in bytes. A form tells how many bytes a value has, which bytes they are, whether the bytes from a place on are such a
 -- value, and which value; and which values the machine's type has, where the rules' type has more. Numbers are little-endian.
 use Prim.Native.Nat.{ℕ, zero, suc, _+_, _*_, _/_, _%_, _<_}
-use mathlib.Core.Bool.{Bool, true, false, _&&_, _||_}
+use mathlib.Core.Bool.{Bool, true, _&&_, _||_}
 use mathlib.Core.List.{List, [], _∷_, _++_}
 use mathlib.Core.Path.{_≡_}
 use lib.Dec.{ltb, eqb}
@@ -39,16 +39,10 @@ coded all first code =
       fits = λ x. record {};
     }
 
-abbrev pub flags : List Bool
-flags = false ∷ true ∷ []
-
+-- a phase or none: a tag, 1 where a phase is held, and the phase, 0 where none is
 abbrev pub flagCode : Bool → ℕ
 flagCode flag = if flag then 1 else 0
 
-abbrev pub flag : Form Bool
-flag = coded flags false flagCode
-
--- a phase or none: a tag, 1 where a phase is held, and the phase, 0 where none is
 abbrev pub heldKnown : ℕ → ℕ → Bool
 heldKnown tag phase = eqb tag 1 || (eqb tag 0 && eqb phase 0)
 

@@ -1,5 +1,4 @@
 -- The laws of the layout's forms, table by table: each follows from the laws of its rows.
-use mathlib.Core.Bool.{false}
 use mathlib.Core.Path.{_≡_, refl}
 use native.Mathlib.Omega.{arith}
 use lib.ListN.{getD}
@@ -9,8 +8,7 @@ use Rattle.rules.specs.declared.state.Stage.{Stage}
 use Rattle.rules.specs.declared.state.Stage.the-variants.{Idle, Walk, ClearanceOne, ClearanceTwo}
 use Rattle.rules.specs.Intervals.{intervalRow, intervals, stageRow, stages}
 use Rattle.rules.specs.State.{idle}
-use Rattle.board_forms.specs.Forms.{flag}
-use Rattle.board_forms.proofs.Lawful.{Lawful, inOrder, byte-law, two-law, coded-law, flag-law, held-law, row-law, placed-law, both-law, made-law}
+use Rattle.board_forms.proofs.Lawful.{Lawful, inOrder, byte-law, two-law, coded-law, held-law, row-law, placed-law, both-law, made-law}
 use Rattle.board_state.specs.Layout.{interval, stage, positionRows, positionOf, position, countsRows, countsOf, counts, demandsRows, demandsOf, demands, movementRows, movementOf, movement, countsAt, demandsAt, movementsAt, keptAt, stateRows, stateOf, state}
 
 -- ── Intervals and stages by their codes ──
@@ -52,8 +50,7 @@ counts-law = made-law countsRows countsOf (λ c. refl) (λ a. refl) (both-law (p
 
 pub demands-law : Lawful demands 0
 demands-law =
-    made-law demandsRows demandsOf (λ d. refl) (λ a. refl)
-    (both-law (placed-law 0 (row-law flag flag-law 7 false)) (placed-law 7 (row-law flag flag-law 8 false)))
+    made-law demandsRows demandsOf (λ d. refl) (λ a. refl) (both-law (placed-law 0 byte-law) (placed-law 1 byte-law))
 
 pub movement-law : Lawful movement 0
 movement-law = made-law movementRows movementOf (λ m. refl) (λ a. refl) (both-law (placed-law 0 stage-law) (placed-law 1 two-law))
@@ -64,4 +61,4 @@ state-law =
     (both-law (placed-law 0 position-law)
     (both-law (placed-law countsAt counts-law)
     (both-law (placed-law demandsAt demands-law)
-    (both-law (placed-law movementsAt (row-law movement movement-law 8 idle)) (placed-law keptAt (row-law flag flag-law 7 false))))))
+    (both-law (placed-law movementsAt (row-law movement movement-law 8 idle)) (placed-law keptAt byte-law)))))

@@ -1,7 +1,7 @@
 -- The laws of the layout: writing and reading undo each other, on the states that have the machine's types and on the bytes that are a
 -- state. Below them, two states byte by byte.
-use Prim.Native.Nat.{ℕ}
-use mathlib.Core.Bool.{true, false}
+use Prim.Native.Nat.{ℕ, _+_}
+use mathlib.Core.Bool.{true}
 use mathlib.Core.List.{List, [], _∷_, append-nil}
 use mathlib.Core.Path.{_≡_, refl, _∙_}
 use native.Mathlib.Omega.{arith}
@@ -49,10 +49,9 @@ decoded-proper b bytes = state-law .proper b 0 bytes
 pub fresh-bytes :
     encoded freshKept
     ≡ 0 ∷ 0 ∷ 1 ∷ 0 ∷ 0 ∷ 0 ∷ 0 ∷ 0 ∷ 0 ∷ 0 ∷ 0 ∷ 0
-    ∷ 0 ∷ 0 ∷ 0 ∷ 0 ∷ 0 ∷ 0 ∷ 0
-    ∷ 0 ∷ 0 ∷ 0 ∷ 0 ∷ 0 ∷ 0 ∷ 0 ∷ 0
+    ∷ 0 ∷ 0
     ∷ 0 ∷ 1 ∷ 0 ∷ 0 ∷ 1 ∷ 0 ∷ 0 ∷ 1 ∷ 0 ∷ 0 ∷ 1 ∷ 0 ∷ 0 ∷ 1 ∷ 0 ∷ 0 ∷ 1 ∷ 0 ∷ 0 ∷ 1 ∷ 0 ∷ 0 ∷ 1 ∷ 0
-    ∷ 0 ∷ 0 ∷ 0 ∷ 0 ∷ 0 ∷ 0 ∷ 0
+    ∷ 0
     ∷ []
 unfolding encoded freshKept fresh partsOf isHeld phaseHeld
 fresh-bytes = refl
@@ -66,11 +65,7 @@ leaving =
           record {
             position = record { phase = 2; interval = Yellow; age = 300; came = Phase 0; target = Phase 5 };
             counts = record { gap = 513; maximum = 1500 };
-            demands =
-                record {
-                  locks = false ∷ true ∷ false ∷ false ∷ false ∷ false ∷ true ∷ [];
-                  buttons = false ∷ true ∷ false ∷ false ∷ false ∷ false ∷ false ∷ false ∷ [];
-                };
+            demands = record { locks = 2 + 64; buttons = 2 };
             movements =
                 idle
                 ∷ record { stage = ClearanceTwo; age = 260 }
@@ -78,16 +73,15 @@ leaving =
                 ∷ record { stage = ClearanceOne; age = 7 }
                 ∷ [];
           };
-      kept = false ∷ true ∷ true ∷ false ∷ false ∷ false ∷ true ∷ [];
+      kept = 2 + 4 + 64;
     }
 
 pub leaving-bytes :
     encoded leaving
     ≡ 2 ∷ 5 ∷ 44 ∷ 1 ∷ 1 ∷ 0 ∷ 1 ∷ 5 ∷ 1 ∷ 2 ∷ 220 ∷ 5
-    ∷ 0 ∷ 1 ∷ 0 ∷ 0 ∷ 0 ∷ 0 ∷ 1
-    ∷ 0 ∷ 1 ∷ 0 ∷ 0 ∷ 0 ∷ 0 ∷ 0 ∷ 0
+    ∷ 66 ∷ 2
     ∷ 0 ∷ 1 ∷ 0 ∷ 3 ∷ 4 ∷ 1 ∷ 0 ∷ 1 ∷ 0 ∷ 0 ∷ 1 ∷ 0 ∷ 0 ∷ 1 ∷ 0 ∷ 0 ∷ 1 ∷ 0 ∷ 0 ∷ 1 ∷ 0 ∷ 2 ∷ 7 ∷ 0
-    ∷ 0 ∷ 1 ∷ 1 ∷ 0 ∷ 0 ∷ 0 ∷ 1
+    ∷ 70
     ∷ []
 unfolding encoded partsOf isHeld phaseHeld
 leaving-bytes = refl

@@ -1,9 +1,9 @@
--- What the tests of bytes tell, field by field, and tests and reads of the movement records at the places that the code reads.
+-- What the tests of bytes tell, field by field, and the test of the movement records at the places that the code reads.
 use Prim.Native.Nat.{ℕ, _+_, _*_, _<_}
-use mathlib.Core.Bool.{Bool, true, false, _&&_, and-true}
+use mathlib.Core.Bool.{Bool, true, _&&_, and-true}
 use mathlib.Core.List.{List}
 use mathlib.Core.Path.{_≡_}
-use lib.Dec.{ltb, eqb}
+use lib.Dec.{eqb}
 use lib.ListN.{length}
 use borrow.Author.Tests.{ltb-true, eqb-true}
 use Rattle.rules.specs.Bytes.{byteAt}
@@ -11,8 +11,8 @@ use Rattle.rules.specs.Intervals.{intervals, stages}
 use Rattle.rules.specs.Rows.{allOf}
 use Rattle.rules.specs.State.{idle}
 use Rattle.rules.proofs.Tests.{and-left, and-right}
-use Rattle.board_forms.specs.Forms.{held, flag, row}
-use Rattle.board_state.specs.Layout.{interval, stage, position, demands, movement, movements, kept, demandsAt, movementsAt, keptAt, state, stateBytes, isState}
+use Rattle.board_forms.specs.Forms.{held, row}
+use Rattle.board_state.specs.Layout.{interval, stage, position, movement, movements, movementsAt, state, stateBytes, isState}
 
 -- both of two tests that pass
 split : (a b : Bool) → (a && b) ≡ true → (a ≡ true) × (b ≡ true)
@@ -29,15 +29,6 @@ position-told b at h =
     let rest = split (held .known b (at + 4)) _ (first .1) in
     record { code = ltb-true (byteAt b (at + 1)) (length intervals) (first .0); came = rest .0; target = rest .1 }
 
-pub record DemandsTold (b : List ℕ) (at : ℕ) : Type 0 where
-  pub locks : row 7 false flag .known b (at + 0) ≡ true
-  pub buttons : row 8 false flag .known b (at + 7) ≡ true
-
-pub demands-told : (b : List ℕ) (at : ℕ) → demands .known b at ≡ true → DemandsTold b at
-demands-told b at h =
-    let both = split (row 7 false flag .known b (at + 0)) _ h in
-    record { locks = both .0; buttons = both .1 }
-
 pub stage-told : (b : List ℕ) (at : ℕ) → movement .known b at ≡ true → byteAt b (at + 0) < length stages
 stage-told b at h = ltb-true (byteAt b (at + 0)) (length stages) (and-left (stage .known b (at + 0)) true h)
 
@@ -48,15 +39,16 @@ pub record StateTold (b : List ℕ) : Type 0 where
   pub size : length b ≡ stateBytes
   pub known : state .known b 0 ≡ true
   pub position-known : position .known b 0 ≡ true
-  pub demands-known : demands .known b demandsAt ≡ true
   pub movements-known : movements .known b movementsAt ≡ true
-  pub kept-known : kept .known b keptAt ≡ true
 
 pub state-told : (b : List ℕ) → isState b ≡ true → StateTold b
 unfolding isState
 state-told b h =
     let first = split (eqb (length b) stateBytes) _ h in
     let second = split (position .known b 0) _ (first .1) in
-    let third = split (demands .known b demandsAt) _ (second .1) in
-    let fourth = split (movements .known b movementsAt) _ (third .1) in
-    record { size = eqb-true (length b) stateBytes (first .0); known = first .1; position-known = second .0; demands-known = third .0; movements-known = fourth .0; kept-known = fourth .1 }
+    record {
+      size = eqb-true (length b) stateBytes (first .0);
+      known = first .1;
+      position-known = second .0;
+      movements-known = and-left (movements .known b movementsAt) true (second .1);
+    }

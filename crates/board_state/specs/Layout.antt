@@ -2,7 +2,7 @@
 -- the field. `encoded` writes the layout, `decoded` reads it, `isState` says which bytes are a state, and `Proper` which states the machine's
 -- types have.
 use Prim.Native.Nat.{ℕ, _+_}
-use mathlib.Core.Bool.{Bool, false, _&&_}
+use mathlib.Core.Bool.{Bool, _&&_}
 use mathlib.Core.List.{List}
 use lib.Dec.{eqb}
 use lib.ListN.{length}
@@ -18,7 +18,7 @@ use Rattle.rules.specs.declared.state.KeptState.{KeptState}
 use Rattle.rules.specs.Intervals.{intervalRow, intervals, stageRow, stages}
 use Rattle.rules.specs.Rows.{if_then_else_}
 use Rattle.rules.specs.State.{idle}
-use Rattle.board_forms.specs.Forms.{Form, byte, two, coded, flag, held, row, Table, field, _⊗_, made}
+use Rattle.board_forms.specs.Forms.{Form, byte, two, coded, held, row, Table, field, _⊗_, made}
 
 abbrev pub interval : Form Interval
 interval = coded intervals StartRed (λ i. intervalRow i .code)
@@ -55,10 +55,10 @@ countsOf = λ (gap, maximum). record { gap = gap; maximum = maximum }
 abbrev pub counts : Form Counts
 counts = made countsRows countsOf
 
--- ── Demands: 15 bytes ──
+-- ── Demands: the set of locked phases and that of demanded movements, 2 bytes ──
 
 abbrev pub demandsRows : Table Demands
-demandsRows = field 0 (row 7 false flag) (λ d. d .locks) ⊗ field 7 (row 8 false flag) (λ d. d .buttons)
+demandsRows = field 0 byte (λ d. d .locks) ⊗ field 1 byte (λ d. d .buttons)
 
 abbrev pub demandsOf : demandsRows .Fields → Demands
 demandsOf = λ (locks, buttons). record { locks = locks; buttons = buttons }
@@ -77,13 +77,10 @@ movementOf = λ (stage, age). record { stage = stage; age = age }
 abbrev pub movement : Form Movement
 movement = made movementRows movementOf
 
--- ── The state: 58 bytes, its parts one behind the other ──
+-- ── The state: 39 bytes, its parts one behind the other ──
 
 abbrev pub movements : Form (List Movement)
 movements = row 8 idle movement
-
-abbrev pub kept : Form (List Bool)
-kept = row 7 false flag
 
 -- byte 8
 abbrev pub countsAt : ℕ
@@ -93,11 +90,11 @@ countsAt = position .width
 abbrev pub demandsAt : ℕ
 demandsAt = countsAt + counts .width
 
--- byte 27
+-- byte 14
 abbrev pub movementsAt : ℕ
 movementsAt = demandsAt + demands .width
 
--- byte 51
+-- byte 38
 abbrev pub keptAt : ℕ
 keptAt = movementsAt + movements .width
 
@@ -107,7 +104,7 @@ stateRows =
     ⊗ field countsAt counts (λ s. s .rest .counts)
     ⊗ field demandsAt demands (λ s. s .rest .demands)
     ⊗ field movementsAt movements (λ s. s .rest .movements)
-    ⊗ field keptAt kept (λ s. s .kept)
+    ⊗ field keptAt byte (λ s. s .kept)
 
 abbrev pub stateOf : stateRows .Fields → KeptState
 stateOf =
@@ -129,7 +126,7 @@ decoded b = state .read b 0
 unfoldable pub isState : List ℕ → Bool
 isState b = eqb (length b) stateBytes && state .known b 0
 
--- each number fits its type, and each array has its length
+-- each number fits its type, and the movements are eight
 unfoldable pub Proper : KeptState → Type 0
 Proper = state .fits
 

@@ -1,6 +1,5 @@
-// The demands, one byte for each phase and each movement, in 15 bytes.
+// The set of locked phases and that of demanded movements, in 2 bytes. Any bytes are such sets.
 ghost use Prim.Native.Nat.{_+_, _≤_};
-ghost use mathlib.Core.Bool.{true};
 ghost use mathlib.Core.Path.{_≡_};
 ghost use lib.ListN.{length};
 ghost use lib.Seq.{sets};
@@ -9,31 +8,22 @@ use rules::state::Demands;
 
 const LOCKS: usize = 0;
 
-const BUTTONS: usize = 7;
-
-pub fn known(bytes: &[u8], at: usize) -> bool
-    requires { ⌜ at + demandsForm .width ≤ length (now bytes) ⌝ }
-    ensures { λ r. ⌜ r ≡ demandsForm .known (now (bytes .entry)) at ⌝ }
-{
-    board_forms::flags_known(bytes, at + LOCKS, 7)
-        & board_forms::flags_known(bytes, at + BUTTONS, 8)
-}
+const BUTTONS: usize = 1;
 
 pub fn read(bytes: &[u8], at: usize) -> Demands
-    requires { ⌜ (at + demandsForm .width ≤ length (now bytes)) × (demandsForm .known (now bytes) at ≡ true) ⌝ }
+    requires { ⌜ at + demandsForm .width ≤ length (now bytes) ⌝ }
     ensures { λ r. ⌜ r ≡ demandsForm .read (now (bytes .entry)) at ⌝ }
 {
-    let mut locks = [false; 7];
-    let mut buttons = [false; 8];
-    board_forms::flags(bytes, at + LOCKS, &mut locks);
-    board_forms::flags(bytes, at + BUTTONS, &mut buttons);
-    Demands { locks, buttons }
+    Demands {
+        locks: bytes[at + LOCKS],
+        buttons: bytes[at + BUTTONS],
+    }
 }
 
-pub fn put(bytes: &mut [u8], at: usize, locks: [bool; 7], buttons: [bool; 8])
+pub fn put(bytes: &mut [u8], at: usize, demands: Demands)
     requires { ⌜ at + demandsForm .width ≤ length (now bytes) ⌝ }
-    ensures { λ _. ⌜ now (bytes .exit) ≡ sets (now (bytes .entry)) at (demandsForm .written (record { locks = locks; buttons = buttons })) ⌝ }
+    ensures { λ _. ⌜ now (bytes .exit) ≡ sets (now (bytes .entry)) at (demandsForm .written demands) ⌝ }
 {
-    board_forms::put_flags(bytes, at + LOCKS, &locks);
-    board_forms::put_flags(bytes, at + BUTTONS, &buttons);
+    bytes[at + LOCKS] = demands.locks;
+    bytes[at + BUTTONS] = demands.buttons;
 }

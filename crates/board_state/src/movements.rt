@@ -61,7 +61,7 @@ fn put_one(bytes: &mut [u8], at: usize, own: Movement)
 {
     let stage = own.stage;
     let row = base_intervals::stage_row(stage);
-    board_forms::put_byte(bytes, at + STAGE, row.code);
+    bytes[at + STAGE] = row.code;
     board_forms::put_two(bytes, at + AGE, own.age);
 }
 

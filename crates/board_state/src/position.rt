@@ -47,8 +47,8 @@ pub fn put(bytes: &mut [u8], at: usize, position: Position)
     let came = position.came;
     let target = position.target;
     let row = base_intervals::interval_row(interval);
-    board_forms::put_byte(bytes, at + PHASE, position.phase);
-    board_forms::put_byte(bytes, at + INTERVAL, row.code);
+    bytes[at + PHASE] = position.phase;
+    bytes[at + INTERVAL] = row.code;
     board_forms::put_two(bytes, at + AGE, position.age);
     board_forms::put_held(bytes, at + CAME, came);
     board_forms::put_held(bytes, at + TARGET, target);

@@ -1,9 +1,10 @@
 -- `board_forms::held` meets its contract: the lowest bit of a known tag is the tag.
+use Prim.Native.Nat.{_+_, _<_}
 use mathlib.Core.Path.{_≡_}
 use native.Mathlib.Omega.{arith}
 use borrow.Author.Needs.{needs}
 use Rattle.rules.specs.Bytes.{byteAt}
-use Rattle.board_forms.proofs.Places.{tag-below}
+use Rattle.board_forms.proofs.Lawful.{tag-known}
 use Rattle.board_forms.proofs.held.Statement.{statement}
 use Rattle.board_forms.proofs.held.Tie as tie
 
@@ -16,20 +17,24 @@ shared-slice-read-phase c = search needs
 shared-slice-read-if1 : tie.Need-shared-slice-read-if1
 shared-slice-read-if1 c = search needs
 
+-- a known tag is 0 or 1
+tag : (c : tie.Start) → byteAt (c .args .bytes .now) (c .args .at) < 2
+tag c =
+    let b = c .args .bytes .now in
+    tag-known (byteAt b (c .args .at)) (byteAt b (c .args .at + 1)) (c .pre .1)
+
 returns : tie.Need-returns
 unfolding byteAt
 returns c =
     let start = c .before .before .before in
-    let b = start .args .bytes .now in
-    let e : byteAt b (start .args .at) ≡ 1 = omega (arith, tag-below b (start .args .at) (start .pre .1)) in
+    let e : byteAt (start .args .bytes .now) (start .args .at) ≡ 1 = omega (arith, tag start) in
     rw e
 
 returns-2 : tie.Need-returns-2
 unfolding byteAt
 returns-2 c =
     let start = c .before .before .before in
-    let b = start .args .bytes .now in
-    let e : byteAt b (start .args .at) ≡ 0 = omega (arith, tag-below b (start .args .at) (start .pre .1)) in
+    let e : byteAt (start .args .bytes .now) (start .args .at) ≡ 0 = omega (arith, tag start) in
     rw e
 
 pub held-spec : {M : Type 1} → statement M

@@ -1,6 +1,6 @@
 -- `board_state::decode` meets its contract: each part is read from bytes that the test passed.
 use native.Mathlib.Omega.{arith}
-use borrow.Author.Needs.{needs}
+use Rattle.rules.specs.Bytes.{byteAt}
 use Rattle.board_state.specs.Layout.{decoded}
 use Rattle.board_state.proofs.Told.{StateTold, state-told}
 use Rattle.board_state.proofs.decode.Statement.{statement}
@@ -10,28 +10,32 @@ use Rattle.board_state.proofs.decode.Tie as tie
 told : (c : tie.Start) → StateTold (c .args .bytes .now)
 told c = state-told (c .args .bytes .now) (c .pre)
 
-slice-aggregate-flags : tie.Need-slice-aggregate-flags
-slice-aggregate-flags c = search needs
-
-flags-requires : tie.Need-flags-requires
-flags-requires c κs = let t = told (c .before .before) in (omega (arith, t .size), t .kept-known)
-
 read-requires : tie.Need-read-requires
-read-requires c κs = let t = told (c .before .before .before .before) in (omega (arith, t .size), t .position-known)
+read-requires c κs = let t = told (c .before) in (omega (arith, t .size), t .position-known)
 
 read-requires-2 : tie.Need-read-requires-2
-read-requires-2 c κs = omega (arith, told (c .before .before .before .before .before) .size)
+read-requires-2 c κs = omega (arith, told (c .before .before) .size)
 
 read-requires-3 : tie.Need-read-requires-3
-read-requires-3 c κs = let t = told (c .before .before .before .before .before .before) in (omega (arith, t .size), t .demands-known)
+read-requires-3 c κs = omega (arith, told (c .before .before .before) .size)
 
 read-requires-4 : tie.Need-read-requires-4
-read-requires-4 c κs = let t = told (c .before .before .before .before .before .before .before) in (omega (arith, t .size), t .movements-known)
+read-requires-4 c κs = let t = told (c .before .before .before .before) in (omega (arith, t .size), t .movements-known)
+
+shared-slice-read-t8 : tie.Need-shared-slice-read-t8
+shared-slice-read-t8 c = omega (arith, told (c .before .before .before .before .before .before) .size)
 
 returns : tie.Need-returns
-unfolding decoded
-returns c = rw (c .read4 .ensures, c .before .read3 .ensures, c .before .before .read2 .ensures, c .before .before .before .read .ensures, c .before .before .before .before .before .flags .ensures)
+unfolding decoded byteAt
+returns c =
+    rw (
+      c .before .read4 .ensures,
+      c .before .before .read3 .ensures,
+      c .before .before .before .read2 .ensures,
+      c .before .before .before .before .read .ensures,
+    )
 
 pub decode-spec : {M : Type 1} → statement M
 decode-spec =
-    tie.close (tie.spec slice-aggregate-flags flags-requires read-requires read-requires-2 read-requires-3 read-requires-4 returns)
+    tie.close
+    (tie.spec read-requires read-requires-2 read-requires-3 read-requires-4 shared-slice-read-t8 returns)

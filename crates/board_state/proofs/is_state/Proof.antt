@@ -1,5 +1,5 @@
 -- `board_state::is_state` meets its contract: bytes of another length are none, and the tests after that are the layout's.
-use mathlib.Core.Bool.{and-assoc}
+use mathlib.Core.Bool.{and-true}
 use lib.ListN.{length}
 use borrow.Author.Tests.{eq-eqb, ne-eqb}
 use Rattle.board_state.specs.Layout.{stateBytes, isState}
@@ -17,26 +17,18 @@ known-requires c κs = search needs
 known-requires-2 : tie.Need-known-requires-2
 known-requires-2 c κs = search needs
 
-known-requires-3 : tie.Need-known-requires-3
-known-requires-3 c κs = search needs
-
-flags-known-requires : tie.Need-flags-known-requires
-flags-known-requires c κs = search needs
-
 returns-2 : tie.Need-returns-2
 unfolding isState
 returns-2 c =
-    let tested = c .before .before .before .before in
+    let tested = c .before .before in
     let b = tested .before .before .args .bytes .now in
     rw (
-      c .flags-known .ensures,
-      c .before .known3 .ensures,
-      c .before .before .known2 .ensures,
-      c .before .before .before .known .ensures,
+      c .known2 .ensures,
+      c .before .known .ensures,
       eq-eqb (length b) stateBytes (tested .if1 .left),
     )
-    (simp and-assoc)
+    (simp and-true)
 
 pub is-state-spec : {M : Type 1} → statement M
 is-state-spec =
-    tie.close (tie.spec returns known-requires known-requires-2 known-requires-3 flags-known-requires returns-2)
+    tie.close (tie.spec returns known-requires known-requires-2 returns-2)

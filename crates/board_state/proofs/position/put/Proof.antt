@@ -4,6 +4,7 @@ use mathlib.Core.Path.{_≡_}
 use native.Mathlib.Nat.{add-zero}
 use native.Mathlib.Numerals.{add-one}
 use native.Mathlib.Omega.{arith}
+use lib.ListN.{length-set}
 use borrow.Author.Needs.{needs}
 use Rattle.board_state.proofs.position.put.Statement.{statement}
 use Rattle.board_state.proofs.position.put.Tie as tie
@@ -11,47 +12,47 @@ use Rattle.board_state.proofs.position.put.Tie as tie
 interval-row-requires : tie.Need-interval-row-requires
 interval-row-requires c κs = search needs
 
-add-put-byte : tie.Need-add-put-byte
-add-put-byte c = search needs
+add-bytes : tie.Need-add-bytes
+add-bytes c = search needs
 
-put-byte-requires : tie.Need-put-byte-requires
-put-byte-requires c κs = search needs
+slice-write-bytes : tie.Need-slice-write-bytes
+slice-write-bytes c = search needs
 
-add-put-byte-2 : tie.Need-add-put-byte-2
-add-put-byte-2 c = search needs
+add-bytes-2 : tie.Need-add-bytes-2
+add-bytes-2 c = search needs
 
-put-byte-requires-2 : tie.Need-put-byte-requires-2
-put-byte-requires-2 c κs = search needs
+slice-write-bytes-2 : tie.Need-slice-write-bytes-2
+slice-write-bytes-2 c = simp length-set (omega arith)
 
 add-put-two : tie.Need-add-put-two
 add-put-two c = search needs
 
 put-two-requires : tie.Need-put-two-requires
-put-two-requires c κs = search needs
+put-two-requires c κs = simp length-set (omega arith)
 
 add-put-held : tie.Need-add-put-held
 add-put-held c = search needs
 
 put-held-requires : tie.Need-put-held-requires
-put-held-requires c κs = search needs
+put-held-requires c κs = omega (arith, simp length-set at (c .before .before .before .put-two .kept .0))
 
 add-put-held-2 : tie.Need-add-put-held-2
 add-put-held-2 c = search needs
 
 put-held-requires-2 : tie.Need-put-held-requires-2
-put-held-requires-2 c κs = search needs
+put-held-requires-2 c κs = omega (arith, simp length-set at (c .before .before .before .before .before .before .before .put-two .kept .0))
 
 same-length : tie.Need-same-length
-same-length c = search needs
+same-length c =
+    let came = c .before .before .before .before .before .before in
+    omega (arith, simp length-set at (came .before .before .before .before .put-two .kept .0))
 
 returns : tie.Need-returns
 returns c =
     let target = c .before .before in
     let came = target .before .before .before .before in
     let age = came .before .before .before .before in
-    let code = age .before .before .before .before in
-    let phase = code .before .before .before .before in
-    let row = phase .before .before in
+    let row = age .before .before in
     let at = row .before .before .args .at in
     let two : at + 2 ≡ suc (suc at) = omega arith in
     let four : at + 4 ≡ suc (suc (suc (suc at))) = omega arith in
@@ -60,8 +61,6 @@ returns c =
       target .put-held2 .ensures,
       came .put-held .ensures,
       age .put-two .ensures,
-      code .put-byte2 .ensures,
-      phase .put-byte .ensures,
       row .interval-row .ensures,
       add-zero at,
       add-one at,
@@ -75,10 +74,10 @@ put-spec =
     tie.close
     (tie.spec
     interval-row-requires
-    add-put-byte
-    put-byte-requires
-    add-put-byte-2
-    put-byte-requires-2
+    add-bytes
+    slice-write-bytes
+    add-bytes-2
+    slice-write-bytes-2
     add-put-two
     put-two-requires
     add-put-held
