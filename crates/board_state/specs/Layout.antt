@@ -55,7 +55,7 @@ countsOf = λ (gap, maximum). record { gap = gap; maximum = maximum }
 abbrev pub counts : Form Counts
 counts = made countsRows countsOf
 
--- ── Demands: 2 bytes, a set in each ──
+-- ── Demands: the set of locked phases and that of demanded movements, 2 bytes ──
 
 abbrev pub demandsRows : Table Demands
 demandsRows = field 0 byte (λ d. d .locks) ⊗ field 1 byte (λ d. d .buttons)

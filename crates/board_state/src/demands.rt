@@ -1,4 +1,4 @@
-// The demands, a set in a byte for the phases and one for the movements, in 2 bytes. Any bytes are such sets.
+// The set of locked phases and that of demanded movements, in 2 bytes. Any bytes are such sets.
 ghost use Prim.Native.Nat.{_+_, _≤_};
 ghost use mathlib.Core.Path.{_≡_};
 ghost use lib.ListN.{length};
