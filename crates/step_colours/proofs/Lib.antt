@@ -1,3 +1,4 @@
 pub mod Choices
 pub mod Shown
 pub mod Sizes
+pub mod Unclosed

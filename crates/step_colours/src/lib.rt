@@ -1,6 +1,7 @@
 // The colours that the signal groups show in a state, one byte a group.
 ghost use Prim.Native.Nat.{_≤_, _<_};
 ghost use mathlib.Core.List.{_++_};
+ghost use mathlib.Core.Bool.{_&&_};
 ghost use mathlib.Core.Path.{_≡_};
 ghost use lib.ListN.{length, drop};
 ghost use Rattle.rules.specs.Intervals.{heldIn};
@@ -135,6 +136,16 @@ fn still_closing(times: Times, position: Position) -> bool
     since_cut_off(interval, own, position.age) <= own.yellow as u32
 }
 
+// The same at a site that has times of early cut-off green: without them no group stops early, and it does not matter.
+fn closing_there(early: bool, times: Times, position: Position) -> bool
+    ensures { λ r. ⌜ r ≡ (early && closing times position) ⌝ }
+{
+    if early {
+        return still_closing(times, position);
+    }
+    false
+}
+
 // One turn of the pass: writes what group g shows, by its record and by its movement's stage if it is a pedestrian group, and answers how many
 // pedestrian groups are passed then. It takes no array: one that goes in by value would be copied at every turn.
 fn pass_group(
@@ -195,6 +206,6 @@ pub fn write(site: Site, state: State, buffer: &mut [u8])
     let position = state.position;
     let movements = state.movements;
     let times = site.times;
-    let closes = still_closing(times, position);
+    let closes = closing_there(site.early, times, position);
     show(groups, count, closes, position, movements, buffer);
 }

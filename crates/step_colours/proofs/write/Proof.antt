@@ -1,16 +1,21 @@
 -- `step_colours::write` meets its contract: what the site's groups show of the state's position and movements is the colours of the state.
-use lib.ListN.{length}
+use Prim.Native.Nat.{ℕ}
+use mathlib.Core.List.{List, _++_}
+use mathlib.Core.Path.{ap, _∙_}
+use lib.ListN.{length, drop}
 use borrow.Author.Needs.{needs}
 use Rattle.rules.specs.Colours.{shownIn, coloursOf, bufferAt}
+use Rattle.proof_arrays.proofs.Fill.{list-same}
 use Rattle.step_colours.proofs.Sizes.{showable}
+use Rattle.step_colours.proofs.Unclosed.{closing-there}
 use Rattle.step_colours.proofs.write.Statement.{statement}
 use Rattle.step_colours.proofs.write.Tie as tie
 
 cast-count : tie.Need-cast-count
 cast-count c = search needs
 
-still-closing-requires : tie.Need-still-closing-requires
-still-closing-requires c κs = search needs
+closing-there-requires : tie.Need-closing-there-requires
+closing-there-requires c κs = search needs
 
 show-requires : tie.Need-show-requires
 show-requires c κs =
@@ -22,7 +27,13 @@ same-length c = search needs
 
 returns : tie.Need-returns
 unfolding coloursOf shownIn bufferAt
-returns c = rw (c .before .before .before .before .still-closing .ensures) at (c .before .before .show .ensures)
+returns c =
+    let start = c .before .before .before .before .before .before .before .before .before .before .before in
+    let a = start .args in
+    c .before .before .show .ensures
+    ∙ rw (c .before .before .before .before .closing-there .ensures)
+    (ap (λ (l : List ℕ). l ++ drop (a .site .size .groups) (a .buffer .now))
+    (list-same _ (shownIn (a .site) (a .state)) (a .site .size .groups) (λ g l. closing-there (a .site) (start .pre .0) (a .state) g)))
 
 pub write-spec : {M : Type 1} → statement M
-write-spec = tie.close (tie.spec cast-count still-closing-requires show-requires same-length returns)
+write-spec = tie.close (tie.spec cast-count closing-there-requires show-requires same-length returns)

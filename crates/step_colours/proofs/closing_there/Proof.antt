@@ -1,0 +1,16 @@
+-- `step_colours::closing_there` meets its contract: it is asked at a site that has the times.
+use borrow.Author.Needs.{needs}
+use Rattle.step_colours.proofs.closing_there.Statement.{statement}
+use Rattle.step_colours.proofs.closing_there.Tie as tie
+
+still-closing-requires : tie.Need-still-closing-requires
+still-closing-requires c κs = search needs
+
+returns : tie.Need-returns
+returns c = rw (c .before .if1 .taken, c .still-closing .ensures)
+
+returns-2 : tie.Need-returns-2
+returns-2 c = rw (c .if1 .left)
+
+pub closing-there-spec : {M : Type 1} → statement M
+closing-there-spec = tie.close (tie.spec still-closing-requires returns returns-2)
