@@ -21,8 +21,8 @@ use Rattle.rules.proofs.Counts.{below-or-past}
 use Rattle.rules.proofs.Rows.{last-or-below, any-none, any-false}
 use Rattle.rules.proofs.Tests.{decided, never-both, not-true-false, and-left, and-right, and-both, and-false-left, and-false-right, or-false-both}
 use Rattle.base_reads.proofs.Common.{bit-and}
-use Rattle.read_sections.specs.declared.layout.Layout.{Layout}
-use Rattle.read_sections.specs.Laid.{Laid}
+use Rattle.read_layout.specs.declared.Layout.{Layout}
+use Rattle.read_layout.specs.Laid.{Laid}
 use Rattle.read_matrix.specs.Matrix.{Charted, ByteRows, BandRows, ConflictRows, SetRows, MemberRows, Matched, PairSound, BlockSound, BandSound, AllSound}
 use Rattle.read_matrix.proofs.TileBits.{four-bit}
 

@@ -7,8 +7,8 @@ use mathlib.Core.Path.{_≡_}
 use lib.ListN.{length, getD}
 use Rattle.rules.specs.Bytes.{byteAt, bit}
 use Rattle.rules.specs.Personality.{bodyAt, recordAt, phaseCount, groupCount, groupSet, conflictSet}
-use Rattle.read_sections.specs.declared.layout.Layout.{Layout}
-use Rattle.read_sections.specs.Laid.{Laid}
+use Rattle.read_layout.specs.declared.Layout.{Layout}
+use Rattle.read_layout.specs.Laid.{Laid}
 
 -- a layout whose counts are in their ranges, of bytes that reach to the end of kind 4
 pub record Charted (b : List ℕ) (w : Layout) : Type 0 where

@@ -8,7 +8,7 @@ ghost use Rattle.rules.specs.Bytes.{bit};
 ghost use Rattle.rules.specs.Personality.{bodyAt};
 ghost use Rattle.read_matrix.specs.Matrix.{Charted, ByteRows, BandRows, ConflictRows, SetRows, SetTiles};
 use base_reads::byte_in;
-use read_sections::layout::Layout;
+use read_layout::Layout;
 
 // Bit 0 of each row.
 const LOWEST: u64 = 0x0101_0101_0101_0101;

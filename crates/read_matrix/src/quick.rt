@@ -14,7 +14,7 @@ use crate::matrix::set_tiles;
 use base_reads::four_in;
 use base_tiles::mirrored;
 use read_groups::sets::reaches32;
-use read_sections::layout::Layout;
+use read_layout::Layout;
 
 // Bit r of each row r.
 const DIAGONAL: u64 = 0x8040_2010_0804_0201;

@@ -4,7 +4,7 @@ use mathlib.Core.List.{List}
 use native.Mathlib.Omega.{arith}
 use lib.ListN.{length}
 use Rattle.rules.specs.Personality.{bodyAt, phasesHead, groupsHead, conflictsHead, detectorsHead, pedestriansHead, detectorCount}
-use Rattle.read_sections.specs.declared.layout.Layout.{Layout}
+use Rattle.read_layout.specs.declared.Layout.{Layout}
 use Rattle.read_site.specs.Decoding.{Fitting}
 
 module _ {b : List ℕ} {w : Layout} (fitting : Fitting b w) where

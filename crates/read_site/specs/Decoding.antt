@@ -7,8 +7,8 @@ use lib.ListN.{length}
 use Rattle.rules.specs.Personality.{bodyAt, detectorCount, movementCount}
 use Rattle.rules.specs.declared.site.Site.{Site}
 use Rattle.rules.specs.Site.{siteOf}
-use Rattle.read_sections.specs.declared.layout.Layout.{Layout}
-use Rattle.read_sections.specs.Laid.{Laid}
+use Rattle.read_layout.specs.declared.Layout.{Layout}
+use Rattle.read_layout.specs.Laid.{Laid}
 use Rattle.read_site.specs.declared.PedestrianSets.{PedestrianSets}
 use Rattle.read_site.specs.declared.Timing.{Timing}
 
