@@ -1,9 +1,84 @@
 -- `read_layout::laid_out` meets its contract: each head follows the body before it, and a body length is read at its own head.
+use Prim.Native.Nat.{ℕ, _+_, _*_, _≤_}
+use mathlib.Core.List.{List}
+use mathlib.Core.Path.{_≡_, refl, _∙_}
 use native.Mathlib.Omega.{arith}
-use Rattle.rules.specs.Personality.{bodyAt, phaseCount, groupCount, groupsHead, conflictsHead, detectorsHead, pedestriansHead, earlyHead, hasEarly, orderHead, hasOrder, pastSection}
+use Rattle.rules.specs.Personality.{bodyAt, phaseCount, groupCount, groupsHead, conflictsHead, detectorsHead, pedestriansHead, earlyHead, hasEarly, orderHead, hasOrder, pastSection, hasHead}
+use Rattle.rules.specs.Rows.{if_then_else_}
+use Rattle.read_layout.specs.declared.Layout.{Layout}
+use Rattle.read_layout.specs.Laid.{Laid}
 use borrow.Author.Needs.{needs}
 use Rattle.read_layout.proofs.laid_out.Statement.{statement}
 use Rattle.read_layout.proofs.laid_out.Tie as tie
+
+-- ── A layout each of whose heads stands where the one before it and its body end ──
+
+module _
+    (b : List ℕ) (w : Layout)
+    (p : w .p ≡ phaseCount b)
+    (n : w .n ≡ groupCount b)
+    (g : w .groups ≡ 12 + w .p * 12)
+    (c : w .conflicts ≡ w .groups + 4 + w .n * 2)
+    (d : w .detectors ≡ w .conflicts + 4 + w .n * 4)
+    (q : w .pedestrians ≡ pastSection b (w .detectors))
+    (e : w .early ≡ pastSection b (w .pedestrians))
+    (seven : w .seven ≡ hasHead b (w .early) 7)
+    (o : w .order ≡ (if w .seven then pastSection b (w .early) else w .early))
+    (nine : w .nine ≡ hasHead b (w .order) 9)
+  where
+    groups : w .groups ≡ groupsHead b
+    unfolding groupsHead bodyAt
+    groups = g ∙ rw p
+
+    conflicts : w .conflicts ≡ conflictsHead b
+    unfolding conflictsHead bodyAt
+    conflicts = c ∙ rw (groups, n)
+
+    detectors : w .detectors ≡ detectorsHead b
+    unfolding detectorsHead bodyAt
+    detectors = d ∙ rw (conflicts, n)
+
+    pedestrians : w .pedestrians ≡ pedestriansHead b
+    unfolding pedestriansHead pastSection
+    pedestrians = q ∙ rw detectors
+
+    early : w .early ≡ earlyHead b
+    unfolding earlyHead
+    early = e ∙ rw pedestrians
+
+    has-early : w .seven ≡ hasEarly b
+    unfolding hasEarly
+    has-early = seven ∙ rw early
+
+    order : w .order ≡ orderHead b
+    unfolding orderHead
+    order = o ∙ rw (has-early, early)
+
+    has-order : w .nine ≡ hasOrder b
+    unfolding hasOrder
+    has-order = nine ∙ rw order
+
+    laid :
+        w .p ≤ 255 →
+        w .n ≤ 255 →
+        w .pedestrians ≤ w .detectors + 65539 →
+        w .early ≤ w .pedestrians + 65539 →
+        w .order ≤ w .early + 65539 →
+        Laid b w
+    laid few some near nearer next =
+        record {
+          p = p;
+          n = n;
+          groups = groups;
+          conflicts = conflicts;
+          detectors = detectors;
+          pedestrians = pedestrians;
+          early = early;
+          seven = has-early;
+          order = order;
+          nine = has-order;
+          near = (omega arith, omega arith, omega arith, omega arith, omega arith, omega arith);
+        }
 
 byte-requires : tie.Need-byte-requires
 byte-requires c κs = search needs
@@ -72,27 +147,18 @@ begins-requires-2 : tie.Need-begins-requires-2
 begins-requires-2 c κs = search needs
 
 returns : tie.Need-returns
-unfolding phaseCount groupCount groupsHead conflictsHead detectorsHead pedestriansHead earlyHead hasEarly orderHead hasOrder pastSection bodyAt
+unfolding phaseCount groupCount pastSection bodyAt
 returns c =
     let ninth = c .before in
     let seventh = ninth .before in
     let sixth = seventh .before in
     let fifth = sixth .before in
-    let n = fifth .before .byte2 .ensures in
-    let p = fifth .before .before .byte .ensures in
-    record {
-      p = p;
-      n = n;
-      groups = simp p;
-      conflicts = simp (n, p);
-      detectors = simp (n, p);
-      pedestrians = simp (fifth .length-at .ensures .0, n, p);
-      early = simp (sixth .length-at2 .ensures .0, fifth .length-at .ensures .0, n, p);
-      seven = simp (seventh .begins .ensures, sixth .length-at2 .ensures .0, fifth .length-at .ensures .0, n, p);
-      order = simp (ninth .past .ensures .0, seventh .begins .ensures, sixth .length-at2 .ensures .0, fifth .length-at .ensures .0, n, p);
-      nine = simp (c .begins2 .ensures, ninth .past .ensures .0, seventh .begins .ensures, sixth .length-at2 .ensures .0, fifth .length-at .ensures .0, n, p);
-      near = (omega arith, omega arith, omega arith, omega arith, omega arith, omega arith);
-    }
+    laid (fifth .before .before .before .before .args .s .now) _
+    (fifth .before .before .byte .ensures) (fifth .before .byte2 .ensures)
+    refl refl refl
+    (rw (fifth .length-at .ensures .0)) (rw (sixth .length-at2 .ensures .0))
+    (seventh .begins .ensures) (ninth .past .ensures .0) (c .begins2 .ensures)
+    (omega arith) (omega arith) (omega arith) (omega arith) (ninth .past .ensures .1)
 
 pub laid-out-spec : {M : Type 1} → statement M
 laid-out-spec =

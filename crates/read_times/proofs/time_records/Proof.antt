@@ -1,7 +1,7 @@
 -- `read_times::time_records` meets its contract. The invariant: every record before i has passed, and place is that of record i.
 use Prim.Native.Nat.{ℕ, _*_, _-_, _≤_}
 use mathlib.Core.List.{List}
-use mathlib.Core.Path.{_≡_, refl}
+use mathlib.Core.Path.{_≡_, refl, sym, _∙_}
 use native.Mathlib.Omega.{arith}
 use borrow.Author.Needs.{needs}
 use Rattle.rules.specs.Personality.{bodyAt, recordAt, timesAt}
@@ -48,7 +48,8 @@ returns : tie.Need-returns Inv-loop μ-loop
 returns c =
     let atLoopTest = c .before .before .before in
     let atLoop = atLoopTest .before in
-    first-stop _ _ _ (atLoopTest .loop-test .taken) (atLoop .loop .inv .2) (cc) (c .enum-told .given .1)
+    first-stop _ _ _ (atLoopTest .loop-test .taken) (atLoop .loop .inv .2) (rw (atLoop .loop .inv .1) at (c .before .before .times .ensures))
+    (c .enum-told .given .1)
 
 enum-told-2 : tie.Need-enum-told-2 Inv-loop μ-loop
 enum-told-2 c = search needs
@@ -74,7 +75,8 @@ loop-again c =
     let atStart = atLoop .before .before in (
       omega arith,
       rw (atLoop .loop .inv .1) (record-next (atStart .args .head) (atStart .args .fields * 2) (atLoop .loop .i)),
-      first-more _ _ (atLoop .loop .inv .2) (cc),
+      first-more _ _ (atLoop .loop .inv .2)
+          (sym (rw (atLoop .loop .inv .1) at (c .before .before .times .ensures)) ∙ c .enum-told2 .given .1),
     )
 
 returns-2 : tie.Need-returns-2 Inv-loop μ-loop
