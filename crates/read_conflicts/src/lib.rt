@@ -6,7 +6,7 @@ ghost use Rattle.rules.specs.Personality.{siteSection, groupsSection, conflicts
 ghost use Rattle.read_layout.specs.Laid.{Laid};
 use crate::records::first_refused;
 use read_layout::Layout;
-use read_matrix::quick::sound;
+use read_quick::sound;
 use read_sections::sized_section;
 use rules::answer::Verdict;
 
