@@ -1,4 +1,4 @@
--- `wait_bound::longest_of` meets its contract. The invariant: A and C of each phase are those of the movements that are passed, and the bits
+-- `wait_longest::longest_of` meets its contract. The invariant: A and C of each phase are those of the movements that are passed, and the bits
 -- of the rest are those that are left. The measure is the rest, which loses a bit a turn. W + C1 of a movement fits, as is
 -- asked of each of the first count.
 use borrow.Author.Needs.{needs}
@@ -6,13 +6,9 @@ use native.Mathlib.Omega.{arith}
 use Prim.Native.Nat.{_-_, _/_, _<_}
 use lib.Bits.{and-le-r}
 use lib.Count.{trailingZeros}
-use Rattle.wait_bound.proofs.Passes.{Passed, passed-none, passed-more, passed-all, at-within, movement-below}
-use Rattle.wait_bound.proofs.longest_of.Statement.{statement}
-use Rattle.wait_bound.proofs.longest_of.Tie as tie
-use Rattle.wait_bound.proofs.longest_of.Reads as reads
-use Rattle.wait_bound.proofs.longest_of.Lts as lts
-use Rattle.wait_bound.proofs.greater.Reads as greater-reads
-use Rattle.wait_bound.proofs.sets_of.Reads as sets-of-reads
+use Rattle.wait_longest.proofs.Passes.{Passed, passed-none, passed-more, passed-all, at-within, movement-below}
+use Rattle.wait_longest.proofs.longest_of.Statement.{statement}
+use Rattle.wait_longest.proofs.longest_of.Tie as tie
 
 abbrev Inv-loop : tie.InvT-loop
 Inv-loop count walks longest₀ rest₀ longest rest = Passed walks rest₀ rest longest
@@ -26,15 +22,12 @@ sets-of-requires c κs = search needs
 loop-holds : tie.Need-loop-holds Inv-loop μ-loop
 loop-holds c = passed-none (c .before .args .t2) (c .sets-of .result) (search needs)
 
-abbrev Turn : Type 0
-Turn = lts.In-loop (sets-of-reads.Asked, sets-of-reads.Learnt, greater-reads.Asked, greater-reads.Learnt) reads.Pre reads.Post Inv-loop μ-loop
-
 -- the bit of a turn is one of the 64
-turn-within : (c : Turn) → trailingZeros 64 (c .before .loop .rest) < 64
+turn-within : (c : tie.In-loop Inv-loop μ-loop) → trailingZeros 64 (c .before .loop .rest) < 64
 turn-within c = at-within (c .before .before .before .args .t2) (c .before .loop .inv) (omega (arith, c .loop-test .taken))
 
 -- its movement is one of the first count
-turn-below : (c : Turn) → trailingZeros 64 (c .before .loop .rest) / 8 < c .before .before .before .args .count
+turn-below : (c : tie.In-loop Inv-loop μ-loop) → trailingZeros 64 (c .before .loop .rest) / 8 < c .before .before .before .args .count
 turn-below c =
     let a = c .before .before .before .args in
     movement-below (a .t2) (a .crossings) (a .count) (c .before .loop .inv) (c .before .before .sets-of .ensures)

@@ -20,7 +20,7 @@ use Rattle.rules.specs.Site.{noWalkTimes, crosses}
 use Rattle.rules.specs.WaitBound.{longestWalk, longestClearance}
 use Rattle.rules.proofs.Bits.{bit-blank, bit-below}
 use Rattle.rules.proofs.Tests.{decided, and-left}
-use Rattle.wait_bound.proofs.Greatest.{greatest-same, greatest-none, greatest-with, greatest-past}
+use Rattle.wait_longest.proofs.Greatest.{greatest-same, greatest-none, greatest-with, greatest-past}
 use Rattle.base_reads.proofs.Lowest.{lowest-in, others-in, lowest-gone, others-same}
 
 -- ── What counts for a phase ──

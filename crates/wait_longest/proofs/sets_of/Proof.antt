@@ -1,4 +1,4 @@
--- `wait_bound::sets_of` meets its contract: each byte is shifted to its own place, and those from the count on are cut off.
+-- `wait_longest::sets_of` meets its contract: each byte is shifted to its own place, and those from the count on are cut off.
 use borrow.Author.Needs.{needs}
 use Prim.Native.Nat.{ℕ, _*_, _^_, _<_}
 use native.Mathlib.Omega.{arith}
@@ -6,14 +6,12 @@ use lib.ListN.{getD}
 use lib.Pow.{pow-pos, shl-exact}
 use mir.Syntax.{w8}
 use mir.Val.{Fits}
-use Rattle.wait_bound.proofs.Packed.{packed-below, packed-all}
-use Rattle.wait_bound.proofs.sets_of.Statement.{statement}
-use Rattle.wait_bound.proofs.sets_of.Tie as tie
-use Rattle.wait_bound.proofs.sets_of.Reads as reads
-use Rattle.wait_bound.proofs.sets_of.Lts as lts
+use Rattle.wait_longest.proofs.Packed.{packed-below, packed-all}
+use Rattle.wait_longest.proofs.sets_of.Statement.{statement}
+use Rattle.wait_longest.proofs.sets_of.Tie as tie
 
 -- an entry is a byte
-entry-fits : (c : lts.Start reads.Pre reads.Post) (k : ℕ) → getD (c .args .t1) k 0 < 2 ^ 8
+entry-fits : (c : tie.Start) (k : ℕ) → getD (c .args .t1) k 0 < 2 ^ 8
 entry-fits c k = let h : Fits w8 (getD (c .args .t1) k 0) = search needs in h .fits
 
 array-read-low : tie.Need-array-read-low
