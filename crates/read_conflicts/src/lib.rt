@@ -3,10 +3,10 @@
 ghost use mathlib.Core.Path.{_≡_};
 ghost use Rattle.rules.specs.declared.answer.Verdict.the-variants.{Accepted};
 ghost use Rattle.rules.specs.Personality.{siteSection, groupsSection, conflictsSection};
-ghost use Rattle.read_sections.specs.Laid.{Laid};
+ghost use Rattle.read_layout.specs.Laid.{Laid};
 use crate::records::first_refused;
-use read_matrix::quick::sound;
-use read_sections::layout::Layout;
+use read_layout::Layout;
+use read_quick::sound;
 use read_sections::sized_section;
 use rules::answer::Verdict;
 

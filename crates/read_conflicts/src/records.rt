@@ -7,14 +7,14 @@ ghost use Rattle.rules.specs.Rows.{anyOf};
 ghost use Rattle.rules.specs.Verdicts.{refuseIf, firstOf};
 ghost use Rattle.rules.specs.declared.answer.Verdict.the-variants.{Accepted};
 ghost use Rattle.rules.specs.Personality.{recordAt, groupCount, conflictsHead, conflictSet, groupsSection};
-ghost use Rattle.read_sections.specs.Laid.{Laid};
+ghost use Rattle.read_layout.specs.Laid.{Laid};
 ghost use Rattle.read_conflicts.specs.Refused.{refusedPair, refusedRecord};
 use base_reads::bit32;
 use base_reads::four;
 use base_reads::share;
 use read_groups::sets::group_set;
 use read_groups::sets::reaches32;
-use read_sections::layout::Layout;
+use read_layout::Layout;
 use rules::answer::Verdict;
 
 // The groups that group g conflicts with.

@@ -1,6 +1,6 @@
 -- Phase sets as numbers. A set below 2 ^ P has as many phases as its number has ones, and has them all exactly where it is one less than
 -- 2 ^ P. So a record is bad by its two bytes, and the union of the sets tells whether a phase is in none.
-use Prim.Native.Nat.{ℕ, zero, suc, _+_, _-_, _/_, _%_, _^_, _<_, min}
+use Prim.Native.Nat.{ℕ, zero, suc, _+_, _-_, _*_, _/_, _%_, _^_, _≤_, _<_, min}
 use mathlib.Core.Bool.{true, false, not, _&&_, _||_, or-false}
 use mathlib.Core.List.{List}
 use mathlib.Core.Logic.{⊎-elim}
@@ -12,7 +12,7 @@ use lib.Arith.{mod-mul}
 use lib.Bits.{bitOr, or-lt}
 use lib.Count.{onesIn, ones, ones-cat}
 use lib.Dec.{leb, ltb, eqb}
-use lib.Pow.{pow-pos}
+use lib.Pow.{pow-pos, shl-exact}
 use borrow.Author.Tests.{leb-true, leb-false, le-leb, lt-leb, not-false}
 use Rattle.rules.specs.Bytes.{bit}
 use Rattle.rules.specs.Personality.{phaseCount, groupCount, groupSet, groupMark, pedestrian, badGroup, phaseWithoutGroup, walksPhase}
@@ -52,7 +52,10 @@ lowest-ones (suc n) x =
 pub ones-counted : (n x : ℕ) → x < 2 ^ n → countOf (λ p. bit p x) n ≡ ones x
 ones-counted n x h = lowest-ones n x ∙ ap ones (mod-eq-of-lt h)
 
--- ── A set of all phases ──
+-- ── A set of one phase, and a set of all phases ──
+
+pub shifted : (k : ℕ) → k ≤ 7 → 1 * 2 ^ k % 2 ^ 8 ≡ 1 * 2 ^ k
+shifted k l = shl-exact 1 k 8 (omega arith) (omega arith)
 
 pub full-each : (n x p : ℕ) → x + 1 ≡ 2 ^ n → p < n → bit p x ≡ true
 full-each zero x p e l = absurd (omega arith)

@@ -3,9 +3,9 @@ ghost use Prim.Native.Nat.{_^_, _≤_};
 ghost use mathlib.Core.Path.{_≡_};
 ghost use lib.Dec.{leb};
 ghost use Rattle.rules.specs.Personality.{groupSet};
-ghost use Rattle.read_sections.specs.Laid.{Laid};
+ghost use Rattle.read_layout.specs.Laid.{Laid};
 use base_reads::byte;
-use read_sections::layout::Layout;
+use read_layout::Layout;
 
 // The phase set of group g.
 pub fn group_set(s: &[u8], layout: Layout, g: usize) -> u8

@@ -14,9 +14,9 @@ use Rattle.rules.specs.Lookup.{heldKind, headOf}
 use Rattle.rules.proofs.Tests.{and-left, and-right, or-cases}
 use Rattle.rules.proofs.Verdicts.{or-first, or-later}
 use Rattle.proof_acceptance.proofs.Sections.{body-held, sections-accepted}
-use Rattle.read_sections.specs.declared.layout.Layout.{Layout}
-use Rattle.read_sections.specs.Laid.{Laid}
-use Rattle.read_site.specs.Decoding.{Fitting}
+use Rattle.read_layout.specs.declared.Layout.{Layout}
+use Rattle.read_layout.specs.Laid.{Laid}
+use Rattle.read_site_rows.specs.Fitting.{Fitting}
 
 pub accepted-fits : {b : List ℕ} {w : Layout} → verdictOf b ≡ Accepted → Laid b w → Fitting b w
 unfolding earlyHead pastSection

@@ -6,7 +6,7 @@ ghost use Rattle.rules.specs.declared.answer.Verdict.the-variants.{Accepted};
 ghost use Rattle.rules.specs.Personality.{verdictOf};
 ghost use Rattle.rules.specs.Site.{siteOf};
 ghost use Rattle.read_site.specs.Decoding.{timingIn};
-use read_sections::layout::laid_out;
+use read_layout::laid_out;
 use read_site::Timing;
 use rules::site::Site;
 

@@ -4,7 +4,7 @@ ghost use Prim.Native.Nat.{_≤_};
 ghost use mathlib.Core.Path.{_≡_};
 ghost use Rattle.rules.specs.Lookup.{heldKind, headOf, lookupVerdict, lookupReport, sectionOf};
 use base_reads::two;
-use read_sections::layout::laid_out;
+use read_layout::laid_out;
 use rules::answer::Report;
 use rules::answer::Verdict;
 

@@ -6,52 +6,16 @@ ghost use lib.ListN.{length};
 ghost use Rattle.rules.specs.declared.answer.Verdict.the-variants.{Accepted};
 ghost use Rattle.rules.specs.Rows.{anyOf};
 ghost use Rattle.rules.specs.Verdicts.{refuseIf};
-ghost use Rattle.rules.specs.Personality.{groupCount, siteSection, groupsSection, detectorsSection, stopsEarly, earlySection, earlyMissing, afterPedestrians};
+ghost use Rattle.rules.specs.Personality.{groupCount, siteSection, groupsSection, detectorsSection, stopsEarly, afterPedestrians};
 ghost use Rattle.read_groups.specs.Told.{Walked};
-ghost use Rattle.read_sections.specs.Laid.{Laid};
-use crate::callers::each_called;
-use crate::order::order_section;
-use read_sections::layout::Layout;
-use read_sections::layout::past;
-use read_sections::records::pair_at;
-use read_sections::times::timed_section;
+ghost use Rattle.read_layout.specs.Laid.{Laid};
+use read_callers::each_called;
+use read_early::early_missing;
+use read_early::early_section;
+use read_layout::Layout;
+use read_layout::past;
+use read_order::order_section;
 use rules::answer::Verdict;
-
-// Kind 7, where it is there: a time of early cut-off green for each phase.
-fn early_section(s: &[u8], layout: Layout) -> Verdict
-    requires { ⌜ Laid (now s) layout ⌝ }
-    ensures { λ r. ⌜ r ≡ earlySection (now (s .entry)) ⌝ }
-{
-    if !layout.seven {
-        return Verdict::Accepted;
-    }
-    timed_section(s, layout.early, 7, 10, 1, layout.p as usize)
-}
-
-// 17: the first group that stops early, if there is some and kind 7 is not there. Kind 3 has been accepted, so every mark is in the slice.
-fn early_missing(s: &[u8], layout: Layout, some: bool) -> Verdict
-    requires { ⌜ Laid (now s) layout × (groupsSection (now s) ≡ Accepted)
-        × (some ≡ anyOf (stopsEarly (now s)) (groupCount (now s))) ⌝ }
-    ensures { λ r. ⌜ r ≡ earlyMissing (now (s .entry)) ⌝ }
-{
-    if layout.seven | !some {
-        return Verdict::Accepted;
-    }
-    let groups = layout.n as usize;
-    let head = layout.groups;
-    let mut g: usize = 0;
-    while g < groups {
-        let group = pair_at(s, head, g);
-        if group.second == 3 {
-            return Verdict::Refused {
-                number: 17,
-                place: head + 4 + g * 2,
-            };
-        }
-        g += 1;
-    }
-    Verdict::Accepted
-}
 
 // 12: bytes after the last section, which ends at the place given.
 fn left_over(s: &[u8], place: usize) -> Verdict

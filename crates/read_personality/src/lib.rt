@@ -3,21 +3,16 @@ ghost use mathlib.Core.Path.{_≡_};
 ghost use Rattle.rules.specs.Personality.{verdictOf};
 
 mod after;
-mod callers;
-mod detectors;
-mod order;
-mod pedestrians;
-mod site;
 
 use after::after_pedestrians;
-use detectors::detectors_section;
-use pedestrians::pedestrians_section;
 use read_conflicts::conflicts_section;
+use read_detectors::detectors_section;
 use read_groups::records::groups_section;
-use read_sections::layout::laid_out;
+use read_layout::laid_out;
+use read_settings::pedestrians_section;
+use read_settings::phases_section;
+use read_settings::site_section;
 use rules::answer::Verdict;
-use site::phases_section;
-use site::site_section;
 
 pub fn read(personality: &[u8]) -> Verdict
     ensures { λ r. ⌜ r ≡ verdictOf (now (personality .entry)) ⌝ }

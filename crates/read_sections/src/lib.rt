@@ -1,12 +1,10 @@
-// What the sections of a personality have in common: where they stand, the check of a head with its body, and records of times.
+// What the sections of a personality have in common: the check of a head with its body, and records of two bytes.
 ghost use Prim.Native.Nat.{_≤_};
 ghost use mathlib.Core.Path.{_≡_};
 ghost use lib.Dec.{eqb};
 ghost use Rattle.rules.specs.Personality.{bodyLength, sectionAt};
 
-pub mod layout;
 pub mod records;
-pub mod times;
 
 use base_reads::two_in;
 use rules::answer::Verdict;

@@ -1,4 +1,1 @@
-pub mod Packed
-pub mod Greatest
-pub mod Passes
 pub mod Sums

@@ -10,8 +10,8 @@ use Rattle.rules.specs.declared.answer.Verdict.{Verdict}
 use Rattle.rules.specs.declared.answer.Verdict.the-variants.{Accepted}
 use Rattle.rules.proofs.Verdicts.{or-next, or-stop}
 use Rattle.proof_acceptance.proofs.Sections.{groups-accepted}
-use Rattle.read_sections.specs.declared.layout.Layout.{Layout}
-use Rattle.read_sections.specs.Laid.{Laid}
+use Rattle.read_layout.specs.declared.Layout.{Layout}
+use Rattle.read_layout.specs.Laid.{Laid}
 use Rattle.read_personality.proofs.read.Statement.{statement}
 use Rattle.read_personality.proofs.read.Tie as tie
 

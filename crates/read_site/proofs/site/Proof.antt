@@ -2,8 +2,8 @@
 use mathlib.Core.Path.{ap}
 use Rattle.rules.specs.Site.{siteOf}
 use Rattle.rules.specs.declared.site.Size.{Size}
-use Rattle.read_site.specs.declared.PedestrianSets.{PedestrianSets}
-use Rattle.read_site.specs.Decoding.{crossingsIn}
+use Rattle.read_site_rows.specs.declared.PedestrianSets.{PedestrianSets}
+use Rattle.read_site_rows.specs.Fitting.{crossingsIn}
 use borrow.Author.Needs.{needs}
 use Rattle.read_site.proofs.site.Statement.{statement}
 use Rattle.read_site.proofs.site.Tie as tie

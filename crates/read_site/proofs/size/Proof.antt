@@ -2,7 +2,7 @@
 use native.Mathlib.Omega.{arith}
 use Rattle.rules.specs.Personality.{detectorCount}
 use Rattle.rules.specs.Site.{siteOf}
-use Rattle.read_sections.proofs.Lengths.{detectors-apart, detectors-length}
+use Rattle.read_layout.proofs.Lengths.{detectors-apart, detectors-length}
 use borrow.Author.Needs.{needs}
 use Rattle.read_site.proofs.size.Statement.{statement}
 use Rattle.read_site.proofs.size.Tie as tie

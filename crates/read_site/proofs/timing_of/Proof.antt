@@ -1,8 +1,8 @@
 -- `read_site::timing_of` meets its contract: each part is the one that its own function gives.
 use mathlib.Core.Path.{ap}
 use Rattle.rules.specs.Site.{siteOf}
-use Rattle.read_site.specs.declared.PedestrianSets.{PedestrianSets}
-use Rattle.read_site.specs.Decoding.{crossingsIn}
+use Rattle.read_site_rows.specs.declared.PedestrianSets.{PedestrianSets}
+use Rattle.read_site_rows.specs.Fitting.{crossingsIn}
 use borrow.Author.Needs.{needs}
 use Rattle.read_site.proofs.timing_of.Statement.{statement}
 use Rattle.read_site.proofs.timing_of.Tie as tie

@@ -11,10 +11,6 @@ use Rattle.rules.specs.WaitBound.{waitBoundBy}
 use Rattle.wait_bound.proofs.Sums.{shareAt, all-shares, bound-fits, walk-fits, shares-fit}
 use Rattle.wait_bound.proofs.wait_bound_of.Statement.{statement}
 use Rattle.wait_bound.proofs.wait_bound_of.Tie as tie
-use Rattle.wait_bound.proofs.wait_bound_of.Reads as reads
-use Rattle.wait_bound.proofs.wait_bound_of.Lts as lts
-use Rattle.wait_bound.proofs.longest_of.Reads as longest-of-reads
-use Rattle.wait_bound.proofs.share.Reads as share-reads
 
 abbrev Inv-loop : tie.InvT-loop
 Inv-loop owns phases longest sum₀ phase₀ sum phase = (phase ≤ phases) × (sum ≡ sum₀ + sumOf (shareAt owns longest) phase)
@@ -56,12 +52,9 @@ mul-share-3 c = search needs
 array-read-share-2 : tie.Need-array-read-share-2 Inv-loop μ-loop
 array-read-share-2 c = search needs
 
-abbrev Turn : Type 0
-Turn = lts.In-loop (longest-of-reads.Asked, longest-of-reads.Learnt, share-reads.Asked, share-reads.Learnt) reads.Pre reads.Post Inv-loop μ-loop
-
 -- the sum with the share of a turn's phase
 turn-fits :
-    (c : Turn) →
+    (c : tie.In-loop Inv-loop μ-loop) →
     let at = c .before .before in
     c .before .loop .sum
     + shareAt (at .before .before .before .args .times .phases) (at .longest-of .result) (c .before .loop .phase)

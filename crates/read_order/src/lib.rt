@@ -1,0 +1,53 @@
+// Kind 9: the phases in running order.
+ghost use Prim.Native.Nat.{_+_, _≤_};
+ghost use mathlib.Core.Bool.{not};
+ghost use mathlib.Core.Path.{_≡_};
+ghost use lib.ListN.{length};
+ghost use Rattle.rules.specs.declared.answer.Verdict.the-variants.{Accepted};
+ghost use Rattle.rules.specs.Personality.{bodyAt, phaseCount, phaseNotOnce, siteSection, orderSection};
+ghost use Rattle.read_layout.specs.Laid.{Laid};
+use base_reads::byte_in;
+use read_layout::Layout;
+use read_sections::sized_section;
+use rules::answer::Verdict;
+
+// Whether each phase stands in the order once. There are as many entries as phases, so it is enough that each is listed; a byte that is no
+// phase lists none.
+fn each_once(s: &[u8], layout: Layout) -> bool
+    requires { ⌜ Laid (now s) layout × (phaseCount (now s) ≤ 7) × (bodyAt (layout .order) + layout .p ≤ length (now s)) ⌝ }
+    ensures { λ r. ⌜ r ≡ not (phaseNotOnce (now (s .entry))) ⌝ }
+{
+    let phases = layout.p;
+    let start = layout.order + 4;
+    let mut listed: u8 = 0;
+    let mut i: u8 = 0;
+    while i < phases {
+        let phase = byte_in(s, start + i as usize);
+        if phase < phases {
+            listed = listed | (1u8 << phase);
+        }
+        i += 1;
+    }
+    listed + 1 == 1u8 << phases
+}
+
+// Kind 9, where it is there: an entry for each phase. 18: not each phase once. Kind 1 has been accepted, so there are at most 7.
+pub fn order_section(s: &[u8], layout: Layout) -> Verdict
+    requires { ⌜ Laid (now s) layout × (siteSection (now s) ≡ Accepted) ⌝ }
+    ensures { λ r. ⌜ r ≡ orderSection (now (s .entry)) ⌝ }
+{
+    if !layout.nine {
+        return Verdict::Accepted;
+    }
+    let body = sized_section(s, layout.order, 9, layout.p as usize);
+    if let Verdict::Refused { .. } = body {
+        return body;
+    }
+    if each_once(s, layout) {
+        return Verdict::Accepted;
+    }
+    Verdict::Refused {
+        number: 18,
+        place: layout.order,
+    }
+}

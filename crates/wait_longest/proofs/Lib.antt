@@ -1,0 +1,3 @@
+pub mod Packed
+pub mod Greatest
+pub mod Passes
