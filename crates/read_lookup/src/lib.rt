@@ -5,17 +5,19 @@ ghost use mathlib.Core.Path.{_≡_};
 ghost use Rattle.rules.specs.declared.answer.Verdict.the-variants.{Accepted};
 ghost use Rattle.rules.specs.Personality.{verdictOf};
 ghost use Rattle.rules.specs.Site.{siteOf};
+ghost use Rattle.read_layout.specs.Laid.{Laid};
 ghost use Rattle.read_site.specs.Decoding.{timingIn};
+use read_layout::Layout;
 use read_layout::laid_out;
 use read_site::Timing;
 use rules::site::Site;
 
-// The site of a personality that `read_personality::read` accepts.
-pub fn site(personality: &[u8]) -> Site
-    requires { ⌜ verdictOf (now personality) ≡ Accepted ⌝ }
+// The site of a personality that `read_personality::read` accepts, by its layout: a step call makes that once, for its checks and for this.
+pub fn site(personality: &[u8], layout: Layout) -> Site
+    requires { ⌜ (verdictOf (now personality) ≡ Accepted) × Laid (now personality) layout ⌝ }
     ensures { λ r. ⌜ r ≡ siteOf (now (personality .entry)) ⌝ }
 {
-    read_site::site(personality, laid_out(personality))
+    read_site::site(personality, layout)
 }
 
 // The parts of that site that the wait bound goes by.

@@ -1,6 +1,7 @@
 // Unit one: reading a personality. The checks go from top to bottom, section by section, and the first refusal is the answer.
 ghost use mathlib.Core.Path.{_≡_};
 ghost use Rattle.rules.specs.Personality.{verdictOf};
+ghost use Rattle.read_layout.specs.Laid.{Laid};
 
 mod after;
 
@@ -8,16 +9,18 @@ use after::after_pedestrians;
 use read_conflicts::conflicts_section;
 use read_detectors::detectors_section;
 use read_groups::records::groups_section;
+use read_layout::Layout;
 use read_layout::laid_out;
 use read_settings::pedestrians_section;
 use read_settings::phases_section;
 use read_settings::site_section;
 use rules::answer::Verdict;
 
-pub fn read(personality: &[u8]) -> Verdict
+// The verdict on a personality whose layout is at hand.
+pub fn read_by(personality: &[u8], layout: Layout) -> Verdict
+    requires { ⌜ Laid (now personality) layout ⌝ }
     ensures { λ r. ⌜ r ≡ verdictOf (now (personality .entry)) ⌝ }
 {
-    let layout = laid_out(personality);
     let site = site_section(personality, layout);
     if let Verdict::Refused { .. } = site {
         return site;
@@ -44,4 +47,10 @@ pub fn read(personality: &[u8]) -> Verdict
         return pedestrians;
     }
     after_pedestrians(personality, layout, groups.walked, groups.early)
+}
+
+pub fn read(personality: &[u8]) -> Verdict
+    ensures { λ r. ⌜ r ≡ verdictOf (now (personality .entry)) ⌝ }
+{
+    read_by(personality, laid_out(personality))
 }

@@ -13,6 +13,7 @@ ghost use Rattle.willowera.specs.Board.{packed, packedVerdict, packedOut
 pub mod sheet;
 
 use base_reads::two;
+use read_layout::laid_out;
 use read_lookup::lookup::head_of;
 use rules::answer::Outcome;
 use rules::answer::Verdict;
@@ -82,11 +83,12 @@ pub extern "C" fn willowera_step(
         × (now (state .exit) ≡ stateAfter (now (personality .entry)) (now (state .entry)) inputs (length (now (colours .entry))))
         × (now (colours .exit) ≡ coloursAfter (now (personality .entry)) (now (state .entry)) inputs (now (colours .entry))) ⌝ }
 {
-    let verdict = read_personality::read(personality);
+    let layout = laid_out(personality);
+    let verdict = read_personality::read_by(personality, layout);
     if let Verdict::Refused { number, place } = verdict {
         return refusal(number, place);
     }
-    let site = read_lookup::site(personality);
+    let site = read_lookup::site(personality, layout);
     if !board_state::is_state(state) {
         return refusal(13, 0);
     }

@@ -11,8 +11,11 @@ use Rattle.board_controller.proofs.Calls.{declines, sound-read, call-re
 use Rattle.board_controller.proofs.step.Statement.{statement}
 use Rattle.board_controller.proofs.step.Tie as tie
 
-read-requires : tie.Need-read-requires
-read-requires c κs = search needs
+laid-out-requires : tie.Need-laid-out-requires
+laid-out-requires c κs = search needs
+
+read-by-requires : tie.Need-read-by-requires
+read-by-requires c κs = search needs
 
 enum-known-verdict : tie.Need-enum-known-verdict
 enum-known-verdict c = search needs
@@ -24,9 +27,9 @@ returns : tie.Need-returns
 unfolding answerOf bufferOf
 returns c =
     let asked = c .before .before .before .before in
-    let a = asked .before .before .before .args in
+    let a = asked .before .before .before .before .args in
     let b = a .personality .now in
-    let refused = sym (asked .read .ensures) ∙ c .before .before .verdict .given .1 in
+    let refused = sym (asked .read-by .ensures) ∙ c .before .before .verdict .given .1 in
     declines (callVerdict b (a .state) (a .inputs) (length (a .colours .now))) (siteOf b) (a .state) (a .inputs) (a .colours .now)
     (c .declined .result) _ _
     (call-refused b (a .state) (a .inputs) (length (a .colours .now)) _ _ refused)
@@ -36,11 +39,11 @@ enum-told : tie.Need-enum-told
 enum-told c = search needs
 
 -- past the refusal the personality is accepted
-accepted : (c : tie.After-enum-told) → verdictOf (c .before .before .before .before .before .args .personality .now) ≡ Accepted
-accepted c = sym (c .before .before .read .ensures) ∙ c .enum-told .given .1
+accepted : (c : tie.After-enum-told) → verdictOf (c .before .before .before .before .before .before .args .personality .now) ≡ Accepted
+accepted c = sym (c .before .before .read-by .ensures) ∙ c .enum-told .given .1
 
 site-requires : tie.Need-site-requires
-site-requires c κs = accepted c
+site-requires c κs = (accepted c, c .before .before .before .laid-out .ensures)
 
 step-on-requires : tie.Need-step-on-requires
 step-on-requires c κs =
@@ -54,7 +57,7 @@ returns-2 : tie.Need-returns-2
 unfolding answerOf bufferOf
 returns-2 c =
     let held = c .before .before .before .before in
-    let a = held .before .before .before .before .before .before .args in
+    let a = held .before .before .before .before .before .before .before .args in
     stepped-call (a .personality .now) (held .site .result) (a .state) (a .inputs) (a .colours .now) _ _ (accepted (held .before))
     (held .site .ensures)
     (c .before .before .step-on .ensures)
@@ -63,7 +66,8 @@ pub step-spec : {M : Type 1} → statement M
 step-spec =
     tie.close
     (tie.spec
-    read-requires
+    laid-out-requires
+    read-by-requires
     enum-known-verdict
     declined-requires
     returns

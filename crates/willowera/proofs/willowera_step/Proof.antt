@@ -13,23 +13,26 @@ use Rattle.willowera.proofs.willowera_step.Tie as tie
 
 -- ── A refused personality ──
 
-read-requires : tie.Need-read-requires
-read-requires c κs = search needs
+laid-out-requires : tie.Need-laid-out-requires
+laid-out-requires c κs = search needs
+
+read-by-requires : tie.Need-read-by-requires
+read-by-requires c κs = search needs
 
 enum-known-verdict : tie.Need-enum-known-verdict
 enum-known-verdict c = search needs
 
 refusal-requires : tie.Need-refusal-requires
 refusal-requires c κs =
-    let read = c .before .before .before .read in
+    let read = c .before .before .before .read-by in
     refused-near _ (read .result) (read .ensures) (c .before .verdict .given .1)
 
 returns : tie.Need-returns
 returns c =
     let asked = c .before .before .before .before in
-    let a = asked .before .before .before .before .args in
-    refuses (a .personality .now) (a .state .now) (a .colours .now) (a .inputs) (c .refusal .result) (asked .read .result)
-    (asked .read .ensures)
+    let a = asked .before .before .before .before .before .args in
+    refuses (a .personality .now) (a .state .now) (a .colours .now) (a .inputs) (c .refusal .result) (asked .read-by .result)
+    (asked .read-by .ensures)
     (c .before .before .verdict .given .1)
     (c .refusal .ensures)
 
@@ -38,11 +41,11 @@ returns c =
 enum-told : tie.Need-enum-told
 enum-told c = search needs
 
-accepted : (c : tie.After-enum-told) → verdictOf (c .before .before .before .before .before .before .args .personality .now) ≡ Accepted
-accepted c = sym (c .before .before .read .ensures) ∙ c .enum-told .given .1
+accepted : (c : tie.After-enum-told) → verdictOf (c .before .before .before .before .before .before .before .args .personality .now) ≡ Accepted
+accepted c = sym (c .before .before .read-by .ensures) ∙ c .enum-told .given .1
 
 site-requires : tie.Need-site-requires
-site-requires c κs = accepted c
+site-requires c κs = (accepted c, c .before .before .before .laid-out .ensures)
 
 is-state-requires : tie.Need-is-state-requires
 is-state-requires c κs = search needs
@@ -57,7 +60,7 @@ returns-2 : tie.Need-returns-2
 returns-2 c =
     let tested = c .before .before in
     let told = tested .before .before .before in
-    let a = told .before .before .before .before .before .before .args in
+    let a = told .before .before .before .before .before .before .before .args in
     no-state (a .personality .now) (a .state .now) (a .colours .now) (a .inputs) (c .refusal2 .result) (accepted told)
     (sym (tested .is-state .ensures) ∙ not-true (tested .is-state .result) (c .before .if1 .taken))
     (c .refusal2 .ensures)
@@ -66,7 +69,7 @@ returns-2 c =
 
 known :
     (c : tie.Else1) →
-    isState (c .before .before .before .before .before .before .before .before .before .before .args .state .now) ≡ true
+    isState (c .before .before .before .before .before .before .before .before .before .before .before .args .state .now) ≡ true
 known c = sym (c .before .is-state .ensures) ∙ not-false (c .before .is-state .result) (c .if1 .left)
 
 decode-requires : tie.Need-decode-requires
@@ -95,7 +98,7 @@ refusal-requires-3 c κs =
     let bytes = called .before .before in
     let held = bytes .before .before .before .before .before in
     let told = held .before in
-    let a = told .before .before .before .before .before .before .args in
+    let a = told .before .before .before .before .before .before .before .args in
     answer-near (a .personality .now) (accepted told) (held .site .result) (held .site .ensures) (bytes .decode .result) (a .inputs)
     (a .colours .now) (called .step-on .result) _
     (called .step-on .ensures)
@@ -115,7 +118,7 @@ returns-3 c =
     let past = bytes .before .before in
     let held = past .before .before .before in
     let told = held .before in
-    let a = told .before .before .before .before .before .before .args in
+    let a = told .before .before .before .before .before .before .before .args in
     steps-on (a .personality .now) (a .state .now) (a .colours .now) (a .inputs) (c .pack .result) (accepted told)
     (known past)
     (bytes .decode .result)
@@ -141,7 +144,7 @@ returns-4 c =
     let past = bytes .before .before in
     let held = past .before .before .before in
     let told = held .before in
-    let a = told .before .before .before .before .before .before .args in
+    let a = told .before .before .before .before .before .before .before .args in
     stays (a .personality .now) (a .state .now) (a .colours .now) (a .inputs) (c .refusal3 .result) (accepted told)
     (known past)
     (bytes .decode .result)
@@ -157,7 +160,8 @@ pub willowera-step-spec : {M : Type 1} → statement M
 willowera-step-spec =
     tie.close
     (tie.spec
-    read-requires
+    laid-out-requires
+    read-by-requires
     enum-known-verdict
     refusal-requires
     returns

@@ -1,4 +1,4 @@
--- `read_personality::read` meets its contract: the six sections and what follows them in order, the first refusal being the answer.
+-- `read_personality::read_by` meets its contract: the six sections and what follows them in order, the first refusal being the answer.
 use Prim.Native.Nat.{ℕ}
 use mathlib.Core.List.{List}
 use mathlib.Core.Path.{_≡_, sym, _∙_}
@@ -12,8 +12,8 @@ use Rattle.rules.proofs.Verdicts.{or-next, or-stop}
 use Rattle.proof_acceptance.proofs.Sections.{groups-accepted}
 use Rattle.read_layout.specs.declared.Layout.{Layout}
 use Rattle.read_layout.specs.Laid.{Laid}
-use Rattle.read_personality.proofs.read.Statement.{statement}
-use Rattle.read_personality.proofs.read.Tie as tie
+use Rattle.read_personality.proofs.read_by.Statement.{statement}
+use Rattle.read_personality.proofs.read_by.Tie as tie
 
 -- ── What is left to check from each section on ──
 
@@ -35,7 +35,7 @@ fromPhases b = phasesSection b orElse fromGroups b
 -- ── The bytes, at the place where each section has passed ──
 
 abbrev atSite : tie.After-enum-told2 → List ℕ
-atSite c = c .before .before .before .before .before .args .personality .now
+atSite c = c .before .before .before .before .args .personality .now
 
 abbrev atPhases : tie.After-enum-told4 → List ℕ
 atPhases c = atSite (c .before .before .before)
@@ -61,12 +61,9 @@ abbrev siteBefore : tie.After-enum-told6 → tie.After-enum-told2
 siteBefore c = c .before .before .before .before .before .before
 
 abbrev layoutAt : tie.After-enum-told2 → Layout
-layoutAt c = c .before .before .before .laid-out .result
+layoutAt c = c .before .before .before .before .args .layout
 
 -- ── The calls ──
-
-laid-out-requires : tie.Need-laid-out-requires
-laid-out-requires c κs = search needs
 
 site-section-requires : tie.Need-site-section-requires
 site-section-requires c κs = search needs
@@ -127,7 +124,7 @@ groupsAccepted c = sym (c .before .before .groups-section .ensures .verdict) ∙
 conflicts-section-requires : tie.Need-conflicts-section-requires
 conflicts-section-requires c κs =
     let site = siteBefore c in
-    (site .before .before .before .laid-out .ensures, siteAccepted site, groupsAccepted c)
+    (site .before .before .before .before .pre, siteAccepted site, groupsAccepted c)
 
 enum-told-7 : tie.Need-enum-told-7
 enum-told-7 c = search needs
@@ -145,7 +142,7 @@ afterConflicts c e = afterGroups (c .before .before .before) (or-next (c .before
 detectors-section-requires : tie.Need-detectors-section-requires
 detectors-section-requires c κs =
     let site = c .before .before .before .before .before .before .before .before .before in
-    (site .before .before .before .laid-out .ensures, siteAccepted site)
+    (site .before .before .before .before .pre, siteAccepted site)
 
 enum-told-9 : tie.Need-enum-told-9
 enum-told-9 c = search needs
@@ -165,7 +162,7 @@ groupsLaid :
     (c : tie.After-enum-told10) → Laid (atDetectors c) (layoutAt (siteBefore (groupsBefore c))) × (groupsSection (atDetectors c) ≡ Accepted)
 groupsLaid c =
     let groups = groupsBefore c in
-    (siteBefore groups .before .before .before .laid-out .ensures, groupsAccepted groups)
+    (siteBefore groups .before .before .before .before .pre, groupsAccepted groups)
 
 pedestrians-section-requires : tie.Need-pedestrians-section-requires
 pedestrians-section-requires c κs =
@@ -202,11 +199,10 @@ after-pedestrians-requires c κs =
 returns-7 : tie.Need-returns-7
 returns-7 c = pastPedestrians (c .before) (c .after-pedestrians .ensures)
 
-pub read-spec : {M : Type 1} → statement M
-read-spec =
+pub read-by-spec : {M : Type 1} → statement M
+read-by-spec =
     tie.close
     (tie.spec
-    laid-out-requires
     site-section-requires
     enum-told
     returns
