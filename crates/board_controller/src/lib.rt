@@ -5,7 +5,6 @@ ghost use Rattle.rules.specs.declared.answer.Outcome.the-variants.{Declined};
 ghost use Rattle.rules.specs.Call.{stepVerdict, boundFor, handedBack, bufferFor, answerOf, bufferOf, boundOf};
 ghost use Rattle.rules.specs.Kept.{freshKept, keptValid, keptStepped};
 ghost use Rattle.rules.specs.Laws.{Sound};
-use read_layout::laid_out;
 use rules::answer::Answer;
 use rules::answer::Outcome;
 use rules::answer::Verdict;
@@ -94,11 +93,12 @@ pub fn step(personality: &[u8], state: KeptState, inputs: u64, colours: &mut [u8
     ensures { λ r. ⌜ (r ≡ answerOf (now (personality .entry)) state inputs (length (now (colours .entry))))
         × (now (colours .exit) ≡ bufferOf (now (personality .entry)) state inputs (now (colours .entry))) ⌝ }
 {
-    let layout = laid_out(personality);
-    let verdict = read_personality::read_by(personality, layout);
+    let reading = read_personality::read_laid(personality);
+    let verdict = reading.verdict;
     if let Verdict::Refused { number, place } = verdict {
         return declined(number, place, state);
     }
+    let layout = reading.layout;
     step_on(
         read_lookup::site(personality, layout),
         state,

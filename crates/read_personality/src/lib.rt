@@ -16,8 +16,13 @@ use read_settings::phases_section;
 use read_settings::site_section;
 use rules::answer::Verdict;
 
-// The verdict on a personality whose layout is at hand.
-pub fn read_by(personality: &[u8], layout: Layout) -> Verdict
+// A verdict, and where the sections are.
+pub struct Reading {
+    pub verdict: Verdict,
+    pub layout: Layout,
+}
+
+fn checked(personality: &[u8], layout: Layout) -> Verdict
     requires { ⌜ Laid (now personality) layout ⌝ }
     ensures { λ r. ⌜ r ≡ verdictOf (now (personality .entry)) ⌝ }
 {
@@ -49,8 +54,18 @@ pub fn read_by(personality: &[u8], layout: Layout) -> Verdict
     after_pedestrians(personality, layout, groups.walked, groups.early)
 }
 
+// The verdict, with the layout for whoever goes on to the site. It is handed out and not taken in: the checks then hold it in registers, and
+// need not wait for it to be stored.
+pub fn read_laid(personality: &[u8]) -> Reading
+    ensures { λ r. ⌜ (r .verdict ≡ verdictOf (now (personality .entry))) × Laid (now (personality .entry)) (r .layout) ⌝ }
+{
+    let layout = laid_out(personality);
+    let verdict = checked(personality, layout);
+    Reading { verdict, layout }
+}
+
 pub fn read(personality: &[u8]) -> Verdict
     ensures { λ r. ⌜ r ≡ verdictOf (now (personality .entry)) ⌝ }
 {
-    read_by(personality, laid_out(personality))
+    read_laid(personality).verdict
 }

@@ -13,7 +13,6 @@ ghost use Rattle.willowera.specs.Board.{packed, packedVerdict, packedOut
 pub mod sheet;
 
 use base_reads::two;
-use read_layout::laid_out;
 use read_lookup::lookup::head_of;
 use rules::answer::Outcome;
 use rules::answer::Verdict;
@@ -83,11 +82,12 @@ pub extern "C" fn willowera_step(
         × (now (state .exit) ≡ stateAfter (now (personality .entry)) (now (state .entry)) inputs (length (now (colours .entry))))
         × (now (colours .exit) ≡ coloursAfter (now (personality .entry)) (now (state .entry)) inputs (now (colours .entry))) ⌝ }
 {
-    let layout = laid_out(personality);
-    let verdict = read_personality::read_by(personality, layout);
+    let reading = read_personality::read_laid(personality);
+    let verdict = reading.verdict;
     if let Verdict::Refused { number, place } = verdict {
         return refusal(number, place);
     }
+    let layout = reading.layout;
     let site = read_lookup::site(personality, layout);
     if !board_state::is_state(state) {
         return refusal(13, 0);

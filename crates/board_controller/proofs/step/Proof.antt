@@ -11,11 +11,8 @@ use Rattle.board_controller.proofs.Calls.{declines, sound-read, call-re
 use Rattle.board_controller.proofs.step.Statement.{statement}
 use Rattle.board_controller.proofs.step.Tie as tie
 
-laid-out-requires : tie.Need-laid-out-requires
-laid-out-requires c κs = search needs
-
-read-by-requires : tie.Need-read-by-requires
-read-by-requires c κs = search needs
+read-laid-requires : tie.Need-read-laid-requires
+read-laid-requires c κs = search needs
 
 enum-known-verdict : tie.Need-enum-known-verdict
 enum-known-verdict c = search needs
@@ -27,9 +24,9 @@ returns : tie.Need-returns
 unfolding answerOf bufferOf
 returns c =
     let asked = c .before .before .before .before in
-    let a = asked .before .before .before .before .args in
+    let a = asked .before .before .before .args in
     let b = a .personality .now in
-    let refused = sym (asked .read-by .ensures) ∙ c .before .before .verdict .given .1 in
+    let refused = sym (asked .read-laid .ensures .0) ∙ c .before .before .verdict .given .1 in
     declines (callVerdict b (a .state) (a .inputs) (length (a .colours .now))) (siteOf b) (a .state) (a .inputs) (a .colours .now)
     (c .declined .result) _ _
     (call-refused b (a .state) (a .inputs) (length (a .colours .now)) _ _ refused)
@@ -39,16 +36,16 @@ enum-told : tie.Need-enum-told
 enum-told c = search needs
 
 -- past the refusal the personality is accepted
-accepted : (c : tie.After-enum-told) → verdictOf (c .before .before .before .before .before .before .args .personality .now) ≡ Accepted
-accepted c = sym (c .before .before .read-by .ensures) ∙ c .enum-told .given .1
+accepted : (c : tie.After-enum-told) → verdictOf (c .before .before .before .before .before .args .personality .now) ≡ Accepted
+accepted c = sym (c .before .before .read-laid .ensures .0) ∙ c .enum-told .given .1
 
 site-requires : tie.Need-site-requires
-site-requires c κs = (accepted c, c .before .before .before .laid-out .ensures)
+site-requires c κs = (accepted (c .before), c .before .before .before .read-laid .ensures .1)
 
 step-on-requires : tie.Need-step-on-requires
 step-on-requires c κs =
     let held = c .before in
-    sound-read _ (held .site .result) (accepted (held .before)) (held .site .ensures)
+    sound-read _ (held .site .result) (accepted (held .before .before)) (held .site .ensures)
 
 same-length : tie.Need-same-length
 same-length c = search needs
@@ -58,7 +55,7 @@ unfolding answerOf bufferOf
 returns-2 c =
     let held = c .before .before .before .before in
     let a = held .before .before .before .before .before .before .before .args in
-    stepped-call (a .personality .now) (held .site .result) (a .state) (a .inputs) (a .colours .now) _ _ (accepted (held .before))
+    stepped-call (a .personality .now) (held .site .result) (a .state) (a .inputs) (a .colours .now) _ _ (accepted (held .before .before))
     (held .site .ensures)
     (c .before .before .step-on .ensures)
 
@@ -66,8 +63,7 @@ pub step-spec : {M : Type 1} → statement M
 step-spec =
     tie.close
     (tie.spec
-    laid-out-requires
-    read-by-requires
+    read-laid-requires
     enum-known-verdict
     declined-requires
     returns

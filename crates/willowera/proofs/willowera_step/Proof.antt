@@ -13,26 +13,23 @@ use Rattle.willowera.proofs.willowera_step.Tie as tie
 
 -- ── A refused personality ──
 
-laid-out-requires : tie.Need-laid-out-requires
-laid-out-requires c κs = search needs
-
-read-by-requires : tie.Need-read-by-requires
-read-by-requires c κs = search needs
+read-laid-requires : tie.Need-read-laid-requires
+read-laid-requires c κs = search needs
 
 enum-known-verdict : tie.Need-enum-known-verdict
 enum-known-verdict c = search needs
 
 refusal-requires : tie.Need-refusal-requires
 refusal-requires c κs =
-    let read = c .before .before .before .read-by in
-    refused-near _ (read .result) (read .ensures) (c .before .verdict .given .1)
+    let read = c .before .before .before .read-laid in
+    refused-near _ (read .result .verdict) (read .ensures .0) (c .before .verdict .given .1)
 
 returns : tie.Need-returns
 returns c =
     let asked = c .before .before .before .before in
-    let a = asked .before .before .before .before .before .args in
-    refuses (a .personality .now) (a .state .now) (a .colours .now) (a .inputs) (c .refusal .result) (asked .read-by .result)
-    (asked .read-by .ensures)
+    let a = asked .before .before .before .before .args in
+    refuses (a .personality .now) (a .state .now) (a .colours .now) (a .inputs) (c .refusal .result) (asked .read-laid .result .verdict)
+    (asked .read-laid .ensures .0)
     (c .before .before .verdict .given .1)
     (c .refusal .ensures)
 
@@ -41,11 +38,11 @@ returns c =
 enum-told : tie.Need-enum-told
 enum-told c = search needs
 
-accepted : (c : tie.After-enum-told) → verdictOf (c .before .before .before .before .before .before .before .args .personality .now) ≡ Accepted
-accepted c = sym (c .before .before .read-by .ensures) ∙ c .enum-told .given .1
+accepted : (c : tie.After-enum-told) → verdictOf (c .before .before .before .before .before .before .args .personality .now) ≡ Accepted
+accepted c = sym (c .before .before .read-laid .ensures .0) ∙ c .enum-told .given .1
 
 site-requires : tie.Need-site-requires
-site-requires c κs = (accepted c, c .before .before .before .laid-out .ensures)
+site-requires c κs = (accepted (c .before), c .before .before .before .read-laid .ensures .1)
 
 is-state-requires : tie.Need-is-state-requires
 is-state-requires c κs = search needs
@@ -59,8 +56,8 @@ same-length c = search needs
 returns-2 : tie.Need-returns-2
 returns-2 c =
     let tested = c .before .before in
-    let told = tested .before .before .before in
-    let a = told .before .before .before .before .before .before .before .args in
+    let told = tested .before .before .before .before in
+    let a = told .before .before .before .before .before .before .args in
     no-state (a .personality .now) (a .state .now) (a .colours .now) (a .inputs) (c .refusal2 .result) (accepted told)
     (sym (tested .is-state .ensures) ∙ not-true (tested .is-state .result) (c .before .if1 .taken))
     (c .refusal2 .ensures)
@@ -78,7 +75,7 @@ decode-requires c κs = known (c .before)
 step-on-requires : tie.Need-step-on-requires
 step-on-requires c κs =
     let held = c .before .before .before .before .before .before in
-    sound-read _ (held .site .result) (accepted (held .before)) (held .site .ensures)
+    sound-read _ (held .site .result) (accepted (held .before .before)) (held .site .ensures)
 
 enum-known-outcome : tie.Need-enum-known-outcome
 enum-known-outcome c = search needs
@@ -97,8 +94,8 @@ refusal-requires-3 c κs =
     let called = c .before .before .before .before .before in
     let bytes = called .before .before in
     let held = bytes .before .before .before .before .before in
-    let told = held .before in
-    let a = told .before .before .before .before .before .before .before .args in
+    let told = held .before .before in
+    let a = told .before .before .before .before .before .before .args in
     answer-near (a .personality .now) (accepted told) (held .site .result) (held .site .ensures) (bytes .decode .result) (a .inputs)
     (a .colours .now) (called .step-on .result) _
     (called .step-on .ensures)
@@ -117,8 +114,8 @@ returns-3 c =
     let bytes = called .before .before in
     let past = bytes .before .before in
     let held = past .before .before .before in
-    let told = held .before in
-    let a = told .before .before .before .before .before .before .before .args in
+    let told = held .before .before in
+    let a = told .before .before .before .before .before .before .args in
     steps-on (a .personality .now) (a .state .now) (a .colours .now) (a .inputs) (c .pack .result) (accepted told)
     (known past)
     (bytes .decode .result)
@@ -143,8 +140,8 @@ returns-4 c =
     let bytes = called .before .before in
     let past = bytes .before .before in
     let held = past .before .before .before in
-    let told = held .before in
-    let a = told .before .before .before .before .before .before .before .args in
+    let told = held .before .before in
+    let a = told .before .before .before .before .before .before .args in
     stays (a .personality .now) (a .state .now) (a .colours .now) (a .inputs) (c .refusal3 .result) (accepted told)
     (known past)
     (bytes .decode .result)
@@ -160,8 +157,7 @@ pub willowera-step-spec : {M : Type 1} → statement M
 willowera-step-spec =
     tie.close
     (tie.spec
-    laid-out-requires
-    read-by-requires
+    read-laid-requires
     enum-known-verdict
     refusal-requires
     returns

@@ -1,4 +1,4 @@
--- `read_personality::read_by` meets its contract: the six sections and what follows them in order, the first refusal being the answer.
+-- `read_personality::checked` meets its contract: the six sections and what follows them in order, the first refusal being the answer.
 use Prim.Native.Nat.{ℕ}
 use mathlib.Core.List.{List}
 use mathlib.Core.Path.{_≡_, sym, _∙_}
@@ -12,8 +12,8 @@ use Rattle.rules.proofs.Verdicts.{or-next, or-stop}
 use Rattle.proof_acceptance.proofs.Sections.{groups-accepted}
 use Rattle.read_layout.specs.declared.Layout.{Layout}
 use Rattle.read_layout.specs.Laid.{Laid}
-use Rattle.read_personality.proofs.read_by.Statement.{statement}
-use Rattle.read_personality.proofs.read_by.Tie as tie
+use Rattle.read_personality.proofs.checked.Statement.{statement}
+use Rattle.read_personality.proofs.checked.Tie as tie
 
 -- ── What is left to check from each section on ──
 
@@ -199,8 +199,8 @@ after-pedestrians-requires c κs =
 returns-7 : tie.Need-returns-7
 returns-7 c = pastPedestrians (c .before) (c .after-pedestrians .ensures)
 
-pub read-by-spec : {M : Type 1} → statement M
-read-by-spec =
+pub checked-spec : {M : Type 1} → statement M
+checked-spec =
     tie.close
     (tie.spec
     site-section-requires
