@@ -2,13 +2,15 @@
 ghost use lib.ListN.{length};
 ghost use mathlib.Core.Path.{_≡_};
 ghost use Rattle.rules.specs.declared.answer.Outcome.the-variants.{Declined};
-ghost use Rattle.rules.specs.Call.{stepVerdict, boundFor, handedBack, bufferFor, answerOf, bufferOf, boundOf};
-ghost use Rattle.rules.specs.Kept.{freshKept, keptValid, keptStepped};
-ghost use Rattle.rules.specs.Laws.{Sound};
+ghost use Rattle.rules.specs.declared.answer.Verdict.the-variants.{Accepted};
+ghost use Rattle.rules.specs.Call.{answerOf, bufferOf, boundOf};
+ghost use Rattle.rules.specs.Kept.{freshKept};
+ghost use Rattle.rules.specs.Personality.{verdictOf};
+ghost use Rattle.read_layout.specs.Laid.{Laid};
+use read_layout::Layout;
 use rules::answer::Answer;
 use rules::answer::Outcome;
 use rules::answer::Verdict;
-use rules::site::Site;
 use rules::state::Counts;
 use rules::state::Demands;
 use rules::state::Held;
@@ -57,14 +59,20 @@ fn declined(number: u8, place: usize, state: KeptState) -> Answer
     }
 }
 
-// A step on the site of an accepted personality, for callers that step many times: 13, then 15, then 14, then the step.
-pub fn step_on(site: Site, state: KeptState, inputs: u64, colours: &mut [u8]) -> Answer
-    requires { ⌜ Sound site ⌝ }
-    ensures { λ r. ⌜ (let verdict = stepVerdict site (keptValid site state) inputs (length (now (colours .entry))) in
-        let next = keptStepped site state inputs in
-        (r ≡ record { outcome = boundFor verdict site; state = handedBack verdict next state })
-        × (now (colours .exit) ≡ bufferFor verdict site (next .rest) (now (colours .entry)))) ⌝ }
+// A step call on an accepted personality whose layout is at hand: 13, then 15, then 14, then the step. The site is made here and not handed
+// in, since what goes in by value is copied.
+pub fn step_accepted(
+    personality: &[u8],
+    layout: Layout,
+    state: KeptState,
+    inputs: u64,
+    colours: &mut [u8],
+) -> Answer
+    requires { ⌜ (verdictOf (now personality) ≡ Accepted) × Laid (now personality) layout ⌝ }
+    ensures { λ r. ⌜ (r ≡ answerOf (now (personality .entry)) state inputs (length (now (colours .entry))))
+        × (now (colours .exit) ≡ bufferOf (now (personality .entry)) state inputs (now (colours .entry))) ⌝ }
 {
+    let site = read_lookup::site(personality, layout);
     if !step_checks::valid_kept(site, state) {
         return declined(13, 0, state);
     }
@@ -99,12 +107,7 @@ pub fn step(personality: &[u8], state: KeptState, inputs: u64, colours: &mut [u8
         return declined(number, place, state);
     }
     let layout = reading.layout;
-    step_on(
-        read_lookup::site(personality, layout),
-        state,
-        inputs,
-        colours,
-    )
+    step_accepted(personality, layout, state, inputs, colours)
 }
 
 // The wait bound of a personality in steps, or its refusal.

@@ -21,9 +21,7 @@ use Rattle.rules.specs.Verdicts.{_orElse_, reportOf, stepReportOf, waitOf}
 use Rattle.rules.specs.Personality.{bodyAt, bodyLength, verdictOf}
 use Rattle.rules.specs.Site.{siteOf}
 use Rattle.rules.specs.Lookup.{lookupVerdict, lookupReport, headOf}
-use Rattle.rules.specs.Kept.{keptValid}
-use Rattle.rules.specs.Call.{stepVerdict, callVerdict, boundFor, handedBack, bufferFor, boundOf, answerOf, bufferOf}
-use Rattle.board_controller.proofs.Calls.{Answers, stepped-call}
+use Rattle.rules.specs.Call.{callVerdict, boundFor, handedBack, bufferFor, boundOf, answerOf, bufferOf}
 use Rattle.board_state.specs.Layout.{stateBytes, isState, decoded, encoded, encodedOver}
 use Rattle.board_state.proofs.Told.{state-told}
 use Rattle.willowera.specs.Board.{packed, packedVerdict, packedOutcome, stepAnswer, stateFor, stateAfter, coloursAfter, sectionFor, sectionAnswer}
@@ -72,24 +70,19 @@ pub bound-near : (b : List ℕ) (o : Outcome) {number place : ℕ} → o ≡ bou
 unfolding boundOf
 bound-near b o {number} {place} e f = personality-named b number place (bound-declined (verdictOf b) (siteOf b) (sym e ∙ f)) .1
 
--- what a step on a site answers, and what the call on bytes answers, each with the buffer as it returns
-abbrev pub OnSite : Site → KeptState → ℕ → List ℕ → Answer → List ℕ → Type 0
-OnSite site s inputs buffer a out = Answers (stepVerdict site (keptValid site s) inputs (length buffer)) site s inputs buffer a out
+-- what a step call answers, with the buffer as it returns
+abbrev pub Called : List ℕ → KeptState → ℕ → List ℕ → Answer → List ℕ → Type 0
+Called b s inputs buffer a out = (a ≡ answerOf b s inputs (length buffer)) × (out ≡ bufferOf b s inputs buffer)
 
-abbrev pub OnBytes : List ℕ → KeptState → ℕ → List ℕ → Answer → List ℕ → Type 0
-OnBytes b s inputs buffer a out = (a ≡ answerOf b s inputs (length buffer)) × (out ≡ bufferOf b s inputs buffer)
-
-module _ (b : List ℕ) (accepted : verdictOf b ≡ Accepted) (site : Site) (read : site ≡ siteOf b) where
-  module _ (s : KeptState) (inputs : ℕ) (buffer : List ℕ) (a : Answer) (out : List ℕ) (given : OnSite site s inputs buffer a out) where
-    call : OnBytes b s inputs buffer a out
-    unfolding answerOf bufferOf
-    call = stepped-call b site s inputs buffer a out accepted read given
-
-    pub answer-near : {number place : ℕ} → a .outcome ≡ Declined number place → place ≤ lastPlace
-    unfolding answerOf
-    answer-near {number} {place} f =
-        call-named b s inputs (length buffer) number place
-        (bound-declined (callVerdict b s inputs (length buffer)) (siteOf b) (sym (ap (λ (x : Answer). x .outcome) (call .0)) ∙ f)) .1
+pub answer-near :
+    (b : List ℕ) (s : KeptState) (inputs : ℕ) (buffer : List ℕ) (a : Answer) (out : List ℕ) {number place : ℕ} →
+    Called b s inputs buffer a out →
+    a .outcome ≡ Declined number place →
+    place ≤ lastPlace
+unfolding answerOf
+answer-near b s inputs buffer a out {number} {place} called f =
+    call-named b s inputs (length buffer) number place
+    (bound-declined (callVerdict b s inputs (length buffer)) (siteOf b) (sym (ap (λ (x : Answer). x .outcome) (called .0)) ∙ f)) .1
 
 -- ── A step over bytes ──
 
@@ -123,33 +116,32 @@ module _ (b old buffer : List ℕ) (inputs r : ℕ) where
       Steps b old inputs buffer r old buffer
   refuses v e f p = refused-by (isState old) refl (sym e ∙ f) p
 
-  module _ (accepted : verdictOf b ≡ Accepted) where
-    pub no-state : isState old ≡ false → r ≡ packed 13 0 → Steps b old inputs buffer r old buffer
-    unfolding stepAnswer stateAfter coloursAfter packedVerdict reportOf _orElse_
-    no-state other p = (rw (other, accepted, p), rw other, rw other)
+  pub no-state : verdictOf b ≡ Accepted → isState old ≡ false → r ≡ packed 13 0 → Steps b old inputs buffer r old buffer
+  unfolding stepAnswer stateAfter coloursAfter packedVerdict reportOf _orElse_
+  no-state accepted other p = (rw (other, accepted, p), rw other, rw other)
 
-    module _ (known : isState old ≡ true) (s : KeptState) (e : s ≡ decoded old) (site : Site) (read : site ≡ siteOf b) (a : Answer) (out : List ℕ) (given : OnSite site s inputs buffer a out) where
-      called : OnBytes b (decoded old) inputs buffer a out
-      called = rw e at (call b accepted site read s inputs buffer a out given)
+  module _ (known : isState old ≡ true) {s : KeptState} (e : s ≡ decoded old) {a : Answer} {out : List ℕ} (given : Called b s inputs buffer a out) where
+    called : Called b (decoded old) inputs buffer a out
+    called = rw e at given
 
-      pub steps-on :
-          (new : List ℕ) {wait : ℕ} →
-          a .outcome ≡ Stepped wait →
-          new ≡ encodedOver (a .state) old →
-          r ≡ packed 0 wait →
-          Steps b old inputs buffer r new out
-      unfolding stepAnswer stateAfter coloursAfter packedOutcome stepReportOf waitOf stateFor encodedOver
-      steps-on new {wait} o n p =
-          let long = state-long old known in
-          (rw (known, sym (called .0), o, p, zero-add wait), rw (known, sym (called .0), o, n, long), rw (known, called .1))
+    pub steps-on :
+        (new : List ℕ) {wait : ℕ} →
+        a .outcome ≡ Stepped wait →
+        new ≡ encodedOver (a .state) old →
+        r ≡ packed 0 wait →
+        Steps b old inputs buffer r new out
+    unfolding stepAnswer stateAfter coloursAfter packedOutcome stepReportOf waitOf stateFor encodedOver
+    steps-on new {wait} o n p =
+        let long = state-long old known in
+        (rw (known, sym (called .0), o, p, zero-add wait), rw (known, sym (called .0), o, n, long), rw (known, called .1))
 
-      pub stays :
-          {number place : ℕ} →
-          a .outcome ≡ Declined number place →
-          r ≡ packed number place →
-          Steps b old inputs buffer r old out
-      unfolding stepAnswer stateAfter coloursAfter packedOutcome stepReportOf waitOf stateFor
-      stays {place = place} o p = (rw (known, sym (called .0), o, p, add-zero place), rw (known, sym (called .0), o), rw (known, called .1))
+    pub stays :
+        {number place : ℕ} →
+        a .outcome ≡ Declined number place →
+        r ≡ packed number place →
+        Steps b old inputs buffer r old out
+    unfolding stepAnswer stateAfter coloursAfter packedOutcome stepReportOf waitOf stateFor
+    stays {place = place} o p = (rw (known, sym (called .0), o, p, add-zero place), rw (known, sym (called .0), o), rw (known, called .1))
 
 -- ── The section lookup ──
 

@@ -87,13 +87,12 @@ pub extern "C" fn willowera_step(
     if let Verdict::Refused { number, place } = verdict {
         return refusal(number, place);
     }
-    let layout = reading.layout;
-    let site = read_lookup::site(personality, layout);
     if !board_state::is_state(state) {
         return refusal(13, 0);
     }
+    let layout = reading.layout;
     let before = board_state::decode(state);
-    let answer = board_controller::step_on(site, before, inputs, colours);
+    let answer = board_controller::step_accepted(personality, layout, before, inputs, colours);
     let outcome = answer.outcome;
     match outcome {
         Outcome::Stepped { wait } => {

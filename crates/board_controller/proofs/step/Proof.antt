@@ -1,5 +1,5 @@
--- `board_controller::step` meets its contract, by the two cases of the personality's verdict: its refusal is the call's, and of an accepted
--- one the step on its site is the call's.
+-- `board_controller::step` meets its contract, by the two cases of the personality's verdict: its refusal is the call's, and an accepted one is
+-- stepped.
 use borrow.Author.Needs.{needs}
 use mathlib.Core.Path.{_≡_, sym, _∙_}
 use lib.ListN.{length}
@@ -7,7 +7,7 @@ use Rattle.rules.specs.declared.answer.Verdict.the-variants.{Accepted}
 use Rattle.rules.specs.Personality.{verdictOf}
 use Rattle.rules.specs.Site.{siteOf}
 use Rattle.rules.specs.Call.{callVerdict, answerOf, bufferOf}
-use Rattle.board_controller.proofs.Calls.{declines, sound-read, call-refused, stepped-call}
+use Rattle.board_controller.proofs.Calls.{declines, call-refused}
 use Rattle.board_controller.proofs.step.Statement.{statement}
 use Rattle.board_controller.proofs.step.Tie as tie
 
@@ -39,25 +39,16 @@ enum-told c = search needs
 accepted : (c : tie.After-enum-told) → verdictOf (c .before .before .before .before .before .args .personality .now) ≡ Accepted
 accepted c = sym (c .before .before .read-laid .ensures .0) ∙ c .enum-told .given .1
 
-site-requires : tie.Need-site-requires
-site-requires c κs = (accepted (c .before), c .before .before .before .read-laid .ensures .1)
-
-step-on-requires : tie.Need-step-on-requires
-step-on-requires c κs =
-    let held = c .before in
-    sound-read _ (held .site .result) (accepted (held .before .before)) (held .site .ensures)
+step-accepted-requires : tie.Need-step-accepted-requires
+step-accepted-requires c κs =
+    let told = c .before .before in
+    (accepted told, told .before .before .read-laid .ensures .1)
 
 same-length : tie.Need-same-length
 same-length c = search needs
 
 returns-2 : tie.Need-returns-2
-unfolding answerOf bufferOf
-returns-2 c =
-    let held = c .before .before .before .before in
-    let a = held .before .before .before .before .before .before .before .args in
-    stepped-call (a .personality .now) (held .site .result) (a .state) (a .inputs) (a .colours .now) _ _ (accepted (held .before .before))
-    (held .site .ensures)
-    (c .before .before .step-on .ensures)
+returns-2 c = c .before .before .step-accepted .ensures
 
 pub step-spec : {M : Type 1} → statement M
 step-spec =
@@ -68,7 +59,6 @@ step-spec =
     declined-requires
     returns
     enum-told
-    site-requires
-    step-on-requires
+    step-accepted-requires
     same-length
     returns-2)

@@ -5,7 +5,6 @@ use borrow.Author.Needs.{needs}
 use borrow.Author.Tests.{not-true, not-false}
 use Rattle.rules.specs.declared.answer.Verdict.the-variants.{Accepted}
 use Rattle.rules.specs.Personality.{verdictOf}
-use Rattle.board_controller.proofs.Calls.{sound-read}
 use Rattle.board_state.specs.Layout.{isState}
 use Rattle.willowera.proofs.Answers.{refused-near, refuses, no-state, answer-near, steps-on, stays}
 use Rattle.willowera.proofs.willowera_step.Statement.{statement}
@@ -38,11 +37,11 @@ returns c =
 enum-told : tie.Need-enum-told
 enum-told c = search needs
 
-accepted : (c : tie.After-enum-told) → verdictOf (c .before .before .before .before .before .before .args .personality .now) ≡ Accepted
-accepted c = sym (c .before .before .read-laid .ensures .0) ∙ c .enum-told .given .1
+abbrev start : tie.After-enum-told → tie.Start
+start c = c .before .before .before .before .before .before
 
-site-requires : tie.Need-site-requires
-site-requires c κs = (accepted (c .before), c .before .before .before .read-laid .ensures .1)
+accepted : (c : tie.After-enum-told) → verdictOf (start c .args .personality .now) ≡ Accepted
+accepted c = sym (c .before .before .read-laid .ensures .0) ∙ c .enum-told .given .1
 
 is-state-requires : tie.Need-is-state-requires
 is-state-requires c κs = search needs
@@ -56,26 +55,27 @@ same-length c = search needs
 returns-2 : tie.Need-returns-2
 returns-2 c =
     let tested = c .before .before in
-    let told = tested .before .before .before .before in
-    let a = told .before .before .before .before .before .before .args in
+    let told = tested .before .before in
+    let a = start told .args in
     no-state (a .personality .now) (a .state .now) (a .colours .now) (a .inputs) (c .refusal2 .result) (accepted told)
     (sym (tested .is-state .ensures) ∙ not-true (tested .is-state .result) (c .before .if1 .taken))
     (c .refusal2 .ensures)
 
--- ── A state: the step on the site, refused or not ──
+-- ── A state: the step, refused or not ──
 
-known :
-    (c : tie.Else1) →
-    isState (c .before .before .before .before .before .before .before .before .before .before .before .args .state .now) ≡ true
+abbrev told : tie.Else1 → tie.After-enum-told
+told c = c .before .before .before
+
+known : (c : tie.Else1) → isState (start (told c) .args .state .now) ≡ true
 known c = sym (c .before .is-state .ensures) ∙ not-false (c .before .is-state .result) (c .if1 .left)
 
 decode-requires : tie.Need-decode-requires
-decode-requires c κs = known (c .before)
+decode-requires c κs = known (c .before .before)
 
-step-on-requires : tie.Need-step-on-requires
-step-on-requires c κs =
-    let held = c .before .before .before .before .before .before in
-    sound-read _ (held .site .result) (accepted (held .before .before)) (held .site .ensures)
+step-accepted-requires : tie.Need-step-accepted-requires
+step-accepted-requires c κs =
+    let read = told (c .before .before .before .before) in
+    (accepted read, read .before .before .read-laid .ensures .1)
 
 enum-known-outcome : tie.Need-enum-known-outcome
 enum-known-outcome c = search needs
@@ -89,16 +89,16 @@ pack-requires c κs = search needs
 enum-known-outcome-2 : tie.Need-enum-known-outcome-2
 enum-known-outcome-2 c = search needs
 
+-- where the state's bytes are known, from the step on
+abbrev past : tie.After-step-accepted → tie.Else1
+past c = c .before .before .before .before .before
+
 refusal-requires-3 : tie.Need-refusal-requires-3
 refusal-requires-3 c κs =
     let called = c .before .before .before .before .before in
-    let bytes = called .before .before in
-    let held = bytes .before .before .before .before .before in
-    let told = held .before .before in
-    let a = told .before .before .before .before .before .before .args in
-    answer-near (a .personality .now) (accepted told) (held .site .result) (held .site .ensures) (bytes .decode .result) (a .inputs)
-    (a .colours .now) (called .step-on .result) _
-    (called .step-on .ensures)
+    let a = start (told (past called)) .args in
+    answer-near (a .personality .now) (called .before .before .decode .result) (a .inputs) (a .colours .now) (called .step-accepted .result) _
+    (called .step-accepted .ensures)
     (c .before .outcome2 .given .1)
 
 same-length-2 : tie.Need-same-length-2
@@ -111,19 +111,10 @@ returns-3 : tie.Need-returns-3
 returns-3 c =
     let moved = c .before .before .before .before .before .before in
     let called = moved .before .before .before .before in
-    let bytes = called .before .before in
-    let past = bytes .before .before in
-    let held = past .before .before .before in
-    let told = held .before .before in
-    let a = told .before .before .before .before .before .before .args in
-    steps-on (a .personality .now) (a .state .now) (a .colours .now) (a .inputs) (c .pack .result) (accepted told)
-    (known past)
-    (bytes .decode .result)
-    (bytes .decode .ensures)
-    (held .site .result)
-    (held .site .ensures)
-    (called .step-on .result) _
-    (called .step-on .ensures) _
+    let a = start (told (past called)) .args in
+    steps-on (a .personality .now) (a .state .now) (a .colours .now) (a .inputs) (c .pack .result) (known (past called))
+    (called .before .before .decode .ensures)
+    (called .step-accepted .ensures) _
     (moved .outcome .given .1)
     (c .before .before .before .encode .ensures .1)
     (c .pack .ensures)
@@ -137,19 +128,10 @@ same-length-5 c = search needs
 returns-4 : tie.Need-returns-4
 returns-4 c =
     let called = c .before .before .before .before .before .before in
-    let bytes = called .before .before in
-    let past = bytes .before .before in
-    let held = past .before .before .before in
-    let told = held .before .before in
-    let a = told .before .before .before .before .before .before .args in
-    stays (a .personality .now) (a .state .now) (a .colours .now) (a .inputs) (c .refusal3 .result) (accepted told)
-    (known past)
-    (bytes .decode .result)
-    (bytes .decode .ensures)
-    (held .site .result)
-    (held .site .ensures)
-    (called .step-on .result) _
-    (called .step-on .ensures)
+    let a = start (told (past called)) .args in
+    stays (a .personality .now) (a .state .now) (a .colours .now) (a .inputs) (c .refusal3 .result) (known (past called))
+    (called .before .before .decode .ensures)
+    (called .step-accepted .ensures)
     (c .before .before .outcome2 .given .1)
     (c .refusal3 .ensures)
 
@@ -162,13 +144,12 @@ willowera-step-spec =
     refusal-requires
     returns
     enum-told
-    site-requires
     is-state-requires
     refusal-requires-2
     same-length
     returns-2
     decode-requires
-    step-on-requires
+    step-accepted-requires
     enum-known-outcome
     encode-requires
     pack-requires
