@@ -35,7 +35,7 @@ try_edit() { # EDIT
         rm -rf "$room"
         return 1
     fi
-    (cd "$room" && RT_CUT=0 rt check "$crate") >"$room/log" 2>&1
+    (cd "$room" && RT_JOBS=1 RT_CUT=0 rt check "$crate") >"$room/log" 2>&1
     first=$(grep -m 1 ': error' "$room/log" | sed "s|$room/||" | cut -c1-160)
     if ! grep -q "^rt: $crate NOT PROVED (exit 1" "$room/log"; then
         echo "$name: NOT REFUSED by $crate"
