@@ -18,11 +18,9 @@ use Rattle.rules.specs.Personality.{verdictOf}
 use Rattle.rules.specs.Site.{siteOf}
 use Rattle.rules.specs.Kept.{keptValid, keptStepped}
 use Rattle.rules.specs.Colours.{coloursOf}
-use Rattle.rules.specs.WaitBound.{waitBound, waitBoundBy}
-use Rattle.rules.specs.Call.{strayInput, stepVerdict, callVerdict, boundFor, handedBack, bufferFor, boundOf}
-use Rattle.rules.specs.Laws.{Sound, SoundTimes, AcceptedIsSound}
-use Rattle.read_site.specs.declared.Timing.{Timing}
-use Rattle.read_site.specs.Decoding.{timingIn}
+use Rattle.rules.specs.WaitBound.{waitBound}
+use Rattle.rules.specs.Call.{strayInput, stepVerdict, callVerdict, boundFor, handedBack, bufferFor}
+use Rattle.rules.specs.Laws.{Sound, AcceptedIsSound}
 use Rattle.proof_acceptance.proofs.Acceptance.{accepted-is-sound}
 
 module _ (site : Site) {isValid : Bool} (inputs room : ℕ) where
@@ -98,30 +96,3 @@ unfolding callVerdict _orElse_
 stepped-call b site s inputs buffer answer out e f w =
     rw e
     (subst (λ (x : Site). Answers (stepVerdict x (keptValid x s) inputs (length buffer)) x s inputs buffer answer out) f w)
-
--- ── Unit three ──
-
-pub bound-refused :
-    (b : List ℕ) (number place : ℕ) → verdictOf b ≡ Refused number place → Declined number place ≡ boundOf b
-unfolding boundOf boundFor
-bound-refused b number place e = rw e
-
--- what the wait bound goes by is of a sound site
-pub timing-sound :
-    (b : List ℕ) (timing : Timing) →
-    verdictOf b ≡ Accepted →
-    timing ≡ timingIn (siteOf b) →
-    (timing .size .phases ≤ 7) × (timing .size .movements ≤ 8) × SoundTimes (timing .size) (timing .times)
-unfolding AcceptedIsSound
-timing-sound b timing e f =
-    let sound = accepted-is-sound b e in
-    rw f (sound .phases .1, sound .movements, sound .times)
-
-pub bound-given :
-    (b : List ℕ) (timing : Timing) (wait : ℕ) →
-    verdictOf b ≡ Accepted →
-    timing ≡ timingIn (siteOf b) →
-    wait ≡ waitBoundBy (timing .size) (timing .times) (timing .crossings) →
-    Stepped wait ≡ boundOf b
-unfolding boundOf boundFor
-bound-given b timing wait e f w = rw (e, w, f)

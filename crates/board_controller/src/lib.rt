@@ -1,53 +1,16 @@
-// Units two and three as a caller sees them: the fresh state, the step call and the wait bound.
+// Unit two as a caller sees it: the step call.
 ghost use lib.ListN.{length};
 ghost use mathlib.Core.Path.{_≡_};
 ghost use Rattle.rules.specs.declared.answer.Outcome.the-variants.{Declined};
 ghost use Rattle.rules.specs.declared.answer.Verdict.the-variants.{Accepted};
-ghost use Rattle.rules.specs.Call.{answerOf, bufferOf, boundOf};
-ghost use Rattle.rules.specs.Kept.{freshKept};
+ghost use Rattle.rules.specs.Call.{answerOf, bufferOf};
 ghost use Rattle.rules.specs.Personality.{verdictOf};
 ghost use Rattle.read_layout.specs.Laid.{Laid};
 use read_layout::Layout;
 use rules::answer::Answer;
 use rules::answer::Outcome;
 use rules::answer::Verdict;
-use rules::state::Counts;
-use rules::state::Demands;
-use rules::state::Held;
-use rules::state::Interval;
 use rules::state::KeptState;
-use rules::state::Movement;
-use rules::state::Position;
-use rules::state::Stage;
-use rules::state::State;
-
-// Phase A in start red, age 1, came-from none, counts 0, no demands, movements idle; no phase is kept.
-pub fn fresh() -> KeptState
-    ensures { λ r. ⌜ r ≡ freshKept ⌝ }
-{
-    let idle = Movement {
-        stage: Stage::Idle,
-        age: 1,
-    };
-    KeptState {
-        rest: State {
-            position: Position {
-                phase: 0,
-                interval: Interval::StartRed,
-                age: 1,
-                came: Held::Nothing,
-                target: Held::Nothing,
-            },
-            counts: Counts { gap: 0, maximum: 0 },
-            demands: Demands {
-                locks: 0,
-                buttons: 0,
-            },
-            movements: [idle; 8],
-        },
-        kept: 0,
-    }
-}
 
 // A refused step hands back the old state.
 fn declined(number: u8, place: usize, state: KeptState) -> Answer
@@ -108,21 +71,4 @@ pub fn step(personality: &[u8], state: KeptState, inputs: u64, colours: &mut [u8
     }
     let layout = reading.layout;
     step_accepted(personality, layout, state, inputs, colours)
-}
-
-// The wait bound of a personality in steps, or its refusal.
-pub fn wait_bound(personality: &[u8]) -> Outcome
-    ensures { λ r. ⌜ r ≡ boundOf (now (personality .entry)) ⌝ }
-{
-    let verdict = read_personality::read(personality);
-    if let Verdict::Refused { number, place } = verdict {
-        return Outcome::Declined { number, place };
-    }
-    let timing = read_lookup::timing(personality);
-    let size = timing.size;
-    let times = timing.times;
-    let crossings = timing.crossings;
-    Outcome::Stepped {
-        wait: wait_bound::wait_bound_of(size, times, crossings),
-    }
 }

@@ -99,7 +99,7 @@ fn take_turn(personality: &[u8], state: KeptState, step: u64) -> Turn {
 
 // The steps of an accepted personality, from the fresh state.
 fn run(personality: &[u8]) {
-    let mut state = board_controller::fresh();
+    let mut state = board_fresh::fresh();
     let mut step: u64 = 1;
     while step <= STEPS {
         let next = take_turn(personality, state, step);

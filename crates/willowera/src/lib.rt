@@ -49,7 +49,7 @@ pub extern "C" fn willowera_read(personality: &[u8]) -> u64
 pub extern "C" fn willowera_wait_bound(personality: &[u8]) -> u64
     ensures { λ r. ⌜ r ≡ packedOutcome (boundOf (now (personality .entry))) ⌝ }
 {
-    let outcome = board_controller::wait_bound(personality);
+    let outcome = board_wait::wait_bound(personality);
     match outcome {
         Outcome::Stepped { wait } => pack(0, wait),
         Outcome::Declined { number, place } => refusal(number, place),
@@ -61,7 +61,7 @@ pub extern "C" fn willowera_wait_bound(personality: &[u8]) -> u64
 pub extern "C" fn willowera_fresh(state: &mut [u8]) -> u64
     ensures { λ r. ⌜ (r ≡ freshAnswer (now (state .entry))) × (now (state .exit) ≡ encodedOver freshKept (now (state .entry))) ⌝ }
 {
-    if board_state::encode(board_controller::fresh(), state) {
+    if board_state::encode(board_fresh::fresh(), state) {
         0
     } else {
         pack(13, 0)

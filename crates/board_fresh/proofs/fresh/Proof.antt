@@ -1,9 +1,9 @@
--- `board_controller::fresh` meets its contract: the fields are those of the definition.
+-- `board_fresh::fresh` meets its contract: the fields are those of the definition.
 use mathlib.Core.Path.{refl}
 use Rattle.rules.specs.State.{fresh}
 use Rattle.rules.specs.Kept.{freshKept}
-use Rattle.board_controller.proofs.fresh.Statement.{statement}
-use Rattle.board_controller.proofs.fresh.Tie as tie
+use Rattle.board_fresh.proofs.fresh.Statement.{statement}
+use Rattle.board_fresh.proofs.fresh.Tie as tie
 
 returns : tie.Need-returns
 unfolding freshKept fresh

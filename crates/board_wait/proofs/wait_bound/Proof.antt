@@ -1,11 +1,11 @@
--- `board_controller::wait_bound` meets its contract, by the two cases of the personality's verdict.
+-- `board_wait::wait_bound` meets its contract, by the two cases of the personality's verdict.
 use borrow.Author.Needs.{needs}
 use mathlib.Core.Path.{_≡_, sym, _∙_}
 use Rattle.rules.specs.declared.answer.Verdict.the-variants.{Accepted}
 use Rattle.rules.specs.Personality.{verdictOf}
-use Rattle.board_controller.proofs.Calls.{bound-refused, timing-sound, bound-given}
-use Rattle.board_controller.proofs.wait_bound.Statement.{statement}
-use Rattle.board_controller.proofs.wait_bound.Tie as tie
+use Rattle.board_wait.proofs.Bounds.{bound-refused, timing-sound, bound-given}
+use Rattle.board_wait.proofs.wait_bound.Statement.{statement}
+use Rattle.board_wait.proofs.wait_bound.Tie as tie
 
 read-requires : tie.Need-read-requires
 read-requires c κs = search needs
