@@ -6,3 +6,4 @@ pub mod Common
 pub mod Union
 pub mod Fields
 pub mod Members
+pub mod Firsts

@@ -18,7 +18,7 @@ use rules::state::KeptState;
 use rules::state::Movement;
 use rules::state::Position;
 use rules::state::State;
-use step_demands::movements;
+use step_presses::movements;
 
 // Ages are from 1 to 2,000 steps.
 const HIGHEST_AGE: u16 = 2000;

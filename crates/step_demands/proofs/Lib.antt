@@ -1,7 +1,2 @@
-pub mod Orders
-pub mod Firsts
-pub mod Crossed
-pub mod Table
-pub mod Modes
-pub mod Presses
+pub mod Sites
 pub mod PartOne

@@ -21,11 +21,11 @@ use Rattle.rules.proofs.Tests.{and-false-right}
 use Rattle.base_reads.proofs.Common.{bit-and}
 use Rattle.base_reads.proofs.Members.{set-told, union-told}
 use Rattle.proof_arrays.proofs.Passing.{any-past}
-use Rattle.step_demands.specs.declared.detectors.Sensed.{Sensed}
-use Rattle.step_demands.specs.Orders.{others}
-use Rattle.step_demands.specs.Sensed.{SensedBy}
+use Rattle.step_detectors.specs.declared.Sensed.{Sensed}
+use Rattle.step_detectors.specs.Sensed.{SensedBy}
+use Rattle.step_ring.specs.Orders.{others}
 use Rattle.step_demands.specs.Asked.{AskedBy}
-use Rattle.step_demands.proofs.Orders.{ring-same}
+use Rattle.step_demands.proofs.Sites.{ring-same}
 
 -- a byte is the set of its bits
 own-set : (x : ℕ) → x < 256 → x ≡ setOf (λ p. bit p x)

@@ -1,3 +1,1 @@
-pub mod Sensed
 pub mod Asked
-pub mod Orders

@@ -6,12 +6,9 @@ use rules::site::Site;
 use rules::state::Demands;
 use rules::state::Held;
 use rules::state::KeptState;
+use step_presses::buttons;
 
-mod buttons;
-mod detectors;
-pub mod movements;
 mod phases;
-mod ring;
 
 // What part 1 hands on: the demands that stand, the phases kept as a set, the next demanded phase other than the one on, and whether a
 // detector extends the phase that is on.
@@ -32,7 +29,7 @@ pub fn register(site: Site, state: KeptState, inputs: u64) -> Asked
     let phase = position.phase;
     let size = site.size;
     let detectors = site.detectors;
-    let sensed = detectors::scan(detectors, size.detectors, inputs, phase);
+    let sensed = step_detectors::scan(detectors, size.detectors, inputs, phase);
     let waiting = phases::waiting(position);
     let locking = sensed.locks & waiting;
     let old = rest.demands;
@@ -47,7 +44,7 @@ pub fn register(site: Site, state: KeptState, inputs: u64) -> Asked
             buttons: pressed.buttons,
         },
         kept: kept,
-        next: ring::next(kept | (sensed.calls & waiting), phase, order, size.phases),
+        next: step_ring::next(kept | (sensed.calls & waiting), phase, order, size.phases),
         extended: sensed.extended,
     }
 }

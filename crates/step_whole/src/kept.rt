@@ -8,7 +8,7 @@ ghost use Rattle.rules.specs.Rows.{setOf};
 ghost use Rattle.rules.specs.Demands.{movementDemands};
 use base_reads::sets;
 use rules::state::Demands;
-use step_demands::movements;
+use step_presses::movements;
 
 // What is left of a kept set. Only demands of the phase that is on are cleared: its lock, and those of its movements, count of which the site
 // has. It is given up where none of them is left.

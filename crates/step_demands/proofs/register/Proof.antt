@@ -3,7 +3,7 @@
 use borrow.Author.Needs.{needs}
 use native.Mathlib.Omega.{arith}
 use Prim.Native.Nat.{_<_}
-use Rattle.step_demands.proofs.Modes.{tabled}
+use Rattle.step_demands.proofs.Sites.{tabled}
 use Rattle.step_demands.proofs.PartOne.{asked-told}
 use Rattle.step_demands.proofs.register.Statement.{statement}
 use Rattle.step_demands.proofs.register.Tie as tie
