@@ -1,7 +1,7 @@
 -- A power of two has one bit; a number without its lowest bit has all its others; and a pass that takes the lowest bit of what is left
 -- takes each bit once.
 use Prim.Native.Nat.{ℕ, zero, suc, _-_, _*_, _/_, _%_, _^_, _≤_, _<_}
-use mathlib.Core.Bool.{Bool, true, false, not, _&&_, and-true}
+use mathlib.Core.Bool.{Bool, true, false, not, _&&_, and-true, and-false}
 use mathlib.Core.Logic.{⊎-elim}
 use mathlib.Core.Path.{_≡_, refl, sym, ap, _∙_}
 use native.Mathlib.Nat.{pow-succ', lt-of-lt-of-le}
@@ -173,3 +173,12 @@ module _ {word n rest : ℕ} (known : Left word n rest) (some : 0 < rest) (few :
   pub taken-other : (i : ℕ) → (i ≡ next → ⊥) → taken word rest′ i ≡ taken word rest i
   unfolding taken
   taken-other i apart = rw (others-same rest some room i apart)
+
+  -- of the bits taken that pass a test, one that fails it alters nothing
+  pub taken-failing :
+      (passes : ℕ → Bool) → passes next ≡ false → (i : ℕ) → (taken word rest i && passes i) ≡ (taken word rest′ i && passes i)
+  taken-failing passes e i =
+      ⊎-elim
+      (λ (t : eqb i next ≡ true). rw (eqb-true i next t, e) (and-false (taken word rest next) ∙ sym (and-false (taken word rest′ next))))
+      (λ (t : eqb i next ≡ false). ap (λ (u : Bool). u && passes i) (sym (taken-other i (eqb-false i next t))))
+      (decided (eqb i next))

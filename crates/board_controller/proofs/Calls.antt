@@ -1,10 +1,9 @@
 -- A step call, check by check: each of 13, 15 and 14 decides the verdict once the checks before it have passed, and the verdict
 -- decides the answer and the buffer.
 use Prim.Native.Nat.{ℕ, _≤_, _<_}
-use mathlib.Core.Bool.{Bool, true, false, not}
+use mathlib.Core.Bool.{Bool, true, false}
 use mathlib.Core.List.{List, _++_}
 use mathlib.Core.Path.{_≡_, subst, subst⁻¹}
-use lib.Dec.{ltb}
 use lib.ListN.{length, drop}
 use borrow.Author.Tests.{lt-ltb, le-ltb}
 use Rattle.rules.specs.declared.answer.Answer.{Answer}

@@ -11,7 +11,6 @@ use Rattle.rules.specs.declared.site.Site.{Site}
 use Rattle.rules.specs.declared.state.Held.{Held}
 use Rattle.rules.specs.declared.state.Held.the-variants.{Nothing, Phase}
 use Rattle.rules.specs.declared.state.KeptState.{KeptState}
-use Rattle.rules.specs.Site.{phaseTimes}
 use Rattle.rules.specs.Intervals.{isLeaving, phaseHeld}
 use Rattle.rules.specs.State.{fresh, movement, targetValid, cameValid, valid}
 use Rattle.rules.specs.Step.{steppedTo}

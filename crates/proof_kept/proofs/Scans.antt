@@ -12,7 +12,7 @@ use Rattle.rules.specs.declared.state.Demands.{Demands}
 use Rattle.rules.specs.declared.state.KeptState.{KeptState}
 use Rattle.rules.specs.Bytes.{bit}
 use Rattle.rules.specs.Rows.{anyOf, setOf}
-use Rattle.rules.specs.Site.{crosses, ring}
+use Rattle.rules.specs.Site.{crosses}
 use Rattle.rules.specs.State.{locked, asked, valid}
 use Rattle.rules.specs.Demands.{registersLock, registersButton, calls, demandsAfter, movementDemands, stands, demanded, nextAfter, nextDemanded}
 use Rattle.rules.specs.Kept.{isKept, keptValid, pressKeeps, keptAfter, nextKept, gone, cleared, keptLeft}

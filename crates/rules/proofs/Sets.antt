@@ -1,6 +1,6 @@
 -- Laws of sets in a byte: the byte has the bits that pass and no others. One index more adds 2 ^ n to a sum below 2 ^ n, which sets bit n and
 -- leaves the bits below it.
-use Prim.Native.Nat.{ℕ, zero, suc, _+_, _-_, _*_, _%_, _/_, _^_, _≤_, _<_}
+use Prim.Native.Nat.{ℕ, zero, suc, _+_, _-_, _%_, _^_, _≤_, _<_}
 use mathlib.Core.Bool.{Bool, true, false}
 use mathlib.Core.Logic.{⊎-elim}
 use mathlib.Core.Path.{_≡_, refl, sym, ap, subst, _∙_}

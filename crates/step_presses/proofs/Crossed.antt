@@ -1,23 +1,19 @@
 -- A pass over the movements of a word, the lowest first: the phases of those that are taken and pass a test are in the set.
 use Prim.Native.Nat.{ℕ, _-_, _^_, _≤_, _<_}
-use mathlib.Core.Bool.{Bool, true, false, _&&_, and-false}
+use mathlib.Core.Bool.{Bool, true, false, _&&_}
 use mathlib.Core.List.{List}
-use mathlib.Core.Logic.{⊎-elim}
 use mathlib.Core.Path.{_≡_, sym, ap, _∙_}
 use native.Mathlib.Omega.{arith}
-use borrow.Author.Tests.{eqb-true, eqb-false}
 use lib.Bits.{bitAnd, bitOr, or-lt}
 use lib.Count.{trailingZeros}
-use lib.Dec.{eqb}
 use lib.ListN.{getD}
 use Rattle.rules.specs.Bytes.{bit}
 use Rattle.rules.specs.Rows.{anyOf, setOf}
 use Rattle.rules.specs.Site.{crosses}
 use Rattle.rules.proofs.Bits.{bit-blank}
 use Rattle.rules.proofs.Rows.{any-none}
-use Rattle.rules.proofs.Tests.{decided}
 use Rattle.proof_arrays.proofs.Passing.{any-same, any-with}
-use Rattle.base_reads.proofs.Lowest.{taken, Left, left-all, taken-none, taken-all, next-within, left-more, next-untaken, next-taken, taken-other}
+use Rattle.base_reads.proofs.Lowest.{taken, Left, left-all, taken-none, taken-all, next-within, left-more, next-untaken, next-taken, taken-other, taken-failing}
 use Rattle.base_reads.proofs.Members.{set-told}
 use Rattle.base_reads.proofs.Union.{bit-or}
 
@@ -75,11 +71,7 @@ module _ {crossings : List ℕ} {word n : ℕ} {passes : ℕ → Bool} {rest set
 
     -- a movement that does not pass alters nothing
     pub failed-same : passes next ≡ false → (k : ℕ) → counted word passes rest k ≡ counted word passes others k
-    failed-same e k =
-        ⊎-elim
-        (λ (t : eqb k next ≡ true). rw (eqb-true k next t, e) (and-false (taken word rest next) ∙ sym (and-false (taken word others next))))
-        (λ (t : eqb k next ≡ false). sym (other-same k (eqb-false k next t)))
-        (decided (eqb k next))
+    failed-same = taken-failing (known .left) some few passes
 
     pub one-failed : passes next ≡ false → Crossed crossings word n passes others set
     one-failed e =

@@ -24,7 +24,7 @@ use Rattle.rules.proofs.Rows.{list-length, list-at}
 use Rattle.rules.proofs.Sets.{bit-set, set-same}
 use Rattle.rules.proofs.Tests.{decided, and-false-left, and-false-right, or-false-left, or-false-right, or-false-both}
 use Rattle.proof_arrays.proofs.Fill.{list-told, list-same, list-set}
-use Rattle.base_reads.proofs.Lowest.{taken, Left, left-all, taken-none, next-within, left-more, next-untaken, next-taken, taken-other}
+use Rattle.base_reads.proofs.Lowest.{taken, Left, left-all, taken-none, next-within, left-more, next-untaken, next-taken, taken-other, taken-failing}
 use Rattle.base_reads.proofs.Members.{set-told}
 use Rattle.step_walks.specs.declared.Walked.{Walked}
 use Rattle.step_walks.specs.Walked.{walkedBy}
@@ -188,10 +188,5 @@ module _
           untaken = left-more (known .untaken) some (omega arith);
           told =
               leaves-same (known .told) (begun buttons may others)
-              (λ k.
-              ⊎-elim
-              (λ (t : eqb k next ≡ true).
-              rw (eqb-true k next t, e) (and-false (taken buttons rest next) ∙ sym (and-false (taken buttons others next))))
-              (λ (t : eqb k next ≡ false). sym (other-same k (eqb-false k next t)))
-              (decided (eqb k next)));
+              (taken-failing (known .untaken) some (omega arith) may e);
         }

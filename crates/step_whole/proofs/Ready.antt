@@ -14,7 +14,7 @@ use Rattle.rules.specs.declared.state.Interval.the-variants.{StartRed, LateStar
 use Rattle.rules.specs.declared.state.KeptState.{KeptState}
 use Rattle.rules.specs.declared.state.Position.{Position}
 use Rattle.rules.specs.Intervals.{isIdle, isLeaving, phaseHeld}
-use Rattle.rules.specs.State.{idle, movement, targetValid, valid}
+use Rattle.rules.specs.State.{idle, movement, valid}
 use Rattle.rules.specs.Interval.{entering, starting, leaving, following, staying, positionAfter}
 use Rattle.rules.specs.Kept.{keptValid}
 use Rattle.rules.specs.Laws.{Sound}

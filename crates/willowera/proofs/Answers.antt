@@ -22,7 +22,7 @@ use Rattle.rules.specs.Personality.{bodyAt, bodyLength, verdictOf}
 use Rattle.rules.specs.Site.{siteOf}
 use Rattle.rules.specs.Lookup.{lookupVerdict, lookupReport, headOf}
 use Rattle.rules.specs.Call.{callVerdict, boundFor, handedBack, bufferFor, boundOf, answerOf, bufferOf}
-use Rattle.board_state.specs.Layout.{stateBytes, isState, decoded, encoded, encodedOver}
+use Rattle.board_state.specs.Layout.{stateBytes, isState, decoded, encodedOver}
 use Rattle.board_state.proofs.Told.{state-told}
 use Rattle.willowera.specs.Board.{packed, packedVerdict, packedOutcome, stepAnswer, stateFor, stateAfter, coloursAfter, sectionFor, sectionAnswer}
 use Rattle.proof_acceptance.proofs.Places.{lastPlace, Named, personality-named, call-named, lookup-named}

@@ -5,7 +5,7 @@ use Prim.Native.Nat.{_<_}
 use Rattle.rules.specs.Site.{phaseTimes}
 use Rattle.rules.specs.Demands.{stands}
 use Rattle.step_movements.proofs.Idle.{still-past}
-use Rattle.step_whole.proofs.Marks.{whole-told}
+use Rattle.step_whole.proofs.Keeping.{whole-told}
 use Rattle.step_whole.proofs.Ready.{on, now-on, idle-past}
 use Rattle.step_whole.proofs.advance.Statement.{statement}
 use Rattle.step_whole.proofs.advance.Tie as tie

@@ -1,6 +1,5 @@
 -- `base_reads::sets::all_below` meets its contract: no bit is left from the count on.
 use borrow.Author.Needs.{needs}
-use native.Mathlib.Omega.{arith}
 use Rattle.base_reads.proofs.Members.{below-told}
 use Rattle.base_reads.proofs.sets.all_below.Statement.{statement}
 use Rattle.base_reads.proofs.sets.all_below.Tie as tie

@@ -1,6 +1,5 @@
 -- `base_reads::sets::with` meets its contract: the bit of the member is set and the others stay.
 use borrow.Author.Needs.{needs}
-use native.Mathlib.Omega.{arith}
 use Rattle.base_reads.proofs.Members.{with-told}
 use Rattle.base_reads.proofs.sets.with.Statement.{statement}
 use Rattle.base_reads.proofs.sets.with.Tie as tie

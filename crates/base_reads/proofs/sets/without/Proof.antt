@@ -1,6 +1,5 @@
 -- `base_reads::sets::without` meets its contract: the byte of all bits but that of the member leaves the others.
 use borrow.Author.Needs.{needs}
-use native.Mathlib.Omega.{arith}
 use Rattle.base_reads.proofs.Members.{without-told}
 use Rattle.base_reads.proofs.sets.without.Statement.{statement}
 use Rattle.base_reads.proofs.sets.without.Tie as tie

@@ -13,7 +13,7 @@ use Rattle.rules.proofs.Sets.{bit-set, set-same}
 use Rattle.rules.proofs.Tests.{or-left, or-right, or-false-right, or-false-both}
 use Rattle.base_reads.proofs.Members.{set-told}
 use Rattle.proof_runs.proofs.ValidStates.{implied}
-use Rattle.step_whole.proofs.Marks.{onlyOf, mark-stays, mark-gone}
+use Rattle.step_whole.proofs.Keeping.{onlyOf, phase-stays, phase-gone}
 use Rattle.step_whole.proofs.kept.left.Statement.{statement}
 use Rattle.step_whole.proofs.kept.left.Tie as tie
 
@@ -40,7 +40,7 @@ stays :
     start .args .set ≡ setOf (onlyOf (kept start) (held start) (start .args .phase))
 stays start own =
     set-told (onlyOf (kept start) (held start) (start .args .phase)) (start .args .set) (omega (arith, start .fits .set))
-    (λ p l. mark-stays (kept start) (held start) (start .args .phase) own p)
+    (λ p l. phase-stays (kept start) (held start) (start .args .phase) own p)
 
 returns : tie.Need-returns
 returns c =
@@ -85,7 +85,7 @@ returns-3 c =
     c .without .ensures
     ∙ set-same (λ p. kept start p && not (eqb p phase)) (onlyOf (kept start) (held start) phase)
     (λ p l.
-    mark-gone (kept start) (held start) phase
+    phase-gone (kept start) (held start) phase
     (or-false-both (sym (locked .bit82 .ensures) ∙ unlocked) (sym (crossed-told (tested .before)) ∙ tested .if2 .left))
     p)
 

@@ -1,7 +1,7 @@
 -- The kept set after parts 4 and 5. Only demands of the phase that is on are cleared, so every other phase stays; and as the set was that of
 -- the demands that stood, that phase stays where one of its demands is left.
 use Prim.Native.Nat.{ℕ, _<_}
-use mathlib.Core.Bool.{Bool, true, false, not, _&&_, _||_, and-true, or-true, or-false}
+use mathlib.Core.Bool.{Bool, true, false, not, _&&_, _||_, and-true}
 use mathlib.Core.List.{List}
 use mathlib.Core.Logic.{⊎-elim}
 use mathlib.Core.Path.{_≡_, refl, sym, ap, _∙_}
@@ -18,7 +18,7 @@ use Rattle.rules.specs.declared.state.KeptState.{KeptState}
 use Rattle.rules.specs.declared.state.Movement.{Movement}
 use Rattle.rules.specs.declared.state.Position.{Position}
 use Rattle.rules.specs.Bytes.{bit}
-use Rattle.rules.specs.Rows.{anyOf, setOf}
+use Rattle.rules.specs.Rows.{setOf}
 use Rattle.rules.specs.Site.{phaseTimes, crosses}
 use Rattle.rules.specs.Intervals.{isMinimumGreen, isRunning, isIdle, isHeld}
 use Rattle.rules.specs.State.{idle}
@@ -52,8 +52,8 @@ module _ (kept test : ℕ → Bool) (phase : ℕ) where
   onlyOf p = kept p && (not (eqb p phase) || test p)
 
   -- nothing to give up: it is not kept, or the test passes
-  pub mark-stays : (kept phase ≡ true → test phase ≡ true) → (p : ℕ) → kept p ≡ onlyOf p
-  mark-stays own p =
+  pub phase-stays : (kept phase ≡ true → test phase ≡ true) → (p : ℕ) → kept p ≡ onlyOf p
+  phase-stays own p =
       ⊎-elim
       (λ (e : eqb p phase ≡ true). rw (e, eqb-true p phase e) (agrees (kept phase) (test phase) own))
       (λ (e : eqb p phase ≡ false). rw e (sym (and-true (kept p))))
@@ -64,8 +64,8 @@ module _ (kept test : ℕ → Bool) (phase : ℕ) where
       agrees false b h = refl
 
   -- the test fails at the phase
-  pub mark-gone : test phase ≡ false → (p : ℕ) → (kept p && not (eqb p phase)) ≡ onlyOf p
-  mark-gone none p =
+  pub phase-gone : test phase ≡ false → (p : ℕ) → (kept p && not (eqb p phase)) ≡ onlyOf p
+  phase-gone none p =
       ⊎-elim
       (λ (e : eqb p phase ≡ true). rw (e, eqb-true p phase e, none))
       (λ (e : eqb p phase ≡ false). rw e)
@@ -151,14 +151,14 @@ module _ (site : Site) (sound : Sound site) (s : KeptState) (inputs : ℕ) (v : 
   next = nextKept site s inputs
 
   -- what the step leaves of the set, by the phase that is on then and the demands that are left
-  marks-told :
+  set-left :
       (p : ℕ) →
       p < 8 →
       let rest = steppedTo next site (s .rest) inputs in
       (keptAfter site s inputs p && (not (eqb p (rest .position .phase)) || stands site (rest .demands) p))
       ≡ keptLeft site (demandsAfter site (s .rest) inputs) (rest .demands) (keptAfter site s inputs) p
   unfolding steppedTo
-  marks-told p l =
+  set-left p l =
       only-own site sound (demandsAfter site (s .rest) inputs) _ _ _ (begins-own (site .crossings) _ _ _ _ _) (keptAfter site s inputs) p l
       (kept-after site sound s inputs v p l)
 
@@ -193,4 +193,4 @@ module _ (site : Site) (sound : Sound site) (s : KeptState) (inputs : ℕ) (v : 
       (set-same
       (onlyOf (λ p. bit p (asked .kept)) (stands site (after .demands)) (after .position .phase))
       (keptLeft site (demandsAfter site (s .rest) inputs) (after .demands) (keptAfter site s inputs))
-      (λ p l. rw (e2 .kept, bit-set (keptAfter site s inputs) p l) (marks-told p l))))
+      (λ p l. rw (e2 .kept, bit-set (keptAfter site s inputs) p l) (set-left p l))))
