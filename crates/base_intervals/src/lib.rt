@@ -5,7 +5,7 @@ ghost use lib.Dec.{ltb};
 ghost use lib.ListN.{length, getD};
 ghost use Rattle.rules.specs.declared.state.Interval.the-variants.{StartRed};
 ghost use Rattle.rules.specs.declared.state.Stage.the-variants.{Idle};
-ghost use Rattle.rules.specs.Intervals.{intervalRow, intervals, isRunning, isMinimumGreen, isGreen, isEarly, isLeaving, isBeforeStart, isStartRed, stageRow, stages, isIdle, isWalk, isWalkOrFirst, isSecond, isHeld, phaseHeld};
+ghost use Rattle.rules.specs.IntervalTable.{intervalRow, intervals, isRunning, isMinimumGreen, isGreen, isEarly, isLeaving, isBeforeStart, isStartRed, stageRow, stages, isIdle, isWalk, isWalkOrFirst, isSecond, isHeld, phaseHeld};
 use rules::state::Held;
 use rules::state::Interval;
 use rules::state::IntervalRow;
@@ -27,7 +27,7 @@ pub fn interval_row(interval: Interval) -> IntervalRow
             green: false,
             early: false,
             leaving: false,
-            before: true,
+            starts: true,
         },
         Interval::LateStart => IntervalRow {
             code: 1,
@@ -38,7 +38,7 @@ pub fn interval_row(interval: Interval) -> IntervalRow
             green: false,
             early: false,
             leaving: false,
-            before: false,
+            starts: false,
         },
         Interval::MinimumGreen => IntervalRow {
             code: 2,
@@ -49,7 +49,7 @@ pub fn interval_row(interval: Interval) -> IntervalRow
             green: true,
             early: false,
             leaving: false,
-            before: false,
+            starts: false,
         },
         Interval::Running => IntervalRow {
             code: 3,
@@ -60,7 +60,7 @@ pub fn interval_row(interval: Interval) -> IntervalRow
             green: true,
             early: false,
             leaving: false,
-            before: false,
+            starts: false,
         },
         Interval::EarlyCutOff => IntervalRow {
             code: 4,
@@ -71,7 +71,7 @@ pub fn interval_row(interval: Interval) -> IntervalRow
             green: false, // its detectors lock, as in yellow
             early: true,
             leaving: true,
-            before: false,
+            starts: false,
         },
         Interval::Yellow => IntervalRow {
             code: 5,
@@ -82,7 +82,7 @@ pub fn interval_row(interval: Interval) -> IntervalRow
             green: false,
             early: false,
             leaving: true,
-            before: false,
+            starts: false,
         },
         Interval::AllRed => IntervalRow {
             code: 6,
@@ -93,7 +93,7 @@ pub fn interval_row(interval: Interval) -> IntervalRow
             green: false,
             early: false,
             leaving: true,
-            before: true,
+            starts: true,
         },
     }
 }
@@ -121,46 +121,46 @@ pub fn interval_of(code: u8) -> Interval
     }
 }
 
-pub fn start_red(interval: Interval) -> bool
+pub fn is_start_red(interval: Interval) -> bool
     ensures { λ r. ⌜ r ≡ isStartRed interval ⌝ }
 {
     interval_row(interval).start
 }
 
-pub fn minimum_green(interval: Interval) -> bool
+pub fn is_minimum_green(interval: Interval) -> bool
     ensures { λ r. ⌜ r ≡ isMinimumGreen interval ⌝ }
 {
     interval_row(interval).minimum
 }
 
-pub fn running(interval: Interval) -> bool
+pub fn is_running(interval: Interval) -> bool
     ensures { λ r. ⌜ r ≡ isRunning interval ⌝ }
 {
     interval_row(interval).running
 }
 
-pub fn green(interval: Interval) -> bool
+pub fn is_green(interval: Interval) -> bool
     ensures { λ r. ⌜ r ≡ isGreen interval ⌝ }
 {
     interval_row(interval).green
 }
 
-pub fn early(interval: Interval) -> bool
+pub fn is_early(interval: Interval) -> bool
     ensures { λ r. ⌜ r ≡ isEarly interval ⌝ }
 {
     interval_row(interval).early
 }
 
-pub fn leaving(interval: Interval) -> bool
+pub fn is_leaving(interval: Interval) -> bool
     ensures { λ r. ⌜ r ≡ isLeaving interval ⌝ }
 {
     interval_row(interval).leaving
 }
 
-pub fn before_start(interval: Interval) -> bool
+pub fn is_before_start(interval: Interval) -> bool
     ensures { λ r. ⌜ r ≡ isBeforeStart interval ⌝ }
 {
-    interval_row(interval).before
+    interval_row(interval).starts
 }
 
 // ---- Stages ----
@@ -221,26 +221,26 @@ pub fn stage_of(code: u8) -> Stage
     }
 }
 
-pub fn idle(stage: Stage) -> bool
+pub fn is_idle(stage: Stage) -> bool
     ensures { λ r. ⌜ r ≡ isIdle stage ⌝ }
 {
     stage_row(stage).idle
 }
 
-pub fn walking(stage: Stage) -> bool
+pub fn is_walk(stage: Stage) -> bool
     ensures { λ r. ⌜ r ≡ isWalk stage ⌝ }
 {
     stage_row(stage).walk
 }
 
 // Walk or C1.
-pub fn walk_or_first(stage: Stage) -> bool
+pub fn is_walk_or_first(stage: Stage) -> bool
     ensures { λ r. ⌜ r ≡ isWalkOrFirst stage ⌝ }
 {
     stage_row(stage).holding
 }
 
-pub fn second(stage: Stage) -> bool
+pub fn is_second(stage: Stage) -> bool
     ensures { λ r. ⌜ r ≡ isSecond stage ⌝ }
 {
     stage_row(stage).second
@@ -248,7 +248,7 @@ pub fn second(stage: Stage) -> bool
 
 // ---- A phase that may be held ----
 
-pub fn held(h: Held) -> bool
+pub fn is_held(h: Held) -> bool
     ensures { λ r. ⌜ r ≡ isHeld h ⌝ }
 {
     match h {
@@ -258,7 +258,7 @@ pub fn held(h: Held) -> bool
 }
 
 // The phase held, or A.
-pub fn held_phase(h: Held) -> u8
+pub fn phase_held(h: Held) -> u8
     ensures { λ r. ⌜ r ≡ phaseHeld h ⌝ }
 {
     match h {

@@ -5,7 +5,7 @@ ghost use Rattle.rules.specs.Limits.{limits, within};
 use rules::site::Range;
 
 // By setting: start red; L, M, X, G, Y, R of a phase; W, C1, C2 of a movement; early cut-off green of a phase.
-const LIMITS: [Range; 11] = [
+const TABLE: [Range; 11] = [
     Range { low: 10, high: 150 },
     Range { low: 0, high: 200 },
     Range { low: 10, high: 400 },
@@ -23,17 +23,17 @@ const LIMITS: [Range; 11] = [
 ];
 
 // The table is the one that the rules have, entry by entry.
-pub fn table() -> [Range; 11]
+pub fn limits() -> [Range; 11]
     ensures { λ r. ⌜ r ≡ limits ⌝ }
 {
-    LIMITS
+    TABLE
 }
 
 // Whether the table admits the value for the setting. A setting that it has not admits 0 alone.
-pub fn admits(setting: usize, value: u16) -> bool
+pub fn within(setting: usize, value: u16) -> bool
     ensures { λ r. ⌜ r ≡ within limits setting value ⌝ }
 {
-    let ranges = table();
+    let ranges = limits();
     if setting < ranges.len() {
         let range = ranges[setting];
         (range.low <= value) & (value <= range.high)

@@ -13,16 +13,16 @@ use native.Mathlib.Omega.{arith}
 use Rattle.rules.specs.declared.site.Detector.{Detector}
 use Rattle.rules.specs.declared.site.Group.{Group}
 use Rattle.rules.specs.declared.site.PhaseTimes.{PhaseTimes}
-use Rattle.rules.specs.Rows.{anyOf, countOf, indicesOf}
-use Rattle.rules.specs.Bytes.{twoAt, bit}
+use Rattle.laws.specs.Folds.{anyOf, countOf, indicesOf}
+use Rattle.laws.specs.Bytes.{twoAt, bit}
 use Rattle.rules.specs.Limits.{limits, limitOf, phaseSettings, walkSettings, earlySetting}
 use Rattle.rules.specs.Personality.{recordAt, phasesHead, pedestriansHead, phaseCount, groupCount, detectorCount, movementCount, groupSet, groupMark, conflictSet, detectorPhase, knownMode, pedestrian, pedestriansBefore, hasEarly, hasOrder, callsPhase, walksPhase}
 use Rattle.rules.specs.Site.{earlyTimeAt, phaseTimesAt, walkTimesAt, timesIn, crossingAt, orderIn, siteOf, groupOf, phaseTimes, inPhase, crosses, isPedestrian, movementOf, conflict}
 use Rattle.rules.specs.Laws.{InTable, PhaseTimesIn, WalkTimesIn, TimesIn, OnePhase, Caller, Sound, AcceptedIsSound, AcceptedIsInTable}
-use Rattle.rules.proofs.Tests.{decided, never-both, and-left, and-right, or-cases}
-use Rattle.rules.proofs.Rows.{IthPassing, any-found, indices-at}
-use Rattle.rules.proofs.Counts.{below-or-past, passes-below, count-before, count-apart, count-same, count-within, count-one}
-use Rattle.rules.proofs.Bits.{bit-below}
+use Rattle.laws.proofs.Booleans.{decided, never-both, and-left, and-right, or-cases}
+use Rattle.laws.proofs.Folds.{IthPassing, any-found, indices-at}
+use Rattle.laws.proofs.Counting.{below-or-past, passes-below, count-before, count-apart, count-same, count-within, count-one}
+use Rattle.laws.proofs.Bits.{bit-below}
 use Rattle.rules.proofs.Settings.{table-is-usable}
 use Rattle.proof_acceptance.proofs.Sections.{PhasesAccepted, GroupsAccepted, ConflictsAccepted, PedestriansAccepted, EarlyAccepted, OrderAccepted, SectionsAccepted, sections-accepted}
 use Rattle.proof_acceptance.proofs.Entries.{phase-times-at, phase-times-past, walk-times-at, order-at, group-at, group-past, in-phase-at, in-phase-past, pedestrian-at, conflict-at, conflict-past, detector-at, crosses-at, crosses-past, movement-at}

@@ -7,12 +7,12 @@ use lib.Dec.{eqb}
 use lib.ListN.{getD}
 use native.Mathlib.Omega.{arith}
 use Rattle.rules.specs.declared.site.Group.{Group}
-use Rattle.rules.specs.Bytes.{bit}
+use Rattle.laws.specs.Bytes.{bit}
 use Rattle.rules.specs.Personality.{phaseCount, groupCount, detectorCount, movementCount, groupSet, groupMark, conflictSet, detectorPhase, detectorMode, pedestrian, pedestriansBefore}
 use Rattle.rules.specs.Site.{noPhaseTimes, noWalkTimes, noGroup, noDetector, phaseTimesAt, walkTimesAt, timesIn, crossingAt, orderIn, siteOf, groupOf, detectorOf, phaseTimes, walkTimes, inPhase, crosses, isPedestrian, movementOf, conflict}
-use Rattle.rules.proofs.Rows.{row-at, row-past}
-use Rattle.rules.proofs.Counts.{count-same}
-use Rattle.rules.proofs.Bits.{bit-blank}
+use Rattle.laws.proofs.Folds.{row-at, row-past}
+use Rattle.laws.proofs.Counting.{count-same}
+use Rattle.laws.proofs.Bits.{bit-blank}
 
 module _ (b : List ℕ) where
   -- ── Times ──

@@ -14,7 +14,7 @@ use Rattle.rules.specs.Personality.{verdictOf}
 use Rattle.rules.specs.Call.{callVerdict}
 use Rattle.rules.specs.Lookup.{lookupVerdict}
 use Rattle.rules.specs.Laws.{readingNumber, stepNumber, greatestLength, PlaceIn, Written}
-use Rattle.rules.proofs.Tests.{and-left, and-right, or-cases}
+use Rattle.laws.proofs.Booleans.{and-left, and-right, or-cases}
 use Rattle.proof_acceptance.proofs.Refusals.{Refusals, if-refusals, or-refusals, personality-refusals, call-refusals}
 
 -- ── Numbers ──

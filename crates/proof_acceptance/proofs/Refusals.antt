@@ -13,7 +13,7 @@ use Rattle.rules.specs.declared.answer.Verdict.{Verdict}
 use Rattle.rules.specs.declared.answer.Verdict.the-variants.{Accepted, Refused}
 use Rattle.rules.specs.declared.state.KeptState.{KeptState}
 use Rattle.rules.specs.Limits.{phaseSettings, walkSettings}
-use Rattle.rules.specs.Rows.{if_then_else_}
+use Rattle.laws.specs.Folds.{if_then_else_}
 use Rattle.rules.specs.Verdicts.{_orElse_, refuseIf, firstOf}
 use Rattle.rules.specs.Personality.{bodyAt, bodyLength, recordAt, phaseCount, groupCount, siteHead, phasesHead, groupsHead, conflictsHead, detectorsHead, pedestriansHead, movementCount, detectorCount, pastSection, earlyHead, hasEarly, orderHead, hasOrder, endOf, sectionAt, timeAt, timesAt, siteSection, phasesSection, groupRecord, groupsSection, conflictsSection, detectorsSection, pedestriansSection, earlySection, orderSection, phaseWithoutCaller, earlyMissing, afterPedestrians, verdictOf}
 use Rattle.rules.specs.Call.{stepVerdict, callVerdict}

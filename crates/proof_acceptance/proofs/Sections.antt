@@ -10,16 +10,16 @@ use native.Mathlib.Nat.{mul-le-mul-right, suc-mul}
 use native.Mathlib.Omega.{arith}
 use borrow.Author.Tests.{ltb-false, leb-true, leb-false, eqb-true, eqb-false, eq-eqb, not-false}
 use Rattle.rules.specs.declared.answer.Verdict.the-variants.{Accepted}
-use Rattle.rules.specs.Rows.{anyOf, countOf}
-use Rattle.rules.specs.Bytes.{twoAt, bit}
+use Rattle.laws.specs.Folds.{anyOf, countOf}
+use Rattle.laws.specs.Bytes.{twoAt, bit}
 use Rattle.rules.specs.Limits.{limits, within, startRedSetting, phaseSettings, walkSettings, earlySetting}
 use Rattle.rules.specs.Verdicts.{firstOf}
 use Rattle.rules.specs.Personality.{bodyLength, bodyAt, pastSection, recordAt, phaseCount, groupCount, siteHead, phasesHead, groupsHead, conflictsHead, detectorsHead, pedestriansHead, groupSet, groupMark, pedestrian, pedestriansBefore, movementCount, conflictSet, detectorCount, detectorPhase, sectionAt, timeAt, timesAt, siteSection, phasesSection, badGroup, ninthPedestrian, groupRecord, phaseWithoutGroup, groupsSection, badConflict, sharePhase, conflictInPhase, conflictsSection, badDetector, detectorsSection, pedestriansSection, earlyHead, hasEarly, earlySection, orderHead, hasOrder, orderAt, phaseNotOnce, orderSection, callsPhase, walksPhase, phaseWithoutCaller, stopsEarly, earlyMissing, afterPedestrians, endOf, verdictOf, detectorMode, knownMode}
 use Rattle.rules.specs.Laws.{InTable}
-use Rattle.rules.proofs.Tests.{and-left, and-right, or-false-left, or-false-right, never-both}
-use Rattle.rules.proofs.Rows.{any-false, any-found}
+use Rattle.laws.proofs.Booleans.{and-left, and-right, or-false-left, or-false-right, never-both}
+use Rattle.laws.proofs.Folds.{any-false, any-found}
 use Rattle.rules.proofs.Verdicts.{or-first, or-later, refuse-passed, first-each}
-use Rattle.rules.proofs.Counts.{count-within}
+use Rattle.laws.proofs.Counting.{count-within}
 
 -- ── Tests that passed ──
 

@@ -9,13 +9,13 @@ use native.Mathlib.Omega.{arith}
 use Rattle.rules.specs.declared.site.Range.{Range}
 use Rattle.rules.specs.declared.site.Size.{Size}
 use Rattle.rules.specs.declared.site.Times.{Times}
-use Rattle.rules.specs.Rows.{if_then_else_}
+use Rattle.laws.specs.Folds.{if_then_else_}
 use Rattle.rules.specs.Limits.{limits, limitOf}
 use Rattle.rules.specs.Site.{phaseTimes, walkTimes, crosses, siteOf}
 use Rattle.rules.specs.WaitBound.{phaseShare, longestWalk, longestClearance, waitBoundBy}
 use Rattle.rules.specs.Laws.{TimesIn, AcceptedIsSound, AcceptedIsInTable, highest, highestPhase, highestWalk, greatestShare, greatestWait, WaitIsInTable}
-use Rattle.rules.proofs.Rows.{greatest-most}
-use Rattle.rules.proofs.Counts.{sum-within}
+use Rattle.laws.proofs.Folds.{greatest-most}
+use Rattle.laws.proofs.Counting.{sum-within}
 use Rattle.proof_acceptance.proofs.Acceptance.{accepted-is-sound, accepted-is-in-table}
 
 pub greatest-wait : greatestWait limits ≡ 37950

@@ -9,11 +9,11 @@ use native.Mathlib.Omega.{arith}
 use borrow.Author.Tests.{ne-eqb}
 use lib.Dec.{eqb}
 use lib.ListN.{length}
-use Rattle.rules.specs.declared.answer.Outcome.the-variants.{Stepped, Declined}
+use Rattle.rules.specs.declared.answer.Outcome.the-variants.{Stepped, StepRefused}
 use Rattle.rules.specs.declared.answer.Verdict.{Verdict}
 use Rattle.rules.specs.declared.answer.Verdict.the-variants.{Accepted, Refused}
 use Rattle.rules.specs.declared.state.KeptState.{KeptState}
-use Rattle.rules.specs.Rows.{if_then_else_}
+use Rattle.laws.specs.Folds.{if_then_else_}
 use Rattle.rules.specs.Verdicts.{_orElse_, refuseIf, reportOf, stepReportOf, waitOf}
 use Rattle.rules.specs.Personality.{verdictOf}
 use Rattle.rules.specs.Site.{siteOf}
@@ -22,9 +22,9 @@ use Rattle.rules.specs.WaitBound.{waitBound}
 use Rattle.rules.specs.Call.{callVerdict, boundFor, handedBack, answerOf, bufferOf}
 use Rattle.rules.specs.Laws.{Sound, AcceptedIsSound, RefusalIsWritten}
 use Rattle.rules.specs.Scanning.{FreshKeptIsValid, StepKeepsKept}
-use Rattle.rules.specs.Runs.{ruled, Call, takenFrom, SafeRun, DemandThreeOf, DemandThree}
-use Rattle.board_state.specs.Layout.{stateBytes, decoded, encoded, encodedOver, Proper}
-use Rattle.board_state.proofs.RoundTrips.{encoded-is-state, decoded-encoded}
+use Rattle.rules.specs.DemandThree.{ruled, Call, takenFrom, SafeRun, DemandThreeOf, DemandThree}
+use Rattle.state_bytes.specs.Layout.{stateBytes, decoded, encoded, encodedOver, Proper}
+use Rattle.state_bytes.proofs.RoundTrips.{encoded-is-state, decoded-encoded}
 use Rattle.willowera.specs.Board.{packed, packedVerdict, packedOutcome, freshAnswer, stepAnswer, stateFor, stateAfter, coloursAfter}
 use Rattle.proof_runs.proofs.Chains.{checks-told}
 use Rattle.proof_acceptance.proofs.Acceptance.{accepted-is-sound}
@@ -51,7 +51,7 @@ module _ (number value : ℕ) (small : number < 256) where
 
 -- a refusal reads back
 module _ (number place : ℕ) (fits : (1 ≤ number) × (number < 256)) where
-  outcome-refused : outcomeIn (packed number place) ≡ Declined number place
+  outcome-refused : outcomeIn (packed number place) ≡ StepRefused number place
   unfolding outcomeIn
   outcome-refused = rw (low-part number place (fits .1), high-part number place (fits .1), ne-eqb number 0 (λ e. omega (arith, fits .0)))
 
@@ -122,10 +122,10 @@ module _ (b : List ℕ) (sound : Sound (siteOf b)) (buffer : List ℕ) where
       let next = handedBack v (keptStepped (siteOf b) s inputs) s in
       (keptValid (siteOf b) next ≡ true) × Proper next
   unfolding callVerdict handedBack StepKeepsKept StepIsProper
-  kept-for s sane proper inputs room Accepted e =
+  kept-for s validState proper inputs room Accepted e =
       let wired = checks-told b inputs room (keptValid (siteOf b) s) e .1 in
-      (step-keeps-kept step-keeps-valid (siteOf b) sound s inputs sane wired, step-is-proper (siteOf b) sound s inputs sane wired)
-  kept-for s sane proper inputs room (Refused number place) e = (sane, proper)
+      (step-keeps-kept step-keeps-valid (siteOf b) sound s inputs validState wired, step-is-proper (siteOf b) sound s inputs validState wired)
+  kept-for s validState proper inputs room (Refused number place) e = (validState, proper)
 
   same-run :
       (calls : List Call) (s : KeptState) →
@@ -133,22 +133,22 @@ module _ (b : List ℕ) (sound : Sound (siteOf b)) (buffer : List ℕ) where
       Proper s →
       takenFrom (board buffer) b (encoded s) calls ≡ takenFrom ruled b s calls
   unfolding takenFrom board ruled answerOf
-  same-run [] s sane proper = refl
-  same-run (c ∷ calls) s sane proper =
+  same-run [] s validState proper = refl
+  same-run (c ∷ calls) s validState proper =
       let room = length (c .buffer) in
       let v = callVerdict b s (c .inputs) room in
       let next = handedBack v (keptStepped (siteOf b) s (c .inputs)) s in
-      let there = kept-for s sane proper (c .inputs) room v refl in
+      let there = kept-for s validState proper (c .inputs) room v refl in
       let bytes = same-next b s proper (c .inputs) room in
       let later = ap (λ (state : List ℕ). takenFrom (board buffer) b state calls) bytes ∙ same-run calls next (there .0) (there .1) in
       let after = ap decoded bytes ∙ decoded-encoded next (there .1) in
       λ i.
       record {
-        before = decoded-encoded s proper i .rest;
+        before = decoded-encoded s proper i .core;
         inputs = c .inputs;
         room = room;
         outcome = same-outcome b s proper (c .inputs) room i;
-        after = after i .rest;
+        after = after i .core;
         shown = same-buffer b s proper (c .inputs) (c .buffer) i;
       }
       ∷ later i

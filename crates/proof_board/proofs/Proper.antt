@@ -11,19 +11,19 @@ use Rattle.rules.specs.declared.site.Site.{Site}
 use Rattle.rules.specs.declared.state.Held.{Held}
 use Rattle.rules.specs.declared.state.Held.the-variants.{Nothing, Phase}
 use Rattle.rules.specs.declared.state.KeptState.{KeptState}
-use Rattle.rules.specs.Intervals.{isLeaving, phaseHeld}
-use Rattle.rules.specs.State.{fresh, movement, targetValid, cameValid, valid}
+use Rattle.rules.specs.IntervalTable.{isLeaving, phaseHeld}
+use Rattle.rules.specs.State.{fresh, movement, targetValid, previousValid, valid}
 use Rattle.rules.specs.Step.{steppedTo}
 use Rattle.rules.specs.Kept.{freshKept, keptValid, keptStepped}
 use Rattle.rules.specs.Interval.{locksLeft}
 use Rattle.rules.specs.Walks.{walksBegun, buttonsLeft}
 use Rattle.rules.specs.Laws.{Sound}
 use Rattle.rules.specs.Scanning.{FreshKeptIsValid, StepKeepsKept}
-use Rattle.rules.proofs.Tests.{and-left, and-right}
-use Rattle.rules.proofs.Rows.{list-length}
-use Rattle.rules.proofs.Sets.{set-small}
+use Rattle.laws.proofs.Booleans.{and-left, and-right}
+use Rattle.laws.proofs.Folds.{list-length}
+use Rattle.laws.proofs.Sets.{set-small}
 use Rattle.rules.proofs.Settings.{phase-timed}
-use Rattle.board_state.specs.Layout.{position as positionForm, counts as countsForm, demands as demandsForm, movements as movementsForm, Proper}
+use Rattle.state_bytes.specs.Layout.{position as positionForm, counts as countsForm, demands as demandsForm, movements as movementsForm, Proper}
 use Rattle.proof_runs.proofs.ValidStates.{state-told}
 use Rattle.proof_validity.proofs.Fresh.{fresh-is-valid}
 use Rattle.proof_validity.proofs.Validity.{step-keeps-valid}
@@ -36,8 +36,8 @@ target-below count phase leaving Nothing h some = some
 target-below count phase leaving (Phase t) h some =
     ltb-true t count (and-right leaving (ltb t count) (and-left (leaving && ltb t count) (not (eqb t phase)) h))
 
-came-below : (count : ℕ) (came : Held) → cameValid count came ≡ true → 1 ≤ count → phaseHeld came < count
-unfolding cameValid phaseHeld
+came-below : (count : ℕ) (previous : Held) → previousValid count previous ≡ true → 1 ≤ count → phaseHeld previous < count
+unfolding previousValid phaseHeld
 came-below count Nothing h some = some
 came-below count (Phase q) h some = ltb-true q count h
 
@@ -46,29 +46,29 @@ proper-of :
     (site : Site) → Sound site →
     (s : KeptState) →
     keptValid site s ≡ true →
-    s .rest .demands .locks < 256 →
-    s .rest .demands .buttons < 256 →
-    length (s .rest .movements) ≡ 8 →
+    s .core .demands .locks < 256 →
+    s .core .demands .buttons < 256 →
+    length (s .core .movements) ≡ 8 →
     s .kept < 256 →
     Proper s
 unfolding Proper movement keptValid
-proper-of site sound s sane locks buttons movements kept =
-    let told = state-told site (s .rest) (and-left (valid site (s .rest)) _ sane) in
-    let place = s .rest .position in
+proper-of site sound s validState locks buttons movements kept =
+    let told = state-told site (s .core) (and-left (valid site (s .core)) _ validState) in
+    let place = s .core .position in
     let count = sound .phases in
     let times = phase-timed site sound (place .phase) (told .phase) in
-    let came = came-below (site .size .phases) (place .came) (told .came) (omega arith) in
+    let previous = came-below (site .size .phases) (place .previous) (told .previous) (omega arith) in
     let target = target-below (site .size .phases) (place .phase) (isLeaving (place .interval)) (place .target) (told .target) (omega arith) in
-    let position : positionForm .fits place = (omega (arith, told .phase), (record {}, (omega (arith, told .age), (omega (arith, came), omega (arith, target))))) in
-    let counts : countsForm .fits (s .rest .counts) = (omega (arith, told .gap, times .gap), omega (arith, told .maximum, times .maximum .1)) in
-    let demands : demandsForm .fits (s .rest .demands) = (locks, buttons) in
-    let records : movementsForm .fits (s .rest .movements) = (movements, λ k below. (record {}, omega (arith, told .movements k below .age))) in
+    let position : positionForm .fits place = (omega (arith, told .phase), (record {}, (omega (arith, told .age), (omega (arith, previous), omega (arith, target))))) in
+    let counts : countsForm .fits (s .core .counts) = (omega (arith, told .gap, times .gap), omega (arith, told .maximum, times .maximum .1)) in
+    let demands : demandsForm .fits (s .core .demands) = (locks, buttons) in
+    let records : movementsForm .fits (s .core .movements) = (movements, λ k below. (record {}, omega (arith, told .movements k below .age))) in
     (position, (counts, (demands, (records, kept))))
 
 pub step-is-proper : StepIsProper
 unfolding StepIsProper StepKeepsKept keptStepped steppedTo locksLeft walksBegun buttonsLeft
-step-is-proper site sound s inputs sane wired =
-    proper-of site sound (keptStepped site s inputs) (step-keeps-kept step-keeps-valid site sound s inputs sane wired)
+step-is-proper site sound s inputs validState wired =
+    proper-of site sound (keptStepped site s inputs) (step-keeps-kept step-keeps-valid site sound s inputs validState wired)
     (set-small _)
     (set-small _)
     (list-length _ 8)

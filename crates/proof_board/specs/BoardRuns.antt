@@ -6,24 +6,24 @@ use mathlib.Core.List.{List}
 use mathlib.Core.Path.{_≡_}
 use lib.Dec.{eqb}
 use Rattle.rules.specs.declared.answer.Outcome.{Outcome}
-use Rattle.rules.specs.declared.answer.Outcome.the-variants.{Stepped, Declined}
+use Rattle.rules.specs.declared.answer.Outcome.the-variants.{Stepped, StepRefused}
 use Rattle.rules.specs.declared.answer.Verdict.{Verdict}
 use Rattle.rules.specs.declared.answer.Verdict.the-variants.{Accepted, Refused}
 use Rattle.rules.specs.declared.site.Site.{Site}
 use Rattle.rules.specs.declared.state.KeptState.{KeptState}
-use Rattle.rules.specs.Rows.{if_then_else_}
+use Rattle.laws.specs.Folds.{if_then_else_}
 use Rattle.rules.specs.Personality.{verdictOf}
 use Rattle.rules.specs.Kept.{freshKept, keptValid, keptStepped}
 use Rattle.rules.specs.Call.{strayInput}
 use Rattle.rules.specs.Laws.{Sound}
-use Rattle.rules.specs.Runs.{Controller, DemandThreeOf}
-use Rattle.board_state.specs.Layout.{decoded, encodedOver, Proper}
+use Rattle.rules.specs.DemandThree.{Controller, DemandThreeOf}
+use Rattle.state_bytes.specs.Layout.{decoded, encodedOver, Proper}
 use Rattle.willowera.specs.Board.{packedVerdict, freshAnswer, stepAnswer, stateAfter, coloursAfter}
 
 -- An answer as a caller reads it: the lowest byte is the number of the refusal, 0 where the call is accepted, and the rest is the
 -- place or the wait bound.
 unfoldable pub outcomeIn : ℕ → Outcome
-outcomeIn answer = if eqb (answer % 256) 0 then Stepped (answer / 256) else Declined (answer % 256) (answer / 256)
+outcomeIn answer = if eqb (answer % 256) 0 then Stepped (answer / 256) else StepRefused (answer % 256) (answer / 256)
 
 -- the same of an answer to reading
 unfoldable pub verdictIn : ℕ → Verdict
@@ -39,7 +39,7 @@ board buffer =
       outcome = λ b state inputs room. outcomeIn (stepAnswer b state inputs room);
       next = stateAfter;
       buffer = coloursAfter;
-      seen = λ state. decoded state .rest;
+      seen = λ state. decoded state .core;
     }
 
 -- whatever buffer `willowera_fresh` accepts and writes the fresh state into

@@ -1,6 +1,6 @@
 -- Every worked case holds: what the rules compute is, case by case, what it must be.
 use mathlib.Core.Path.{refl}
-use Rattle.rules.specs.Intervals.{letterOf}
+use Rattle.rules.specs.IntervalTable.{letterOf}
 use Rattle.rules.proofs.Opened.{opened}
 use Rattle.proof_cases.specs.Traces.{unlessDeclined, linesFrom, sameColours, sameButStep, changesAfter, changesIn, changes}
 use Rattle.proof_cases.specs.Cases.{onceB, onceBAlwaysA, starred, walkTwice, laterB, pausing, ours, lockA, early, keeping, callLater, callLaterAlwaysA, resting, bothOthers, inOrder, callers, cases, CasesHold}

@@ -10,12 +10,12 @@ use Rattle.rules.specs.declared.answer.Verdict.the-variants.{Accepted, Refused}
 use Rattle.rules.specs.declared.state.Held.the-variants.{Nothing}
 use Rattle.rules.specs.declared.state.Interval.the-variants.{StartRed, LateStart, MinimumGreen, Running, EarlyCutOff, Yellow, AllRed}
 use Rattle.rules.specs.declared.state.KeptState.{KeptState}
-use Rattle.rules.specs.Rows.{if_then_else_}
+use Rattle.laws.specs.Folds.{if_then_else_}
 use Rattle.rules.specs.State.{idle}
 use Rattle.rules.specs.Kept.{freshKept}
 use Rattle.rules.specs.Colours.{red, yellow, green, flashing}
 use Rattle.rules.specs.Junctions.{junction, putTwo, crossing, threePhases, callingB, overlap, cutOffs, turning, turningBoth, ordered}
-use Rattle.rules.specs.Cases.{CallCase, reading, waiting, answering, CallHolds, AllHold, at, gap_max_, locks_buttons_, state, stepping, declining}
+use Rattle.rules.specs.CallCases.{CallCase, reading, waiting, answering, CallHolds, AllHold, at, gap_max_, locks_buttons_, state, stepping, declining}
 use Rattle.proof_cases.specs.Traces.{Line, line, changes}
 
 -- A case is one call, or the changes of n calls whose input bits are given by step.

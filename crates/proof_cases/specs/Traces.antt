@@ -6,12 +6,12 @@ use mathlib.Core.List.{List, [], _∷_}
 use lib.Dec.{eqb}
 use lib.ListN.{replicate}
 use Rattle.rules.specs.declared.answer.Outcome.{Outcome}
-use Rattle.rules.specs.declared.answer.Outcome.the-variants.{Stepped, Declined}
+use Rattle.rules.specs.declared.answer.Outcome.the-variants.{Stepped, StepRefused}
 use Rattle.rules.specs.declared.state.Interval.{Interval}
 use Rattle.rules.specs.declared.state.KeptState.{KeptState}
-use Rattle.rules.specs.Rows.{if_then_else_}
+use Rattle.laws.specs.Folds.{if_then_else_}
 use Rattle.rules.specs.Personality.{groupCount}
-use Rattle.rules.specs.Intervals.{letterOf}
+use Rattle.rules.specs.IntervalTable.{letterOf}
 use Rattle.rules.specs.Kept.{freshKept}
 use Rattle.rules.specs.Call.{answerOf, bufferOf}
 
@@ -22,7 +22,7 @@ pub data Line : Type 0 where
 -- a refused call ends the trace
 unfoldable pub unlessDeclined : Outcome → List Line → List Line
 unlessDeclined (Stepped wait) lines = lines
-unlessDeclined (Declined number place) lines = []
+unlessDeclined (StepRefused number place) lines = []
 
 -- The lines of n calls from a state, where the input bits of each step are given by its number.
 unfoldable pub linesFrom : List ℕ → (ℕ → ℕ) → ℕ → KeptState → ℕ → List Line
@@ -30,7 +30,7 @@ linesFrom b inputs step s zero = []
 linesFrom b inputs step s (suc n) =
     let answer = answerOf b s (inputs step) (groupCount b) in
     let shown = bufferOf b s (inputs step) (replicate (groupCount b) 0) in
-    let now = answer .state .rest .position in
+    let now = answer .state .core .position in
     unlessDeclined (answer .outcome)
     (line step (now .phase) (now .interval) shown ∷ linesFrom b inputs (step + 1) (answer .state) n)
 

@@ -16,7 +16,7 @@ use Rattle.rules.specs.declared.state.State.{State}
 use Rattle.rules.specs.Site.{phaseTimes, walkTimes, isPedestrian, movementOf, conflict}
 use Rattle.rules.specs.State.{fresh, movement}
 use Rattle.rules.specs.Colours.{red, yellow, green, flashing, movementColour}
-use Rattle.rules.specs.Runs.{Taken, shows, shownBy, StartsGreen, VehicleCleared, PedestrianCleared, Cleared, FullClearances}
+use Rattle.rules.specs.DemandThree.{Taken, shows, shownBy, StartsGreen, VehicleCleared, PedestrianCleared, Cleared, FullClearances}
 use Rattle.rules.specs.Laws.{Sound}
 use Rattle.rules.proofs.Settings.{Timed, phase-timed, walk-reached}
 use Rattle.proof_runs.proofs.Linked.{reached}
@@ -103,7 +103,7 @@ module _
     vehicle-cleared s steps here e since =
         let down =
         counts-down site g j apart start later greenG Yellows yellow
-        (λ n s sane left. yellows-member site j p n (s .position) left)
+        (λ n s validState left. yellows-member site j p n (s .position) left)
         yellow-falls
         (phaseTimes (site .times) p .yellow)
         s
@@ -168,7 +168,7 @@ module _
     pedestrian-cleared s steps e since =
         let down =
         counts-down site g j apart start later greenG Flashes flashing
-        (λ n s sane left. busy-has-phase site sound s sane j within kind (flashes-busy times n (mine s) left))
+        (λ n s validState left. busy-has-phase site sound s validState j within kind (flashes-busy times n (mine s) left))
         flashing-falls
         (times .first + times .second)
         s

@@ -9,7 +9,7 @@ use Rattle.rules.specs.declared.site.Site.{Site}
 use Rattle.rules.specs.declared.state.State.{State}
 use Rattle.rules.specs.Site.{inPhase, conflict}
 use Rattle.rules.specs.Colours.{red, green}
-use Rattle.rules.specs.Runs.{Taken, shows, shownBy, NeverGreen}
+use Rattle.rules.specs.DemandThree.{Taken, shows, shownBy, NeverGreen}
 use Rattle.proof_runs.proofs.ValidStates.{ValidState}
 use Rattle.proof_runs.proofs.Runs.{ValidLink, Run}
 use Rattle.proof_clearance.proofs.Greens.{shown-has-phase, never-both-green}

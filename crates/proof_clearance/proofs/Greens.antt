@@ -8,10 +8,10 @@ use mathlib.Core.Path.{_≡_, refl, sym, _∙_}
 use Rattle.rules.specs.declared.site.Site.{Site}
 use Rattle.rules.specs.declared.state.State.{State}
 use Rattle.rules.specs.Site.{inPhase, isPedestrian, movementOf, conflict}
-use Rattle.rules.specs.Intervals.{isIdle}
+use Rattle.rules.specs.IntervalTable.{isIdle}
 use Rattle.rules.specs.State.{fresh, movement}
 use Rattle.rules.specs.Colours.{green, shownIn}
-use Rattle.rules.specs.Runs.{Taken, shows, NoConflictingGreens}
+use Rattle.rules.specs.DemandThree.{Taken, shows, NoConflictingGreens}
 use Rattle.rules.specs.Laws.{Sound}
 use Rattle.proof_runs.proofs.ValidStates.{ValidState}
 use Rattle.proof_runs.proofs.Linked.{reached}
@@ -20,13 +20,13 @@ use Rattle.proof_clearance.proofs.Shown.{vehicle-colour, pedestrian-col
 
 -- ── Valid states ──
 
-module _ (site : Site) (sound : Sound site) (s : State) (sane : ValidState site s) (g : ℕ) (within : g < site .size .groups) where
+module _ (site : Site) (sound : Sound site) (s : State) (validState : ValidState site s) (g : ℕ) (within : g < site .size .groups) where
   -- a pedestrian group whose movement is not idle is of the phase
   pub busy-has-phase :
       isPedestrian (site .groups) g ≡ true → isIdle (movement s (movementOf (site .groups) g) .stage) ≡ false → inPhase (site .groups) g (s .position .phase) ≡ true
   busy-has-phase kind busy =
       let below = sound .movementOfGroup g within kind in
-      let told = sane .movements (movementOf (site .groups) g) (omega (arith, below, sound .movements)) in
+      let told = validState .movements (movementOf (site .groups) g) (omega (arith, below, sound .movements)) in
       sym (sound .crossingOfGroup g within kind (s .position .phase)) ∙ told .ofPhase busy .1
 
   -- In a valid state a group that shows green has the phase in its set.

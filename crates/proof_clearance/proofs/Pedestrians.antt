@@ -13,12 +13,12 @@ use Rattle.rules.specs.declared.state.Movement.{Movement}
 use Rattle.rules.specs.declared.state.Stage.the-variants.{Idle, Walk, ClearanceOne, ClearanceTwo}
 use Rattle.rules.specs.declared.state.State.{State}
 use Rattle.rules.specs.Site.{walkTimes}
-use Rattle.rules.specs.Intervals.{isIdle}
+use Rattle.rules.specs.IntervalTable.{isIdle}
 use Rattle.rules.specs.State.{movement}
 use Rattle.rules.specs.Movements.{older, lasting, advanced}
 use Rattle.rules.specs.Colours.{green, flashing, movementColour}
-use Rattle.rules.specs.Runs.{Taken}
-use Rattle.rules.proofs.Tests.{decided}
+use Rattle.rules.specs.DemandThree.{Taken}
+use Rattle.laws.proofs.Booleans.{decided}
 use Rattle.rules.proofs.Settings.{Reached}
 use Rattle.proof_runs.proofs.Steps.{mayEnd, moved, begun, movement-of}
 use Rattle.proof_runs.proofs.Chains.{Link}

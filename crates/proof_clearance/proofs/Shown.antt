@@ -10,12 +10,12 @@ use Rattle.rules.specs.declared.state.Position.{Position}
 use Rattle.rules.specs.declared.state.Stage.{Stage}
 use Rattle.rules.specs.declared.state.Stage.the-variants.{Idle, Walk, ClearanceOne, ClearanceTwo}
 use Rattle.rules.specs.declared.state.State.{State}
-use Rattle.rules.specs.Rows.{if_then_else_}
+use Rattle.laws.specs.Folds.{if_then_else_}
 use Rattle.rules.specs.Site.{groupOf, inPhase, isPedestrian, movementOf}
-use Rattle.rules.specs.Intervals.{heldIn}
+use Rattle.rules.specs.IntervalTable.{heldIn}
 use Rattle.rules.specs.State.{movement}
 use Rattle.rules.specs.Colours.{red, green, closing, vehicleColour, movementColour, vehicleShown, colourOf, shownIn}
-use Rattle.rules.specs.Runs.{Taken, shows}
+use Rattle.rules.specs.DemandThree.{Taken, shows}
 use Rattle.proof_runs.proofs.Chains.{Link}
 
 -- group g has the phase held in its set
@@ -29,7 +29,7 @@ stopsEarly site g = eqb (groupOf (site .groups) g .mark) 3
 abbrev pub vehicleBy : Site → ℕ → Bool → Position → ℕ
 vehicleBy site g closes position =
     if inPhase (site .groups) g (position .phase)
-    then vehicleColour (position .interval) closes (position .came) (position .target) (groupOf (site .groups) g)
+    then vehicleColour (position .interval) closes (position .previous) (position .target) (groupOf (site .groups) g)
     else red
 
 abbrev pub vehicleAt : Site → ℕ → Position → ℕ

@@ -12,14 +12,14 @@ use Rattle.rules.specs.declared.state.Held.{Held}
 use Rattle.rules.specs.declared.state.Interval.{Interval}
 use Rattle.rules.specs.declared.state.Interval.the-variants.{StartRed, LateStart, MinimumGreen, Running, EarlyCutOff, Yellow, AllRed}
 use Rattle.rules.specs.declared.state.Position.{Position}
-use Rattle.rules.specs.Rows.{if_then_else_}
+use Rattle.laws.specs.Folds.{if_then_else_}
 use Rattle.rules.specs.Site.{groupOf, inPhase, phaseTimes}
-use Rattle.rules.specs.Intervals.{isEarly}
+use Rattle.rules.specs.IntervalTable.{isEarly}
 use Rattle.rules.specs.State.{highestAge}
 use Rattle.rules.specs.Movements.{older}
 use Rattle.rules.specs.Interval.{entering, following, staying}
 use Rattle.rules.specs.Colours.{red, yellow, green, sinceCutOff, closing, vehicleColour}
-use Rattle.rules.proofs.Tests.{decided, or-right, or-false-left, or-false-right}
+use Rattle.laws.proofs.Booleans.{decided, or-right, or-false-left, or-false-right}
 use Rattle.rules.proofs.Settings.{Timed}
 use Rattle.proof_runs.proofs.Ends.{by-early}
 use Rattle.proof_clearance.proofs.Shown.{keeps, stopsEarly, vehicleAt}
@@ -155,7 +155,7 @@ module _
 
   pub green-follows :
       (i : Interval) →
-      vehicleColour i true (position .came) (position .target) (groupOf (site .groups) j) ≡ green →
+      vehicleColour i true (position .previous) (position .target) (groupOf (site .groups) j) ≡ green →
       Goes (following i (site .times) next position)
   unfolding following entering vehicleColour
   green-follows StartRed e = absurd (omega arith)

@@ -14,9 +14,9 @@ use Rattle.rules.specs.declared.state.Held.the-variants.{Nothing, Phase}
 use Rattle.rules.specs.declared.state.Interval.{Interval}
 use Rattle.rules.specs.declared.state.Interval.the-variants.{StartRed, LateStart, MinimumGreen, Running, EarlyCutOff, Yellow, AllRed}
 use Rattle.rules.specs.declared.state.Position.{Position}
-use Rattle.rules.specs.Rows.{if_then_else_}
+use Rattle.laws.specs.Folds.{if_then_else_}
 use Rattle.rules.specs.Site.{groupOf, inPhase, phaseTimes}
-use Rattle.rules.specs.Intervals.{heldIn, phaseHeld}
+use Rattle.rules.specs.IntervalTable.{heldIn, phaseHeld}
 use Rattle.rules.specs.Interval.{entering, starting, leaving, following}
 use Rattle.rules.specs.Colours.{red, yellow, green, vehicleColour}
 use Rattle.proof_clearance.proofs.Shown.{keeps, stopsEarly, vehicleBy, vehicleAt}
@@ -40,16 +40,16 @@ by-closing false false =
     record { was-green = λ e. absurd (omega arith); green = λ e. absurd (omega arith); red = λ e. absurd (omega arith) }
 
 colour-fades :
-    (i : Interval) (closes : Bool) (came target : Held) (group : Group) →
-    Fades (vehicleColour i closes came target group) (vehicleColour i true came target group)
+    (i : Interval) (closes : Bool) (previous target : Held) (group : Group) →
+    Fades (vehicleColour i closes previous target group) (vehicleColour i true previous target group)
 unfolding vehicleColour
-colour-fades StartRed closes came target group = same
-colour-fades LateStart closes came target group = same
-colour-fades MinimumGreen closes came target group = same
-colour-fades Running closes came target group = same
-colour-fades EarlyCutOff closes came target group = by-closing (heldIn target (group .phases) || not (eqb (group .mark) 3)) closes
-colour-fades Yellow closes came target group = by-closing (heldIn target (group .phases)) (closes || not (eqb (group .mark) 3))
-colour-fades AllRed closes came target group = same
+colour-fades StartRed closes previous target group = same
+colour-fades LateStart closes previous target group = same
+colour-fades MinimumGreen closes previous target group = same
+colour-fades Running closes previous target group = same
+colour-fades EarlyCutOff closes previous target group = by-closing (heldIn target (group .phases) || not (eqb (group .mark) 3)) closes
+colour-fades Yellow closes previous target group = by-closing (heldIn target (group .phases)) (closes || not (eqb (group .mark) 3))
+colour-fades AllRed closes previous target group = same
 
 -- what group j would show while closing
 abbrev pub closingAt : Site → ℕ → Position → ℕ
@@ -58,7 +58,7 @@ closingAt site j position = vehicleBy site j true position
 pub shown-fades : (site : Site) (j : ℕ) (position : Position) → Fades (vehicleAt site j position) (closingAt site j position)
 shown-fades site j position =
     by-phase (inPhase (site .groups) j (position .phase))
-    (colour-fades (position .interval) _ (position .came) (position .target) (groupOf (site .groups) j))
+    (colour-fades (position .interval) _ (position .previous) (position .target) (groupOf (site .groups) j))
   where
     by-phase : (ofPhase : Bool) {a b : ℕ} → Fades a b → Fades (if ofPhase then a else red) (if ofPhase then b else red)
     by-phase true fades = fades
@@ -94,21 +94,21 @@ firstInterval noLate = if noLate then MinimumGreen else LateStart
 
 -- mark 1 does not wait where came-from is in its set
 started-green :
-    (noLate : Bool) (came : Held) (group : Group) →
-    heldIn came (group .phases) ≡ true →
-    vehicleColour (firstInterval noLate) true came Nothing group ≡ green
+    (noLate : Bool) (previous : Held) (group : Group) →
+    heldIn previous (group .phases) ≡ true →
+    vehicleColour (firstInterval noLate) true previous Nothing group ≡ green
 unfolding vehicleColour
-started-green true came group e = refl
-started-green false came group e = rw e (waits-not (eqb (group .mark) 1))
+started-green true previous group e = refl
+started-green false previous group e = rw e (waits-not (eqb (group .mark) 1))
   where
     waits-not : (mark : Bool) → (if mark && not true then red else green) ≡ green
     waits-not true = refl
     waits-not false = refl
 
-started-either : (noLate : Bool) (came : Held) (group : Group) → RedOrGreen (vehicleColour (firstInterval noLate) true came Nothing group)
+started-either : (noLate : Bool) (previous : Held) (group : Group) → RedOrGreen (vehicleColour (firstInterval noLate) true previous Nothing group)
 unfolding vehicleColour
-started-either true came group = inr refl
-started-either false came group = chosen (eqb (group .mark) 1 && not (heldIn came (group .phases))) (inl refl) (inr refl)
+started-either true previous group = inr refl
+started-either false previous group = chosen (eqb (group .mark) 1 && not (heldIn previous (group .phases))) (inl refl) (inr refl)
 
 module _ (site : Site) (j : ℕ) (times : Times) where
   -- the target starts green where it and the phase that was left are in the set
@@ -121,10 +121,10 @@ module _ (site : Site) (j : ℕ) (times : Times) where
   target-green p Nothing m h = absurd (true≢false (sym h))
   target-green p (Phase q) m h = rw h (started-green (eqb (phaseTimes times q .late) 0) (Phase p) (groupOf (site .groups) j) m)
 
-  start-either : (p : ℕ) (came : Held) → RedOrGreen (closingAt site j (starting times p came))
+  start-either : (p : ℕ) (previous : Held) → RedOrGreen (closingAt site j (starting times p previous))
   unfolding starting
-  start-either p came =
-      chosen (inPhase (site .groups) j p) (started-either (eqb (phaseTimes times p .late) 0) came (groupOf (site .groups) j)) (inl refl)
+  start-either p previous =
+      chosen (inPhase (site .groups) j p) (started-either (eqb (phaseTimes times p .late) 0) previous (groupOf (site .groups) j)) (inl refl)
 
   -- ── What follows red ──
 
@@ -134,10 +134,10 @@ module _ (site : Site) (j : ℕ) (times : Times) where
 
     pub red-follows :
         (i : Interval) →
-        (if ofPhase then vehicleColour i true (position .came) (position .target) (groupOf (site .groups) j) else red) ≡ red →
+        (if ofPhase then vehicleColour i true (position .previous) (position .target) (groupOf (site .groups) j) else red) ≡ red →
         RedOrGreen (closingAt site j (following i times next position))
     unfolding following leaving entering vehicleColour
-    red-follows StartRed e = start-either (position .phase) (position .came)
+    red-follows StartRed e = start-either (position .phase) (position .previous)
     red-follows LateStart e = chosen ofPhase (inr refl) (inl refl)
     red-follows MinimumGreen e = chosen ofPhase (inr refl) (inl refl)
     red-follows Running e = inl (red-outside ofPhase _ (λ (z : green ≡ red). omega arith) e)

@@ -16,7 +16,7 @@ use Rattle.rules.specs.State.{valid}
 use Rattle.rules.specs.Step.{stepped}
 use Rattle.rules.specs.Call.{strayInput, stepVerdict, handedBack, boundFor}
 use Rattle.rules.specs.Laws.{Sound, StepKeepsValid}
-use Rattle.rules.specs.Runs.{Call, Taken, takenFrom, NoDeadEnd}
+use Rattle.rules.specs.DemandThree.{Call, Taken, takenFrom, NoDeadEnd}
 use Rattle.rules.specs.Scanning.{scanVerdict, scanning}
 use Rattle.proof_runs.proofs.Linked.{Linked, reached}
 use Rattle.proof_runs.proofs.Chains.{accepted-told}
@@ -30,8 +30,8 @@ module _ (keeps : StepKeepsValid) (b : List ℕ) (sound : Sound (siteOf b)) wher
       scanVerdict b s inputs room ≡ v →
       valid (siteOf b) (handedBack v (stepped (siteOf b) s inputs) s) ≡ true
   unfolding StepKeepsValid handedBack
-  valid-for s sane inputs room Accepted e = keeps (siteOf b) sound s inputs sane (accepted-told b s inputs room e .1)
-  valid-for s sane inputs room (Refused number place) e = sane
+  valid-for s validState inputs room Accepted e = keeps (siteOf b) sound s inputs validState (accepted-told b s inputs room e .1)
+  valid-for s validState inputs room (Refused number place) e = validState
 
   module _ (known : verdictOf b ≡ Accepted) where
     -- what a call is refused with for its own inputs and buffer
@@ -40,7 +40,7 @@ module _ (keeps : StepKeepsValid) (b : List ℕ) (sound : Sound (siteOf b)) wher
 
     own-verdict : (s : State) → valid (siteOf b) s ≡ true → (inputs room : ℕ) → scanVerdict b s inputs room ≡ own inputs room
     unfolding scanVerdict stepVerdict refuseIf _orElse_
-    own-verdict s sane inputs room = rw (known, sane)
+    own-verdict s validState inputs room = rw (known, validState)
 
     -- the call answers what its own inputs and buffer call for
     abbrev Own : State → Taken → Type 0
@@ -48,15 +48,15 @@ module _ (keeps : StepKeepsValid) (b : List ℕ) (sound : Sound (siteOf b)) wher
 
     own-from : (calls : List Call) (s : State) → valid (siteOf b) s ≡ true → Linked Own s (takenFrom scanning b s calls)
     unfolding takenFrom scanning
-    own-from [] s sane = tt
-    own-from (c ∷ calls) s sane =
+    own-from [] s validState = tt
+    own-from (c ∷ calls) s validState =
         let room = length (c .buffer) in
         let v = scanVerdict b s (c .inputs) room in (
-          ap (λ (w : Verdict). boundFor w (siteOf b)) (own-verdict s sane (c .inputs) room),
-          own-from calls (handedBack v (stepped (siteOf b) s (c .inputs)) s) (valid-for s sane (c .inputs) room v refl),
+          ap (λ (w : Verdict). boundFor w (siteOf b)) (own-verdict s validState (c .inputs) room),
+          own-from calls (handedBack v (stepped (siteOf b) s (c .inputs)) s) (valid-for s validState (c .inputs) room v refl),
         )
 
     pub no-dead-end : (calls : List Call) (s : State) → valid (siteOf b) s ≡ true → NoDeadEnd (siteOf b) (takenFrom scanning b s calls)
     unfolding NoDeadEnd
-    no-dead-end calls s sane earlier later call split =
-        reached Own (takenFrom scanning b s calls) earlier (call ∷ later) s split (own-from calls s sane) .1 .0
+    no-dead-end calls s validState earlier later call split =
+        reached Own (takenFrom scanning b s calls) earlier (call ∷ later) s split (own-from calls s validState) .1 .0

@@ -7,7 +7,7 @@ use Rattle.rules.specs.Laws.{AcceptedIsSound, FreshIsValid}
 use Rattle.rules.specs.Site.{siteOf}
 use Rattle.rules.specs.State.{fresh}
 use Rattle.rules.specs.Kept.{freshKept}
-use Rattle.rules.specs.Runs.{Taken, ruled, takenFrom, accepted, SafeRun, DemandThreeOf, DemandThree}
+use Rattle.rules.specs.DemandThree.{Taken, ruled, takenFrom, accepted, SafeRun, DemandThreeOf, DemandThree}
 use Rattle.rules.specs.Scanning.{scanning, FreshKeptIsValid, RunForgets}
 use Rattle.proof_runs.proofs.Chains.{chained}
 use Rattle.proof_runs.proofs.Runs.{run-of}

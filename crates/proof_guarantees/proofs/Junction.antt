@@ -14,7 +14,7 @@ use Rattle.rules.specs.Site.{siteOf, conflict}
 use Rattle.rules.specs.Verdicts.{_orElse_, refuseIf}
 use Rattle.rules.specs.WaitBound.{waitBound}
 use Rattle.rules.specs.Call.{strayInput, boundFor}
-use Rattle.rules.specs.Runs.{ruled, NoConflictingGreens, DemandsMet, NoDeadEnd, DemandThreeOf, DemandThree, comesWithin, minimumGreenBegins}
+use Rattle.rules.specs.DemandThree.{ruled, NoConflictingGreens, DemandsMet, NoDeadEnd, DemandThreeOf, DemandThree, comesWithin, minimumGreenBegins}
 use Rattle.rules.specs.Junctions.{junction}
 use Rattle.rules.proofs.Opened.{opened}
 use Rattle.proof_guarantees.specs.Junction.{NeverTogether, MetIn270, AlwaysAnswered}

@@ -8,7 +8,7 @@ use Rattle.rules.specs.declared.answer.Outcome.the-variants.{Stepped}
 use Rattle.rules.specs.Site.{siteOf}
 use Rattle.rules.specs.Kept.{freshKept}
 use Rattle.rules.specs.Colours.{green}
-use Rattle.rules.specs.Runs.{ruled, Call, Taken, takenFrom, accepted, shows, comesWithin, minimumGreenBegins, registersLocked}
+use Rattle.rules.specs.DemandThree.{ruled, Call, Taken, takenFrom, accepted, shows, comesWithin, minimumGreenBegins, registersLocked}
 use Rattle.rules.specs.Junctions.{junction}
 
 -- Whatever the calls: the two groups are never green together.

@@ -14,8 +14,8 @@ use Rattle.rules.specs.declared.state.Demands.{Demands}
 use Rattle.rules.specs.declared.state.Held.{Held}
 use Rattle.rules.specs.declared.state.KeptState.{KeptState}
 use Rattle.rules.specs.declared.state.State.{State}
-use Rattle.rules.specs.Bytes.{bit}
-use Rattle.rules.specs.Rows.{setOf, sumOf}
+use Rattle.laws.specs.Bytes.{bit}
+use Rattle.laws.specs.Folds.{setOf, sumOf}
 use Rattle.rules.specs.Verdicts.{_orElse_}
 use Rattle.rules.specs.Personality.{verdictOf}
 use Rattle.rules.specs.Site.{siteOf, crosses}
@@ -25,13 +25,13 @@ use Rattle.rules.specs.Interval.{clearsLock}
 use Rattle.rules.specs.Step.{steppedTo, stepped}
 use Rattle.rules.specs.Kept.{freshKept, keptValid, keptAfter, keptLeft, keptStepped}
 use Rattle.rules.specs.Call.{stepVerdict, callVerdict, boundFor, handedBack, bufferFor, answerOf, bufferOf}
-use Rattle.rules.specs.Runs.{Call, Taken, ruled, takenFrom}
+use Rattle.rules.specs.DemandThree.{Call, Taken, ruled, takenFrom}
 use Rattle.rules.specs.Laws.{Sound, AcceptedIsSound, FreshIsValid, StepKeepsValid}
 use Rattle.rules.specs.Scanning.{scanVerdict, scanning, FreshKeptIsValid, StepKeepsKept, StepForgets, RunForgets}
-use Rattle.rules.proofs.Tests.{and-left, and-both, and-false-left, or-false-both}
-use Rattle.rules.proofs.Bits.{bit-blank}
-use Rattle.rules.proofs.Rows.{any-none}
-use Rattle.rules.proofs.Sets.{set-same}
+use Rattle.laws.proofs.Booleans.{and-left, and-both, and-false-left, or-false-both}
+use Rattle.laws.proofs.Bits.{bit-blank}
+use Rattle.laws.proofs.Folds.{any-none}
+use Rattle.laws.proofs.Sets.{set-same}
 use Rattle.rules.proofs.Verdicts.{or-first}
 use Rattle.proof_runs.proofs.Chains.{checks-told}
 use Rattle.proof_runs.proofs.Steps.{askedNow, lockedNow, begun, ended, now, asked-at, locked-at, locked-of, asked-of}
@@ -39,31 +39,31 @@ use Rattle.proof_kept.proofs.Scans.{standingAfter, kept-after, next-kep
 
 pub step-forgets : StepForgets
 unfolding StepForgets keptStepped stepped
-step-forgets site sound s inputs v = ap (λ (next : Held). steppedTo next site (s .rest) inputs) (next-kept site sound s inputs v)
+step-forgets site sound s inputs v = ap (λ (next : Held). steppedTo next site (s .core) inputs) (next-kept site sound s inputs v)
 
 -- ── A step keeps the set true ──
 
 module _ (site : Site) (sound : Sound site) (s : KeptState) (inputs : ℕ) (v : keptValid site s ≡ true) where
   -- what the step leaves of the demands
   left : Demands
-  left = stepped site (s .rest) inputs .demands
+  left = stepped site (s .core) inputs .demands
 
   lock-was : (p : ℕ) → p < 8 → bit p (left .locks) ≡ true → bit p (standingAfter site s inputs .locks) ≡ true
   unfolding left locked
   lock-was p l h =
-      locked-at site (s .rest) inputs p l
-      ∙ and-left (lockedNow site (s .rest) inputs p) (not (clearsLock (ended site (s .rest) inputs) (now site (s .rest) inputs) p))
-      (sym (locked-of site (s .rest) inputs p l) ∙ h)
+      locked-at site (s .core) inputs p l
+      ∙ and-left (lockedNow site (s .core) inputs p) (not (clearsLock (ended site (s .core) inputs) (now site (s .core) inputs) p))
+      (sym (locked-of site (s .core) inputs p l) ∙ h)
 
   button-was :
       (k : ℕ) → k < site .size .movements → bit k (left .buttons) ≡ true → bit k (standingAfter site s inputs .buttons) ≡ true
   unfolding left asked
   button-was k l h =
       let small : k < 8 = omega (arith, sound .movements) in
-      asked-at site (s .rest) inputs k small
-      ∙ and-left (askedNow site (s .rest) inputs k) (not (begun site (s .rest) inputs k)) (sym (asked-of site (s .rest) inputs k small) ∙ h)
+      asked-at site (s .core) inputs k small
+      ∙ and-left (askedNow site (s .core) inputs k) (not (begun site (s .core) inputs k)) (sym (asked-of site (s .core) inputs k small) ∙ h)
 
-  pub keeps-scan : keptStepped site s inputs .kept ≡ setOf (stands site (keptStepped site s inputs .rest .demands))
+  pub keeps-scan : keptStepped site s inputs .kept ≡ setOf (stands site (keptStepped site s inputs .core .demands))
   unfolding keptStepped left stepped
   keeps-scan =
       rw (next-kept site sound s inputs v)
@@ -75,7 +75,7 @@ pub step-keeps-kept : StepKeepsValid → StepKeepsKept
 unfolding StepKeepsValid StepKeepsKept StepForgets keptValid
 step-keeps-kept keeps site sound s inputs v wired =
     and-both
-    (ap (λ (t : State). valid site t) (step-forgets site sound s inputs v) ∙ keeps site sound (s .rest) inputs (and-left (valid site (s .rest)) _ v) wired)
+    (ap (λ (t : State). valid site t) (step-forgets site sound s inputs v) ∙ keeps site sound (s .core) inputs (and-left (valid site (s .core)) _ v) wired)
     (eq-eqb _ _ (keeps-scan site sound s inputs v))
 
 pub fresh-kept-is-valid : FreshIsValid → FreshKeptIsValid
@@ -95,10 +95,10 @@ fresh-kept-is-valid holds site sound =
 module _ (sound : AcceptedIsSound) (keeps : StepKeepsValid) (b : List ℕ) where
   -- in a valid state the checks are the same
   verdict-same :
-      (s : KeptState) (inputs room : ℕ) → keptValid (siteOf b) s ≡ true → callVerdict b s inputs room ≡ scanVerdict b (s .rest) inputs room
+      (s : KeptState) (inputs room : ℕ) → keptValid (siteOf b) s ≡ true → callVerdict b s inputs room ≡ scanVerdict b (s .core) inputs room
   unfolding callVerdict scanVerdict keptValid
   verdict-same s inputs room v =
-      ap (λ (ok : Bool). verdictOf b orElse stepVerdict (siteOf b) ok inputs room) (v ∙ sym (and-left (valid (siteOf b) (s .rest)) _ v))
+      ap (λ (ok : Bool). verdictOf b orElse stepVerdict (siteOf b) ok inputs room) (v ∙ sym (and-left (valid (siteOf b) (s .core)) _ v))
 
   -- a call as it is taken where it has such a verdict, would lead to such a state and hands such a one back
   entry : Verdict → State → State → State → Call → Taken
@@ -116,10 +116,10 @@ module _ (sound : AcceptedIsSound) (keeps : StepKeepsValid) (b : List ℕ) where
       (v : Verdict) (s : KeptState) (c : Call) (calls : List Call) →
       keptValid (siteOf b) s ≡ true →
       callVerdict b s (c .inputs) (length (c .buffer)) ≡ v →
-      ((t : KeptState) → keptValid (siteOf b) t ≡ true → takenFrom ruled b t calls ≡ takenFrom scanning b (t .rest) calls) →
+      ((t : KeptState) → keptValid (siteOf b) t ≡ true → takenFrom ruled b t calls ≡ takenFrom scanning b (t .core) calls) →
       _≡_ {A = List Taken}
-      (entry v (s .rest) (keptStepped (siteOf b) s (c .inputs) .rest) (handedBack v (keptStepped (siteOf b) s (c .inputs)) s .rest) c ∷ takenFrom ruled b (handedBack v (keptStepped (siteOf b) s (c .inputs)) s) calls)
-      (entry v (s .rest) (stepped (siteOf b) (s .rest) (c .inputs)) (handedBack v (stepped (siteOf b) (s .rest) (c .inputs)) (s .rest)) c ∷ takenFrom scanning b (handedBack v (stepped (siteOf b) (s .rest) (c .inputs)) (s .rest)) calls)
+      (entry v (s .core) (keptStepped (siteOf b) s (c .inputs) .core) (handedBack v (keptStepped (siteOf b) s (c .inputs)) s .core) c ∷ takenFrom ruled b (handedBack v (keptStepped (siteOf b) s (c .inputs)) s) calls)
+      (entry v (s .core) (stepped (siteOf b) (s .core) (c .inputs)) (handedBack v (stepped (siteOf b) (s .core) (c .inputs)) (s .core)) c ∷ takenFrom scanning b (handedBack v (stepped (siteOf b) (s .core) (c .inputs)) (s .core)) calls)
   unfolding entry handedBack boundFor bufferFor AcceptedIsSound StepForgets StepKeepsKept callVerdict
   taken-alike Accepted s c calls v e later =
       let site = siteOf b in
@@ -129,13 +129,13 @@ module _ (sound : AcceptedIsSound) (keeps : StepKeepsValid) (b : List ℕ) where
       let wired = checks-told b (c .inputs) room (keptValid site s) e .1 in
       subst
       (λ (t : State).
-      _≡_ {A = List Taken} (entry Accepted (s .rest) (next .rest) (next .rest) c ∷ takenFrom ruled b next calls) (entry Accepted (s .rest) t t c ∷ takenFrom scanning b t calls))
+      _≡_ {A = List Taken} (entry Accepted (s .core) (next .core) (next .core) c ∷ takenFrom ruled b next calls) (entry Accepted (s .core) t t c ∷ takenFrom scanning b t calls))
       (step-forgets site fine s (c .inputs) v)
-      (ap (λ (l : List Taken). entry Accepted (s .rest) (next .rest) (next .rest) c ∷ l) (later next (step-keeps-kept keeps site fine s (c .inputs) v wired)))
+      (ap (λ (l : List Taken). entry Accepted (s .core) (next .core) (next .core) c ∷ l) (later next (step-keeps-kept keeps site fine s (c .inputs) v wired)))
   taken-alike (Refused number place) s c calls v e later =
-      ap (λ (l : List Taken). entry (Refused number place) (s .rest) (s .rest) (s .rest) c ∷ l) (later s v)
+      ap (λ (l : List Taken). entry (Refused number place) (s .core) (s .core) (s .core) c ∷ l) (later s v)
 
-  pub run-forgets-from : (s : KeptState) → keptValid (siteOf b) s ≡ true → (calls : List Call) → takenFrom ruled b s calls ≡ takenFrom scanning b (s .rest) calls
+  pub run-forgets-from : (s : KeptState) → keptValid (siteOf b) s ≡ true → (calls : List Call) → takenFrom ruled b s calls ≡ takenFrom scanning b (s .core) calls
   unfolding takenFrom ruled scanning answerOf bufferOf entry
   run-forgets-from s v [] = refl
   run-forgets-from s v (c ∷ calls) =
@@ -143,8 +143,8 @@ module _ (sound : AcceptedIsSound) (keeps : StepKeepsValid) (b : List ℕ) where
       taken-alike (callVerdict b s (c .inputs) room) s c calls v refl (λ t w. run-forgets-from t w calls)
       ∙ ap
       (λ (w : Verdict).
-      entry w (s .rest) (stepped (siteOf b) (s .rest) (c .inputs)) (handedBack w (stepped (siteOf b) (s .rest) (c .inputs)) (s .rest)) c
-      ∷ takenFrom scanning b (handedBack w (stepped (siteOf b) (s .rest) (c .inputs)) (s .rest)) calls)
+      entry w (s .core) (stepped (siteOf b) (s .core) (c .inputs)) (handedBack w (stepped (siteOf b) (s .core) (c .inputs)) (s .core)) c
+      ∷ takenFrom scanning b (handedBack w (stepped (siteOf b) (s .core) (c .inputs)) (s .core)) calls)
       (verdict-same s (c .inputs) room v)
 
 pub run-forgets : AcceptedIsSound → StepKeepsValid → RunForgets

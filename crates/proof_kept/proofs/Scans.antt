@@ -10,28 +10,28 @@ use borrow.Author.Tests.{eqb-true}
 use Rattle.rules.specs.declared.site.Site.{Site}
 use Rattle.rules.specs.declared.state.Demands.{Demands}
 use Rattle.rules.specs.declared.state.KeptState.{KeptState}
-use Rattle.rules.specs.Bytes.{bit}
-use Rattle.rules.specs.Rows.{anyOf, setOf}
+use Rattle.laws.specs.Bytes.{bit}
+use Rattle.laws.specs.Folds.{anyOf, setOf}
 use Rattle.rules.specs.Site.{crosses}
 use Rattle.rules.specs.State.{locked, asked, valid}
 use Rattle.rules.specs.Demands.{registersLock, registersButton, calls, demandsAfter, movementDemands, stands, demanded, nextAfter, nextDemanded}
 use Rattle.rules.specs.Kept.{isKept, keptValid, pressKeeps, keptAfter, nextKept, gone, cleared, keptLeft}
 use Rattle.rules.specs.Laws.{Sound}
 use Rattle.rules.specs.Scanning.{KeptIsScan}
-use Rattle.rules.proofs.Tests.{and-left, and-right, and-both, or-left, or-right, or-cases, and-false-left, and-false-right, decided, never-both, not-true-false}
-use Rattle.rules.proofs.Rows.{any-found, any-at}
-use Rattle.rules.proofs.Sets.{bit-set}
+use Rattle.laws.proofs.Booleans.{and-left, and-right, and-both, or-left, or-right, or-cases, and-false-left, and-false-right, decided, never-both, not-true-false}
+use Rattle.laws.proofs.Folds.{any-found, any-at}
+use Rattle.laws.proofs.Sets.{bit-set}
 use Rattle.proof_ring.proofs.Turns.{turn}
 use Rattle.proof_ring.proofs.Ring.{found-same}
-use Rattle.proof_ring.proofs.Orders.{ring-of}
+use Rattle.proof_ring.proofs.RunningOrder.{ring-of}
 use Rattle.proof_runs.proofs.Steps.{askedNow, lockedNow, asked-at, locked-at}
 
 -- in a valid state the kept set is the scan's, so it has the scan's bits
 pub kept-is-scan : KeptIsScan
 unfolding KeptIsScan keptValid isKept
 kept-is-scan site s v p l =
-    let scan = stands site (s .rest .demands) in
-    ap (bit p) (eqb-true (s .kept) (setOf scan) (and-right (valid site (s .rest)) _ v)) ∙ bit-set scan p l
+    let scan = stands site (s .core .demands) in
+    ap (bit p) (eqb-true (s .kept) (setOf scan) (and-right (valid site (s .core)) _ v)) ∙ bit-set scan p l
 
 -- two tests that imply each other are one
 either-way : (a b : Bool) → (a ≡ true → b ≡ true) → (b ≡ true → a ≡ true) → a ≡ b
@@ -79,33 +79,33 @@ module _ (site : Site) (d : Demands) (p : ℕ) where
 
 -- the demands that stand after part 1
 abbrev pub standingAfter : Site → KeptState → ℕ → Demands
-standingAfter site s inputs = demandsAfter site (s .rest) inputs
+standingAfter site s inputs = demandsAfter site (s .core) inputs
 
 module _ (site : Site) (sound : Sound site) (s : KeptState) (inputs : ℕ) (v : keptValid site s ≡ true) where
-  lock-stands : (p : ℕ) → p < 8 → (locked (s .rest) p || registersLock site (s .rest) inputs p) ≡ true → stands site (standingAfter site s inputs) p ≡ true
+  lock-stands : (p : ℕ) → p < 8 → (locked (s .core) p || registersLock site (s .core) inputs p) ≡ true → stands site (standingAfter site s inputs) p ≡ true
   unfolding lockedNow
-  lock-stands p l h = by-lock site (standingAfter site s inputs) p (locked-at site (s .rest) inputs p l ∙ h)
+  lock-stands p l h = by-lock site (standingAfter site s inputs) p (locked-at site (s .core) inputs p l ∙ h)
 
   button-stands :
       (p k : ℕ) →
       k < site .size .movements →
-      (asked (s .rest) k || registersButton (s .rest .movements) inputs k) ≡ true →
+      (asked (s .core) k || registersButton (s .core .movements) inputs k) ≡ true →
       crosses (site .crossings) k p ≡ true →
       stands site (standingAfter site s inputs) p ≡ true
   unfolding askedNow
   button-stands p k l h c =
-      by-button site (standingAfter site s inputs) p k l (asked-at site (s .rest) inputs k (omega (arith, sound .movements)) ∙ h) c
+      by-button site (standingAfter site s inputs) p k l (asked-at site (s .core) inputs k (omega (arith, sound .movements)) ∙ h) c
 
   from-kept : (p : ℕ) → p < 8 → isKept s p ≡ true → stands site (standingAfter site s inputs) p ≡ true
   unfolding KeptIsScan locked asked Found
   from-kept p l h =
       ⊎-elim
-      (λ (lock : bit p (s .rest .demands .locks) ≡ true). lock-stands p l (or-left _ lock))
-      (λ (b : (k : ℕ) × (k < site .size .movements) × (bit k (s .rest .demands .buttons) ≡ true) × (crosses (site .crossings) k p ≡ true)).
+      (λ (lock : bit p (s .core .demands .locks) ≡ true). lock-stands p l (or-left _ lock))
+      (λ (b : (k : ℕ) × (k < site .size .movements) × (bit k (s .core .demands .buttons) ≡ true) × (crosses (site .crossings) k p ≡ true)).
       button-stands p (b .0) (b .1) (or-left _ (b .2)) (b .3))
-      (scan-finds site (s .rest .demands) p (sym (kept-is-scan site s v p l) ∙ h))
+      (scan-finds site (s .core .demands) p (sym (kept-is-scan site s v p l) ∙ h))
 
-  to-kept : (p : ℕ) → p < 8 → stands site (s .rest .demands) p ≡ true → isKept s p ≡ true
+  to-kept : (p : ℕ) → p < 8 → stands site (s .core .demands) p ≡ true → isKept s p ≡ true
   unfolding KeptIsScan
   to-kept p l h = kept-is-scan site s v p l ∙ h
 
@@ -113,19 +113,19 @@ module _ (site : Site) (sound : Sound site) (s : KeptState) (inputs : ℕ) (v : 
   unfolding keptAfter pressKeeps
   stands-kept p l h =
       ⊎-elim
-      (λ (r : (isKept s p || registersLock site (s .rest) inputs p) ≡ true).
+      (λ (r : (isKept s p || registersLock site (s .core) inputs p) ≡ true).
       ⊎-elim
       (λ (k : isKept s p ≡ true). from-kept p l k)
-      (λ (lock : registersLock site (s .rest) inputs p ≡ true). lock-stands p l (or-right (locked (s .rest) p) lock))
-      (or-cases (isKept s p) (registersLock site (s .rest) inputs p) r))
-      (λ (m : anyOf (λ k. registersButton (s .rest .movements) inputs k && crosses (site .crossings) k p) (site .size .movements) ≡ true).
-      let found = any-found (λ k. registersButton (s .rest .movements) inputs k && crosses (site .crossings) k p) (site .size .movements) m in
+      (λ (lock : registersLock site (s .core) inputs p ≡ true). lock-stands p l (or-right (locked (s .core) p) lock))
+      (or-cases (isKept s p) (registersLock site (s .core) inputs p) r))
+      (λ (m : anyOf (λ k. registersButton (s .core .movements) inputs k && crosses (site .crossings) k p) (site .size .movements) ≡ true).
+      let found = any-found (λ k. registersButton (s .core .movements) inputs k && crosses (site .crossings) k p) (site .size .movements) m in
       let k = found .0 in
-      let press = registersButton (s .rest .movements) inputs k in
+      let press = registersButton (s .core .movements) inputs k in
       button-stands p k (found .1)
-      (or-right (asked (s .rest) k) (and-left press (crosses (site .crossings) k p) (found .2)))
+      (or-right (asked (s .core) k) (and-left press (crosses (site .crossings) k p) (found .2)))
       (and-right press (crosses (site .crossings) k p) (found .2)))
-      (or-cases (isKept s p || registersLock site (s .rest) inputs p) (pressKeeps site s inputs p) h)
+      (or-cases (isKept s p || registersLock site (s .core) inputs p) (pressKeeps site s inputs p) h)
 
   kept-stands : (p : ℕ) → p < 8 → stands site (standingAfter site s inputs) p ≡ true → keptAfter site s inputs p ≡ true
   unfolding keptAfter pressKeeps Found lockedNow askedNow locked asked
@@ -133,19 +133,19 @@ module _ (site : Site) (sound : Sound site) (s : KeptState) (inputs : ℕ) (v : 
       ⊎-elim
       (λ (lock : bit p (standingAfter site s inputs .locks) ≡ true).
       ⊎-elim
-      (λ (was : locked (s .rest) p ≡ true). or-left _ (or-left _ (to-kept p l (by-lock site (s .rest .demands) p was))))
-      (λ (r : registersLock site (s .rest) inputs p ≡ true). or-left _ (or-right (isKept s p) r))
-      (or-cases (locked (s .rest) p) (registersLock site (s .rest) inputs p) (sym (locked-at site (s .rest) inputs p l) ∙ lock)))
+      (λ (was : locked (s .core) p ≡ true). or-left _ (or-left _ (to-kept p l (by-lock site (s .core .demands) p was))))
+      (λ (r : registersLock site (s .core) inputs p ≡ true). or-left _ (or-right (isKept s p) r))
+      (or-cases (locked (s .core) p) (registersLock site (s .core) inputs p) (sym (locked-at site (s .core) inputs p l) ∙ lock)))
       (λ (b : (k : ℕ) × (k < site .size .movements) × (bit k (standingAfter site s inputs .buttons) ≡ true) × (crosses (site .crossings) k p ≡ true)).
       let k = b .0 in
       ⊎-elim
-      (λ (was : asked (s .rest) k ≡ true). or-left _ (or-left _ (to-kept p l (by-button site (s .rest .demands) p k (b .1) was (b .3)))))
-      (λ (r : registersButton (s .rest .movements) inputs k ≡ true).
-      or-right (isKept s p || registersLock site (s .rest) inputs p)
-      (any-at (λ k. registersButton (s .rest .movements) inputs k && crosses (site .crossings) k p) (site .size .movements) k (b .1)
+      (λ (was : asked (s .core) k ≡ true). or-left _ (or-left _ (to-kept p l (by-button site (s .core .demands) p k (b .1) was (b .3)))))
+      (λ (r : registersButton (s .core .movements) inputs k ≡ true).
+      or-right (isKept s p || registersLock site (s .core) inputs p)
+      (any-at (λ k. registersButton (s .core .movements) inputs k && crosses (site .crossings) k p) (site .size .movements) k (b .1)
       (and-both r (b .3))))
-      (or-cases (asked (s .rest) k) (registersButton (s .rest .movements) inputs k)
-      (sym (asked-at site (s .rest) inputs k (omega (arith, sound .movements, b .1))) ∙ b .2)))
+      (or-cases (asked (s .core) k) (registersButton (s .core .movements) inputs k)
+      (sym (asked-at site (s .core) inputs k (omega (arith, sound .movements, b .1))) ∙ b .2)))
       (scan-finds site (standingAfter site s inputs) p h)
 
   -- after part 1 a phase is kept where the scan finds it
@@ -153,12 +153,12 @@ module _ (site : Site) (sound : Sound site) (s : KeptState) (inputs : ℕ) (v : 
   kept-after p l = either-way (keptAfter site s inputs p) (stands site (standingAfter site s inputs) p) (stands-kept p l) (kept-stands p l)
 
   -- so the search by the kept set finds what the search by the scan does
-  pub next-kept : nextKept site s inputs ≡ nextDemanded site (s .rest) inputs
+  pub next-kept : nextKept site s inputs ≡ nextDemanded site (s .core) inputs
   unfolding nextKept nextDemanded nextAfter demanded turn
   next-kept =
-      found-same (ring-of site sound) (λ p. keptAfter site s inputs p || calls site (s .rest) inputs p) (demanded site (s .rest) inputs)
-      (s .rest .position .phase)
-      (λ p l. ap (λ (kept : Bool). kept || calls site (s .rest) inputs p) (kept-after p (omega (arith, sound .phases))))
+      found-same (ring-of site sound) (λ p. keptAfter site s inputs p || calls site (s .core) inputs p) (demanded site (s .core) inputs)
+      (s .core .position .phase)
+      (λ p l. ap (λ (kept : Bool). kept || calls site (s .core) inputs p) (kept-after p (omega (arith, sound .phases))))
 
 -- ── Parts 4 and 5 ──
 

@@ -11,7 +11,7 @@ use Rattle.rules.specs.Interval.{ends, following}
 use Rattle.rules.specs.Step.{stepped}
 use Rattle.rules.specs.Kept.{freshKept}
 use Rattle.rules.specs.Junctions.{junction}
-use Rattle.rules.specs.Runs.{ruled, Call, takenFrom, accepted, DemandsMet, DemandThreeOf}
+use Rattle.rules.specs.DemandThree.{ruled, Call, takenFrom, accepted, DemandsMet, DemandThreeOf}
 use Rattle.rules.proofs.Opened.{opened}
 use Rattle.proof_refutations.specs.Faults.{checksBy, controllerBy, steppedBy, moved, agesOnly, neverAlters, leavesTheSite, endsOnTimer, choosesAgain, choosesEarlyAgain, clearing, dropsPresses, smallBound, passesTen}
 use Rattle.proof_refutations.specs.Refutations.{Refutations}

@@ -10,7 +10,7 @@ use lib.Dec.{leb, ltb, eqb}
 use lib.ListN.{length, getD, take, drop, replicate, length-append, length-replicate, length-map}
 use lib.Seq.{split-at}
 use Rattle.rules.specs.declared.answer.Outcome.{Outcome}
-use Rattle.rules.specs.declared.answer.Outcome.the-variants.{Stepped, Declined}
+use Rattle.rules.specs.declared.answer.Outcome.the-variants.{Stepped, StepRefused}
 use Rattle.rules.specs.declared.answer.Verdict.{Verdict}
 use Rattle.rules.specs.declared.answer.Verdict.the-variants.{Accepted}
 use Rattle.rules.specs.Verdicts.{_orElse_, refuseIf}
@@ -19,12 +19,12 @@ use Rattle.rules.specs.State.{fresh}
 use Rattle.rules.specs.Colours.{red, yellow, green}
 use Rattle.rules.specs.WaitBound.{waitBound}
 use Rattle.rules.specs.Call.{strayInput, boundFor}
-use Rattle.rules.specs.Runs.{Controller, Call, Taken, takenFrom, accepted, shows, shownBy, NeverGreen, lastGreen, StartsGreen, NoConflictingGreens, VehicleCleared, PedestrianCleared, Cleared, FullClearances, registersLocked, registersPressed, minimumGreenBegins, walkBegins, someStep, comesWithin, DemandsMet, NoDeadEnd, DemandThreeOf}
-use Rattle.rules.proofs.Tests.{never-both, or-false-left, or-false-right}
+use Rattle.rules.specs.DemandThree.{Controller, Call, Taken, takenFrom, accepted, shows, shownBy, NeverGreen, lastGreen, StartsGreen, NoConflictingGreens, VehicleCleared, PedestrianCleared, Cleared, FullClearances, registersLocked, registersPressed, minimumGreenBegins, walkBegins, someStep, comesWithin, DemandsMet, NoDeadEnd, DemandThreeOf}
+use Rattle.laws.proofs.Booleans.{never-both, or-false-left, or-false-right}
 
 -- what is read past the end of a list
 abbrev nowhere : Taken
-nowhere = record { before = fresh; inputs = 0; room = 0; outcome = Declined 0 0; after = fresh; shown = [] }
+nowhere = record { before = fresh; inputs = 0; room = 0; outcome = StepRefused 0 0; after = fresh; shown = [] }
 
 never-green : (g : ℕ) (steps : List Taken) → someStep (λ step. eqb (shows step g) green) steps ≡ false → NeverGreen g steps
 unfolding someStep
@@ -38,7 +38,7 @@ yellow-first : (y r : ℕ) → 0 < y → getD (replicate y yellow ++ replicate r
 yellow-first zero r h = absurd (not-suc-le-zero h)
 yellow-first (suc y) r h = refl
 
-declined-not-stepped : {number place wait : ℕ} → Declined number place ≡ Stepped wait → ⊥
+declined-not-stepped : {number place wait : ℕ} → StepRefused number place ≡ Stepped wait → ⊥
 declined-not-stepped h = let z : _≡_ {A = ℕ} 0 1 = cc in omega arith
 
 module _ {S : Type 0} (controller : Controller S) (b : List ℕ) (known : controller .verdict b ≡ Accepted) (calls : List Call) where
@@ -209,7 +209,7 @@ module _ {S : Type 0} (controller : Controller S) (b : List ℕ) (known : contro
         refuseIf (strayInput (siteOf b) (call .inputs)) 15 0 orElse refuseIf (ltb (call .room) (siteOf b .size .groups)) 14 0,
       )
 
-  pub refuted-by-refusal : (n number place : ℕ) → answers n ≡ (true, Declined number place, Accepted) → ¬ DemandThreeOf controller
+  pub refuted-by-refusal : (n number place : ℕ) → answers n ≡ (true, StepRefused number place, Accepted) → ¬ DemandThreeOf controller
   unfolding answers DemandThreeOf NoDeadEnd boundFor
   refuted-by-refusal n number place facts holds =
       let says =

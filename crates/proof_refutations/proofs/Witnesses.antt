@@ -4,9 +4,9 @@ use mathlib.Core.Bool.{_||_}
 use mathlib.Core.List.{List, [], _∷_, _++_}
 use lib.Dec.{leb, eqb}
 use lib.ListN.{replicate}
-use Rattle.rules.specs.Rows.{if_then_else_}
+use Rattle.laws.specs.Folds.{if_then_else_}
 use Rattle.rules.specs.Junctions.{two, twos, fours, sections, shortPhase, cutOffs}
-use Rattle.rules.specs.Runs.{Call}
+use Rattle.rules.specs.DemandThree.{Call}
 
 -- n calls from a step on, whose input bits are given by the step, with a buffer for so many groups
 unfoldable pub callsFrom : (ℕ → ℕ) → ℕ → ℕ → ℕ → List Call

@@ -18,10 +18,10 @@ use Rattle.rules.specs.declared.state.Interval.the-variants.{StartRed, LateStar
 use Rattle.rules.specs.declared.state.Movement.{Movement}
 use Rattle.rules.specs.declared.state.Position.{Position}
 use Rattle.rules.specs.declared.state.State.{State}
-use Rattle.rules.specs.Rows.{if_then_else_, sumOf}
+use Rattle.laws.specs.Folds.{if_then_else_, sumOf}
 use Rattle.rules.specs.Verdicts.{_orElse_}
 use Rattle.rules.specs.Site.{siteOf, phaseTimes}
-use Rattle.rules.specs.Intervals.{isIdle, isWalk, isStartRed, isHeld}
+use Rattle.rules.specs.IntervalTable.{isIdle, isWalk, isStartRed, isHeld}
 use Rattle.rules.specs.State.{fresh, movement, valid}
 use Rattle.rules.specs.Demands.{pressed, demandsAfter, nextDemanded, detected, extending}
 use Rattle.rules.specs.Movements.{walkMayEnd, movementsAfter}
@@ -31,7 +31,7 @@ use Rattle.rules.specs.Walks.{begins, walksBegun, buttonsLeft}
 use Rattle.rules.specs.Step.{stepped}
 use Rattle.rules.specs.WaitBound.{phaseShare, longestWalk, longestClearance}
 use Rattle.rules.specs.Call.{stepVerdict, boundFor, handedBack, bufferFor}
-use Rattle.rules.specs.Runs.{Controller}
+use Rattle.rules.specs.DemandThree.{Controller}
 
 -- ── The rules with parts replaced ──
 
@@ -94,7 +94,7 @@ neverAlters site s inputs = s
 -- to a phase that the site doesn't have; the next call then finds no valid state
 unfoldable pub leavesTheSite : Site → State → ℕ → State
 leavesTheSite site s inputs =
-    moved s (record { phase = site .size .phases; interval = StartRed; age = 1; came = Nothing; target = Nothing })
+    moved s (record { phase = site .size .phases; interval = StartRed; age = 1; previous = Nothing; target = Nothing })
 
 -- all-red ends on its timer while C2 still runs
 unfoldable pub endsOnTimer : Interval → ℕ → PhaseTimes → ℕ → Bool → List Movement → Counts → Bool

@@ -9,7 +9,7 @@ use Rattle.rules.specs.Interval.{ends, following}
 use Rattle.rules.specs.Step.{stepped}
 use Rattle.rules.specs.Kept.{freshKept}
 use Rattle.rules.specs.Scanning.{scanning}
-use Rattle.rules.specs.Runs.{ruled, Call, takenFrom, accepted, DemandsMet, DemandThreeOf}
+use Rattle.rules.specs.DemandThree.{ruled, Call, takenFrom, accepted, DemandsMet, DemandThreeOf}
 use Rattle.proof_refutations.specs.Faults.{controllerBy, steppedBy, agesOnly, neverAlters, leavesTheSite, endsOnTimer, choosesAgain, choosesEarlyAgain, dropsPresses, smallBound, passesTen}
 
 -- Only the part that is replaced differs: with the rules' own parts these are the scanning rules.

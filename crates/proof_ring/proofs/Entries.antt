@@ -9,9 +9,9 @@ use native.Mathlib.Omega.{arith}
 use borrow.Author.Tests.{eqb-true, eqb-false, eq-eqb, ne-eqb}
 use lib.Dec.{eqb}
 use lib.ListN.{length}
-use Rattle.rules.specs.Rows.{if_then_else_, sumOf}
+use Rattle.laws.specs.Folds.{if_then_else_, sumOf}
 use Rattle.rules.specs.Demands.{after, before}
-use Rattle.rules.proofs.Tests.{decided}
+use Rattle.laws.proofs.Booleans.{decided}
 
 -- ── Sums over a list, and how often a phase stands in it ──
 

@@ -1,4 +1,4 @@
 pub mod Entries
 pub mod Turns
 pub mod Ring
-pub mod Orders
+pub mod RunningOrder

@@ -11,11 +11,11 @@ use borrow.Author.Tests.{eq-eqb, ne-eqb}
 use lib.Dec.{eqb}
 use lib.ListN.{length}
 use Rattle.rules.specs.declared.state.Held.the-variants.{Phase}
-use Rattle.rules.specs.Rows.{if_then_else_, sumOf}
-use Rattle.rules.specs.Intervals.{isHeld}
+use Rattle.laws.specs.Folds.{if_then_else_, sumOf}
+use Rattle.rules.specs.IntervalTable.{isHeld}
 use Rattle.rules.specs.Demands.{after, before, firstIn}
-use Rattle.rules.proofs.Tests.{decided, never-both}
-use Rattle.rules.proofs.Counts.{below-or-past, same-or-apart}
+use Rattle.laws.proofs.Booleans.{decided, never-both}
+use Rattle.laws.proofs.Counting.{below-or-past, same-or-apart}
 use Rattle.proof_ring.proofs.Entries.{total, one, places, In, one-own, one-other, total-ones, sum-of-one, in-none, in-first, in-later, later-in, around, in-front, uncut}
 use Rattle.proof_ring.proofs.Turns.{turn, turn-leaves, turn-keeps, turn-in, turn-on}
 

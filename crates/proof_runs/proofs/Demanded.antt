@@ -5,12 +5,12 @@ use mathlib.Core.Path.{_≡_, _∙_}
 use borrow.Author.Tests.{eqb-true}
 use Rattle.rules.specs.declared.site.Site.{Site}
 use Rattle.rules.specs.declared.state.State.{State}
-use Rattle.rules.specs.Bytes.{bit}
+use Rattle.laws.specs.Bytes.{bit}
 use Rattle.rules.specs.Site.{detectorOf, crosses}
 use Rattle.rules.specs.Demands.{occupied, detectedAmong, detected, calls, demandsAfter, movementDemands, stands, demanded}
 use Rattle.rules.specs.Laws.{Sound}
-use Rattle.rules.proofs.Tests.{and-left, and-right, and-both, or-left, or-right}
-use Rattle.rules.proofs.Rows.{any-found, any-at}
+use Rattle.laws.proofs.Booleans.{and-left, and-right, and-both, or-left, or-right}
+use Rattle.laws.proofs.Folds.{any-found, any-at}
 use Rattle.proof_runs.proofs.Steps.{askedNow, lockedNow, asked-at, locked-at}
 
 -- a phase of which a detector is occupied exists

@@ -13,15 +13,15 @@ use Rattle.rules.specs.declared.state.Interval.the-variants.{Running, EarlyCutO
 use Rattle.rules.specs.declared.state.Position.{Position}
 use Rattle.rules.specs.declared.state.Stage.{Stage}
 use Rattle.rules.specs.declared.state.State.{State}
-use Rattle.rules.specs.Rows.{if_then_else_}
+use Rattle.laws.specs.Folds.{if_then_else_}
 use Rattle.rules.specs.Site.{phaseTimes}
-use Rattle.rules.specs.Intervals.{isWalkOrFirst, isBeforeStart}
+use Rattle.rules.specs.IntervalTable.{isWalkOrFirst, isBeforeStart}
 use Rattle.rules.specs.State.{idle}
 use Rattle.rules.specs.Demands.{nextDemanded}
 use Rattle.rules.specs.Interval.{someMovement, ends, entering, leaving, following, staying, positionAfter, starts}
 use Rattle.rules.specs.Step.{stepped}
-use Rattle.rules.proofs.Tests.{and-left}
-use Rattle.rules.proofs.Rows.{any-found, any-false}
+use Rattle.laws.proofs.Booleans.{and-left}
+use Rattle.laws.proofs.Folds.{any-found, any-false}
 use Rattle.proof_runs.proofs.Steps.{timesNow, another, counted, moving, ended, now, started, moved, position-of, moved-at}
 
 -- what holds of the position where running ends, by whether the phase has early cut-off green

@@ -7,9 +7,9 @@ use lib.Dec.{leb}
 use borrow.Author.Tests.{leb-true, leb-false}
 use Rattle.rules.specs.declared.state.Movement.{Movement}
 use Rattle.rules.specs.declared.state.Stage.{Stage}
-use Rattle.rules.specs.Rows.{if_then_else_}
+use Rattle.laws.specs.Folds.{if_then_else_}
 use Rattle.rules.specs.Movements.{older, lasting}
-use Rattle.rules.proofs.Tests.{and-right}
+use Rattle.laws.proofs.Booleans.{and-right}
 
 pub lasting-cases :
     (P : Movement → Type 0) (mayEnd : Bool) (setting : ℕ) (stage next : Stage) (age : ℕ) →

@@ -8,8 +8,8 @@ use mathlib.Core.Path.{_≡_, subst}
 use native.Mathlib.Nat.{not-suc-le-zero, le-of-suc-le-suc}
 use lib.ListN.{length, take}
 use Rattle.rules.specs.declared.state.State.{State}
-use Rattle.rules.specs.Runs.{Taken, someStep}
-use Rattle.rules.proofs.Tests.{or-left, or-right}
+use Rattle.rules.specs.DemandThree.{Taken, someStep}
+use Rattle.laws.proofs.Booleans.{or-left, or-right}
 
 abbrev pub Linked : (State → Taken → Type 0) → State → List Taken → Type 0
 Linked L s [] = Unit {0}

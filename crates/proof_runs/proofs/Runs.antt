@@ -4,7 +4,7 @@ use Rattle.rules.specs.declared.site.Site.{Site}
 use Rattle.rules.specs.declared.state.State.{State}
 use Rattle.rules.specs.Step.{stepped}
 use Rattle.rules.specs.Laws.{Sound, StepKeepsValid}
-use Rattle.rules.specs.Runs.{Taken}
+use Rattle.rules.specs.DemandThree.{Taken}
 use Rattle.proof_runs.proofs.ValidStates.{ValidState, state-told}
 use Rattle.proof_runs.proofs.Linked.{Linked, linked-as}
 use Rattle.proof_runs.proofs.Chains.{Link, Chain}

@@ -12,10 +12,10 @@ use Rattle.rules.specs.declared.state.Movement.{Movement}
 use Rattle.rules.specs.declared.state.Position.{Position}
 use Rattle.rules.specs.declared.state.Stage.the-variants.{Walk}
 use Rattle.rules.specs.declared.state.State.{State}
-use Rattle.rules.specs.Bytes.{bit}
-use Rattle.rules.specs.Rows.{if_then_else_}
+use Rattle.laws.specs.Bytes.{bit}
+use Rattle.laws.specs.Folds.{if_then_else_}
 use Rattle.rules.specs.Site.{phaseTimes, walkTimes, crosses}
-use Rattle.rules.specs.Intervals.{isHeld, isIdle, isRunning}
+use Rattle.rules.specs.IntervalTable.{isHeld, isIdle, isRunning}
 use Rattle.rules.specs.State.{idle, locked, asked, movement}
 use Rattle.rules.specs.Demands.{demandsAfter, nextDemanded, detected, extending, registersLock, registersButton}
 use Rattle.rules.specs.Movements.{walkMayEnd, advanced, movementsAfter}
@@ -23,8 +23,8 @@ use Rattle.rules.specs.Counts.{countsAfter}
 use Rattle.rules.specs.Interval.{ends, positionAfter, countsChanged, clearsLock, locksLeft, starts}
 use Rattle.rules.specs.Walks.{begins, walksBegun, buttonsLeft}
 use Rattle.rules.specs.Step.{steppedTo, stepped}
-use Rattle.rules.proofs.Rows.{list-at}
-use Rattle.rules.proofs.Sets.{bit-set}
+use Rattle.laws.proofs.Folds.{list-at}
+use Rattle.laws.proofs.Sets.{bit-set}
 
 -- the times of the phase that a state has
 abbrev pub timesNow : Site → State → PhaseTimes

@@ -12,10 +12,10 @@ use Rattle.rules.specs.declared.state.Movement.{Movement}
 use Rattle.rules.specs.declared.state.Position.{Position}
 use Rattle.rules.specs.declared.state.State.{State}
 use Rattle.rules.specs.Site.{phaseTimes, crosses}
-use Rattle.rules.specs.Intervals.{isIdle, isWalkOrFirst, isStartRed, isLeaving, phaseHeld}
-use Rattle.rules.specs.State.{highestAge, locked, asked, movement, intervalValid, targetValid, cameValid, ageValid, every, positionValid, countsValid, demandExists, movementIn, movementValid, movementsValid, valid}
-use Rattle.rules.proofs.Tests.{and-left, and-right, and-both, or-left, or-right}
-use Rattle.rules.proofs.Rows.{all-at, all-each}
+use Rattle.rules.specs.IntervalTable.{isIdle, isWalkOrFirst, isStartRed, isLeaving, phaseHeld}
+use Rattle.rules.specs.State.{highestAge, locked, asked, movement, intervalValid, targetValid, previousValid, ageValid, every, positionValid, countsValid, demandExists, movementIn, movementValid, movementsValid, valid}
+use Rattle.laws.proofs.Booleans.{and-left, and-right, and-both, or-left, or-right}
+use Rattle.laws.proofs.Folds.{all-at, all-each}
 
 abbrev pub Aged : ℕ → Type 0
 Aged age = (1 ≤ age) × (age ≤ highestAge)
@@ -32,7 +32,7 @@ pub record ValidState (site : Site) (s : State) : Type 0 where
   pub phase : s .position .phase < site .size .phases
   pub interval : intervalValid (site .early) (s .position .interval) ≡ true
   pub target : targetValid (site .size .phases) (s .position .phase) (isLeaving (s .position .interval)) (s .position .target) ≡ true
-  pub came : cameValid (site .size .phases) (s .position .came) ≡ true
+  pub previous : previousValid (site .size .phases) (s .position .previous) ≡ true
   pub age : Aged (s .position .age)
   pub gap : s .counts .gap ≤ phaseTimes (site .times) (s .position .phase) .gap
   pub maximum : s .counts .maximum ≤ phaseTimes (site .times) (s .position .phase) .maximum
@@ -140,7 +140,7 @@ state-told site s h =
       phase = ltb-true _ _ (every-head _ _ position);
       interval = every-head _ _ p1;
       target = every-head _ _ p2;
-      came = every-head _ _ p3;
+      previous = every-head _ _ p3;
       age = age-told (s .position .age) (every-head _ _ p4);
       gap = leb-true _ _ (and-left gap maximum (every-head _ _ h1));
       maximum = leb-true _ _ (and-right gap maximum (every-head _ _ h1));
@@ -167,7 +167,7 @@ unfolding valid positionValid countsValid movementsValid demandExists locked ask
 state-holds site s v =
     and-both
     (and-both (lt-ltb (s .position .phase) (site .size .phases) (v .phase))
-    (and-both (v .interval) (and-both (v .target) (and-both (v .came) (and-both (age-holds (s .position .age) (v .age)) refl)))))
+    (and-both (v .interval) (and-both (v .target) (and-both (v .previous) (and-both (age-holds (s .position .age) (v .age)) refl)))))
     (and-both
     (and-both (le-leb (s .counts .gap) (phaseTimes (site .times) (s .position .phase) .gap) (v .gap))
     (le-leb (s .counts .maximum) (phaseTimes (site .times) (s .position .phase) .maximum) (v .maximum)))

@@ -11,17 +11,17 @@ use Rattle.rules.specs.declared.site.Site.{Site}
 use Rattle.rules.specs.declared.state.Stage.{Stage}
 use Rattle.rules.specs.declared.state.Stage.the-variants.{Idle, Walk, ClearanceOne, ClearanceTwo}
 use Rattle.rules.specs.declared.state.State.{State}
-use Rattle.rules.specs.Bytes.{bit}
-use Rattle.rules.specs.Rows.{allOf}
+use Rattle.laws.specs.Bytes.{bit}
+use Rattle.laws.specs.Folds.{allOf}
 use Rattle.rules.specs.Personality.{knownMode}
 use Rattle.rules.specs.Site.{detectorOf, crosses}
-use Rattle.rules.specs.Intervals.{isIdle, isWalk, isGreen}
+use Rattle.rules.specs.IntervalTable.{isIdle, isWalk, isGreen}
 use Rattle.rules.specs.State.{locked, asked, movement}
 use Rattle.rules.specs.Demands.{occupied, pressed, calling, locking, detectedAmong, detected, inGreen, registersLock, registersButton, calls, demandsAfter, stands, demanded}
 use Rattle.rules.specs.Call.{wired, strayInput}
 use Rattle.rules.specs.Laws.{Sound, PhasesCanBeCalled}
-use Rattle.rules.proofs.Rows.{any-at, any-none, all-at}
-use Rattle.rules.proofs.Tests.{decided, and-left, and-both, and-false-left, and-false-right, or-left, or-right, not-true-false}
+use Rattle.laws.proofs.Folds.{any-at, any-none, all-at}
+use Rattle.laws.proofs.Booleans.{decided, and-left, and-both, and-false-left, and-false-right, or-left, or-right, not-true-false}
 use Rattle.proof_runs.proofs.Demanded.{lock-demands, button-demands}
 use Rattle.proof_runs.proofs.Steps.{askedNow, lockedNow}
 use Rattle.proof_runs.proofs.ValidStates.{ValidState, state-told}

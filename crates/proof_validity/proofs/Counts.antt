@@ -13,9 +13,9 @@ use Rattle.rules.specs.declared.state.Interval.{Interval}
 use Rattle.rules.specs.declared.state.Interval.the-variants.{StartRed, LateStart, MinimumGreen, Running, EarlyCutOff, Yellow, AllRed}
 use Rattle.rules.specs.declared.state.Position.{Position}
 use Rattle.rules.specs.declared.state.State.{State}
-use Rattle.rules.specs.Rows.{if_then_else_}
+use Rattle.laws.specs.Folds.{if_then_else_}
 use Rattle.rules.specs.Site.{phaseTimes}
-use Rattle.rules.specs.Intervals.{isGreen, isMinimumGreen, isRunning, isLeaving, isBeforeStart, phaseHeld}
+use Rattle.rules.specs.IntervalTable.{isGreen, isMinimumGreen, isRunning, isLeaving, isBeforeStart, phaseHeld}
 use Rattle.rules.specs.Demands.{detected, extending, nextDemanded}
 use Rattle.rules.specs.Counts.{gapAfter, maximumAfter, countsAfter}
 use Rattle.rules.specs.Interval.{entering, starting, leaving, following, staying, positionAfter, countsLeaving, countsEntering, countsChanged}

@@ -9,16 +9,16 @@ use lib.Dec.{leb, ltb}
 use borrow.Author.Tests.{ltb-true, not-false}
 use Rattle.rules.specs.declared.site.Site.{Site}
 use Rattle.rules.specs.declared.state.State.{State}
-use Rattle.rules.specs.Bytes.{bit}
-use Rattle.rules.specs.Intervals.{isWalk}
+use Rattle.laws.specs.Bytes.{bit}
+use Rattle.rules.specs.IntervalTable.{isWalk}
 use Rattle.rules.specs.State.{locked, asked, movement}
 use Rattle.rules.specs.Demands.{pressed, locking, detected, inGreen, registersLock, registersButton}
 use Rattle.rules.specs.Interval.{clearsLock}
 use Rattle.rules.specs.Step.{stepped}
 use Rattle.rules.specs.Call.{wired, strayInput}
 use Rattle.rules.specs.Laws.{Sound}
-use Rattle.rules.proofs.Tests.{and-left, and-right, and-false-cases, or-cases, never-both}
-use Rattle.rules.proofs.Rows.{any-false}
+use Rattle.laws.proofs.Booleans.{and-left, and-right, and-false-cases, or-cases, never-both}
+use Rattle.laws.proofs.Folds.{any-false}
 use Rattle.proof_runs.proofs.ValidStates.{ValidState}
 use Rattle.proof_runs.proofs.Steps.{ended, now, askedNow, lockedNow, begun, locked-of, asked-of}
 use Rattle.proof_runs.proofs.Demanded.{detected-below}

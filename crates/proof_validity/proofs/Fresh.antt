@@ -5,23 +5,23 @@ use native.Mathlib.Omega.{arith}
 use lib.ListN.{getD-replicate}
 use Rattle.rules.specs.declared.site.Site.{Site}
 use Rattle.rules.specs.declared.state.Movement.{Movement}
-use Rattle.rules.specs.Intervals.{isIdle, isEarly, isLeaving}
-use Rattle.rules.specs.State.{idle, fresh, locked, asked, movement, intervalValid, targetValid, cameValid}
+use Rattle.rules.specs.IntervalTable.{isIdle, isEarly, isLeaving}
+use Rattle.rules.specs.State.{idle, fresh, locked, asked, movement, intervalValid, targetValid, previousValid}
 use Rattle.rules.specs.Laws.{Sound, FreshIsValid}
-use Rattle.rules.proofs.Bits.{bit-blank}
-use Rattle.rules.proofs.Tests.{or-right, never-both}
+use Rattle.laws.proofs.Bits.{bit-blank}
+use Rattle.laws.proofs.Booleans.{or-right, never-both}
 use Rattle.proof_runs.proofs.ValidStates.{ValidState, ValidMovement, state-holds}
 use Rattle.proof_validity.proofs.Positions.{new-aged}
 use Rattle.proof_validity.proofs.Stages.{idle-valid}
 
 fresh-state : (site : Site) → Sound site → ValidState site fresh
-unfolding fresh locked asked movement intervalValid targetValid cameValid isEarly isLeaving isIdle
+unfolding fresh locked asked movement intervalValid targetValid previousValid isEarly isLeaving isIdle
 fresh-state site sound =
     record {
       phase = omega (arith, sound .phases .0);
       interval = or-right (site .early) refl;
       target = refl;
-      came = refl;
+      previous = refl;
       age = new-aged;
       gap = omega arith;
       maximum = omega arith;

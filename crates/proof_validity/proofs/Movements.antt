@@ -16,11 +16,11 @@ use Rattle.rules.specs.declared.state.Position.{Position}
 use Rattle.rules.specs.declared.state.Stage.{Stage}
 use Rattle.rules.specs.declared.state.State.{State}
 use Rattle.rules.specs.Site.{walkTimes}
-use Rattle.rules.specs.Intervals.{isIdle, isWalkOrFirst, isSecond, isStartRed, isLeaving, phaseHeld}
+use Rattle.rules.specs.IntervalTable.{isIdle, isWalkOrFirst, isSecond, isStartRed, isLeaving, phaseHeld}
 use Rattle.rules.specs.State.{movement}
 use Rattle.rules.specs.Demands.{nextDemanded}
 use Rattle.rules.specs.Interval.{ends, entering, starting, following, staying}
-use Rattle.rules.proofs.Tests.{and-left, and-right, never-both}
+use Rattle.laws.proofs.Booleans.{and-left, and-right, never-both}
 use Rattle.proof_runs.proofs.ValidStates.{ValidMovement, ValidState}
 use Rattle.proof_runs.proofs.Steps.{timesNow, another, mayEnd, ended, now, moved}
 use Rattle.proof_runs.proofs.Ends.{by-early, by-end, ended-in, none-moved}
@@ -80,7 +80,7 @@ module _
     unfolding following isStartRed isLeaving
     following-movement StartRed e c =
         let i : isIdle (m .stage) ≡ true = v .startRed (ap isStartRed e) in
-        idle-valid site (starting times (position .phase) (position .came)) k m i (v .idleAge i)
+        idle-valid site (starting times (position .phase) (position .previous)) k m i (v .idleAge i)
     following-movement LateStart e c = entered-valid MinimumGreen Nothing refl (λ q. absurd (false≢true q))
     following-movement MinimumGreen e c = entered-valid Running Nothing refl (λ q. absurd (false≢true q))
     following-movement Running e c =

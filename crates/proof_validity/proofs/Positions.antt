@@ -15,32 +15,32 @@ use Rattle.rules.specs.declared.state.Interval.{Interval}
 use Rattle.rules.specs.declared.state.Interval.the-variants.{StartRed, LateStart, MinimumGreen, Running, EarlyCutOff, Yellow, AllRed}
 use Rattle.rules.specs.declared.state.Position.{Position}
 use Rattle.rules.specs.declared.state.State.{State}
-use Rattle.rules.specs.Rows.{if_then_else_}
+use Rattle.laws.specs.Folds.{if_then_else_}
 use Rattle.rules.specs.Site.{phaseTimes, ring}
-use Rattle.rules.specs.Intervals.{isStartRed, isEarly, isLeaving, isHeld, phaseHeld}
-use Rattle.rules.specs.State.{intervalValid, targetValid, cameValid}
+use Rattle.rules.specs.IntervalTable.{isStartRed, isEarly, isLeaving, isHeld, phaseHeld}
+use Rattle.rules.specs.State.{intervalValid, targetValid, previousValid}
 use Rattle.rules.specs.Demands.{demanded, firstIn, nextAfter, nextDemanded}
 use Rattle.rules.specs.Movements.{older}
 use Rattle.rules.specs.Interval.{entering, starting, following, staying}
 use Rattle.rules.specs.Laws.{Sound}
-use Rattle.rules.proofs.Tests.{and-both, or-left, or-right, not-false-true}
+use Rattle.laws.proofs.Booleans.{and-both, or-left, or-right, not-false-true}
 use Rattle.proof_runs.proofs.ValidStates.{Aged, ValidState, target-below}
 use Rattle.proof_runs.proofs.Steps.{another, now}
 use Rattle.proof_runs.proofs.Ends.{by-early, by-end, running-ends}
 use Rattle.proof_ring.proofs.Turns.{turn}
 use Rattle.proof_ring.proofs.Ring.{found-other}
-use Rattle.proof_ring.proofs.Orders.{ring-of}
+use Rattle.proof_ring.proofs.RunningOrder.{ring-of}
 
 -- what the clauses of a valid state tell of its position
 pub record ValidPosition (early : Bool) (count : ℕ) (position : Position) : Type 0 where
   pub phase : position .phase < count
   pub interval : intervalValid early (position .interval) ≡ true
   pub target : targetValid count (position .phase) (isLeaving (position .interval)) (position .target) ≡ true
-  pub came : cameValid count (position .came) ≡ true
+  pub previous : previousValid count (position .previous) ≡ true
   pub age : Aged (position .age)
 
 position-told : (site : Site) (s : State) → ValidState site s → ValidPosition (site .early) (site .size .phases) (s .position)
-position-told site s v = record { phase = v .phase; interval = v .interval; target = v .target; came = v .came; age = v .age }
+position-told site s v = record { phase = v .phase; interval = v .interval; target = v .target; previous = v .previous; age = v .age }
 
 -- ── Ages ──
 
@@ -85,16 +85,16 @@ Open interval = (isStartRed interval ≡ false) × (isLeaving interval ≡ false
 
 -- the interval with which a phase starts
 by-late :
-    (P : Interval → Type 0) → P MinimumGreen → P LateStart → (times : Times) (p : ℕ) (came : Held) → P (starting times p came .interval)
+    (P : Interval → Type 0) → P MinimumGreen → P LateStart → (times : Times) (p : ℕ) (previous : Held) → P (starting times p previous .interval)
 unfolding starting
-by-late P none some times p came = step (eqb (phaseTimes times p .late) 0)
+by-late P none some times p previous = step (eqb (phaseTimes times p .late) 0)
   where
     step : (t : Bool) → P (if t then MinimumGreen else LateStart)
     step true = none
     step false = some
 
 -- it is open
-pub start-open : (times : Times) (p : ℕ) (came : Held) → Open (starting times p came .interval)
+pub start-open : (times : Times) (p : ℕ) (previous : Held) → Open (starting times p previous .interval)
 unfolding isStartRed isLeaving
 start-open = by-late Open (refl, refl) (refl, refl)
 
@@ -107,17 +107,17 @@ module _
       targetValid count (position .phase) (isLeaving interval) target ≡ true →
       ValidPosition early count (entering interval target position)
   unfolding entering
-  entering-valid interval target i h = record { phase = valid .phase; interval = i; target = h; came = valid .came; age = new-aged }
+  entering-valid interval target i h = record { phase = valid .phase; interval = i; target = h; previous = valid .previous; age = new-aged }
 
   -- a phase that exists starts
-  starting-valid : (p : ℕ) (came : Held) → p < count → cameValid count came ≡ true → ValidPosition early count (starting times p came)
+  starting-valid : (p : ℕ) (previous : Held) → p < count → previousValid count previous ≡ true → ValidPosition early count (starting times p previous)
   unfolding starting targetValid intervalValid isEarly
-  starting-valid p came h c =
+  starting-valid p previous h c =
       record {
         phase = h;
-        interval = by-late (λ (i : Interval). intervalValid early i ≡ true) plain plain times p came;
-        target = rw (start-open times p came .1);
-        came = c;
+        interval = by-late (λ (i : Interval). intervalValid early i ≡ true) plain plain times p previous;
+        target = rw (start-open times p previous .1);
+        previous = c;
         age = new-aged;
       }
     where
@@ -130,8 +130,8 @@ module _
       (interval ≡ Running → targetValid count (position .phase) true next ≡ true) →
       ((phaseTimes times (position .phase) .early ≡ 0 → ⊥) → early ≡ true) →
       ValidPosition early count (following interval times next position)
-  unfolding following targetValid cameValid isLeaving intervalValid isEarly
-  following-valid StartRed e h section = starting-valid (position .phase) (position .came) (valid .phase) (valid .came)
+  unfolding following targetValid previousValid isLeaving intervalValid isEarly
+  following-valid StartRed e h section = starting-valid (position .phase) (position .previous) (valid .phase) (valid .previous)
   following-valid LateStart e h section = entering-valid MinimumGreen Nothing (or-right early refl) refl
   following-valid MinimumGreen e h section = entering-valid Running Nothing (or-right early refl) refl
   following-valid Running e h section =
@@ -154,7 +154,7 @@ module _
         phase = valid .phase;
         interval = valid .interval;
         target = valid .target;
-        came = valid .came;
+        previous = valid .previous;
         age = older-aged (position .age) (valid .age);
       }
 

@@ -9,10 +9,10 @@ use Rattle.rules.specs.declared.state.Movement.{Movement}
 use Rattle.rules.specs.declared.state.Position.{Position}
 use Rattle.rules.specs.declared.state.Stage.{Stage}
 use Rattle.rules.specs.declared.state.Stage.the-variants.{Idle, Walk, ClearanceOne, ClearanceTwo}
-use Rattle.rules.specs.Intervals.{isIdle, isWalkOrFirst, isSecond}
+use Rattle.rules.specs.IntervalTable.{isIdle, isWalkOrFirst, isSecond}
 use Rattle.rules.specs.Movements.{older, lasting, advanced}
-use Rattle.rules.proofs.Tests.{never-both}
-use Rattle.rules.proofs.Intervals.{idle-only}
+use Rattle.laws.proofs.Booleans.{never-both}
+use Rattle.rules.proofs.IntervalTests.{idle-only}
 use Rattle.proof_runs.proofs.ValidStates.{Aged, ValidMovement}
 use Rattle.proof_runs.proofs.Lasting.{lasting-cases}
 use Rattle.proof_validity.proofs.Positions.{older-aged, new-aged}

@@ -13,17 +13,17 @@ use Rattle.rules.specs.declared.state.Interval.the-variants.{StartRed, LateStar
 use Rattle.rules.specs.declared.state.Position.{Position}
 use Rattle.rules.specs.declared.state.Stage.the-variants.{Walk}
 use Rattle.rules.specs.declared.state.State.{State}
-use Rattle.rules.specs.Rows.{if_then_else_}
+use Rattle.laws.specs.Folds.{if_then_else_}
 use Rattle.rules.specs.Site.{crosses}
-use Rattle.rules.specs.Intervals.{isIdle, isStartRed, isRunning, isLeaving, isBeforeStart, phaseHeld}
+use Rattle.rules.specs.IntervalTable.{isIdle, isStartRed, isRunning, isLeaving, isBeforeStart, phaseHeld}
 use Rattle.rules.specs.State.{movement}
 use Rattle.rules.specs.Demands.{nextDemanded}
 use Rattle.rules.specs.Interval.{following, starts}
 use Rattle.rules.specs.Step.{stepped}
 use Rattle.rules.specs.Laws.{Sound}
-use Rattle.rules.proofs.Tests.{and-left, and-right, or-cases, never-both}
-use Rattle.rules.proofs.Counts.{passes-below}
-use Rattle.rules.proofs.Intervals.{running-only}
+use Rattle.laws.proofs.Booleans.{and-left, and-right, or-cases, never-both}
+use Rattle.laws.proofs.Counting.{passes-below}
+use Rattle.rules.proofs.IntervalTests.{running-only}
 use Rattle.proof_runs.proofs.ValidStates.{ValidMovement, ValidState}
 use Rattle.proof_runs.proofs.Steps.{another, ended, now, started, moved, askedNow, begun, movement-of}
 use Rattle.proof_runs.proofs.Ends.{by-end}
@@ -63,7 +63,7 @@ following-open :
     isBeforeStart interval ≡ true →
     Open (following interval times next position .interval)
 unfolding isBeforeStart following
-following-open StartRed times next position h = start-open times (position .phase) (position .came)
+following-open StartRed times next position h = start-open times (position .phase) (position .previous)
 following-open LateStart times next position h = absurd (false≢true h)
 following-open MinimumGreen times next position h = absurd (false≢true h)
 following-open Running times next position h = absurd (false≢true h)

@@ -11,13 +11,13 @@ use Rattle.rules.specs.declared.state.Interval.{Interval}
 use Rattle.rules.specs.declared.state.Interval.the-variants.{StartRed, LateStart, MinimumGreen, Running, EarlyCutOff, Yellow, AllRed}
 use Rattle.rules.specs.declared.state.Position.{Position}
 use Rattle.rules.specs.declared.state.State.{State}
-use Rattle.rules.specs.Rows.{if_then_else_}
+use Rattle.laws.specs.Folds.{if_then_else_}
 use Rattle.rules.specs.Site.{phaseTimes}
-use Rattle.rules.specs.Intervals.{isGreen, isMinimumGreen, phaseHeld}
+use Rattle.rules.specs.IntervalTable.{isGreen, isMinimumGreen, phaseHeld}
 use Rattle.rules.specs.Demands.{inGreen}
 use Rattle.rules.specs.Interval.{following, entering, starting}
-use Rattle.rules.specs.Runs.{inMinimumGreen}
-use Rattle.rules.proofs.Tests.{and-left, and-right, never-both, not-true-false}
+use Rattle.rules.specs.DemandThree.{inMinimumGreen}
+use Rattle.laws.proofs.Booleans.{and-left, and-right, never-both, not-true-false}
 use Rattle.proof_runs.proofs.Ends.{by-early}
 
 -- the phase is not in minimum green or running

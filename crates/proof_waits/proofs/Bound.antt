@@ -9,13 +9,13 @@ use Rattle.rules.specs.declared.site.Site.{Site}
 use Rattle.rules.specs.declared.state.Interval.{Interval}
 use Rattle.rules.specs.declared.state.Interval.the-variants.{StartRed, LateStart, MinimumGreen, Running, EarlyCutOff, Yellow, AllRed}
 use Rattle.rules.specs.declared.state.State.{State}
-use Rattle.rules.specs.Rows.{sumOf}
+use Rattle.laws.specs.Folds.{sumOf}
 use Rattle.rules.specs.Site.{phaseTimes}
-use Rattle.rules.specs.Intervals.{phaseHeld, isLeaving, isStartRed}
+use Rattle.rules.specs.IntervalTable.{phaseHeld, isLeaving, isStartRed}
 use Rattle.rules.specs.State.{movement, targetValid}
 use Rattle.rules.specs.WaitBound.{phaseShare, waitBound, waitBoundBy}
 use Rattle.rules.specs.Laws.{Sound}
-use Rattle.rules.proofs.Counts.{sum-at, sum-both}
+use Rattle.laws.proofs.Counting.{sum-at, sum-both}
 use Rattle.proof_runs.proofs.ValidStates.{ValidState, target-below}
 use Rattle.proof_runs.proofs.Steps.{timesNow}
 use Rattle.proof_waits.proofs.Stages.{longestWalk, longestClearance, outs, idles, outs-most, clear-most}

@@ -13,16 +13,16 @@ use Rattle.rules.specs.declared.state.Movement.{Movement}
 use Rattle.rules.specs.declared.state.Position.{Position}
 use Rattle.rules.specs.declared.state.State.{State}
 use Rattle.rules.specs.Site.{walkTimes, crosses}
-use Rattle.rules.specs.Intervals.{isIdle, isWalk, isRunning}
+use Rattle.rules.specs.IntervalTable.{isIdle, isWalk, isRunning}
 use Rattle.rules.specs.State.{asked, movement}
 use Rattle.rules.specs.Demands.{pressed, registersButton}
 use Rattle.rules.specs.Interval.{ends, starting, staying}
 use Rattle.rules.specs.Step.{stepped}
 use Rattle.rules.specs.WaitBound.{waitBound}
 use Rattle.rules.specs.Laws.{Sound}
-use Rattle.rules.specs.Runs.{Taken, inWalk, walkBegins}
-use Rattle.rules.proofs.Tests.{and-right, and-both, or-left, or-right, decided, never-both, not-false-true}
-use Rattle.rules.proofs.Counts.{same-or-apart}
+use Rattle.rules.specs.DemandThree.{Taken, inWalk, walkBegins}
+use Rattle.laws.proofs.Booleans.{and-right, and-both, or-left, or-right, decided, never-both, not-false-true}
+use Rattle.laws.proofs.Counting.{same-or-apart}
 use Rattle.proof_runs.proofs.ValidStates.{ValidState}
 use Rattle.proof_runs.proofs.Steps.{another, mayEnd, ended, now, started, moved, askedNow, begun, position-of, asked-of, movement-of}
 use Rattle.proof_runs.proofs.Demanded.{button-demands}

@@ -9,8 +9,8 @@ use lib.ListN.{length, take}
 use Rattle.rules.specs.declared.site.Site.{Site}
 use Rattle.rules.specs.declared.state.State.{State}
 use Rattle.rules.specs.WaitBound.{waitBound}
-use Rattle.rules.specs.Runs.{Taken, someStep, comesWithin}
-use Rattle.rules.proofs.Tests.{or-left, or-right}
+use Rattle.rules.specs.DemandThree.{Taken, someStep, comesWithin}
+use Rattle.laws.proofs.Booleans.{or-left, or-right}
 use Rattle.proof_runs.proofs.ValidStates.{ValidState}
 use Rattle.proof_runs.proofs.Linked.{reaches}
 use Rattle.proof_runs.proofs.Runs.{ValidLink, Run}

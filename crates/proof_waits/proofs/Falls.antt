@@ -9,7 +9,7 @@ use borrow.Author.Tests.{eqb-false}
 use Rattle.rules.specs.declared.site.Site.{Site}
 use Rattle.rules.specs.declared.state.Held.{Held}
 use Rattle.rules.specs.declared.state.Interval.the-variants.{LateStart, MinimumGreen}
-use Rattle.rules.specs.Rows.{if_then_else_}
+use Rattle.laws.specs.Folds.{if_then_else_}
 use Rattle.rules.specs.Site.{phaseTimes}
 use Rattle.rules.specs.State.{highestAge}
 use Rattle.rules.specs.Movements.{older}
@@ -101,18 +101,18 @@ running-stays (suc own) own' maximum count count' walk more out out' n some belo
 module _ (site : Site) (ahead onward : ℕ → ℕ) (n own' count' : ℕ) (out' idle' : ℕ → ℕ) where
   -- a phase other than the demanded one starts
   pub starts-left :
-      (t : ℕ) (came : Held) →
+      (t : ℕ) (previous : Held) →
       1 ≤ phaseTimes (site .times) t .minimum →
       own' ≡ 0 →
       visit site t + onward t ≤ ahead t →
       ahead t ≤ n →
-      LeftIn site ahead onward (starting (site .times) t came .interval) own' (starting (site .times) t came) count' out' idle' n
+      LeftIn site ahead onward (starting (site .times) t previous .interval) own' (starting (site .times) t previous) count' out' idle' n
   unfolding starting visit fromRunning fromLeaving
-  starts-left t came some none far h = step (eqb (phaseTimes (site .times) t .late) 0) refl
+  starts-left t previous some none far h = step (eqb (phaseTimes (site .times) t .late) 0) refl
     where
       step :
           (b : Bool) →
           eqb (phaseTimes (site .times) t .late) 0 ≡ b →
-          LeftIn site ahead onward (if b then MinimumGreen else LateStart) own' (starting (site .times) t came) count' out' idle' n
+          LeftIn site ahead onward (if b then MinimumGreen else LateStart) own' (starting (site .times) t previous) count' out' idle' n
       step true e = omega arith
       step false e = omega (arith, eqb-false (phaseTimes (site .times) t .late) 0 e)

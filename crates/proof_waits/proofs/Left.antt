@@ -9,7 +9,7 @@ use Rattle.rules.specs.declared.state.Interval.the-variants.{StartRed, LateStar
 use Rattle.rules.specs.declared.state.Position.{Position}
 use Rattle.rules.specs.declared.state.State.{State}
 use Rattle.rules.specs.Site.{phaseTimes}
-use Rattle.rules.specs.Intervals.{phaseHeld}
+use Rattle.rules.specs.IntervalTable.{phaseHeld}
 use Rattle.proof_waits.proofs.Stages.{longestWalk, longestClearance, outs, idles}
 
 -- a timer, and the count of each movement, each with what follows it

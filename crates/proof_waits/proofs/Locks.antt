@@ -12,18 +12,18 @@ use Rattle.rules.specs.declared.state.Interval.{Interval}
 use Rattle.rules.specs.declared.state.Interval.the-variants.{StartRed, LateStart, MinimumGreen, Running, EarlyCutOff, Yellow, AllRed}
 use Rattle.rules.specs.declared.state.Position.{Position}
 use Rattle.rules.specs.declared.state.State.{State}
-use Rattle.rules.specs.Rows.{if_then_else_}
+use Rattle.laws.specs.Folds.{if_then_else_}
 use Rattle.rules.specs.Site.{phaseTimes}
-use Rattle.rules.specs.Intervals.{isGreen, isMinimumGreen, isLeaving, isStartRed}
+use Rattle.rules.specs.IntervalTable.{isGreen, isMinimumGreen, isLeaving, isStartRed}
 use Rattle.rules.specs.State.{locked}
 use Rattle.rules.specs.Demands.{detected, locking, inGreen, registersLock, nextDemanded}
 use Rattle.rules.specs.Interval.{ends, following, entering, starting, staying, clearsLock}
 use Rattle.rules.specs.Step.{stepped}
 use Rattle.rules.specs.WaitBound.{waitBound}
 use Rattle.rules.specs.Laws.{Sound}
-use Rattle.rules.specs.Runs.{Taken, inMinimumGreen, inRunning, minimumGreenBegins}
-use Rattle.rules.proofs.Tests.{and-left, and-right, and-both, or-left, or-right, or-false-left, decided, never-both, not-true-false}
-use Rattle.rules.proofs.Counts.{same-or-apart}
+use Rattle.rules.specs.DemandThree.{Taken, inMinimumGreen, inRunning, minimumGreenBegins}
+use Rattle.laws.proofs.Booleans.{and-left, and-right, and-both, or-left, or-right, or-false-left, decided, never-both, not-true-false}
+use Rattle.laws.proofs.Counting.{same-or-apart}
 use Rattle.proof_runs.proofs.ValidStates.{ValidState}
 use Rattle.proof_runs.proofs.Steps.{ended, now, lockedNow, position-of, locked-of}
 use Rattle.proof_runs.proofs.Demanded.{lock-demands}

@@ -15,9 +15,9 @@ use Rattle.rules.specs.declared.state.Interval.the-variants.{Running, AllRed}
 use Rattle.rules.specs.declared.state.Position.{Position}
 use Rattle.rules.specs.declared.state.Stage.{Stage}
 use Rattle.rules.specs.declared.state.State.{State}
-use Rattle.rules.specs.Rows.{if_then_else_}
+use Rattle.laws.specs.Folds.{if_then_else_}
 use Rattle.rules.specs.Site.{walkTimes, crosses}
-use Rattle.rules.specs.Intervals.{isIdle, isWalk, isWalkOrFirst, isSecond, isRunning, isLeaving, isBeforeStart}
+use Rattle.rules.specs.IntervalTable.{isIdle, isWalk, isWalkOrFirst, isSecond, isRunning, isLeaving, isBeforeStart}
 use Rattle.rules.specs.State.{movement}
 use Rattle.rules.specs.Demands.{nextDemanded}
 use Rattle.rules.specs.Movements.{walkMayEnd}
@@ -25,7 +25,7 @@ use Rattle.rules.specs.Counts.{countsAfter, maximumAfter}
 use Rattle.rules.specs.Interval.{someMovement, ends, following, staying, countsChanged}
 use Rattle.rules.specs.Step.{stepped}
 use Rattle.rules.specs.Laws.{Sound}
-use Rattle.rules.proofs.Tests.{and-false-left, and-false-right, and-false-cases, or-false-both, or-false-right}
+use Rattle.laws.proofs.Booleans.{and-false-left, and-false-right, and-false-cases, or-false-both, or-false-right}
 use Rattle.proof_runs.proofs.ValidStates.{ValidState}
 use Rattle.proof_runs.proofs.Steps.{timesNow, another, counted, mayEnd, moving, ended, now, started, moved, askedNow, begun, counts-of, movement-of}
 use Rattle.proof_runs.proofs.Ends.{ended-in, now-in, next-in, started-in, some-moved}

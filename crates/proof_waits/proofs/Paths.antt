@@ -9,14 +9,14 @@ use Rattle.rules.specs.declared.state.Held.{Held}
 use Rattle.rules.specs.declared.state.Held.the-variants.{Nothing, Phase}
 use Rattle.rules.specs.declared.state.State.{State}
 use Rattle.rules.specs.Site.{ring}
-use Rattle.rules.specs.Intervals.{isHeld, phaseHeld}
+use Rattle.rules.specs.IntervalTable.{isHeld, phaseHeld}
 use Rattle.rules.specs.Demands.{demanded, nextAfter, nextDemanded}
 use Rattle.rules.specs.Laws.{Sound}
-use Rattle.rules.proofs.Tests.{never-both}
+use Rattle.laws.proofs.Booleans.{never-both}
 use Rattle.proof_runs.proofs.Steps.{another}
 use Rattle.proof_ring.proofs.Turns.{turn}
 use Rattle.proof_ring.proofs.Ring.{rest, from, from-own, from-other, other-found, rest-own, rest-other, from-most, nearer}
-use Rattle.proof_ring.proofs.Orders.{ring-of}
+use Rattle.proof_ring.proofs.RunningOrder.{ring-of}
 use Rattle.proof_waits.proofs.Left.{visit}
 use Rattle.proof_waits.proofs.Bound.{visits}
 

@@ -15,16 +15,16 @@ use Rattle.rules.specs.declared.state.Interval.{Interval}
 use Rattle.rules.specs.declared.state.Interval.the-variants.{StartRed, LateStart, MinimumGreen, Running, EarlyCutOff, Yellow, AllRed}
 use Rattle.rules.specs.declared.state.Position.{Position}
 use Rattle.rules.specs.declared.state.State.{State}
-use Rattle.rules.specs.Rows.{if_then_else_}
+use Rattle.laws.specs.Folds.{if_then_else_}
 use Rattle.rules.specs.Site.{phaseTimes}
-use Rattle.rules.specs.Intervals.{phaseHeld, isRunning, isBeforeStart, isLeaving}
+use Rattle.rules.specs.IntervalTable.{phaseHeld, isRunning, isBeforeStart, isLeaving}
 use Rattle.rules.specs.State.{highestAge, movement}
 use Rattle.rules.specs.Demands.{nextDemanded}
 use Rattle.rules.specs.Movements.{older}
 use Rattle.rules.specs.Interval.{ends, following, entering, starting, staying}
 use Rattle.rules.specs.Step.{stepped}
 use Rattle.rules.specs.Laws.{Sound}
-use Rattle.rules.proofs.Counts.{same-or-apart}
+use Rattle.laws.proofs.Counting.{same-or-apart}
 use Rattle.proof_runs.proofs.ValidStates.{ValidState}
 use Rattle.proof_runs.proofs.Steps.{timesNow, another, counted, moving, ended, started}
 use Rattle.proof_runs.proofs.Ends.{by-early, ended-in, next-in, started-in, running-ends}
@@ -47,9 +47,9 @@ pub record Standing (site : Site) (ahead onward : ℕ → ℕ) (q : ℕ) (s : St
 
 -- phase q starts, and as many steps are left as are ahead of its start
 pub record Starts (site : Site) (ahead : ℕ → ℕ) (q : ℕ) (s : State) (inputs n : ℕ) : Type 0 where
-  pub came : Held
+  pub previous : Held
   pub starts : started site s inputs ≡ true
-  pub position : stepped site s inputs .position ≡ starting (site .times) q came
+  pub position : stepped site s inputs .position ≡ starting (site .times) q previous
   pub near : ahead q ≤ n
 
 module _
@@ -95,27 +95,27 @@ module _
 
     -- a phase starts
     begins :
-        (t : ℕ) (came : Held) →
+        (t : ℕ) (previous : Held) →
         started site s inputs ≡ true →
-        next .position ≡ starting (site .times) t came →
+        next .position ≡ starting (site .times) t previous →
         ahead t ≤ n →
         Outcome
     unfolding starting
-    begins t came b e h =
+    begins t previous b e h =
         ⊎-elim
         (λ (same : t ≡ q).
         inl (record {
-          came = came;
+          previous = previous;
           starts = b;
-          position = e ∙ ap (λ (p : ℕ). starting (site .times) p came) same;
+          position = e ∙ ap (λ (p : ℕ). starting (site .times) p previous) same;
           near = subst (λ (p : ℕ). ahead p ≤ n) same h;
         }))
         (λ (other : t ≡ q → ⊥).
         let phase : next .position .phase ≡ t = ap (λ (p : Position). p .phase) e in
         let sized : Timed (phaseTimes (site .times) t) =
         phase-timed site sound t (subst (λ (p : ℕ). p < site .size .phases) phase (v' .phase)) in
-        inr (becomes (starting (site .times) t came) e
-        (starts-left site ahead onward n own' (next .counts .maximum) (outs site next) (idles site next) t came (sized .minimum .0)
+        inr (becomes (starting (site .times) t previous) e
+        (starts-left site ahead onward n own' (next .counts .maximum) (outs site next) (idles site next) t previous (sized .minimum .0)
         (stand .gone (λ same. other (sym phase ∙ same)))
         (stand .apart t other)
         h)))
@@ -228,7 +228,7 @@ module _
         Outcome
     unfolding following entering staying isBeforeStart isRunning isLeaving ends fromRunning fromLeaving
     step StartRed true e b h =
-        begins (s .position .phase) (s .position .came) (started-in site s inputs StartRed e true b)
+        begins (s .position .phase) (s .position .previous) (started-in site s inputs StartRed e true b)
         (next-in site s inputs StartRed e true b)
         (omega arith)
     step StartRed false e b h =

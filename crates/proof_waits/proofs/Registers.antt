@@ -9,11 +9,11 @@ use borrow.Author.Tests.{ne-eqb}
 use Rattle.rules.specs.declared.site.Site.{Site}
 use Rattle.rules.specs.declared.state.State.{State}
 use Rattle.rules.specs.State.{movement}
-use Rattle.rules.specs.Intervals.{isMinimumGreen, isRunning}
+use Rattle.rules.specs.IntervalTable.{isMinimumGreen, isRunning}
 use Rattle.rules.specs.Demands.{locking, detected, inGreen, registersLock, registersButton}
-use Rattle.rules.specs.Runs.{Taken, inMinimumGreen, inRunning, inWalk, registersLocked, registersPressed}
-use Rattle.rules.proofs.Counts.{same-or-apart}
-use Rattle.rules.proofs.Intervals.{green-either}
+use Rattle.rules.specs.DemandThree.{Taken, inMinimumGreen, inRunning, inWalk, registersLocked, registersPressed}
+use Rattle.laws.proofs.Counting.{same-or-apart}
+use Rattle.rules.proofs.IntervalTests.{green-either}
 
 turned : (a b : ℕ) → eqb a b ≡ eqb b a
 turned a b =

@@ -15,16 +15,16 @@ use Rattle.rules.specs.declared.state.Position.{Position}
 use Rattle.rules.specs.declared.state.State.{State}
 use Rattle.rules.specs.declared.state.Stage.{Stage}
 use Rattle.rules.specs.declared.state.Stage.the-variants.{Idle, Walk, ClearanceOne, ClearanceTwo}
-use Rattle.rules.specs.Rows.{if_then_else_, greatestOf}
+use Rattle.laws.specs.Folds.{if_then_else_, greatestOf}
 use Rattle.rules.specs.Site.{walkTimes, crosses}
-use Rattle.rules.specs.Intervals.{isIdle, isWalk, isWalkOrFirst, isSecond, isLeaving}
+use Rattle.rules.specs.IntervalTable.{isIdle, isWalk, isWalkOrFirst, isSecond, isLeaving}
 use Rattle.rules.specs.State.{highestAge, movement}
 use Rattle.rules.specs.Movements.{older, lasting, advanced}
 use Rattle.rules.specs.WaitBound.{longestWalk as walkBy, longestClearance as clearanceBy}
 use Rattle.rules.specs.Laws.{Sound}
-use Rattle.rules.proofs.Tests.{decided, never-both}
-use Rattle.rules.proofs.Intervals.{idle-only}
-use Rattle.rules.proofs.Rows.{greatest-at}
+use Rattle.laws.proofs.Booleans.{decided, never-both}
+use Rattle.rules.proofs.IntervalTests.{idle-only}
+use Rattle.laws.proofs.Folds.{greatest-at}
 use Rattle.proof_runs.proofs.ValidStates.{Aged, ValidMovement, ValidState}
 use Rattle.proof_runs.proofs.Steps.{timesNow}
 use Rattle.proof_runs.proofs.Lasting.{lasting-cases}

@@ -11,8 +11,8 @@ use Rattle.rules.specs.State.{fresh}
 use Rattle.rules.specs.Demands.{locking, detected, inGreen, registersLock, registersButton}
 use Rattle.rules.specs.WaitBound.{waitBound}
 use Rattle.rules.specs.Laws.{Sound}
-use Rattle.rules.specs.Runs.{Taken, minimumGreenBegins, walkBegins, comesWithin, DemandsMet}
-use Rattle.rules.proofs.Tests.{and-left}
+use Rattle.rules.specs.DemandThree.{Taken, minimumGreenBegins, walkBegins, comesWithin, DemandsMet}
+use Rattle.laws.proofs.Booleans.{and-left}
 use Rattle.proof_runs.proofs.Demanded.{detected-below}
 use Rattle.proof_runs.proofs.Linked.{reached}
 use Rattle.proof_runs.proofs.Runs.{ValidLink, Run}

@@ -11,14 +11,14 @@ use lib.Bits.{bitOr, or-lt}
 use lib.Dec.{eqb}
 use lib.Pow.{pow-pos, pow-mono}
 use borrow.Author.Tests.{eqb-true, eqb-false, eq-eqb, ne-eqb, not-false}
-use Rattle.rules.specs.Bytes.{bit}
-use Rattle.rules.specs.Rows.{anyOf}
+use Rattle.laws.specs.Bytes.{bit}
+use Rattle.laws.specs.Folds.{anyOf}
 use Rattle.rules.specs.Personality.{phaseCount, groupCount, detectorCount, detectorPhase, detectorMode, callsPhase, walksPhase, phaseWithoutCaller}
-use Rattle.rules.proofs.Rows.{any-found, any-at, any-none, any-false}
-use Rattle.rules.proofs.Tests.{decided, or-left, or-right, or-cases, and-false-right}
-use Rattle.base_reads.proofs.Lowest.{bit-one}
-use Rattle.base_reads.proofs.Union.{bit-or}
-use Rattle.read_groups.specs.Told.{Walked}
+use Rattle.laws.proofs.Folds.{any-found, any-at, any-none, any-false}
+use Rattle.laws.proofs.Booleans.{decided, or-left, or-right, or-cases, and-false-right}
+use Rattle.laws.proofs.LowestBit.{bit-one}
+use Rattle.laws.proofs.UnionBits.{bit-or}
+use Rattle.read_groups.specs.GroupsRead.{CrossedPhases}
 use Rattle.read_groups.proofs.PhaseSets.{shifted, full-each, all-full}
 
 -- the last of three tests, before the second
@@ -42,9 +42,9 @@ module _ (b : List ℕ) where
     pub within : set < 2 ^ phaseCount b
     pub told : (p : ℕ) → bit p set ≡ calledBy d p
 
-  pub called-none : {set : ℕ} → Walked b set (groupCount b) → Called set 0
+  pub called-none : {set : ℕ} → CrossedPhases b set (groupCount b) → Called set 0
   unfolding anyOf
-  called-none walked = record { within = walked .within; told = walked .told }
+  called-none crossed = record { within = crossed .within; told = crossed .told }
 
   module _ {set d phase mode : ℕ} (called : Called set d) (own : phase ≡ detectorPhase b d) (read : mode ≡ detectorMode b d) where
     pub called-more :

@@ -3,9 +3,9 @@ use Prim.Native.Nat.{ℕ}
 use mathlib.Core.Bool.{Bool, not}
 use mathlib.Core.List.{List}
 use lib.Dec.{eqb}
-use Rattle.rules.specs.Bytes.{bit}
+use Rattle.laws.specs.Bytes.{bit}
 use Rattle.rules.specs.Personality.{conflictSet, badConflict, sharePhase, conflictInPhase}
-use Rattle.rules.specs.Rows.{if_then_else_}
+use Rattle.laws.specs.Folds.{if_then_else_}
 
 -- a conflict of group g with group j: with 9 where the set of j lacks g, with 10 where the two share a phase
 unfoldable pub refusedPair : List ℕ → ℕ → ℕ → ℕ → Bool

@@ -3,10 +3,10 @@
 ghost use mathlib.Core.Path.{_≡_};
 ghost use Rattle.rules.specs.declared.answer.Verdict.the-variants.{Accepted};
 ghost use Rattle.rules.specs.Personality.{siteSection, groupsSection, conflictsSection};
-ghost use Rattle.read_layout.specs.Laid.{Laid};
+ghost use Rattle.read_layout.specs.LayoutOf.{LayoutOf};
 use crate::records::first_refused;
+use read_conflicts_quick::surely_right;
 use read_layout::Layout;
-use read_quick::sound;
 use read_sections::sized_section;
 use rules::answer::Verdict;
 
@@ -14,14 +14,14 @@ mod records;
 
 // Kinds 1 and 3 have been accepted before it.
 pub fn conflicts_section(s: &[u8], layout: Layout) -> Verdict
-    requires { ⌜ Laid (now s) layout × (siteSection (now s) ≡ Accepted) × (groupsSection (now s) ≡ Accepted) ⌝ }
+    requires { ⌜ LayoutOf (now s) layout × (siteSection (now s) ≡ Accepted) × (groupsSection (now s) ≡ Accepted) ⌝ }
     ensures { λ r. ⌜ r ≡ conflictsSection (now (s .entry)) ⌝ }
 {
-    let head = sized_section(s, layout.conflicts, 4, (layout.n as usize) * 4);
+    let head = sized_section(s, layout.conflicts, 4, (layout.groupcount as usize) * 4);
     if let Verdict::Refused { .. } = head {
         return head;
     }
-    if sound(s, layout) {
+    if surely_right(s, layout) {
         return Verdict::Accepted;
     }
     let records = first_refused(s, layout, 9);

@@ -2,16 +2,16 @@
 ghost use Prim.Native.Nat.{_<_, _≤_};
 ghost use mathlib.Core.Bool.{_&&_};
 ghost use mathlib.Core.Path.{_≡_};
-ghost use Rattle.rules.specs.Bytes.{bit};
-ghost use Rattle.rules.specs.Rows.{anyOf};
+ghost use Rattle.laws.specs.Bytes.{bit};
+ghost use Rattle.laws.specs.Folds.{anyOf};
 ghost use Rattle.rules.specs.Verdicts.{refuseIf, firstOf};
 ghost use Rattle.rules.specs.declared.answer.Verdict.the-variants.{Accepted};
 ghost use Rattle.rules.specs.Personality.{recordAt, groupCount, conflictsHead, conflictSet, groupsSection};
-ghost use Rattle.read_layout.specs.Laid.{Laid};
+ghost use Rattle.read_layout.specs.LayoutOf.{LayoutOf};
 ghost use Rattle.read_conflicts.specs.Refused.{refusedPair, refusedRecord};
-use base_reads::bit32;
-use base_reads::four;
-use base_reads::share;
+use base_bytes::bit32;
+use base_bytes::four_at;
+use base_bytes::overlap;
 use read_groups::sets::group_set;
 use read_groups::sets::reaches32;
 use read_layout::Layout;
@@ -19,31 +19,31 @@ use rules::answer::Verdict;
 
 // The groups that group g conflicts with.
 fn conflict_set(s: &[u8], layout: Layout, g: usize) -> u32
-    requires { ⌜ Laid (now s) layout × (g ≤ 255) ⌝ }
+    requires { ⌜ LayoutOf (now s) layout × (g ≤ 255) ⌝ }
     ensures { λ r. ⌜ r ≡ conflictSet (now (s .entry)) g ⌝ }
 {
-    four(s, layout.conflicts + 4 + g * 4)
+    four_at(s, layout.conflicts + 4 + g * 4)
 }
 
 // Whether a conflict of group g with group j is refused: with 9 where the set of j lacks g, with 10 where the two share a phase.
 fn refused_pair(s: &[u8], layout: Layout, number: u8, g: usize, j: usize) -> bool
-    requires { ⌜ Laid (now s) layout × (groupsSection (now s) ≡ Accepted) × (g ≤ 255) × (j < layout .n) ⌝ }
+    requires { ⌜ LayoutOf (now s) layout × (groupsSection (now s) ≡ Accepted) × (g ≤ 255) × (j < layout .groupcount) ⌝ }
     ensures { λ r. ⌜ r ≡ refusedPair (now (s .entry)) number g j ⌝ }
 {
     if number == 9 {
         return !bit32(g, conflict_set(s, layout, j));
     }
-    share(group_set(s, layout, g), group_set(s, layout, j))
+    overlap(group_set(s, layout, g), group_set(s, layout, j))
 }
 
 // Whether group g has such a conflict.
 fn refused_conflict(s: &[u8], layout: Layout, number: u8, g: usize) -> bool
-    requires { ⌜ Laid (now s) layout × (groupsSection (now s) ≡ Accepted) × (g ≤ 255) ⌝ }
+    requires { ⌜ LayoutOf (now s) layout × (groupsSection (now s) ≡ Accepted) × (g ≤ 255) ⌝ }
     ensures { λ r. ⌜ r ≡ anyOf
         (λ j. bit j (conflictSet (now (s .entry)) g) && refusedPair (now (s .entry)) number g j)
         (groupCount (now (s .entry))) ⌝ }
 {
-    let count = layout.n as usize;
+    let count = layout.groupcount as usize;
     let set = conflict_set(s, layout, g);
     let mut j: usize = 0;
     while j < count {
@@ -59,7 +59,7 @@ fn refused_conflict(s: &[u8], layout: Layout, number: u8, g: usize) -> bool
 
 // Whether the record of group g is refused with the number; with 9 also where its own bit or a bit at or above N is set.
 fn refused_record(s: &[u8], layout: Layout, number: u8, g: usize) -> bool
-    requires { ⌜ Laid (now s) layout × (groupsSection (now s) ≡ Accepted) × (g ≤ 255) ⌝ }
+    requires { ⌜ LayoutOf (now s) layout × (groupsSection (now s) ≡ Accepted) × (g ≤ 255) ⌝ }
     ensures { λ r. ⌜ r ≡ refusedRecord (now (s .entry)) number g ⌝ }
 {
     let conflict = refused_conflict(s, layout, number, g);
@@ -67,17 +67,17 @@ fn refused_record(s: &[u8], layout: Layout, number: u8, g: usize) -> bool
         return conflict;
     }
     let set = conflict_set(s, layout, g);
-    bit32(g, set) | reaches32(layout.n, set) | conflict
+    bit32(g, set) | reaches32(layout.groupcount, set) | conflict
 }
 
 // The first record that is refused with the number.
 pub fn first_refused(s: &[u8], layout: Layout, number: u8) -> Verdict
-    requires { ⌜ Laid (now s) layout × (groupsSection (now s) ≡ Accepted) ⌝ }
+    requires { ⌜ LayoutOf (now s) layout × (groupsSection (now s) ≡ Accepted) ⌝ }
     ensures { λ r. ⌜ r ≡ firstOf
         (λ g. refuseIf (refusedRecord (now (s .entry)) number g) number (recordAt (conflictsHead (now (s .entry))) 4 g))
         (groupCount (now (s .entry))) ⌝ }
 {
-    let count = layout.n as usize;
+    let count = layout.groupcount as usize;
     let head = layout.conflicts;
     let mut g: usize = 0;
     while g < count {

@@ -6,8 +6,8 @@ use mathlib.Core.Path.{_≡_, refl, sym}
 use lib.Bits.{bitAnd}
 use lib.Dec.{leb}
 use Rattle.rules.specs.Personality.{knownMode}
-use Rattle.rules.specs.Rows.{allOf}
-use Rattle.rules.proofs.Rows.{all-at}
+use Rattle.laws.specs.Folds.{allOf}
+use Rattle.laws.proofs.Folds.{all-at}
 
 -- whether two tests agree
 agree : Bool → Bool → Bool

@@ -9,11 +9,11 @@ use native.Mathlib.Omega.{arith}
 use lib.Bits.{bitAnd, and-block, and-high, and-mask, and-le-r}
 use lib.Dec.{leb, eqb}
 use borrow.Author.Tests.{lt-leb, eqb-true}
-use Rattle.rules.specs.Bytes.{byteAt, twoAt, fourAt}
+use Rattle.laws.specs.Bytes.{byteAt, twoAt, fourAt}
 use Rattle.rules.specs.Personality.{bodyAt, recordAt, phaseCount, detectorsHead, detectorPhase, detectorMode, knownMode, badDetector}
 use Rattle.rules.specs.Verdicts.{firstOf}
 use Rattle.rules.specs.declared.answer.Verdict.the-variants.{Accepted}
-use Rattle.rules.proofs.Tests.{and-left, and-right, or-false-both}
+use Rattle.laws.proofs.Booleans.{and-left, and-right, or-false-both}
 use Rattle.rules.proofs.Verdicts.{recordCheck, good-more}
 use Rattle.read_detectors.proofs.Modes.{mode-low-bits}
 

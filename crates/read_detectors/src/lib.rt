@@ -5,15 +5,15 @@ ghost use mathlib.Core.Path.{_≡_};
 ghost use lib.Dec.{leb};
 ghost use lib.ListN.{length};
 ghost use Rattle.rules.specs.declared.answer.Verdict.the-variants.{Accepted};
-ghost use Rattle.rules.specs.Bytes.{fourAt};
+ghost use Rattle.laws.specs.Bytes.{fourAt};
 ghost use Rattle.rules.specs.Verdicts.{refuseIf, firstOf};
 ghost use Rattle.rules.specs.Personality.{bodyAt, recordAt, detectorsHead, detectorCount, knownMode, badDetector};
 ghost use Rattle.rules.specs.Personality.{siteSection, detectorsSection};
-ghost use Rattle.read_layout.specs.Laid.{Laid};
-use base_reads::four_in;
+ghost use Rattle.read_layout.specs.LayoutOf.{LayoutOf};
+use base_bytes::four_in;
 use read_layout::Layout;
 use read_sections::records::pair_at;
-use read_sections::section;
+use read_sections::section_at;
 use rules::answer::Verdict;
 
 // A phase at or above P, or a mode not 0, 1, 2, 4, 5, 6. Without the bit that 4 is, a known mode is 0, 1 or 2.
@@ -35,20 +35,20 @@ fn eight_in(s: &[u8], i: usize) -> u64
 // added, an unknown mode without the bit that 4 is does. Only what is below 0x80 is added to, so no byte carries into the next. Nothing is
 // owed where the test fails, since the records are then taken one by one: one that failed too often would cost time and change no answer.
 fn four_good(s: &[u8], layout: Layout, d: usize) -> bool
-    requires { ⌜ Laid (now s) layout × (layout .p ≤ 7) × (d ≤ 40000) × (bodyAt (layout .detectors) + (d + 4) * 2 ≤ length (now s)) ⌝ }
+    requires { ⌜ LayoutOf (now s) layout × (layout .phasecount ≤ 7) × (d ≤ 40000) × (bodyAt (layout .detectors) + (d + 4) * 2 ≤ length (now s)) ⌝ }
     ensures { λ r. ⌜ (r ≡ true →
         (badDetector (now (s .entry)) d ≡ false) × (badDetector (now (s .entry)) (d + 1) ≡ false)
         × (badDetector (now (s .entry)) (d + 2) ≡ false) × (badDetector (now (s .entry)) (d + 3) ≡ false)) ⌝ }
 {
     let records = eight_in(s, layout.detectors + 4 + d * 2);
-    let limits = 0x0001000100010001 * (0x7d80 - (layout.p as u64));
+    let limits = 0x0001000100010001 * (0x7d80 - (layout.phasecount as u64));
     let raised = (records & 0x7b7f7b7f7b7f7b7f) + limits;
     (records & 0x8080808080808080 == 0) & (raised & 0x8080808080808080 == 0)
 }
 
 // How many records, four by four from the first on, are seen to be good.
 fn good_fours(s: &[u8], layout: Layout, count: usize) -> usize
-    requires { ⌜ Laid (now s) layout × (layout .p ≤ 7) × (count ≤ 40000) × (bodyAt (layout .detectors) + count * 2 ≤ length (now s)) ⌝ }
+    requires { ⌜ LayoutOf (now s) layout × (layout .phasecount ≤ 7) × (count ≤ 40000) × (bodyAt (layout .detectors) + count * 2 ≤ length (now s)) ⌝ }
     ensures { λ r. ⌜ (r ≤ count) × (firstOf
         (λ d. refuseIf (badDetector (now (s .entry)) d) 11 (recordAt (detectorsHead (now (s .entry))) 2 d)) r ≡ Accepted) ⌝ }
 {
@@ -64,7 +64,7 @@ fn good_fours(s: &[u8], layout: Layout, count: usize) -> usize
 
 // 11: the first bad detector record, where all of them are in the slice.
 fn detector_records(s: &[u8], layout: Layout, count: usize) -> Verdict
-    requires { ⌜ Laid (now s) layout × (count ≡ detectorCount (now s)) × (layout .p ≤ 7) × (count ≤ 40000)
+    requires { ⌜ LayoutOf (now s) layout × (count ≡ detectorCount (now s)) × (layout .phasecount ≤ 7) × (count ≤ 40000)
         × (bodyAt (layout .detectors) + count * 2 ≤ length (now s)) ⌝ }
     ensures { λ r. ⌜ r ≡ firstOf
         (λ d. refuseIf (badDetector (now (s .entry)) d) 11 (recordAt (detectorsHead (now (s .entry))) 2 d))
@@ -74,7 +74,7 @@ fn detector_records(s: &[u8], layout: Layout, count: usize) -> Verdict
     let mut d = good_fours(s, layout, count);
     while d < count {
         let detector = pair_at(s, head, d);
-        if bad_detector(detector.first, detector.second, layout.p) {
+        if bad_detector(detector.first, detector.second, layout.phasecount) {
             return Verdict::Refused {
                 number: 11,
                 place: head + 4 + d * 2,
@@ -87,12 +87,12 @@ fn detector_records(s: &[u8], layout: Layout, count: usize) -> Verdict
 
 // The body length, which reaches to the next head, is even and at most that of 48 records. Kind 1 has been accepted before it.
 pub fn detectors_section(s: &[u8], layout: Layout) -> Verdict
-    requires { ⌜ Laid (now s) layout × (siteSection (now s) ≡ Accepted) ⌝ }
+    requires { ⌜ LayoutOf (now s) layout × (siteSection (now s) ≡ Accepted) ⌝ }
     ensures { λ r. ⌜ r ≡ detectorsSection (now (s .entry)) ⌝ }
 {
     let place = layout.detectors;
     let length = layout.pedestrians - place - 4;
-    let head = section(s, place, 5, (length % 2 == 0) & (length <= 96));
+    let head = section_at(s, place, 5, (length % 2 == 0) & (length <= 96));
     if let Verdict::Refused { .. } = head {
         return head;
     }

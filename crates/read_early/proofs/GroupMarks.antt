@@ -5,17 +5,17 @@ use mathlib.Core.Path.{_≡_}
 use native.Mathlib.Omega.{arith}
 use lib.ListN.{length}
 use Rattle.rules.specs.declared.answer.Verdict.the-variants.{Accepted}
-use Rattle.rules.specs.Bytes.{byteAt}
+use Rattle.laws.specs.Bytes.{byteAt}
 use Rattle.rules.specs.Personality.{bodyAt, recordAt, conflictsHead, groupMark, groupsSection}
 use Rattle.proof_acceptance.proofs.Sections.{groups-accepted, record-within}
 use Rattle.read_layout.specs.declared.Layout.{Layout}
-use Rattle.read_layout.specs.Laid.{Laid}
+use Rattle.read_layout.specs.LayoutOf.{LayoutOf}
 
-module _ {b : List ℕ} {w : Layout} (laid : Laid b w) where
-  pub group-held : groupsSection b ≡ Accepted → (g : ℕ) → g < w .n → recordAt (w .groups) 2 g + 2 ≤ length b
+module _ {b : List ℕ} {w : Layout} (laid : LayoutOf b w) where
+  pub group-held : groupsSection b ≡ Accepted → (g : ℕ) → g < w .groupcount → recordAt (w .groups) 2 g + 2 ≤ length b
   unfolding conflictsHead bodyAt
   group-held passed g l =
-      omega (arith, groups-accepted b passed .next, record-within (w .groups) 2 (w .n) g l, laid .n, laid .groups)
+      omega (arith, groups-accepted b passed .next, record-within (w .groups) 2 (w .groupcount) g l, laid .groupcount, laid .groups)
 
   pub mark-read : (g : ℕ) {mark : ℕ} → mark ≡ byteAt b (recordAt (w .groups) 2 g + 1) → mark ≡ groupMark b g
   unfolding groupMark

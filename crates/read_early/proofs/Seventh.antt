@@ -8,11 +8,11 @@ use native.Mathlib.Nat.{add-zero}
 use lib.Dec.{eqb}
 use Rattle.rules.specs.declared.answer.Verdict.the-variants.{Accepted, Refused}
 use Rattle.rules.specs.Limits.{earlySetting}
-use Rattle.rules.specs.Rows.{anyOf}
+use Rattle.laws.specs.Folds.{anyOf}
 use Rattle.rules.specs.Verdicts.{_orElse_, firstOf}
 use Rattle.rules.specs.Personality.{bodyLength, recordAt, phaseCount, groupCount, groupsHead, earlyHead, hasEarly, sectionAt, timeAt, timesAt, stopsEarly, earlySection, earlyMissing}
-use Rattle.rules.proofs.Tests.{and-false-left, and-false-right}
-use Rattle.rules.proofs.Rows.{any-false}
+use Rattle.laws.proofs.Booleans.{and-false-left, and-false-right}
+use Rattle.laws.proofs.Folds.{any-false}
 use Rattle.rules.proofs.Verdicts.{bad-stop, all-good}
 
 module _ (b : List ℕ) where

@@ -1,35 +1,35 @@
 // Kind 7, the times of early cut-off green, where it is there; and 17, a group that stops early without it.
 ghost use mathlib.Core.Path.{_≡_};
 ghost use Rattle.rules.specs.declared.answer.Verdict.the-variants.{Accepted};
-ghost use Rattle.rules.specs.Rows.{anyOf};
+ghost use Rattle.laws.specs.Folds.{anyOf};
 ghost use Rattle.rules.specs.Personality.{groupCount, groupsSection, stopsEarly, earlySection, earlyMissing};
-ghost use Rattle.read_layout.specs.Laid.{Laid};
+ghost use Rattle.read_layout.specs.LayoutOf.{LayoutOf};
 use read_layout::Layout;
 use read_sections::records::pair_at;
-use read_times::timed_section;
+use read_time_records::timed_section;
 use rules::answer::Verdict;
 
 // Kind 7, where it is there: a time of early cut-off green for each phase.
 pub fn early_section(s: &[u8], layout: Layout) -> Verdict
-    requires { ⌜ Laid (now s) layout ⌝ }
+    requires { ⌜ LayoutOf (now s) layout ⌝ }
     ensures { λ r. ⌜ r ≡ earlySection (now (s .entry)) ⌝ }
 {
-    if !layout.seven {
+    if !layout.hasearly {
         return Verdict::Accepted;
     }
-    timed_section(s, layout.early, 7, 10, 1, layout.p as usize)
+    timed_section(s, layout.early, 7, 10, 1, layout.phasecount as usize)
 }
 
 // 17: the first group that stops early, if there is some and kind 7 is not there. Kind 3 has been accepted, so every mark is in the slice.
 pub fn early_missing(s: &[u8], layout: Layout, some: bool) -> Verdict
-    requires { ⌜ Laid (now s) layout × (groupsSection (now s) ≡ Accepted)
+    requires { ⌜ LayoutOf (now s) layout × (groupsSection (now s) ≡ Accepted)
         × (some ≡ anyOf (stopsEarly (now s)) (groupCount (now s))) ⌝ }
     ensures { λ r. ⌜ r ≡ earlyMissing (now (s .entry)) ⌝ }
 {
-    if layout.seven | !some {
+    if layout.hasearly | !some {
         return Verdict::Accepted;
     }
-    let groups = layout.n as usize;
+    let groups = layout.groupcount as usize;
     let head = layout.groups;
     let mut g: usize = 0;
     while g < groups {

@@ -10,12 +10,12 @@ use lib.Bits.{bitOr, or-add-and, or-lt, and-le-l, and-le-r}
 use lib.Dec.{leb, eqb}
 use lib.Pow.{pow-mono, pow-pos}
 use borrow.Author.Tests.{leb-true, leb-false, le-leb, lt-leb, ne-eqb}
-use Rattle.rules.specs.Bytes.{bit}
-use Rattle.rules.specs.Rows.{anyOf}
-use Rattle.rules.proofs.Bits.{bit-above}
-use Rattle.rules.proofs.Counts.{below-or-past}
-use Rattle.rules.proofs.Rows.{any-found, any-at, any-none, any-false}
-use Rattle.rules.proofs.Tests.{decided, and-false-right}
+use Rattle.laws.specs.Bytes.{bit}
+use Rattle.laws.specs.Folds.{anyOf}
+use Rattle.laws.proofs.Bits.{bit-above}
+use Rattle.laws.proofs.Counting.{below-or-past}
+use Rattle.laws.proofs.Folds.{any-found, any-at, any-none, any-false}
+use Rattle.laws.proofs.Booleans.{decided, and-false-right}
 
 -- one test or none
 pub or-nothing : (t : Bool) → t ≡ (t || false)

@@ -5,16 +5,16 @@ use mathlib.Core.Bool.{false, _&&_}
 use mathlib.Core.List.{List}
 use mathlib.Core.Path.{_≡_, refl, sym, _∙_}
 use borrow.Author.Tests.{leb-false}
-use Rattle.rules.specs.Bytes.{bit}
+use Rattle.laws.specs.Bytes.{bit}
 use Rattle.rules.specs.Personality.{phaseCount, groupCount, groupSet, badGroup, ninthPedestrian, groupRecord, groupsSection, sharePhase}
-use Rattle.rules.specs.Rows.{anyOf}
+use Rattle.laws.specs.Folds.{anyOf}
 use Rattle.rules.specs.Verdicts.{_orElse_}
 use Rattle.rules.specs.declared.answer.Verdict.{Verdict}
 use Rattle.rules.specs.declared.answer.Verdict.the-variants.{Accepted, Refused}
-use Rattle.rules.proofs.Tests.{or-false-left}
+use Rattle.laws.proofs.Booleans.{or-false-left}
 use Rattle.rules.proofs.Verdicts.{refused-not-accepted, or-first, or-later, refuse-passed, first-each, refuse-no, or-next}
 use Rattle.read_groups.specs.declared.records.Groups.{Groups}
-use Rattle.read_groups.specs.Told.{Told}
+use Rattle.read_groups.specs.GroupsRead.{GroupsRead}
 use Rattle.read_groups.proofs.Bits.{common-below}
 
 pub group-passed : (b : List ℕ) (g : ℕ) → badGroup b g ≡ false → ninthPedestrian b g ≡ false → groupRecord b g ≡ Accepted
@@ -24,22 +24,22 @@ group-passed b g p q = sym (or-next refl (refuse-no 6 _ p) (sym (refuse-no 7 _ q
 -- ── The answer with what the marks say ──
 
 pub refused-told :
-    (b : List ℕ) {answer : Verdict} {groups : Groups} {n p : ℕ} → groups .verdict ≡ Refused n p → Refused n p ≡ answer → Told b answer groups
+    (b : List ℕ) {answer : Verdict} {groups : Groups} {n p : ℕ} → groups .verdict ≡ Refused n p → Refused n p ≡ answer → GroupsRead b answer groups
 refused-told b e q =
     record {
       verdict = e ∙ q;
       movements = λ accepted. absurd (refused-not-accepted (q ∙ accepted));
-      walked = λ accepted. absurd (refused-not-accepted (q ∙ accepted));
+      crossed = λ accepted. absurd (refused-not-accepted (q ∙ accepted));
       early = λ accepted. absurd (refused-not-accepted (q ∙ accepted));
     }
 
 -- a check before it has passed
-pub told-next : (b : List ℕ) {a w answer : Verdict} {groups : Groups} → w ≡ a → w ≡ Accepted → Told b answer groups → Told b (a orElse answer) groups
+pub told-next : (b : List ℕ) {a w answer : Verdict} {groups : Groups} → w ≡ a → w ≡ Accepted → GroupsRead b answer groups → GroupsRead b (a orElse answer) groups
 told-next b e passed told =
     record {
       verdict = or-next e passed (told .verdict);
       movements = λ accepted. told .movements (or-later _ _ accepted);
-      walked = λ accepted. told .walked (or-later _ _ accepted);
+      crossed = λ accepted. told .crossed (or-later _ _ accepted);
       early = λ accepted. told .early (or-later _ _ accepted);
     }
 

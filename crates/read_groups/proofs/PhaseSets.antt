@@ -14,17 +14,17 @@ use lib.Count.{onesIn, ones, ones-cat}
 use lib.Dec.{leb, ltb, eqb}
 use lib.Pow.{pow-pos, shl-exact}
 use borrow.Author.Tests.{leb-true, leb-false, le-leb, lt-leb, not-false}
-use Rattle.rules.specs.Bytes.{bit}
+use Rattle.laws.specs.Bytes.{bit}
 use Rattle.rules.specs.Personality.{phaseCount, groupCount, groupSet, groupMark, pedestrian, badGroup, phaseWithoutGroup, walksPhase}
-use Rattle.rules.specs.Rows.{if_then_else_, anyOf, countOf}
-use Rattle.rules.proofs.Bits.{bit-blank}
-use Rattle.rules.proofs.Rows.{any-none, any-false}
-use Rattle.rules.proofs.Tests.{decided, or-false-left}
-use Rattle.base_reads.proofs.Common.{same-bits}
-use Rattle.base_reads.proofs.Parity.{odd-bit}
-use Rattle.base_reads.proofs.Shifts.{half-bit}
-use Rattle.base_reads.proofs.Union.{bit-or}
-use Rattle.read_groups.specs.Told.{Walked}
+use Rattle.laws.specs.Folds.{if_then_else_, anyOf, countOf}
+use Rattle.laws.proofs.Bits.{bit-blank}
+use Rattle.laws.proofs.Folds.{any-none, any-false}
+use Rattle.laws.proofs.Booleans.{decided, or-false-left}
+use Rattle.laws.proofs.CommonBits.{same-bits}
+use Rattle.laws.proofs.Parity.{odd-bit}
+use Rattle.laws.proofs.Shifts.{half-bit}
+use Rattle.laws.proofs.UnionBits.{bit-or}
+use Rattle.read_groups.specs.GroupsRead.{CrossedPhases}
 
 -- ── How many phases a set has ──
 
@@ -118,22 +118,22 @@ module _ (b : List ℕ) where
   )
 
   -- the union of the sets of the pedestrian groups alone
-  pub walked-none : Walked b 0 0
+  pub crossed-none : CrossedPhases b 0 0
   unfolding anyOf
-  walked-none = record { within = pow-pos (phaseCount b); told = bit-blank }
+  crossed-none = record { within = pow-pos (phaseCount b); told = bit-blank }
 
-  module _ {walked g : ℕ} (gathered : Walked b walked g) where
-    pub walked-more : {set : ℕ} → set ≡ groupSet b g → badGroup b g ≡ false → pedestrian b g ≡ true → Walked b (bitOr walked set) (g + 1)
+  module _ {crossed g : ℕ} (gathered : CrossedPhases b crossed g) where
+    pub crossed-more : {set : ℕ} → set ≡ groupSet b g → badGroup b g ≡ false → pedestrian b g ≡ true → CrossedPhases b (bitOr crossed set) (g + 1)
     unfolding anyOf walksPhase
-    walked-more {set} e good walks =
+    crossed-more {set} e good walks =
         record {
-          within = or-lt (phaseCount b) walked set (gathered .within) (rw e (set-within g good));
-          told = λ p. rw (add-one g, bit-or p walked set, gathered .told p, e, walks);
+          within = or-lt (phaseCount b) crossed set (gathered .within) (rw e (set-within g good));
+          told = λ p. rw (add-one g, bit-or p crossed set, gathered .told p, e, walks);
         }
 
-    pub walked-same : pedestrian b g ≡ false → Walked b walked (g + 1)
+    pub crossed-same : pedestrian b g ≡ false → CrossedPhases b crossed (g + 1)
     unfolding anyOf walksPhase
-    walked-same vehicle =
+    crossed-same vehicle =
         record { within = gathered .within; told = λ p. gathered .told p ∙ rw (add-one g, vehicle) (sym (or-false _)) }
 
   -- the union of all is one less than the bound: no phase is without a group

@@ -7,8 +7,8 @@ ghost use lib.Dec.{leb, ltb, eqb};
 ghost use lib.ListN.{length};
 ghost use Rattle.rules.specs.Verdicts.{_orElse_, refuseIf, firstOf};
 ghost use Rattle.rules.specs.Personality.{bodyAt, groupCount, groupsHead, groupRecord, phaseWithoutGroup, groupsSection};
-ghost use Rattle.read_groups.specs.Told.{Told};
-ghost use Rattle.read_layout.specs.Laid.{Laid};
+ghost use Rattle.read_groups.specs.GroupsRead.{GroupsRead};
+ghost use Rattle.read_layout.specs.LayoutOf.{LayoutOf};
 use read_layout::Layout;
 use read_sections::records::pair_at;
 use read_sections::sized_section;
@@ -39,7 +39,7 @@ fn bad_group(set: u8, mark: u8, bound: u32) -> bool
 pub struct Groups {
     pub verdict: Verdict,
     pub movements: usize,
-    pub walked: u8,
+    pub crossed: u8,
     pub early: bool,
 }
 
@@ -49,7 +49,7 @@ fn refused(verdict: Verdict) -> Groups
     Groups {
         verdict,
         movements: 0,
-        walked: 0,
+        crossed: 0,
         early: false,
     }
 }
@@ -57,15 +57,15 @@ fn refused(verdict: Verdict) -> Groups
 // One pass over the records: each is checked for 6 and then for 7, the ninth pedestrian group. The union of the sets tells 8, a phase
 // in no group's set.
 fn group_records(s: &[u8], layout: Layout) -> Groups
-    requires { ⌜ Laid (now s) layout × (bodyAt (layout .groups) + layout .n * 2 ≤ length (now s)) ⌝ }
-    ensures { λ r. ⌜ Told (now (s .entry)) (firstOf (groupRecord (now (s .entry))) (groupCount (now (s .entry)))
+    requires { ⌜ LayoutOf (now s) layout × (bodyAt (layout .groups) + layout .groupcount * 2 ≤ length (now s)) ⌝ }
+    ensures { λ r. ⌜ GroupsRead (now (s .entry)) (firstOf (groupRecord (now (s .entry))) (groupCount (now (s .entry)))
         orElse refuseIf (phaseWithoutGroup (now (s .entry))) 8 (groupsHead (now (s .entry)))) r ⌝ }
 {
-    let bound = set_bound(layout.p);
+    let bound = set_bound(layout.phasecount);
     let head = layout.groups;
-    let count = layout.n as usize;
+    let count = layout.groupcount as usize;
     let mut movements: usize = 0;
-    let mut walked: u8 = 0;
+    let mut crossed: u8 = 0;
     let mut early = false;
     let mut served: u8 = 0;
     let mut g: usize = 0;
@@ -82,7 +82,7 @@ fn group_records(s: &[u8], layout: Layout) -> Groups
                 return refused(Verdict::Refused { number: 7, place });
             }
             movements += 1;
-            walked = walked | set;
+            crossed = crossed | set;
         }
         early = early | (mark == 3);
         served = served | set;
@@ -92,7 +92,7 @@ fn group_records(s: &[u8], layout: Layout) -> Groups
         return Groups {
             verdict: Verdict::Accepted,
             movements,
-            walked,
+            crossed,
             early,
         };
     }
@@ -103,10 +103,10 @@ fn group_records(s: &[u8], layout: Layout) -> Groups
 }
 
 pub fn groups_section(s: &[u8], layout: Layout) -> Groups
-    requires { ⌜ Laid (now s) layout ⌝ }
-    ensures { λ r. ⌜ Told (now (s .entry)) (groupsSection (now (s .entry))) r ⌝ }
+    requires { ⌜ LayoutOf (now s) layout ⌝ }
+    ensures { λ r. ⌜ GroupsRead (now (s .entry)) (groupsSection (now (s .entry))) r ⌝ }
 {
-    let head = sized_section(s, layout.groups, 3, (layout.n as usize) * 2);
+    let head = sized_section(s, layout.groups, 3, (layout.groupcount as usize) * 2);
     if let Verdict::Refused { .. } = head {
         return refused(head);
     }

@@ -5,9 +5,9 @@ use mathlib.Core.Path.{_≡_}
 use native.Mathlib.Omega.{arith}
 use Rattle.rules.specs.Personality.{bodyAt, bodyLength, detectorsHead, pedestriansHead}
 use Rattle.read_layout.specs.declared.Layout.{Layout}
-use Rattle.read_layout.specs.Laid.{Laid}
+use Rattle.read_layout.specs.LayoutOf.{LayoutOf}
 
-module _ {b : List ℕ} {w : Layout} (laid : Laid b w) where
+module _ {b : List ℕ} {w : Layout} (laid : LayoutOf b w) where
   pub detectors-apart : w .detectors + 4 ≤ w .pedestrians
   unfolding pedestriansHead bodyAt
   detectors-apart = omega (arith, laid .detectors, laid .pedestrians)

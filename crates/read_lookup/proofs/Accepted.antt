@@ -11,26 +11,26 @@ use borrow.Author.Tests.{leb-true, eqb-true}
 use Rattle.rules.specs.declared.answer.Verdict.the-variants.{Accepted}
 use Rattle.rules.specs.Personality.{bodyAt, bodyLength, siteHead, phasesHead, groupsHead, conflictsHead, detectorsHead, pedestriansHead, earlyHead, pastSection, hasEarly, hasOrder, siteSection, phasesSection, groupsSection, conflictsSection, detectorsSection, pedestriansSection, verdictOf}
 use Rattle.rules.specs.Lookup.{heldKind, headOf}
-use Rattle.rules.proofs.Tests.{and-left, and-right, or-cases}
+use Rattle.laws.proofs.Booleans.{and-left, and-right, or-cases}
 use Rattle.rules.proofs.Verdicts.{or-first, or-later}
 use Rattle.proof_acceptance.proofs.Sections.{body-held, sections-accepted}
 use Rattle.read_layout.specs.declared.Layout.{Layout}
-use Rattle.read_layout.specs.Laid.{Laid}
-use Rattle.read_site_rows.specs.Fitting.{Fitting}
+use Rattle.read_layout.specs.LayoutOf.{LayoutOf}
+use Rattle.site_rows.specs.Fitting.{Fitting}
 
-pub accepted-fits : {b : List ℕ} {w : Layout} → verdictOf b ≡ Accepted → Laid b w → Fitting b w
+pub accepted-fits : {b : List ℕ} {w : Layout} → verdictOf b ≡ Accepted → LayoutOf b w → Fitting b w
 unfolding earlyHead pastSection
 accepted-fits {b} h laid =
     let told = sections-accepted b h in
     record {
       laid = laid;
-      phases = omega (arith, laid .p, told .site .phases .1);
-      groups = omega (arith, laid .n, told .site .groups .1);
+      phases = omega (arith, laid .phasecount, told .site .phases .1);
+      groups = omega (arith, laid .groupcount, told .site .groups .1);
       detectors = told .detectors .count;
       movements = told .groups .movements;
       whole = rw (laid .pedestrians, ← told .pedestrians .body) (told .pedestrians .next);
-      early = λ there. rw (laid .early, laid .p) (told .early (sym (laid .seven) ∙ there) .next);
-      order = λ there. rw (laid .order, laid .p) (told .order (sym (laid .nine) ∙ there) .next);
+      early = λ there. rw (laid .early, laid .phasecount) (told .early (sym (laid .hasearly) ∙ there) .next);
+      order = λ there. rw (laid .order, laid .phasecount) (told .order (sym (laid .hasorder) ∙ there) .next);
     }
 
 -- the section with this head ends within the bytes

@@ -9,11 +9,11 @@ use lib.Dec.{leb}
 use lib.ListN.{length, getD, take, drop, List·getD-eq-default}
 use borrow.Author.Tests.{leb-true, leb-false, not-false}
 use Rattle.rules.specs.declared.answer.Verdict.the-variants.{Accepted, Refused}
-use Rattle.rules.specs.Bytes.{twoAt}
+use Rattle.laws.specs.Bytes.{twoAt}
 use Rattle.rules.specs.Verdicts.{_orElse_, refuseIf, reportOf}
 use Rattle.rules.specs.Personality.{bodyAt, bodyLength, verdictOf}
 use Rattle.rules.specs.Lookup.{heldKind, heads, headOf, lookupVerdict, lookupReport, sectionPart, partFor, sectionOf}
-use Rattle.rules.proofs.Tests.{and-left, and-right, and-false-cases}
+use Rattle.laws.proofs.Booleans.{and-left, and-right, and-false-cases}
 use Rattle.rules.proofs.Verdicts.{or-first, or-later, refuse-passed}
 use Rattle.read_lookup.proofs.Accepted.{section-within}
 

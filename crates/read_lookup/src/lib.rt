@@ -5,19 +5,19 @@ ghost use mathlib.Core.Path.{_≡_};
 ghost use Rattle.rules.specs.declared.answer.Verdict.the-variants.{Accepted};
 ghost use Rattle.rules.specs.Personality.{verdictOf};
 ghost use Rattle.rules.specs.Site.{siteOf};
-ghost use Rattle.read_layout.specs.Laid.{Laid};
-ghost use Rattle.read_site.specs.Decoding.{timingIn};
+ghost use Rattle.read_layout.specs.LayoutOf.{LayoutOf};
+ghost use Rattle.site_whole.specs.Decoding.{timingIn};
 use read_layout::Layout;
-use read_layout::laid_out;
-use read_site::Timing;
+use read_layout::layout_of;
 use rules::site::Site;
+use site_whole::Timing;
 
 // The site of a personality that `read_personality::read` accepts, by its layout: a step call makes that once, for its checks and for this.
 pub fn site(personality: &[u8], layout: Layout) -> Site
-    requires { ⌜ (verdictOf (now personality) ≡ Accepted) × Laid (now personality) layout ⌝ }
+    requires { ⌜ (verdictOf (now personality) ≡ Accepted) × LayoutOf (now personality) layout ⌝ }
     ensures { λ r. ⌜ r ≡ siteOf (now (personality .entry)) ⌝ }
 {
-    read_site::site(personality, layout)
+    site_whole::site_of(personality, layout)
 }
 
 // The parts of that site that the wait bound goes by.
@@ -25,5 +25,5 @@ pub fn timing(personality: &[u8]) -> Timing
     requires { ⌜ verdictOf (now personality) ≡ Accepted ⌝ }
     ensures { λ r. ⌜ r ≡ timingIn (siteOf (now (personality .entry))) ⌝ }
 {
-    read_site::timing_of(personality, laid_out(personality))
+    site_whole::timing_in(personality, layout_of(personality))
 }

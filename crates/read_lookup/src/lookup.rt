@@ -3,17 +3,17 @@
 ghost use Prim.Native.Nat.{_≤_};
 ghost use mathlib.Core.Path.{_≡_};
 ghost use Rattle.rules.specs.Lookup.{heldKind, headOf, lookupVerdict, lookupReport, sectionOf};
-use base_reads::two;
-use read_layout::laid_out;
+use base_bytes::two_at;
+use read_layout::layout_of;
 use rules::answer::Report;
 use rules::answer::Verdict;
 
 // A personality has the kinds 1 to 6, and may have kinds 7 and 9.
-fn held(s: &[u8], kind: u16) -> bool
+fn held_kind(s: &[u8], kind: u16) -> bool
     ensures { λ r. ⌜ r ≡ heldKind (now (s .entry)) kind ⌝ }
 {
-    let layout = laid_out(s);
-    ((1 <= kind) & (kind <= 6)) | ((kind == 7) & layout.seven) | ((kind == 9) & layout.nine)
+    let layout = layout_of(s);
+    ((1 <= kind) & (kind <= 6)) | ((kind == 7) & layout.hasearly) | ((kind == 9) & layout.hasorder)
 }
 
 // The head of the section of a kind, those of kinds 7 and 9 whether or not they are there, and 0 for any other number.
@@ -23,7 +23,7 @@ pub fn head_of(s: &[u8], kind: u16) -> usize
     if !((1 <= kind) & (kind <= 9)) {
         return 0;
     }
-    let layout = laid_out(s);
+    let layout = layout_of(s);
     let heads = [
         0,
         8,
@@ -39,14 +39,14 @@ pub fn head_of(s: &[u8], kind: u16) -> usize
 }
 
 // The personality's own refusal, and then 2 at 0 for a kind that is not held.
-fn verdict_on(s: &[u8], kind: u16) -> Verdict
+fn lookup_verdict(s: &[u8], kind: u16) -> Verdict
     ensures { λ r. ⌜ r ≡ lookupVerdict (now (s .entry)) kind ⌝ }
 {
     let verdict = read_personality::read(s);
     if let Verdict::Refused { .. } = verdict {
         return verdict;
     }
-    if held(s, kind) {
+    if held_kind(s, kind) {
         return Verdict::Accepted;
     }
     Verdict::Refused {
@@ -56,24 +56,24 @@ fn verdict_on(s: &[u8], kind: u16) -> Verdict
 }
 
 // The part of the personality that is the body of the kind's section.
-pub fn section(personality: &[u8], kind: u16) -> &[u8]
+pub fn section_of(personality: &[u8], kind: u16) -> &[u8]
     ensures { λ r. ⌜ now r ≡ sectionOf (now (personality .entry)) kind ⌝ }
 {
-    let verdict = verdict_on(personality, kind);
+    let verdict = lookup_verdict(personality, kind);
     if let Verdict::Refused { .. } = verdict {
         return &personality[0..0];
     }
     let head = head_of(personality, kind);
     let start = head + 4;
-    let end = start + two(personality, head) as usize;
+    let end = start + two_at(personality, head) as usize;
     &personality[start..end]
 }
 
 // The number and place beside the lookup, 0 at 0 where the section is found.
-pub fn section_report(personality: &[u8], kind: u16) -> Report
+pub fn lookup_report(personality: &[u8], kind: u16) -> Report
     ensures { λ r. ⌜ r ≡ lookupReport (now (personality .entry)) kind ⌝ }
 {
-    let verdict = verdict_on(personality, kind);
+    let verdict = lookup_verdict(personality, kind);
     match verdict {
         Verdict::Accepted => Report {
             number: 0,

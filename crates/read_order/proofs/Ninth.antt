@@ -15,16 +15,16 @@ use lib.Pow.{pow-pos, pow-mono}
 use borrow.Author.Tests.{eqb-true, eqb-false, eq-eqb, ne-eqb, not-false}
 use Rattle.rules.specs.declared.answer.Verdict.{Verdict}
 use Rattle.rules.specs.declared.answer.Verdict.the-variants.{Accepted}
-use Rattle.rules.specs.Bytes.{bit}
-use Rattle.rules.specs.Rows.{if_then_else_, anyOf, countOf, sumOf, indicesOf}
+use Rattle.laws.specs.Bytes.{bit}
+use Rattle.laws.specs.Folds.{if_then_else_, anyOf, countOf, sumOf, indicesOf}
 use Rattle.rules.specs.Verdicts.{_orElse_, refuseIf}
 use Rattle.rules.specs.Personality.{bodyLength, phaseCount, orderHead, hasOrder, orderAt, sectionAt, phaseNotOnce, orderSection}
-use Rattle.rules.proofs.Bits.{bit-blank}
-use Rattle.rules.proofs.Counts.{count-before, count-within, count-one, sum-within, sum-both}
-use Rattle.rules.proofs.Rows.{last-or-below, any-found, any-at, any-none, any-false, indices-at}
-use Rattle.rules.proofs.Tests.{decided}
-use Rattle.base_reads.proofs.Lowest.{bit-one}
-use Rattle.base_reads.proofs.Union.{bit-or}
+use Rattle.laws.proofs.Bits.{bit-blank}
+use Rattle.laws.proofs.Counting.{count-before, count-within, count-one, sum-within, sum-both}
+use Rattle.laws.proofs.Folds.{last-or-below, any-found, any-at, any-none, any-false, indices-at}
+use Rattle.laws.proofs.Booleans.{decided}
+use Rattle.laws.proofs.LowestBit.{bit-one}
+use Rattle.laws.proofs.UnionBits.{bit-or}
 use Rattle.read_groups.proofs.PhaseSets.{shifted, full-each, all-full}
 
 -- ── As many entries as phases ──

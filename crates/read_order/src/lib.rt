@@ -5,8 +5,8 @@ ghost use mathlib.Core.Path.{_≡_};
 ghost use lib.ListN.{length};
 ghost use Rattle.rules.specs.declared.answer.Verdict.the-variants.{Accepted};
 ghost use Rattle.rules.specs.Personality.{bodyAt, phaseCount, phaseNotOnce, siteSection, orderSection};
-ghost use Rattle.read_layout.specs.Laid.{Laid};
-use base_reads::byte_in;
+ghost use Rattle.read_layout.specs.LayoutOf.{LayoutOf};
+use base_bytes::byte_in;
 use read_layout::Layout;
 use read_sections::sized_section;
 use rules::answer::Verdict;
@@ -14,10 +14,10 @@ use rules::answer::Verdict;
 // Whether each phase stands in the order once. There are as many entries as phases, so it is enough that each is listed; a byte that is no
 // phase lists none.
 fn each_once(s: &[u8], layout: Layout) -> bool
-    requires { ⌜ Laid (now s) layout × (phaseCount (now s) ≤ 7) × (bodyAt (layout .order) + layout .p ≤ length (now s)) ⌝ }
+    requires { ⌜ LayoutOf (now s) layout × (phaseCount (now s) ≤ 7) × (bodyAt (layout .order) + layout .phasecount ≤ length (now s)) ⌝ }
     ensures { λ r. ⌜ r ≡ not (phaseNotOnce (now (s .entry))) ⌝ }
 {
-    let phases = layout.p;
+    let phases = layout.phasecount;
     let start = layout.order + 4;
     let mut listed: u8 = 0;
     let mut i: u8 = 0;
@@ -33,13 +33,13 @@ fn each_once(s: &[u8], layout: Layout) -> bool
 
 // Kind 9, where it is there: an entry for each phase. 18: not each phase once. Kind 1 has been accepted, so there are at most 7.
 pub fn order_section(s: &[u8], layout: Layout) -> Verdict
-    requires { ⌜ Laid (now s) layout × (siteSection (now s) ≡ Accepted) ⌝ }
+    requires { ⌜ LayoutOf (now s) layout × (siteSection (now s) ≡ Accepted) ⌝ }
     ensures { λ r. ⌜ r ≡ orderSection (now (s .entry)) ⌝ }
 {
-    if !layout.nine {
+    if !layout.hasorder {
         return Verdict::Accepted;
     }
-    let body = sized_section(s, layout.order, 9, layout.p as usize);
+    let body = sized_section(s, layout.order, 9, layout.phasecount as usize);
     if let Verdict::Refused { .. } = body {
         return body;
     }

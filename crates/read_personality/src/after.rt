@@ -4,16 +4,16 @@ ghost use mathlib.Core.Path.{_≡_};
 ghost use lib.Dec.{ltb};
 ghost use lib.ListN.{length};
 ghost use Rattle.rules.specs.declared.answer.Verdict.the-variants.{Accepted};
-ghost use Rattle.rules.specs.Rows.{anyOf};
+ghost use Rattle.laws.specs.Folds.{anyOf};
 ghost use Rattle.rules.specs.Verdicts.{refuseIf};
 ghost use Rattle.rules.specs.Personality.{groupCount, siteSection, groupsSection, detectorsSection, stopsEarly, afterPedestrians};
-ghost use Rattle.read_groups.specs.Told.{Walked};
-ghost use Rattle.read_layout.specs.Laid.{Laid};
+ghost use Rattle.read_groups.specs.GroupsRead.{CrossedPhases};
+ghost use Rattle.read_layout.specs.LayoutOf.{LayoutOf};
 use read_callers::each_called;
 use read_early::early_missing;
 use read_early::early_section;
 use read_layout::Layout;
-use read_layout::past;
+use read_layout::past_section;
 use read_order::order_section;
 use rules::answer::Verdict;
 
@@ -28,9 +28,9 @@ fn left_over(s: &[u8], place: usize) -> Verdict
 }
 
 // All of them. Kinds 1, 3 and 5 have been accepted, so there are at most 7 phases, and what the groups' marks say is known.
-pub fn after_pedestrians(s: &[u8], layout: Layout, walked: u8, early: bool) -> Verdict
-    requires { ⌜ Laid (now s) layout × (siteSection (now s) ≡ Accepted) × (groupsSection (now s) ≡ Accepted)
-        × (detectorsSection (now s) ≡ Accepted) × Walked (now s) walked (groupCount (now s))
+pub fn after_pedestrians(s: &[u8], layout: Layout, crossed: u8, early: bool) -> Verdict
+    requires { ⌜ LayoutOf (now s) layout × (siteSection (now s) ≡ Accepted) × (groupsSection (now s) ≡ Accepted)
+        × (detectorsSection (now s) ≡ Accepted) × CrossedPhases (now s) crossed (groupCount (now s))
         × (early ≡ anyOf (stopsEarly (now s)) (groupCount (now s))) ⌝ }
     ensures { λ r. ⌜ r ≡ afterPedestrians (now (s .entry)) ⌝ }
 {
@@ -42,7 +42,7 @@ pub fn after_pedestrians(s: &[u8], layout: Layout, walked: u8, early: bool) -> V
     if let Verdict::Refused { .. } = order {
         return order;
     }
-    if !each_called(s, layout, walked) {
+    if !each_called(s, layout, crossed) {
         return Verdict::Refused {
             number: 21,
             place: layout.detectors,
@@ -52,5 +52,5 @@ pub fn after_pedestrians(s: &[u8], layout: Layout, walked: u8, early: bool) -> V
     if let Verdict::Refused { .. } = missing {
         return missing;
     }
-    left_over(s, past(s, layout.order, layout.nine))
+    left_over(s, past_section(s, layout.order, layout.hasorder))
 }

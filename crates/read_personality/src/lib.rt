@@ -1,7 +1,7 @@
 // Unit one: reading a personality. The checks go from top to bottom, section by section, and the first refusal is the answer.
 ghost use mathlib.Core.Path.{_≡_};
 ghost use Rattle.rules.specs.Personality.{verdictOf};
-ghost use Rattle.read_layout.specs.Laid.{Laid};
+ghost use Rattle.read_layout.specs.LayoutOf.{LayoutOf};
 
 mod after;
 
@@ -10,10 +10,10 @@ use read_conflicts::conflicts_section;
 use read_detectors::detectors_section;
 use read_groups::records::groups_section;
 use read_layout::Layout;
-use read_layout::laid_out;
-use read_settings::pedestrians_section;
-use read_settings::phases_section;
-use read_settings::site_section;
+use read_layout::layout_of;
+use read_time_sections::pedestrians_section;
+use read_time_sections::phases_section;
+use read_time_sections::site_section;
 use rules::answer::Verdict;
 
 // A verdict, and where the sections are.
@@ -23,7 +23,7 @@ pub struct Reading {
 }
 
 fn checked(personality: &[u8], layout: Layout) -> Verdict
-    requires { ⌜ Laid (now personality) layout ⌝ }
+    requires { ⌜ LayoutOf (now personality) layout ⌝ }
     ensures { λ r. ⌜ r ≡ verdictOf (now (personality .entry)) ⌝ }
 {
     let site = site_section(personality, layout);
@@ -51,15 +51,15 @@ fn checked(personality: &[u8], layout: Layout) -> Verdict
     if let Verdict::Refused { .. } = pedestrians {
         return pedestrians;
     }
-    after_pedestrians(personality, layout, groups.walked, groups.early)
+    after_pedestrians(personality, layout, groups.crossed, groups.early)
 }
 
 // The verdict, with the layout for whoever goes on to the site. It is handed out and not taken in: the checks then hold it in registers, and
 // need not wait for it to be stored.
-pub fn read_laid(personality: &[u8]) -> Reading
-    ensures { λ r. ⌜ (r .verdict ≡ verdictOf (now (personality .entry))) × Laid (now (personality .entry)) (r .layout) ⌝ }
+pub fn read_with_layout(personality: &[u8]) -> Reading
+    ensures { λ r. ⌜ (r .verdict ≡ verdictOf (now (personality .entry))) × LayoutOf (now (personality .entry)) (r .layout) ⌝ }
 {
-    let layout = laid_out(personality);
+    let layout = layout_of(personality);
     let verdict = checked(personality, layout);
     Reading { verdict, layout }
 }
@@ -67,5 +67,5 @@ pub fn read_laid(personality: &[u8]) -> Reading
 pub fn read(personality: &[u8]) -> Verdict
     ensures { λ r. ⌜ r ≡ verdictOf (now (personality .entry)) ⌝ }
 {
-    read_laid(personality).verdict
+    read_with_layout(personality).verdict
 }

@@ -6,11 +6,11 @@ ghost use Rattle.rules.specs.Personality.{bodyLength, sectionAt};
 
 pub mod records;
 
-use base_reads::two_in;
+use base_bytes::two_in;
 use rules::answer::Verdict;
 
 // A section's head, and that its body is there: 1, 2, 3, 1, all at the head.
-pub fn section(s: &[u8], head: usize, kind: u16, right: bool) -> Verdict
+pub fn section_at(s: &[u8], head: usize, kind: u16, right: bool) -> Verdict
     requires { ⌜ head ≤ 300000 ⌝ }
     ensures { λ r. ⌜ r ≡ sectionAt (now (s .entry)) head kind right ⌝ }
 {
@@ -52,5 +52,5 @@ pub fn sized_section(s: &[u8], head: usize, kind: u16, bytes: usize) -> Verdict
             place: head,
         };
     }
-    section(s, head, kind, two_in(s, head) as usize == bytes)
+    section_at(s, head, kind, two_in(s, head) as usize == bytes)
 }

@@ -2,9 +2,9 @@
 ghost use Prim.Native.Nat.{_+_, _≤_};
 ghost use mathlib.Core.Path.{_≡_};
 ghost use lib.ListN.{length};
-ghost use Rattle.rules.specs.Bytes.{byteAt};
+ghost use Rattle.laws.specs.Bytes.{byteAt};
 ghost use Rattle.rules.specs.Personality.{recordAt};
-use base_reads::byte_in;
+use base_bytes::byte_in;
 
 pub struct Pair {
     pub first: u8,

@@ -1,11 +1,6 @@
 pub mod Opened
-pub mod Cases
-pub mod Tests
-pub mod Rows
+pub mod CallCases
 pub mod Verdicts
-pub mod Counts
-pub mod Bits
-pub mod Sets
-pub mod Intervals
+pub mod IntervalTests
 pub mod Settings
 pub mod Pass

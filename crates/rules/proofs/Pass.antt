@@ -6,11 +6,11 @@ use mathlib.Core.Path.{_≡_, refl, ap, _∙_}
 use native.Mathlib.Omega.{arith}
 use lib.ListN.{length, getD, drop, length-append, length-drop, List·getD-append}
 use lib.Seq.{getD-append-add, getD-drop}
-use Rattle.rules.specs.Rows.{listOf}
+use Rattle.laws.specs.Folds.{listOf}
 use Rattle.rules.specs.Colours.{coloursOf, bufferAt}
 use Rattle.rules.specs.Call.{bufferFor}
 use Rattle.rules.specs.Laws.{PassedBytes, PassEndsInColours}
-use Rattle.rules.proofs.Rows.{list-length, list-at}
+use Rattle.laws.proofs.Folds.{list-length, list-at}
 
 pub passed-length : (shown : ℕ → ℕ) (buffer : List ℕ) (g : ℕ) → length (bufferAt shown buffer g) ≡ g + (length buffer - g)
 unfolding bufferAt

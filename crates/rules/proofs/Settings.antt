@@ -11,14 +11,14 @@ use Rattle.rules.specs.declared.site.PhaseTimes.{PhaseTimes}
 use Rattle.rules.specs.declared.site.Range.{Range}
 use Rattle.rules.specs.declared.site.Site.{Site}
 use Rattle.rules.specs.declared.site.WalkTimes.{WalkTimes}
-use Rattle.rules.specs.Rows.{allOf}
+use Rattle.laws.specs.Folds.{allOf}
 use Rattle.rules.specs.Limits.{limits, limitOf, startRedSetting, phaseSettings, walkSettings, earlySetting, settingCount}
 use Rattle.rules.specs.Site.{phaseTimes, walkTimes}
 use Rattle.rules.specs.State.{highestAge}
 use Rattle.rules.specs.WaitBound.{phaseShare}
 use Rattle.rules.specs.Laws.{InTable, PhaseTimesIn, WalkTimesIn, Sound, highest, highestPhase, highestWalk, greatestShare, greatestWait, mayBeZero, timely, usable, TableIsUsable}
-use Rattle.rules.proofs.Tests.{and-left, and-right}
-use Rattle.rules.proofs.Rows.{all-at}
+use Rattle.laws.proofs.Booleans.{and-left, and-right}
+use Rattle.laws.proofs.Folds.{all-at}
 
 pub table-is-usable : TableIsUsable
 unfolding usable timely allOf mayBeZero highest highestPhase highestWalk greatestShare greatestWait phaseShare limitOf limits

@@ -11,7 +11,7 @@ use native.Mathlib.Omega.{arith}
 use Rattle.rules.specs.declared.answer.Verdict.{Verdict}
 use Rattle.rules.specs.declared.answer.Verdict.the-variants.{Accepted, Refused}
 use Rattle.rules.specs.Verdicts.{_orElse_, refuseIf, firstOf}
-use Rattle.rules.proofs.Rows.{last-or-below}
+use Rattle.laws.proofs.Folds.{last-or-below}
 
 pub refused-not-accepted : {n p : ℕ} → Refused n p ≡ Accepted → ⊥
 refused-not-accepted h = let z : _≡_ {A = ℕ} 0 1 = cc in omega arith

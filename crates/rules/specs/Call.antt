@@ -6,14 +6,14 @@ use lib.Dec.{leb, ltb}
 use lib.ListN.{length, drop}
 use Rattle.rules.specs.declared.answer.Answer.{Answer}
 use Rattle.rules.specs.declared.answer.Outcome.{Outcome}
-use Rattle.rules.specs.declared.answer.Outcome.the-variants.{Stepped, Declined}
+use Rattle.rules.specs.declared.answer.Outcome.the-variants.{Stepped, StepRefused}
 use Rattle.rules.specs.declared.answer.Verdict.{Verdict}
 use Rattle.rules.specs.declared.answer.Verdict.the-variants.{Accepted, Refused}
 use Rattle.rules.specs.declared.site.Site.{Site}
 use Rattle.rules.specs.declared.state.KeptState.{KeptState}
 use Rattle.rules.specs.declared.state.State.{State}
-use Rattle.rules.specs.Rows.{anyOf}
-use Rattle.rules.specs.Bytes.{bit}
+use Rattle.laws.specs.Folds.{anyOf}
+use Rattle.laws.specs.Bytes.{bit}
 use Rattle.rules.specs.Verdicts.{_orElse_, refuseIf}
 use Rattle.rules.specs.Personality.{verdictOf}
 use Rattle.rules.specs.Site.{siteOf}
@@ -44,7 +44,7 @@ callVerdict b s inputs room = verdictOf b orElse stepVerdict (siteOf b) (keptVal
 -- an accepted step gives the wait bound
 unfoldable pub boundFor : Verdict → Site → Outcome
 boundFor Accepted site = Stepped (waitBound site)
-boundFor (Refused number place) site = Declined number place
+boundFor (Refused number place) site = StepRefused number place
 
 -- a refusal hands back the old state
 unfoldable pub handedBack : {S : Type 0} → Verdict → S → S → S
@@ -63,7 +63,7 @@ answerOf b s inputs room =
 
 unfoldable pub bufferOf : List ℕ → KeptState → ℕ → List ℕ → List ℕ
 bufferOf b s inputs buffer =
-    bufferFor (callVerdict b s inputs (length buffer)) (siteOf b) (keptStepped (siteOf b) s inputs .rest) buffer
+    bufferFor (callVerdict b s inputs (length buffer)) (siteOf b) (keptStepped (siteOf b) s inputs .core) buffer
 
 -- ── Unit three: the wait bound of a personality, or its refusal ──
 

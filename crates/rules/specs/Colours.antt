@@ -17,10 +17,10 @@ use Rattle.rules.specs.declared.state.Position.{Position}
 use Rattle.rules.specs.declared.state.Stage.{Stage}
 use Rattle.rules.specs.declared.state.Stage.the-variants.{Idle, Walk, ClearanceOne, ClearanceTwo}
 use Rattle.rules.specs.declared.state.State.{State}
-use Rattle.rules.specs.Rows.{if_then_else_, listOf}
-use Rattle.rules.specs.Bytes.{bit}
+use Rattle.laws.specs.Folds.{if_then_else_, listOf}
+use Rattle.laws.specs.Bytes.{bit}
 use Rattle.rules.specs.Site.{groupOf, phaseTimes, isPedestrian, movementOf}
-use Rattle.rules.specs.Intervals.{isEarly, heldIn}
+use Rattle.rules.specs.IntervalTable.{isEarly, heldIn}
 use Rattle.rules.specs.State.{idle}
 
 -- ── Codes ──
@@ -53,16 +53,16 @@ closing times position =
 -- all-red the group stays green if its set has the target also; else mark 3 is yellow while it is closing, then red, and the others stay
 -- green in early cut-off green and are then yellow, then red.
 unfoldable pub vehicleColour : Interval → Bool → Held → Held → Group → ℕ
-vehicleColour StartRed closes came target group = red
-vehicleColour LateStart closes came target group =
-    if eqb (group .mark) 1 && not (heldIn came (group .phases)) then red else green
-vehicleColour MinimumGreen closes came target group = green
-vehicleColour Running closes came target group = green
-vehicleColour EarlyCutOff closes came target group =
+vehicleColour StartRed closes previous target group = red
+vehicleColour LateStart closes previous target group =
+    if eqb (group .mark) 1 && not (heldIn previous (group .phases)) then red else green
+vehicleColour MinimumGreen closes previous target group = green
+vehicleColour Running closes previous target group = green
+vehicleColour EarlyCutOff closes previous target group =
     if heldIn target (group .phases) || not (eqb (group .mark) 3) then green else if closes then yellow else red
-vehicleColour Yellow closes came target group =
+vehicleColour Yellow closes previous target group =
     if heldIn target (group .phases) then green else if closes || not (eqb (group .mark) 3) then yellow else red
-vehicleColour AllRed closes came target group = if heldIn target (group .phases) then green else red
+vehicleColour AllRed closes previous target group = if heldIn target (group .phases) then green else red
 
 unfoldable pub movementColour : Stage → ℕ
 movementColour Idle = red
@@ -74,7 +74,7 @@ movementColour ClearanceTwo = flashing
 unfoldable pub vehicleShown : Bool → Position → Group → ℕ
 vehicleShown closes position group =
     if bit (position .phase) (group .phases)
-    then vehicleColour (position .interval) closes (position .came) (position .target) group
+    then vehicleColour (position .interval) closes (position .previous) (position .target) group
     else red
 
 -- what group g shows, by the position and the movements of a state, and whether groups that stop early are closing

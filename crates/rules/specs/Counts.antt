@@ -5,8 +5,8 @@ use lib.Dec.{ltb}
 use Rattle.rules.specs.declared.site.PhaseTimes.{PhaseTimes}
 use Rattle.rules.specs.declared.state.Counts.{Counts}
 use Rattle.rules.specs.declared.state.Interval.{Interval}
-use Rattle.rules.specs.Rows.{if_then_else_}
-use Rattle.rules.specs.Intervals.{isGreen, isRunning}
+use Rattle.laws.specs.Folds.{if_then_else_}
+use Rattle.rules.specs.IntervalTable.{isGreen, isRunning}
 
 -- an occupied extending detector of the phase sets the gap count to G, else it falls by one, not below 0
 unfoldable pub gapAfter : Interval → PhaseTimes → Bool → ℕ → ℕ

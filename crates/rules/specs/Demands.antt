@@ -12,10 +12,10 @@ use Rattle.rules.specs.declared.state.Held.the-variants.{Nothing, Phase}
 use Rattle.rules.specs.declared.state.Movement.{Movement}
 use Rattle.rules.specs.declared.state.Position.{Position}
 use Rattle.rules.specs.declared.state.State.{State}
-use Rattle.rules.specs.Rows.{if_then_else_, anyOf, setOf}
-use Rattle.rules.specs.Bytes.{bit}
+use Rattle.laws.specs.Folds.{if_then_else_, anyOf, setOf}
+use Rattle.laws.specs.Bytes.{bit}
 use Rattle.rules.specs.Site.{detectorOf, crosses, ring}
-use Rattle.rules.specs.Intervals.{isWalk, isGreen}
+use Rattle.rules.specs.IntervalTable.{isWalk, isGreen}
 use Rattle.rules.specs.State.{idle, locked, asked}
 
 -- ── Inputs: bits 0 to 47 are the detectors, 48 to 55 the buttons ──

@@ -14,10 +14,10 @@ use Rattle.rules.specs.declared.state.Interval.the-variants.{StartRed, L
 use Rattle.rules.specs.declared.state.Movement.{Movement}
 use Rattle.rules.specs.declared.state.Position.{Position}
 use Rattle.rules.specs.declared.state.Stage.{Stage}
-use Rattle.rules.specs.Bytes.{bit}
-use Rattle.rules.specs.Rows.{if_then_else_, anyOf, setOf}
+use Rattle.laws.specs.Bytes.{bit}
+use Rattle.laws.specs.Folds.{if_then_else_, anyOf, setOf}
 use Rattle.rules.specs.Site.{phaseTimes}
-use Rattle.rules.specs.Intervals.{isWalkOrFirst, isSecond, isMinimumGreen, isRunning, isLeaving, isBeforeStart, phaseHeld}
+use Rattle.rules.specs.IntervalTable.{isWalkOrFirst, isSecond, isMinimumGreen, isRunning, isLeaving, isBeforeStart, phaseHeld}
 use Rattle.rules.specs.State.{idle}
 use Rattle.rules.specs.Movements.{older}
 
@@ -45,16 +45,16 @@ ends AllRed start times age another movements counts = leb (times .red) age && n
 -- the next interval of the same phase, at age 1
 unfoldable pub entering : Interval → Held → Position → Position
 entering interval target position =
-    record { phase = position .phase; interval = interval; age = 1; came = position .came; target = target }
+    record { phase = position .phase; interval = interval; age = 1; previous = position .previous; target = target }
 
 -- a phase starts with late start, or minimum green if L is 0
 unfoldable pub starting : Times → ℕ → Held → Position
-starting times p came =
+starting times p previous =
     record {
       phase = p;
       interval = if eqb (phaseTimes times p .late) 0 then MinimumGreen else LateStart;
       age = 1;
-      came = came;
+      previous = previous;
       target = Nothing;
     }
 
@@ -64,7 +64,7 @@ leaving times next position =
     entering (if eqb (phaseTimes times (position .phase) .early) 0 then Yellow else EarlyCutOff) next position
 
 unfoldable pub following : Interval → Times → Held → Position → Position
-following StartRed times next position = starting times (position .phase) (position .came)
+following StartRed times next position = starting times (position .phase) (position .previous)
 following LateStart times next position = entering MinimumGreen Nothing position
 following MinimumGreen times next position = entering Running Nothing position
 following Running times next position = leaving times next position
@@ -79,7 +79,7 @@ staying position =
       phase = position .phase;
       interval = position .interval;
       age = older (position .age);
-      came = position .came;
+      previous = position .previous;
       target = position .target;
     }
 

@@ -7,8 +7,8 @@ use Rattle.rules.specs.declared.site.Site.{Site}
 use Rattle.rules.specs.declared.state.Demands.{Demands}
 use Rattle.rules.specs.declared.state.Held.{Held}
 use Rattle.rules.specs.declared.state.KeptState.{KeptState}
-use Rattle.rules.specs.Bytes.{bit}
-use Rattle.rules.specs.Rows.{anyOf, setOf}
+use Rattle.laws.specs.Bytes.{bit}
+use Rattle.laws.specs.Folds.{anyOf, setOf}
 use Rattle.rules.specs.Site.{crosses}
 use Rattle.rules.specs.State.{fresh, valid}
 use Rattle.rules.specs.Demands.{registersLock, registersButton, calls, demandsAfter, stands, nextAfter}
@@ -16,7 +16,7 @@ use Rattle.rules.specs.Step.{steppedTo}
 
 -- the fresh state demands no phase
 unfoldable pub freshKept : KeptState
-freshKept = record { rest = fresh; kept = 0 }
+freshKept = record { core = fresh; kept = 0 }
 
 unfoldable pub isKept : KeptState → ℕ → Bool
 isKept s p = bit p (s .kept)
@@ -25,21 +25,21 @@ isKept s p = bit p (s .kept)
 
 -- a kept set that differs from a scan of the locks and the demanded movements is not valid
 unfoldable pub keptValid : Site → KeptState → Bool
-keptValid site s = valid site (s .rest) && eqb (s .kept) (setOf (stands site (s .rest .demands)))
+keptValid site s = valid site (s .core) && eqb (s .kept) (setOf (stands site (s .core .demands)))
 
 -- ── Part 1: a lock and a press keep their phase ──
 
 -- a button is registered whose movement is of phase p
 unfoldable pub pressKeeps : Site → KeptState → ℕ → ℕ → Bool
 pressKeeps site s inputs p =
-    anyOf (λ k. registersButton (s .rest .movements) inputs k && crosses (site .crossings) k p) (site .size .movements)
+    anyOf (λ k. registersButton (s .core .movements) inputs k && crosses (site .crossings) k p) (site .size .movements)
 
 unfoldable pub keptAfter : Site → KeptState → ℕ → ℕ → Bool
-keptAfter site s inputs p = isKept s p || registersLock site (s .rest) inputs p || pressKeeps site s inputs p
+keptAfter site s inputs p = isKept s p || registersLock site (s .core) inputs p || pressKeeps site s inputs p
 
 -- the first phase after this one that is kept, or called in this step
 unfoldable pub nextKept : Site → KeptState → ℕ → Held
-nextKept site s inputs = nextAfter site (s .rest .position .phase) (λ p. keptAfter site s inputs p || calls site (s .rest) inputs p)
+nextKept site s inputs = nextAfter site (s .core .position .phase) (λ p. keptAfter site s inputs p || calls site (s .core) inputs p)
 
 -- ── Parts 4 and 5: clearing a lock and beginning a walk give the phase up where no other demand of it is left ──
 
@@ -60,6 +60,6 @@ keptLeft site old new kept p = kept p && (not (cleared site old new p) || stands
 
 unfoldable pub keptStepped : Site → KeptState → ℕ → KeptState
 keptStepped site s inputs =
-    let rest = steppedTo (nextKept site s inputs) site (s .rest) inputs in
-    let standing = demandsAfter site (s .rest) inputs in
-    record { rest = rest; kept = setOf (keptLeft site standing (rest .demands) (keptAfter site s inputs)) }
+    let core = steppedTo (nextKept site s inputs) site (s .core) inputs in
+    let standing = demandsAfter site (s .core) inputs in
+    record { core = core; kept = setOf (keptLeft site standing (core .demands) (keptAfter site s inputs)) }

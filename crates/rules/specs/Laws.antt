@@ -17,7 +17,7 @@ use Rattle.rules.specs.declared.site.Times.{Times}
 use Rattle.rules.specs.declared.site.WalkTimes.{WalkTimes}
 use Rattle.rules.specs.declared.state.KeptState.{KeptState}
 use Rattle.rules.specs.declared.state.State.{State}
-use Rattle.rules.specs.Rows.{allOf, countOf}
+use Rattle.laws.specs.Folds.{allOf, countOf}
 use Rattle.rules.specs.Limits.{limits, limitOf, startRedSetting, phaseSettings, walkSettings, earlySetting, settingCount}
 use Rattle.rules.specs.Personality.{knownMode, verdictOf}
 use Rattle.rules.specs.Site.{siteOf, groupOf, detectorOf, phaseTimes, walkTimes, inPhase, crosses, isPedestrian, movementOf, conflict}

@@ -1,11 +1,9 @@
-pub mod Rows
-pub mod Bytes
 pub mod Limits
 pub mod Verdicts
 pub mod Personality
 pub mod Site
 pub mod Lookup
-pub mod Intervals
+pub mod IntervalTable
 pub mod State
 pub mod Demands
 pub mod Movements
@@ -17,9 +15,9 @@ pub mod Kept
 pub mod Colours
 pub mod WaitBound
 pub mod Call
-pub mod Runs
+pub mod DemandThree
 pub mod Laws
 pub mod Scanning
 pub mod TraceText
 pub mod Junctions
-pub mod Cases
+pub mod CallCases

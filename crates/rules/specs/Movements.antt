@@ -13,9 +13,9 @@ use Rattle.rules.specs.declared.state.Interval.{Interval}
 use Rattle.rules.specs.declared.state.Movement.{Movement}
 use Rattle.rules.specs.declared.state.Stage.{Stage}
 use Rattle.rules.specs.declared.state.Stage.the-variants.{Idle, Walk, ClearanceOne, ClearanceTwo}
-use Rattle.rules.specs.Rows.{if_then_else_, listOf}
+use Rattle.laws.specs.Folds.{if_then_else_, listOf}
 use Rattle.rules.specs.Site.{walkTimes}
-use Rattle.rules.specs.Intervals.{isRunning}
+use Rattle.rules.specs.IntervalTable.{isRunning}
 use Rattle.rules.specs.State.{highestAge, idle}
 
 -- ages rise by one and stop at 2,000

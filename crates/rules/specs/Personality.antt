@@ -6,8 +6,8 @@ use lib.Dec.{leb, ltb, eqb}
 use lib.ListN.{length}
 use Rattle.rules.specs.declared.answer.Verdict.{Verdict}
 use Rattle.rules.specs.declared.answer.Verdict.the-variants.{Accepted}
-use Rattle.rules.specs.Rows.{if_then_else_, anyOf, allOf, countOf}
-use Rattle.rules.specs.Bytes.{byteAt, twoAt, fourAt, bit}
+use Rattle.laws.specs.Folds.{if_then_else_, anyOf, allOf, countOf}
+use Rattle.laws.specs.Bytes.{byteAt, twoAt, fourAt, bit}
 use Rattle.rules.specs.Limits.{limits, within, startRedSetting, phaseSettings, walkSettings, earlySetting}
 use Rattle.rules.specs.Verdicts.{_orElse_, refuseIf, firstOf}
 

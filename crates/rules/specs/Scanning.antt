@@ -17,7 +17,7 @@ use Rattle.rules.specs.Demands.{stands}
 use Rattle.rules.specs.Step.{stepped}
 use Rattle.rules.specs.Kept.{isKept, keptValid, keptStepped, freshKept}
 use Rattle.rules.specs.Call.{strayInput, stepVerdict, boundFor, handedBack, bufferFor}
-use Rattle.rules.specs.Runs.{Controller, Call, ruled, takenFrom}
+use Rattle.rules.specs.DemandThree.{Controller, Call, ruled, takenFrom}
 use Rattle.rules.specs.Laws.{Sound}
 
 unfoldable pub scanVerdict : List ℕ → State → ℕ → ℕ → Verdict
@@ -42,7 +42,7 @@ KeptIsScan =
     keptValid site s ≡ true →
     (p : ℕ) →
     p < 8 →
-    isKept s p ≡ stands site (s .rest .demands) p
+    isKept s p ≡ stands site (s .core .demands) p
 
 unfoldable pub FreshKeptIsValid : Type 0
 FreshKeptIsValid = (site : Site) → Sound site → keptValid site freshKept ≡ true
@@ -65,7 +65,7 @@ StepForgets =
     Sound site →
     (s : KeptState) (inputs : ℕ) →
     keptValid site s ≡ true →
-    keptStepped site s inputs .rest ≡ stepped site (s .rest) inputs
+    keptStepped site s inputs .core ≡ stepped site (s .core) inputs
 
 -- every list of calls from a valid state is taken as by the scanning rules: the same outcomes, waits, buffers and rest of the state
 unfoldable pub RunForgets : Type 0
@@ -73,4 +73,4 @@ RunForgets =
     (b : List ℕ) (s : KeptState) →
     keptValid (siteOf b) s ≡ true →
     (calls : List Call) →
-    takenFrom ruled b s calls ≡ takenFrom scanning b (s .rest) calls
+    takenFrom ruled b s calls ≡ takenFrom scanning b (s .core) calls

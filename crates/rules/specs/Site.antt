@@ -1,22 +1,18 @@
 -- The site that accepted bytes hold.
-use Prim.Native.Nat.{ℕ, _+_, _-_}
+use Prim.Native.Nat.{ℕ, _+_}
 use mathlib.Core.Bool.{Bool}
-use mathlib.Core.List.{List, _++_}
+use mathlib.Core.List.{List}
 use lib.Dec.{eqb}
-use lib.ListN.{getD, replicate}
+use lib.ListN.{getD}
 use Rattle.rules.specs.declared.site.Detector.{Detector}
 use Rattle.rules.specs.declared.site.Group.{Group}
 use Rattle.rules.specs.declared.site.PhaseTimes.{PhaseTimes}
 use Rattle.rules.specs.declared.site.Site.{Site}
 use Rattle.rules.specs.declared.site.Times.{Times}
 use Rattle.rules.specs.declared.site.WalkTimes.{WalkTimes}
-use Rattle.rules.specs.Rows.{if_then_else_, listOf, countOf, indicesOf}
-use Rattle.rules.specs.Bytes.{twoAt, bit}
+use Rattle.laws.specs.Folds.{if_then_else_, listOf, rowOf, countOf, indicesOf}
+use Rattle.laws.specs.Bytes.{twoAt, bit}
 use Rattle.rules.specs.Personality.{phaseCount, groupCount, detectorCount, movementCount, groupSet, groupMark, conflictSet, detectorPhase, detectorMode, pedestrian, phasesHead, pedestriansHead, earlyHead, hasEarly, hasOrder, orderAt, recordAt}
-
--- f 0 .. f (n - 1), and blanks up to the room
-unfoldable pub rowOf {ℓ} : {A : Type ℓ} → (ℕ → A) → ℕ → ℕ → A → List A
-rowOf f n room blank = listOf f n ++ replicate (room - n) blank
 
 abbrev pub noPhaseTimes : PhaseTimes
 noPhaseTimes = record { late = 0; minimum = 0; maximum = 0; gap = 0; yellow = 0; red = 0; early = 0 }

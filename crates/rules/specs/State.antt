@@ -15,9 +15,9 @@ use Rattle.rules.specs.declared.state.Movement.{Movement}
 use Rattle.rules.specs.declared.state.Position.{Position}
 use Rattle.rules.specs.declared.state.Stage.the-variants.{Idle}
 use Rattle.rules.specs.declared.state.State.{State}
-use Rattle.rules.specs.Bytes.{bit}
-use Rattle.rules.specs.Rows.{allOf}
-use Rattle.rules.specs.Intervals.{isIdle, isWalkOrFirst, isStartRed, isEarly, isLeaving}
+use Rattle.laws.specs.Bytes.{bit}
+use Rattle.laws.specs.Folds.{allOf}
+use Rattle.rules.specs.IntervalTable.{isIdle, isWalkOrFirst, isStartRed, isEarly, isLeaving}
 use Rattle.rules.specs.Site.{phaseTimes, crosses}
 
 abbrev pub idle : Movement
@@ -27,7 +27,7 @@ idle = record { stage = Idle; age = 1 }
 unfoldable pub fresh : State
 fresh =
     record {
-      position = record { phase = 0; interval = StartRed; age = 1; came = Nothing; target = Nothing };
+      position = record { phase = 0; interval = StartRed; age = 1; previous = Nothing; target = Nothing };
       counts = record { gap = 0; maximum = 0 };
       demands = record { locks = 0; buttons = 0 };
       movements = replicate 8 idle;
@@ -63,9 +63,9 @@ targetValid count phase leaving Nothing = not leaving
 targetValid count phase leaving (Phase t) = leaving && ltb t count && not (eqb t phase)
 
 -- came-from a phase or none
-unfoldable pub cameValid : ℕ → Held → Bool
-cameValid count Nothing = true
-cameValid count (Phase q) = ltb q count
+unfoldable pub previousValid : ℕ → Held → Bool
+previousValid count Nothing = true
+previousValid count (Phase q) = ltb q count
 
 unfoldable pub ageValid : ℕ → Bool
 ageValid age = leb 1 age && leb age highestAge
@@ -77,7 +77,7 @@ positionValid early phases position =
     (ltb (position .phase) phases
     ∷ intervalValid early (position .interval)
     ∷ targetValid phases (position .phase) (isLeaving (position .interval)) (position .target)
-    ∷ cameValid phases (position .came)
+    ∷ previousValid phases (position .previous)
     ∷ ageValid (position .age)
     ∷ [])
 

@@ -4,7 +4,7 @@ use Rattle.rules.specs.declared.site.Site.{Site}
 use Rattle.rules.specs.declared.state.Held.{Held}
 use Rattle.rules.specs.declared.state.State.{State}
 use Rattle.rules.specs.Site.{phaseTimes}
-use Rattle.rules.specs.Intervals.{isHeld}
+use Rattle.rules.specs.IntervalTable.{isHeld}
 use Rattle.rules.specs.Demands.{demandsAfter, nextDemanded, detected, extending}
 use Rattle.rules.specs.Movements.{walkMayEnd, movementsAfter}
 use Rattle.rules.specs.Counts.{countsAfter}

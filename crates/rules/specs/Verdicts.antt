@@ -4,9 +4,9 @@ use mathlib.Core.Bool.{Bool, true, false}
 use Rattle.rules.specs.declared.answer.Verdict.{Verdict}
 use Rattle.rules.specs.declared.answer.Verdict.the-variants.{Accepted, Refused}
 use Rattle.rules.specs.declared.answer.Outcome.{Outcome}
-use Rattle.rules.specs.declared.answer.Outcome.the-variants.{Stepped, Declined}
+use Rattle.rules.specs.declared.answer.Outcome.the-variants.{Stepped, StepRefused}
 use Rattle.rules.specs.declared.answer.Report.{Report}
-use Rattle.rules.specs.Rows.{if_then_else_}
+use Rattle.laws.specs.Folds.{if_then_else_}
 
 infixr 5 _orElse_
 unfoldable pub _orElse_ : Verdict → Verdict → Verdict
@@ -29,8 +29,8 @@ reportOf (Refused number place) = record { number = number; place = place }
 -- The paper's number and place for each outcome of a step call, and the wait bound that an accepted step gives.
 unfoldable pub stepReportOf : Outcome → Report
 stepReportOf (Stepped wait) = record { number = 0; place = 0 }
-stepReportOf (Declined number place) = record { number = number; place = place }
+stepReportOf (StepRefused number place) = record { number = number; place = place }
 
 unfoldable pub waitOf : Outcome → ℕ
 waitOf (Stepped wait) = wait
-waitOf (Declined number place) = 0
+waitOf (StepRefused number place) = 0

@@ -7,7 +7,7 @@ use Rattle.rules.specs.declared.site.Site.{Site}
 use Rattle.rules.specs.declared.site.Size.{Size}
 use Rattle.rules.specs.declared.site.Times.{Times}
 use Rattle.rules.specs.declared.site.WalkTimes.{WalkTimes}
-use Rattle.rules.specs.Rows.{if_then_else_, sumOf, greatestOf}
+use Rattle.laws.specs.Folds.{if_then_else_, sumOf, greatestOf}
 use Rattle.rules.specs.Site.{noWalkTimes, phaseTimes, crosses}
 
 -- a phase's share, by its times and its A and C

@@ -6,10 +6,10 @@ use lib.ListN.{getD}
 use Rattle.rules.specs.declared.state.Movement.{Movement}
 use Rattle.rules.specs.declared.state.Position.{Position}
 use Rattle.rules.specs.declared.state.Stage.the-variants.{Walk}
-use Rattle.rules.specs.Bytes.{bit}
-use Rattle.rules.specs.Rows.{if_then_else_, listOf, setOf}
+use Rattle.laws.specs.Bytes.{bit}
+use Rattle.laws.specs.Folds.{if_then_else_, listOf, setOf}
 use Rattle.rules.specs.Site.{crosses}
-use Rattle.rules.specs.Intervals.{isIdle, isRunning}
+use Rattle.rules.specs.IntervalTable.{isIdle, isRunning}
 use Rattle.rules.specs.State.{idle}
 
 -- When a phase starts, its demanded movements begin walk. When the interval is now running and no other phase is demanded, idle

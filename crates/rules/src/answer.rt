@@ -18,7 +18,7 @@ pub struct Report {
 pub enum Outcome {
     // The wait bound of the site, in steps.
     Stepped { wait: u32 },
-    Declined { number: u8, place: usize },
+    StepRefused { number: u8, place: usize },
 }
 
 // The answer of a step call: its outcome, and the state handed back.

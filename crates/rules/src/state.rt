@@ -37,7 +37,7 @@ pub struct IntervalRow {
     // the phase is being left
     pub leaving: bool,
     // a phase starts when it ends
-    pub before: bool,
+    pub starts: bool,
 }
 
 // A stage's row: its code in a state's bytes, and what the rules ask of it.
@@ -64,7 +64,7 @@ pub struct Position {
     pub phase: u8,
     pub interval: Interval,
     pub age: u16,
-    pub came: Held,
+    pub previous: Held,
     pub target: Held,
 }
 
@@ -95,6 +95,6 @@ pub struct State {
 // What a step call takes and hands back: the state, and beside it the set of phases that are demanded by their lock or by a demanded
 // movement.
 pub struct KeptState {
-    pub rest: State,
+    pub core: State,
     pub kept: u8,
 }

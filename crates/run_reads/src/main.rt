@@ -40,8 +40,8 @@ fn compare(file: i32, personality: &[u8]) -> bool {
     got == 5
         && agrees(
             personality,
-            base_reads::byte(&right, 0),
-            base_reads::four(&right, 1),
+            base_bytes::byte_at(&right, 0),
+            base_bytes::four_at(&right, 1),
         )
 }
 
@@ -58,7 +58,7 @@ fn next(file: i32) -> Found {
         return Found::Ended;
     }
     let mut space = io::large_buffer();
-    let length = io::count(base_reads::two(&head, 0) as isize, &space);
+    let length = io::count(base_bytes::two_at(&head, 0) as isize, &space);
     Found::Vector {
         agrees: take(file, &mut space[..length]),
     }

@@ -5,9 +5,9 @@ use mathlib.Core.Path.{_≡_}
 use lib.Dec.{leb}
 use lib.ListN.{length, take, drop}
 use Rattle.rules.specs.declared.state.Position.{Position}
-use Rattle.rules.specs.Bytes.{fourAt}
-use Rattle.rules.specs.Intervals.{letterOf}
-use Rattle.rules.specs.Rows.{if_then_else_}
+use Rattle.laws.specs.Bytes.{fourAt}
+use Rattle.rules.specs.IntervalTable.{letterOf}
+use Rattle.laws.specs.Folds.{if_then_else_}
 use Rattle.rules.specs.TraceText.{phaseLetter, colourLetter, lineTail}
 
 -- the 64 input bits in the 8 bytes of a step record

@@ -90,8 +90,8 @@ fn joined(low: u32, high: u32) -> u64
 }
 
 // The 64 input bits in the 8 bytes of a step record.
-pub fn inputs(bytes: &[u8]) -> u64
+pub fn inputs_of(bytes: &[u8]) -> u64
     ensures { λ r. ⌜ r ≡ inputsOf (now (bytes .entry)) ⌝ }
 {
-    joined(base_reads::four(bytes, 0), base_reads::four(bytes, 4))
+    joined(base_bytes::four_at(bytes, 0), base_bytes::four_at(bytes, 4))
 }

@@ -43,13 +43,13 @@ fn read_record() -> Record {
         return Record::Cut;
     }
     Record::Inputs {
-        bits: run_text::inputs(&bytes),
+        bits: run_text::inputs_of(&bytes),
     }
 }
 
 // A line of the trace, of at most 32 groups. Their number is byte 5 of an accepted personality.
 fn show(step: u64, position: Position, colours: &[u8], personality: &[u8]) {
-    let groups = io::count(base_reads::byte(personality, 5) as isize, colours);
+    let groups = io::count(base_bytes::byte_at(personality, 5) as isize, colours);
     let mut text = [0u8; 38];
     let end = run_text::tail(position, &colours[..groups], &mut text);
     io::print_decimal(STDOUT_FILENO, step);
@@ -59,18 +59,18 @@ fn show(step: u64, position: Position, colours: &[u8], personality: &[u8]) {
 // One step call, and what it prints.
 fn advance(personality: &[u8], state: KeptState, bits: u64, step: u64) -> Turn {
     let mut colours = [0u8; 32];
-    let answer = board_controller::step(personality, state, bits, &mut colours);
+    let answer = call_step::step(personality, state, bits, &mut colours);
     let outcome = answer.outcome;
     let after = answer.state;
-    if let Outcome::Declined { number, place } = outcome {
+    if let Outcome::StepRefused { number, place } = outcome {
         refuse(number, place);
         return Turn {
             goes: false,
             state: after,
         };
     }
-    let rest = after.rest;
-    let position = rest.position;
+    let core = after.core;
+    let position = core.position;
     show(step, position, &colours, personality);
     Turn {
         goes: true,
@@ -99,7 +99,7 @@ fn take_turn(personality: &[u8], state: KeptState, step: u64) -> Turn {
 
 // The steps of an accepted personality, from the fresh state.
 fn run(personality: &[u8]) {
-    let mut state = board_fresh::fresh();
+    let mut state = call_fresh::fresh();
     let mut step: u64 = 1;
     while step <= STEPS {
         let next = take_turn(personality, state, step);
@@ -136,6 +136,6 @@ fn main() {
         return;
     }
     let mut space = io::large_buffer();
-    let length = io::count(base_reads::two(&head, 0) as isize, &space);
+    let length = io::count(base_bytes::two_at(&head, 0) as isize, &space);
     trace(&mut space[..length]);
 }

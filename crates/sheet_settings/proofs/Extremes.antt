@@ -5,10 +5,10 @@ use mathlib.Core.Bool.{Bool, true, false}
 use mathlib.Core.Logic.{⊎-elim}
 use mathlib.Core.Path.{_≡_, refl, sym}
 use native.Mathlib.Nat.{add-zero, add-suc, suc-add, eq-or-lt-of-le, le-antisymm}
-use Rattle.rules.specs.Rows.{if_then_else_}
-use Rattle.rules.proofs.Tests.{never-both}
-use Rattle.rules.proofs.Rows.{last-or-below}
-use Rattle.rules.proofs.Counts.{below-or-past}
+use Rattle.laws.specs.Folds.{if_then_else_}
+use Rattle.laws.proofs.Booleans.{never-both}
+use Rattle.laws.proofs.Folds.{last-or-below}
+use Rattle.laws.proofs.Counting.{below-or-past}
 use Rattle.sheet_settings.specs.Extremes.{Largest, Smallest, largestTo, smallestFrom}
 
 -- ── Numbers that fail from 0 on ──

@@ -1,4 +1,4 @@
 pub mod Extremes
 pub mod Metres
 pub mod Stated
-pub mod Cases
+pub mod SheetCases

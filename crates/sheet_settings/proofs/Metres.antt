@@ -17,7 +17,7 @@ use lib.Ieee.Order.{round-mono}
 use lib.Ieee.Positive.{num, den}
 use lib.Ieee.Scale.{round-same}
 use borrow.Author.Tests.{ltb-true, ltb-false, leb-true, leb-false, eqb-true, eqb-false, lt-ltb, le-ltb, eq-eqb, ne-eqb}
-use Rattle.rules.proofs.Tests.{decided, and-left, and-right, and-both, or-left, or-right}
+use Rattle.laws.proofs.Booleans.{decided, and-left, and-right, and-both, or-left, or-right}
 use Rattle.sheet_settings.specs.Sheet.{whole, metresInRange}
 
 -- ── Fractions of one denominator ──

@@ -10,9 +10,9 @@ use lib.IntN.{pos}
 use lib.Ieee.{Float, fin, binary64, le, mul, ofInt}
 use lib.Ieee.Positive.{num, den, den-pos}
 use borrow.Author.Tests.{leb-true, le-leb}
-use Rattle.rules.specs.Rows.{if_then_else_}
+use Rattle.laws.specs.Folds.{if_then_else_}
 use Rattle.rules.specs.Limits.{limits, limitOf, within}
-use Rattle.rules.proofs.Tests.{and-left, and-right, and-both, never-both, not-true-false}
+use Rattle.laws.proofs.Booleans.{and-left, and-right, and-both, never-both, not-true-false}
 use Rattle.sheet_settings.specs.declared.Answer.{Answer}
 use Rattle.sheet_settings.specs.declared.Answer.the-variants.{Settings, Refused}
 use Rattle.sheet_settings.specs.declared.Detector.{Detector}

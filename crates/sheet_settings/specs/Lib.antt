@@ -1,3 +1,3 @@
 pub mod Extremes
 pub mod Sheet
-pub mod Cases
+pub mod SheetCases

@@ -3,7 +3,7 @@
 ghost use mathlib.Core.Bool.{true};
 ghost use mathlib.Core.Path.{_≡_};
 ghost use Rattle.sheet_settings.specs.Sheet.{metresOf, speedInRange, metresInRange, inRange, minimumGreen, passageOver, passageTime, answerFrom, answerOf, AnswerFor};
-use base_limits::table;
+use base_limits::limits;
 
 // Where an approach is detected: in advance, at a distance from the stop line, or in a zone of a length at the stop line.
 pub enum Detector {
@@ -84,7 +84,7 @@ fn passage_time(speed: u32, detector: Detector) -> u16
 fn answer_from(minimum: u16, passage: u16) -> Answer
     ensures { λ r. ⌜ r ≡ answerFrom minimum passage ⌝ }
 {
-    let limits = table();
+    let limits = limits();
     if (minimum <= limits[MINIMUM].high) & (passage <= limits[GAP].high) {
         Answer::Settings { minimum, passage }
     } else {

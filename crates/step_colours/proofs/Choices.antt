@@ -1,7 +1,7 @@
 -- What a choice gives where its test is known.
 use mathlib.Core.Bool.{Bool, true, false}
 use mathlib.Core.Path.{_≡_}
-use Rattle.rules.specs.Rows.{if_then_else_}
+use Rattle.laws.specs.Folds.{if_then_else_}
 
 module _ {ℓ} {A : Type ℓ} {c : A} {t : Bool} where
   pub chosen : {a : A} (b : A) → t ≡ true → c ≡ a → c ≡ if t then a else b

@@ -11,12 +11,12 @@ use borrow.Author.Tests.{eq-eqb, ne-eqb, eqb-true}
 use Rattle.rules.specs.declared.site.Group.{Group}
 use Rattle.rules.specs.declared.state.Position.{Position}
 use Rattle.rules.specs.declared.state.Stage.{Stage}
-use Rattle.rules.specs.Rows.{countOf, listOf}
+use Rattle.laws.specs.Folds.{countOf, listOf}
 use Rattle.rules.specs.Site.{groupOf, isPedestrian, movementOf}
 use Rattle.rules.specs.Colours.{movementColour, vehicleShown, colourOf, bufferAt, PassedTo, Turn}
-use Rattle.rules.proofs.Counts.{count-passed, count-failed}
+use Rattle.laws.proofs.Counting.{count-passed, count-failed}
 use Rattle.rules.proofs.Pass.{passed-length}
-use Rattle.proof_arrays.proofs.Fill.{fill-step}
+use Rattle.laws.proofs.Arrays.{fill-step}
 use Rattle.step_colours.specs.Turn.{TurnOf}
 
 pub none-passed : (groups : List Group) (shown : ℕ → ℕ) (buffer : List ℕ) → PassedTo groups shown buffer 0 buffer 0

@@ -10,24 +10,24 @@ use Rattle.rules.specs.declared.state.Held.{Held}
 use Rattle.rules.specs.declared.state.Interval.{Interval}
 use Rattle.rules.specs.declared.state.Interval.the-variants.{StartRed, LateStart, MinimumGreen, Running, EarlyCutOff, Yellow, AllRed}
 use Rattle.rules.specs.declared.state.State.{State}
-use Rattle.rules.specs.Intervals.{heldIn}
+use Rattle.rules.specs.IntervalTable.{heldIn}
 use Rattle.rules.specs.Site.{groupOf}
 use Rattle.rules.specs.Colours.{closing, vehicleColour, vehicleShown, colourOf, shownIn}
 use Rattle.rules.specs.Laws.{Sound}
-use Rattle.rules.proofs.Tests.{decided}
+use Rattle.laws.proofs.Booleans.{decided}
 
 unclosed :
-    (interval : Interval) (closes : Bool) (came target : Held) (group : Group) →
+    (interval : Interval) (closes : Bool) (previous target : Held) (group : Group) →
     (group .mark ≡ 3 → ⊥) →
-    vehicleColour interval false came target group ≡ vehicleColour interval closes came target group
+    vehicleColour interval false previous target group ≡ vehicleColour interval closes previous target group
 unfolding vehicleColour
-unclosed StartRed closes came target group other = refl
-unclosed LateStart closes came target group other = refl
-unclosed MinimumGreen closes came target group other = refl
-unclosed Running closes came target group other = refl
-unclosed EarlyCutOff closes came target group other = rw (ne-eqb (group .mark) 3 other, or-true (heldIn target (group .phases)))
-unclosed Yellow closes came target group other = rw (ne-eqb (group .mark) 3 other, or-true closes)
-unclosed AllRed closes came target group other = refl
+unclosed StartRed closes previous target group other = refl
+unclosed LateStart closes previous target group other = refl
+unclosed MinimumGreen closes previous target group other = refl
+unclosed Running closes previous target group other = refl
+unclosed EarlyCutOff closes previous target group other = rw (ne-eqb (group .mark) 3 other, or-true (heldIn target (group .phases)))
+unclosed Yellow closes previous target group other = rw (ne-eqb (group .mark) 3 other, or-true closes)
+unclosed AllRed closes previous target group other = refl
 
 pub closing-there :
     (site : Site) → Sound site →
@@ -39,7 +39,7 @@ closing-there site sound s g =
     (λ (e : site .early ≡ true). rw e)
     (λ (e : site .early ≡ false). rw (
       e,
-      unclosed (s .position .interval) (closing (site .times) (s .position)) (s .position .came) (s .position .target)
+      unclosed (s .position .interval) (closing (site .times) (s .position)) (s .position .previous) (s .position .target)
           (groupOf (site .groups) g) (sound .noEarlyGroup g e),
     ))
     (decided (site .early))

@@ -4,8 +4,8 @@ ghost use mathlib.Core.List.{_++_};
 ghost use mathlib.Core.Bool.{_&&_};
 ghost use mathlib.Core.Path.{_≡_};
 ghost use lib.ListN.{length, drop};
-ghost use Rattle.rules.specs.Intervals.{heldIn};
-ghost use Rattle.rules.specs.Rows.{if_then_else_};
+ghost use Rattle.rules.specs.IntervalTable.{heldIn};
+ghost use Rattle.laws.specs.Folds.{if_then_else_};
 ghost use Rattle.rules.specs.Colours.{red, yellow, green, sinceCutOff, closing, vehicleColour, movementColour, vehicleShown, colourOf, coloursOf, bufferAt};
 ghost use Rattle.rules.specs.Laws.{Sound};
 ghost use Rattle.step_colours.specs.Showable.{Showable};
@@ -32,7 +32,7 @@ fn held_in(held: Held, set: u8) -> bool
 {
     match held {
         Held::Nothing => false,
-        Held::Phase { phase } => base_reads::bit8(phase, set),
+        Held::Phase { phase } => base_bytes::bit8(phase, set),
     }
 }
 
@@ -61,13 +61,19 @@ impl Colour {
     // A vehicle group of the state's phase, by the interval. In late start mark 1 waits in red unless came-from is in its set. In early
     // cut-off green, yellow and all-red the group stays green if its set has the target also; else mark 3 is yellow while groups that
     // stop early are closing, then red, and the others stay green in early cut-off green and are then yellow, then red.
-    pub fn of_group(interval: Interval, closes: bool, came: Held, target: Held, group: Group) -> u8
-        ensures { λ r. ⌜ r ≡ vehicleColour interval closes came target group ⌝ }
+    pub fn vehicle_colour(
+        interval: Interval,
+        closes: bool,
+        previous: Held,
+        target: Held,
+        group: Group,
+    ) -> u8
+        ensures { λ r. ⌜ r ≡ vehicleColour interval closes previous target group ⌝ }
     {
         match interval {
             Interval::StartRed => Self::RED,
             Interval::LateStart => {
-                if (group.mark == 1) & !held_in(came, group.phases) {
+                if (group.mark == 1) & !held_in(previous, group.phases) {
                     Self::RED
                 } else {
                     Self::GREEN
@@ -88,7 +94,7 @@ impl Colour {
     }
 
     // A pedestrian group, by its movement's stage.
-    pub fn of_movement(stage: Stage) -> u8
+    pub fn movement_colour(stage: Stage) -> u8
         ensures { λ r. ⌜ r ≡ movementColour stage ⌝ }
     {
         match stage {
@@ -101,14 +107,14 @@ impl Colour {
 }
 
 // A vehicle group, by where the controller stands: one that is not of the phase is red.
-fn vehicle(closes: bool, position: Position, group: Group) -> u8
+fn vehicle_shown(closes: bool, position: Position, group: Group) -> u8
     ensures { λ r. ⌜ r ≡ vehicleShown closes position group ⌝ }
 {
-    if base_reads::bit8(position.phase, group.phases) {
+    if base_bytes::bit8(position.phase, group.phases) {
         let interval = position.interval;
-        let came = position.came;
+        let previous = position.previous;
         let target = position.target;
-        Colour::of_group(interval, closes, came, target, group)
+        Colour::vehicle_colour(interval, closes, previous, target, group)
     } else {
         Colour::RED
     }
@@ -118,7 +124,7 @@ fn vehicle(closes: bool, position: Position, group: Group) -> u8
 fn since_cut_off(interval: Interval, times: PhaseTimes, age: u16) -> u32
     ensures { λ r. ⌜ r ≡ sinceCutOff interval times age ⌝ }
 {
-    let before: u16 = if base_intervals::early(interval) {
+    let before: u16 = if base_intervals::is_early(interval) {
         0
     } else {
         times.early
@@ -127,11 +133,11 @@ fn since_cut_off(interval: Interval, times: PhaseTimes, age: u16) -> u32
 }
 
 // Whether Y steps from there are not over: the groups that stop early are still closing.
-fn still_closing(times: Times, position: Position) -> bool
+fn closing(times: Times, position: Position) -> bool
     ensures { λ r. ⌜ r ≡ closing times position ⌝ }
 {
     let settings = times.phases;
-    let own = step_counts::times_of(settings, position.phase);
+    let own = step_counts::phase_times(settings, position.phase);
     let interval = position.interval;
     since_cut_off(interval, own, position.age) <= own.yellow as u32
 }
@@ -141,7 +147,7 @@ fn closing_there(early: bool, times: Times, position: Position) -> bool
     ensures { λ r. ⌜ r ≡ (early && closing times position) ⌝ }
 {
     if early {
-        return still_closing(times, position);
+        return closing(times, position);
     }
     false
 }
@@ -161,16 +167,16 @@ fn pass_group(
     ensures { λ next. ⌜ TurnOf group stage closes position g (now (buffer .entry)) k (now (buffer .exit)) next ⌝ }
 {
     if group.mark == 2 {
-        buffer[g] = Colour::of_movement(stage);
+        buffer[g] = Colour::movement_colour(stage);
         return k + 1;
     }
-    buffer[g] = vehicle(closes, position, group);
+    buffer[g] = vehicle_shown(closes, position, group);
     k
 }
 
 // Writes what the first count groups show, in one pass of the list. It takes the parts that this rests on, and not the site and the state: a
 // parameter with an array that is read by a running index is copied whole.
-fn show(
+fn buffer_at(
     groups: [Group; 32],
     count: usize,
     closes: bool,
@@ -197,7 +203,7 @@ fn show(
 }
 
 // Writes the colours of all groups from the buffer's start on; the bytes past them stay as they are.
-pub fn write(site: Site, state: State, buffer: &mut [u8])
+pub fn colours_of(site: Site, state: State, buffer: &mut [u8])
     requires { ⌜ Sound site × (site .size .groups ≤ length (now buffer)) ⌝ }
     ensures { λ _. ⌜ now (buffer .exit) ≡ coloursOf site state ++ drop (site .size .groups) (now (buffer .entry)) ⌝ }
 {
@@ -207,5 +213,5 @@ pub fn write(site: Site, state: State, buffer: &mut [u8])
     let movements = state.movements;
     let times = site.times;
     let closes = closing_there(site.early, times, position);
-    show(groups, count, closes, position, movements, buffer);
+    buffer_at(groups, count, closes, position, movements, buffer);
 }

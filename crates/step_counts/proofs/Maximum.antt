@@ -7,9 +7,9 @@ use borrow.Author.Tests.{ltb-false}
 use lib.Dec.{ltb}
 use Rattle.rules.specs.declared.site.PhaseTimes.{PhaseTimes}
 use Rattle.rules.specs.declared.state.Interval.{Interval}
-use Rattle.rules.specs.Intervals.{isRunning}
+use Rattle.rules.specs.IntervalTable.{isRunning}
 use Rattle.rules.specs.Counts.{maximumAfter}
-use Rattle.rules.proofs.Tests.{or-false-right}
+use Rattle.laws.proofs.Booleans.{or-false-right}
 
 module _ (interval : Interval) (times : PhaseTimes) (another : Bool) (maximum : ℕ) where
   pub rises :

@@ -8,7 +8,7 @@ use rules::state::Counts;
 use rules::state::Interval;
 
 // The settings of a phase; a phase that there is no room for has none.
-pub fn times_of(settings: [PhaseTimes; 7], phase: u8) -> PhaseTimes
+pub fn phase_times(settings: [PhaseTimes; 7], phase: u8) -> PhaseTimes
     ensures { λ r. ⌜ r ≡ getD settings phase noPhaseTimes ⌝ }
 {
     let p = phase as usize;
@@ -27,10 +27,10 @@ pub fn times_of(settings: [PhaseTimes; 7], phase: u8) -> PhaseTimes
 }
 
 // In minimum green and running an occupied extending detector sets the gap count to G, else it falls by one, not below 0.
-fn gap_counted(interval: Interval, times: PhaseTimes, extended: bool, gap: u16) -> u16
+fn gap_after(interval: Interval, times: PhaseTimes, extended: bool, gap: u16) -> u16
     ensures { λ r. ⌜ r ≡ gapAfter interval times extended gap ⌝ }
 {
-    if base_intervals::green(interval) {
+    if base_intervals::is_green(interval) {
         if extended {
             return times.gap;
         }
@@ -43,10 +43,10 @@ fn gap_counted(interval: Interval, times: PhaseTimes, extended: bool, gap: u16) 
 }
 
 // In running the maximum count rises by one, up to X, if another phase is demanded or it is already above 0.
-fn maximum_counted(interval: Interval, times: PhaseTimes, another: bool, maximum: u16) -> u16
+fn maximum_after(interval: Interval, times: PhaseTimes, another: bool, maximum: u16) -> u16
     ensures { λ r. ⌜ r ≡ maximumAfter interval times another maximum ⌝ }
 {
-    if base_intervals::running(interval) {
+    if base_intervals::is_running(interval) {
         if another | (0 < maximum) {
             if maximum < times.maximum {
                 return maximum + 1;
@@ -59,7 +59,7 @@ fn maximum_counted(interval: Interval, times: PhaseTimes, another: bool, maximum
 }
 
 // Both counts, by the interval and the settings of the phase that is on.
-pub fn counted(
+pub fn counts_after(
     interval: Interval,
     times: PhaseTimes,
     extended: bool,
@@ -69,7 +69,7 @@ pub fn counted(
     ensures { λ r. ⌜ r ≡ countsAfter interval times extended another before ⌝ }
 {
     Counts {
-        gap: gap_counted(interval, times, extended, before.gap),
-        maximum: maximum_counted(interval, times, another, before.maximum),
+        gap: gap_after(interval, times, extended, before.gap),
+        maximum: maximum_after(interval, times, another, before.maximum),
     }
 }

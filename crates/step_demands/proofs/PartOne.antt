@@ -9,22 +9,22 @@ use Rattle.rules.specs.declared.site.Site.{Site}
 use Rattle.rules.specs.declared.state.Demands.{Demands}
 use Rattle.rules.specs.declared.state.Held.{Held}
 use Rattle.rules.specs.declared.state.KeptState.{KeptState}
-use Rattle.rules.specs.Bytes.{bit}
-use Rattle.rules.specs.Rows.{anyOf, setOf}
+use Rattle.laws.specs.Bytes.{bit}
+use Rattle.laws.specs.Folds.{anyOf, setOf}
 use Rattle.rules.specs.Site.{crosses}
 use Rattle.rules.specs.State.{locked, asked}
 use Rattle.rules.specs.Demands.{calling, locking, extending, detectedAmong, detected, inGreen, registersLock, registersButton, calls, demandsAfter, firstIn}
 use Rattle.rules.specs.Kept.{isKept, pressKeeps, keptAfter, nextKept}
 use Rattle.rules.specs.Laws.{Sound}
-use Rattle.rules.proofs.Sets.{bit-set, set-small, set-same}
-use Rattle.rules.proofs.Tests.{and-false-right}
-use Rattle.base_reads.proofs.Common.{bit-and}
-use Rattle.base_reads.proofs.Members.{set-told, union-told}
-use Rattle.proof_arrays.proofs.Passing.{any-past}
-use Rattle.step_detectors.specs.declared.Sensed.{Sensed}
-use Rattle.step_detectors.specs.Sensed.{SensedBy}
-use Rattle.step_ring.specs.Orders.{others}
-use Rattle.step_demands.specs.Asked.{AskedBy}
+use Rattle.laws.proofs.Sets.{bit-set, set-small, set-same}
+use Rattle.laws.proofs.Booleans.{and-false-right}
+use Rattle.laws.proofs.CommonBits.{bit-and}
+use Rattle.laws.proofs.Members.{set-told, union-told}
+use Rattle.laws.proofs.Passing.{any-past}
+use Rattle.step_demands_detectors.specs.declared.Sensed.{Sensed}
+use Rattle.step_demands_detectors.specs.Sensed.{SensedBy}
+use Rattle.step_demands_ring.specs.RingPlaces.{others}
+use Rattle.step_demands.specs.Registered.{RegisteredBy}
 use Rattle.step_demands.proofs.Sites.{ring-same}
 
 -- a byte is the set of its bits
@@ -33,45 +33,45 @@ own-set x small = set-told _ x small (λ p l. refl)
 
 module _
     (site : Site) (s : KeptState) (inputs : ℕ) (sensed : Sensed) (waiting : ℕ)
-    (scanned : SensedBy (site .detectors) (site .size .detectors) inputs (s .rest .position .phase) sensed)
-    (waits : waiting ≡ setOf (λ p. not (inGreen (s .rest .position) p)))
+    (scanned : SensedBy (site .detectors) (site .size .detectors) inputs (s .core .position .phase) sensed)
+    (waits : waiting ≡ setOf (λ p. not (inGreen (s .core .position) p)))
   where
     -- of a set of phases those that may be demanded
     outside :
         (kind : ℕ → Bool) (set : ℕ) →
         ((p : ℕ) → p < 8 → bit p set ≡ detectedAmong (site .detectors) (site .size .detectors) kind inputs p) →
-        bitAnd set waiting ≡ setOf (λ p. detected kind site inputs p && not (inGreen (s .rest .position) p))
+        bitAnd set waiting ≡ setOf (λ p. detected kind site inputs p && not (inGreen (s .core .position) p))
     unfolding detected
     outside kind set told =
         set-told _ _ (lt-of-le-of-lt (and-le-r set waiting) (rw waits (set-small _)))
         (λ p l. bit-and p set waiting ∙ rw (told p l, waits, bit-set))
 
-    lock-told : bitAnd (sensed .locks) waiting ≡ setOf (registersLock site (s .rest) inputs)
+    lock-told : bitAnd (sensed .locks) waiting ≡ setOf (registersLock site (s .core) inputs)
     unfolding registersLock
     lock-told = outside locking (sensed .locks) (scanned .locks)
 
-    call-told : bitAnd (sensed .calls) waiting ≡ setOf (calls site (s .rest) inputs)
+    call-told : bitAnd (sensed .calls) waiting ≡ setOf (calls site (s .core) inputs)
     unfolding calls
     call-told = outside calling (sensed .calls) (scanned .calls)
 
     module _
         (buttons pressing : ℕ) (next : Held)
-        (pressed : buttons ≡ setOf (λ k. bit k (s .rest .demands .buttons) || registersButton (s .rest .movements) inputs k))
-        (presses : pressing ≡ setOf (λ p. anyOf (λ k. registersButton (s .rest .movements) inputs k && crosses (site .crossings) k p) 8))
+        (pressed : buttons ≡ setOf (λ k. bit k (s .core .demands .buttons) || registersButton (s .core .movements) inputs k))
+        (presses : pressing ≡ setOf (λ p. anyOf (λ k. registersButton (s .core .movements) inputs k && crosses (site .crossings) k p) 8))
         (searched :
         next
         ≡ firstIn (λ p. bit p (bitOr (bitOr (bitOr (s .kept) (bitAnd (sensed .locks) waiting)) pressing) (bitAnd (sensed .calls) waiting)))
-        (others (s .rest .position .phase) (site .order) (site .size .phases)))
-        (sound : Sound site) (locksSmall : s .rest .demands .locks < 256) (keptSmall : s .kept < 256)
+        (others (s .core .position .phase) (site .order) (site .size .phases)))
+        (sound : Sound site) (locksSmall : s .core .demands .locks < 256) (keptSmall : s .kept < 256)
       where
         abbrev standing : Demands
-        standing = record { locks = bitOr (s .rest .demands .locks) (bitAnd (sensed .locks) waiting); buttons = buttons }
+        standing = record { locks = bitOr (s .core .demands .locks) (bitAnd (sensed .locks) waiting); buttons = buttons }
 
         -- the demands that stand
-        standing-told : standing ≡ demandsAfter site (s .rest) inputs
+        standing-told : standing ≡ demandsAfter site (s .core) inputs
         unfolding demandsAfter locked asked
         standing-told =
-            rw (pressed, union-told _ _ _ _ (own-set (s .rest .demands .locks) locksSmall) lock-told)
+            rw (pressed, union-told _ _ _ _ (own-set (s .core .demands .locks) locksSmall) lock-told)
 
         -- a movement that the site has not is of no phase
         press-told : pressing ≡ setOf (pressKeeps site s inputs)
@@ -82,7 +82,7 @@ module _
             (λ p l.
             sym
             (any-past _ (site .size .movements) 8 (sound .movements)
-            (λ k past l. and-false-right (registersButton (s .rest .movements) inputs k) (sound .noCrossing k p past))))
+            (λ k past l. and-false-right (registersButton (s .core .movements) inputs k) (sound .noCrossing k p past))))
 
         -- the phases kept
         abbrev kept : ℕ
@@ -98,12 +98,12 @@ module _
         next-told =
             searched
             ∙ ring-same site sound (λ p. bit p (bitOr kept (bitAnd (sensed .calls) waiting)))
-            (λ p. keptAfter site s inputs p || calls site (s .rest) inputs p) (s .rest .position .phase)
+            (λ p. keptAfter site s inputs p || calls site (s .core) inputs p) (s .core .position .phase)
             (λ p l. ap (bit p) (union-told _ _ _ _ kept-told call-told) ∙ bit-set _ p (omega arith))
 
-        extended-told : sensed .extended ≡ detected extending site inputs (s .rest .position .phase)
+        extended-told : sensed .extended ≡ detected extending site inputs (s .core .position .phase)
         unfolding detected
         extended-told = scanned .extended
 
-        pub asked-told : AskedBy site s inputs (record { demands = standing; kept = kept; next = next; extended = sensed .extended })
+        pub asked-told : RegisteredBy site s inputs (record { demands = standing; kept = kept; next = next; extended = sensed .extended })
         asked-told = record { demands = standing-told; kept = kept-told; next = next-told; extended = extended-told }

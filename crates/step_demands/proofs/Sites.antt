@@ -11,12 +11,12 @@ use Rattle.rules.specs.Personality.{knownMode}
 use Rattle.rules.specs.Site.{detectorOf, ring}
 use Rattle.rules.specs.Demands.{firstIn, nextAfter}
 use Rattle.rules.specs.Laws.{Sound}
-use Rattle.rules.proofs.Tests.{and-left, and-right}
-use Rattle.proof_ring.proofs.Orders.{ring-of}
+use Rattle.laws.proofs.Booleans.{and-left, and-right}
+use Rattle.proof_ring.proofs.RunningOrder.{ring-of}
 use Rattle.proof_ring.proofs.Ring.{found-same}
 use Rattle.proof_ring.proofs.Turns.{turn}
-use Rattle.step_detectors.specs.Sensed.{Tabled}
-use Rattle.step_ring.specs.Orders.{others}
+use Rattle.step_demands_detectors.specs.Sensed.{Tabled}
+use Rattle.step_demands_ring.specs.RingPlaces.{others}
 
 -- the detectors of an accepted site are within the table
 pub tabled : (site : Site) → Sound site → Tabled (site .detectors) (site .size .detectors)

@@ -1,18 +1,18 @@
 // Part 1 of a step: what detectors and buttons demand, which phases are kept for it, and which demanded phase is next in the ring.
 ghost use Prim.Native.Nat.{_<_};
 ghost use Rattle.rules.specs.Laws.{Sound};
-ghost use Rattle.step_demands.specs.Asked.{AskedBy};
+ghost use Rattle.step_demands.specs.Registered.{RegisteredBy};
 use rules::site::Site;
 use rules::state::Demands;
 use rules::state::Held;
 use rules::state::KeptState;
-use step_presses::buttons;
+use step_demands_buttons::buttons;
 
 mod phases;
 
 // What part 1 hands on: the demands that stand, the phases kept as a set, the next demanded phase other than the one on, and whether a
 // detector extends the phase that is on.
-pub struct Asked {
+pub struct Registered {
     pub demands: Demands,
     pub kept: u8,
     pub next: Held,
@@ -20,31 +20,36 @@ pub struct Asked {
 }
 
 // Part 1. A lock and a registered press keep their phase. A phase is demanded that is kept, or called by a detector in this step only.
-pub fn register(site: Site, state: KeptState, inputs: u64) -> Asked
-    requires { ⌜ Sound site × (state .rest .position .phase < site .size .phases) ⌝ }
-    ensures { λ r. ⌜ AskedBy site state inputs r ⌝ }
+pub fn register(site: Site, state: KeptState, inputs: u64) -> Registered
+    requires { ⌜ Sound site × (state .core .position .phase < site .size .phases) ⌝ }
+    ensures { λ r. ⌜ RegisteredBy site state inputs r ⌝ }
 {
-    let rest = state.rest;
-    let position = rest.position;
+    let core = state.core;
+    let position = core.position;
     let phase = position.phase;
     let size = site.size;
     let detectors = site.detectors;
-    let sensed = step_detectors::scan(detectors, size.detectors, inputs, phase);
+    let sensed = step_demands_detectors::sense(detectors, size.detectors, inputs, phase);
     let waiting = phases::waiting(position);
     let locking = sensed.locks & waiting;
-    let old = rest.demands;
-    let movements = rest.movements;
+    let old = core.demands;
+    let movements = core.movements;
     let crossings = site.crossings;
     let pressed = buttons::press(old.buttons, movements, crossings, inputs);
     let kept = state.kept | locking | pressed.phases;
     let order = site.order;
-    Asked {
+    Registered {
         demands: Demands {
             locks: old.locks | locking,
             buttons: pressed.buttons,
         },
         kept: kept,
-        next: step_ring::next(kept | (sensed.calls & waiting), phase, order, size.phases),
+        next: step_demands_ring::next_after(
+            kept | (sensed.calls & waiting),
+            phase,
+            order,
+            size.phases,
+        ),
         extended: sensed.extended,
     }
 }

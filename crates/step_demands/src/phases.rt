@@ -2,9 +2,9 @@
 ghost use mathlib.Core.Bool.{not};
 ghost use mathlib.Core.Path.{_≡_};
 ghost use Prim.Native.Nat.{_<_};
-ghost use Rattle.rules.specs.Rows.{setOf};
+ghost use Rattle.laws.specs.Folds.{setOf};
 ghost use Rattle.rules.specs.Demands.{inGreen};
-use base_reads::sets;
+use base_bytes::sets;
 use rules::state::Position;
 
 // All phases but one that is in minimum green or running, as a set.
@@ -13,7 +13,7 @@ pub fn waiting(position: Position) -> u8
     ensures { λ r. ⌜ r ≡ setOf (λ p. not (inGreen position p)) ⌝ }
 {
     let interval = position.interval;
-    if base_intervals::green(interval) {
+    if base_intervals::is_green(interval) {
         sets::without(255, position.phase)
     } else {
         255

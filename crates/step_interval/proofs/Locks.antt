@@ -4,11 +4,11 @@ use mathlib.Core.Bool.{Bool, true, false, not, _&&_, and-true}
 use mathlib.Core.Path.{_≡_, sym}
 use lib.Dec.{eqb}
 use Rattle.rules.specs.declared.state.Position.{Position}
-use Rattle.rules.specs.Bytes.{bit}
-use Rattle.rules.specs.Rows.{setOf}
-use Rattle.rules.specs.Intervals.{isMinimumGreen}
+use Rattle.laws.specs.Bytes.{bit}
+use Rattle.laws.specs.Folds.{setOf}
+use Rattle.rules.specs.IntervalTable.{isMinimumGreen}
 use Rattle.rules.specs.Interval.{clearsLock, locksLeft}
-use Rattle.base_reads.proofs.Members.{set-told}
+use Rattle.laws.proofs.Members.{set-told}
 
 module _ (ended : Bool) (now : Position) (locks : ℕ) where
   pub lock-cleared :

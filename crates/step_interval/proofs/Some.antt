@@ -10,11 +10,11 @@ use lib.ListN.{getD}
 use Rattle.rules.specs.declared.state.Movement.{Movement}
 use Rattle.rules.specs.declared.state.Stage.{Stage}
 use Rattle.rules.specs.declared.state.Stage.the-variants.{Idle}
-use Rattle.rules.specs.Rows.{anyOf}
+use Rattle.laws.specs.Folds.{anyOf}
 use Rattle.rules.specs.State.{idle}
 use Rattle.rules.specs.Interval.{someMovement}
-use Rattle.rules.proofs.Tests.{and-left, and-right, and-false-right, decided}
-use Rattle.proof_arrays.proofs.Passing.{any-past}
+use Rattle.laws.proofs.Booleans.{and-left, and-right, and-false-right, decided}
+use Rattle.laws.proofs.Passing.{any-past}
 use Rattle.step_movements.specs.IdlePast.{IdlePast}
 
 -- a test that an idle movement fails is settled by the movements that the site has

@@ -2,7 +2,7 @@
 ghost use Prim.Native.Nat.{_<_};
 ghost use mathlib.Core.Path.{_≡_};
 ghost use Rattle.rules.specs.Interval.{countsLeaving, countsEntering, countsChanged, locksLeft, starts as startsAt};
-use base_reads::sets;
+use base_bytes::sets;
 use rules::site::PhaseTimes;
 use rules::site::Times;
 use rules::state::Counts;
@@ -10,25 +10,25 @@ use rules::state::Interval;
 use rules::state::Position;
 
 // Both counts are 0 when all-red ends: the interval that leaves a phase and comes before a start.
-fn counts_left(interval: Interval, before: Counts) -> Counts
+fn counts_leaving(interval: Interval, before: Counts) -> Counts
     ensures { λ r. ⌜ r ≡ countsLeaving interval before ⌝ }
 {
-    if base_intervals::leaving(interval) & base_intervals::before_start(interval) {
+    if base_intervals::is_leaving(interval) & base_intervals::is_before_start(interval) {
         return Counts { gap: 0, maximum: 0 };
     }
     before
 }
 
 // Entering minimum green sets the gap count to G; entering running sets the maximum count to 0.
-fn counts_entered(interval: Interval, times: PhaseTimes, before: Counts) -> Counts
+fn counts_entering(interval: Interval, times: PhaseTimes, before: Counts) -> Counts
     ensures { λ r. ⌜ r ≡ countsEntering interval times before ⌝ }
 {
-    let gap = if base_intervals::minimum_green(interval) {
+    let gap = if base_intervals::is_minimum_green(interval) {
         times.gap
     } else {
         before.gap
     };
-    let maximum = if base_intervals::running(interval) {
+    let maximum = if base_intervals::is_running(interval) {
         0
     } else {
         before.maximum
@@ -50,8 +50,8 @@ pub fn counts_changed(
     let after = now.interval;
     if ended {
         let settings = times.phases;
-        let left = counts_left(before, counted);
-        return counts_entered(after, step_counts::times_of(settings, now.phase), left);
+        let left = counts_leaving(before, counted);
+        return counts_entering(after, step_counts::phase_times(settings, now.phase), left);
     }
     counted
 }
@@ -62,7 +62,7 @@ pub fn locks_left(ended: bool, now: Position, locks: u8) -> u8
     ensures { λ r. ⌜ r ≡ locksLeft ended now locks ⌝ }
 {
     let interval = now.interval;
-    if ended & base_intervals::minimum_green(interval) {
+    if ended & base_intervals::is_minimum_green(interval) {
         return sets::without(locks, now.phase);
     }
     locks
@@ -73,5 +73,5 @@ pub fn starts(ended: bool, old: Position) -> bool
     ensures { λ r. ⌜ r ≡ startsAt ended old ⌝ }
 {
     let interval = old.interval;
-    ended & base_intervals::before_start(interval)
+    ended & base_intervals::is_before_start(interval)
 }

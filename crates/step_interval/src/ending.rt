@@ -1,6 +1,6 @@
 // Part 4 of a step: when the interval ends.
 ghost use mathlib.Core.Path.{_≡_};
-ghost use Rattle.rules.specs.Intervals.{isWalkOrFirst, isSecond};
+ghost use Rattle.rules.specs.IntervalTable.{isWalkOrFirst, isSecond};
 ghost use Rattle.rules.specs.Interval.{someMovement, ends};
 ghost use Rattle.step_movements.specs.IdlePast.{IdlePast};
 use rules::site::PhaseTimes;
@@ -26,8 +26,8 @@ fn under_way(movements: [Movement; 8], count: u8) -> Busy
     while k < n {
         let movement = movements[k];
         let stage = movement.stage;
-        walking = walking | base_intervals::walk_or_first(stage);
-        clearing = clearing | base_intervals::second(stage);
+        walking = walking | base_intervals::is_walk_or_first(stage);
+        clearing = clearing | base_intervals::is_second(stage);
         k += 1;
     }
     Busy { walking, clearing }
@@ -36,7 +36,7 @@ fn under_way(movements: [Movement; 8], count: u8) -> Busy
 // Start red, late start, minimum green, early cut-off green and yellow end once the age is at least the setting. Running ends if another
 // phase is demanded, no movement is in walk or C1, and the gap count is 0 or the maximum count is X. All-red ends when its age is at
 // least R and no movement is in C2.
-pub fn over(
+pub fn ends(
     interval: Interval,
     start: u16,
     times: PhaseTimes,

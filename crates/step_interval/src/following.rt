@@ -7,31 +7,31 @@ use rules::state::Interval;
 use rules::state::Position;
 
 // The next interval of the same phase, at age 1.
-fn entered(interval: Interval, target: Held, position: Position) -> Position
+fn entering(interval: Interval, target: Held, position: Position) -> Position
     ensures { λ r. ⌜ r ≡ entering interval target position ⌝ }
 {
-    let came = position.came;
+    let previous = position.previous;
     Position {
         phase: position.phase,
         interval: interval,
         age: 1,
-        came: came,
+        previous: previous,
         target: target,
     }
 }
 
 // A phase starts with late start, or minimum green if L is 0.
-fn started(times: Times, phase: u8, came: Held) -> Position
-    ensures { λ r. ⌜ r ≡ starting times phase came ⌝ }
+fn starting(times: Times, phase: u8, previous: Held) -> Position
+    ensures { λ r. ⌜ r ≡ starting times phase previous ⌝ }
 {
     let settings = times.phases;
-    let own = step_counts::times_of(settings, phase);
+    let own = step_counts::phase_times(settings, phase);
     if own.late == 0 {
         return Position {
             phase: phase,
             interval: Interval::MinimumGreen,
             age: 1,
-            came: came,
+            previous: previous,
             target: Held::Nothing,
         };
     }
@@ -39,41 +39,41 @@ fn started(times: Times, phase: u8, came: Held) -> Position
         phase: phase,
         interval: Interval::LateStart,
         age: 1,
-        came: came,
+        previous: previous,
         target: Held::Nothing,
     }
 }
 
 // Running is followed by early cut-off green, or by yellow if its time is 0. The target is the phase that is demanded next at that
 // moment.
-fn left(times: Times, next: Held, position: Position) -> Position
+fn leaving(times: Times, next: Held, position: Position) -> Position
     ensures { λ r. ⌜ r ≡ leaving times next position ⌝ }
 {
     let settings = times.phases;
-    let own = step_counts::times_of(settings, position.phase);
+    let own = step_counts::phase_times(settings, position.phase);
     if own.early == 0 {
-        return entered(Interval::Yellow, next, position);
+        return entering(Interval::Yellow, next, position);
     }
-    entered(Interval::EarlyCutOff, next, position)
+    entering(Interval::EarlyCutOff, next, position)
 }
 
 // What follows the interval once it has ended. The target is chosen when running ends, and kept.
-fn followed(times: Times, next: Held, position: Position) -> Position
+fn following(times: Times, next: Held, position: Position) -> Position
     ensures { λ r. ⌜ r ≡ following (position .interval) times next position ⌝ }
 {
     let interval = position.interval;
-    let came = position.came;
+    let previous = position.previous;
     let target = position.target;
     match interval {
-        Interval::StartRed => started(times, position.phase, came),
-        Interval::LateStart => entered(Interval::MinimumGreen, Held::Nothing, position),
-        Interval::MinimumGreen => entered(Interval::Running, Held::Nothing, position),
-        Interval::Running => left(times, next, position),
-        Interval::EarlyCutOff => entered(Interval::Yellow, target, position),
-        Interval::Yellow => entered(Interval::AllRed, target, position),
-        Interval::AllRed => started(
+        Interval::StartRed => starting(times, position.phase, previous),
+        Interval::LateStart => entering(Interval::MinimumGreen, Held::Nothing, position),
+        Interval::MinimumGreen => entering(Interval::Running, Held::Nothing, position),
+        Interval::Running => leaving(times, next, position),
+        Interval::EarlyCutOff => entering(Interval::Yellow, target, position),
+        Interval::Yellow => entering(Interval::AllRed, target, position),
+        Interval::AllRed => starting(
             times,
-            base_intervals::held_phase(target),
+            base_intervals::phase_held(target),
             Held::Phase {
                 phase: position.phase,
             },
@@ -82,17 +82,17 @@ fn followed(times: Times, next: Held, position: Position) -> Position
 }
 
 // The same interval, a step older.
-fn stayed(position: Position) -> Position
+fn staying(position: Position) -> Position
     ensures { λ r. ⌜ r ≡ staying position ⌝ }
 {
     let interval = position.interval;
-    let came = position.came;
+    let previous = position.previous;
     let target = position.target;
     Position {
         phase: position.phase,
         interval: interval,
-        age: step_movements::aged(position.age),
-        came: came,
+        age: step_movements::older(position.age),
+        previous: previous,
         target: target,
     }
 }
@@ -102,7 +102,7 @@ pub fn position_after(ended: bool, times: Times, next: Held, position: Position)
     ensures { λ r. ⌜ r ≡ positionAfter ended times next position ⌝ }
 {
     if ended {
-        return followed(times, next, position);
+        return following(times, next, position);
     }
-    stayed(position)
+    staying(position)
 }

@@ -10,11 +10,11 @@ use Rattle.rules.specs.declared.state.Movement.{Movement}
 use Rattle.rules.specs.declared.state.Stage.{Stage}
 use Rattle.rules.specs.declared.state.Stage.the-variants.{Idle, Walk, ClearanceOne, ClearanceTwo}
 use Rattle.rules.specs.Site.{noWalkTimes, walkTimes}
-use Rattle.rules.specs.Intervals.{isIdle}
+use Rattle.rules.specs.IntervalTable.{isIdle}
 use Rattle.rules.specs.State.{idle}
 use Rattle.rules.specs.Movements.{advanced, movementsAfter}
-use Rattle.rules.proofs.Rows.{list-at}
-use Rattle.rules.proofs.Tests.{never-both}
+use Rattle.laws.proofs.Folds.{list-at}
+use Rattle.laws.proofs.Booleans.{never-both}
 use Rattle.step_movements.specs.IdlePast.{IdlePast}
 
 pub idle-only : (stage : Stage) → isIdle stage ≡ true → stage ≡ Idle

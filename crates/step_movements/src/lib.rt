@@ -12,7 +12,7 @@ use rules::state::Movement;
 use rules::state::Stage;
 
 // Ages rise by one and stop at 2,000.
-pub fn aged(age: u16) -> u16
+pub fn older(age: u16) -> u16
     ensures { λ r. ⌜ r ≡ older age ⌝ }
 {
     if age < 2000 { age + 1 } else { 2000 }
@@ -24,11 +24,11 @@ pub fn walk_may_end(interval: Interval, times: PhaseTimes, another: bool, counts
     ensures { λ r. ⌜ r ≡ walkMayEnd interval times another counts ⌝ }
 {
     let due = (counts.gap == 0) | (counts.maximum == times.maximum);
-    base_intervals::running(interval) & another & due
+    base_intervals::is_running(interval) & another & due
 }
 
 // A stage that lasts for the setting at least and then until it may end, and what follows it.
-fn lasted(may_end: bool, setting: u16, stage: Stage, next: Stage, age: u16) -> Movement
+fn lasting(may_end: bool, setting: u16, stage: Stage, next: Stage, age: u16) -> Movement
     ensures { λ r. ⌜ r ≡ lasting «may_end» setting stage next age ⌝ }
 {
     if may_end & (setting <= age) {
@@ -39,12 +39,12 @@ fn lasted(may_end: bool, setting: u16, stage: Stage, next: Stage, age: u16) -> M
     }
     Movement {
         stage: stage,
-        age: aged(age),
+        age: older(age),
     }
 }
 
 // One movement, a step on. Only a walk waits until it may end.
-fn one_moved(may_end: bool, stage: Stage, times: WalkTimes, age: u16) -> Movement
+fn advanced(may_end: bool, stage: Stage, times: WalkTimes, age: u16) -> Movement
     ensures { λ r. ⌜ r ≡ advanced «may_end» stage times age ⌝ }
 {
     match stage {
@@ -52,20 +52,25 @@ fn one_moved(may_end: bool, stage: Stage, times: WalkTimes, age: u16) -> Movemen
             stage: Stage::Idle,
             age: age,
         },
-        Stage::Walk => lasted(may_end, times.walk, Stage::Walk, Stage::ClearanceOne, age),
-        Stage::ClearanceOne => lasted(
+        Stage::Walk => lasting(may_end, times.walk, Stage::Walk, Stage::ClearanceOne, age),
+        Stage::ClearanceOne => lasting(
             true,
             times.first,
             Stage::ClearanceOne,
             Stage::ClearanceTwo,
             age,
         ),
-        Stage::ClearanceTwo => lasted(true, times.second, Stage::ClearanceTwo, Stage::Idle, age),
+        Stage::ClearanceTwo => lasting(true, times.second, Stage::ClearanceTwo, Stage::Idle, age),
     }
 }
 
 // All movements, a step on. The count is of those that the site has: the records past them are idle and stay.
-pub fn moved(times: Times, may_end: bool, movements: [Movement; 8], count: u8) -> [Movement; 8]
+pub fn movements_after(
+    times: Times,
+    may_end: bool,
+    movements: [Movement; 8],
+    count: u8,
+) -> [Movement; 8]
     requires { ⌜ IdlePast count movements ⌝ }
     ensures { λ r. ⌜ r ≡ movementsAfter times «may_end» movements ⌝ }
 {
@@ -79,9 +84,9 @@ pub fn moved(times: Times, may_end: bool, movements: [Movement; 8], count: u8) -
     while k < n {
         let movement = out[k];
         let stage = movement.stage;
-        if !base_intervals::idle(stage) {
+        if !base_intervals::is_idle(stage) {
             let own = settings[k];
-            out[k] = one_moved(may_end, stage, own, movement.age);
+            out[k] = advanced(may_end, stage, own, movement.age);
         }
         k += 1;
     }

@@ -14,20 +14,20 @@ use lib.ListN.{length, getD, set}
 use Rattle.rules.specs.declared.state.Movement.{Movement}
 use Rattle.rules.specs.declared.state.Position.{Position}
 use Rattle.rules.specs.declared.state.Stage.the-variants.{Walk}
-use Rattle.rules.specs.Bytes.{bit}
-use Rattle.rules.specs.Rows.{if_then_else_, listOf, setOf}
+use Rattle.laws.specs.Bytes.{bit}
+use Rattle.laws.specs.Folds.{if_then_else_, listOf, setOf}
 use Rattle.rules.specs.Site.{crosses}
-use Rattle.rules.specs.Intervals.{isIdle, isRunning}
+use Rattle.rules.specs.IntervalTable.{isIdle, isRunning}
 use Rattle.rules.specs.State.{idle}
 use Rattle.rules.specs.Walks.{begins, walksBegun, buttonsLeft}
-use Rattle.rules.proofs.Rows.{list-length, list-at}
-use Rattle.rules.proofs.Sets.{bit-set, set-same}
-use Rattle.rules.proofs.Tests.{decided, and-false-left, and-false-right, or-false-left, or-false-right, or-false-both}
-use Rattle.proof_arrays.proofs.Fill.{list-told, list-same, list-set}
-use Rattle.base_reads.proofs.Lowest.{taken, Left, left-all, taken-none, next-within, left-more, next-untaken, next-taken, taken-other, taken-failing}
-use Rattle.base_reads.proofs.Members.{set-told}
-use Rattle.step_walks.specs.declared.Walked.{Walked}
-use Rattle.step_walks.specs.Walked.{walkedBy}
+use Rattle.laws.proofs.Folds.{list-length, list-at}
+use Rattle.laws.proofs.Sets.{bit-set, set-same}
+use Rattle.laws.proofs.Booleans.{decided, and-false-left, and-false-right, or-false-left, or-false-right, or-false-both}
+use Rattle.laws.proofs.Arrays.{list-told, list-same, list-set}
+use Rattle.laws.proofs.LowestBit.{taken, Left, left-all, taken-none, next-within, left-more, next-untaken, next-taken, taken-other, taken-failing}
+use Rattle.laws.proofs.Members.{set-told}
+use Rattle.step_walks.specs.declared.Begun.{Begun}
+use Rattle.step_walks.specs.Begun.{begunBy}
 
 -- ── Which movements begin walk ──
 
@@ -122,8 +122,8 @@ module _ {buttons left : ℕ} {movements out : List Movement} {f : ℕ → Bool}
   entry-kept : (k : ℕ) (d : Movement) → k < 8 → f k ≡ false → getD out k d ≡ getD movements k idle
   entry-kept k d l none = rw (known .walks) (list-at (walk movements f) 8 k d l ∙ rw none)
 
-  pub walked-told : _≡_ {A = Walked} (record { buttons = left; movements = out }) (walkedBy f buttons movements)
-  unfolding walkedBy buttonsLeft walksBegun
+  pub walked-told : _≡_ {A = Begun} (record { buttons = left; movements = out }) (begunBy f buttons movements)
+  unfolding begunBy buttonsLeft walksBegun
   walked-told = rw (known .demands, known .walks)
 
 -- ── The pass over the demanded movements ──

@@ -2,14 +2,14 @@
 // phase is demanded, idle demanded movements of the phase begin walk. Beginning clears the demand; the age is 1.
 ghost use mathlib.Core.Path.{_≡_};
 ghost use Rattle.rules.specs.Walks.{begins};
-ghost use Rattle.step_walks.specs.Walked.{walkedBy};
-use base_reads::sets;
+ghost use Rattle.step_walks.specs.Begun.{begunBy};
+use base_bytes::sets;
 use rules::state::Movement;
 use rules::state::Position;
 use rules::state::Stage;
 
 // The button demands that are left, and the movements.
-pub struct Walked {
+pub struct Begun {
     pub buttons: u8,
     pub movements: [Movement; 8],
 }
@@ -23,13 +23,13 @@ pub fn begin(
     now: Position,
     buttons: u8,
     movements: [Movement; 8],
-) -> Walked
-    ensures { λ r. ⌜ r ≡ walkedBy (begins crossings starts another now buttons movements) buttons movements ⌝ }
+) -> Begun
+    ensures { λ r. ⌜ r ≡ begunBy (begins crossings starts another now buttons movements) buttons movements ⌝ }
 {
     let interval = now.interval;
-    let free = base_intervals::running(interval) & !another;
+    let free = base_intervals::is_running(interval) & !another;
     if !(starts | free) {
-        return Walked { buttons, movements };
+        return Begun { buttons, movements };
     }
     let mut left = buttons;
     let mut out = movements;
@@ -39,8 +39,8 @@ pub fn begin(
         let i = k as usize;
         let movement = out[i];
         let stage = movement.stage;
-        let own = base_reads::bit8(now.phase, crossings[i]);
-        if own & (starts | (free & base_intervals::idle(stage))) {
+        let own = base_bytes::bit8(now.phase, crossings[i]);
+        if own & (starts | (free & base_intervals::is_idle(stage))) {
             left = sets::without(left, k);
             out[i] = Movement {
                 stage: Stage::Walk,
@@ -49,7 +49,7 @@ pub fn begin(
         }
         rest = rest & (rest - 1);
     }
-    Walked {
+    Begun {
         buttons: left,
         movements: out,
     }

@@ -17,10 +17,10 @@ use Rattle.rules.specs.declared.state.Held.{Held}
 use Rattle.rules.specs.declared.state.KeptState.{KeptState}
 use Rattle.rules.specs.declared.state.Movement.{Movement}
 use Rattle.rules.specs.declared.state.Position.{Position}
-use Rattle.rules.specs.Bytes.{bit}
-use Rattle.rules.specs.Rows.{setOf}
+use Rattle.laws.specs.Bytes.{bit}
+use Rattle.laws.specs.Folds.{setOf}
 use Rattle.rules.specs.Site.{phaseTimes, crosses}
-use Rattle.rules.specs.Intervals.{isMinimumGreen, isRunning, isIdle, isHeld}
+use Rattle.rules.specs.IntervalTable.{isMinimumGreen, isRunning, isIdle, isHeld}
 use Rattle.rules.specs.State.{idle}
 use Rattle.rules.specs.Demands.{demandsAfter, stands}
 use Rattle.rules.specs.Movements.{walkMayEnd, movementsAfter}
@@ -30,14 +30,14 @@ use Rattle.rules.specs.Walks.{begins, buttonsLeft}
 use Rattle.rules.specs.Step.{steppedTo}
 use Rattle.rules.specs.Kept.{keptValid, keptAfter, nextKept, gone, cleared, keptLeft, keptStepped}
 use Rattle.rules.specs.Laws.{Sound}
-use Rattle.rules.proofs.Rows.{any-none}
-use Rattle.rules.proofs.Sets.{bit-set, set-same}
-use Rattle.rules.proofs.Tests.{and-left, and-right, and-false-left, and-false-right, or-false-both, decided, not-true-false}
+use Rattle.laws.proofs.Folds.{any-none}
+use Rattle.laws.proofs.Sets.{bit-set, set-same}
+use Rattle.laws.proofs.Booleans.{and-left, and-right, and-false-left, and-false-right, or-false-both, decided, not-true-false}
 use Rattle.proof_kept.proofs.Scans.{kept-after, kept-left}
-use Rattle.step_demands.specs.declared.Asked.{Asked}
-use Rattle.step_demands.specs.Asked.{AskedBy}
-use Rattle.step_walks.specs.declared.Walked.{Walked}
-use Rattle.step_walks.specs.Walked.{walkedBy}
+use Rattle.step_demands.specs.declared.Registered.{Registered}
+use Rattle.step_demands.specs.Registered.{RegisteredBy}
+use Rattle.step_walks.specs.declared.Begun.{Begun}
+use Rattle.step_walks.specs.Begun.{begunBy}
 
 -- a test that stays as it was is not gone
 still : (a : Bool) {b : Bool} → b ≡ (a && not false) → (a && not b) ≡ false
@@ -154,43 +154,43 @@ module _ (site : Site) (sound : Sound site) (s : KeptState) (inputs : ℕ) (v : 
   set-left :
       (p : ℕ) →
       p < 8 →
-      let rest = steppedTo next site (s .rest) inputs in
-      (keptAfter site s inputs p && (not (eqb p (rest .position .phase)) || stands site (rest .demands) p))
-      ≡ keptLeft site (demandsAfter site (s .rest) inputs) (rest .demands) (keptAfter site s inputs) p
+      let core = steppedTo next site (s .core) inputs in
+      (keptAfter site s inputs p && (not (eqb p (core .position .phase)) || stands site (core .demands) p))
+      ≡ keptLeft site (demandsAfter site (s .core) inputs) (core .demands) (keptAfter site s inputs) p
   unfolding steppedTo
   set-left p l =
-      only-own site sound (demandsAfter site (s .rest) inputs) _ _ _ (begins-own (site .crossings) _ _ _ _ _) (keptAfter site s inputs) p l
+      only-own site sound (demandsAfter site (s .core) inputs) _ _ _ (begins-own (site .crossings) _ _ _ _ _) (keptAfter site s inputs) p l
       (kept-after site sound s inputs v p l)
 
   -- the whole step, by what each of its parts gives
   pub whole-told :
-      {own : PhaseTimes} {asked : Asked} {another : Bool} {mayEnd : Bool} {moved : List Movement} {counted : Counts} {ended : Bool} {now : Position} {started : Bool}
-      {walked : Walked} {locks : ℕ} {counts : Counts} {kept : ℕ} →
-      own ≡ phaseTimes (site .times) (s .rest .position .phase) →
-      AskedBy site s inputs asked →
+      {own : PhaseTimes} {asked : Registered} {another : Bool} {mayEnd : Bool} {moved : List Movement} {counted : Counts} {ended : Bool} {now : Position} {started : Bool}
+      {walked : Begun} {locks : ℕ} {counts : Counts} {kept : ℕ} →
+      own ≡ phaseTimes (site .times) (s .core .position .phase) →
+      RegisteredBy site s inputs asked →
       another ≡ isHeld (asked .next) →
-      mayEnd ≡ walkMayEnd (s .rest .position .interval) own another (s .rest .counts) →
-      moved ≡ movementsAfter (site .times) mayEnd (s .rest .movements) →
-      counted ≡ countsAfter (s .rest .position .interval) own (asked .extended) another (s .rest .counts) →
-      ended ≡ ends (s .rest .position .interval) (site .times .start) own (s .rest .position .age) another moved counted →
-      now ≡ positionAfter ended (site .times) (asked .next) (s .rest .position) →
-      started ≡ starts ended (s .rest .position) →
-      walked ≡ walkedBy (begins (site .crossings) started another now (asked .demands .buttons) moved) (asked .demands .buttons) moved →
+      mayEnd ≡ walkMayEnd (s .core .position .interval) own another (s .core .counts) →
+      moved ≡ movementsAfter (site .times) mayEnd (s .core .movements) →
+      counted ≡ countsAfter (s .core .position .interval) own (asked .extended) another (s .core .counts) →
+      ended ≡ ends (s .core .position .interval) (site .times .start) own (s .core .position .age) another moved counted →
+      now ≡ positionAfter ended (site .times) (asked .next) (s .core .position) →
+      started ≡ starts ended (s .core .position) →
+      walked ≡ begunBy (begins (site .crossings) started another now (asked .demands .buttons) moved) (asked .demands .buttons) moved →
       locks ≡ locksLeft ended now (asked .demands .locks) →
-      counts ≡ countsChanged ended (site .times) (s .rest .position) now counted →
+      counts ≡ countsChanged ended (site .times) (s .core .position) now counted →
       kept ≡ setOf (onlyOf (λ p. bit p (asked .kept)) (stands site (record { locks = locks; buttons = walked .buttons })) (now .phase)) →
       _≡_ {A = KeptState}
       (record {
-        rest = record { position = now; counts = counts; demands = record { locks = locks; buttons = walked .buttons }; movements = walked .movements };
+        core = record { position = now; counts = counts; demands = record { locks = locks; buttons = walked .buttons }; movements = walked .movements };
         kept = kept;
       })
       (keptStepped site s inputs)
-  unfolding keptStepped steppedTo walkedBy
+  unfolding keptStepped steppedTo begunBy
   whole-told {asked = asked} e1 e2 e3 e4 e5 e6 e7 e8 e9 e10 e11 e12 e13 =
-      let after = steppedTo next site (s .rest) inputs in
+      let after = steppedTo next site (s .core) inputs in
       rw (e13, e12, e11, e10, e9, e8, e7, e6, e5, e4, e3, e2 .next, e2 .extended, e2 .demands, e1)
-      (ap (λ (set : ℕ). record { rest = after; kept = set })
+      (ap (λ (set : ℕ). record { core = after; kept = set })
       (set-same
       (onlyOf (λ p. bit p (asked .kept)) (stands site (after .demands)) (after .position .phase))
-      (keptLeft site (demandsAfter site (s .rest) inputs) (after .demands) (keptAfter site s inputs))
+      (keptLeft site (demandsAfter site (s .core) inputs) (after .demands) (keptAfter site s inputs))
       (λ p l. rw (e2 .kept, bit-set (keptAfter site s inputs) p l) (set-left p l))))

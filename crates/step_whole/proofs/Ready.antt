@@ -13,12 +13,12 @@ use Rattle.rules.specs.declared.state.Interval.{Interval}
 use Rattle.rules.specs.declared.state.Interval.the-variants.{StartRed, LateStart, MinimumGreen, Running, EarlyCutOff, Yellow, AllRed}
 use Rattle.rules.specs.declared.state.KeptState.{KeptState}
 use Rattle.rules.specs.declared.state.Position.{Position}
-use Rattle.rules.specs.Intervals.{isIdle, isLeaving, phaseHeld}
+use Rattle.rules.specs.IntervalTable.{isIdle, isLeaving, phaseHeld}
 use Rattle.rules.specs.State.{idle, movement, valid}
 use Rattle.rules.specs.Interval.{entering, starting, leaving, following, staying, positionAfter}
 use Rattle.rules.specs.Kept.{keptValid}
 use Rattle.rules.specs.Laws.{Sound}
-use Rattle.rules.proofs.Tests.{decided, and-left}
+use Rattle.laws.proofs.Booleans.{decided, and-left}
 use Rattle.proof_runs.proofs.ValidStates.{ValidState, state-told, target-below}
 use Rattle.step_movements.specs.IdlePast.{IdlePast}
 use Rattle.step_movements.proofs.Idle.{idle-only}
@@ -39,17 +39,17 @@ followed-below n Yellow times next position on to = on
 followed-below n AllRed times next position on to = to refl
 
 module _ (site : Site) (s : KeptState) (ready : Sound site × (keptValid site s ≡ true)) where
-  known : ValidState site (s .rest)
+  known : ValidState site (s .core)
   unfolding keptValid
-  known = state-told site (s .rest) (and-left (valid site (s .rest)) _ (ready .1))
+  known = state-told site (s .core) (and-left (valid site (s .core)) _ (ready .1))
 
-  pub on : s .rest .position .phase < site .size .phases
+  pub on : s .core .position .phase < site .size .phases
   on = known .phase
 
-  pub now-on : (ended : Bool) (next : Held) → positionAfter ended (site .times) next (s .rest .position) .phase < 8
+  pub now-on : (ended : Bool) (next : Held) → positionAfter ended (site .times) next (s .core .position) .phase < 8
   unfolding positionAfter staying
   now-on true next =
-      let position = s .rest .position in
+      let position = s .core .position in
       omega (
         arith,
         ready .0 .phases .1,
@@ -58,13 +58,13 @@ module _ (site : Site) (s : KeptState) (ready : Sound site × (keptValid site s 
       )
   now-on false next = omega (arith, on, ready .0 .phases .1)
 
-  pub idle-past : IdlePast (site .size .movements) (s .rest .movements)
+  pub idle-past : IdlePast (site .size .movements) (s .core .movements)
   unfolding movement
   idle-past =
       record {
         room = ready .0 .movements;
         past = λ k a b.
-            let stage = getD (s .rest .movements) k idle .stage in
+            let stage = getD (s .core .movements) k idle .stage in
             idle-only stage
             (⊎-elim
             (λ (e : isIdle stage ≡ true). e)

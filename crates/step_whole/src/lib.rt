@@ -14,31 +14,31 @@ use step_interval::following;
 mod kept;
 
 // The state after a step from a valid state of an accepted site.
-pub fn advance(site: Site, state: KeptState, inputs: u64) -> KeptState
+pub fn kept_stepped(site: Site, state: KeptState, inputs: u64) -> KeptState
     requires { ⌜ Sound site × (keptValid site state ≡ true) ⌝ }
     ensures { λ r. ⌜ r ≡ keptStepped site state inputs ⌝ }
 {
-    let rest = state.rest;
-    let old = rest.position;
+    let core = state.core;
+    let old = core.position;
     let interval = old.interval;
     let times = site.times;
     let settings = times.phases;
-    let own = step_counts::times_of(settings, old.phase);
+    let own = step_counts::phase_times(settings, old.phase);
     let count = site.size.movements;
     // 1. demands
     let asked = step_demands::register(site, state, inputs);
     let demands = asked.demands;
     let next = asked.next;
-    let another = base_intervals::held(next);
+    let another = base_intervals::is_held(next);
     // 2. movements
-    let counts = rest.counts;
+    let counts = core.counts;
     let may_end = step_movements::walk_may_end(interval, own, another, counts);
-    let stages = rest.movements;
-    let moved = step_movements::moved(times, may_end, stages, count);
+    let stages = core.movements;
+    let moved = step_movements::movements_after(times, may_end, stages, count);
     // 3. counts
-    let counted = step_counts::counted(interval, own, asked.extended, another, counts);
+    let counted = step_counts::counts_after(interval, own, asked.extended, another, counts);
     // 4. interval
-    let ended = ending::over(
+    let ended = ending::ends(
         interval,
         times.start,
         own,
@@ -59,12 +59,12 @@ pub fn advance(site: Site, state: KeptState, inputs: u64) -> KeptState
         buttons: walked.buttons,
     };
     KeptState {
-        rest: State {
+        core: State {
             position: now,
             counts: changes::counts_changed(ended, times, old, now, counted),
             demands: standing,
             movements: movements,
         },
-        kept: kept::left(asked.kept, now.phase, standing, crossings, count),
+        kept: kept::kept_left(asked.kept, now.phase, standing, crossings, count),
     }
 }

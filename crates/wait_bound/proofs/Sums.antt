@@ -10,7 +10,7 @@ use lib.ListN.{getD}
 use Rattle.rules.specs.declared.site.PhaseTimes.{PhaseTimes}
 use Rattle.rules.specs.declared.site.Size.{Size}
 use Rattle.rules.specs.declared.site.Times.{Times}
-use Rattle.rules.specs.Rows.{sumOf}
+use Rattle.laws.specs.Folds.{sumOf}
 use Rattle.rules.specs.Site.{noPhaseTimes, phaseTimes, walkTimes}
 use Rattle.rules.specs.WaitBound.{phaseShare, longestWalk, longestClearance, waitBoundBy}
 use Rattle.rules.specs.Laws.{SoundTimes}

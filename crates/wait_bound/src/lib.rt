@@ -8,10 +8,10 @@ ghost use Rattle.rules.specs.Laws.{SoundTimes};
 use rules::site::PhaseTimes;
 use rules::site::Size;
 use rules::site::Times;
-use wait_longest::longest_of;
+use wait_bound_movements::longest_of;
 
 // The share of a phase whose A and C are given.
-fn share(times: PhaseTimes, walk: u16, clearance: u16) -> u16
+fn phase_share(times: PhaseTimes, walk: u16, clearance: u16) -> u16
     requires { ⌜ phaseShare times walk clearance ≤ 65535 ⌝ }
     ensures { λ r. ⌜ r ≡ phaseShare times walk clearance ⌝ }
 {
@@ -22,7 +22,7 @@ fn share(times: PhaseTimes, walk: u16, clearance: u16) -> u16
 }
 
 // The bound of a site, by the three parts of it that it goes by.
-pub fn wait_bound_of(size: Size, times: Times, crossings: [u8; 8]) -> u32
+pub fn wait_bound_by(size: Size, times: Times, crossings: [u8; 8]) -> u32
     requires { ⌜ (size .phases ≤ 7) × (size .movements ≤ 8) × SoundTimes size times ⌝ }
     ensures { λ r. ⌜ r ≡ waitBoundBy size times crossings ⌝ }
 {
@@ -34,7 +34,7 @@ pub fn wait_bound_of(size: Size, times: Times, crossings: [u8; 8]) -> u32
     let mut phase: u8 = 0;
     while phase < phases {
         let p = phase as usize;
-        sum += share(owns[p], longest[p], longest[8 + p]);
+        sum += phase_share(owns[p], longest[p], longest[8 + p]);
         phase += 1;
     }
     sum as u32

@@ -10,20 +10,20 @@ use lib.ListN.{length}
 use borrow.Author.Tests.{eq-eqb}
 use Rattle.rules.specs.declared.answer.Answer.{Answer}
 use Rattle.rules.specs.declared.answer.Outcome.{Outcome}
-use Rattle.rules.specs.declared.answer.Outcome.the-variants.{Stepped, Declined}
+use Rattle.rules.specs.declared.answer.Outcome.the-variants.{Stepped, StepRefused}
 use Rattle.rules.specs.declared.answer.Report.{Report}
 use Rattle.rules.specs.declared.answer.Verdict.{Verdict}
 use Rattle.rules.specs.declared.answer.Verdict.the-variants.{Accepted, Refused}
 use Rattle.rules.specs.declared.site.Site.{Site}
 use Rattle.rules.specs.declared.state.KeptState.{KeptState}
-use Rattle.rules.specs.Bytes.{twoAt}
+use Rattle.laws.specs.Bytes.{twoAt}
 use Rattle.rules.specs.Verdicts.{_orElse_, reportOf, stepReportOf, waitOf}
 use Rattle.rules.specs.Personality.{bodyAt, bodyLength, verdictOf}
 use Rattle.rules.specs.Site.{siteOf}
 use Rattle.rules.specs.Lookup.{lookupVerdict, lookupReport, headOf}
 use Rattle.rules.specs.Call.{callVerdict, boundFor, handedBack, bufferFor, boundOf, answerOf, bufferOf}
-use Rattle.board_state.specs.Layout.{stateBytes, isState, decoded, encodedOver}
-use Rattle.board_state.proofs.Told.{state-told}
+use Rattle.state_bytes.specs.Layout.{stateBytes, isState, decoded, encodedOver}
+use Rattle.state_bytes.proofs.KnownBytes.{state-told}
 use Rattle.willowera.specs.Board.{packed, packedVerdict, packedOutcome, stepAnswer, stateFor, stateAfter, coloursAfter, sectionFor, sectionAnswer}
 use Rattle.proof_acceptance.proofs.Places.{lastPlace, Named, personality-named, call-named, lookup-named}
 
@@ -49,24 +49,24 @@ outcome-stepped o q r {wait} e f p = rw (sym e ∙ f, p, zero-add wait)
 pub outcome-declined :
     (o q : Outcome) (r : ℕ) {number place : ℕ} →
     o ≡ q →
-    o ≡ Declined number place →
+    o ≡ StepRefused number place →
     r ≡ packed number place →
     r ≡ packedOutcome q
 unfolding packedOutcome stepReportOf waitOf
 outcome-declined o q r {place = place} e f p = rw (sym e ∙ f, p, add-zero place)
 
-stepped-not-declined : {w n p : ℕ} → Stepped w ≡ Declined n p → ⊥
+stepped-not-declined : {w n p : ℕ} → Stepped w ≡ StepRefused n p → ⊥
 stepped-not-declined h = let z : _≡_ {A = ℕ} 0 1 = cc in omega arith
 
-same-refusal : {m q n p : ℕ} → Declined m q ≡ Declined n p → Refused m q ≡ Refused n p
+same-refusal : {m q n p : ℕ} → StepRefused m q ≡ StepRefused n p → Refused m q ≡ Refused n p
 same-refusal {m} {q} {n} {p} h = let x : m ≡ n = cc in let y : q ≡ p = cc in rw (x, y)
 
-bound-declined : (v : Verdict) (site : Site) {n p : ℕ} → boundFor v site ≡ Declined n p → v ≡ Refused n p
+bound-declined : (v : Verdict) (site : Site) {n p : ℕ} → boundFor v site ≡ StepRefused n p → v ≡ Refused n p
 unfolding boundFor
 bound-declined Accepted site h = absurd (stepped-not-declined h)
 bound-declined (Refused m q) site h = same-refusal h
 
-pub bound-near : (b : List ℕ) (o : Outcome) {number place : ℕ} → o ≡ boundOf b → o ≡ Declined number place → place ≤ lastPlace
+pub bound-near : (b : List ℕ) (o : Outcome) {number place : ℕ} → o ≡ boundOf b → o ≡ StepRefused number place → place ≤ lastPlace
 unfolding boundOf
 bound-near b o {number} {place} e f = personality-named b number place (bound-declined (verdictOf b) (siteOf b) (sym e ∙ f)) .1
 
@@ -77,7 +77,7 @@ Called b s inputs buffer a out = (a ≡ answerOf b s inputs (length buffer)) × 
 pub answer-near :
     (b : List ℕ) (s : KeptState) (inputs : ℕ) (buffer : List ℕ) (a : Answer) (out : List ℕ) {number place : ℕ} →
     Called b s inputs buffer a out →
-    a .outcome ≡ Declined number place →
+    a .outcome ≡ StepRefused number place →
     place ≤ lastPlace
 unfolding answerOf
 answer-near b s inputs buffer a out {number} {place} called f =
@@ -137,7 +137,7 @@ module _ (b old buffer : List ℕ) (inputs r : ℕ) where
 
     pub stays :
         {number place : ℕ} →
-        a .outcome ≡ Declined number place →
+        a .outcome ≡ StepRefused number place →
         r ≡ packed number place →
         Steps b old inputs buffer r old out
     unfolding stepAnswer stateAfter coloursAfter packedOutcome stepReportOf waitOf stateFor

@@ -6,16 +6,16 @@ use mathlib.Core.List.{List}
 use lib.Dec.{eqb}
 use lib.ListN.{length}
 use Rattle.rules.specs.declared.answer.Outcome.{Outcome}
-use Rattle.rules.specs.declared.answer.Outcome.the-variants.{Stepped, Declined}
+use Rattle.rules.specs.declared.answer.Outcome.the-variants.{Stepped, StepRefused}
 use Rattle.rules.specs.declared.answer.Verdict.{Verdict}
 use Rattle.rules.specs.declared.answer.Verdict.the-variants.{Accepted, Refused}
 use Rattle.rules.specs.declared.state.KeptState.{KeptState}
-use Rattle.rules.specs.Rows.{if_then_else_}
+use Rattle.laws.specs.Folds.{if_then_else_}
 use Rattle.rules.specs.Verdicts.{_orElse_, refuseIf, reportOf, stepReportOf, waitOf}
 use Rattle.rules.specs.Personality.{verdictOf, bodyAt, bodyLength}
 use Rattle.rules.specs.Lookup.{lookupVerdict, headOf}
 use Rattle.rules.specs.Call.{answerOf, bufferOf}
-use Rattle.board_state.specs.Layout.{stateBytes, isState, decoded, encoded}
+use Rattle.state_bytes.specs.Layout.{stateBytes, isState, decoded, encoded}
 
 unfoldable pub packed : ℕ → ℕ → ℕ
 packed number value = number + 256 * value
@@ -43,7 +43,7 @@ stepAnswer b old inputs room =
 
 unfoldable pub stateFor : Outcome → KeptState → List ℕ → List ℕ
 stateFor (Stepped wait) next old = encoded next
-stateFor (Declined number place) next old = old
+stateFor (StepRefused number place) next old = old
 
 -- the bytes of the new state; those handed in on a refusal
 unfoldable pub stateAfter : List ℕ → List ℕ → ℕ → ℕ → List ℕ

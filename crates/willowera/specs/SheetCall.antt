@@ -3,7 +3,7 @@
 use Prim.Native.Nat.{ℕ, _+_, _*_}
 use lib.Dec.{eqb}
 use lib.Ieee.{Float}
-use Rattle.rules.specs.Rows.{if_then_else_}
+use Rattle.laws.specs.Folds.{if_then_else_}
 use Rattle.sheet_settings.specs.declared.Answer.{Answer}
 use Rattle.sheet_settings.specs.declared.Detector.the-variants.{Advance, StopLine}
 use Rattle.sheet_settings.specs.Sheet.{settingsReportOf, minimumOf, passageOf, answerOf}

@@ -7,18 +7,18 @@ ghost use Rattle.rules.specs.Call.{boundOf};
 ghost use Rattle.rules.specs.Laws.{greatestLength};
 ghost use Rattle.rules.specs.Personality.{verdictOf};
 ghost use Rattle.rules.specs.Kept.{freshKept};
-ghost use Rattle.board_state.specs.Layout.{encodedOver};
+ghost use Rattle.state_bytes.specs.Layout.{encodedOver};
 ghost use Rattle.willowera.specs.Board.{packed, packedVerdict, packedOutcome, freshAnswer, stepAnswer, stateAfter, coloursAfter, sectionAnswer};
 
 pub mod sheet;
 
-use base_reads::two;
+use base_bytes::two_at;
 use read_lookup::lookup::head_of;
 use rules::answer::Outcome;
 use rules::answer::Verdict;
 
 // The number in the lowest byte, and a place or a wait bound above it.
-fn pack(number: u8, value: u32) -> u64
+fn packed(number: u8, value: u32) -> u64
     ensures { λ r. ⌜ r ≡ packed number value ⌝ }
 {
     (number as u64) + 256 * (value as u64)
@@ -29,7 +29,7 @@ fn refusal(number: u8, place: usize) -> u64
     requires { ⌜ place ≤ greatestLength ⌝ }
     ensures { λ r. ⌜ r ≡ packed number place ⌝ }
 {
-    pack(number, place as u32)
+    packed(number, place as u32)
 }
 
 // Accepts or refuses a personality.
@@ -49,10 +49,10 @@ pub extern "C" fn willowera_read(personality: &[u8]) -> u64
 pub extern "C" fn willowera_wait_bound(personality: &[u8]) -> u64
     ensures { λ r. ⌜ r ≡ packedOutcome (boundOf (now (personality .entry))) ⌝ }
 {
-    let outcome = board_wait::wait_bound(personality);
+    let outcome = call_wait_bound::wait_bound(personality);
     match outcome {
-        Outcome::Stepped { wait } => pack(0, wait),
-        Outcome::Declined { number, place } => refusal(number, place),
+        Outcome::Stepped { wait } => packed(0, wait),
+        Outcome::StepRefused { number, place } => refusal(number, place),
     }
 }
 
@@ -61,10 +61,10 @@ pub extern "C" fn willowera_wait_bound(personality: &[u8]) -> u64
 pub extern "C" fn willowera_fresh(state: &mut [u8]) -> u64
     ensures { λ r. ⌜ (r ≡ freshAnswer (now (state .entry))) × (now (state .exit) ≡ encodedOver freshKept (now (state .entry))) ⌝ }
 {
-    if board_state::encode(board_fresh::fresh(), state) {
+    if state_bytes::encode(call_fresh::fresh(), state) {
         0
     } else {
-        pack(13, 0)
+        packed(13, 0)
     }
 }
 
@@ -82,24 +82,24 @@ pub extern "C" fn willowera_step(
         × (now (state .exit) ≡ stateAfter (now (personality .entry)) (now (state .entry)) inputs (length (now (colours .entry))))
         × (now (colours .exit) ≡ coloursAfter (now (personality .entry)) (now (state .entry)) inputs (now (colours .entry))) ⌝ }
 {
-    let reading = read_personality::read_laid(personality);
+    let reading = read_personality::read_with_layout(personality);
     let verdict = reading.verdict;
     if let Verdict::Refused { number, place } = verdict {
         return refusal(number, place);
     }
-    if !board_state::is_state(state) {
+    if !state_bytes::is_state(state) {
         return refusal(13, 0);
     }
     let layout = reading.layout;
-    let before = board_state::decode(state);
-    let answer = board_controller::step_accepted(personality, layout, before, inputs, colours);
+    let before = state_bytes::decode(state);
+    let answer = call_step::step_accepted(personality, layout, before, inputs, colours);
     let outcome = answer.outcome;
     match outcome {
         Outcome::Stepped { wait } => {
-            board_state::encode(answer.state, state);
-            pack(0, wait)
+            state_bytes::encode(answer.state, state);
+            packed(0, wait)
         }
-        Outcome::Declined { number, place } => refusal(number, place),
+        Outcome::StepRefused { number, place } => refusal(number, place),
     }
 }
 
@@ -116,12 +116,12 @@ fn part(start: usize, size: u16) -> u64
 pub extern "C" fn willowera_section(personality: &[u8], kind: u16) -> u64
     ensures { λ r. ⌜ r ≡ sectionAnswer (now (personality .entry)) kind ⌝ }
 {
-    let report = read_lookup::lookup::section_report(personality, kind);
+    let report = read_lookup::lookup::lookup_report(personality, kind);
     if report.number != 0 {
         return refusal(report.number, report.place);
     }
     let head = head_of(personality, kind);
-    part(head + 4, two(personality, head))
+    part(head + 4, two_at(personality, head))
 }
 
 // The version of these calls.

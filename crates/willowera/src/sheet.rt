@@ -2,7 +2,7 @@
 ghost use mathlib.Core.Path.{_≡_};
 ghost use Rattle.sheet_settings.specs.Sheet.{answerOf};
 ghost use Rattle.willowera.specs.SheetCall.{packedSettings, settingsAnswer};
-use crate::pack;
+use crate::packed;
 use crate::refusal;
 use sheet_settings::Answer;
 use sheet_settings::Detector;
@@ -15,7 +15,7 @@ fn settings_of(sheet: Sheet) -> u64
     let answer = sheet_settings::settings(sheet);
     match answer {
         Answer::Settings { minimum, passage } => {
-            pack(0, (minimum as u32) + 65536 * (passage as u32))
+            packed(0, (minimum as u32) + 65536 * (passage as u32))
         }
         Answer::Refused { number, place } => refusal(number, place),
     }

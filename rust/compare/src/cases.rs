@@ -181,7 +181,7 @@ impl Comparison<'_> {
     /// Steps one after the other, some of them refused.
     fn run(&mut self) -> Outcome {
         let personality = Plan::random(&mut self.rng).bytes();
-        let site = read_site(&personality);
+        let site = site_whole(&personality);
         let strategy = self.rng.pick(&Strategy::ALL);
         let mut driver = Driver::new(strategy, &site, self.rng.clone());
         let mut state = fresh().to_bytes().to_vec();
@@ -298,7 +298,7 @@ impl Comparison<'_> {
     /// The board alone under the monitor.
     fn watched(&mut self) -> Outcome {
         let personality = Plan::random(&mut self.rng).bytes();
-        let site = read_site(&personality);
+        let site = site_whole(&personality);
         let strategy = self.rng.pick(&Strategy::ALL);
         let mut driver = Driver::new(strategy, &site, self.rng.clone());
         let watched = watch(self.board, &personality, &mut driver, &mut self.rng, 1_000);
@@ -318,7 +318,7 @@ impl Comparison<'_> {
         call: impl Fn(&mut Self, &[u8], &Site) -> Result<u64, Box<Difference>>,
     ) -> Outcome {
         let personality = Plan::random(&mut self.rng).bytes();
-        let site = read_site(&personality);
+        let site = site_whole(&personality);
         for _ in 0..calls {
             call(self, &personality, &site)?;
         }
@@ -326,7 +326,7 @@ impl Comparison<'_> {
     }
 }
 
-fn read_site(personality: &[u8]) -> Site<'_> {
+fn site_whole(personality: &[u8]) -> Site<'_> {
     Site::read(personality).expect("an accepted plan")
 }
 

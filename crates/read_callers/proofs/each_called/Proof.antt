@@ -8,7 +8,7 @@ use lib.Dec.{ltb, eqb}
 use borrow.Author.Needs.{needs}
 use borrow.Author.Tests.{ltb-true, ltb-false}
 use Rattle.rules.specs.Personality.{bodyAt, phaseCount, pedestriansHead, detectorCount, detectorPhase, detectorMode}
-use Rattle.rules.proofs.Tests.{and-right}
+use Rattle.laws.proofs.Booleans.{and-right}
 use Rattle.proof_acceptance.proofs.Sections.{DetectorsAccepted, joined-failed, record-within, site-accepted, detectors-accepted}
 use Rattle.read_layout.proofs.Lengths.{detectors-apart, detectors-length}
 use Rattle.read_callers.proofs.Called.{Called, some-bit, called-none, called-more, called-same, called-decided}
@@ -16,10 +16,10 @@ use Rattle.read_callers.proofs.each_called.Statement.{statement}
 use Rattle.read_callers.proofs.each_called.Tie as tie
 
 abbrev Inv-loop : tie.InvT-loop
-Inv-loop s walked head count all called₀ d₀ called d = (d ≤ count) × Called s called d
+Inv-loop s crossed head count all called₀ d₀ called d = (d ≤ count) × Called s called d
 
 abbrev μ-loop : tie.MeasureT-loop
-μ-loop s walked head count all called₀ d₀ called d = count - d
+μ-loop s crossed head count all called₀ d₀ called d = count - d
 
 -- what the accepted sections tell
 few : (c : tie.Start Inv-loop μ-loop) → phaseCount (c .args .s .now) ≤ 7
@@ -40,17 +40,17 @@ sub-count-2 : tie.Need-sub-count-2 Inv-loop μ-loop
 sub-count-2 c = omega (arith, detectors-apart (c .before .before .pre .0))
 
 shl-all : tie.Need-shl-all Inv-loop μ-loop
-shl-all c = let start = c .before .before .before in omega (arith, few start, start .pre .0 .p)
+shl-all c = let start = c .before .before .before in omega (arith, few start, start .pre .0 .phasecount)
 
 sub-all : tie.Need-sub-all Inv-loop μ-loop
-sub-all c = let start = c .before .before .before in some-bit _ (omega (arith, few start, start .pre .0 .p))
+sub-all c = let start = c .before .before .before in some-bit _ (omega (arith, few start, start .pre .0 .phasecount))
 
 loop-holds : tie.Need-loop-holds Inv-loop μ-loop
 loop-holds c = (omega arith, called-none _ (c .before .before .before .pre .3))
 
 -- the set has every phase
 abbrev isFull : tie.At-loop Inv-loop μ-loop → Bool
-isFull c = eqb (c .loop .called) (1 * 2 ^ c .before .before .before .before .args .layout .p % 2 ^ 8 - 1)
+isFull c = eqb (c .loop .called) (1 * 2 ^ c .before .before .before .before .args .layout .phasecount % 2 ^ 8 - 1)
 
 -- a turn's detector is one of the site's
 turn :
@@ -134,7 +134,7 @@ returns : tie.Need-returns Inv-loop μ-loop
 returns c =
     let atLoop = c .before in
     let start = atLoop .before .before .before .before in
-    let phases = start .pre .0 .p in
+    let phases = start .pre .0 .phasecount in
     rw phases
     (called-decided _ (few start) (atLoop .loop .inv .1) (omega (arith, atLoop .loop .inv .0, counted start))
     (λ e. whole c (ap (λ (n : ℕ). eqb (atLoop .loop .called) (1 * 2 ^ n % 2 ^ 8 - 1)) phases ∙ e)))

@@ -32,7 +32,7 @@ checked :
     (c : tie.After-sized-section) →
     let b = c .before .before .before .args .s .now in
     c .sized-section .result ≡ sectionAt b (conflictsHead b) 4 (eqb (bodyLength b (conflictsHead b)) (groupCount b * 4))
-checked c = let laid = c .before .before .before .pre .0 in rw (laid .conflicts, laid .n) at (c .sized-section .ensures)
+checked c = let laid = c .before .before .before .pre .0 in rw (laid .conflicts, laid .groupcount) at (c .sized-section .ensures)
 
 returns : tie.Need-returns
 unfolding conflictsSection
@@ -41,19 +41,19 @@ returns c = or-stop _ (checked (c .before .before)) (c .enum-told .given .1)
 enum-told-2 : tie.Need-enum-told-2
 enum-told-2 c = search needs
 
-sound-requires : tie.Need-sound-requires
+surely-right-requires : tie.Need-surely-right-requires
 unfolding conflictsHead
-sound-requires c κs =
+surely-right-requires c κs =
     let atSection = c .before .before in
     let pre = atSection .before .before .before .pre in
     let site = site-accepted _ (pre .1) in
     let laid = pre .0 in
     record {
       laid = laid;
-      fewPhases = omega (arith, laid .p, site .phases .1);
-      someGroups = omega (arith, laid .n, site .groups .0);
-      fewGroups = omega (arith, laid .n, site .groups .1);
-      sets = rw (laid .groups, laid .n) (groups-accepted _ (pre .2) .next);
+      fewPhases = omega (arith, laid .phasecount, site .phases .1);
+      someGroups = omega (arith, laid .groupcount, site .groups .0);
+      fewGroups = omega (arith, laid .groupcount, site .groups .1);
+      sets = rw (laid .groups, laid .groupcount) (groups-accepted _ (pre .2) .next);
       conflicts = records-held _ _ 4 _ 4 (sym (atSection .sized-section .ensures) ∙ c .enum-told2 .given .1);
     }
 
@@ -73,7 +73,7 @@ afterHead c e = or-next (checked (c .before .before)) (c .enum-told2 .given .1) 
 returns-2 : tie.Need-returns-2
 unfolding refusedRecord
 returns-2 c =
-    let good = c .before .sound .ensures (c .if1 .taken) in
+    let good = c .before .surely-right .ensures (c .if1 .taken) in
     afterHead (c .before .before) (or-next (all-good _ _ _ _ (λ g l. good g l .0)) refl (all-good _ _ _ _ (λ g l. good g l .1)))
 
 first-refused-requires : tie.Need-first-refused-requires
@@ -84,8 +84,8 @@ enum-told-3 c = search needs
 
 returns-3 : tie.Need-returns-3
 returns-3 c =
-    let nine = c .before .before in
-    afterHead (nine .before .before .before) (or-stop _ (nine .first-refused .ensures) (c .enum-told3 .given .1))
+    let hasorder = c .before .before in
+    afterHead (hasorder .before .before .before) (or-stop _ (hasorder .first-refused .ensures) (c .enum-told3 .given .1))
 
 enum-told-4 : tie.Need-enum-told-4
 enum-told-4 c = search needs
@@ -96,8 +96,8 @@ first-refused-requires-2 c κs = search needs
 returns-4 : tie.Need-returns-4
 returns-4 c =
     let passed = c .before in
-    let nine = passed .before .before in
-    afterHead (nine .before .before .before) (or-next (nine .first-refused .ensures) (passed .enum-told4 .given .1) (c .first-refused2 .ensures))
+    let hasorder = passed .before .before in
+    afterHead (hasorder .before .before .before) (or-next (hasorder .first-refused .ensures) (passed .enum-told4 .given .1) (c .first-refused2 .ensures))
 
 pub conflicts-section-spec : {M : Type 1} → statement M
 conflicts-section-spec =
@@ -109,7 +109,7 @@ conflicts-section-spec =
     enum-told
     returns
     enum-told-2
-    sound-requires
+    surely-right-requires
     returns-2
     first-refused-requires
     enum-told-3

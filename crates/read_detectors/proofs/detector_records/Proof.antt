@@ -41,7 +41,7 @@ unfolding badDetector detectorPhase detectorMode
 tested c =
     let laid = c .before .before .before .before .before .before .pre .0 in
     let detector = c .before .pair-at .ensures in
-    rw (← laid .detectors, ← laid .p, ← detector .0, ← detector .1) (c .bad-detector .ensures)
+    rw (← laid .detectors, ← laid .phasecount, ← detector .0, ← detector .1) (c .bad-detector .ensures)
 
 add-t9 : tie.Need-add-t9 Inv-loop μ-loop
 add-t9 c = search needs

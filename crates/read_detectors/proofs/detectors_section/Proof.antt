@@ -18,21 +18,21 @@ sub-length c = omega (arith, detectors-apart (c .before .before .pre .0))
 sub-length-2 : tie.Need-sub-length-2
 sub-length-2 c = omega (arith, detectors-apart (c .before .before .pre .0))
 
-section-requires : tie.Need-section-requires
-section-requires c κs = search needs
+section-at-requires : tie.Need-section-at-requires
+section-at-requires c κs = search needs
 
 enum-told : tie.Need-enum-told
 enum-told c = search needs
 
 -- the head is held to an even length of at most 96
 checked :
-    (c : tie.After-section) →
+    (c : tie.After-section-at) →
     let b = c .before .before .before .args .s .now in
     let bytes = bodyLength b (detectorsHead b) in
-    c .section .result ≡ sectionAt b (detectorsHead b) 5 (eqb (bytes % 2) 0 && leb bytes 96)
+    c .section-at .result ≡ sectionAt b (detectorsHead b) 5 (eqb (bytes % 2) 0 && leb bytes 96)
 checked c =
     let laid = c .before .before .before .pre .0 in
-    rw (detectors-length laid, laid .detectors) at (c .section .ensures)
+    rw (detectors-length laid, laid .detectors) at (c .section-at .ensures)
 
 returns : tie.Need-returns
 unfolding detectorsSection
@@ -51,7 +51,7 @@ detector-records-requires c κs =
     let held = body-held _ _ 5 _ (sym (checked atSection) ∙ c .enum-told2 .given .1) .1 in (
       laid,
       ap (λ n. n / 2) length,
-      omega (arith, laid .p, site-accepted _ (pre .1) .phases),
+      omega (arith, laid .phasecount, site-accepted _ (pre .1) .phases),
       omega (arith, laid .near),
       rw (laid .detectors) (omega (arith, held, length)),
     )
@@ -68,7 +68,7 @@ detectors-section-spec =
     (tie.spec
     sub-length
     sub-length-2
-    section-requires
+    section-at-requires
     enum-told
     returns
     enum-told-2

@@ -2,7 +2,7 @@
 use Prim.Native.Nat.{ℕ, _*_, _-_, _≤_, _<_}
 use native.Mathlib.Omega.{arith}
 use lib.Bits.{and-le-r}
-use Rattle.rules.specs.Bytes.{byteAt}
+use Rattle.laws.specs.Bytes.{byteAt}
 use Rattle.rules.specs.Personality.{bodyAt, phaseCount}
 use Rattle.read_detectors.proofs.Words.{both-tests, four-good}
 use borrow.Author.Needs.{needs}
@@ -42,10 +42,10 @@ returns c t =
     let b = known .before .args .s .now in
     let laid = known .before .pre .0 in
     let bytes : (i : ℕ) → byteAt b i < 256 = λ i. omega (arith, known .shared-slice-known .given i) in
-    let few : phaseCount b ≤ 7 = omega (arith, laid .p) in
-    let limits = 0x0001000100010001 * (0x7d80 - known .before .args .layout .p) in
+    let few : phaseCount b ≤ 7 = omega (arith, laid .phasecount) in
+    let limits = 0x0001000100010001 * (0x7d80 - known .before .args .layout .phasecount) in
     let passes = both-tests (atEight .eight-in .result) 0x8080808080808080 0x7b7f7b7f7b7f7b7f limits t in
-    four-good b bytes few (known .before .args .d) (rw (atEight .eight-in .ensures, laid .detectors, laid .p) at passes)
+    four-good b bytes few (known .before .args .d) (rw (atEight .eight-in .ensures, laid .detectors, laid .phasecount) at passes)
 
 pub four-good-spec : {M : Type 1} → statement M
 four-good-spec =

@@ -8,9 +8,9 @@ use native.Mathlib.Omega.{arith}
 use borrow.Author.Needs.{needs}
 use borrow.Author.Tests.{eq-eqb, ne-eqb, not-true}
 use Rattle.rules.specs.Personality.{bodyAt, recordAt, groupMark, stopsEarly}
-use Rattle.rules.specs.Rows.{anyOf}
-use Rattle.rules.proofs.Rows.{any-more, any-done}
-use Rattle.rules.proofs.Tests.{or-cases, or-false-left}
+use Rattle.laws.specs.Folds.{anyOf}
+use Rattle.laws.proofs.Folds.{any-more, any-done}
+use Rattle.laws.proofs.Booleans.{or-cases, or-false-left}
 use Rattle.read_early.proofs.GroupMarks.{group-held, mark-read}
 use Rattle.read_early.proofs.Seventh.{none-stops, none-missing, one-stops}
 use Rattle.read_early.proofs.early_missing.Statement.{statement}
@@ -28,7 +28,7 @@ returns c =
     let asked = start .pre in
     let some = start .args .some in
     ⊎-elim
-    (λ (there : start .args .layout .seven ≡ true). none-missing _ (sym (asked .0 .seven) ∙ there))
+    (λ (there : start .args .layout .hasearly ≡ true). none-missing _ (sym (asked .0 .hasearly) ∙ there))
     (λ (none : not some ≡ true). none-stops _ (sym (asked .2) ∙ not-true some none))
     (or-cases _ _ (c .if1 .taken))
 
@@ -68,7 +68,7 @@ returns-2 c =
     let read = c .before .before in
     let atLoop = read .before .before in
     let asked = atLoop .before .before .before .before .before .pre in
-    one-stops _ (sym (asked .0 .seven) ∙ or-false-left _ _ (atLoop .before .before .if1 .left)) (atLoop .loop .g) (omega arith) (atLoop .loop .inv .1)
+    one-stops _ (sym (asked .0 .hasearly) ∙ or-false-left _ _ (atLoop .before .before .if1 .left)) (atLoop .loop .g) (omega arith) (atLoop .loop .inv .1)
     (eq-eqb _ _ (sym (marked read) ∙ c .if2 .taken))
     (omega (arith, asked .0 .groups))
 
@@ -87,7 +87,7 @@ loop-again c =
 returns-3 : tie.Need-returns-3 Inv-loop μ-loop
 returns-3 c =
     let asked = c .before .before .before .before .before .before .pre in
-    none-stops _ (sym (any-done _ _ _ (c .before .loop .inv .1) (omega (arith, asked .0 .n))))
+    none-stops _ (sym (any-done _ _ _ (c .before .loop .inv .1) (omega (arith, asked .0 .groupcount))))
 
 pub early-missing-spec : {M : Type 1} → statement M
 early-missing-spec =

@@ -7,7 +7,7 @@ use Rattle.read_early.proofs.early_section.Statement.{statement}
 use Rattle.read_early.proofs.early_section.Tie as tie
 
 returns : tie.Need-returns
-returns c = none-early _ (sym (c .before .before .before .pre .seven) ∙ not-true _ (c .if1 .taken))
+returns c = none-early _ (sym (c .before .before .before .pre .hasearly) ∙ not-true _ (c .if1 .taken))
 
 cast-timed-section : tie.Need-cast-timed-section
 cast-timed-section c = search needs
@@ -19,7 +19,7 @@ returns-2 : tie.Need-returns-2
 returns-2 c =
     let tested = c .before .before in
     let laid = tested .before .before .before .pre in
-    (rw (laid .early, laid .p) at (c .timed-section .ensures)) ∙ early-checked _ (sym (laid .seven) ∙ not-false _ (tested .if1 .left))
+    (rw (laid .early, laid .phasecount) at (c .timed-section .ensures)) ∙ early-checked _ (sym (laid .hasearly) ∙ not-false _ (tested .if1 .left))
 
 pub early-section-spec : {M : Type 1} → statement M
 early-section-spec =

@@ -4,11 +4,11 @@ use borrow.Author.Needs.{needs}
 use Rattle.read_lookup.proofs.site.Statement.{statement}
 use Rattle.read_lookup.proofs.site.Tie as tie
 
-site-requires : tie.Need-site-requires
-site-requires c κs = accepted-fits (c .before .pre .0) (c .before .pre .1)
+site-of-requires : tie.Need-site-of-requires
+site-of-requires c κs = accepted-fits (c .before .pre .0) (c .before .pre .1)
 
 returns : tie.Need-returns
 returns c = search needs
 
 pub site-spec : {M : Type 1} → statement M
-site-spec = tie.close (tie.spec site-requires returns)
+site-spec = tie.close (tie.spec site-of-requires returns)

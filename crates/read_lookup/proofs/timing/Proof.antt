@@ -4,14 +4,14 @@ use borrow.Author.Needs.{needs}
 use Rattle.read_lookup.proofs.timing.Statement.{statement}
 use Rattle.read_lookup.proofs.timing.Tie as tie
 
-laid-out-requires : tie.Need-laid-out-requires
-laid-out-requires c κs = search needs
+layout-of-requires : tie.Need-layout-of-requires
+layout-of-requires c κs = search needs
 
-timing-of-requires : tie.Need-timing-of-requires
-timing-of-requires c κs = accepted-fits (c .before .before .pre) (c .laid-out .ensures)
+timing-in-requires : tie.Need-timing-in-requires
+timing-in-requires c κs = accepted-fits (c .before .before .pre) (c .layout-of .ensures)
 
 returns : tie.Need-returns
 returns c = search needs
 
 pub timing-spec : {M : Type 1} → statement M
-timing-spec = tie.close (tie.spec laid-out-requires timing-of-requires returns)
+timing-spec = tie.close (tie.spec layout-of-requires timing-in-requires returns)

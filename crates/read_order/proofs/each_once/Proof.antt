@@ -53,8 +53,8 @@ loop-again c =
     let read = rw (laid .order, ← mul-one i) at (c .before .byte-in .ensures) in (
       omega arith,
       ⊎-elim
-          (λ w. subst (λ (set : ℕ). Listed b set (i + 1)) (sym (w .1)) (listed-more b (start .pre .1) listed read (rw (laid .p) at (w .0 .taken))))
-          (λ w. subst (λ (set : ℕ). Listed b set (i + 1)) (sym (w .1)) (listed-other b (start .pre .1) listed read (rw (laid .p) at (w .0 .left))))
+          (λ w. subst (λ (set : ℕ). Listed b set (i + 1)) (sym (w .1)) (listed-more b (start .pre .1) listed read (rw (laid .phasecount) at (w .0 .taken))))
+          (λ w. subst (λ (set : ℕ). Listed b set (i + 1)) (sym (w .1)) (listed-other b (start .pre .1) listed read (rw (laid .phasecount) at (w .0 .left))))
           (c .if1 .came),
     )
 
@@ -70,7 +70,7 @@ returns : tie.Need-returns Inv-loop μ-loop
 returns c =
     let start = c .before .before .before .before in
     let laid = start .pre .0 in
-    rw (laid .p) (listed-decided _ (start .pre .1) (c .before .loop .inv .1) (omega (arith, laid .p)))
+    rw (laid .phasecount) (listed-decided _ (start .pre .1) (c .before .loop .inv .1) (omega (arith, laid .phasecount)))
 
 pub each-once-spec : {M : Type 1} → statement M
 each-once-spec =

@@ -18,7 +18,7 @@ use Rattle.read_order.proofs.order_section.Statement.{statement}
 use Rattle.read_order.proofs.order_section.Tie as tie
 
 returns : tie.Need-returns
-returns c = none-ordered _ (sym (c .before .before .before .pre .0 .nine) ∙ not-true _ (c .if1 .taken))
+returns c = none-ordered _ (sym (c .before .before .before .pre .0 .hasorder) ∙ not-true _ (c .if1 .taken))
 
 cast-sized-section : tie.Need-cast-sized-section
 cast-sized-section c = search needs
@@ -34,12 +34,12 @@ bytes c = c .before .before .before .before .before .args .s .now
 
 -- kind 9 is there, and its head and its body are checked
 there : (c : tie.After-sized-section) → hasOrder (bytes c) ≡ true
-there c = let tested = c .before .before in sym (tested .before .before .before .pre .0 .nine) ∙ not-false _ (tested .if1 .left)
+there c = let tested = c .before .before in sym (tested .before .before .before .pre .0 .hasorder) ∙ not-false _ (tested .if1 .left)
 
 checked : (c : tie.After-sized-section) → c .sized-section .result ≡ sectionAt (bytes c) (orderHead (bytes c)) 9 (eqb (bodyLength (bytes c) (orderHead (bytes c))) (phaseCount (bytes c)))
 checked c =
     let laid = c .before .before .before .before .before .pre .0 in
-    rw (laid .order, laid .p) at (c .sized-section .ensures)
+    rw (laid .order, laid .phasecount) at (c .sized-section .ensures)
 
 returns-2 : tie.Need-returns-2
 returns-2 c =
@@ -59,7 +59,7 @@ each-once-requires c κs =
     let held = body-held b (orderHead b) 9 _ (sym (checked sized) ∙ c .enum-told2 .given .1) in (
       laid,
       site-accepted _ (asked .1) .phases .1,
-      omega (arith, laid .order, laid .p, eqb-true (bodyLength b (orderHead b)) (phaseCount b) (held .0), held .1),
+      omega (arith, laid .order, laid .phasecount, eqb-true (bodyLength b (orderHead b)) (phaseCount b) (held .0), held .1),
     )
 
 -- the body has passed: the answer is that of the entries

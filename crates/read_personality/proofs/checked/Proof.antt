@@ -11,7 +11,7 @@ use Rattle.rules.specs.declared.answer.Verdict.the-variants.{Accepted}
 use Rattle.rules.proofs.Verdicts.{or-next, or-stop}
 use Rattle.proof_acceptance.proofs.Sections.{groups-accepted}
 use Rattle.read_layout.specs.declared.Layout.{Layout}
-use Rattle.read_layout.specs.Laid.{Laid}
+use Rattle.read_layout.specs.LayoutOf.{LayoutOf}
 use Rattle.read_personality.proofs.checked.Statement.{statement}
 use Rattle.read_personality.proofs.checked.Tie as tie
 
@@ -159,7 +159,7 @@ afterDetectors c e = afterConflicts (c .before .before .before) (or-next (c .bef
 
 -- what kind 3 left, after kind 5
 groupsLaid :
-    (c : tie.After-enum-told10) → Laid (atDetectors c) (layoutAt (siteBefore (groupsBefore c))) × (groupsSection (atDetectors c) ≡ Accepted)
+    (c : tie.After-enum-told10) → LayoutOf (atDetectors c) (layoutAt (siteBefore (groupsBefore c))) × (groupsSection (atDetectors c) ≡ Accepted)
 groupsLaid c =
     let groups = groupsBefore c in
     (siteBefore groups .before .before .before .before .pre, groupsAccepted groups)
@@ -192,7 +192,7 @@ after-pedestrians-requires c κs =
       siteAccepted (siteBefore (groupsBefore detected)),
       groups .1,
       sym (detected .before .before .detectors-section .ensures) ∙ detected .enum-told10 .given .1,
-      told .walked (groups .1),
+      told .crossed (groups .1),
       told .early (groups .1),
     )
 

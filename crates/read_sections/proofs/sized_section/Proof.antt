@@ -30,16 +30,16 @@ returns c = let at = c .before .before .args in head-short (at .s .now) (at .hea
 two-in-requires : tie.Need-two-in-requires
 two-in-requires c κs = search needs
 
-cast-section : tie.Need-cast-section
-cast-section c = search needs
+cast-section-at : tie.Need-cast-section-at
+cast-section-at c = search needs
 
-section-requires : tie.Need-section-requires
-section-requires c κs = search needs
+section-at-requires : tie.Need-section-at-requires
+section-at-requires c κs = search needs
 
 returns-2 : tie.Need-returns-2
 unfolding bodyLength
-returns-2 c = rw (c .before .two-in .ensures) at (c .section .ensures)
+returns-2 c = rw (c .before .two-in .ensures) at (c .section-at .ensures)
 
 pub sized-section-spec : {M : Type 1} → statement M
 sized-section-spec =
-    tie.close (tie.spec add-if1 returns two-in-requires cast-section section-requires returns-2)
+    tie.close (tie.spec add-if1 returns two-in-requires cast-section-at section-at-requires returns-2)

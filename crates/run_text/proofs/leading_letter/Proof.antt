@@ -1,7 +1,7 @@
 -- `run_text::leading_letter` meets its contract: letters 1 and 3 are the phase's and the interval's, the others spaces.
 use borrow.Author.Needs.{needs}
 use mathlib.Core.Path.{sym}
-use Rattle.rules.specs.Intervals.{letterOf}
+use Rattle.rules.specs.IntervalTable.{letterOf}
 use Rattle.rules.specs.TraceText.{phaseLetter}
 use Rattle.run_text.specs.Lines.{leading}
 use Rattle.run_text.proofs.Tails.{space-at}

@@ -7,8 +7,8 @@ use Rattle.sheet_settings.specs.Sheet.{highestMinimum, highestGap, withi
 use Rattle.sheet_settings.proofs.answer_from.Statement.{statement}
 use Rattle.sheet_settings.proofs.answer_from.Tie as tie
 
-table-requires : tie.Need-table-requires
-table-requires c κs = search needs
+limits-requires : tie.Need-limits-requires
+limits-requires c κs = search needs
 
 element-copy-out-if1 : tie.Need-element-copy-out-if1
 element-copy-out-if1 c = search needs
@@ -20,14 +20,14 @@ returns : tie.Need-returns
 unfolding answerFrom withinLimits highestMinimum highestGap limitOf limits
 returns c =
     let a = c .before .before .args in
-    let t : withinLimits (a .minimum) (a .passage) ≡ true = rw (c .before .table .ensures) at (c .if1 .taken) in rw t
+    let t : withinLimits (a .minimum) (a .passage) ≡ true = rw (c .before .limits .ensures) at (c .if1 .taken) in rw t
 
 returns-2 : tie.Need-returns-2
 unfolding answerFrom withinLimits highestMinimum highestGap limitOf limits
 returns-2 c =
     let a = c .before .before .args in
-    let t : withinLimits (a .minimum) (a .passage) ≡ false = rw (c .before .table .ensures) at (c .if1 .left) in rw t
+    let t : withinLimits (a .minimum) (a .passage) ≡ false = rw (c .before .limits .ensures) at (c .if1 .left) in rw t
 
 pub answer-from-spec : {M : Type 1} → statement M
 answer-from-spec =
-    tie.close (tie.spec table-requires element-copy-out-if1 element-copy-out-if1-2 returns returns-2)
+    tie.close (tie.spec limits-requires element-copy-out-if1 element-copy-out-if1-2 returns returns-2)

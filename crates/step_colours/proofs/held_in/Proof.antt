@@ -1,6 +1,6 @@
 -- `step_colours::held_in` meets its contract: no set has what is not held, and a phase is in a set where its bit is.
 use borrow.Author.Needs.{needs}
-use Rattle.rules.specs.Intervals.{heldIn}
+use Rattle.rules.specs.IntervalTable.{heldIn}
 use Rattle.step_colours.proofs.held_in.Statement.{statement}
 use Rattle.step_colours.proofs.held_in.Tie as tie
 

@@ -6,8 +6,8 @@ use Rattle.step_colours.proofs.Shown.{pedestrian-passed, vehicle-passed
 use Rattle.step_colours.proofs.pass_group.Statement.{statement}
 use Rattle.step_colours.proofs.pass_group.Tie as tie
 
-of-movement-requires : tie.Need-of-movement-requires
-of-movement-requires c κs = search needs
+movement-colour-requires : tie.Need-movement-colour-requires
+movement-colour-requires c κs = search needs
 
 slice-write-buffer : tie.Need-slice-write-buffer
 slice-write-buffer c = search needs
@@ -23,10 +23,10 @@ returns c =
     let test = c .before in
     let start = test .before .before .before in
     let a = start .args in
-    pedestrian-passed (a .g) (start .pre .0) refl (a .group) (a .stage) (a .closes) (a .position) (test .if1 .taken) (c .of-movement .ensures) refl
+    pedestrian-passed (a .g) (start .pre .0) refl (a .group) (a .stage) (a .closes) (a .position) (test .if1 .taken) (c .movement-colour .ensures) refl
 
-vehicle-requires : tie.Need-vehicle-requires
-vehicle-requires c κs = search needs
+vehicle-shown-requires : tie.Need-vehicle-shown-requires
+vehicle-shown-requires c κs = search needs
 
 slice-write-buffer-2 : tie.Need-slice-write-buffer-2
 slice-write-buffer-2 c = search needs
@@ -39,18 +39,18 @@ returns-2 c =
     let test = c .before in
     let start = test .before .before .before in
     let a = start .args in
-    vehicle-passed (a .g) (start .pre .0) refl (a .group) (a .stage) (a .closes) (a .position) (test .if1 .left) (c .vehicle .ensures) refl
+    vehicle-passed (a .g) (start .pre .0) refl (a .group) (a .stage) (a .closes) (a .position) (test .if1 .left) (c .vehicle-shown .ensures) refl
 
 pub pass-group-spec : {M : Type 1} → statement M
 pass-group-spec =
     tie.close
     (tie.spec
-    of-movement-requires
+    movement-colour-requires
     slice-write-buffer
     add-result
     same-length
     returns
-    vehicle-requires
+    vehicle-shown-requires
     slice-write-buffer-2
     same-length-2
     returns-2)

@@ -7,8 +7,8 @@ use Rattle.rules.specs.Colours.{sinceCutOff}
 use Rattle.step_colours.proofs.since_cut_off.Statement.{statement}
 use Rattle.step_colours.proofs.since_cut_off.Tie as tie
 
-early-requires : tie.Need-early-requires
-early-requires c κs = search needs
+is-early-requires : tie.Need-is-early-requires
+is-early-requires c κs = search needs
 
 add-result : tie.Need-add-result
 add-result c = search needs
@@ -16,8 +16,8 @@ add-result c = search needs
 returns : tie.Need-returns
 unfolding sinceCutOff
 returns c =
-    let test = sym (c .before .before .early .ensures) in
+    let test = sym (c .before .before .is-early .ensures) in
     ⊎-elim (λ w. rw (test ∙ w .0 .taken, w .1) (zero-add _)) (λ w. rw (test ∙ w .0 .left, w .1)) (c .before .if1 .came)
 
 pub since-cut-off-spec : {M : Type 1} → statement M
-since-cut-off-spec = tie.close (tie.spec early-requires add-result returns)
+since-cut-off-spec = tie.close (tie.spec is-early-requires add-result returns)

@@ -4,12 +4,12 @@ use Rattle.rules.specs.Movements.{walkMayEnd}
 use Rattle.step_movements.proofs.walk_may_end.Statement.{statement}
 use Rattle.step_movements.proofs.walk_may_end.Tie as tie
 
-running-requires : tie.Need-running-requires
-running-requires c κs = search needs
+is-running-requires : tie.Need-is-running-requires
+is-running-requires c κs = search needs
 
 returns : tie.Need-returns
 unfolding walkMayEnd
-returns c = rw (c .running .ensures)
+returns c = rw (c .is-running .ensures)
 
 pub walk-may-end-spec : {M : Type 1} → statement M
-walk-may-end-spec = tie.close (tie.spec running-requires returns)
+walk-may-end-spec = tie.close (tie.spec is-running-requires returns)

@@ -11,7 +11,7 @@ use lib.Count.{trailingZeros}
 use Rattle.rules.specs.declared.state.Stage.the-variants.{Idle}
 use Rattle.rules.specs.Site.{crosses}
 use Rattle.rules.specs.Walks.{begins}
-use Rattle.base_reads.proofs.Lowest.{left-less, taken-all}
+use Rattle.laws.proofs.LowestBit.{left-less, taken-all}
 use Rattle.step_walks.proofs.Walking.{Walking, may, may-told, asked-begins, none-free, leaves-none, leaves-same, walked-told, none-walking, turn-within, turn-entry, one-begun, one-kept}
 use Rattle.step_walks.proofs.begin.Statement.{statement}
 use Rattle.step_walks.proofs.begin.Tie as tie
@@ -23,13 +23,13 @@ Inv-loop starts another now buttons crossings free left₀ out₀ rest₀ left o
 abbrev μ-loop : tie.MeasureT-loop
 μ-loop starts another now buttons crossings free left₀ out₀ rest₀ left out rest = rest
 
-running-requires : tie.Need-running-requires Inv-loop μ-loop
-running-requires c κs = search needs
+is-running-requires : tie.Need-is-running-requires Inv-loop μ-loop
+is-running-requires c κs = search needs
 
 returns : tie.Need-returns Inv-loop μ-loop
 returns c =
     let a = c .before .before .args in
-    let runs = c .before .running in
+    let runs = c .before .is-running in
     walked-told
     (leaves-none (begins (a .t1) (a .starts) (a .another) (a .now) (a .buttons) (a .movements)) (search needs) (search needs)
     (λ k.
@@ -61,8 +61,8 @@ array-read-bit8 c = own-within (c .before)
 bit8-requires : tie.Need-bit8-requires Inv-loop μ-loop
 bit8-requires c κs = search needs
 
-idle-requires : tie.Need-idle-requires Inv-loop μ-loop
-idle-requires c κs = search needs
+is-idle-requires : tie.Need-is-idle-requires Inv-loop μ-loop
+is-idle-requires c κs = search needs
 
 without-requires : tie.Need-without-requires Inv-loop μ-loop
 without-requires c κs = own-within (c .before .before .before .before)
@@ -93,10 +93,10 @@ loop-again c =
     let some : 0 < at .rest = omega (arith, turn .loop-test .taken) in
     let may-now =
     may-told (a .t1) (a .starts) (a .another) (a .now) (a .movements) (trailingZeros 64 (at .rest))
-    (turn-entry (at .inv) some (record { stage = Idle; age = 0 })) (owned .bit8 .ensures) (idled .idle .ensures) in
+    (turn-entry (at .inv) some (record { stage = Idle; age = 0 })) (owned .bit8 .ensures) (idled .is-idle .ensures) in
     ⊎-elim
-    (λ w. one-begun (at .inv) some (may-now ∙ rw (← tested .running .ensures) (w .0 .taken)) (w .2 ∙ w .1 .ensures) (w .3))
-    (λ w. rw (w .1, w .2) (one-kept (at .inv) some (may-now ∙ rw (← tested .running .ensures) (w .0 .left))))
+    (λ w. one-begun (at .inv) some (may-now ∙ rw (← tested .is-running .ensures) (w .0 .taken)) (w .2 ∙ w .1 .ensures) (w .3))
+    (λ w. rw (w .1, w .2) (one-kept (at .inv) some (may-now ∙ rw (← tested .is-running .ensures) (w .0 .left))))
     (c .if2 .came)
 
 returns-2 : tie.Need-returns-2 Inv-loop μ-loop
@@ -112,7 +112,7 @@ begin-spec =
     (tie.spec
     Inv-loop
     μ-loop
-    running-requires
+    is-running-requires
     returns
     loop-holds
     cast-k
@@ -121,7 +121,7 @@ begin-spec =
     array-copy-out-movement
     array-read-bit8
     bit8-requires
-    idle-requires
+    is-idle-requires
     without-requires
     mul-out
     array-set-from-out

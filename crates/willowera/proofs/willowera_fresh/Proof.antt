@@ -12,8 +12,8 @@ fresh-requires c κs = search needs
 encode-requires : tie.Need-encode-requires
 encode-requires c κs = search needs
 
-pack-requires : tie.Need-pack-requires
-pack-requires c κs = search needs
+packed-requires : tie.Need-packed-requires
+packed-requires c κs = search needs
 
 same-length : tie.Need-same-length
 same-length c = search needs
@@ -33,7 +33,7 @@ unfolding freshAnswer packedVerdict refuseIf reportOf
 returns-2 c =
     let stored = c .before .before .before .before in
     let other = sym (stored .encode .ensures .0) ∙ c .before .if1 .left in
-    (rw (other, c .pack .ensures), rw (stored .before .before .fresh .ensures) at (stored .encode .ensures .1))
+    (rw (other, c .packed .ensures), rw (stored .before .before .fresh .ensures) at (stored .encode .ensures .1))
 
 pub willowera-fresh-spec : {M : Type 1} → statement M
 willowera-fresh-spec =
@@ -41,7 +41,7 @@ willowera-fresh-spec =
     (tie.spec
     fresh-requires
     encode-requires
-    pack-requires
+    packed-requires
     same-length
     returns
     same-length-2

@@ -5,30 +5,30 @@ use borrow.Author.Needs.{needs}
 use borrow.Author.Tests.{not-true, not-false}
 use Rattle.rules.specs.declared.answer.Verdict.the-variants.{Accepted}
 use Rattle.rules.specs.Personality.{verdictOf}
-use Rattle.board_state.specs.Layout.{isState}
+use Rattle.state_bytes.specs.Layout.{isState}
 use Rattle.willowera.proofs.Answers.{refused-near, refuses, no-state, answer-near, steps-on, stays}
 use Rattle.willowera.proofs.willowera_step.Statement.{statement}
 use Rattle.willowera.proofs.willowera_step.Tie as tie
 
 -- ── A refused personality ──
 
-read-laid-requires : tie.Need-read-laid-requires
-read-laid-requires c κs = search needs
+read-with-layout-requires : tie.Need-read-with-layout-requires
+read-with-layout-requires c κs = search needs
 
 enum-known-verdict : tie.Need-enum-known-verdict
 enum-known-verdict c = search needs
 
 refusal-requires : tie.Need-refusal-requires
 refusal-requires c κs =
-    let read = c .before .before .before .read-laid in
+    let read = c .before .before .before .read-with-layout in
     refused-near _ (read .result .verdict) (read .ensures .0) (c .before .verdict .given .1)
 
 returns : tie.Need-returns
 returns c =
     let asked = c .before .before .before .before in
     let a = asked .before .before .before .before .args in
-    refuses (a .personality .now) (a .state .now) (a .colours .now) (a .inputs) (c .refusal .result) (asked .read-laid .result .verdict)
-    (asked .read-laid .ensures .0)
+    refuses (a .personality .now) (a .state .now) (a .colours .now) (a .inputs) (c .refusal .result) (asked .read-with-layout .result .verdict)
+    (asked .read-with-layout .ensures .0)
     (c .before .before .verdict .given .1)
     (c .refusal .ensures)
 
@@ -41,7 +41,7 @@ abbrev start : tie.After-enum-told → tie.Start
 start c = c .before .before .before .before .before .before
 
 accepted : (c : tie.After-enum-told) → verdictOf (start c .args .personality .now) ≡ Accepted
-accepted c = sym (c .before .before .read-laid .ensures .0) ∙ c .enum-told .given .1
+accepted c = sym (c .before .before .read-with-layout .ensures .0) ∙ c .enum-told .given .1
 
 is-state-requires : tie.Need-is-state-requires
 is-state-requires c κs = search needs
@@ -75,7 +75,7 @@ decode-requires c κs = known (c .before .before)
 step-accepted-requires : tie.Need-step-accepted-requires
 step-accepted-requires c κs =
     let read = told (c .before .before .before .before) in
-    (accepted read, read .before .before .read-laid .ensures .1)
+    (accepted read, read .before .before .read-with-layout .ensures .1)
 
 enum-known-outcome : tie.Need-enum-known-outcome
 enum-known-outcome c = search needs
@@ -83,8 +83,8 @@ enum-known-outcome c = search needs
 encode-requires : tie.Need-encode-requires
 encode-requires c κs = search needs
 
-pack-requires : tie.Need-pack-requires
-pack-requires c κs = search needs
+packed-requires : tie.Need-packed-requires
+packed-requires c κs = search needs
 
 enum-known-outcome-2 : tie.Need-enum-known-outcome-2
 enum-known-outcome-2 c = search needs
@@ -112,12 +112,12 @@ returns-3 c =
     let moved = c .before .before .before .before .before .before in
     let called = moved .before .before .before .before in
     let a = start (told (past called)) .args in
-    steps-on (a .personality .now) (a .state .now) (a .colours .now) (a .inputs) (c .pack .result) (known (past called))
+    steps-on (a .personality .now) (a .state .now) (a .colours .now) (a .inputs) (c .packed .result) (known (past called))
     (called .before .before .decode .ensures)
     (called .step-accepted .ensures) _
     (moved .outcome .given .1)
     (c .before .before .before .encode .ensures .1)
-    (c .pack .ensures)
+    (c .packed .ensures)
 
 same-length-4 : tie.Need-same-length-4
 same-length-4 c = search needs
@@ -139,7 +139,7 @@ pub willowera-step-spec : {M : Type 1} → statement M
 willowera-step-spec =
     tie.close
     (tie.spec
-    read-laid-requires
+    read-with-layout-requires
     enum-known-verdict
     refusal-requires
     returns
@@ -152,7 +152,7 @@ willowera-step-spec =
     step-accepted-requires
     enum-known-outcome
     encode-requires
-    pack-requires
+    packed-requires
     enum-known-outcome-2
     refusal-requires-3
     same-length-2

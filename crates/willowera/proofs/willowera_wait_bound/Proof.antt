@@ -10,8 +10,8 @@ wait-bound-requires c κs = search needs
 enum-known-outcome : tie.Need-enum-known-outcome
 enum-known-outcome c = search needs
 
-pack-requires : tie.Need-pack-requires
-pack-requires c κs = search needs
+packed-requires : tie.Need-packed-requires
+packed-requires c κs = search needs
 
 enum-known-outcome-2 : tie.Need-enum-known-outcome-2
 enum-known-outcome-2 c = search needs
@@ -24,7 +24,7 @@ refusal-requires c κs =
 returns : tie.Need-returns
 returns c =
     let bound = c .before .before .before .before .wait-bound in
-    outcome-stepped (bound .result) _ _ (bound .ensures) (c .before .before .outcome .given .1) (c .pack .ensures)
+    outcome-stepped (bound .result) _ _ (bound .ensures) (c .before .before .outcome .given .1) (c .packed .ensures)
 
 returns-2 : tie.Need-returns-2
 returns-2 c =
@@ -37,7 +37,7 @@ willowera-wait-bound-spec =
     (tie.spec
     wait-bound-requires
     enum-known-outcome
-    pack-requires
+    packed-requires
     enum-known-outcome-2
     refusal-requires
     returns

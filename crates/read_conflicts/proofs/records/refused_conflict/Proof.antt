@@ -3,11 +3,11 @@ use Prim.Native.Nat.{_-_, _≤_}
 use mathlib.Core.Bool.{false, _&&_}
 use mathlib.Core.Logic.{⊎-elim}
 use mathlib.Core.Path.{_≡_, refl, sym, _∙_}
-use Rattle.rules.specs.Bytes.{bit}
+use Rattle.laws.specs.Bytes.{bit}
 use Rattle.rules.specs.Personality.{conflictSet}
-use Rattle.rules.specs.Rows.{anyOf}
-use Rattle.rules.proofs.Rows.{any-at, any-more, any-done}
-use Rattle.rules.proofs.Tests.{and-both, and-false-left, and-false-right}
+use Rattle.laws.specs.Folds.{anyOf}
+use Rattle.laws.proofs.Folds.{any-at, any-more, any-done}
+use Rattle.laws.proofs.Booleans.{and-both, and-false-left, and-false-right}
 use Rattle.read_conflicts.specs.Refused.{refusedPair}
 use borrow.Author.Needs.{needs}
 use native.Mathlib.Omega.{arith}

@@ -25,8 +25,8 @@ group-set-requires c κs = search needs
 group-set-requires-2 : tie.Need-group-set-requires-2
 group-set-requires-2 c κs = search needs
 
-share-requires : tie.Need-share-requires
-share-requires c κs = search needs
+overlap-requires : tie.Need-overlap-requires
+overlap-requires c κs = search needs
 
 returns-2 : tie.Need-returns-2
 unfolding refusedPair
@@ -35,7 +35,7 @@ returns-2 c =
     let first = second .before in
     let pre = first .before .before .before .pre in
     rw (ne-eqb _ _ (first .before .if1 .left))
-    (rw (second .group-set2 .ensures, first .group-set .ensures) at (c .share .ensures)
+    (rw (second .group-set2 .ensures, first .group-set .ensures) at (c .overlap .ensures)
     ∙ share-decided _ _ _ (pre .1) (omega arith) (omega arith))
 
 pub refused-pair-spec : {M : Type 1} → statement M
@@ -47,5 +47,5 @@ refused-pair-spec =
     returns
     group-set-requires
     group-set-requires-2
-    share-requires
+    overlap-requires
     returns-2)

@@ -27,10 +27,10 @@ returns-2 : tie.Need-returns-2
 unfolding refusedRecord refusedPair badConflict
 returns-2 c =
     let atConflict = c .before .before .before .before in
-    let nine = eq-eqb _ _ (c .before .before .before .if1 .left) in
-    let conflict = rw nine at (atConflict .refused-conflict .ensures) in
-    let n = atConflict .before .before .pre .0 .n in
-    rw (nine, c .reaches32 .ensures, c .before .bit32 .ensures, c .before .before .conflict-set .ensures, conflict, n)
+    let hasorder = eq-eqb _ _ (c .before .before .before .if1 .left) in
+    let conflict = rw hasorder at (atConflict .refused-conflict .ensures) in
+    let n = atConflict .before .before .pre .0 .groupcount in
+    rw (hasorder, c .reaches32 .ensures, c .before .bit32 .ensures, c .before .before .conflict-set .ensures, conflict, n)
 
 pub refused-record-spec : {M : Type 1} → statement M
 refused-record-spec =

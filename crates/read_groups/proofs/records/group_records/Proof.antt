@@ -10,32 +10,32 @@ use lib.Dec.{eqb}
 use borrow.Author.Needs.{needs}
 use borrow.Author.Tests.{eq-eqb, ne-eqb}
 use Rattle.rules.specs.Personality.{bodyAt, recordAt, phaseCount, groupCount, groupsHead, groupSet, groupMark, pedestrian, pedestriansBefore, movementCount, badGroup, ninthPedestrian, groupRecord, phaseWithoutGroup, stopsEarly}
-use Rattle.rules.specs.Rows.{anyOf, countOf}
+use Rattle.laws.specs.Folds.{anyOf, countOf}
 use Rattle.rules.specs.Verdicts.{_orElse_, refuseIf, firstOf}
 use Rattle.rules.specs.declared.answer.Verdict.{Verdict}
 use Rattle.rules.specs.declared.answer.Verdict.the-variants.{Accepted, Refused}
-use Rattle.rules.proofs.Counts.{count-one-more, count-as-before}
-use Rattle.rules.proofs.Rows.{count-most}
-use Rattle.rules.proofs.Tests.{and-both, and-false-left, and-false-right}
+use Rattle.laws.proofs.Counting.{count-one-more, count-as-before}
+use Rattle.laws.proofs.Folds.{count-most}
+use Rattle.laws.proofs.Booleans.{and-both, and-false-left, and-false-right}
 use Rattle.rules.proofs.Verdicts.{refuse-yes, refuse-no, or-next, or-stop, first-more, first-stop, first-done}
 use Rattle.proof_acceptance.proofs.Sections.{record-within}
-use Rattle.read_groups.specs.Told.{Walked}
+use Rattle.read_groups.specs.GroupsRead.{CrossedPhases}
 use Rattle.read_groups.proofs.GroupChecks.{group-passed, refused-told}
-use Rattle.read_groups.proofs.PhaseSets.{Gathered, gathered-none, gathered-more, walked-none, walked-more, walked-same, bad-decided, all-served, one-unserved}
+use Rattle.read_groups.proofs.PhaseSets.{Gathered, gathered-none, gathered-more, crossed-none, crossed-more, crossed-same, bad-decided, all-served, one-unserved}
 use Rattle.read_groups.proofs.records.group_records.Statement.{statement}
 use Rattle.read_groups.proofs.records.group_records.Tie as tie
 
 abbrev Inv-loop : tie.InvT-loop
-Inv-loop s bound head count movements₀ walked₀ early₀ served₀ g₀ movements walked early served g =
+Inv-loop s bound head count movements₀ crossed₀ early₀ served₀ g₀ movements crossed early served g =
     (g ≤ count)
     × (movements ≡ countOf (pedestrian s) g)
     × (firstOf (groupRecord s) g ≡ Accepted)
     × Gathered s served g
     × (early ≡ anyOf (stopsEarly s) g)
-    × Walked s walked g
+    × CrossedPhases s crossed g
 
 abbrev μ-loop : tie.MeasureT-loop
-μ-loop s bound head count movements₀ walked₀ early₀ served₀ g₀ movements walked early served g = count - g
+μ-loop s bound head count movements₀ crossed₀ early₀ served₀ g₀ movements crossed early served g = count - g
 
 set-bound-requires : tie.Need-set-bound-requires Inv-loop μ-loop
 set-bound-requires c κs = search needs
@@ -44,19 +44,19 @@ set-bound-requires c κs = search needs
 bounded :
     (c : tie.After-set-bound Inv-loop μ-loop) →
     c .set-bound .result ≡ min (2 ^ phaseCount (c .before .before .args .s .now)) 512
-bounded c = c .set-bound .ensures ∙ ap (λ (phases : ℕ). min (2 ^ phases) 512) (c .before .before .pre .0 .p)
+bounded c = c .set-bound .ensures ∙ ap (λ (phases : ℕ). min (2 ^ phases) 512) (c .before .before .pre .0 .phasecount)
 
 cast-count : tie.Need-cast-count Inv-loop μ-loop
 cast-count c = search needs
 
 loop-holds : tie.Need-loop-holds Inv-loop μ-loop
 unfolding countOf firstOf anyOf
-loop-holds c = (omega arith, refl, refl, gathered-none _, refl, walked-none _)
+loop-holds c = (omega arith, refl, refl, gathered-none _, refl, crossed-none _)
 
 pair-at-requires : tie.Need-pair-at-requires Inv-loop μ-loop
 pair-at-requires c κs =
     let layout = c .before .before .before .before .before .args .layout in
-    omega (arith, record-within (layout .groups) 2 (layout .n) (c .before .loop .g) (c .loop-test .taken))
+    omega (arith, record-within (layout .groups) 2 (layout .groupcount) (c .before .loop .g) (c .loop-test .taken))
 
 add-place : tie.Need-add-place Inv-loop μ-loop
 add-place c = search needs
@@ -155,27 +155,27 @@ counted :
     let atLoop = c .before .before .before .before .before in
     let b = atLoop .before .before .before .before .args .s .now in
     let g = atLoop .loop .g in
-    (c .if2 .movements ≡ countOf (pedestrian b) (g + 1)) × Walked b (c .if2 .walked) (g + 1) × (ninthPedestrian b g ≡ false)
+    (c .if2 .movements ≡ countOf (pedestrian b) (g + 1)) × CrossedPhases b (c .if2 .crossed) (g + 1) × (ninthPedestrian b g ≡ false)
 unfolding pedestrian ninthPedestrian pedestriansBefore
 counted c =
     let atLoop = c .before .before .before .before .before in
     let b = atLoop .before .before .before .before .args .s .now in
     let g = atLoop .loop .g in
     let before = atLoop .loop .inv .1 in
-    let walked = atLoop .loop .inv .5 in
+    let crossed = atLoop .loop .inv .5 in
     let read = recordRead (c .before .before) in
     let mark = read .1 in
     ⊎-elim
     (λ w.
     let walks = eq-eqb _ _ (sym mark ∙ w .0 .taken) in (
       w .2 ∙ count-one-more _ _ before walks,
-      subst (λ (set : ℕ). Walked b set (g + 1)) (sym (w .3)) (walked-more b walked (read .0) (sym (read .2) ∙ c .before .if1 .left) walks),
+      subst (λ (set : ℕ). CrossedPhases b set (g + 1)) (sym (w .3)) (crossed-more b crossed (read .0) (sym (read .2) ∙ c .before .if1 .left) walks),
       and-false-right (pedestrian b g) (ne-eqb _ _ (λ e. w .1 .left (before ∙ e))),
     ))
     (λ w.
     let vehicle = ne-eqb _ _ (λ e. w .0 .left (mark ∙ e)) in (
       w .1 ∙ count-as-before _ _ before vehicle,
-      subst (λ (set : ℕ). Walked b set (g + 1)) (sym (w .2)) (walked-same b walked vehicle),
+      subst (λ (set : ℕ). CrossedPhases b set (g + 1)) (sym (w .2)) (crossed-same b crossed vehicle),
       and-false-left _ vehicle,
     ))
     (c .if2 .came)
@@ -228,7 +228,7 @@ returns-3 c =
       verdict =
           passed .0 _ (sym (refuse-no 8 _ (all-served _ _ (bounded (c .before .before .before .before)) (passed .1) (c .if4 .taken))));
       movements = λ accepted. inv .1 ∙ ap (countOf (pedestrian _)) (passed .2);
-      walked = λ accepted. rw (← passed .2) (inv .5);
+      crossed = λ accepted. rw (← passed .2) (inv .5);
       early = λ accepted. inv .4 ∙ ap (anyOf (stopsEarly _)) (passed .2);
     }
 

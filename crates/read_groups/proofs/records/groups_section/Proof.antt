@@ -27,7 +27,7 @@ checked :
     (c : tie.After-sized-section) →
     let b = c .before .before .before .args .s .now in
     c .sized-section .result ≡ sectionAt b (groupsHead b) 3 (eqb (bodyLength b (groupsHead b)) (groupCount b * 2))
-checked c = let laid = c .before .before .before .pre in rw (laid .groups, laid .n) at (c .sized-section .ensures)
+checked c = let laid = c .before .before .before .pre in rw (laid .groups, laid .groupcount) at (c .sized-section .ensures)
 
 refused-requires : tie.Need-refused-requires
 refused-requires c κs = search needs

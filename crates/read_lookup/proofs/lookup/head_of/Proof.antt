@@ -13,11 +13,11 @@ use Rattle.read_lookup.proofs.lookup.head_of.Tie as tie
 returns : tie.Need-returns
 returns c = (sym (no-head _ _ (not-true _ (c .if1 .taken))), omega arith)
 
-laid-out-requires : tie.Need-laid-out-requires
-laid-out-requires c κs = search needs
+layout-of-requires : tie.Need-layout-of-requires
+layout-of-requires c κs = search needs
 
 -- the kind has a head in the list
-listed : (c : tie.After-laid-out) → let kind = c .before .before .before .args .kind in (1 ≤ kind) × (kind ≤ 9)
+listed : (c : tie.After-layout-of) → let kind = c .before .before .before .args .kind in (1 ≤ kind) × (kind ≤ 9)
 listed c = kind-told (c .before .before .before .args .kind) (not-false _ (c .before .if1 .left))
 
 sub-result : tie.Need-sub-result
@@ -32,8 +32,8 @@ array-read-result c = omega (arith, listed c)
 returns-2 : tie.Need-returns-2
 unfolding headOf
 returns-2 c =
-    let w = c .laid-out .result in
-    let laid = c .laid-out .ensures in
+    let w = c .layout-of .result in
+    let laid = c .layout-of .ensures in
     let heads : List ℕ = 0 ∷ 8 ∷ w .groups ∷ w .conflicts ∷ w .detectors ∷ w .pedestrians ∷ w .early ∷ 0 ∷ w .order ∷ [] in (
       rw (laid .groups, laid .conflicts, laid .detectors, laid .pedestrians, laid .early, laid .order),
       all-near 201227 heads
@@ -46,7 +46,7 @@ head-of-spec =
     tie.close
     (tie.spec
     returns
-    laid-out-requires
+    layout-of-requires
     sub-result
     mul-result
     array-read-result

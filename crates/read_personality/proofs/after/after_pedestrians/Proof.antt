@@ -101,8 +101,8 @@ returns-4 c = pastCallers (c .before .before .before) (or-stop _ (c .before .bef
 enum-told-6 : tie.Need-enum-told-6
 enum-told-6 c = search needs
 
-past-requires : tie.Need-past-requires
-past-requires c κs = search needs
+past-section-requires : tie.Need-past-section-requires
+past-section-requires c κs = search needs
 
 left-over-requires : tie.Need-left-over-requires
 left-over-requires c κs = search needs
@@ -115,7 +115,7 @@ returns-5 c =
     let laid = missing .before .before .before .before .before .before .before .before .before .before .pre .0 in
     pastCallers (missing .before)
     (or-next (missing .early-missing .ensures) (passed .enum-told6 .given .1)
-    (rw (c .before .past .ensures .0, laid .order, laid .nine) at (c .left-over .ensures)))
+    (rw (c .before .past-section .ensures .0, laid .order, laid .hasorder) at (c .left-over .ensures)))
 
 pub after-pedestrians-spec : {M : Type 1} → statement M
 after-pedestrians-spec =
@@ -135,6 +135,6 @@ after-pedestrians-spec =
     enum-told-5
     returns-4
     enum-told-6
-    past-requires
+    past-section-requires
     left-over-requires
     returns-5)

@@ -5,14 +5,14 @@ use mathlib.Core.Bool.{not, and-true}
 use mathlib.Core.Path.{sym, ap, _∙_}
 use lib.Dec.{eqb}
 use Rattle.rules.specs.Demands.{inGreen}
-use Rattle.rules.proofs.Sets.{set-same}
-use Rattle.rules.proofs.Tests.{and-false-right}
-use Rattle.base_reads.proofs.Members.{bit-all, set-told}
+use Rattle.laws.proofs.Sets.{set-same}
+use Rattle.laws.proofs.Booleans.{and-false-right}
+use Rattle.laws.proofs.Members.{bit-all, set-told}
 use Rattle.step_demands.proofs.phases.waiting.Statement.{statement}
 use Rattle.step_demands.proofs.phases.waiting.Tie as tie
 
-green-requires : tie.Need-green-requires
-green-requires c κs = search needs
+is-green-requires : tie.Need-is-green-requires
+is-green-requires c κs = search needs
 
 without-requires : tie.Need-without-requires
 without-requires c κs = search needs
@@ -23,7 +23,7 @@ returns c =
     let tested = c .before .before in
     let start = tested .before in
     let phase = start .args .position .phase in
-    let green = sym (tested .green .ensures) ∙ c .before .if1 .taken in
+    let green = sym (tested .is-green .ensures) ∙ c .before .if1 .taken in
     c .without .ensures ∙ set-same _ _ (λ p l. rw (bit-all p l, green) (ap not (sym (and-true (eqb p phase)))))
 
 returns-2 : tie.Need-returns-2
@@ -32,7 +32,7 @@ returns-2 c =
     let tested = c .before in
     let position = tested .before .args .position in
     set-told _ 255 (omega arith)
-    (λ p l. bit-all p l ∙ sym (ap not (and-false-right (eqb p (position .phase)) (sym (tested .green .ensures) ∙ c .if1 .left))))
+    (λ p l. bit-all p l ∙ sym (ap not (and-false-right (eqb p (position .phase)) (sym (tested .is-green .ensures) ∙ c .if1 .left))))
 
 pub waiting-spec : {M : Type 1} → statement M
-waiting-spec = tie.close (tie.spec green-requires without-requires returns returns-2)
+waiting-spec = tie.close (tie.spec is-green-requires without-requires returns returns-2)

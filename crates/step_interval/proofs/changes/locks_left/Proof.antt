@@ -5,8 +5,8 @@ use Rattle.step_interval.proofs.Locks.{lock-cleared, locks-stand}
 use Rattle.step_interval.proofs.changes.locks_left.Statement.{statement}
 use Rattle.step_interval.proofs.changes.locks_left.Tie as tie
 
-minimum-green-requires : tie.Need-minimum-green-requires
-minimum-green-requires c κs = search needs
+is-minimum-green-requires : tie.Need-is-minimum-green-requires
+is-minimum-green-requires c κs = search needs
 
 without-requires : tie.Need-without-requires
 without-requires c κs = search needs
@@ -15,13 +15,13 @@ returns : tie.Need-returns
 returns c =
     let tested = c .before .before in
     let a = tested .before .args in
-    c .without .ensures ∙ lock-cleared (a .ended) (a .now) (a .locks) (rw (← tested .minimum-green .ensures) (c .before .if1 .taken))
+    c .without .ensures ∙ lock-cleared (a .ended) (a .now) (a .locks) (rw (← tested .is-minimum-green .ensures) (c .before .if1 .taken))
 
 returns-2 : tie.Need-returns-2
 returns-2 c =
     let tested = c .before in
     let a = tested .before .args in
-    locks-stand (a .ended) (a .now) (a .locks) (rw (← tested .minimum-green .ensures) (c .if1 .left)) (search needs)
+    locks-stand (a .ended) (a .now) (a .locks) (rw (← tested .is-minimum-green .ensures) (c .if1 .left)) (search needs)
 
 pub locks-left-spec : {M : Type 1} → statement M
-locks-left-spec = tie.close (tie.spec minimum-green-requires without-requires returns returns-2)
+locks-left-spec = tie.close (tie.spec is-minimum-green-requires without-requires returns returns-2)

@@ -4,12 +4,12 @@ use Rattle.rules.specs.Interval.{starts}
 use Rattle.step_interval.proofs.changes.starts.Statement.{statement}
 use Rattle.step_interval.proofs.changes.starts.Tie as tie
 
-before-start-requires : tie.Need-before-start-requires
-before-start-requires c κs = search needs
+is-before-start-requires : tie.Need-is-before-start-requires
+is-before-start-requires c κs = search needs
 
 returns : tie.Need-returns
 unfolding starts
-returns c = rw (c .before-start .ensures)
+returns c = rw (c .is-before-start .ensures)
 
 pub starts-spec : {M : Type 1} → statement M
-starts-spec = tie.close (tie.spec before-start-requires returns)
+starts-spec = tie.close (tie.spec is-before-start-requires returns)

@@ -10,11 +10,11 @@ use lib.ListN.{length, getD}
 use Rattle.rules.specs.declared.state.Movement.{Movement}
 use Rattle.rules.specs.declared.state.Stage.{Stage}
 use Rattle.rules.specs.declared.state.Stage.the-variants.{Idle}
-use Rattle.rules.specs.Rows.{anyOf}
-use Rattle.rules.specs.Intervals.{isWalkOrFirst, isSecond}
+use Rattle.laws.specs.Folds.{anyOf}
+use Rattle.rules.specs.IntervalTable.{isWalkOrFirst, isSecond}
 use Rattle.rules.specs.State.{idle}
-use Rattle.proof_arrays.proofs.Fill.{entry-same}
-use Rattle.proof_arrays.proofs.Passing.{none-passes, one-more}
+use Rattle.laws.proofs.Arrays.{entry-same}
+use Rattle.laws.proofs.Passing.{none-passes, one-more}
 use Rattle.step_interval.proofs.Some.{some-counted}
 use Rattle.step_interval.proofs.ending.under_way.Statement.{statement}
 use Rattle.step_interval.proofs.ending.under_way.Tie as tie
@@ -37,11 +37,11 @@ mul-movement c = search needs
 array-copy-out-movement : tie.Need-array-copy-out-movement Inv-loop μ-loop
 array-copy-out-movement c = search needs
 
-walk-or-first-requires : tie.Need-walk-or-first-requires Inv-loop μ-loop
-walk-or-first-requires c κs = search needs
+is-walk-or-first-requires : tie.Need-is-walk-or-first-requires Inv-loop μ-loop
+is-walk-or-first-requires c κs = search needs
 
-second-requires : tie.Need-second-requires Inv-loop μ-loop
-second-requires c κs = search needs
+is-second-requires : tie.Need-is-second-requires Inv-loop μ-loop
+is-second-requires c κs = search needs
 
 add-k : tie.Need-add-k Inv-loop μ-loop
 add-k c = search needs
@@ -57,8 +57,8 @@ loop-again c =
     let inside : k < length list = omega (arith, here .before .good .0 .1 .0 .1, here .before .pre .room) in
     let entry = ap (λ (m : Movement). m .stage) (entry-same list k (record { stage = Idle; age = 0 }) idle inside) in (
       search needs,
-      one-more (at isWalkOrFirst list) k (here .loop .inv .1) (c .before .walk-or-first .ensures ∙ ap isWalkOrFirst entry),
-      one-more (at isSecond list) k (here .loop .inv .2) (c .second .ensures ∙ ap isSecond entry),
+      one-more (at isWalkOrFirst list) k (here .loop .inv .1) (c .before .is-walk-or-first .ensures ∙ ap isWalkOrFirst entry),
+      one-more (at isSecond list) k (here .loop .inv .2) (c .is-second .ensures ∙ ap isSecond entry),
     )
 
 returns : tie.Need-returns Inv-loop μ-loop
@@ -80,8 +80,8 @@ under-way-spec =
     loop-holds
     mul-movement
     array-copy-out-movement
-    walk-or-first-requires
-    second-requires
+    is-walk-or-first-requires
+    is-second-requires
     add-k
     loop-less
     loop-again

@@ -27,20 +27,20 @@ settings-requires c κs = search needs
 enum-known-answer : tie.Need-enum-known-answer
 enum-known-answer c = search needs
 
-cast-pack : tie.Need-cast-pack
-cast-pack c = search needs
+cast-packed : tie.Need-cast-packed
+cast-packed c = search needs
 
-cast-pack-2 : tie.Need-cast-pack-2
-cast-pack-2 c = search needs
+cast-packed-2 : tie.Need-cast-packed-2
+cast-packed-2 c = search needs
 
-mul-pack : tie.Need-mul-pack
-mul-pack c = search needs
+mul-packed : tie.Need-mul-packed
+mul-packed c = search needs
 
-add-pack : tie.Need-add-pack
-add-pack c = search needs
+add-packed : tie.Need-add-packed
+add-packed c = search needs
 
-pack-requires : tie.Need-pack-requires
-pack-requires c κs = search needs
+packed-requires : tie.Need-packed-requires
+packed-requires c κs = search needs
 
 enum-known-answer-2 : tie.Need-enum-known-answer-2
 enum-known-answer-2 c = search needs
@@ -52,7 +52,7 @@ refusal-requires c κs =
 returns : tie.Need-returns
 returns c =
     let made = c .before .before .before .before .settings in
-    packed-given (made .result) _ _ (made .ensures .0) (c .before .before .answer .given .1) (c .pack .ensures)
+    packed-given (made .result) _ _ (made .ensures .0) (c .before .before .answer .given .1) (c .packed .ensures)
 
 returns-2 : tie.Need-returns-2
 returns-2 c =
@@ -65,11 +65,11 @@ settings-of-spec =
     (tie.spec
     settings-requires
     enum-known-answer
-    cast-pack
-    cast-pack-2
-    mul-pack
-    add-pack
-    pack-requires
+    cast-packed
+    cast-packed-2
+    mul-packed
+    add-packed
+    packed-requires
     enum-known-answer-2
     refusal-requires
     returns

@@ -1,0 +1,30 @@
+-- `base_bytes::four_at` meets its contract: inside the slice its pairs of bytes put together, past its end 0.
+use borrow.Author.Needs.{needs}
+use mathlib.Core.Path.{sym, ap, _∙_}
+use Rattle.laws.specs.Bytes.{byteAt, twoAt, fourAt}
+use Rattle.laws.proofs.PastEnd.{four-past}
+use Rattle.base_bytes.proofs.four_at.Statement.{statement}
+use Rattle.base_bytes.proofs.four_at.Tie as tie
+
+two-at-requires : tie.Need-two-at-requires
+two-at-requires c κs = search needs
+
+add-two-at : tie.Need-add-two-at
+add-two-at c = search needs
+
+two-at-requires-2 : tie.Need-two-at-requires-2
+two-at-requires-2 c κs = search needs
+
+quad-requires : tie.Need-quad-requires
+quad-requires c κs = search needs
+
+returns : tie.Need-returns
+unfolding fourAt
+returns c = simp (c .quad .ensures, c .before .two-at2 .ensures, c .before .before .two-at .ensures)
+
+returns-2 : tie.Need-returns-2
+returns-2 c = sym (four-past (c .before .before .args .s .now) (c .before .before .args .i) (c .if1 .left))
+
+pub four-at-spec : {M : Type 1} → statement M
+four-at-spec =
+    tie.close (tie.spec two-at-requires add-two-at two-at-requires-2 quad-requires returns returns-2)

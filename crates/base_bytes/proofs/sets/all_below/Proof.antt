@@ -1,0 +1,14 @@
+-- `base_bytes::sets::all_below` meets its contract: no bit is left from the count on.
+use borrow.Author.Needs.{needs}
+use Rattle.laws.proofs.Members.{below-told}
+use Rattle.base_bytes.proofs.sets.all_below.Statement.{statement}
+use Rattle.base_bytes.proofs.sets.all_below.Tie as tie
+
+shr-result : tie.Need-shr-result
+shr-result c = search needs
+
+returns : tie.Need-returns
+returns c = below-told (c .args .set) (c .args .count) (search needs)
+
+pub all-below-spec : {M : Type 1} → statement M
+all-below-spec = tie.close (tie.spec shr-result returns)

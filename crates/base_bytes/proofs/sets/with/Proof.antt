@@ -1,0 +1,14 @@
+-- `base_bytes::sets::with` meets its contract: the bit of the member is set and the others stay.
+use borrow.Author.Needs.{needs}
+use Rattle.laws.proofs.Members.{with-told}
+use Rattle.base_bytes.proofs.sets.with.Statement.{statement}
+use Rattle.base_bytes.proofs.sets.with.Tie as tie
+
+shl-result : tie.Need-shl-result
+shl-result c = search needs
+
+returns : tie.Need-returns
+returns c = with-told (c .args .set) (c .args .k) (search needs) (search needs)
+
+pub with-spec : {M : Type 1} → statement M
+with-spec = tie.close (tie.spec shl-result returns)

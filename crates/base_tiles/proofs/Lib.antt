@@ -1,2 +1,0 @@
-pub mod Unlike
-pub mod Places

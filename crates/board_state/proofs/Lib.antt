@@ -1,4 +1,0 @@
-pub mod Laws
-pub mod RoundTrips
-pub mod Told
-pub mod Written

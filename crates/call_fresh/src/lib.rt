@@ -1,0 +1,40 @@
+// The fresh state, from which a caller begins.
+ghost use mathlib.Core.Path.{_≡_};
+ghost use Rattle.rules.specs.Kept.{freshKept};
+use rules::state::Counts;
+use rules::state::Demands;
+use rules::state::Held;
+use rules::state::Interval;
+use rules::state::KeptState;
+use rules::state::Movement;
+use rules::state::Position;
+use rules::state::Stage;
+use rules::state::State;
+
+// Phase A in start red, age 1, came-from none, counts 0, no demands, movements idle; no phase is kept.
+pub fn fresh() -> KeptState
+    ensures { λ r. ⌜ r ≡ freshKept ⌝ }
+{
+    let idle = Movement {
+        stage: Stage::Idle,
+        age: 1,
+    };
+    KeptState {
+        core: State {
+            position: Position {
+                phase: 0,
+                interval: Interval::StartRed,
+                age: 1,
+                previous: Held::Nothing,
+                target: Held::Nothing,
+            },
+            counts: Counts { gap: 0, maximum: 0 },
+            demands: Demands {
+                locks: 0,
+                buttons: 0,
+            },
+            movements: [idle; 8],
+        },
+        kept: 0,
+    }
+}

@@ -1,0 +1,22 @@
+// Unit three as a caller sees it: the wait bound of a personality.
+ghost use mathlib.Core.Path.{_≡_};
+ghost use Rattle.rules.specs.Call.{boundOf};
+use rules::answer::Outcome;
+use rules::answer::Verdict;
+
+// The wait bound of a personality in steps, or its refusal.
+pub fn wait_bound(personality: &[u8]) -> Outcome
+    ensures { λ r. ⌜ r ≡ boundOf (now (personality .entry)) ⌝ }
+{
+    let verdict = read_personality::read(personality);
+    if let Verdict::Refused { number, place } = verdict {
+        return Outcome::StepRefused { number, place };
+    }
+    let timing = read_lookup::timing(personality);
+    let size = timing.size;
+    let times = timing.times;
+    let crossings = timing.crossings;
+    Outcome::Stepped {
+        wait: wait_bound::wait_bound_by(size, times, crossings),
+    }
+}

@@ -1,0 +1,92 @@
+-- A byte is the set of its bits: bytes with the same bits are the same.
+use Prim.Native.Nat.{ℕ, _-_, _*_, _/_, _%_, _^_, _≤_, _<_}
+use mathlib.Core.Bool.{Bool, true, false, not, _&&_, _||_}
+use mathlib.Core.Logic.{_⊎_, inl, inr, ⊎-elim}
+use mathlib.Core.Path.{_≡_, refl, sym, _∙_}
+use native.Mathlib.Nat.{mod-lt, lt-of-le-of-lt}
+use native.Mathlib.Omega.{arith}
+use lib.Bits.{bitAnd, bitOr, and-le-l, or-lt}
+use lib.Dec.{eqb, ltb}
+use borrow.Author.Tests.{not-true, eqb-true, eqb-false, eq-eqb, ne-eqb, lt-ltb, le-ltb}
+use lib.Pow.{shl-exact}
+use Rattle.laws.specs.Bytes.{bit}
+use Rattle.laws.specs.Folds.{allOf, setOf}
+use Rattle.laws.proofs.Counting.{below-or-past}
+use Rattle.laws.proofs.Folds.{all-at, all-each}
+use Rattle.laws.proofs.Sets.{set-small, bit-set}
+use Rattle.laws.proofs.Booleans.{decided, never-both, not-true-false}
+use Rattle.laws.proofs.CommonBits.{same-bits, bit-and}
+use Rattle.laws.proofs.HighBits.{no-bits-from, bit-from}
+use Rattle.laws.proofs.LowestBit.{bit-one}
+use Rattle.laws.proofs.UnionBits.{bit-or}
+
+pub set-told : (f : ℕ → Bool) (x : ℕ) → x < 256 → ((i : ℕ) → i < 8 → bit i x ≡ f i) → x ≡ setOf f
+set-told f x small told = same-bits 8 x (setOf f) small (set-small f) (λ i l. told i l ∙ sym (bit-set f i l))
+
+pub self-told : (x : ℕ) → x < 256 → x ≡ setOf (λ i. bit i x)
+self-told x small = set-told (λ i. bit i x) x small (λ i l. refl)
+
+-- the members of either
+pub union-told : (f g : ℕ → Bool) (x y : ℕ) → x ≡ setOf f → y ≡ setOf g → bitOr x y ≡ setOf (λ i. f i || g i)
+union-told f g x y e k =
+    set-told (λ i. f i || g i) (bitOr x y) (rw (e, k) (or-lt 8 (setOf f) (setOf g) (set-small f) (set-small g)))
+    (λ i l. rw (e, k) (bit-or i (setOf f) (setOf g) ∙ rw (bit-set f i l, bit-set g i l)))
+
+-- every member is below the count where no bit is left from there on
+pub below-told : (set count : ℕ) → set < 256 → eqb (set / 2 ^ count) 0 ≡ allOf (λ i. not (bit i set) || ltb i count) 8
+below-told set count small =
+    ⊎-elim
+    (λ (e : eqb (set / 2 ^ count) 0 ≡ true). e ∙ sym (all-each _ 8 (λ i l. inside i (eqb-true _ 0 e) (decided (bit i set)))))
+    (λ (e : eqb (set / 2 ^ count) 0 ≡ false).
+    e ∙ sym (not-true-false _ (λ all. eqb-false _ 0 e (no-bits-from count 8 set small (λ i past l. outside i past (all-at _ 8 i all l))))))
+    (decided (eqb (set / 2 ^ count) 0))
+  where
+    inside : (i : ℕ) → set / 2 ^ count ≡ 0 → (bit i set ≡ true) ⊎ (bit i set ≡ false) → (not (bit i set) || ltb i count) ≡ true
+    inside i none (inl e) =
+        rw e
+        (⊎-elim (λ (l : i < count). lt-ltb i count l) (λ (past : count ≤ i). absurd (bit-from count i set past e none)) (below-or-past i count))
+    inside i none (inr e) = rw e
+
+    outside : (i : ℕ) → count ≤ i → (not (bit i set) || ltb i count) ≡ true → bit i set ≡ false
+    outside i past h = not-true-false (bit i set) (λ e. never-both (rw e at h) (le-ltb i count past))
+
+-- ── A byte with all bits, and with all but one ──
+
+abbrev same : Bool → Bool → Bool
+same true b = b
+same false b = not b
+
+same-of : (a b : Bool) → same a b ≡ true → a ≡ b
+same-of true b h = sym h
+same-of false b h = sym (not-true b h)
+
+pub bit-all : (p : ℕ) → p < 8 → bit p 255 ≡ true
+unfolding bit allOf
+bit-all p l = all-at (λ p. bit p 255) 8 p refl l
+
+pub bit-others : (k p : ℕ) → k < 8 → p < 8 → bit p (255 - 1 * 2 ^ k % 256) ≡ not (eqb p k)
+unfolding bit allOf
+bit-others k p l m =
+    same-of (bit p (255 - 1 * 2 ^ k % 256)) (not (eqb p k))
+    (all-at (λ p. same (bit p (255 - 1 * 2 ^ k % 256)) (not (eqb p k))) 8 p
+    (all-at (λ k. allOf (λ p. same (bit p (255 - 1 * 2 ^ k % 256)) (not (eqb p k))) 8) 8 k refl l) m)
+
+-- ── One member more, and one less ──
+
+turned : (a b : ℕ) → eqb a b ≡ eqb b a
+turned a b =
+    ⊎-elim
+    (λ (e : eqb a b ≡ true). e ∙ sym (eq-eqb b a (sym (eqb-true a b e))))
+    (λ (e : eqb a b ≡ false). e ∙ sym (ne-eqb b a (λ q. eqb-false a b e (sym q))))
+    (decided (eqb a b))
+
+pub with-told : (set k : ℕ) → set < 256 → k < 8 → bitOr set (1 * 2 ^ k % 256) ≡ setOf (λ i. bit i set || eqb i k)
+with-told set k small l =
+    let alone : 1 * 2 ^ k % 2 ^ 8 ≡ 1 * 2 ^ k = shl-exact 1 k 8 (omega arith) (omega arith) in
+    set-told (λ i. bit i set || eqb i k) _ (or-lt 8 set (1 * 2 ^ k % 256) small (mod-lt (1 * 2 ^ k) (omega arith)))
+    (λ i m. rw (alone, bit-or i set (1 * 2 ^ k), bit-one k i, turned k i))
+
+pub without-told : (set k : ℕ) → set < 256 → k < 8 → bitAnd set (255 - 1 * 2 ^ k % 256) ≡ setOf (λ i. bit i set && not (eqb i k))
+without-told set k small l =
+    set-told (λ i. bit i set && not (eqb i k)) _ (lt-of-le-of-lt (and-le-l set _) small)
+    (λ i m. rw (bit-and i set (255 - 1 * 2 ^ k % 256), bit-others k i l m))

@@ -1,0 +1,3 @@
+-- Folds over the indices below a number, and little-endian numbers and bits: the vocabulary of the rules.
+pub mod Folds
+pub mod Bytes

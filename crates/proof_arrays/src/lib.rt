@@ -1,1 +1,0 @@
-// Proof only: laws of arrays that loops read and write by index. See proofs/.

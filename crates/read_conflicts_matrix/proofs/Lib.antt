@@ -1,0 +1,2 @@
+pub mod TileBits
+pub mod MatrixRows

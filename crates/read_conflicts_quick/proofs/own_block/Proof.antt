@@ -1,0 +1,25 @@
+-- `read_conflicts_quick::own_block` meets its contract: the tile is its own mirror image and has no bit of the diagonal.
+use native.Mathlib.Omega.{arith}
+use Rattle.read_conflicts_quick.proofs.Pairs.{block-sound, diagonal-bit}
+use borrow.Author.Needs.{needs}
+use Rattle.read_conflicts_quick.proofs.own_block.Statement.{statement}
+use Rattle.read_conflicts_quick.proofs.own_block.Tie as tie
+
+conflict-tile-requires : tie.Need-conflict-tile-requires
+conflict-tile-requires c κs = search needs
+
+cast-matched : tie.Need-cast-matched
+cast-matched c = search needs
+
+matched-requires : tie.Need-matched-requires
+matched-requires c κs = search needs
+
+returns : tie.Need-returns
+returns c e =
+    let atTile = c .before .before in
+    let pre = atTile .before .before .pre in
+    let tile = atTile .conflict-tile .ensures in
+    block-sound (pre .0) tile tile (pre .2) (pre .3) (λ r n h l same. diagonal-bit r n h (omega (arith, same))) (c .matched .ensures e)
+
+pub own-block-spec : {M : Type 1} → statement M
+own-block-spec = tie.close (tie.spec conflict-tile-requires cast-matched matched-requires returns)

@@ -1,2 +1,0 @@
-pub mod TileBits
-pub mod Rows

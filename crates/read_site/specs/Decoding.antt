@@ -1,6 +1,0 @@
--- The parts of a site that the wait bound goes by.
-use Rattle.rules.specs.declared.site.Site.{Site}
-use Rattle.read_site.specs.declared.Timing.{Timing}
-
-abbrev pub timingIn : Site → Timing
-timingIn site = record { size = site .size; times = site .times; crossings = site .crossings }

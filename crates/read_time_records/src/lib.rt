@@ -1,0 +1,77 @@
+// Records of two-byte times, each field held to the one table of limits.
+ghost use Prim.Native.Nat.{_+_, _*_, _≤_};
+ghost use mathlib.Core.Path.{_≡_};
+ghost use lib.Dec.{eqb};
+ghost use lib.ListN.{length};
+ghost use Rattle.rules.specs.Personality.{bodyLength, recordAt, sectionAt, timeAt, timesAt};
+ghost use Rattle.rules.specs.Verdicts.{_orElse_, firstOf};
+use base_bytes::two_in;
+use base_limits::within;
+use read_sections::sized_section;
+use rules::answer::Verdict;
+
+// 5: a time outside its range. It is in the slice, and so are the records below.
+pub fn time_at(s: &[u8], place: usize, setting: usize) -> Verdict
+    requires { ⌜ place + 2 ≤ length (now s) ⌝ }
+    ensures { λ r. ⌜ r ≡ timeAt (now (s .entry)) place setting ⌝ }
+{
+    if within(setting, two_in(s, place)) {
+        return Verdict::Accepted;
+    }
+    Verdict::Refused { number: 5, place }
+}
+
+// A record of two-byte times, field by field, where the first is that of the setting given.
+fn times_at(s: &[u8], place: usize, setting: usize, fields: usize) -> Verdict
+    requires { ⌜ (place ≤ 300000) × (setting ≤ 10) × (fields ≤ 10) × (place + fields * 2 ≤ length (now s)) ⌝ }
+    ensures { λ r. ⌜ r ≡ timesAt (now (s .entry)) place setting fields ⌝ }
+{
+    let mut f: usize = 0;
+    while f < fields {
+        let v = time_at(s, place + f * 2, setting + f);
+        if let Verdict::Refused { .. } = v {
+            return v;
+        }
+        f += 1;
+    }
+    Verdict::Accepted
+}
+
+// A section's records of times, one after the other.
+fn time_records(s: &[u8], head: usize, setting: usize, fields: usize, count: usize) -> Verdict
+    requires { ⌜ (head ≤ 200000) × (setting ≤ 10) × (fields ≤ 10) × (count ≤ 255)
+        × (head + 4 + count * (fields * 2) ≤ length (now s)) ⌝ }
+    ensures { λ r. ⌜ r ≡ firstOf (λ i. timesAt (now (s .entry)) (recordAt head (fields * 2) i) setting fields) count ⌝ }
+{
+    let mut place = head + 4;
+    let mut i: usize = 0;
+    while i < count {
+        let v = times_at(s, place, setting, fields);
+        if let Verdict::Refused { .. } = v {
+            return v;
+        }
+        place += fields * 2;
+        i += 1;
+    }
+    Verdict::Accepted
+}
+
+// A section whose records are of times: its head and its body, and then the records.
+pub fn timed_section(
+    s: &[u8],
+    head: usize,
+    kind: u16,
+    setting: usize,
+    fields: usize,
+    count: usize,
+) -> Verdict
+    requires { ⌜ (head ≤ 200000) × (setting ≤ 10) × (fields ≤ 10) × (count ≤ 255) ⌝ }
+    ensures { λ r. ⌜ r ≡ (sectionAt (now (s .entry)) head kind (eqb (bodyLength (now (s .entry)) head) (count * (fields * 2)))
+        orElse firstOf (λ i. timesAt (now (s .entry)) (recordAt head (fields * 2) i) setting fields) count) ⌝ }
+{
+    let body = sized_section(s, head, kind, count * (fields * 2));
+    if let Verdict::Refused { .. } = body {
+        return body;
+    }
+    time_records(s, head, setting, fields, count)
+}

@@ -1,0 +1,157 @@
+-- Worked cases of one call each, in a list with one statement: each of them holds. Each can be checked by hand beside the papers; all of them
+-- compute in less than a second, and each must-fail edit of the rules makes one of them fail. All other worked cases, document 01's starred
+-- ones among them, are in the crate proof_cases; two of the starred ones stand here too, since an edit needs them.
+use Prim.Native.Nat.{ℕ, _^_}
+use mathlib.Core.Path.{_≡_}
+use mathlib.Core.List.{List, [], _∷_, _++_}
+use lib.ListN.{set, replicate}
+use Rattle.rules.specs.declared.answer.Answer.{Answer}
+use Rattle.rules.specs.declared.answer.Outcome.the-variants.{Stepped, StepRefused}
+use Rattle.rules.specs.declared.answer.Verdict.{Verdict}
+use Rattle.rules.specs.declared.answer.Verdict.the-variants.{Accepted, Refused}
+use Rattle.rules.specs.declared.state.Counts.{Counts}
+use Rattle.rules.specs.declared.state.Demands.{Demands}
+use Rattle.rules.specs.declared.state.Held.{Held}
+use Rattle.rules.specs.declared.state.Held.the-variants.{Nothing, Phase}
+use Rattle.rules.specs.declared.state.Interval.{Interval}
+use Rattle.rules.specs.declared.state.Interval.the-variants.{Running, EarlyCutOff, Yellow, AllRed}
+use Rattle.rules.specs.declared.state.KeptState.{KeptState}
+use Rattle.rules.specs.declared.state.Movement.{Movement}
+use Rattle.rules.specs.declared.state.Position.{Position}
+use Rattle.rules.specs.declared.state.Stage.{Stage}
+use Rattle.rules.specs.declared.state.Stage.the-variants.{Walk, ClearanceOne, ClearanceTwo}
+use Rattle.rules.specs.Personality.{groupCount, verdictOf}
+use Rattle.rules.specs.Site.{siteOf}
+use Rattle.rules.specs.State.{idle}
+use Rattle.rules.specs.Colours.{red, yellow, green, coloursOf}
+use Rattle.rules.specs.WaitBound.{waitBound}
+use Rattle.rules.specs.Call.{answerOf}
+use Rattle.rules.specs.Junctions.{junction, putTwo, crossing, threePhases, callingB, overlap, cutOffs, turning, turningBoth, ordered}
+
+-- What a case says of a personality: its verdict, its wait bound, the answer to a step call from a state, with room for every group, or the
+-- colours in a state.
+pub data CallCase : Type 0 where
+  reading : List ℕ → Verdict → CallCase
+  waiting : List ℕ → ℕ → CallCase
+  answering : List ℕ → KeptState → ℕ → Answer → CallCase
+  showing : List ℕ → KeptState → List ℕ → CallCase
+
+abbrev pub CallHolds : CallCase → Type 0
+CallHolds (reading b verdict) = verdictOf b ≡ verdict
+CallHolds (waiting b wait) = waitBound (siteOf b) ≡ wait
+CallHolds (answering b s inputs answer) = answerOf b s inputs (groupCount b) ≡ answer
+CallHolds (showing b s colours) = coloursOf (siteOf b) (s .core) ≡ colours
+
+abbrev pub AllHold : {A : Type 0} → (A → Type 0) → List A → Type 0
+AllHold Holds [] = Unit {0}
+AllHold Holds (c ∷ cases) = Holds c × AllHold Holds cases
+
+-- ── Writing a state; as a set, 1 is A or the first movement, 2 is B, and 6 is B and C ──
+
+-- a phase, its interval, the interval's age and the target; came-from is none
+abbrev pub at : ℕ → Interval → ℕ → Held → Position
+at phase interval age target = record { phase = phase; interval = interval; age = age; previous = Nothing; target = target }
+
+infix 6 gap_max_
+abbrev pub gap_max_ : ℕ → ℕ → Counts
+gap n max m = record { gap = n; maximum = m }
+
+infix 6 locks_buttons_
+abbrev pub locks_buttons_ : ℕ → ℕ → Demands
+locks ps buttons ks = record { locks = ps; buttons = ks }
+
+abbrev pub moving : Stage → ℕ → Movement
+moving stage age = record { stage = stage; age = age }
+
+-- the first movement is given, the others are idle; the kept set comes last
+abbrev pub state : Position → Counts → Demands → Movement → ℕ → KeptState
+state position counts demands first kept =
+    record {
+      core = record { position = position; counts = counts; demands = demands; movements = first ∷ replicate 7 idle };
+      kept = kept;
+    }
+
+-- ── Writing an answer ──
+
+-- the step is accepted, and gives the wait bound and the new state
+abbrev pub stepping : ℕ → KeptState → Answer
+stepping wait new = record { outcome = Stepped wait; state = new }
+
+-- it is refused with a number, at 0, and hands back the old state
+abbrev pub declining : ℕ → KeptState → Answer
+declining number old = record { outcome = StepRefused number 0; state = old }
+
+-- ── A being left ──
+
+-- for B, whose lock stands
+abbrev pub forB : Interval → ℕ → KeptState
+forB interval age = state (at 0 interval age (Phase 1)) (gap 0 max 1) (locks 2 buttons 0) idle 2
+
+-- for C, whose lock stands; by now that of B stands too
+abbrev pub forC : Interval → ℕ → KeptState
+forC interval age = state (at 0 interval age (Phase 2)) (gap 0 max 1) (locks 6 buttons 0) idle 6
+
+-- ── The list and its statement ──
+
+unfoldable pub callCases : List CallCase
+callCases =
+    -- starred: a yellow below its lowest value, and a maximum green above its highest
+    reading (putTwo junction 20 29) (Refused 5 20)
+    ∷ reading (putTwo junction 16 1501) (Refused 5 16)
+    -- number 9 is checked for all groups before number 10 for any: group 1 is of both phases, and its conflict record is empty
+    ∷ reading (set (set junction 42 3) 52 0) (Refused 9 48)
+    -- an order that has C twice
+    ∷ reading (threePhases ++ ordered (0 ∷ 2 ∷ 2 ∷ [])) (Refused 18 88)
+    -- the detector of B only extends, and calls no phase
+    ∷ reading (set junction 63 4) (Refused 21 56)
+    -- that of A only extends, and the pedestrian group calls A
+    ∷ reading (set crossing 67 4) Accepted
+    -- 21 is checked after kind 6, which is wrong here
+    ∷ reading (set (set junction 63 4) 66 7) (Refused 2 64)
+    -- 21 is checked before 17
+    ∷ reading (set turning 69 4) (Refused 21 62)
+    -- 17 is checked before 12
+    ∷ reading (turning ++ (1 ∷ [])) (Refused 17 42)
+    -- a movement's walk and clearances count twice in its phase's share: 10 + 2 × 50 + 2 × 2 × 40 + 2 × (20 + 50)
+    ∷ waiting crossing 410
+    -- early cut-off green is not valid without a section of kind 7; with one it is, even where the time is 0, and goes on to yellow
+    ∷ answering junction (forB EarlyCutOff 1) 0 (declining 13 (forB EarlyCutOff 1))
+    ∷ answering (junction ++ cutOffs (0 ∷ 0 ∷ [])) (forB EarlyCutOff 1) 0 (stepping 270 (forB Yellow 1))
+    -- part 1: a locking detector of the phase locks in early cut-off green
+    ∷ answering (junction ++ cutOffs (20 ∷ 0 ∷ [])) (forB EarlyCutOff 5) 1
+    (stepping 310 (state (at 0 EarlyCutOff 6 (Phase 1)) (gap 0 max 1) (locks 3 buttons 0) idle 3))
+    -- and a press is registered while its movement is in C1
+    ∷ answering crossing (state (at 0 Running 40 Nothing) (gap 0 max 1) (locks 2 buttons 0) (moving ClearanceOne 5) 2) (2 ^ 48)
+    (stepping 410 (state (at 0 Running 41 Nothing) (gap 0 max 2) (locks 2 buttons 1) (moving ClearanceOne 6) 3))
+    -- part 2: a walk that has lasted W goes on while no other phase is demanded
+    ∷ answering crossing (state (at 0 Running 40 Nothing) (gap 0 max 0) (locks 0 buttons 0) (moving Walk 10) 0) 0
+    (stepping 410 (state (at 0 Running 41 Nothing) (gap 0 max 0) (locks 0 buttons 0) (moving Walk 11) 0))
+    -- and where B is demanded, but the gap count is 0 only after part 3
+    ∷ answering crossing (state (at 0 Running 40 Nothing) (gap 1 max 1) (locks 2 buttons 0) (moving Walk 10) 2) 0
+    (stepping 410 (state (at 0 Running 41 Nothing) (gap 0 max 2) (locks 2 buttons 0) (moving Walk 11) 2))
+    -- part 3: the maximum count goes on rising while the non-locking call of B is away
+    ∷ answering callingB (state (at 0 Running 40 Nothing) (gap 0 max 5) (locks 0 buttons 0) idle 0) 0
+    (stepping 270 (state (at 0 Running 41 Nothing) (gap 0 max 6) (locks 0 buttons 0) idle 0))
+    -- part 4: running ends, and a time of 0 skips early cut-off green
+    ∷ answering (turning ++ cutOffs (0 ∷ 0 ∷ [])) (state (at 0 Running 1 Nothing) (gap 0 max 0) (locks 2 buttons 0) idle 2) 0
+    (stepping 270 (forB Yellow 1))
+    -- in the order A, C, B the target after A is C, where both others are demanded
+    ∷ answering (threePhases ++ ordered (0 ∷ 2 ∷ 1 ∷ [])) (state (at 0 Running 1 Nothing) (gap 0 max 0) (locks 6 buttons 0) idle 6) 0
+    (stepping 400 (forC Yellow 1))
+    -- the target stays C over the end of early cut-off green, and over that of yellow, though B would be next
+    ∷ answering (threePhases ++ cutOffs (20 ∷ 0 ∷ 0 ∷ [])) (forC EarlyCutOff 20) 0 (stepping 440 (forC Yellow 1))
+    ∷ answering threePhases (forC Yellow 30) 0 (stepping 400 (forC AllRed 1))
+    -- yellow lasts Y, which is 30, and not R, which is 10
+    ∷ answering junction (forB Yellow 10) 0 (stepping 270 (forB Yellow 11))
+    -- all-red stays past R while a movement is in C2
+    ∷ answering crossing (state (at 0 AllRed 10 (Phase 1)) (gap 0 max 1) (locks 2 buttons 0) (moving ClearanceTwo 40) 2) 0
+    (stepping 410 (state (at 0 AllRed 11 (Phase 1)) (gap 0 max 1) (locks 2 buttons 0) (moving ClearanceTwo 41) 2))
+    -- a group that has the target in its set stays green in yellow, and in early cut-off green where it stops early
+    ∷ showing overlap (forB Yellow 1) (yellow ∷ red ∷ green ∷ red ∷ [])
+    ∷ showing (turningBoth ++ cutOffs (20 ∷ 0 ∷ [])) (forB EarlyCutOff 1) (green ∷ green ∷ red ∷ [])
+    -- an arrow is red in yellow once Y steps are over since early cut-off green began: 20 + 11 is past 30
+    ∷ showing (turning ++ cutOffs (20 ∷ 0 ∷ [])) (forB Yellow 11) (yellow ∷ red ∷ red ∷ [])
+    ∷ []
+
+unfoldable pub CallsHold : Type 0
+CallsHold = AllHold CallHolds callCases

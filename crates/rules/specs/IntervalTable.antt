@@ -1,0 +1,98 @@
+-- The intervals and the stages, a row for each, the tests of them that the rules make, and what is asked of a phase that may be held.
+use Prim.Native.Nat.{ℕ}
+use mathlib.Core.Bool.{Bool, true, false}
+use mathlib.Core.List.{List, [], _∷_}
+use Rattle.rules.specs.declared.state.Held.{Held}
+use Rattle.rules.specs.declared.state.Held.the-variants.{Nothing, Phase}
+use Rattle.rules.specs.declared.state.Interval.{Interval}
+use Rattle.rules.specs.declared.state.Interval.the-variants.{StartRed, LateStart, MinimumGreen, Running, EarlyCutOff, Yellow, AllRed}
+use Rattle.rules.specs.declared.state.IntervalRow.{IntervalRow}
+use Rattle.rules.specs.declared.state.Stage.{Stage}
+use Rattle.rules.specs.declared.state.Stage.the-variants.{Idle, Walk, ClearanceOne, ClearanceTwo}
+use Rattle.rules.specs.declared.state.StageRow.{StageRow}
+use Rattle.laws.specs.Bytes.{bit}
+
+-- ── Intervals ──
+
+-- The letters are S, L, M, G, E, Y and R.
+abbrev pub intervalRow : Interval → IntervalRow
+intervalRow StartRed = record { code = 0; letter = 83; start = true; minimum = false; running = false; green = false; early = false; leaving = false; starts = true }
+intervalRow LateStart = record { code = 1; letter = 76; start = false; minimum = false; running = false; green = false; early = false; leaving = false; starts = false }
+intervalRow MinimumGreen = record { code = 2; letter = 77; start = false; minimum = true; running = false; green = true; early = false; leaving = false; starts = false }
+intervalRow Running = record { code = 3; letter = 71; start = false; minimum = false; running = true; green = true; early = false; leaving = false; starts = false }
+intervalRow EarlyCutOff = record { code = 4; letter = 69; start = false; minimum = false; running = false; green = false; early = true; leaving = true; starts = false }
+intervalRow Yellow = record { code = 5; letter = 89; start = false; minimum = false; running = false; green = false; early = false; leaving = true; starts = false }
+intervalRow AllRed = record { code = 6; letter = 82; start = false; minimum = false; running = false; green = false; early = false; leaving = true; starts = true }
+
+-- all of them, in the order of their codes
+abbrev pub intervals : List Interval
+intervals = StartRed ∷ LateStart ∷ MinimumGreen ∷ Running ∷ EarlyCutOff ∷ Yellow ∷ AllRed ∷ []
+
+unfoldable pub isStartRed : Interval → Bool
+isStartRed interval = intervalRow interval .start
+
+unfoldable pub isMinimumGreen : Interval → Bool
+isMinimumGreen interval = intervalRow interval .minimum
+
+unfoldable pub isRunning : Interval → Bool
+isRunning interval = intervalRow interval .running
+
+-- minimum green or running
+unfoldable pub isGreen : Interval → Bool
+isGreen interval = intervalRow interval .green
+
+unfoldable pub isEarly : Interval → Bool
+isEarly interval = intervalRow interval .early
+
+-- early cut-off green, yellow or all-red: the phase is being left
+unfoldable pub isLeaving : Interval → Bool
+isLeaving interval = intervalRow interval .leaving
+
+-- start red or all-red: a phase starts when it ends
+unfoldable pub isBeforeStart : Interval → Bool
+isBeforeStart interval = intervalRow interval .starts
+
+-- the interval's letter in a trace, as its ASCII code
+unfoldable pub letterOf : Interval → ℕ
+letterOf interval = intervalRow interval .letter
+
+-- ── Stages ──
+
+abbrev pub stageRow : Stage → StageRow
+stageRow Idle = record { code = 0; idle = true; walk = false; holding = false; second = false }
+stageRow Walk = record { code = 1; idle = false; walk = true; holding = true; second = false }
+stageRow ClearanceOne = record { code = 2; idle = false; walk = false; holding = true; second = false }
+stageRow ClearanceTwo = record { code = 3; idle = false; walk = false; holding = false; second = true }
+
+-- all of them, in the order of their codes
+abbrev pub stages : List Stage
+stages = Idle ∷ Walk ∷ ClearanceOne ∷ ClearanceTwo ∷ []
+
+unfoldable pub isIdle : Stage → Bool
+isIdle stage = stageRow stage .idle
+
+unfoldable pub isWalk : Stage → Bool
+isWalk stage = stageRow stage .walk
+
+-- walk or C1
+unfoldable pub isWalkOrFirst : Stage → Bool
+isWalkOrFirst stage = stageRow stage .holding
+
+unfoldable pub isSecond : Stage → Bool
+isSecond stage = stageRow stage .second
+
+-- ── A phase that may be held ──
+
+unfoldable pub isHeld : Held → Bool
+isHeld Nothing = false
+isHeld (Phase p) = true
+
+-- the phase held, or 0
+unfoldable pub phaseHeld : Held → ℕ
+phaseHeld Nothing = 0
+phaseHeld (Phase p) = p
+
+-- the phase held is in the set
+unfoldable pub heldIn : Held → ℕ → Bool
+heldIn Nothing set = false
+heldIn (Phase p) set = bit p set

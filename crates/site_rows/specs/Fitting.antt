@@ -1,0 +1,26 @@
+-- What the decoders take for granted of the bytes and their layout, and the movements that one pass over the groups finds.
+use Prim.Native.Nat.{ℕ, _+_, _*_, _≤_}
+use mathlib.Core.Bool.{true}
+use mathlib.Core.List.{List}
+use mathlib.Core.Path.{_≡_}
+use lib.ListN.{length}
+use Rattle.rules.specs.Personality.{bodyAt, detectorCount, movementCount}
+use Rattle.rules.specs.Site.{siteOf}
+use Rattle.read_layout.specs.declared.Layout.{Layout}
+use Rattle.read_layout.specs.LayoutOf.{LayoutOf}
+use Rattle.site_rows.specs.declared.PedestrianSets.{PedestrianSets}
+
+-- each count is at most the room of its array, and all sections are there
+pub record Fitting (b : List ℕ) (w : Layout) : Type 0 where
+  pub laid : LayoutOf b w
+  pub phases : w .phasecount ≤ 7
+  pub groups : w .groupcount ≤ 32
+  pub detectors : detectorCount b ≤ 48
+  pub movements : movementCount b ≤ 8
+  pub whole : bodyAt (w .pedestrians) + movementCount b * 6 ≤ length b
+  pub early : w .hasearly ≡ true → bodyAt (w .early) + w .phasecount * 2 ≤ length b
+  pub order : w .hasorder ≡ true → bodyAt (w .order) + w .phasecount ≤ length b
+
+-- how many movements the site has, and the phase set of each movement's group
+unfoldable pub crossingsIn : List ℕ → PedestrianSets
+crossingsIn b = record { count = movementCount b; sets = siteOf b .crossings }

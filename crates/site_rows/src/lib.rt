@@ -1,0 +1,124 @@
+// The rows of a site, in the bytes of a personality that reach to the end of its last section: groups, conflicts, detectors, the sets of
+// the pedestrian groups and the running order. The records go into an array from the front; entries past the section's own count stay blank.
+ghost use Prim.Native.Nat.{_<_};
+ghost use mathlib.Core.Path.{_≡_};
+ghost use Rattle.rules.specs.Personality.{detectorCount};
+ghost use Rattle.rules.specs.Site.{orderIn, siteOf};
+ghost use Rattle.site_rows.specs.Fitting.{Fitting, crossingsIn};
+use base_bytes::byte_in;
+use base_bytes::four_in;
+use read_layout::Layout;
+use read_sections::records::pair_at;
+use rules::site::Detector;
+use rules::site::Group;
+
+// ---- Groups, conflicts, detectors ----
+
+pub fn groups(s: &[u8], layout: Layout) -> [Group; 32]
+    requires { ⌜ Fitting (now s) layout ⌝ }
+    ensures { λ r. ⌜ r ≡ siteOf (now (s .entry)) .groups ⌝ }
+{
+    let head = layout.groups;
+    let count = layout.groupcount as usize;
+    let blank = Group { phases: 0, mark: 0 };
+    let mut rows = [blank; 32];
+    let mut g: usize = 0;
+    while g < count {
+        let group = pair_at(s, head, g);
+        rows[g] = Group {
+            phases: group.first,
+            mark: group.second,
+        };
+        g += 1;
+    }
+    rows
+}
+
+pub fn conflicts(s: &[u8], layout: Layout) -> [u32; 32]
+    requires { ⌜ Fitting (now s) layout ⌝ }
+    ensures { λ r. ⌜ r ≡ siteOf (now (s .entry)) .conflicts ⌝ }
+{
+    let head = layout.conflicts;
+    let count = layout.groupcount as usize;
+    let mut rows = [0u32; 32];
+    let mut g: usize = 0;
+    while g < count {
+        rows[g] = four_in(s, head + 4 + g * 4);
+        g += 1;
+    }
+    rows
+}
+
+pub fn detectors(s: &[u8], layout: Layout, count: usize) -> [Detector; 48]
+    requires { ⌜ Fitting (now s) layout × (count ≡ detectorCount (now s)) ⌝ }
+    ensures { λ r. ⌜ r ≡ siteOf (now (s .entry)) .detectors ⌝ }
+{
+    let head = layout.detectors;
+    let blank = Detector { phase: 0, mode: 0 };
+    let mut rows = [blank; 48];
+    let mut d: usize = 0;
+    while d < count {
+        let detector = pair_at(s, head, d);
+        rows[d] = Detector {
+            phase: detector.first,
+            mode: detector.second,
+        };
+        d += 1;
+    }
+    rows
+}
+
+// ---- Movements ----
+
+// How many pedestrian groups there are, and their phase sets in group order.
+pub struct PedestrianSets {
+    pub count: usize,
+    pub sets: [u8; 8],
+}
+
+pub fn crossings(s: &[u8], layout: Layout) -> PedestrianSets
+    requires { ⌜ Fitting (now s) layout ⌝ }
+    ensures { λ r. ⌜ r ≡ crossingsIn (now (s .entry)) ⌝ }
+{
+    let head = layout.groups;
+    let groups = layout.groupcount as usize;
+    let mut sets = [0u8; 8];
+    let mut count: usize = 0;
+    let mut g: usize = 0;
+    while g < groups {
+        let group = pair_at(s, head, g);
+        if group.second == 2 {
+            sets[count] = group.first;
+            count += 1;
+        }
+        g += 1;
+    }
+    PedestrianSets { count, sets }
+}
+
+// ---- The running order ----
+
+// Its i-th phase: as kind 9 lists it, or by letter without it.
+fn order_in(s: &[u8], layout: Layout, i: u8) -> u8
+    requires { ⌜ Fitting (now s) layout × (i < layout .phasecount) ⌝ }
+    ensures { λ r. ⌜ r ≡ orderIn (now (s .entry)) i ⌝ }
+{
+    if layout.hasorder {
+        return byte_in(s, layout.order + 4 + i as usize);
+    }
+    i
+}
+
+pub fn order(s: &[u8], layout: Layout) -> [u8; 7]
+    requires { ⌜ Fitting (now s) layout ⌝ }
+    ensures { λ r. ⌜ r ≡ siteOf (now (s .entry)) .order ⌝ }
+{
+    let count = layout.phasecount;
+    let mut phases = [0u8; 7];
+    let mut i: u8 = 0;
+    while i < count {
+        phases[i as usize] = order_in(s, layout, i);
+        i += 1;
+    }
+    phases
+}

@@ -1,0 +1,71 @@
+// The site in the bytes of a personality that reach to the end of its last section. Each section is passed once, and kind 3 once more for the
+// pedestrian groups in it.
+ghost use mathlib.Core.Path.{_≡_};
+ghost use Rattle.rules.specs.Personality.{movementCount};
+ghost use Rattle.rules.specs.Site.{siteOf};
+ghost use Rattle.site_rows.specs.Fitting.{Fitting};
+ghost use Rattle.site_whole.specs.Decoding.{timingIn};
+use read_layout::Layout;
+use rules::site::Site;
+use rules::site::Size;
+use rules::site::Times;
+use site_rows::conflicts;
+use site_rows::crossings;
+use site_rows::detectors;
+use site_rows::groups;
+use site_rows::order;
+use site_times::times_in;
+
+// The counts. Kind 5 has records of 2, and its body reaches to the next head.
+fn size(s: &[u8], layout: Layout, movements: usize) -> Size
+    requires { ⌜ Fitting (now s) layout × (movements ≡ movementCount (now s)) ⌝ }
+    ensures { λ r. ⌜ r ≡ siteOf (now (s .entry)) .size ⌝ }
+{
+    Size {
+        phases: layout.phasecount,
+        groups: layout.groupcount,
+        detectors: ((layout.pedestrians - layout.detectors - 4) / 2) as u8,
+        movements: movements as u8,
+    }
+}
+
+pub fn site_of(s: &[u8], layout: Layout) -> Site
+    requires { ⌜ Fitting (now s) layout ⌝ }
+    ensures { λ r. ⌜ r ≡ siteOf (now (s .entry)) ⌝ }
+{
+    let found = crossings(s, layout);
+    let size = size(s, layout, found.count);
+    let sets = found.sets;
+    Site {
+        size,
+        groups: groups(s, layout),
+        conflicts: conflicts(s, layout),
+        detectors: detectors(s, layout, size.detectors as usize),
+        crossings: sets,
+        early: layout.hasearly,
+        order: order(s, layout),
+        times: times_in(s, layout, found.count),
+    }
+}
+
+// The parts of the site that the wait bound goes by.
+pub struct Timing {
+    pub size: Size,
+    pub times: Times,
+    pub crossings: [u8; 8],
+}
+
+// Read apart from the rest, so that a step has the only call of `site` and the compiler takes it in there.
+pub fn timing_in(s: &[u8], layout: Layout) -> Timing
+    requires { ⌜ Fitting (now s) layout ⌝ }
+    ensures { λ r. ⌜ r ≡ timingIn (siteOf (now (s .entry))) ⌝ }
+{
+    let found = crossings(s, layout);
+    let size = size(s, layout, found.count);
+    let sets = found.sets;
+    Timing {
+        size,
+        times: times_in(s, layout, found.count),
+        crossings: sets,
+    }
+}

@@ -1,0 +1,54 @@
+-- What the tests of bytes tell, field by field, and the test of the movement records at the places that the code reads.
+use Prim.Native.Nat.{ℕ, _+_, _*_, _<_}
+use mathlib.Core.Bool.{Bool, true, _&&_, and-true}
+use mathlib.Core.List.{List}
+use mathlib.Core.Path.{_≡_}
+use lib.Dec.{eqb}
+use lib.ListN.{length}
+use borrow.Author.Tests.{ltb-true, eqb-true}
+use Rattle.laws.specs.Bytes.{byteAt}
+use Rattle.rules.specs.IntervalTable.{intervals, stages}
+use Rattle.laws.specs.Folds.{allOf}
+use Rattle.rules.specs.State.{idle}
+use Rattle.laws.proofs.Booleans.{and-left, and-right}
+use Rattle.state_forms.specs.Forms.{held, row}
+use Rattle.state_bytes.specs.Layout.{interval, stage, position, movement, movements, movementsAt, state, stateBytes, isState}
+
+-- both of two tests that pass
+split : (a b : Bool) → (a && b) ≡ true → (a ≡ true) × (b ≡ true)
+split a b h = (and-left a b h, and-right a b h)
+
+pub record PositionKnown (b : List ℕ) (at : ℕ) : Type 0 where
+  pub code : byteAt b (at + 1) < length intervals
+  pub previous : held .known b (at + 4) ≡ true
+  pub target : held .known b (at + 6) ≡ true
+
+pub position-told : (b : List ℕ) (at : ℕ) → position .known b at ≡ true → PositionKnown b at
+position-told b at h =
+    let first = split (interval .known b (at + 1)) _ h in
+    let rest = split (held .known b (at + 4)) _ (first .1) in
+    record { code = ltb-true (byteAt b (at + 1)) (length intervals) (first .0); previous = rest .0; target = rest .1 }
+
+pub stage-told : (b : List ℕ) (at : ℕ) → movement .known b at ≡ true → byteAt b (at + 0) < length stages
+stage-told b at h = ltb-true (byteAt b (at + 0)) (length stages) (and-left (stage .known b (at + 0)) true h)
+
+pub movements-tested : (b : List ℕ) (at n : ℕ) → row n idle movement .known b at ≡ allOf (λ k. stage .known b (at + k * movement .width + 0)) n
+movements-tested b at n = simp and-true
+
+pub record StateKnown (b : List ℕ) : Type 0 where
+  pub size : length b ≡ stateBytes
+  pub known : state .known b 0 ≡ true
+  pub position-known : position .known b 0 ≡ true
+  pub movements-known : movements .known b movementsAt ≡ true
+
+pub state-told : (b : List ℕ) → isState b ≡ true → StateKnown b
+unfolding isState
+state-told b h =
+    let first = split (eqb (length b) stateBytes) _ h in
+    let second = split (position .known b 0) _ (first .1) in
+    record {
+      size = eqb-true (length b) stateBytes (first .0);
+      known = first .1;
+      position-known = second .0;
+      movements-known = and-left (movements .known b movementsAt) true (second .1);
+    }

@@ -1,0 +1,4 @@
+pub mod Laws
+pub mod RoundTrips
+pub mod KnownBytes
+pub mod Written

@@ -1,0 +1,34 @@
+-- `state_bytes::is_state` meets its contract: bytes of another length are none, and the tests after that are the layout's.
+use mathlib.Core.Bool.{and-true}
+use lib.ListN.{length}
+use borrow.Author.Tests.{eq-eqb, ne-eqb}
+use Rattle.state_bytes.specs.Layout.{stateBytes, isState}
+use borrow.Author.Needs.{needs}
+use Rattle.state_bytes.proofs.is_state.Statement.{statement}
+use Rattle.state_bytes.proofs.is_state.Tie as tie
+
+returns : tie.Need-returns
+unfolding isState
+returns c = rw (ne-eqb (length (c .before .before .args .bytes .now)) stateBytes (c .if1 .taken))
+
+known-requires : tie.Need-known-requires
+known-requires c κs = search needs
+
+known-requires-2 : tie.Need-known-requires-2
+known-requires-2 c κs = search needs
+
+returns-2 : tie.Need-returns-2
+unfolding isState
+returns-2 c =
+    let tested = c .before .before in
+    let b = tested .before .before .args .bytes .now in
+    rw (
+      c .known2 .ensures,
+      c .before .known .ensures,
+      eq-eqb (length b) stateBytes (tested .if1 .left),
+    )
+    (simp and-true)
+
+pub is-state-spec : {M : Type 1} → statement M
+is-state-spec =
+    tie.close (tie.spec returns known-requires known-requires-2 returns-2)

@@ -1,0 +1,45 @@
+-- `state_bytes::movements::put_one` meets its contract: the stage's code, and the age behind it.
+use native.Mathlib.Nat.{add-zero}
+use native.Mathlib.Numerals.{add-one}
+use native.Mathlib.Omega.{arith}
+use lib.ListN.{length-set}
+use borrow.Author.Needs.{needs}
+use Rattle.state_bytes.proofs.movements.put_one.Statement.{statement}
+use Rattle.state_bytes.proofs.movements.put_one.Tie as tie
+
+stage-row-requires : tie.Need-stage-row-requires
+stage-row-requires c κs = search needs
+
+add-bytes : tie.Need-add-bytes
+add-bytes c = search needs
+
+slice-write-bytes : tie.Need-slice-write-bytes
+slice-write-bytes c = search needs
+
+add-put-two : tie.Need-add-put-two
+add-put-two c = search needs
+
+put-two-requires : tie.Need-put-two-requires
+put-two-requires c κs = simp length-set (omega arith)
+
+same-length : tie.Need-same-length
+same-length c = rw (c .before .before .put-two .ensures) (simp length-set)
+
+returns : tie.Need-returns
+returns c =
+    let age = c .before .before in
+    let row = age .before .before in
+    let at = row .before .before .args .at in
+    rw (age .put-two .ensures, row .stage-row .ensures, add-zero at, add-one at)
+
+pub put-one-spec : {M : Type 1} → statement M
+put-one-spec =
+    tie.close
+    (tie.spec
+    stage-row-requires
+    add-bytes
+    slice-write-bytes
+    add-put-two
+    put-two-requires
+    same-length
+    returns)

@@ -1,0 +1,138 @@
+-- How values stand in bytes. A form tells how many bytes a value has, which bytes they are, whether the bytes from a place on are such a
+-- value, and which value; and which values the machine's type has, where the rules' type has more. Numbers are little-endian.
+use Prim.Native.Nat.{ℕ, zero, suc, _+_, _*_, _/_, _%_, _<_}
+use mathlib.Core.Bool.{Bool, true, _&&_, _||_}
+use mathlib.Core.List.{List, [], _∷_, _++_}
+use mathlib.Core.Path.{_≡_}
+use lib.Dec.{ltb, eqb}
+use lib.ListN.{length, getD}
+use Rattle.rules.specs.declared.state.Held.{Held}
+use Rattle.rules.specs.declared.state.Held.the-variants.{Nothing, Phase}
+use Rattle.laws.specs.Bytes.{byteAt, twoAt}
+use Rattle.rules.specs.IntervalTable.{isHeld, phaseHeld}
+use Rattle.laws.specs.Folds.{if_then_else_, allOf, listOf}
+
+pub record Form (A : Type 0) : Type 1 where
+  pub width : ℕ
+  pub written : A → List ℕ
+  pub known : List ℕ → ℕ → Bool
+  pub read : List ℕ → ℕ → A
+  pub fits : A → Type 0
+
+-- ── One value ──
+
+abbrev pub byte : Form ℕ
+byte = record { width = 1; written = λ x. x ∷ []; known = λ b at. true; read = byteAt; fits = λ x. x < 256 }
+
+-- a number of two bytes
+abbrev pub two : Form ℕ
+two = record { width = 2; written = λ x. x % 256 ∷ x / 256 ∷ []; known = λ b at. true; read = twoAt; fits = λ x. x < 65536 }
+
+-- one of several, by its code, which is its place among them all
+abbrev pub coded : {A : Type 0} → List A → A → (A → ℕ) → Form A
+coded all first code =
+    record {
+      width = 1;
+      written = λ x. code x ∷ [];
+      known = λ b at. ltb (byteAt b at) (length all);
+      read = λ b at. getD all (byteAt b at) first;
+      fits = λ x. record {};
+    }
+
+-- a phase or none: a tag, 1 where a phase is held, and the phase, 0 where none is
+abbrev pub flagCode : Bool → ℕ
+flagCode flag = if flag then 1 else 0
+
+abbrev pub heldKnown : ℕ → ℕ → Bool
+heldKnown tag phase = eqb tag 1 || (eqb tag 0 && eqb phase 0)
+
+abbrev pub heldOf : ℕ → ℕ → Held
+heldOf tag phase = if eqb tag 1 then Phase phase else Nothing
+
+abbrev pub held : Form Held
+held =
+    record {
+      width = 2;
+      written = λ h. flagCode (isHeld h) ∷ phaseHeld h ∷ [];
+      known = λ b at. heldKnown (byteAt b at) (byteAt b (at + 1));
+      read = λ b at. heldOf (byteAt b at) (byteAt b (at + 1));
+      fits = λ h. phaseHeld h < 256;
+    }
+
+-- ── Several of a kind ──
+
+-- f 0, .., f (n - 1), one behind the other
+unfoldable pub partsOf : (ℕ → List ℕ) → ℕ → List ℕ
+partsOf f zero = []
+partsOf f (suc n) = partsOf f n ++ f n
+
+-- n values, one behind the other; past a list's end stands the default
+abbrev pub row : {A : Type 0} → ℕ → A → Form A → Form (List A)
+row n default form =
+    record {
+      width = n * form .width;
+      written = λ l. partsOf (λ k. form .written (getD l k default)) n;
+      known = λ b at. allOf (λ k. form .known b (at + k * form .width)) n;
+      read = λ b at. listOf (λ k. form .read b (at + k * form .width)) n;
+      fits = λ l. (length l ≡ n) × ((k : ℕ) → k < n → form .fits (getD l k default));
+    }
+
+-- ── Records ──
+
+-- the value stands so many bytes further on
+abbrev pub placed : {A : Type 0} → ℕ → Form A → Form A
+placed place form =
+    record {
+      width = form .width;
+      written = form .written;
+      known = λ b at. form .known b (at + place);
+      read = λ b at. form .read b (at + place);
+      fits = form .fits;
+    }
+
+-- two values, each at its own place
+abbrev pub both : {A B : Type 0} → Form A → Form B → Form (A × B)
+both f g =
+    record {
+      width = f .width + g .width;
+      written = λ p. f .written (p .0) ++ g .written (p .1);
+      known = λ b at. f .known b at && g .known b at;
+      read = λ b at. (f .read b at, g .read b at);
+      fits = λ p. f .fits (p .0) × g .fits (p .1);
+    }
+
+-- A record's fields, and their form.
+pub record Table (S : Type 0) : Type 1 where
+  pub Fields : Type 0
+  pub fields : S → Fields
+  pub form : Form Fields
+
+-- a row of a table: the place of the field's first byte in the record, its form, and the field
+abbrev pub field : {S A : Type 0} → ℕ → Form A → (S → A) → Table S
+field {A = A} place form own = record { Fields = A; fields = own; form = placed place form }
+
+infixr 5 _⊗_
+abbrev pub _⊗_ : {S : Type 0} → Table S → Table S → Table S
+t ⊗ u =
+    record {
+      Fields = t .Fields × u .Fields;
+      fields = λ s. (t .fields s, u .fields s);
+      form = both (t .form) (u .form);
+    }
+
+-- the record that is made of the fields
+abbrev pub made : {S : Type 0} (t : Table S) → (t .Fields → S) → Form S
+made t make =
+    record {
+      width = t .form .width;
+      written = λ s. t .form .written (t .fields s);
+      known = t .form .known;
+      read = λ b at. make (t .form .read b at);
+      fits = λ s. t .form .fits (t .fields s);
+    }
+
+-- ── Bytes ──
+
+-- every number is a byte
+pub record AreBytes (b : List ℕ) : Type 0 where
+  pub each : (i : ℕ) → byteAt b i < 256

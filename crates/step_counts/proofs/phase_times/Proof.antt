@@ -1,0 +1,25 @@
+-- `step_counts::phase_times` meets its contract: inside the array its entry, past it a blank.
+use borrow.Author.Needs.{needs}
+use mathlib.Core.Path.{sym}
+use native.Mathlib.Omega.{arith}
+use lib.ListN.{List·getD-eq-default}
+use Rattle.rules.specs.Site.{noPhaseTimes}
+use Rattle.step_counts.proofs.phase_times.Statement.{statement}
+use Rattle.step_counts.proofs.phase_times.Tie as tie
+
+mul-result : tie.Need-mul-result
+mul-result c = search needs
+
+array-copy-out-result : tie.Need-array-copy-out-result
+array-copy-out-result c = search needs
+
+returns : tie.Need-returns
+returns c = search needs
+
+returns-2 : tie.Need-returns-2
+returns-2 c =
+    let at-start = c .before in
+    sym (List·getD-eq-default (at-start .args .t1) noPhaseTimes (omega (arith, at-start .good .0 .1 .0 .1)))
+
+pub phase-times-spec : {M : Type 1} → statement M
+phase-times-spec = tie.close (tie.spec mul-result array-copy-out-result returns returns-2)

@@ -1,0 +1,55 @@
+-- `step_valid::position_valid` meets its contract: its five tests are those of the rule's list.
+use borrow.Author.Needs.{needs}
+use mathlib.Core.List.{[], _∷_}
+use lib.Dec.{ltb}
+use Rattle.rules.specs.IntervalTable.{isLeaving}
+use Rattle.rules.specs.State.{intervalValid, targetValid, previousValid, ageValid, positionValid}
+use Rattle.step_valid.proofs.Records.{joined-every}
+use Rattle.step_valid.proofs.position_valid.Statement.{statement}
+use Rattle.step_valid.proofs.position_valid.Tie as tie
+
+interval-valid-requires : tie.Need-interval-valid-requires
+interval-valid-requires c κs = search needs
+
+is-leaving-requires : tie.Need-is-leaving-requires
+is-leaving-requires c κs = search needs
+
+target-valid-requires : tie.Need-target-valid-requires
+target-valid-requires c κs = search needs
+
+previous-valid-requires : tie.Need-previous-valid-requires
+previous-valid-requires c κs = search needs
+
+age-valid-requires : tie.Need-age-valid-requires
+age-valid-requires c κs = search needs
+
+returns : tie.Need-returns
+unfolding positionValid
+returns c =
+    let called = c .before .before in
+    let a = called .before .before .before .args in
+    let position = a .position in
+    rw (
+      called .before .before .interval-valid .ensures,
+      called .target-valid .ensures,
+      called .before .is-leaving .ensures,
+      c .before .previous-valid .ensures,
+      c .age-valid .ensures,
+    )
+    (joined-every (ltb (position .phase) (a .phases))
+    (intervalValid (a .early) (position .interval)
+    ∷ targetValid (a .phases) (position .phase) (isLeaving (position .interval)) (position .target)
+    ∷ previousValid (a .phases) (position .previous)
+    ∷ ageValid (position .age)
+    ∷ []))
+
+pub position-valid-spec : {M : Type 1} → statement M
+position-valid-spec =
+    tie.close
+    (tie.spec
+    interval-valid-requires
+    is-leaving-requires
+    target-valid-requires
+    previous-valid-requires
+    age-valid-requires
+    returns)
