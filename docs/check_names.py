@@ -13,13 +13,15 @@ checked.
 The rules. In backticks:
 
  1. `a/b` is a path: from the document's folder, the repository, crates/ or a crate that the section names. The ending .antt or .rt, and the
-    folder src, specs or proofs of a crate, may be left out. `crate/label` is a must-fail edit. `*` stands for any name, and so do NAME,
+    folder src, specs or proofs of a crate, may be left out. `crate/label` is a must-fail edit, and
+    `crate/File.name` a definition or theorem of that crate. `*` stands for any name, and so do NAME,
     LABEL, FILE, MODULE and FUNCTION. `name/` alone is a folder of that name anywhere. A path in target/ is not checked, since it is built; a
     word whose parts have fewer than three letters, as km/h, is no path.
  2. `name.ext` is a file of that name anywhere in the repository, if ext is the ending of one of its files.
  3. `crate::item`, `crate::module::item`: a function, type or constant in src/. The crate may be left out if the section names it, and it may
     be a package of rust/. `Type::item`: a variant, constant or function of the type.
- 4. `File.name`: a definition of File.antt in specs/ or proofs/, or a field of the type File; in `rules` or in a crate that the section names.
+ 4. `File.name`: a definition of File.antt in specs/ or proofs/, or a field of the type File; in `rules`, in `laws` or in a crate
+    that the section names.
  5. `willowera_name`: an exported function, in each of the three places of rule 15.
  6. `snake_case`: a crate, a must-fail edit, an example, a package of rust/, or something declared in the code. In a document beside .edit
     files: an edit of that folder, a crate or a function. `prefix_` and `prefix_*`: at least one of these begins with it. C types (`_t`) are
@@ -197,7 +199,7 @@ def find_path(tree, word, folder, scope):
     path = path[2:] if path.startswith('./') else path
     bases = [folder, '', 'crates'] + [f'crates/{crate}' for crate in scope]
     for base in bases:
-        for ending in ('', '.antt', '.rt'):
+        for ending in ('', '.antt', '.rt', '.edit'):
             if tree.exists(os.path.join(base, path + ending)):
                 return None
     head, _, rest = path.partition('/')
@@ -205,6 +207,9 @@ def find_path(tree, word, folder, scope):
         for inner in (f'must-fail/{rest}.edit', f'specs/{rest}.antt', f'proofs/{rest}.antt', f'src/{rest}.rt'):
             if tree.exists(f'crates/{head}/{inner}'):
                 return None
+        m = DOTTED.match(rest)
+        if m and head in tree.crates:
+            return find_declared(tree, [head], m.group(1), m.group(2))
         if head in tree.crates:
             return f'a must-fail edit `{rest}` of the crate {head}, or a file of it'
     return 'a file or folder'
@@ -236,15 +241,18 @@ def find_item(tree, parts, scope):
     return 'a function of a crate that the section names, or a variant of a type'
 
 
-def find_definition(tree, file, name, scope):
-    crates = ['rules'] + [c for c in scope if c != 'rules']
+def find_declared(tree, crates, file, name):
     for crate in crates:
         for folder in ('specs', 'proofs'):
             if name in tree.declared.get(f'crates/{crate}/{folder}/{file}.antt', ()):
                 return None
         if name in tree.members.get((crate, file), ()):
             return None
-    return f'a definition `{name}` in {file}.antt of rules or of a crate that the section names'
+    return f'a definition or theorem `{name}` in {file}.antt of ' + ' or '.join(crates)
+
+
+def find_definition(tree, file, name, scope):
+    return find_declared(tree, ['rules', 'laws'] + [c for c in scope if c not in ('rules', 'laws')], file, name)
 
 
 def find_snake(tree, word, folder):
