@@ -4,3 +4,4 @@ pub mod Acceptance
 pub mod Refusals
 pub mod Places
 pub mod WaitBound
+pub mod Largest

@@ -262,9 +262,9 @@ refusal-is-written b s inputs room =
 
 -- ── An accepted personality ──
 
-pub accepted-is-short : AcceptedIsShort
-unfolding AcceptedIsShort earlyHead pastSection
-accepted-is-short b h =
+length-within : (b : List ℕ) → verdictOf b ≡ Accepted → length b ≤ greatestLength
+unfolding earlyHead pastSection
+length-within b h =
     let s = sections-accepted b h in
     let placed = order-placed b (s .pedestrians) (s .early) in
     omega (
@@ -275,3 +275,7 @@ accepted-is-short b h =
       end-placed b (placed .0) (s .order),
       s .last,
     )
+
+pub accepted-is-short : AcceptedIsShort
+unfolding AcceptedIsShort
+accepted-is-short = (refl, length-within)

@@ -18,7 +18,7 @@ use Rattle.laws.proofs.Folds.{greatest-most}
 use Rattle.laws.proofs.Counting.{sum-within}
 use Rattle.proof_acceptance.proofs.Acceptance.{accepted-is-sound, accepted-is-in-table}
 
-pub greatest-wait : greatestWait limits ≡ 37950
+greatest-wait : greatestWait limits ≡ 37950
 unfolding greatestWait greatestShare phaseShare highestPhase highestWalk highest limitOf limits
 greatest-wait = refl
 
@@ -79,5 +79,8 @@ module _ (table : List Range) (size : Size) (times : Times) (crossings : List �
 
 pub wait-is-in-table : WaitIsInTable
 unfolding WaitIsInTable AcceptedIsSound AcceptedIsInTable
-wait-is-in-table b h =
-    wait-within limits (siteOf b .size) (siteOf b .times) (siteOf b .crossings) (accepted-is-in-table b h) (accepted-is-sound b h .phases .1)
+wait-is-in-table = (
+  greatest-wait,
+  λ b h.
+      wait-within limits (siteOf b .size) (siteOf b .times) (siteOf b .crossings) (accepted-is-in-table b h) (accepted-is-sound b h .phases .1),
+)

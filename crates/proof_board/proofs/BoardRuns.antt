@@ -20,19 +20,15 @@ use Rattle.rules.specs.Site.{siteOf}
 use Rattle.rules.specs.Kept.{freshKept, keptValid, keptStepped}
 use Rattle.rules.specs.WaitBound.{waitBound}
 use Rattle.rules.specs.Call.{boundFor, handedBack, checksBy, callVerdict, answerOf, bufferOf}
-use Rattle.rules.specs.Laws.{Sound, AcceptedIsSound, RefusalIsWritten}
-use Rattle.rules.specs.Scanning.{FreshKeptIsValid, StepKeepsKept}
+use Rattle.rules.specs.Laws.{RefusalIsWritten, FreshIsValid, StepKeepsValid}
 use Rattle.rules.specs.DemandThree.{ruled, Call, takenFrom, SafeRun, DemandThreeOf, DemandThree}
 use Rattle.state_bytes.specs.Layout.{stateBytes, decoded, encoded, encodedOver, Proper}
 use Rattle.state_bytes.proofs.RoundTrips.{encoded-is-state, decoded-encoded}
 use Rattle.willowera.specs.Board.{packed, packedVerdict, packedOutcome, freshAnswer, stepAnswer, stateFor, stateAfter, coloursAfter}
 use Rattle.proof_runs.proofs.Chains.{checks-told}
-use Rattle.proof_acceptance.proofs.Acceptance.{accepted-is-sound}
 use Rattle.proof_acceptance.proofs.Refusals.{refusal-is-written}
 use Rattle.proof_acceptance.proofs.Places.{number-fits}
-use Rattle.proof_validity.proofs.Fresh.{fresh-is-valid}
-use Rattle.proof_validity.proofs.Validity.{step-keeps-valid}
-use Rattle.proof_kept.proofs.Forgets.{fresh-kept-is-valid, step-keeps-kept}
+use Rattle.proof_guarantees.proofs.Accepted.{fresh-is-valid, step-keeps-valid}
 use Rattle.proof_guarantees.proofs.DemandThree.{demand-three}
 use Rattle.proof_board.specs.BoardRuns.{outcomeIn, verdictIn, board, BoardDemandThree, StepIsProper}
 use Rattle.proof_board.proofs.Proper.{step-is-proper, fresh-is-proper}
@@ -111,7 +107,7 @@ module _ (b : List ℕ) (s : KeptState) (proper : Proper s) (inputs : ℕ) where
 
 -- ── A list of calls ──
 
-module _ (b : List ℕ) (sound : Sound (siteOf b)) (buffer : List ℕ) where
+module _ (b : List ℕ) (known : verdictOf b ≡ Accepted) (buffer : List ℕ) where
   -- a call leads to a state that is valid and that the types hold
   kept-for :
       (s : KeptState) →
@@ -121,10 +117,10 @@ module _ (b : List ℕ) (sound : Sound (siteOf b)) (buffer : List ℕ) where
       callVerdict b s inputs room ≡ v →
       let next = handedBack v (keptStepped (siteOf b) s inputs) s in
       (keptValid (siteOf b) next ≡ true) × Proper next
-  unfolding checksBy handedBack StepKeepsKept StepIsProper
+  unfolding checksBy handedBack StepKeepsValid StepIsProper
   kept-for s validState proper inputs room Accepted e =
       let wired = checks-told b inputs room (keptValid (siteOf b) s) e .1 in
-      (step-keeps-kept step-keeps-valid (siteOf b) sound s inputs validState wired, step-is-proper (siteOf b) sound s inputs validState wired)
+      (step-keeps-valid b known s inputs validState wired, step-is-proper b known s inputs validState wired)
   kept-for s validState proper inputs room (Refused number place) e = (validState, proper)
 
   same-run :
@@ -163,12 +159,11 @@ fresh-bytes true e old = refl
 fresh-bytes false e old = absurd (omega (arith, e))
 
 pub board-demand-three : BoardDemandThree
-unfolding BoardDemandThree DemandThree DemandThreeOf AcceptedIsSound FreshKeptIsValid freshAnswer encodedOver ruled board
+unfolding BoardDemandThree DemandThree DemandThreeOf FreshIsValid freshAnswer encodedOver ruled board
 board-demand-three buffer written b read calls =
     let known = sym (read-for b (verdictOf b) refl) ∙ read in
-    let sound = accepted-is-sound b known in
     let bytes = fresh-bytes (eqb (length buffer) stateBytes) written buffer in
     let same =
     ap (λ (state : List ℕ). takenFrom (board buffer) b state calls) bytes
-    ∙ same-run b sound buffer calls freshKept (fresh-kept-is-valid fresh-is-valid (siteOf b) sound) (fresh-is-proper (siteOf b) sound) in
+    ∙ same-run b known buffer calls freshKept (fresh-is-valid b known) (fresh-is-proper b known) in
     subst (SafeRun (siteOf b)) (sym same) (demand-three b known calls)

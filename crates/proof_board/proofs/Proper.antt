@@ -2,32 +2,34 @@
 -- counts, and a step makes its sets and its row of movements anew, at their sizes.
 use Prim.Native.Nat.{ℕ, _≤_, _<_}
 use mathlib.Core.Bool.{Bool, true, not, _&&_}
+use mathlib.Core.List.{List}
 use mathlib.Core.Path.{_≡_, refl}
 use native.Mathlib.Omega.{arith}
 use borrow.Author.Tests.{ltb-true}
 use lib.Dec.{ltb, eqb}
 use lib.ListN.{length}
+use Rattle.rules.specs.declared.answer.Verdict.the-variants.{Accepted}
 use Rattle.rules.specs.declared.site.Site.{Site}
 use Rattle.rules.specs.declared.state.Held.{Held}
 use Rattle.rules.specs.declared.state.Held.the-variants.{Nothing, Phase}
 use Rattle.rules.specs.declared.state.KeptState.{KeptState}
+use Rattle.rules.specs.Personality.{verdictOf}
+use Rattle.rules.specs.Site.{siteOf}
 use Rattle.rules.specs.IntervalTable.{isLeaving, phaseHeld}
 use Rattle.rules.specs.State.{fresh, movement, targetValid, previousValid, valid}
 use Rattle.rules.specs.Step.{steppedBy, steppedTo}
 use Rattle.rules.specs.Kept.{freshKept, keptValid, keptStepped}
 use Rattle.rules.specs.Interval.{locksLeft}
 use Rattle.rules.specs.Walks.{walksBegun, buttonsLeft}
-use Rattle.rules.specs.Laws.{Sound}
-use Rattle.rules.specs.Scanning.{FreshKeptIsValid, StepKeepsKept}
+use Rattle.rules.specs.Laws.{Sound, AcceptedIsSound, FreshIsValid, StepKeepsValid}
 use Rattle.laws.proofs.Booleans.{and-left, and-right}
 use Rattle.laws.proofs.Folds.{list-length}
 use Rattle.laws.proofs.Sets.{set-small}
 use Rattle.rules.proofs.Settings.{phase-timed}
 use Rattle.state_bytes.specs.Layout.{position as positionForm, counts as countsForm, demands as demandsForm, movements as movementsForm, Proper}
 use Rattle.proof_runs.proofs.ValidStates.{state-told}
-use Rattle.proof_validity.proofs.Fresh.{fresh-is-valid}
-use Rattle.proof_validity.proofs.Validity.{step-keeps-valid}
-use Rattle.proof_kept.proofs.Forgets.{fresh-kept-is-valid, step-keeps-kept}
+use Rattle.proof_acceptance.proofs.Acceptance.{accepted-is-sound}
+use Rattle.proof_guarantees.proofs.Accepted.{fresh-is-valid, step-keeps-valid}
 use Rattle.proof_board.specs.BoardRuns.{StepIsProper}
 
 target-below : (count phase : ℕ) (leaving : Bool) (target : Held) → targetValid count phase leaving target ≡ true → 1 ≤ count → phaseHeld target < count
@@ -66,14 +68,15 @@ proper-of site sound s validState locks buttons movements kept =
     (position, (counts, (demands, (records, kept))))
 
 pub step-is-proper : StepIsProper
-unfolding StepIsProper StepKeepsKept keptStepped steppedTo steppedBy locksLeft walksBegun buttonsLeft
-step-is-proper site sound s inputs validState wired =
-    proper-of site sound (keptStepped site s inputs) (step-keeps-kept step-keeps-valid site sound s inputs validState wired)
+unfolding StepIsProper AcceptedIsSound StepKeepsValid keptStepped steppedTo steppedBy locksLeft walksBegun buttonsLeft
+step-is-proper b known s inputs validState wired =
+    proper-of (siteOf b) (accepted-is-sound b known) (keptStepped (siteOf b) s inputs) (step-keeps-valid b known s inputs validState wired)
     (set-small _)
     (set-small _)
     (list-length _ 8)
     (set-small _)
 
-pub fresh-is-proper : (site : Site) → Sound site → Proper freshKept
-unfolding FreshKeptIsValid freshKept fresh
-fresh-is-proper site sound = proper-of site sound freshKept (fresh-kept-is-valid fresh-is-valid site sound) (omega arith) (omega arith) refl (omega arith)
+pub fresh-is-proper : (b : List ℕ) → verdictOf b ≡ Accepted → Proper freshKept
+unfolding AcceptedIsSound FreshIsValid freshKept fresh
+fresh-is-proper b known =
+    proper-of (siteOf b) (accepted-is-sound b known) freshKept (fresh-is-valid b known) (omega arith) (omega arith) refl (omega arith)

@@ -9,13 +9,12 @@ use Rattle.rules.specs.declared.answer.Outcome.{Outcome}
 use Rattle.rules.specs.declared.answer.Outcome.the-variants.{Stepped, StepRefused}
 use Rattle.rules.specs.declared.answer.Verdict.{Verdict}
 use Rattle.rules.specs.declared.answer.Verdict.the-variants.{Accepted, Refused}
-use Rattle.rules.specs.declared.site.Site.{Site}
 use Rattle.rules.specs.declared.state.KeptState.{KeptState}
 use Rattle.laws.specs.Folds.{if_then_else_}
 use Rattle.rules.specs.Personality.{verdictOf}
+use Rattle.rules.specs.Site.{siteOf}
 use Rattle.rules.specs.Kept.{freshKept, keptValid, keptStepped}
 use Rattle.rules.specs.Call.{strayInput}
-use Rattle.rules.specs.Laws.{Sound}
 use Rattle.rules.specs.DemandThree.{Controller, DemandThreeOf}
 use Rattle.state_bytes.specs.Layout.{decoded, encodedOver, Proper}
 use Rattle.willowera.specs.Board.{packedVerdict, freshAnswer, stepAnswer, stateAfter, coloursAfter}
@@ -48,12 +47,12 @@ BoardDemandThree = (buffer : List ℕ) → freshAnswer buffer ≡ 0 → DemandTh
 
 -- ── A law of states as bytes ──
 
--- a step leads to a state that the machine's types hold
+-- on an accepted personality a step from a valid state leads to a state that the machine's types hold
 unfoldable pub StepIsProper : Type 0
 StepIsProper =
-    (site : Site) →
-    Sound site →
+    (b : List ℕ) →
+    verdictOf b ≡ Accepted →
     (s : KeptState) (inputs : ℕ) →
-    keptValid site s ≡ true →
-    strayInput site inputs ≡ false →
-    Proper (keptStepped site s inputs)
+    keptValid (siteOf b) s ≡ true →
+    strayInput (siteOf b) inputs ≡ false →
+    Proper (keptStepped (siteOf b) s inputs)

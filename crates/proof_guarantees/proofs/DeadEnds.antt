@@ -16,22 +16,23 @@ use Rattle.rules.specs.State.{valid}
 use Rattle.rules.specs.Step.{stepped}
 use Rattle.rules.specs.WaitBound.{waitBound}
 use Rattle.rules.specs.Call.{strayInput, stepVerdict, boundFor, handedBack, checksBy}
-use Rattle.rules.specs.Laws.{Sound, StepKeepsValid}
+use Rattle.rules.specs.Laws.{Sound}
 use Rattle.rules.specs.DemandThree.{Call, Taken, takenFrom, NoDeadEnd}
 use Rattle.rules.specs.Scanning.{scanVerdict, scanning}
 use Rattle.proof_runs.proofs.Linked.{Linked, reached}
 use Rattle.proof_runs.proofs.Chains.{accepted-told}
+use Rattle.proof_validity.proofs.Validity.{stepped-valid}
 
-module _ (keeps : StepKeepsValid) (b : List ℕ) (sound : Sound (siteOf b)) where
+module _ (b : List ℕ) (sound : Sound (siteOf b)) where
   -- a call leads from a valid state to a valid state
-  pub valid-for :
+  valid-for :
       (s : State) →
       valid (siteOf b) s ≡ true →
       (inputs room : ℕ) (v : Verdict) →
       scanVerdict b s inputs room ≡ v →
       valid (siteOf b) (handedBack v (stepped (siteOf b) s inputs) s) ≡ true
-  unfolding StepKeepsValid handedBack
-  valid-for s validState inputs room Accepted e = keeps (siteOf b) sound s inputs validState (accepted-told b s inputs room e .1)
+  unfolding handedBack
+  valid-for s validState inputs room Accepted e = stepped-valid (siteOf b) sound s inputs validState (accepted-told b s inputs room e .1)
   valid-for s validState inputs room (Refused number place) e = validState
 
   module _ (known : verdictOf b ≡ Accepted) where

@@ -1,3 +1,5 @@
+pub mod Accepted
+pub mod ScanningRuns
 pub mod DeadEnds
 pub mod DemandThree
 pub mod Junction

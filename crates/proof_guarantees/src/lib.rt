@@ -1,2 +1,3 @@
-// Proof only: demand 3 for every accepted personality and every list of step calls. The statement is in rules/specs/Runs.antt, the
-// theorem in proofs/DemandThree.antt.
+// Proof only: what is promised of every accepted personality. Demand 3 and its parts are stated in rules/specs/Runs.antt and proved in
+// proofs/DemandThree.antt; the other statements are in rules/specs/Laws.antt and Scanning.antt, with proofs in proofs/Accepted.antt and
+// proofs/ScanningRuns.antt.

@@ -1,1 +1,2 @@
-// Proof only: what a valid state tells, and a run of step calls as a chain of accepted steps. See proofs/.
+// Proof only: the kept set of demanded phases is the scan, and a step that keeps it does the same to the rest of the state as the scanning
+// step. See proofs/.

@@ -16,10 +16,10 @@ use Rattle.laws.specs.Folds.{allOf}
 use Rattle.rules.specs.Personality.{knownMode}
 use Rattle.rules.specs.Site.{detectorOf, crosses}
 use Rattle.rules.specs.IntervalTable.{isIdle, isWalk, isGreen}
-use Rattle.rules.specs.State.{locked, asked, movement}
+use Rattle.rules.specs.State.{locked, asked, movement, valid}
 use Rattle.rules.specs.Demands.{occupied, pressed, calling, locking, detectedAmong, detected, inGreen, registersLock, registersButton, calls, demandsAfter, stands, demanded}
 use Rattle.rules.specs.Call.{wired, strayInput}
-use Rattle.rules.specs.Laws.{Sound, PhasesCanBeCalled}
+use Rattle.rules.specs.Laws.{Sound}
 use Rattle.laws.proofs.Folds.{any-at, any-none, all-at}
 use Rattle.laws.proofs.Booleans.{decided, and-left, and-both, and-false-left, and-false-right, or-left, or-right, not-true-false}
 use Rattle.proof_runs.proofs.Demanded.{lock-demands, button-demands}
@@ -56,6 +56,11 @@ only-bit i j l m =
     (all-at (λ j. agree (bit j (2 ^ i)) (eqb i j)) 64 j
     (all-at (λ i. allOf (λ j. agree (bit j (2 ^ i)) (eqb i j)) 64) 56 i refl l) m)
 
+-- as a number it fits 64 bits
+bit-fits : (i : ℕ) → i < 56 → 2 ^ i < 2 ^ 64
+unfolding allOf
+bit-fits i l = ltb-true (2 ^ i) (2 ^ 64) (all-at (λ i. ltb (2 ^ i) (2 ^ 64)) 56 i refl l)
+
 own-bit : (i : ℕ) → i < 56 → bit i (2 ^ i) ≡ true
 own-bit i l = only-bit i i l (omega arith) ∙ eq-eqb i i refl
 
@@ -91,7 +96,7 @@ module _ (site : Site) where
     module _ (sound : Sound site) (v : ValidState site s) (here : p < site .size .phases) where
       -- by that input alone
       abbrev CalledBy : ℕ → Type 0
-      CalledBy i = (strayInput site (2 ^ i) ≡ false) × (demanded site s (2 ^ i) p ≡ true)
+      CalledBy i = (2 ^ i < 2 ^ 64) × (strayInput site (2 ^ i) ≡ false) × (demanded site s (2 ^ i) p ≡ true)
 
       module _ (d : ℕ) (l : d < site .size .detectors) (own : detectorOf (site .detectors) d .phase ≡ p) where
         detector-bit : d < 56
@@ -106,6 +111,7 @@ module _ (site : Site) where
         by-detector some =
             let rest = detectorOf (site .detectors) d .mode % 4 in
             let few = ltb-true rest 3 (and-left (ltb rest 3) _ (sound .detectorMode d l)) in (
+              bit-fits d detector-bit,
               none-stray d detector-bit (or-left _ (lt-ltb d (site .size .detectors) l)),
               ⊎-elim
                   (λ (e : eqb rest 1 ≡ true). call-demands (2 ^ d) (found calling e))
@@ -132,19 +138,27 @@ module _ (site : Site) where
         unfolding askedNow registersButton pressed movement wired
         by-button =
             let button : 48 + k < 56 = omega (arith, room) in (
+              bit-fits (48 + k) button,
               none-stray (48 + k) button
                   (or-right (ltb (48 + k) (site .size .detectors))
                   (and-both (le-leb 48 (48 + k) (omega arith)) (lt-ltb (48 + k) (48 + site .size .movements) (omega arith)))),
               button-demands site s (2 ^ (48 + k)) k p room l own (or-right (asked s k) (and-both (own-bit (48 + k) button) (ap not not-walking))),
             )
 
-      called : (inputs : ℕ) × (strayInput site inputs ≡ false) × (demanded site s inputs p ≡ true)
+      called : (inputs : ℕ) × (inputs < 2 ^ 64) × (strayInput site inputs ≡ false) × (demanded site s inputs p ≡ true)
       called =
           ⊎-elim
-          (λ w. let by = by-detector (w .0) (w .1) (w .2) (w .3) in (2 ^ w .0, by .0, by .1))
-          (λ w. let by = by-button (w .0) (w .1) (w .2) in (2 ^ (48 + w .0), by .0, by .1))
+          (λ w. let by = by-detector (w .0) (w .1) (w .2) (w .3) in (2 ^ w .0, by .0, by .1, by .2))
+          (λ w. let by = by-button (w .0) (w .1) (w .2) in (2 ^ (48 + w .0), by .0, by .1, by .2))
           (sound .caller p here)
 
-pub phases-can-be-called : PhasesCanBeCalled
-unfolding PhasesCanBeCalled
-phases-can-be-called site sound s h p here other = called site s p other sound (state-told site s h) here
+pub phase-called :
+    (site : Site) →
+    Sound site →
+    (s : State) →
+    valid site s ≡ true →
+    (p : ℕ) →
+    p < site .size .phases →
+    (p ≡ s .position .phase → ⊥) →
+    (inputs : ℕ) × (inputs < 2 ^ 64) × (strayInput site inputs ≡ false) × (demanded site s inputs p ≡ true)
+phase-called site sound s h p here other = called site s p other sound (state-told site s h) here

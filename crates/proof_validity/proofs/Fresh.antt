@@ -1,13 +1,14 @@
 -- The fresh state of a sound site is valid: its phase is A, which every site has, its counts are 0, nothing is demanded, and every
 -- movement is idle at age 1.
-use mathlib.Core.Path.{refl, sym, subst}
+use mathlib.Core.Bool.{true}
+use mathlib.Core.Path.{_≡_, refl, sym, subst}
 use native.Mathlib.Omega.{arith}
 use lib.ListN.{getD-replicate}
 use Rattle.rules.specs.declared.site.Site.{Site}
 use Rattle.rules.specs.declared.state.Movement.{Movement}
 use Rattle.rules.specs.IntervalTable.{isIdle, isEarly, isLeaving}
-use Rattle.rules.specs.State.{idle, fresh, locked, asked, movement, intervalValid, targetValid, previousValid}
-use Rattle.rules.specs.Laws.{Sound, FreshIsValid}
+use Rattle.rules.specs.State.{idle, fresh, locked, asked, movement, intervalValid, targetValid, previousValid, valid}
+use Rattle.rules.specs.Laws.{Sound}
 use Rattle.laws.proofs.Bits.{bit-blank}
 use Rattle.laws.proofs.Booleans.{or-right, never-both}
 use Rattle.proof_runs.proofs.ValidStates.{ValidState, ValidMovement, state-holds}
@@ -32,6 +33,5 @@ fresh-state site sound =
           (idle-valid site (fresh .position) k idle refl refl);
     }
 
-pub fresh-is-valid : FreshIsValid
-unfolding FreshIsValid
-fresh-is-valid site sound = state-holds site fresh (fresh-state site sound)
+pub fresh-valid : (site : Site) → Sound site → valid site fresh ≡ true
+fresh-valid site sound = state-holds site fresh (fresh-state site sound)

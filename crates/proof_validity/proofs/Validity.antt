@@ -1,15 +1,15 @@
 -- A step from a valid state, with inputs that are all wired, leads to a valid state: position, counts, demands and movements of the
 -- next state are each shown valid in a file of their own.
 use Prim.Native.Nat.{ℕ}
-use mathlib.Core.Bool.{false}
+use mathlib.Core.Bool.{true, false}
 use mathlib.Core.Path.{_≡_, sym, subst}
 use Rattle.rules.specs.declared.site.Site.{Site}
 use Rattle.rules.specs.declared.state.Position.{Position}
 use Rattle.rules.specs.declared.state.State.{State}
-use Rattle.rules.specs.State.{movement}
+use Rattle.rules.specs.State.{movement, valid}
 use Rattle.rules.specs.Step.{stepped}
 use Rattle.rules.specs.Call.{strayInput}
-use Rattle.rules.specs.Laws.{Sound, StepKeepsValid}
+use Rattle.rules.specs.Laws.{Sound}
 use Rattle.proof_runs.proofs.ValidStates.{ValidState, ValidMovement, state-told, state-holds}
 use Rattle.proof_runs.proofs.Steps.{position-of, counts-of}
 use Rattle.proof_validity.proofs.Positions.{next-position}
@@ -42,7 +42,12 @@ next-state site sound s inputs v stray =
           (next-movement site sound s inputs k l v);
     }
 
-pub step-keeps-valid : StepKeepsValid
-unfolding StepKeepsValid
-step-keeps-valid site sound s inputs h stray =
+pub stepped-valid :
+    (site : Site) →
+    Sound site →
+    (s : State) (inputs : ℕ) →
+    valid site s ≡ true →
+    strayInput site inputs ≡ false →
+    valid site (stepped site s inputs) ≡ true
+stepped-valid site sound s inputs h stray =
     state-holds site (stepped site s inputs) (next-state site sound s inputs (state-told site s h) stray)

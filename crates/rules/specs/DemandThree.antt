@@ -221,13 +221,30 @@ pub record SafeRun (site : Site) (calls : List Taken) : Type 0 where
   pub demandsMet : DemandsMet site (waitBound site) (accepted calls)
   pub noDeadEnd : NoDeadEnd site calls
 
--- every list of calls on every accepted personality, from the fresh state
-unfoldable pub DemandThreeOf : {S : Type 0} → Controller S → Type 0
-DemandThreeOf controller =
+-- a claim about every list of calls on every accepted personality, from the fresh state
+abbrev pub OfEveryRun : {S : Type 0} → Controller S → (Site → List Taken → Type 0) → Type 0
+OfEveryRun controller Claim =
     (b : List ℕ) →
     controller .verdict b ≡ Accepted →
     (calls : List Call) →
-    SafeRun (siteOf b) (takenFrom controller b (controller .fresh) calls)
+    Claim (siteOf b) (takenFrom controller b (controller .fresh) calls)
+
+unfoldable pub DemandThreeOf : {S : Type 0} → Controller S → Type 0
+DemandThreeOf controller = OfEveryRun controller SafeRun
 
 unfoldable pub DemandThree : Type 0
 DemandThree = DemandThreeOf ruled
+
+-- ── Its parts, each for itself ──
+
+unfoldable pub RunsHaveNoConflictingGreens : Type 0
+RunsHaveNoConflictingGreens = OfEveryRun ruled (λ site calls. NoConflictingGreens site (accepted calls))
+
+unfoldable pub RunsHaveFullClearances : Type 0
+RunsHaveFullClearances = OfEveryRun ruled (λ site calls. FullClearances site (accepted calls))
+
+unfoldable pub RunsMeetDemands : Type 0
+RunsMeetDemands = OfEveryRun ruled (λ site calls. DemandsMet site (waitBound site) (accepted calls))
+
+unfoldable pub RunsHaveNoDeadEnd : Type 0
+RunsHaveNoDeadEnd = OfEveryRun ruled NoDeadEnd

@@ -1,7 +1,8 @@
 -- Laws that show the rules fit together, stated: what a table of limits has to give, what acceptance tells of a site, which refusals
--- there are, how large a wait bound can be, what the buffer holds at each point of the pass over the groups, that every phase can be
--- called, and that steps lead from valid states to valid states.
-use Prim.Native.Nat.{ℕ, _+_, _*_, _%_, _≤_, _<_}
+-- there are, how long a personality and how large a wait bound can be, what the buffer holds at each point of the pass over the groups,
+-- that every phase can be called, and that steps lead from valid states to valid states. What needs acceptance is stated over the bytes of an
+-- accepted personality.
+use Prim.Native.Nat.{ℕ, _+_, _*_, _%_, _^_, _≤_, _<_}
 use mathlib.Core.Bool.{Bool, true, false, _&&_, _||_}
 use mathlib.Core.List.{List}
 use mathlib.Core.Logic.{_⊎_}
@@ -21,9 +22,9 @@ use Rattle.laws.specs.Folds.{allOf, countOf}
 use Rattle.rules.specs.Limits.{limits, limitOf, startRedSetting, phaseSettings, walkSettings, earlySetting, settingCount}
 use Rattle.rules.specs.Personality.{knownMode, verdictOf}
 use Rattle.rules.specs.Site.{siteOf, groupOf, detectorOf, phaseTimes, walkTimes, inPhase, crosses, isPedestrian, movementOf, conflict}
-use Rattle.rules.specs.State.{highestAge, fresh, valid}
+use Rattle.rules.specs.State.{highestAge}
 use Rattle.rules.specs.Demands.{demanded}
-use Rattle.rules.specs.Step.{stepped}
+use Rattle.rules.specs.Kept.{freshKept, keptValid, keptStepped}
 use Rattle.rules.specs.Colours.{shownIn, bufferAt}
 use Rattle.rules.specs.WaitBound.{phaseShare, waitBound}
 use Rattle.rules.specs.Call.{strayInput, callVerdict, bufferFor}
@@ -120,24 +121,33 @@ Caller site p =
     ((d : ℕ) × (d < site .size .detectors) × (detectorOf (site .detectors) d .phase ≡ p) × (detectorOf (site .detectors) d .mode % 4 ≡ 0 → ⊥))
     ⊎ ((k : ℕ) × (k < site .size .movements) × (crosses (site .crossings) k p ≡ true))
 
+-- What acceptance tells of the site that the bytes hold. A comment gives the refusal that each fact comes from, so that the record says what
+-- every check of the reader is for. Proofs use most of the facts. Five are here for that list alone: groupPhase, groupMark, phaseGroup,
+-- conflictOther and conflictBack.
 pub record Sound (site : Site) : Type 0 where
+  -- 4, 3 and 7: the counts
   pub phases : (2 ≤ site .size .phases) × (site .size .phases ≤ 7)
   pub groups : (1 ≤ site .size .groups) × (site .size .groups ≤ 32)
   pub detectors : site .size .detectors ≤ 48
   pub movements : site .size .movements ≤ 8
+  -- 5: the times
   pub times : SoundTimes (site .size) (site .times)
-  -- without a section of kind 7 no phase has early cut-off green, and no group stops early
+  -- 17: without a section of kind 7 no phase has early cut-off green, and no group stops early
   pub noEarlyTime : (p : ℕ) → site .early ≡ false → phaseTimes (site .times) p .early ≡ 0
   pub noEarlyGroup : (g : ℕ) → site .early ≡ false → groupOf (site .groups) g .mark ≡ 3 → ⊥
-  -- each phase stands once in the running order
+  -- 18: each phase stands once in the running order
   pub orderOnce : (p : ℕ) → p < site .size .phases → countOf (λ i. eqb (getD (site .order) i 0) p) (site .size .phases) ≡ 1
-  -- groups, detectors and movements are of phases that exist, and each phase has a group
+  -- 6: groups are of phases that exist, and their marks are known
   pub groupPhase : (g p : ℕ) → inPhase (site .groups) g p ≡ true → (g < site .size .groups) × (p < site .size .phases)
   pub groupMark : (g : ℕ) → groupOf (site .groups) g .mark ≤ 3
+  -- 8: each phase has a group
   pub phaseGroup : (p : ℕ) → p < site .size .phases → (g : ℕ) × (g < site .size .groups) × (inPhase (site .groups) g p ≡ true)
+  -- 11: detectors are of phases that exist, and their modes are known
   pub detectorPhase : (d : ℕ) → d < site .size .detectors → detectorOf (site .detectors) d .phase < site .size .phases
   pub detectorMode : (d : ℕ) → d < site .size .detectors → knownMode (detectorOf (site .detectors) d .mode) ≡ true
+  -- 21: each phase has a caller
   pub caller : (p : ℕ) → p < site .size .phases → Caller site p
+  -- 6: a movement has one phase, and there is no movement past the count
   pub crossing : (k : ℕ) → k < site .size .movements → OnePhase site k
   pub noCrossing : (k p : ℕ) → site .size .movements ≤ k → crosses (site .crossings) k p ≡ false
   -- a pedestrian group has a movement, which is of the group's phase
@@ -148,10 +158,11 @@ pub record Sound (site : Site) : Type 0 where
       isPedestrian (site .groups) g ≡ true →
       (p : ℕ) →
       crosses (site .crossings) (movementOf (site .groups) g) p ≡ inPhase (site .groups) g p
-  -- conflicts are between groups that exist, never of a group with itself, symmetric, and share no phase
+  -- 9: conflicts are between groups that exist, never of a group with itself, and symmetric
   pub conflictGroups : (g j : ℕ) → conflict site g j ≡ true → (g < site .size .groups) × (j < site .size .groups)
   pub conflictOther : (g j : ℕ) → conflict site g j ≡ true → g ≡ j → ⊥
   pub conflictBack : (g j : ℕ) → conflict site g j ≡ true → conflict site j g ≡ true
+  -- 10: conflicting groups share no phase
   pub conflictPhase : (g j : ℕ) → conflict site g j ≡ true → (p : ℕ) → inPhase (site .groups) g p ≡ true → inPhase (site .groups) j p ≡ true → ⊥
 
 unfoldable pub AcceptedIsSound : Type 0
@@ -186,8 +197,9 @@ greatestLength =
     + sectionLength 7 2
     + sectionLength 7 1
 
+-- that is 477 bytes, and no accepted personality is longer
 unfoldable pub AcceptedIsShort : Type 0
-AcceptedIsShort = (b : List ℕ) → verdictOf b ≡ Accepted → length b ≤ greatestLength
+AcceptedIsShort = (greatestLength ≡ 477) × ((b : List ℕ) → verdictOf b ≡ Accepted → length b ≤ greatestLength)
 
 -- a place of the personality: within the bytes or just past their end, and no further on than the longest personality goes
 abbrev pub PlaceIn : List ℕ → ℕ → Type 0
@@ -206,8 +218,9 @@ RefusalIsWritten =
 
 -- ── The wait bound ──
 
+-- the table that the reader asks gives 37,950 steps, and no accepted personality has a greater wait bound
 unfoldable pub WaitIsInTable : Type 0
-WaitIsInTable = (b : List ℕ) → verdictOf b ≡ Accepted → waitBound (siteOf b) ≤ greatestWait limits
+WaitIsInTable = (greatestWait limits ≡ 37950) × ((b : List ℕ) → verdictOf b ≡ Accepted → waitBound (siteOf b) ≤ greatestWait limits)
 
 -- ── The pass of the group list ──
 
@@ -228,29 +241,29 @@ PassEndsInColours =
 
 -- ── Every phase can be called ──
 
--- From every valid state there are inputs, none of them stray, that demand any phase other than the one of the state. (The only caller of
--- that one may be a movement in walk.)
+-- From every valid state there are 64 input bits, none of them stray, that demand any phase other than the one of the state. (The only caller
+-- of that one may be a movement in walk.)
 unfoldable pub PhasesCanBeCalled : Type 0
 PhasesCanBeCalled =
-    (site : Site) →
-    Sound site →
-    (s : State) →
-    valid site s ≡ true →
+    (b : List ℕ) →
+    verdictOf b ≡ Accepted →
+    (s : KeptState) →
+    keptValid (siteOf b) s ≡ true →
     (p : ℕ) →
-    p < site .size .phases →
-    (p ≡ s .position .phase → ⊥) →
-    (inputs : ℕ) × (strayInput site inputs ≡ false) × (demanded site s inputs p ≡ true)
+    p < siteOf b .size .phases →
+    (p ≡ s .core .position .phase → ⊥) →
+    (inputs : ℕ) × (inputs < 2 ^ 64) × (strayInput (siteOf b) inputs ≡ false) × (demanded (siteOf b) (s .core) inputs p ≡ true)
 
 -- ── Valid states ──
 
 unfoldable pub FreshIsValid : Type 0
-FreshIsValid = (site : Site) → Sound site → valid site fresh ≡ true
+FreshIsValid = (b : List ℕ) → verdictOf b ≡ Accepted → keptValid (siteOf b) freshKept ≡ true
 
 unfoldable pub StepKeepsValid : Type 0
 StepKeepsValid =
-    (site : Site) →
-    Sound site →
-    (s : State) (inputs : ℕ) →
-    valid site s ≡ true →
-    strayInput site inputs ≡ false →
-    valid site (stepped site s inputs) ≡ true
+    (b : List ℕ) →
+    verdictOf b ≡ Accepted →
+    (s : KeptState) (inputs : ℕ) →
+    keptValid (siteOf b) s ≡ true →
+    strayInput (siteOf b) inputs ≡ false →
+    keptValid (siteOf b) (keptStepped (siteOf b) s inputs) ≡ true

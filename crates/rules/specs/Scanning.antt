@@ -1,10 +1,11 @@
 -- What keeping the demanded phases must not change: the same rules with the demanded phases found by a scan in each step and no set kept,
 -- and the laws that hold the kept set to them.
 use Prim.Native.Nat.{ℕ, _<_}
-use mathlib.Core.Bool.{true, false}
+use mathlib.Core.Bool.{true}
 use mathlib.Core.List.{List}
 use mathlib.Core.Path.{_≡_}
 use Rattle.rules.specs.declared.answer.Verdict.{Verdict}
+use Rattle.rules.specs.declared.answer.Verdict.the-variants.{Accepted}
 use Rattle.rules.specs.declared.site.Site.{Site}
 use Rattle.rules.specs.declared.state.KeptState.{KeptState}
 use Rattle.rules.specs.declared.state.State.{State}
@@ -13,11 +14,10 @@ use Rattle.rules.specs.Site.{siteOf}
 use Rattle.rules.specs.State.{fresh, valid}
 use Rattle.rules.specs.Demands.{stands}
 use Rattle.rules.specs.Step.{stepped}
-use Rattle.rules.specs.Kept.{isKept, keptValid, keptStepped, freshKept}
+use Rattle.rules.specs.Kept.{isKept, keptValid, keptStepped}
 use Rattle.rules.specs.WaitBound.{waitBound}
-use Rattle.rules.specs.Call.{strayInput, Parts, checksBy}
+use Rattle.rules.specs.Call.{Parts, checksBy}
 use Rattle.rules.specs.DemandThree.{Controller, controllerOf, Call, ruled, takenFrom}
-use Rattle.rules.specs.Laws.{Sound}
 
 -- the parts of a controller whose state has no kept set, by its verdict, its step and its wait
 abbrev pub withoutKept : (List ℕ → Verdict) → (Site → State → ℕ → State) → (Site → ℕ) → Parts State
@@ -33,8 +33,9 @@ scanVerdict = checksBy scanningParts
 unfoldable pub scanning : Controller State
 scanning = controllerOf scanningParts
 
--- ── The kept set is the scan, and a step keeps it so ──
+-- ── The kept set is the scan ──
 
+-- in every valid state; a step keeps states valid (`Laws.StepKeepsValid`), so it keeps this
 unfoldable pub KeptIsScan : Type 0
 KeptIsScan =
     (site : Site) (s : KeptState) →
@@ -43,28 +44,16 @@ KeptIsScan =
     p < 8 →
     isKept s p ≡ stands site (s .core .demands) p
 
-unfoldable pub FreshKeptIsValid : Type 0
-FreshKeptIsValid = (site : Site) → Sound site → keptValid site freshKept ≡ true
-
-unfoldable pub StepKeepsKept : Type 0
-StepKeepsKept =
-    (site : Site) →
-    Sound site →
-    (s : KeptState) (inputs : ℕ) →
-    keptValid site s ≡ true →
-    strayInput site inputs ≡ false →
-    keptValid site (keptStepped site s inputs) ≡ true
-
 -- ── Forgetting the kept set gives the scanning rules ──
 
 -- the rest of the state after a step is that of the scanning step
 unfoldable pub StepForgets : Type 0
 StepForgets =
-    (site : Site) →
-    Sound site →
+    (b : List ℕ) →
+    verdictOf b ≡ Accepted →
     (s : KeptState) (inputs : ℕ) →
-    keptValid site s ≡ true →
-    keptStepped site s inputs .core ≡ stepped site (s .core) inputs
+    keptValid (siteOf b) s ≡ true →
+    keptStepped (siteOf b) s inputs .core ≡ stepped (siteOf b) (s .core) inputs
 
 -- every list of calls from a valid state is taken as by the scanning rules: the same outcomes, waits, buffers and rest of the state
 unfoldable pub RunForgets : Type 0
