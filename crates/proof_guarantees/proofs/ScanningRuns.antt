@@ -14,7 +14,8 @@ use Rattle.rules.specs.Site.{siteOf}
 use Rattle.rules.specs.State.{valid}
 use Rattle.rules.specs.Step.{stepped}
 use Rattle.rules.specs.Kept.{keptValid, keptStepped}
-use Rattle.rules.specs.Call.{stepVerdict, callVerdict, boundFor, handedBack, bufferFor, answerOf, bufferOf}
+use Rattle.rules.specs.WaitBound.{waitBound}
+use Rattle.rules.specs.Call.{stepVerdict, boundFor, handedBack, bufferFor, checksBy, callVerdict, answerOf, bufferOf}
 use Rattle.rules.specs.DemandThree.{Call, Taken, ruled, takenFrom}
 use Rattle.rules.specs.Laws.{StepKeepsValid}
 use Rattle.rules.specs.Scanning.{scanVerdict, scanning, StepForgets, RunForgets}
@@ -27,7 +28,7 @@ module _ (b : List ℕ) where
   -- in a valid state the checks are the same
   verdict-same :
       (s : KeptState) (inputs room : ℕ) → keptValid (siteOf b) s ≡ true → callVerdict b s inputs room ≡ scanVerdict b (s .core) inputs room
-  unfolding callVerdict scanVerdict keptValid
+  unfolding checksBy keptValid
   verdict-same s inputs room v =
       ap (λ (ok : Bool). verdictOf b orElse stepVerdict (siteOf b) ok inputs room) (v ∙ sym (and-left (valid (siteOf b) (s .core)) _ v))
 
@@ -38,7 +39,7 @@ module _ (b : List ℕ) where
         before = before;
         inputs = c .inputs;
         room = length (c .buffer);
-        outcome = boundFor v (siteOf b);
+        outcome = boundFor v (waitBound (siteOf b));
         after = after;
         shown = bufferFor v (siteOf b) new (c .buffer);
       }
@@ -51,7 +52,7 @@ module _ (b : List ℕ) where
       _≡_ {A = List Taken}
       (entry v (s .core) (keptStepped (siteOf b) s (c .inputs) .core) (handedBack v (keptStepped (siteOf b) s (c .inputs)) s .core) c ∷ takenFrom ruled b (handedBack v (keptStepped (siteOf b) s (c .inputs)) s) calls)
       (entry v (s .core) (stepped (siteOf b) (s .core) (c .inputs)) (handedBack v (stepped (siteOf b) (s .core) (c .inputs)) (s .core)) c ∷ takenFrom scanning b (handedBack v (stepped (siteOf b) (s .core) (c .inputs)) (s .core)) calls)
-  unfolding entry handedBack boundFor bufferFor StepForgets StepKeepsValid callVerdict
+  unfolding entry handedBack boundFor bufferFor StepForgets StepKeepsValid checksBy
   taken-alike Accepted s c calls v e later =
       let site = siteOf b in
       let next = keptStepped site s (c .inputs) in
