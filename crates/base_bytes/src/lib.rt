@@ -1,7 +1,7 @@
 // Little-endian numbers and bits, read from a slice. A byte past the end reads as 0, so no place is out of reach.
 ghost use Prim.Native.Nat.{_+_, _*_, _<_, _≤_};
 ghost use mathlib.Core.Path.{_≡_};
-ghost use Rattle.laws.specs.Bytes.{byteAt, twoAt, fourAt, bit};
+ghost use Rattle.laws.specs.Bytes.{byteAt, twoAt, fourAt, eightAt, bit};
 ghost use Rattle.laws.specs.Folds.{anyOf};
 ghost use mathlib.Core.Bool.{_&&_};
 ghost use lib.ListN.{length};
@@ -28,6 +28,13 @@ fn quad(low: u16, high: u16) -> u32
     (low as u32) + 65536 * (high as u32)
 }
 
+// The number that two halves of four bytes make.
+fn halves(low: u32, high: u32) -> u64
+    ensures { λ r. ⌜ r ≡ low + 4294967296 * high ⌝ }
+{
+    (low as u64) + 4294967296 * (high as u64)
+}
+
 // The number in the two bytes from i on.
 pub fn two_at(s: &[u8], i: usize) -> u16
     ensures { λ r. ⌜ r ≡ twoAt (now (s .entry)) i ⌝ }
@@ -45,6 +52,17 @@ pub fn four_at(s: &[u8], i: usize) -> u32
 {
     if i < s.len() {
         quad(two_at(s, i), two_at(s, i + 2))
+    } else {
+        0
+    }
+}
+
+// The number in the eight bytes from i on.
+pub fn eight_at(s: &[u8], i: usize) -> u64
+    ensures { λ r. ⌜ r ≡ eightAt (now (s .entry)) i ⌝ }
+{
+    if i < s.len() {
+        halves(four_at(s, i), four_at(s, i + 4))
     } else {
         0
     }
@@ -71,6 +89,13 @@ pub fn four_in(s: &[u8], i: usize) -> u32
     ensures { λ r. ⌜ r ≡ fourAt (now (s .entry)) i ⌝ }
 {
     quad(two_in(s, i), two_in(s, i + 2))
+}
+
+pub fn eight_in(s: &[u8], i: usize) -> u64
+    requires { ⌜ i + 8 ≤ length (now s) ⌝ }
+    ensures { λ r. ⌜ r ≡ eightAt (now (s .entry)) i ⌝ }
+{
+    halves(four_in(s, i), four_in(s, i + 4))
 }
 
 // Bit k of a byte.

@@ -35,7 +35,7 @@ pub fn step_accepted(
     ensures { λ r. ⌜ (r ≡ answerOf (now (personality .entry)) state inputs (length (now (colours .entry))))
         × (now (colours .exit) ≡ bufferOf (now (personality .entry)) state inputs (now (colours .entry))) ⌝ }
 {
-    let site = read_lookup::site(personality, layout);
+    let site = site_whole::site_of(personality, layout);
     if !step_valid::kept_valid(site, state) {
         return step_refused(13, 0, state);
     }

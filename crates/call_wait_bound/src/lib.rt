@@ -8,11 +8,13 @@ use rules::answer::Verdict;
 pub fn wait_bound(personality: &[u8]) -> Outcome
     ensures { λ r. ⌜ r ≡ boundOf (now (personality .entry)) ⌝ }
 {
-    let verdict = read_personality::read(personality);
+    let reading = read_personality::read_with_layout(personality);
+    let verdict = reading.verdict;
     if let Verdict::Refused { number, place } = verdict {
         return Outcome::StepRefused { number, place };
     }
-    let timing = read_lookup::timing(personality);
+    let layout = reading.layout;
+    let timing = site_whole::timing_in(personality, layout);
     let size = timing.size;
     let times = timing.times;
     let crossings = timing.crossings;

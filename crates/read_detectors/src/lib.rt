@@ -5,12 +5,11 @@ ghost use mathlib.Core.Path.{_≡_};
 ghost use lib.Dec.{leb};
 ghost use lib.ListN.{length};
 ghost use Rattle.rules.specs.declared.answer.Verdict.the-variants.{Accepted};
-ghost use Rattle.laws.specs.Bytes.{fourAt};
 ghost use Rattle.rules.specs.Verdicts.{refuseIf, firstOf};
 ghost use Rattle.rules.specs.Personality.{bodyAt, recordAt, detectorsHead, detectorCount, knownMode, badDetector};
 ghost use Rattle.rules.specs.Personality.{siteSection, detectorsSection};
 ghost use Rattle.read_layout.specs.LayoutOf.{LayoutOf};
-use base_bytes::four_in;
+use base_bytes::eight_in;
 use read_layout::Layout;
 use read_sections::records::pair_at;
 use read_sections::section_at;
@@ -21,14 +20,6 @@ fn bad_detector(phase: u8, mode: u8, phases: u8) -> bool
     ensures { λ r. ⌜ r ≡ (leb phases phase || not (knownMode mode)) ⌝ }
 {
     (phases <= phase) | (3 <= mode & 251)
-}
-
-// The number in the eight bytes from i on.
-fn eight_in(s: &[u8], i: usize) -> u64
-    requires { ⌜ i + 8 ≤ length (now s) ⌝ }
-    ensures { λ r. ⌜ r ≡ fourAt (now (s .entry)) i + 4294967296 * fourAt (now (s .entry)) (i + 4) ⌝ }
-{
-    (four_in(s, i) as u64) + 4294967296 * (four_in(s, i + 4) as u64)
 }
 
 // Whether the four records from d on are seen to be good, all at once. With 0x80 - P added, a phase at or above P reaches 0x80; with 0x7d

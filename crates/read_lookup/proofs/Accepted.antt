@@ -1,37 +1,19 @@
--- What acceptance gives to the code: every count fits its array, and every section lies within the bytes.
+-- In an accepted personality every section that is held lies within the bytes.
 use Prim.Native.Nat.{ℕ, zero, suc, _+_, _≤_, _<_}
 use mathlib.Core.Bool.{Bool, true, _&&_, _||_}
 use mathlib.Core.List.{List}
 use mathlib.Core.Logic.{⊎-elim}
-use mathlib.Core.Path.{_≡_, sym, subst, _∙_}
+use mathlib.Core.Path.{_≡_, sym, subst}
 use native.Mathlib.Omega.{arith}
 use lib.Dec.{leb, eqb}
 use lib.ListN.{length}
 use borrow.Author.Tests.{leb-true, eqb-true}
 use Rattle.rules.specs.declared.answer.Verdict.the-variants.{Accepted}
-use Rattle.rules.specs.Personality.{bodyAt, bodyLength, siteHead, phasesHead, groupsHead, conflictsHead, detectorsHead, pedestriansHead, earlyHead, pastSection, hasEarly, hasOrder, siteSection, phasesSection, groupsSection, conflictsSection, detectorsSection, pedestriansSection, verdictOf}
+use Rattle.rules.specs.Personality.{bodyAt, bodyLength, siteHead, phasesHead, groupsHead, conflictsHead, detectorsHead, pedestriansHead, hasEarly, hasOrder, siteSection, phasesSection, groupsSection, conflictsSection, detectorsSection, pedestriansSection, verdictOf}
 use Rattle.rules.specs.Lookup.{heldKind, headOf}
 use Rattle.laws.proofs.Booleans.{and-left, and-right, or-cases}
 use Rattle.rules.proofs.Verdicts.{or-first, or-later}
 use Rattle.proof_acceptance.proofs.Sections.{body-held, sections-accepted}
-use Rattle.read_layout.specs.declared.Layout.{Layout}
-use Rattle.read_layout.specs.LayoutOf.{LayoutOf}
-use Rattle.site_rows.specs.Fitting.{Fitting}
-
-pub accepted-fits : {b : List ℕ} {w : Layout} → verdictOf b ≡ Accepted → LayoutOf b w → Fitting b w
-unfolding earlyHead pastSection
-accepted-fits {b} h laid =
-    let told = sections-accepted b h in
-    record {
-      laid = laid;
-      phases = omega (arith, laid .phasecount, told .site .phases .1);
-      groups = omega (arith, laid .groupcount, told .site .groups .1);
-      detectors = told .detectors .count;
-      movements = told .groups .movements;
-      whole = rw (laid .pedestrians, ← told .pedestrians .body) (told .pedestrians .next);
-      early = λ there. rw (laid .early, laid .phasecount) (told .early (sym (laid .hasearly) ∙ there) .next);
-      order = λ there. rw (laid .order, laid .phasecount) (told .order (sym (laid .hasorder) ∙ there) .next);
-    }
 
 -- the section with this head ends within the bytes
 abbrev pub BodyWithin : List ℕ → ℕ → Type 0

@@ -10,7 +10,7 @@ use lib.ListN.{length, getD, take, drop, List·getD-eq-default}
 use borrow.Author.Tests.{leb-true, leb-false, not-false}
 use Rattle.rules.specs.declared.answer.Verdict.the-variants.{Accepted, Refused}
 use Rattle.laws.specs.Bytes.{twoAt}
-use Rattle.rules.specs.Verdicts.{_orElse_, refuseIf, reportOf}
+use Rattle.rules.specs.Verdicts.{reportOf}
 use Rattle.rules.specs.Personality.{bodyAt, bodyLength, verdictOf}
 use Rattle.rules.specs.Lookup.{heldKind, heads, headOf, lookupVerdict, lookupReport, sectionPart, partFor, sectionOf}
 use Rattle.laws.proofs.Booleans.{and-left, and-right, and-false-cases}
@@ -18,18 +18,6 @@ use Rattle.rules.proofs.Verdicts.{or-first, or-later, refuse-passed}
 use Rattle.read_lookup.proofs.Accepted.{section-within}
 
 -- ── Verdicts ──
-
-pub lookup-refused : (b : List ℕ) (kind : ℕ) {n p : ℕ} → verdictOf b ≡ Refused n p → lookupVerdict b kind ≡ Refused n p
-unfolding lookupVerdict _orElse_
-lookup-refused b kind e = rw e
-
-pub lookup-held : (b : List ℕ) (kind : ℕ) → verdictOf b ≡ Accepted → heldKind b kind ≡ true → lookupVerdict b kind ≡ Accepted
-unfolding lookupVerdict _orElse_ refuseIf
-lookup-held b kind e h = rw (e, h)
-
-pub lookup-unheld : (b : List ℕ) (kind : ℕ) → verdictOf b ≡ Accepted → heldKind b kind ≡ false → lookupVerdict b kind ≡ Refused 2 0
-unfolding lookupVerdict _orElse_ refuseIf
-lookup-unheld b kind e h = rw (e, h)
 
 -- where the section is found, the personality is accepted and the kind is held
 pub lookup-told : (b : List ℕ) (kind : ℕ) → lookupVerdict b kind ≡ Accepted → (verdictOf b ≡ Accepted) × (heldKind b kind ≡ true)

@@ -1,5 +1,6 @@
 // Reads the vectors of the file `reads` and compares the reader's verdict with each: a two-byte length, the bytes, the number
-// (1 byte) and the place (4 bytes). Prints how many there are and how many agree, and the first that does not.
+// (1 byte) and the place (4 bytes). The sections of an accepted one are looked up, and must make up all of it. Prints how many vectors
+// there are and how many agree, and the first that does not.
 ghost use Prim.Native.Nat.{_+_, _<_, _≤_, _^_};
 ghost use mathlib.Core.Path.{_≡_};
 use libc::STDOUT_FILENO;
@@ -21,11 +22,33 @@ struct Tally {
     first: u64,
 }
 
+// The greatest kind of a section.
+const KINDS: u16 = 9;
+
+// Whether the sections, each with a head of 4 bytes, make up the whole personality.
+fn whole(personality: &[u8]) -> bool {
+    let mut left = personality.len();
+    let mut kind: u16 = 1;
+    while kind <= KINDS {
+        let report = read_lookup::lookup_report(personality, kind);
+        if report.number == 0 {
+            let body = read_lookup::section_of(personality, kind);
+            if left < 4 || left - 4 < body.len() {
+                return false;
+            }
+            left -= 4;
+            left -= body.len();
+        }
+        kind += 1;
+    }
+    left == 0
+}
+
 // Whether the reader gives this number and place, 0 at 0 where it accepts.
 fn agrees(personality: &[u8], number: u8, place: u32) -> bool {
     let verdict = read_personality::read(personality);
     match verdict {
-        Verdict::Accepted => number == 0 && place == 0,
+        Verdict::Accepted => number == 0 && place == 0 && whole(personality),
         Verdict::Refused {
             number: found,
             place: at,

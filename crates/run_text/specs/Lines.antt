@@ -1,19 +1,13 @@
--- Internal: no promise cites this file. What goes into a trace and comes out of it: the input bits of a step record, and a buffer with a line's text at
--- its start.
-use Prim.Native.Nat.{ℕ, _+_, _*_, _≤_}
+-- Internal: no promise cites this file. What comes out of a trace: a buffer with a line's text at its start.
+use Prim.Native.Nat.{ℕ, _+_, _≤_}
 use mathlib.Core.List.{List, [], _∷_, _++_, map}
 use mathlib.Core.Path.{_≡_}
 use lib.Dec.{leb}
 use lib.ListN.{length, take, drop}
 use Rattle.rules.specs.declared.state.Position.{Position}
-use Rattle.laws.specs.Bytes.{fourAt}
 use Rattle.rules.specs.IntervalTable.{letterOf}
 use Rattle.laws.specs.Folds.{if_then_else_}
 use Rattle.rules.specs.TraceText.{phaseLetter, colourLetter, lineTail}
-
--- the 64 input bits in the 8 bytes of a step record
-unfoldable pub inputsOf : List ℕ → ℕ
-inputsOf b = fourAt b 0 + 4294967296 * fourAt b 4
 
 -- the two parts of a line's tail: up to the groups' letters, and from there on
 unfoldable pub leading : Position → List ℕ

@@ -1,10 +1,8 @@
-// The trace program's work on slices: the input bits of a step record, and the text of a line, from a state's position and the
-// colours that the groups show.
-ghost use Prim.Native.Nat.{_+_, _*_};
+// The trace program's work on slices: the text of a line, from a state's position and the colours that the groups show.
 ghost use mathlib.Core.Path.{_≡_};
 ghost use lib.ListN.{length, getD};
 ghost use Rattle.rules.specs.TraceText.{phaseLetter, colourLetter, lineTail};
-ghost use Rattle.run_text.specs.Lines.{inputsOf, leading, shown, tailLength, tailOf, Counted};
+ghost use Rattle.run_text.specs.Lines.{leading, shown, tailLength, tailOf, Counted};
 use rules::state::Position;
 
 const PHASES: [u8; 7] = [65, 66, 67, 68, 69, 70, 71];
@@ -80,18 +78,4 @@ pub fn tail(position: Position, colours: &[u8], out: &mut [u8]) -> usize
         i += 1;
     }
     end
-}
-
-// The number that two halves of four bytes make.
-fn joined(low: u32, high: u32) -> u64
-    ensures { λ r. ⌜ r ≡ low + 4294967296 * high ⌝ }
-{
-    (low as u64) + 4294967296 * (high as u64)
-}
-
-// The 64 input bits in the 8 bytes of a step record.
-pub fn inputs_of(bytes: &[u8]) -> u64
-    ensures { λ r. ⌜ r ≡ inputsOf (now (bytes .entry)) ⌝ }
-{
-    joined(base_bytes::four_at(bytes, 0), base_bytes::four_at(bytes, 4))
 }

@@ -43,21 +43,21 @@ fn read_record() -> Record {
         return Record::Cut;
     }
     Record::Inputs {
-        bits: run_text::inputs_of(&bytes),
+        bits: base_bytes::eight_at(&bytes, 0),
     }
 }
 
-// A line of the trace, of at most 32 groups. Their number is byte 5 of an accepted personality.
-fn show(step: u64, position: Position, colours: &[u8], personality: &[u8]) {
-    let groups = io::count(base_bytes::byte_at(personality, 5) as isize, colours);
+// A line of the trace, of at most 32 groups.
+fn show(step: u64, position: Position, colours: &[u8], groups: u8) {
+    let shown = io::count(groups as isize, colours);
     let mut text = [0u8; 38];
-    let end = run_text::tail(position, &colours[..groups], &mut text);
+    let end = run_text::tail(position, &colours[..shown], &mut text);
     io::print_decimal(STDOUT_FILENO, step);
     io::write_all(STDOUT_FILENO, &text[..end]);
 }
 
-// One step call, and what it prints.
-fn advance(personality: &[u8], state: KeptState, bits: u64, step: u64) -> Turn {
+// One step call, and what it prints: the colours of so many groups as the site has.
+fn advance(personality: &[u8], groups: u8, state: KeptState, bits: u64, step: u64) -> Turn {
     let mut colours = [0u8; 32];
     let answer = call_step::step(personality, state, bits, &mut colours);
     let outcome = answer.outcome;
@@ -71,7 +71,7 @@ fn advance(personality: &[u8], state: KeptState, bits: u64, step: u64) -> Turn {
     }
     let core = after.core;
     let position = core.position;
-    show(step, position, &colours, personality);
+    show(step, position, &colours, groups);
     Turn {
         goes: true,
         state: after,
@@ -79,10 +79,10 @@ fn advance(personality: &[u8], state: KeptState, bits: u64, step: u64) -> Turn {
 }
 
 // The turn of the step record that is next in the input.
-fn take_turn(personality: &[u8], state: KeptState, step: u64) -> Turn {
+fn take_turn(personality: &[u8], groups: u8, state: KeptState, step: u64) -> Turn {
     let record = read_record();
     match record {
-        Record::Inputs { bits } => advance(personality, state, bits, step),
+        Record::Inputs { bits } => advance(personality, groups, state, bits, step),
         Record::Cut => {
             refuse(16, 0);
             Turn {
@@ -98,11 +98,11 @@ fn take_turn(personality: &[u8], state: KeptState, step: u64) -> Turn {
 }
 
 // The steps of an accepted personality, from the fresh state.
-fn run(personality: &[u8]) {
+fn run(personality: &[u8], groups: u8) {
     let mut state = call_fresh::fresh();
     let mut step: u64 = 1;
     while step <= STEPS {
-        let next = take_turn(personality, state, step);
+        let next = take_turn(personality, groups, state, step);
         if !next.goes {
             return;
         }
@@ -119,13 +119,15 @@ fn trace(personality: &mut [u8]) {
         refuse(16, 0);
         return;
     }
-    let verdict = read_personality::read(personality);
+    let reading = read_personality::read_with_layout(personality);
+    let verdict = reading.verdict;
     if let Verdict::Refused { number, place } = verdict {
         refuse(number, place);
         return;
     }
+    let layout = reading.layout;
     io::write_all(STDOUT_FILENO, b"step phase interval groups\n");
-    run(personality);
+    run(personality, layout.groupcount);
 }
 
 fn main() {

@@ -13,7 +13,6 @@ use Rattle.rules.specs.Personality.{groupCount, groupSet, groupMark, pedestrian
 use Rattle.rules.specs.Site.{crossingAt, siteOf}
 use Rattle.laws.proofs.Folds.{list-length, list-at, indices-length}
 use Rattle.laws.proofs.Counting.{count-passed, count-failed, count-before}
-use Rattle.site_rows.specs.Fitting.{crossingsIn}
 use Rattle.laws.proofs.Arrays.{store-more}
 use Rattle.site_rows.proofs.Filling.{blanks-left}
 
@@ -76,10 +75,10 @@ module _ (b : List ℕ) where
 
   -- the end: every movement has its group's set
   pub passed-whole :
-      {g count : ℕ} {sets : List ℕ} → Passed b g count sets → g ≡ groupCount b → record { count = count; sets = sets } ≡ crossingsIn b
-  unfolding crossingsIn siteOf rowOf crossingAt movementCount pedestriansBefore
+      {g count : ℕ} {sets : List ℕ} → Passed b g count sets → g ≡ groupCount b → (count ≡ movementCount b) × (sets ≡ siteOf b .crossings)
+  unfolding siteOf rowOf crossingAt movementCount pedestriansBefore
   passed-whole {g} {count} {sets} passed e =
       let indices = indicesOf (pedestrian b) (groupCount b) in
       let row : listOf (λ k. groupSet b (getD indices k 0)) (countOf (pedestrian b) (groupCount b)) ≡ map (groupSet b) indices =
       rw (indices-length (pedestrian b) (groupCount b)) at (picked (groupSet b) indices) in
-      rw (row, passed .found, blanks-left {A = ℕ} count 8 0, passed .counted, e)
+      (rw e at (passed .counted), rw (row, passed .found, blanks-left {A = ℕ} count 8 0, passed .counted, e))

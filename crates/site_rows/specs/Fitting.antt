@@ -1,5 +1,4 @@
--- Internal: no promise cites this file. What the decoders take for granted of the bytes and their layout, and the movements that one pass over the groups
--- finds.
+-- Internal: no promise cites this file. What the decoders take for granted of the bytes and their layout, and what one pass over the groups finds.
 use Prim.Native.Nat.{ℕ, _+_, _*_, _≤_}
 use mathlib.Core.Bool.{true}
 use mathlib.Core.List.{List}
@@ -9,7 +8,7 @@ use Rattle.rules.specs.Personality.{bodyAt, detectorCount, movementCount}
 use Rattle.rules.specs.Site.{siteOf}
 use Rattle.read_layout.specs.declared.Layout.{Layout}
 use Rattle.read_layout.specs.LayoutOf.{LayoutOf}
-use Rattle.site_rows.specs.declared.PedestrianSets.{PedestrianSets}
+use Rattle.site_rows.specs.declared.GroupRows.{GroupRows}
 
 -- each count is at most the room of its array, and all sections are there
 pub record Fitting (b : List ℕ) (w : Layout) : Type 0 where
@@ -22,6 +21,6 @@ pub record Fitting (b : List ℕ) (w : Layout) : Type 0 where
   pub early : w .hasearly ≡ true → bodyAt (w .early) + w .phasecount * 2 ≤ length b
   pub order : w .hasorder ≡ true → bodyAt (w .order) + w .phasecount ≤ length b
 
--- how many movements the site has, and the phase set of each movement's group
-unfoldable pub crossingsIn : List ℕ → PedestrianSets
-crossingsIn b = record { count = movementCount b; sets = siteOf b .crossings }
+-- the groups, how many movements the site has, and the phase set of each movement's group
+unfoldable pub groupRowsIn : List ℕ → GroupRows
+groupRowsIn b = record { groups = siteOf b .groups; movements = movementCount b; crossings = siteOf b .crossings }

@@ -1,10 +1,10 @@
-// The rows of a site, in the bytes of a personality that reach to the end of its last section: groups, conflicts, detectors, the sets of
-// the pedestrian groups and the running order. The records go into an array from the front; entries past the section's own count stay blank.
+// The rows of a site, in the bytes of a personality that reach to the end of its last section: groups with the sets of the pedestrian
+// ones, conflicts, detectors and the running order. The records go into an array from the front; entries past the section's own count stay blank.
 ghost use Prim.Native.Nat.{_<_};
 ghost use mathlib.Core.Path.{_≡_};
 ghost use Rattle.rules.specs.Personality.{detectorCount};
 ghost use Rattle.rules.specs.Site.{orderIn, siteOf};
-ghost use Rattle.site_rows.specs.Fitting.{Fitting, crossingsIn};
+ghost use Rattle.site_rows.specs.Fitting.{Fitting, groupRowsIn};
 use base_bytes::byte_in;
 use base_bytes::four_in;
 use read_layout::Layout;
@@ -12,16 +12,25 @@ use read_sections::records::pair_at;
 use rules::site::Detector;
 use rules::site::Group;
 
-// ---- Groups, conflicts, detectors ----
+// ---- Groups, with their movements ----
 
-pub fn groups(s: &[u8], layout: Layout) -> [Group; 32]
+// The groups, and of the pedestrian ones, each with a movement: how many there are, and their phase sets in group order.
+pub struct GroupRows {
+    pub groups: [Group; 32],
+    pub movements: usize,
+    pub crossings: [u8; 8],
+}
+
+pub fn groups(s: &[u8], layout: Layout) -> GroupRows
     requires { ⌜ Fitting (now s) layout ⌝ }
-    ensures { λ r. ⌜ r ≡ siteOf (now (s .entry)) .groups ⌝ }
+    ensures { λ r. ⌜ r ≡ groupRowsIn (now (s .entry)) ⌝ }
 {
     let head = layout.groups;
     let count = layout.groupcount as usize;
     let blank = Group { phases: 0, mark: 0 };
     let mut rows = [blank; 32];
+    let mut sets = [0u8; 8];
+    let mut movements: usize = 0;
     let mut g: usize = 0;
     while g < count {
         let group = pair_at(s, head, g);
@@ -29,10 +38,20 @@ pub fn groups(s: &[u8], layout: Layout) -> [Group; 32]
             phases: group.first,
             mark: group.second,
         };
+        if group.second == 2 {
+            sets[movements] = group.first;
+            movements += 1;
+        }
         g += 1;
     }
-    rows
+    GroupRows {
+        groups: rows,
+        movements,
+        crossings: sets,
+    }
 }
+
+// ---- Conflicts, detectors ----
 
 pub fn conflicts(s: &[u8], layout: Layout) -> [u32; 32]
     requires { ⌜ Fitting (now s) layout ⌝ }
@@ -66,34 +85,6 @@ pub fn detectors(s: &[u8], layout: Layout, count: usize) -> [Detector; 48]
         d += 1;
     }
     rows
-}
-
-// ---- Movements ----
-
-// How many pedestrian groups there are, and their phase sets in group order.
-pub struct PedestrianSets {
-    pub count: usize,
-    pub sets: [u8; 8],
-}
-
-pub fn crossings(s: &[u8], layout: Layout) -> PedestrianSets
-    requires { ⌜ Fitting (now s) layout ⌝ }
-    ensures { λ r. ⌜ r ≡ crossingsIn (now (s .entry)) ⌝ }
-{
-    let head = layout.groups;
-    let groups = layout.groupcount as usize;
-    let mut sets = [0u8; 8];
-    let mut count: usize = 0;
-    let mut g: usize = 0;
-    while g < groups {
-        let group = pair_at(s, head, g);
-        if group.second == 2 {
-            sets[count] = group.first;
-            count += 1;
-        }
-        g += 1;
-    }
-    PedestrianSets { count, sets }
 }
 
 // ---- The running order ----

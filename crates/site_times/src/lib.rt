@@ -1,5 +1,5 @@
 // The times of a site, in the bytes of a personality that reach to the end of its last section: those of kinds 1, 2, 6 and 7. Entries past
-// the section's own count stay blank.
+// the section's own count stay blank. Each part of `Times` has its function: as one the compiler would keep them apart from a step.
 ghost use Prim.Native.Nat.{_+_, _*_, _≤_, _<_};
 ghost use mathlib.Core.Path.{_≡_};
 ghost use lib.ListN.{length};
@@ -10,8 +10,15 @@ ghost use Rattle.site_rows.specs.Fitting.{Fitting};
 use base_bytes::two_in;
 use read_layout::Layout;
 use rules::site::PhaseTimes;
-use rules::site::Times;
 use rules::site::WalkTimes;
+
+// The time of start red, in kind 1.
+pub fn start_red(s: &[u8], layout: Layout) -> u16
+    requires { ⌜ Fitting (now s) layout ⌝ }
+    ensures { λ r. ⌜ r ≡ timesIn (now (s .entry)) .start ⌝ }
+{
+    two_in(s, 6)
+}
 
 // The time of early cut-off green of phase p, 0 without kind 7.
 fn early_time_at(s: &[u8], layout: Layout, p: usize) -> u16
@@ -41,7 +48,7 @@ fn phase_times_at(s: &[u8], p: usize, early: u16) -> PhaseTimes
     }
 }
 
-fn phase_times(s: &[u8], layout: Layout) -> [PhaseTimes; 7]
+pub fn phase_times(s: &[u8], layout: Layout) -> [PhaseTimes; 7]
     requires { ⌜ Fitting (now s) layout ⌝ }
     ensures { λ r. ⌜ r ≡ timesIn (now (s .entry)) .phases ⌝ }
 {
@@ -77,7 +84,7 @@ fn walk_times_at(s: &[u8], layout: Layout, k: usize) -> WalkTimes
     }
 }
 
-fn walk_times(s: &[u8], layout: Layout, count: usize) -> [WalkTimes; 8]
+pub fn walk_times(s: &[u8], layout: Layout, count: usize) -> [WalkTimes; 8]
     requires { ⌜ Fitting (now s) layout × (count ≡ movementCount (now s)) ⌝ }
     ensures { λ r. ⌜ r ≡ timesIn (now (s .entry)) .walks ⌝ }
 {
@@ -93,16 +100,4 @@ fn walk_times(s: &[u8], layout: Layout, count: usize) -> [WalkTimes; 8]
         k += 1;
     }
     walks
-}
-
-// The times of kinds 1, 2, 6 and 7.
-pub fn times_in(s: &[u8], layout: Layout, movements: usize) -> Times
-    requires { ⌜ Fitting (now s) layout × (movements ≡ movementCount (now s)) ⌝ }
-    ensures { λ r. ⌜ r ≡ timesIn (now (s .entry)) ⌝ }
-{
-    Times {
-        start: two_in(s, 6),
-        phases: phase_times(s, layout),
-        walks: walk_times(s, layout, movements),
-    }
 }

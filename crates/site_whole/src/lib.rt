@@ -1,5 +1,4 @@
-// The site in the bytes of a personality that reach to the end of its last section. Each section is passed once, and kind 3 once more for the
-// pedestrian groups in it.
+// The site in the bytes of a personality that reach to the end of its last section. Each section is passed once.
 ghost use mathlib.Core.Path.{_≡_};
 ghost use Rattle.rules.specs.Personality.{movementCount};
 ghost use Rattle.rules.specs.Site.{siteOf};
@@ -10,11 +9,12 @@ use rules::site::Site;
 use rules::site::Size;
 use rules::site::Times;
 use site_rows::conflicts;
-use site_rows::crossings;
 use site_rows::detectors;
 use site_rows::groups;
 use site_rows::order;
-use site_times::times_in;
+use site_times::phase_times;
+use site_times::start_red;
+use site_times::walk_times;
 
 // The counts. Kind 5 has records of 2, and its body reaches to the next head.
 fn size(s: &[u8], layout: Layout, movements: usize) -> Size
@@ -33,18 +33,23 @@ pub fn site_of(s: &[u8], layout: Layout) -> Site
     requires { ⌜ Fitting (now s) layout ⌝ }
     ensures { λ r. ⌜ r ≡ siteOf (now (s .entry)) ⌝ }
 {
-    let found = crossings(s, layout);
-    let size = size(s, layout, found.count);
-    let sets = found.sets;
+    let found = groups(s, layout);
+    let size = size(s, layout, found.movements);
+    let rows = found.groups;
+    let sets = found.crossings;
     Site {
         size,
-        groups: groups(s, layout),
+        groups: rows,
         conflicts: conflicts(s, layout),
         detectors: detectors(s, layout, size.detectors as usize),
         crossings: sets,
         early: layout.hasearly,
         order: order(s, layout),
-        times: times_in(s, layout, found.count),
+        times: Times {
+            start: start_red(s, layout),
+            phases: phase_times(s, layout),
+            walks: walk_times(s, layout, found.movements),
+        },
     }
 }
 
@@ -60,12 +65,16 @@ pub fn timing_in(s: &[u8], layout: Layout) -> Timing
     requires { ⌜ Fitting (now s) layout ⌝ }
     ensures { λ r. ⌜ r ≡ timingIn (siteOf (now (s .entry))) ⌝ }
 {
-    let found = crossings(s, layout);
-    let size = size(s, layout, found.count);
-    let sets = found.sets;
+    let found = groups(s, layout);
+    let size = size(s, layout, found.movements);
+    let sets = found.crossings;
     Timing {
         size,
-        times: times_in(s, layout, found.count),
+        times: Times {
+            start: start_red(s, layout),
+            phases: phase_times(s, layout),
+            walks: walk_times(s, layout, found.movements),
+        },
         crossings: sets,
     }
 }

@@ -37,25 +37,25 @@ fn held_in(held: Held, set: u8) -> bool
 }
 
 impl Colour {
-    pub const RED: u8 = 0;
+    pub const RED: Colour = Colour { code: 0 };
 
-    pub const YELLOW: u8 = 1;
+    pub const YELLOW: Colour = Colour { code: 1 };
 
-    pub const GREEN: u8 = 2;
+    pub const GREEN: Colour = Colour { code: 2 };
 
-    pub const FLASHING: u8 = 3;
+    pub const FLASHING: Colour = Colour { code: 3 };
 
     // A vehicle group of a phase that is being left: green while it stays so, yellow while it closes, then red.
     fn of_leaving(stays: bool, closes: bool) -> u8
         ensures { λ r. ⌜ r ≡ if stays then green else (if closes then yellow else red) ⌝ }
     {
         if stays {
-            return Self::GREEN;
+            return Self::GREEN.code;
         }
         if closes {
-            return Self::YELLOW;
+            return Self::YELLOW.code;
         }
-        Self::RED
+        Self::RED.code
     }
 
     // A vehicle group of the state's phase, by the interval. In late start mark 1 waits in red unless came-from is in its set. In early
@@ -71,16 +71,16 @@ impl Colour {
         ensures { λ r. ⌜ r ≡ vehicleColour interval closes previous target group ⌝ }
     {
         match interval {
-            Interval::StartRed => Self::RED,
+            Interval::StartRed => Self::RED.code,
             Interval::LateStart => {
                 if (group.mark == 1) & !held_in(previous, group.phases) {
-                    Self::RED
+                    Self::RED.code
                 } else {
-                    Self::GREEN
+                    Self::GREEN.code
                 }
             }
-            Interval::MinimumGreen => Self::GREEN,
-            Interval::Running => Self::GREEN,
+            Interval::MinimumGreen => Self::GREEN.code,
+            Interval::Running => Self::GREEN.code,
             Interval::EarlyCutOff => {
                 let stays = held_in(target, group.phases) | (group.mark != 3);
                 Self::of_leaving(stays, closes)
@@ -98,10 +98,10 @@ impl Colour {
         ensures { λ r. ⌜ r ≡ movementColour stage ⌝ }
     {
         match stage {
-            Stage::Idle => Self::RED,
-            Stage::Walk => Self::GREEN,
-            Stage::ClearanceOne => Self::FLASHING,
-            Stage::ClearanceTwo => Self::FLASHING,
+            Stage::Idle => Self::RED.code,
+            Stage::Walk => Self::GREEN.code,
+            Stage::ClearanceOne => Self::FLASHING.code,
+            Stage::ClearanceTwo => Self::FLASHING.code,
         }
     }
 }
@@ -116,7 +116,7 @@ fn vehicle_shown(closes: bool, position: Position, group: Group) -> u8
         let target = position.target;
         Colour::vehicle_colour(interval, closes, previous, target, group)
     } else {
-        Colour::RED
+        Colour::RED.code
     }
 }
 

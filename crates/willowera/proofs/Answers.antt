@@ -11,7 +11,6 @@ use borrow.Author.Tests.{eq-eqb}
 use Rattle.rules.specs.declared.answer.Answer.{Answer}
 use Rattle.rules.specs.declared.answer.Outcome.{Outcome}
 use Rattle.rules.specs.declared.answer.Outcome.the-variants.{Stepped, StepRefused}
-use Rattle.rules.specs.declared.answer.Report.{Report}
 use Rattle.rules.specs.declared.answer.Verdict.{Verdict}
 use Rattle.rules.specs.declared.answer.Verdict.the-variants.{Accepted, Refused}
 use Rattle.rules.specs.declared.state.KeptState.{KeptState}
@@ -19,13 +18,13 @@ use Rattle.laws.specs.Bytes.{twoAt}
 use Rattle.rules.specs.Verdicts.{_orElse_, reportOf, stepReportOf, waitOf}
 use Rattle.rules.specs.Personality.{bodyAt, bodyLength, verdictOf}
 use Rattle.rules.specs.Site.{siteOf}
-use Rattle.rules.specs.Lookup.{lookupVerdict, lookupReport, headOf}
+use Rattle.rules.specs.Lookup.{lookupVerdict, headOf}
 use Rattle.rules.specs.WaitBound.{waitBound}
 use Rattle.rules.specs.Call.{boundFor, handedBack, bufferFor, checksBy, callVerdict, boundOf, answerOf, bufferOf}
 use Rattle.state_bytes.specs.Layout.{stateBytes, isState, decoded, encodedOver}
 use Rattle.state_bytes.proofs.KnownBytes.{state-told}
 use Rattle.willowera.specs.Board.{packed, packedVerdict, packedOutcome, stepAnswer, stateFor, stateAfter, coloursAfter, sectionFor, sectionAnswer}
-use Rattle.proof_acceptance.proofs.Places.{lastPlace, Named, personality-named, call-named, lookup-named}
+use Rattle.proof_acceptance.proofs.Places.{lastPlace, personality-named, call-named, lookup-named}
 
 -- ── One verdict ──
 
@@ -145,38 +144,20 @@ module _ (b old buffer : List ℕ) (inputs r : ℕ) where
 
 -- ── The section lookup ──
 
-report-refused : (v : Verdict) (r : Report) → r ≡ reportOf v → (r .number ≡ 0 → ⊥) → v ≡ Refused (r .number) (r .place)
-unfolding reportOf
-report-refused Accepted r e some = absurd (some (ap (λ (x : Report). x .number) e))
-report-refused (Refused n p) r e some = rw e
+module _ (b : List ℕ) (kind : ℕ) where
+  pub section-near : {number place : ℕ} → lookupVerdict b kind ≡ Refused number place → place ≤ lastPlace
+  section-near {number} {place} e = lookup-named b kind number place e .1
 
-report-accepted : (v : Verdict) (r : Report) → Named v → r ≡ reportOf v → r .number ≡ 0 → v ≡ Accepted
-unfolding reportOf
-report-accepted Accepted r named e none = refl
-report-accepted (Refused n p) r named e none =
-    absurd (omega (arith, named n p refl .0, ap (λ (x : Report). x .number) e))
-
-module _ (b : List ℕ) (kind : ℕ) (report : Report) (e : report ≡ lookupReport b kind) where
-  module _ (some : report .number ≡ 0 → ⊥) where
-    refused : lookupVerdict b kind ≡ Refused (report .number) (report .place)
-    unfolding lookupReport
-    refused = report-refused (lookupVerdict b kind) report e some
-
-    pub section-near : report .place ≤ lastPlace
-    section-near = lookup-named b kind (report .number) (report .place) refused .1
-
-    pub section-refused : (r : ℕ) → r ≡ packed (report .number) (report .place) → r ≡ sectionAnswer b kind
-    unfolding sectionAnswer sectionFor packedVerdict reportOf
-    section-refused r p = rw (refused, p)
+  pub section-refused : {number place : ℕ} (r : ℕ) → lookupVerdict b kind ≡ Refused number place → r ≡ packed number place → r ≡ sectionAnswer b kind
+  unfolding sectionAnswer sectionFor packedVerdict reportOf
+  section-refused r e p = rw (e, p)
 
   pub section-found :
       (head size r : ℕ) →
-      report .number ≡ 0 →
+      lookupVerdict b kind ≡ Accepted →
       head ≡ headOf b kind →
       size ≡ twoAt b head →
       r ≡ 256 * (head + 4) + 1099511627776 * size →
       r ≡ sectionAnswer b kind
-  unfolding lookupReport sectionAnswer sectionFor bodyAt bodyLength
-  section-found head size r none h s p =
-      let found = report-accepted (lookupVerdict b kind) report (lookup-named b kind) e none in
-      rw (p, found, s, h)
+  unfolding sectionAnswer sectionFor bodyAt bodyLength
+  section-found head size r found h s p = rw (p, found, s, h)

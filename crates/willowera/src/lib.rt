@@ -13,7 +13,6 @@ ghost use Rattle.willowera.specs.Board.{packed, packedVerdict, packedOut
 pub mod sheet;
 
 use base_bytes::two_at;
-use read_lookup::lookup::head_of;
 use rules::answer::Outcome;
 use rules::answer::Verdict;
 
@@ -116,12 +115,12 @@ fn part(start: usize, size: u16) -> u64
 pub extern "C" fn willowera_section(personality: &[u8], kind: u16) -> u64
     ensures { λ r. ⌜ r ≡ sectionAnswer (now (personality .entry)) kind ⌝ }
 {
-    let report = read_lookup::lookup::lookup_report(personality, kind);
-    if report.number != 0 {
-        return refusal(report.number, report.place);
+    let found = read_lookup::find(personality, kind);
+    let verdict = found.verdict;
+    match verdict {
+        Verdict::Accepted => part(found.head + 4, two_at(personality, found.head)),
+        Verdict::Refused { number, place } => refusal(number, place),
     }
-    let head = head_of(personality, kind);
-    part(head + 4, two_at(personality, head))
 }
 
 // The version of these calls.

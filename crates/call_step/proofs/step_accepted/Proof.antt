@@ -11,33 +11,34 @@ use Rattle.rules.specs.declared.answer.Answer.{Answer}
 use Rattle.rules.specs.Call.{strayInput, stepVerdict, answerOf, bufferOf}
 use Rattle.rules.specs.Kept.{keptValid}
 use Rattle.rules.specs.Laws.{Sound}
+use Rattle.site_whole.proofs.Accepted.{accepted-fits}
 use Rattle.call_step.proofs.Calls.{invalid, strays, short, passes, Answers, declines, goes-on, sound-read, stepped-call}
 use Rattle.call_step.proofs.step_accepted.Statement.{statement}
 use Rattle.call_step.proofs.step_accepted.Tie as tie
 
 -- ── The site, and the call on it ──
 
-abbrev entry : tie.After-site → tie.Start
+abbrev entry : tie.After-site-of → tie.Start
 entry c = c .before .before .before
 
-sound : (c : tie.After-site) → Sound (c .site .result)
-sound c = sound-read _ (c .site .result) (entry c .pre .0) (c .site .ensures)
+sound : (c : tie.After-site-of) → Sound (c .site-of .result)
+sound c = sound-read _ (c .site-of .result) (entry c .pre .0) (c .site-of .ensures)
 
 -- what a step on the site answers is what the call on the bytes does
 whole :
-    (c : tie.After-site) {answer : Answer} {out : List ℕ} →
+    (c : tie.After-site-of) {answer : Answer} {out : List ℕ} →
     let a = entry c .args in
-    let site = c .site .result in
+    let site = c .site-of .result in
     Answers (stepVerdict site (keptValid site (a .state)) (a .inputs) (length (a .colours .now))) site (a .state) (a .inputs) (a .colours .now) answer out →
     (answer ≡ answerOf (a .personality .now) (a .state) (a .inputs) (length (a .colours .now)))
     × (out ≡ bufferOf (a .personality .now) (a .state) (a .inputs) (a .colours .now))
 unfolding answerOf bufferOf
 whole c {answer} {out} given =
     let a = entry c .args in
-    stepped-call (a .personality .now) (c .site .result) (a .state) (a .inputs) (a .colours .now) answer out (entry c .pre .0) (c .site .ensures) given
+    stepped-call (a .personality .now) (c .site-of .result) (a .state) (a .inputs) (a .colours .now) answer out (entry c .pre .0) (c .site-of .ensures) given
 
-site-requires : tie.Need-site-requires
-site-requires c κs = search needs
+site-of-requires : tie.Need-site-of-requires
+site-of-requires c κs = accepted-fits (c .before .before .pre .0) (c .before .before .pre .1)
 
 -- ── 13 ──
 
@@ -50,14 +51,14 @@ step-refused-requires c κs = search needs
 returns : tie.Need-returns
 returns c =
     let tested = c .before .before in
-    let site = tested .before .site .result in
+    let site = tested .before .site-of .result in
     let a = entry (tested .before) .args in
     let no = sym (tested .kept-valid .ensures) ∙ not-true (tested .kept-valid .result) (c .before .if1 .taken) in
     whole (tested .before)
     (declines _ site (a .state) (a .inputs) (a .colours .now) (c .step-refused .result) 13 0 (invalid site (a .inputs) (length (a .colours .now)) no)
     (c .step-refused .ensures))
 
-valid : (c : tie.Else1) → keptValid (c .before .before .site .result) (entry (c .before .before) .args .state) ≡ true
+valid : (c : tie.Else1) → keptValid (c .before .before .site-of .result) (entry (c .before .before) .args .state) ≡ true
 valid c = sym (c .before .kept-valid .ensures) ∙ not-false (c .before .kept-valid .result) (c .if1 .left)
 
 -- ── 15 ──
@@ -72,14 +73,14 @@ returns-2 : tie.Need-returns-2
 returns-2 c =
     let asked = c .before .before in
     let held = asked .before .before .before in
-    let site = held .site .result in
+    let site = held .site-of .result in
     let a = entry held .args in
     whole held
     (declines _ site (a .state) (a .inputs) (a .colours .now) (c .step-refused2 .result) 15 0
     (strays site (a .inputs) (length (a .colours .now)) (valid (asked .before)) (sym (asked .stray-input .ensures) ∙ c .before .if2 .taken))
     (c .step-refused2 .ensures))
 
-wired : (c : tie.Else2) → strayInput (c .before .before .before .before .site .result) (entry (c .before .before .before .before) .args .inputs) ≡ false
+wired : (c : tie.Else2) → strayInput (c .before .before .before .before .site-of .result) (entry (c .before .before .before .before) .args .inputs) ≡ false
 wired c = sym (c .before .stray-input .ensures) ∙ c .if2 .left
 
 -- ── 14 ──
@@ -94,7 +95,7 @@ returns-3 : tie.Need-returns-3
 returns-3 c =
     let past = c .before .before .before in
     let held = past .before .before .before .before in
-    let site = held .site .result in
+    let site = held .site-of .result in
     let a = entry held .args in
     whole held
     (declines _ site (a .state) (a .inputs) (a .colours .now) (c .step-refused3 .result) 14 0
@@ -126,7 +127,7 @@ returns-4 c =
     let moved = written .before .before .before in
     let past = moved .before .before .before in
     let held = past .before .before .before .before in
-    let site = held .site .result in
+    let site = held .site-of .result in
     let a = entry held .args in
     whole held
     (goes-on _ site (a .state) (moved .kept-stepped .result) (a .inputs) (c .wait-bound-by .result) (a .colours .now) _
@@ -137,7 +138,7 @@ pub step-accepted-spec : {M : Type 1} → statement M
 step-accepted-spec =
     tie.close
     (tie.spec
-    site-requires
+    site-of-requires
     kept-valid-requires
     step-refused-requires
     returns

@@ -2,7 +2,7 @@
 use Prim.Native.Nat.{ℕ, _*_, _-_, _≤_, _<_}
 use native.Mathlib.Omega.{arith}
 use lib.Bits.{and-le-r}
-use Rattle.laws.specs.Bytes.{byteAt}
+use Rattle.laws.specs.Bytes.{byteAt, eightAt}
 use Rattle.rules.specs.Personality.{bodyAt, phaseCount}
 use Rattle.read_detectors.proofs.Words.{both-tests, four-good}
 use borrow.Author.Needs.{needs}
@@ -35,7 +35,7 @@ add-raised : tie.Need-add-raised
 add-raised c = omega (arith, and-le-r (c .before .eight-in .result) 0x7b7f7b7f7b7f7b7f)
 
 returns : tie.Need-returns
-unfolding byteAt
+unfolding byteAt eightAt
 returns c t =
     let atEight = c .before in
     let known = atEight .before .before in

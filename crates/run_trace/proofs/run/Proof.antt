@@ -5,10 +5,10 @@ use Rattle.run_trace.proofs.run.Statement.{statement}
 use Rattle.run_trace.proofs.run.Tie as tie
 
 abbrev Inv-loop : tie.InvT-loop
-Inv-loop personality state₀ step₀ state step = step ≤ 36001
+Inv-loop personality groups state₀ step₀ state step = step ≤ 36001
 
 abbrev μ-loop : tie.MeasureT-loop
-μ-loop personality state₀ step₀ state step = 36001 - step
+μ-loop personality groups state₀ step₀ state step = 36001 - step
 
 fresh-requires : tie.Need-fresh-requires Inv-loop μ-loop
 fresh-requires c κs = search needs

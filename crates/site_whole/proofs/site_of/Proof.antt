@@ -1,23 +1,20 @@
 -- `site_whole::site_of` meets its contract: each part of the site is the one that its own function gives.
 use mathlib.Core.Path.{ap}
-use Rattle.rules.specs.Site.{siteOf}
+use Rattle.rules.specs.Site.{siteOf, timesIn}
 use Rattle.rules.specs.declared.site.Size.{Size}
-use Rattle.site_rows.specs.declared.PedestrianSets.{PedestrianSets}
-use Rattle.site_rows.specs.Fitting.{crossingsIn}
+use Rattle.site_rows.specs.declared.GroupRows.{GroupRows}
+use Rattle.site_rows.specs.Fitting.{groupRowsIn}
 use borrow.Author.Needs.{needs}
 use Rattle.site_whole.proofs.site_of.Statement.{statement}
 use Rattle.site_whole.proofs.site_of.Tie as tie
 
-crossings-requires : tie.Need-crossings-requires
-crossings-requires c κs = search needs
-
-size-requires : tie.Need-size-requires
-unfolding crossingsIn
-size-requires c κs =
-    (c .before .before .pre, ap (λ (x : PedestrianSets). x .count) (c .crossings .ensures))
-
 groups-requires : tie.Need-groups-requires
 groups-requires c κs = search needs
+
+size-requires : tie.Need-size-requires
+unfolding groupRowsIn
+size-requires c κs =
+    (c .before .before .pre, ap (λ (x : GroupRows). x .movements) (c .groups .ensures))
 
 conflicts-requires : tie.Need-conflicts-requires
 conflicts-requires c κs = search needs
@@ -34,26 +31,34 @@ detectors-requires c κs =
 order-requires : tie.Need-order-requires
 order-requires c κs = search needs
 
-times-in-requires : tie.Need-times-in-requires
-unfolding crossingsIn
-times-in-requires c κs =
-    let found = c .before .before .before .before .before .before .before in
-    (found .before .before .pre, ap (λ (x : PedestrianSets). x .count) (found .crossings .ensures))
+start-red-requires : tie.Need-start-red-requires
+start-red-requires c κs = search needs
+
+phase-times-requires : tie.Need-phase-times-requires
+phase-times-requires c κs = search needs
+
+walk-times-requires : tie.Need-walk-times-requires
+unfolding groupRowsIn
+walk-times-requires c κs =
+    let found = c .before .before .before .before .before .before .before .before .before in
+    (found .before .before .pre, ap (λ (x : GroupRows). x .movements) (found .groups .ensures))
 
 returns : tie.Need-returns
-unfolding siteOf crossingsIn
+unfolding siteOf groupRowsIn timesIn
 returns c =
-    let detected = c .before .before in
+    let timed = c .before .before in
+    let detected = timed .before .before in
     let listed = detected .before .before in
     let sized = listed .before .before .before in
     simp (
-      c .times-in .ensures,
-      c .before .order .ensures,
+      c .walk-times .ensures,
+      c .before .phase-times .ensures,
+      timed .start-red .ensures,
+      timed .before .order .ensures,
       detected .detectors .ensures,
       listed .conflicts .ensures,
-      listed .before .groups .ensures,
       sized .size .ensures,
-      sized .before .crossings .ensures,
+      sized .before .groups .ensures,
       sized .before .before .before .pre .laid .hasearly,
     )
 
@@ -61,12 +66,13 @@ pub site-of-spec : {M : Type 1} → statement M
 site-of-spec =
     tie.close
     (tie.spec
-    crossings-requires
-    size-requires
     groups-requires
+    size-requires
     conflicts-requires
     cast-detectors
     detectors-requires
     order-requires
-    times-in-requires
+    start-red-requires
+    phase-times-requires
+    walk-times-requires
     returns)

@@ -1,31 +1,38 @@
 -- `site_whole::timing_in` meets its contract: each part is the one that its own function gives.
 use mathlib.Core.Path.{ap}
-use Rattle.rules.specs.Site.{siteOf}
-use Rattle.site_rows.specs.declared.PedestrianSets.{PedestrianSets}
-use Rattle.site_rows.specs.Fitting.{crossingsIn}
+use Rattle.rules.specs.Site.{siteOf, timesIn}
+use Rattle.site_rows.specs.declared.GroupRows.{GroupRows}
+use Rattle.site_rows.specs.Fitting.{groupRowsIn}
 use borrow.Author.Needs.{needs}
 use Rattle.site_whole.proofs.timing_in.Statement.{statement}
 use Rattle.site_whole.proofs.timing_in.Tie as tie
 
-crossings-requires : tie.Need-crossings-requires
-crossings-requires c κs = search needs
+groups-requires : tie.Need-groups-requires
+groups-requires c κs = search needs
 
 size-requires : tie.Need-size-requires
-unfolding crossingsIn
+unfolding groupRowsIn
 size-requires c κs =
-    (c .before .before .pre, ap (λ (x : PedestrianSets). x .count) (c .crossings .ensures))
+    (c .before .before .pre, ap (λ (x : GroupRows). x .movements) (c .groups .ensures))
 
-times-in-requires : tie.Need-times-in-requires
-unfolding crossingsIn
-times-in-requires c κs =
-    let found = c .before .before in
-    (found .before .before .pre, ap (λ (x : PedestrianSets). x .count) (found .crossings .ensures))
+start-red-requires : tie.Need-start-red-requires
+start-red-requires c κs = search needs
+
+phase-times-requires : tie.Need-phase-times-requires
+phase-times-requires c κs = search needs
+
+walk-times-requires : tie.Need-walk-times-requires
+unfolding groupRowsIn
+walk-times-requires c κs =
+    let found = c .before .before .before .before in
+    (found .before .before .pre, ap (λ (x : GroupRows). x .movements) (found .groups .ensures))
 
 returns : tie.Need-returns
-unfolding siteOf crossingsIn
+unfolding siteOf groupRowsIn timesIn
 returns c =
-    let sized = c .before .before in
-    simp (c .times-in .ensures, sized .size .ensures, sized .before .crossings .ensures)
+    let timed = c .before .before in
+    let sized = timed .before .before in
+    simp (c .walk-times .ensures, c .before .phase-times .ensures, timed .start-red .ensures, sized .size .ensures, sized .before .groups .ensures)
 
 pub timing-in-spec : {M : Type 1} → statement M
-timing-in-spec = tie.close (tie.spec crossings-requires size-requires times-in-requires returns)
+timing-in-spec = tie.close (tie.spec groups-requires size-requires start-red-requires phase-times-requires walk-times-requires returns)

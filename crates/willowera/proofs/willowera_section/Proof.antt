@@ -1,24 +1,15 @@
--- `willowera::willowera_section` meets its contract: the report tells whether the section is found, and where it is the head tells its part.
+-- `willowera::willowera_section` meets its contract, by the two cases of the lookup's verdict.
+use mathlib.Core.Path.{sym, _∙_}
 use Rattle.willowera.proofs.Answers.{section-near, section-refused, section-found}
 use borrow.Author.Needs.{needs}
 use Rattle.willowera.proofs.willowera_section.Statement.{statement}
 use Rattle.willowera.proofs.willowera_section.Tie as tie
 
-lookup-report-requires : tie.Need-lookup-report-requires
-lookup-report-requires c κs = search needs
+find-requires : tie.Need-find-requires
+find-requires c κs = search needs
 
-refusal-requires : tie.Need-refusal-requires
-refusal-requires c κs =
-    let looked = c .before .before .lookup-report in
-    section-near _ _ (looked .result) (looked .ensures) (c .if1 .taken)
-
-returns : tie.Need-returns
-returns c =
-    let looked = c .before .before .before .lookup-report in
-    section-refused _ _ (looked .result) (looked .ensures) (c .before .if1 .taken) _ (c .refusal .ensures)
-
-head-of-requires : tie.Need-head-of-requires
-head-of-requires c κs = search needs
+enum-told : tie.Need-enum-told
+enum-told c = search needs
 
 add-part : tie.Need-add-part
 add-part c = search needs
@@ -29,22 +20,36 @@ two-at-requires c κs = search needs
 part-requires : tie.Need-part-requires
 part-requires c κs = search needs
 
+enum-known-verdict : tie.Need-enum-known-verdict
+enum-known-verdict c = search needs
+
+refusal-requires : tie.Need-refusal-requires
+refusal-requires c κs =
+    let looked = c .before .before .before .find in
+    section-near _ _ (sym (looked .ensures .0) ∙ c .before .verdict .given .1)
+
+returns : tie.Need-returns
+returns c =
+    let told = c .before .before .before in
+    let found = told .before .before .find in
+    section-found _ _ (found .result .head) _ _ (sym (found .ensures .0) ∙ told .enum-told .given .1) (found .ensures .1) (c .before .two-at .ensures)
+    (c .part .ensures)
+
 returns-2 : tie.Need-returns-2
 returns-2 c =
-    let start = c .before .before in
-    let looked = start .before .before .before .lookup-report in
-    section-found _ _ (looked .result) (looked .ensures) _ _ _ (start .before .if1 .left) (start .head-of .ensures .0) (c .before .two-at .ensures)
-    (c .part .ensures)
+    let looked = c .before .before .before .before .find in
+    section-refused _ _ _ (sym (looked .ensures .0) ∙ c .before .before .verdict .given .1) (c .refusal .ensures)
 
 pub willowera-section-spec : {M : Type 1} → statement M
 willowera-section-spec =
     tie.close
     (tie.spec
-    lookup-report-requires
-    refusal-requires
-    returns
-    head-of-requires
+    find-requires
+    enum-told
     add-part
     two-at-requires
     part-requires
+    enum-known-verdict
+    refusal-requires
+    returns
     returns-2)

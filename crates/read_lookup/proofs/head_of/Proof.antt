@@ -1,4 +1,4 @@
--- `read_lookup::lookup::head_of` meets its contract: the entry of the kind in the list of heads, or 0 where it has none.
+-- `read_lookup::head_of` meets its contract: the entry of the kind in the list of heads, or 0 where it has none.
 use Prim.Native.Nat.{ℕ, _-_, _≤_}
 use mathlib.Core.List.{List, [], _∷_}
 use mathlib.Core.Path.{sym}
@@ -7,18 +7,15 @@ use borrow.Author.Tests.{not-true, not-false}
 use Rattle.rules.specs.Lookup.{headOf}
 use Rattle.read_lookup.proofs.Lookups.{no-head, kind-told, all-near}
 use borrow.Author.Needs.{needs}
-use Rattle.read_lookup.proofs.lookup.head_of.Statement.{statement}
-use Rattle.read_lookup.proofs.lookup.head_of.Tie as tie
+use Rattle.read_lookup.proofs.head_of.Statement.{statement}
+use Rattle.read_lookup.proofs.head_of.Tie as tie
 
 returns : tie.Need-returns
 returns c = (sym (no-head _ _ (not-true _ (c .if1 .taken))), omega arith)
 
-layout-of-requires : tie.Need-layout-of-requires
-layout-of-requires c κs = search needs
-
 -- the kind has a head in the list
-listed : (c : tie.After-layout-of) → let kind = c .before .before .before .args .kind in (1 ≤ kind) × (kind ≤ 9)
-listed c = kind-told (c .before .before .before .args .kind) (not-false _ (c .before .if1 .left))
+listed : (c : tie.Else1) → let kind = c .before .args .kind in (1 ≤ kind) × (kind ≤ 9)
+listed c = kind-told (c .before .args .kind) (not-false _ (c .if1 .left))
 
 sub-result : tie.Need-sub-result
 sub-result c = omega (arith, listed c)
@@ -32,13 +29,14 @@ array-read-result c = omega (arith, listed c)
 returns-2 : tie.Need-returns-2
 unfolding headOf
 returns-2 c =
-    let w = c .layout-of .result in
-    let laid = c .layout-of .ensures in
+    let start = c .before in
+    let w = start .args .layout in
+    let laid = start .pre in
     let heads : List ℕ = 0 ∷ 8 ∷ w .groups ∷ w .conflicts ∷ w .detectors ∷ w .pedestrians ∷ w .early ∷ 0 ∷ w .order ∷ [] in (
       rw (laid .groups, laid .conflicts, laid .detectors, laid .pedestrians, laid .early, laid .order),
       all-near 201227 heads
           (omega arith, (omega arith, (omega arith, (omega arith, (omega arith, (omega arith, (omega arith, (omega arith, (omega arith, tt)))))))))
-          (c .before .before .before .args .kind - 1),
+          (start .args .kind - 1),
     )
 
 pub head-of-spec : {M : Type 1} → statement M
@@ -46,7 +44,6 @@ head-of-spec =
     tie.close
     (tie.spec
     returns
-    layout-of-requires
     sub-result
     mul-result
     array-read-result

@@ -1,12 +1,12 @@
--- `read_lookup::lookup::section_of` meets its contract: a section that is found ends within the bytes, and the part is its body.
+-- `read_lookup::section_of` meets its contract: a section that is found ends within the bytes, and the part is its body.
 use mathlib.Core.Path.{sym, _∙_}
 use Rattle.read_lookup.proofs.Lookups.{part-none, part-end, part-held}
 use borrow.Author.Needs.{needs}
-use Rattle.read_lookup.proofs.lookup.section_of.Statement.{statement}
-use Rattle.read_lookup.proofs.lookup.section_of.Tie as tie
+use Rattle.read_lookup.proofs.section_of.Statement.{statement}
+use Rattle.read_lookup.proofs.section_of.Tie as tie
 
-lookup-verdict-requires : tie.Need-lookup-verdict-requires
-lookup-verdict-requires c κs = search needs
+find-requires : tie.Need-find-requires
+find-requires c κs = search needs
 
 enum-told : tie.Need-enum-told
 enum-told c = search needs
@@ -21,13 +21,10 @@ part-result-end : tie.Need-part-result-end
 part-result-end c = search needs
 
 returns : tie.Need-returns
-returns c = part-none _ _ (sym (c .before .before .before .lookup-verdict .ensures) ∙ c .before .enum-told .given .1)
+returns c = part-none _ _ (sym (c .before .before .before .find .ensures .0) ∙ c .before .enum-told .given .1)
 
 enum-told-2 : tie.Need-enum-told-2
 enum-told-2 c = search needs
-
-head-of-requires : tie.Need-head-of-requires
-head-of-requires c κs = search needs
 
 add-start : tie.Need-add-start
 add-start c = search needs
@@ -49,26 +46,25 @@ part-result-start-2 c = search needs
 
 part-result-end-2 : tie.Need-part-result-end-2
 part-result-end-2 c =
-    let found = sym (c .before .before .before .before .lookup-verdict .ensures) ∙ c .before .before .enum-told2 .given .1 in
-    part-end _ _ found (c .before .head-of .ensures .0) (c .two-at .ensures)
+    let looked = c .before .before .before .find .ensures in
+    part-end _ _ (sym (looked .0) ∙ c .before .enum-told2 .given .1) (looked .1) (c .two-at .ensures)
 
 returns-2 : tie.Need-returns-2
 returns-2 c =
-    let found = sym (c .before .before .before .before .before .lookup-verdict .ensures) ∙ c .before .before .before .enum-told2 .given .1 in
-    part-held _ _ found (c .before .before .head-of .ensures .0) (c .before .two-at .ensures)
+    let looked = c .before .before .before .before .find .ensures in
+    part-held _ _ (sym (looked .0) ∙ c .before .before .enum-told2 .given .1) (looked .1) (c .before .two-at .ensures)
 
 pub section-of-spec : {M : Type 1} → statement M
 section-of-spec =
     tie.close
     (tie.spec
-    lookup-verdict-requires
+    find-requires
     enum-told
     sub-result
     part-result-start
     part-result-end
     returns
     enum-told-2
-    head-of-requires
     add-start
     two-at-requires
     cast-end
