@@ -42,7 +42,7 @@ KeptIsScan =
     keptValid site s ≡ true →
     (p : ℕ) →
     p < 8 →
-    isKept s p ≡ stands site (s .core .demands) p
+    isKept s p ≡ stands (site .crossings) (site .size .movements) (s .core .demands) p
 
 unfoldable pub FreshKeptIsValid : Type 0
 FreshKeptIsValid = (site : Site) → Sound site → keptValid site freshKept ≡ true
