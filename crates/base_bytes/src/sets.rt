@@ -22,6 +22,13 @@ pub fn without(set: u8, k: u8) -> u8
     set & (255 - (1u8 << k))
 }
 
+// The members that are not in the other set.
+pub fn except(set: u8, other: u8) -> u8
+    ensures { λ r. ⌜ r ≡ setOf (λ i. bit i set && not (bit i other)) ⌝ }
+{
+    set & (255 - other)
+}
+
 // Every member is below the count.
 pub fn all_below(set: u8, count: u8) -> bool
     requires { ⌜ count ≤ 8 ⌝ }

@@ -2,9 +2,9 @@
 -- decides the answer and the buffer.
 use Prim.Native.Nat.{ℕ, _≤_, _<_}
 use mathlib.Core.Bool.{Bool, true, false}
-use mathlib.Core.List.{List, _++_}
+use mathlib.Core.List.{List}
 use mathlib.Core.Path.{_≡_, subst, subst⁻¹}
-use lib.ListN.{length, drop}
+use lib.ListN.{length}
 use borrow.Author.Tests.{lt-ltb, le-ltb}
 use Rattle.rules.specs.declared.answer.Answer.{Answer}
 use Rattle.rules.specs.declared.answer.Outcome.the-variants.{Stepped, StepRefused}
@@ -16,7 +16,6 @@ use Rattle.rules.specs.Verdicts.{_orElse_, refuseIf}
 use Rattle.rules.specs.Personality.{verdictOf}
 use Rattle.rules.specs.Site.{siteOf}
 use Rattle.rules.specs.Kept.{keptValid, keptStepped}
-use Rattle.rules.specs.Colours.{coloursOf}
 use Rattle.rules.specs.WaitBound.{waitBound}
 use Rattle.rules.specs.Call.{strayInput, stepVerdict, boundFor, handedBack, bufferFor, checksBy, callVerdict}
 use Rattle.rules.specs.Laws.{Sound, AcceptedIsSound}
@@ -66,7 +65,7 @@ pub goes-on :
     v ≡ Accepted →
     wait ≡ waitBound site →
     next ≡ keptStepped site s inputs →
-    out ≡ coloursOf site (next .core) ++ drop (site .size .groups) buffer →
+    out ≡ bufferFor Accepted site (next .core) buffer →
     Answers v site s inputs buffer (record { outcome = Stepped wait; state = next }) out
 unfolding boundFor handedBack bufferFor
 goes-on v site s next inputs wait buffer out e w n o = (rw (e, w, n), rw (e, o, n))

@@ -50,7 +50,7 @@ below-told set count small =
     outside : (i : ℕ) → count ≤ i → (not (bit i set) || ltb i count) ≡ true → bit i set ≡ false
     outside i past h = not-true-false (bit i set) (λ e. never-both (rw e at h) (le-ltb i count past))
 
--- ── A byte with all bits, and with all but one ──
+-- ── A byte with all bits, with all but one, and with every bit turned ──
 
 abbrev same : Bool → Bool → Bool
 same true b = b
@@ -71,7 +71,14 @@ bit-others k p l m =
     (all-at (λ p. same (bit p (255 - 1 * 2 ^ k % 256)) (not (eqb p k))) 8 p
     (all-at (λ k. allOf (λ p. same (bit p (255 - 1 * 2 ^ k % 256)) (not (eqb p k))) 8) 8 k refl l) m)
 
--- ── One member more, and one less ──
+pub bit-flipped : (x p : ℕ) → x < 256 → p < 8 → bit p (255 - x) ≡ not (bit p x)
+unfolding bit allOf
+bit-flipped x p h l =
+    same-of (bit p (255 - x)) (not (bit p x))
+    (all-at (λ p. same (bit p (255 - x)) (not (bit p x))) 8 p
+    (all-at (λ x. allOf (λ p. same (bit p (255 - x)) (not (bit p x))) 8) 256 x refl h) l)
+
+-- ── One member more, one less, and all of another set less ──
 
 turned : (a b : ℕ) → eqb a b ≡ eqb b a
 turned a b =
@@ -90,3 +97,8 @@ pub without-told : (set k : ℕ) → set < 256 → k < 8 → bitAnd set (255 - 1
 without-told set k small l =
     set-told (λ i. bit i set && not (eqb i k)) _ (lt-of-le-of-lt (and-le-l set _) small)
     (λ i m. rw (bit-and i set (255 - 1 * 2 ^ k % 256), bit-others k i l m))
+
+pub except-told : (set other : ℕ) → set < 256 → other < 256 → bitAnd set (255 - other) ≡ setOf (λ i. bit i set && not (bit i other))
+except-told set other small h =
+    set-told (λ i. bit i set && not (bit i other)) _ (lt-of-le-of-lt (and-le-l set _) small)
+    (λ i l. rw (bit-and i set (255 - other), bit-flipped other i h l))

@@ -12,10 +12,10 @@ use native.Mathlib.Omega.{arith}
 use Rattle.rules.specs.declared.answer.Verdict.{Verdict}
 use Rattle.rules.specs.declared.answer.Verdict.the-variants.{Accepted, Refused}
 use Rattle.rules.specs.declared.state.KeptState.{KeptState}
-use Rattle.rules.specs.Limits.{phaseSettings, walkSettings}
+use Rattle.rules.specs.Limits.{phaseSettings, walkSettings, earlySetting}
 use Rattle.laws.specs.Folds.{if_then_else_}
 use Rattle.rules.specs.Verdicts.{_orElse_, refuseIf, firstOf}
-use Rattle.rules.specs.Personality.{bodyAt, bodyLength, recordAt, phaseCount, groupCount, siteHead, phasesHead, groupsHead, conflictsHead, detectorsHead, pedestriansHead, movementCount, detectorCount, pastSection, earlyHead, hasEarly, orderHead, hasOrder, endOf, sectionAt, timeAt, timesAt, siteSection, phasesSection, groupRecord, groupsSection, conflictsSection, detectorsSection, pedestriansSection, earlySection, orderSection, phaseWithoutCaller, earlyMissing, afterPedestrians, verdictOf}
+use Rattle.rules.specs.Personality.{bodyAt, bodyLength, recordAt, phaseCount, groupCount, siteHead, phasesHead, groupsHead, conflictsHead, detectorsHead, pedestriansHead, movementCount, detectorCount, pastSection, earlyHead, hasEarly, orderHead, hasOrder, endOf, sectionAt, timeAt, timesAt, siteSection, timeRecords, timedSection, phasesSection, groupRecord, groupsSection, conflictsSection, detectorRecord, detectorsSection, pedestriansSection, earlySection, orderSection, phaseWithoutCaller, earlyMissing, leftOver, afterPedestrians, verdictOf}
 use Rattle.rules.specs.Call.{stepVerdict, checksBy, callVerdict}
 use Rattle.rules.specs.Laws.{readingNumber, stepNumber, sectionLength, greatestLength, AcceptedIsShort, PlaceIn, Written, RefusalIsWritten}
 use Rattle.rules.proofs.Verdicts.{refused-not-accepted, or-refused, refuse-failed, first-refused}
@@ -141,7 +141,7 @@ module _
 
     module _ (counts : SiteAccepted b) where
       phases : Refusals Allowed (phasesSection b)
-      unfolding phasesSection bodyAt
+      unfolding phasesSection timedSection timeRecords bodyAt
       phases =
           records phasesHead 2 (phaseCount b) 12 _ (omega arith) (omega arith)
           (times phasesHead (phaseCount b) 12 phaseSettings 6 (omega arith))
@@ -166,7 +166,7 @@ module _
           (λ e. each _ (conflictsHead b) (groupCount b) 4 body (λ g m. check _ 10 _ refl (omega arith))))
 
       detectors : detectorsHead b ≤ length b → Refusals Allowed (detectorsSection b)
-      unfolding detectorsSection detectorCount detectorsHead conflictsHead groupsHead bodyAt
+      unfolding detectorsSection detectorRecord detectorCount detectorsHead conflictsHead groupsHead bodyAt
       detectors l =
           or-refusals Allowed _ _ (section (detectorsHead b) 5 _ (omega arith))
           (λ e.
@@ -176,7 +176,7 @@ module _
 
       module _ (few : GroupsAccepted b) (short : DetectorsAccepted b) where
         pedestrians : Refusals Allowed (pedestriansSection b)
-        unfolding pedestriansSection bodyAt
+        unfolding pedestriansSection timedSection timeRecords bodyAt
         pedestrians =
             let near = end-near b counts few (short .short) in
             records (pedestriansHead b) 6 (movementCount b) 6 _ (omega arith) (omega arith)
@@ -189,12 +189,12 @@ module _
           early-near = omega (arith, end-near b counts few (short .short), told .body)
 
           early : Refusals Allowed (earlySection b)
-          unfolding earlySection timeAt bodyAt
+          unfolding earlySection timedSection timeRecords bodyAt
           early =
               let near = early-near in
               under-refusals Allowed (hasEarly b) _
               (records (earlyHead b) 7 (phaseCount b) 2 _ (omega arith) (omega arith)
-              (λ body. each _ (earlyHead b) (phaseCount b) 2 body (λ p m. check _ 5 _ refl (omega arith))))
+              (times (earlyHead b) (phaseCount b) 2 earlySetting 1 (omega arith)))
 
           callers : Refusals Allowed (refuseIf (phaseWithoutCaller b) 21 (detectorsHead b))
           unfolding pedestriansHead bodyAt
@@ -218,7 +218,7 @@ module _
                 omega (arith, early-near, placed, end-placed b (placed .0) listed)
 
           after : Refusals Allowed (afterPedestrians b)
-          unfolding afterPedestrians
+          unfolding afterPedestrians leftOver
           after =
               or-refusals Allowed _ _ early
               (λ e.

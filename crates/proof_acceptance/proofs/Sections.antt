@@ -6,7 +6,7 @@ use mathlib.Core.List.{List}
 use mathlib.Core.Path.{_≡_}
 use lib.Dec.{leb, ltb, eqb}
 use lib.ListN.{length}
-use native.Mathlib.Nat.{mul-le-mul-right, suc-mul}
+use native.Mathlib.Nat.{add-zero, mul-le-mul-right, suc-mul}
 use native.Mathlib.Omega.{arith}
 use borrow.Author.Tests.{ltb-false, leb-true, leb-false, eqb-true, eqb-false, eq-eqb, not-false}
 use Rattle.rules.specs.declared.answer.Verdict.the-variants.{Accepted}
@@ -14,7 +14,7 @@ use Rattle.laws.specs.Folds.{anyOf, countOf}
 use Rattle.laws.specs.Bytes.{twoAt, bit}
 use Rattle.rules.specs.Limits.{limits, within, startRedSetting, phaseSettings, walkSettings, earlySetting}
 use Rattle.rules.specs.Verdicts.{firstOf}
-use Rattle.rules.specs.Personality.{bodyLength, bodyAt, pastSection, recordAt, phaseCount, groupCount, siteHead, phasesHead, groupsHead, conflictsHead, detectorsHead, pedestriansHead, groupSet, groupMark, pedestrian, pedestriansBefore, movementCount, conflictSet, detectorCount, detectorPhase, sectionAt, timeAt, timesAt, siteSection, phasesSection, badGroup, ninthPedestrian, groupRecord, phaseWithoutGroup, groupsSection, badConflict, sharePhase, conflictInPhase, conflictsSection, badDetector, detectorsSection, pedestriansSection, earlyHead, hasEarly, earlySection, orderHead, hasOrder, orderAt, phaseNotOnce, orderSection, callsPhase, walksPhase, phaseWithoutCaller, stopsEarly, earlyMissing, afterPedestrians, endOf, verdictOf, detectorMode, knownMode}
+use Rattle.rules.specs.Personality.{bodyLength, bodyAt, pastSection, recordAt, phaseCount, groupCount, siteHead, phasesHead, groupsHead, conflictsHead, detectorsHead, pedestriansHead, groupSet, groupMark, pedestrian, pedestriansBefore, movementCount, conflictSet, detectorCount, detectorPhase, sectionAt, timeAt, timesAt, siteSection, timeRecords, timedSection, phasesSection, badGroup, badGroupAt, ninthPedestrian, groupRecord, phaseWithoutGroup, groupsSection, badConflict, sharePhase, conflictInPhase, conflictsSection, badDetector, badDetectorAt, detectorRecord, detectorsSection, pedestriansSection, earlyHead, hasEarly, earlySection, orderHead, hasOrder, orderAt, phaseNotOnce, orderSection, callsPhase, walksPhase, phaseWithoutCaller, stopsEarly, earlyMissing, leftOver, afterPedestrians, endOf, verdictOf, detectorMode, knownMode}
 use Rattle.rules.specs.Laws.{InTable}
 use Rattle.laws.proofs.Booleans.{and-left, and-right, or-false-left, or-false-right, never-both}
 use Rattle.laws.proofs.Folds.{any-false, any-found}
@@ -166,7 +166,7 @@ site-accepted b h =
     }
 
 pub phases-accepted : (b : List ℕ) → phasesSection b ≡ Accepted → PhasesAccepted b
-unfolding phasesSection groupsHead
+unfolding phasesSection timedSection timeRecords groupsHead
 phases-accepted b h =
     record {
       next = records-held b phasesHead 2 (phaseCount b) 12 (or-first _ _ h);
@@ -174,7 +174,7 @@ phases-accepted b h =
     }
 
 pub groups-accepted : (b : List ℕ) → groupsSection b ≡ Accepted → GroupsAccepted b
-unfolding groupsSection conflictsHead groupRecord badGroup ninthPedestrian phaseWithoutGroup movementCount pedestriansBefore
+unfolding groupsSection conflictsHead groupRecord badGroupAt badGroup pedestrian ninthPedestrian phaseWithoutGroup movementCount pedestriansBefore
 groups-accepted b h =
     record {
       next = records-held b (groupsHead b) 3 (groupCount b) 2 (or-first _ _ h);
@@ -230,7 +230,7 @@ detectors-held b head h =
     (body .1, leb-true _ _ (and-right (eqb (bodyLength b head % 2) 0) _ (body .0)))
 
 pub detectors-accepted : (b : List ℕ) → detectorsSection b ≡ Accepted → DetectorsAccepted b
-unfolding detectorsSection pedestriansHead detectorCount badDetector
+unfolding detectorsSection pedestriansHead detectorCount detectorRecord badDetectorAt badDetector
 detectors-accepted b h =
     let body = detectors-held b (detectorsHead b) (or-first _ _ h) in
     record {
@@ -244,7 +244,7 @@ detectors-accepted b h =
     }
 
 pub pedestrians-accepted : (b : List ℕ) → pedestriansSection b ≡ Accepted → PedestriansAccepted b
-unfolding pedestriansSection earlyHead pastSection
+unfolding pedestriansSection timedSection timeRecords earlyHead pastSection
 pedestrians-accepted b h =
     let body = body-held b (pedestriansHead b) 6 _ (or-first _ _ h) in
     record {
@@ -254,14 +254,16 @@ pedestrians-accepted b h =
     }
 
 pub early-accepted : (b : List ℕ) → earlySection b ≡ Accepted → hasEarly b ≡ true → EarlyAccepted b
-unfolding earlySection
+unfolding earlySection timedSection timeRecords
 early-accepted b h there =
     let passed = rw there at h in
     let body = body-held b (earlyHead b) 7 _ (or-first _ _ passed) in
     record {
       body = eqb-true _ _ (body .0);
       next = records-held b (earlyHead b) 7 (phaseCount b) 2 (or-first _ _ passed);
-      time = λ p l. time-passed b _ earlySetting (first-each _ _ p (or-later _ _ passed) l);
+      time = λ p l.
+          rw (add-zero (recordAt (earlyHead b) 2 p)) at
+          (times-passed b (earlyHead b) 2 earlySetting 1 (phaseCount b) (or-later _ _ passed) p l 0 (omega arith));
     }
 
 pub order-accepted : (b : List ℕ) → orderSection b ≡ Accepted → hasOrder b ≡ true → OrderAccepted b
@@ -292,7 +294,7 @@ pub record SectionsAccepted (b : List ℕ) : Type 0 where
   pub last : length b ≤ endOf b
 
 pub sections-accepted : (b : List ℕ) → verdictOf b ≡ Accepted → SectionsAccepted b
-unfolding verdictOf afterPedestrians phaseWithoutCaller earlyMissing stopsEarly
+unfolding verdictOf afterPedestrians phaseWithoutCaller earlyMissing stopsEarly leftOver
 sections-accepted b h =
     let fromPhases = or-later _ _ h in
     let fromGroups = or-later _ _ fromPhases in

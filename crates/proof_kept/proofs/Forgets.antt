@@ -55,21 +55,21 @@ module _ (site : Site) (sound : Sound site) (s : KeptState) (inputs : ℕ) (v : 
       asked-at site (s .core) inputs k small
       ∙ and-left (askedNow site (s .core) inputs k) (not (begun site (s .core) inputs k)) (sym (asked-of site (s .core) inputs k small) ∙ h)
 
-  pub keeps-scan : keptStepped site s inputs .kept ≡ setOf (stands site (keptStepped site s inputs .core .demands))
+  pub keeps-scan : keptStepped site s inputs .kept ≡ setOf (stands (site .crossings) (site .size .movements) (keptStepped site s inputs .core .demands))
   unfolding keptStepped left stepped
   keeps-scan =
       rw (next-kept site sound s inputs v)
-      (set-same (keptLeft site (standingAfter site s inputs) left (keptAfter site s inputs)) (stands site left)
+      (set-same (keptLeft (site .crossings) (site .size .movements) (standingAfter site s inputs) left (keptAfter site s inputs)) (stands (site .crossings) (site .size .movements) left)
       (λ p l.
-      kept-left site (standingAfter site s inputs) left lock-was button-was p l (keptAfter site s inputs) (kept-after site sound s inputs v p l)))
+      kept-left (site .crossings) (site .size .movements) (standingAfter site s inputs) left lock-was button-was p l (keptAfter site s inputs) (kept-after site sound s inputs v p l)))
 
 -- ── The fresh state ──
 
 -- it has no demand, so the scan finds none
-pub fresh-scan : (site : Site) → freshKept .kept ≡ setOf (stands site (freshKept .core .demands))
+pub fresh-scan : (site : Site) → freshKept .kept ≡ setOf (stands (site .crossings) (site .size .movements) (freshKept .core .demands))
 unfolding freshKept stands movementDemands fresh setOf sumOf
 fresh-scan site =
-    set-same (λ p. false) (stands site (fresh .demands))
+    set-same (λ p. false) (stands (site .crossings) (site .size .movements) (fresh .demands))
     (λ p l.
     sym
     (or-false-both (bit-blank p)

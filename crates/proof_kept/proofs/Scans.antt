@@ -3,6 +3,7 @@
 -- finds a phase, a demand of it was cleared, and where it still does the phase stays kept.
 use Prim.Native.Nat.{ℕ, _<_}
 use mathlib.Core.Bool.{Bool, true, false, not, _&&_, _||_}
+use mathlib.Core.List.{List}
 use mathlib.Core.Logic.{_⊎_, inl, inr, ⊎-elim}
 use mathlib.Core.Path.{_≡_, refl, sym, ap, _∙_}
 use native.Mathlib.Omega.{arith}
@@ -30,7 +31,7 @@ use Rattle.proof_runs.proofs.Steps.{askedNow, lockedNow, asked-at, locked-at}
 pub kept-is-scan : KeptIsScan
 unfolding KeptIsScan keptValid isKept
 kept-is-scan site s v p l =
-    let scan = stands site (s .core .demands) in
+    let scan = stands (site .crossings) (site .size .movements) (s .core .demands) in
     ap (bit p) (eqb-true (s .kept) (setOf scan) (and-right (valid site (s .core)) _ v)) ∙ bit-set scan p l
 
 -- two tests that imply each other are one
@@ -41,39 +42,39 @@ either-way false false f g = refl
 
 -- ── What the scan finds ──
 
-module _ (site : Site) (d : Demands) (p : ℕ) where
+module _ (crossings : List ℕ) (count : ℕ) (d : Demands) (p : ℕ) where
   -- a lock, or a demanded movement of the phase
   pub Found : Type 0
   Found =
       (bit p (d .locks) ≡ true)
-      ⊎ ((k : ℕ) × (k < site .size .movements) × (bit k (d .buttons) ≡ true) × (crosses (site .crossings) k p ≡ true))
+      ⊎ ((k : ℕ) × (k < count) × (bit k (d .buttons) ≡ true) × (crosses crossings k p ≡ true))
 
-  scan-finds : stands site d p ≡ true → Found
+  scan-finds : stands crossings count d p ≡ true → Found
   unfolding stands movementDemands Found
   scan-finds h =
       ⊎-elim
       (λ (l : bit p (d .locks) ≡ true). inl l)
-      (λ (m : anyOf (λ k. bit k (d .buttons) && crosses (site .crossings) k p) (site .size .movements) ≡ true).
-      let found = any-found (λ k. bit k (d .buttons) && crosses (site .crossings) k p) (site .size .movements) m in
+      (λ (m : anyOf (λ k. bit k (d .buttons) && crosses crossings k p) count ≡ true).
+      let found = any-found (λ k. bit k (d .buttons) && crosses crossings k p) count m in
       let k = found .0 in
       inr (
         k,
         found .1,
-        and-left (bit k (d .buttons)) (crosses (site .crossings) k p) (found .2),
-        and-right (bit k (d .buttons)) (crosses (site .crossings) k p) (found .2),
+        and-left (bit k (d .buttons)) (crosses crossings k p) (found .2),
+        and-right (bit k (d .buttons)) (crosses crossings k p) (found .2),
       ))
       (or-cases (bit p (d .locks)) _ h)
 
-  by-lock : bit p (d .locks) ≡ true → stands site d p ≡ true
+  by-lock : bit p (d .locks) ≡ true → stands crossings count d p ≡ true
   unfolding stands
   by-lock h = or-left _ h
 
   by-button :
-      (k : ℕ) → k < site .size .movements → bit k (d .buttons) ≡ true → crosses (site .crossings) k p ≡ true → stands site d p ≡ true
+      (k : ℕ) → k < count → bit k (d .buttons) ≡ true → crosses crossings k p ≡ true → stands crossings count d p ≡ true
   unfolding stands movementDemands
   by-button k l h c =
       or-right (bit p (d .locks))
-      (any-at (λ k. bit k (d .buttons) && crosses (site .crossings) k p) (site .size .movements) k l (and-both h c))
+      (any-at (λ k. bit k (d .buttons) && crosses crossings k p) count k l (and-both h c))
 
 -- ── Part 1 ──
 
@@ -82,34 +83,38 @@ abbrev pub standingAfter : Site → KeptState → ℕ → Demands
 standingAfter site s inputs = demandsAfter site (s .core) inputs
 
 module _ (site : Site) (sound : Sound site) (s : KeptState) (inputs : ℕ) (v : keptValid site s ≡ true) where
-  lock-stands : (p : ℕ) → p < 8 → (locked (s .core) p || registersLock site (s .core) inputs p) ≡ true → stands site (standingAfter site s inputs) p ≡ true
+  -- the phases that the scan of these demands finds
+  abbrev standing : ℕ → Bool
+  standing = stands (site .crossings) (site .size .movements) (standingAfter site s inputs)
+
+  lock-stands : (p : ℕ) → p < 8 → (locked (s .core) p || registersLock site (s .core) inputs p) ≡ true → standing p ≡ true
   unfolding lockedNow
-  lock-stands p l h = by-lock site (standingAfter site s inputs) p (locked-at site (s .core) inputs p l ∙ h)
+  lock-stands p l h = by-lock (site .crossings) (site .size .movements) (standingAfter site s inputs) p (locked-at site (s .core) inputs p l ∙ h)
 
   button-stands :
       (p k : ℕ) →
       k < site .size .movements →
       (asked (s .core) k || registersButton (s .core .movements) inputs k) ≡ true →
       crosses (site .crossings) k p ≡ true →
-      stands site (standingAfter site s inputs) p ≡ true
+      standing p ≡ true
   unfolding askedNow
   button-stands p k l h c =
-      by-button site (standingAfter site s inputs) p k l (asked-at site (s .core) inputs k (omega (arith, sound .movements)) ∙ h) c
+      by-button (site .crossings) (site .size .movements) (standingAfter site s inputs) p k l (asked-at site (s .core) inputs k (omega (arith, sound .movements)) ∙ h) c
 
-  from-kept : (p : ℕ) → p < 8 → isKept s p ≡ true → stands site (standingAfter site s inputs) p ≡ true
+  from-kept : (p : ℕ) → p < 8 → isKept s p ≡ true → standing p ≡ true
   unfolding KeptIsScan locked asked Found
   from-kept p l h =
       ⊎-elim
       (λ (lock : bit p (s .core .demands .locks) ≡ true). lock-stands p l (or-left _ lock))
       (λ (b : (k : ℕ) × (k < site .size .movements) × (bit k (s .core .demands .buttons) ≡ true) × (crosses (site .crossings) k p ≡ true)).
       button-stands p (b .0) (b .1) (or-left _ (b .2)) (b .3))
-      (scan-finds site (s .core .demands) p (sym (kept-is-scan site s v p l) ∙ h))
+      (scan-finds (site .crossings) (site .size .movements) (s .core .demands) p (sym (kept-is-scan site s v p l) ∙ h))
 
-  to-kept : (p : ℕ) → p < 8 → stands site (s .core .demands) p ≡ true → isKept s p ≡ true
+  to-kept : (p : ℕ) → p < 8 → stands (site .crossings) (site .size .movements) (s .core .demands) p ≡ true → isKept s p ≡ true
   unfolding KeptIsScan
   to-kept p l h = kept-is-scan site s v p l ∙ h
 
-  stands-kept : (p : ℕ) → p < 8 → keptAfter site s inputs p ≡ true → stands site (standingAfter site s inputs) p ≡ true
+  stands-kept : (p : ℕ) → p < 8 → keptAfter site s inputs p ≡ true → standing p ≡ true
   unfolding keptAfter pressKeeps
   stands-kept p l h =
       ⊎-elim
@@ -125,32 +130,32 @@ module _ (site : Site) (sound : Sound site) (s : KeptState) (inputs : ℕ) (v : 
       button-stands p k (found .1)
       (or-right (asked (s .core) k) (and-left press (crosses (site .crossings) k p) (found .2)))
       (and-right press (crosses (site .crossings) k p) (found .2)))
-      (or-cases (isKept s p || registersLock site (s .core) inputs p) (pressKeeps site s inputs p) h)
+      (or-cases (isKept s p || registersLock site (s .core) inputs p) (pressKeeps (s .core .movements) (site .crossings) (site .size .movements) inputs p) h)
 
-  kept-stands : (p : ℕ) → p < 8 → stands site (standingAfter site s inputs) p ≡ true → keptAfter site s inputs p ≡ true
+  kept-stands : (p : ℕ) → p < 8 → standing p ≡ true → keptAfter site s inputs p ≡ true
   unfolding keptAfter pressKeeps Found lockedNow askedNow locked asked
   kept-stands p l h =
       ⊎-elim
       (λ (lock : bit p (standingAfter site s inputs .locks) ≡ true).
       ⊎-elim
-      (λ (was : locked (s .core) p ≡ true). or-left _ (or-left _ (to-kept p l (by-lock site (s .core .demands) p was))))
+      (λ (was : locked (s .core) p ≡ true). or-left _ (or-left _ (to-kept p l (by-lock (site .crossings) (site .size .movements) (s .core .demands) p was))))
       (λ (r : registersLock site (s .core) inputs p ≡ true). or-left _ (or-right (isKept s p) r))
       (or-cases (locked (s .core) p) (registersLock site (s .core) inputs p) (sym (locked-at site (s .core) inputs p l) ∙ lock)))
       (λ (b : (k : ℕ) × (k < site .size .movements) × (bit k (standingAfter site s inputs .buttons) ≡ true) × (crosses (site .crossings) k p ≡ true)).
       let k = b .0 in
       ⊎-elim
-      (λ (was : asked (s .core) k ≡ true). or-left _ (or-left _ (to-kept p l (by-button site (s .core .demands) p k (b .1) was (b .3)))))
+      (λ (was : asked (s .core) k ≡ true). or-left _ (or-left _ (to-kept p l (by-button (site .crossings) (site .size .movements) (s .core .demands) p k (b .1) was (b .3)))))
       (λ (r : registersButton (s .core .movements) inputs k ≡ true).
       or-right (isKept s p || registersLock site (s .core) inputs p)
       (any-at (λ k. registersButton (s .core .movements) inputs k && crosses (site .crossings) k p) (site .size .movements) k (b .1)
       (and-both r (b .3))))
       (or-cases (asked (s .core) k) (registersButton (s .core .movements) inputs k)
       (sym (asked-at site (s .core) inputs k (omega (arith, sound .movements, b .1))) ∙ b .2)))
-      (scan-finds site (standingAfter site s inputs) p h)
+      (scan-finds (site .crossings) (site .size .movements) (standingAfter site s inputs) p h)
 
   -- after part 1 a phase is kept where the scan finds it
-  pub kept-after : (p : ℕ) → p < 8 → keptAfter site s inputs p ≡ stands site (standingAfter site s inputs) p
-  kept-after p l = either-way (keptAfter site s inputs p) (stands site (standingAfter site s inputs) p) (stands-kept p l) (kept-stands p l)
+  pub kept-after : (p : ℕ) → p < 8 → keptAfter site s inputs p ≡ standing p
+  kept-after p l = either-way (keptAfter site s inputs p) (standing p) (stands-kept p l) (kept-stands p l)
 
   -- so the search by the kept set finds what the search by the scan does
   pub next-kept : nextKept site s inputs ≡ nextDemanded site (s .core) inputs
@@ -163,47 +168,47 @@ module _ (site : Site) (sound : Sound site) (s : KeptState) (inputs : ℕ) (v : 
 -- ── Parts 4 and 5 ──
 
 module _
-    (site : Site) (old new : Demands)
+    (crossings : List ℕ) (count : ℕ) (old new : Demands)
     (lock-was : (p : ℕ) → p < 8 → bit p (new .locks) ≡ true → bit p (old .locks) ≡ true)
-    (button-was : (k : ℕ) → k < site .size .movements → bit k (new .buttons) ≡ true → bit k (old .buttons) ≡ true)
+    (button-was : (k : ℕ) → k < count → bit k (new .buttons) ≡ true → bit k (old .buttons) ≡ true)
     (p : ℕ) (l : p < 8)
   where
-    still-stood : stands site new p ≡ true → stands site old p ≡ true
+    still-stood : stands crossings count new p ≡ true → stands crossings count old p ≡ true
     unfolding Found
     still-stood h =
         ⊎-elim
-        (λ (lock : bit p (new .locks) ≡ true). by-lock site old p (lock-was p l lock))
-        (λ (b : (k : ℕ) × (k < site .size .movements) × (bit k (new .buttons) ≡ true) × (crosses (site .crossings) k p ≡ true)).
-        by-button site old p (b .0) (b .1) (button-was (b .0) (b .1) (b .2)) (b .3))
-        (scan-finds site new p h)
+        (λ (lock : bit p (new .locks) ≡ true). by-lock crossings count old p (lock-was p l lock))
+        (λ (b : (k : ℕ) × (k < count) × (bit k (new .buttons) ≡ true) × (crosses crossings k p ≡ true)).
+        by-button crossings count old p (b .0) (b .1) (button-was (b .0) (b .1) (b .2)) (b .3))
+        (scan-finds crossings count new p h)
 
     -- what stood and stands no more was cleared
-    left-cleared : stands site old p ≡ true → stands site new p ≡ false → cleared site old new p ≡ true
+    left-cleared : stands crossings count old p ≡ true → stands crossings count new p ≡ false → cleared crossings count old new p ≡ true
     unfolding cleared gone Found
     left-cleared h none =
         ⊎-elim
         (λ (lock : bit p (old .locks) ≡ true).
         or-left _
-        (and-both lock (ap not (not-true-false (bit p (new .locks)) (λ e. never-both (by-lock site new p e) none)))))
-        (λ (b : (k : ℕ) × (k < site .size .movements) × (bit k (old .buttons) ≡ true) × (crosses (site .crossings) k p ≡ true)).
+        (and-both lock (ap not (not-true-false (bit p (new .locks)) (λ e. never-both (by-lock crossings count new p e) none)))))
+        (λ (b : (k : ℕ) × (k < count) × (bit k (old .buttons) ≡ true) × (crosses crossings k p ≡ true)).
         let k = b .0 in
         or-right (gone (old .locks) (new .locks) p)
-        (any-at (λ k. gone (old .buttons) (new .buttons) k && crosses (site .crossings) k p) (site .size .movements) k (b .1)
+        (any-at (λ k. gone (old .buttons) (new .buttons) k && crosses crossings k p) count k (b .1)
         (and-both
         (and-both (b .2)
-        (ap not (not-true-false (bit k (new .buttons)) (λ e. never-both (by-button site new p k (b .1) e (b .3)) none))))
+        (ap not (not-true-false (bit k (new .buttons)) (λ e. never-both (by-button crossings count new p k (b .1) e (b .3)) none))))
         (b .3))))
-        (scan-finds site old p h)
+        (scan-finds crossings count old p h)
 
-    pub kept-left : (kept : ℕ → Bool) → kept p ≡ stands site old p → keptLeft site old new kept p ≡ stands site new p
+    pub kept-left : (kept : ℕ → Bool) → kept p ≡ stands crossings count old p → keptLeft crossings count old new kept p ≡ stands crossings count new p
     unfolding keptLeft
     kept-left kept e =
         ⊎-elim
-        (λ (h : stands site new p ≡ true).
-        rw h (and-both (e ∙ still-stood h) (or-right (not (cleared site old new p)) refl)))
-        (λ (none : stands site new p ≡ false).
+        (λ (h : stands crossings count new p ≡ true).
+        rw h (and-both (e ∙ still-stood h) (or-right (not (cleared crossings count old new p)) refl)))
+        (λ (none : stands crossings count new p ≡ false).
         ⊎-elim
-        (λ (h : stands site old p ≡ true). rw (none, left-cleared h none) (and-false-right (kept p) refl))
-        (λ (h : stands site old p ≡ false). rw none (and-false-left _ (e ∙ h)))
-        (decided (stands site old p)))
-        (decided (stands site new p))
+        (λ (h : stands crossings count old p ≡ true). rw (none, left-cleared h none) (and-false-right (kept p) refl))
+        (λ (h : stands crossings count old p ≡ false). rw none (and-false-left _ (e ∙ h)))
+        (decided (stands crossings count old p)))
+        (decided (stands crossings count new p))

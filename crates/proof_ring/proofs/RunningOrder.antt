@@ -19,7 +19,7 @@ unfolding total one listOf countOf
 places-counted f p zero = refl
 places-counted f p (suc n) = omega (arith, total-append (one p) (listOf f n) (f n ∷ []), places-counted f p n)
 
-pub ring-of : (site : Site) → Sound site → RingOf (site .size .phases) (ring site)
+pub ring-of : (site : Site) → Sound site → RingOf (site .size .phases) (ring (site .order) (site .size .phases))
 unfolding ring
 ring-of site sound =
     let entry : ℕ → ℕ = λ i. getD (site .order) i 0 in

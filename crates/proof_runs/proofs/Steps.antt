@@ -17,7 +17,7 @@ use Rattle.laws.specs.Folds.{if_then_else_}
 use Rattle.rules.specs.Site.{phaseTimes, walkTimes, crosses}
 use Rattle.rules.specs.IntervalTable.{isHeld, isIdle, isRunning}
 use Rattle.rules.specs.State.{idle, locked, asked, movement}
-use Rattle.rules.specs.Demands.{demandsAfter, nextDemanded, detected, extending, registersLock, registersButton}
+use Rattle.rules.specs.Demands.{locksAfter, buttonsAfter, demandsAfter, nextDemanded, detected, extending, registersLock, registersButton}
 use Rattle.rules.specs.Movements.{walkMayEnd, advanced, movementsAfter}
 use Rattle.rules.specs.Counts.{countsAfter}
 use Rattle.rules.specs.Interval.{ends, positionAfter, countsChanged, clearsLock, locksLeft, starts}
@@ -88,11 +88,11 @@ module _ (site : Site) (s : State) (inputs : ℕ) where
   moved-at k h = list-at (λ (k : ℕ). advanced mayEnd (movement s k .stage) (walkTimes (site .times) k) (movement s k .age)) 8 k idle h
 
   pub asked-at : (k : ℕ) → k < 8 → bit k (demandsAfter site s inputs .buttons) ≡ askedNow k
-  unfolding demandsAfter askedNow
+  unfolding demandsAfter buttonsAfter asked askedNow
   asked-at k h = bit-set (λ (k : ℕ). asked s k || registersButton (s .movements) inputs k) k h
 
   pub locked-at : (p : ℕ) → p < 8 → bit p (demandsAfter site s inputs .locks) ≡ lockedNow p
-  unfolding demandsAfter lockedNow
+  unfolding demandsAfter locksAfter lockedNow
   locked-at p h = bit-set (λ (p : ℕ). locked s p || registersLock site s inputs p) p h
 
   -- what part 5 asks of index k

@@ -13,7 +13,8 @@ use Rattle.rules.specs.declared.state.Position.{Position}
 use Rattle.rules.specs.declared.state.State.{State}
 use Rattle.rules.specs.Site.{phaseTimes, crosses}
 use Rattle.rules.specs.IntervalTable.{isIdle, isWalkOrFirst, isStartRed, isLeaving, phaseHeld}
-use Rattle.rules.specs.State.{highestAge, locked, asked, movement, intervalValid, targetValid, previousValid, ageValid, every, positionValid, countsValid, demandExists, movementIn, movementValid, movementsValid, valid}
+use Rattle.laws.specs.Folds.{allOf}
+use Rattle.rules.specs.State.{highestAge, locked, asked, movement, intervalValid, targetValid, previousValid, ageValid, every, positionValid, countsValid, demandExists, demandsValid, movementIn, movementValid, movementsValid, valid}
 use Rattle.laws.proofs.Booleans.{and-left, and-right, and-both, or-left, or-right}
 use Rattle.laws.proofs.Folds.{all-at, all-each}
 
@@ -122,7 +123,7 @@ movement-holds site position k m v =
     (and-both (implies (isIdle (m .stage)) (eqb (m .age) 1) (λ q. eq-eqb (m .age) 1 (v .idleAge q))) refl))))
 
 pub state-told : (site : Site) (s : State) → valid site s ≡ true → ValidState site s
-unfolding valid positionValid countsValid movementsValid demandExists locked asked movement
+unfolding valid positionValid countsValid movementsValid demandExists demandsValid locked asked movement
 state-told site s h =
     let times = phaseTimes (site .times) (s .position .phase) in
     let gap = leb (s .counts .gap) (times .gap) in
@@ -135,7 +136,8 @@ state-told site s h =
     let h1 = every-tail _ _ h in
     let h2 = every-tail _ _ h1 in
     let h3 = every-tail _ _ h2 in
-    let h4 = every-tail _ _ h3 in
+    let locks = demandExists (s .demands .locks) (site .size .phases) in
+    let buttons = demandExists (s .demands .buttons) (site .size .movements) in
     record {
       phase = ltb-true _ _ (every-head _ _ position);
       interval = every-head _ _ p1;
@@ -147,23 +149,23 @@ state-told site s h =
       locks = λ p l q.
           ltb-true p (site .size .phases)
           (implied (locked s p) (ltb p (site .size .phases))
-          (all-at (demandExists (s .demands .locks) (site .size .phases)) 8 p (every-head _ _ h2) l)
+          (all-at locks 8 p (and-left (allOf locks 8) (allOf buttons 8) (every-head _ _ h2)) l)
           q);
       buttons = λ k l q.
           ltb-true k (site .size .movements)
           (implied (asked s k) (ltb k (site .size .movements))
-          (all-at (demandExists (s .demands .buttons) (site .size .movements)) 8 k (every-head _ _ h3) l)
+          (all-at buttons 8 k (and-right (allOf locks 8) (allOf buttons 8) (every-head _ _ h2)) l)
           q);
       movements = λ k l.
           movement-told site (s .position) k (movement s k)
           (all-at
           (λ (k : ℕ).
           movementValid (movementIn (site .size .movements) (site .crossings) (s .position .phase) k) (s .position .interval) (movement s k))
-          8 k (every-head _ _ h4) l);
+          8 k (every-head _ _ h3) l);
     }
 
 pub state-holds : (site : Site) (s : State) → ValidState site s → valid site s ≡ true
-unfolding valid positionValid countsValid movementsValid demandExists locked asked movement every
+unfolding valid positionValid countsValid movementsValid demandExists demandsValid locked asked movement every
 state-holds site s v =
     and-both
     (and-both (lt-ltb (s .position .phase) (site .size .phases) (v .phase))
@@ -172,17 +174,17 @@ state-holds site s v =
     (and-both (le-leb (s .counts .gap) (phaseTimes (site .times) (s .position .phase) .gap) (v .gap))
     (le-leb (s .counts .maximum) (phaseTimes (site .times) (s .position .phase) .maximum) (v .maximum)))
     (and-both
+    (and-both
     (all-each (demandExists (s .demands .locks) (site .size .phases)) 8
     (λ p l. implies (locked s p) (ltb p (site .size .phases)) (λ q. lt-ltb p (site .size .phases) (v .locks p l q))))
-    (and-both
     (all-each (demandExists (s .demands .buttons) (site .size .movements)) 8
-    (λ k l. implies (asked s k) (ltb k (site .size .movements)) (λ q. lt-ltb k (site .size .movements) (v .buttons k l q))))
+    (λ k l. implies (asked s k) (ltb k (site .size .movements)) (λ q. lt-ltb k (site .size .movements) (v .buttons k l q)))))
     (and-both
     (all-each
     (λ (k : ℕ).
     movementValid (movementIn (site .size .movements) (site .crossings) (s .position .phase) k) (s .position .interval) (movement s k))
     8 (λ k l. movement-holds site (s .position) k (movement s k) (v .movements k l)))
-    refl))))
+    refl)))
 
 -- ── The target ──
 

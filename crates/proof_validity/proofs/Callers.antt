@@ -89,7 +89,7 @@ module _ (site : Site) where
 
     call-demands : (inputs : ℕ) → detected calling site inputs p ≡ true → demanded site s inputs p ≡ true
     unfolding demanded calls
-    call-demands inputs e = or-right (stands site (demandsAfter site s inputs) p) (and-both e outside)
+    call-demands inputs e = or-right (stands (site .crossings) (site .size .movements) (demandsAfter site s inputs) p) (and-both e outside)
 
     -- ── The callers ──
 

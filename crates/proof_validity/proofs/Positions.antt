@@ -66,11 +66,11 @@ next-valid :
     (s : State) (inputs : ℕ) →
     targetValid (site .size .phases) (s .position .phase) (another site s inputs) (nextDemanded site s inputs) ≡ true
 unfolding nextDemanded nextAfter another isHeld targetValid turn
-next-valid site sound s inputs = step (firstIn (demanded site s inputs) (turn (ring site) (s .position .phase))) refl
+next-valid site sound s inputs = step (firstIn (demanded site s inputs) (turn (ring (site .order) (site .size .phases)) (s .position .phase))) refl
   where
     step :
         (next : Held) →
-        firstIn (demanded site s inputs) (turn (ring site) (s .position .phase)) ≡ next →
+        firstIn (demanded site s inputs) (turn (ring (site .order) (site .size .phases)) (s .position .phase)) ≡ next →
         targetValid (site .size .phases) (s .position .phase) (isHeld next) next ≡ true
     step Nothing e = refl
     step (Phase t) e =

@@ -23,19 +23,19 @@ use Rattle.proof_waits.proofs.Bound.{visits}
 module _ (site : Site) (q tail : ℕ) where
   -- from the start of phase t until phase q starts, and the tail after that
   pub ahead : ℕ → ℕ
-  ahead t = from (visit site) (ring site) q t + tail
+  ahead t = from (visit site) (ring (site .order) (site .size .phases)) q t + tail
 
   -- from the end of phase p on
   pub onward : ℕ → ℕ
-  onward p = rest (visit site) (ring site) q p + tail
+  onward p = rest (visit site) (ring (site .order) (site .size .phases)) q p + tail
 
   pub ahead-own : ahead q ≡ tail
   unfolding ahead
-  ahead-own = omega (arith, from-own (visit site) (ring site) q)
+  ahead-own = omega (arith, from-own (visit site) (ring (site .order) (site .size .phases)) q)
 
   pub ahead-apart : (t : ℕ) → (t ≡ q → ⊥) → visit site t + onward t ≤ ahead t
   unfolding ahead onward
-  ahead-apart t other = omega (arith, from-other (visit site) (ring site) other)
+  ahead-apart t other = omega (arith, from-other (visit site) (ring (site .order) (site .size .phases)) other)
 
   module _ (sound : Sound site) (below : q < site .size .phases) where
     pub ahead-most : tail ≤ visit site q → (t : ℕ) → t < site .size .phases → ahead t ≤ visits site

@@ -1,14 +1,10 @@
 // The search for the first record of kind 4 that is refused with a number, 9 or 10.
 ghost use Prim.Native.Nat.{_<_, _≤_};
-ghost use mathlib.Core.Bool.{_&&_};
 ghost use mathlib.Core.Path.{_≡_};
-ghost use Rattle.laws.specs.Bytes.{bit};
-ghost use Rattle.laws.specs.Folds.{anyOf};
-ghost use Rattle.rules.specs.Verdicts.{refuseIf, firstOf};
 ghost use Rattle.rules.specs.declared.answer.Verdict.the-variants.{Accepted};
-ghost use Rattle.rules.specs.Personality.{recordAt, groupCount, conflictsHead, conflictSet, groupsSection};
+ghost use Rattle.rules.specs.Personality.{conflictSet, groupsSection};
 ghost use Rattle.read_layout.specs.LayoutOf.{LayoutOf};
-ghost use Rattle.read_conflicts.specs.Refused.{refusedPair, refusedRecord};
+ghost use Rattle.read_conflicts.specs.Refused.{refusedPair, refusedConflict, refusedRecord, firstRefused};
 use base_bytes::bit32;
 use base_bytes::four_at;
 use base_bytes::overlap;
@@ -39,9 +35,7 @@ fn refused_pair(s: &[u8], layout: Layout, number: u8, g: usize, j: usize) -> boo
 // Whether group g has such a conflict.
 fn refused_conflict(s: &[u8], layout: Layout, number: u8, g: usize) -> bool
     requires { ⌜ LayoutOf (now s) layout × (groupsSection (now s) ≡ Accepted) × (g ≤ 255) ⌝ }
-    ensures { λ r. ⌜ r ≡ anyOf
-        (λ j. bit j (conflictSet (now (s .entry)) g) && refusedPair (now (s .entry)) number g j)
-        (groupCount (now (s .entry))) ⌝ }
+    ensures { λ r. ⌜ r ≡ refusedConflict (now (s .entry)) number g ⌝ }
 {
     let count = layout.groupcount as usize;
     let set = conflict_set(s, layout, g);
@@ -73,9 +67,7 @@ fn refused_record(s: &[u8], layout: Layout, number: u8, g: usize) -> bool
 // The first record that is refused with the number.
 pub fn first_refused(s: &[u8], layout: Layout, number: u8) -> Verdict
     requires { ⌜ LayoutOf (now s) layout × (groupsSection (now s) ≡ Accepted) ⌝ }
-    ensures { λ r. ⌜ r ≡ firstOf
-        (λ g. refuseIf (refusedRecord (now (s .entry)) number g) number (recordAt (conflictsHead (now (s .entry))) 4 g))
-        (groupCount (now (s .entry))) ⌝ }
+    ensures { λ r. ⌜ r ≡ firstRefused (now (s .entry)) number ⌝ }
 {
     let count = layout.groupcount as usize;
     let head = layout.conflicts;

@@ -10,7 +10,7 @@ use lib.Bits.{bitAnd, and-block, and-high, and-mask, and-le-r}
 use lib.Dec.{leb, eqb}
 use borrow.Author.Tests.{lt-leb, eqb-true}
 use Rattle.laws.specs.Bytes.{byteAt, twoAt, fourAt}
-use Rattle.rules.specs.Personality.{bodyAt, recordAt, phaseCount, detectorsHead, detectorPhase, detectorMode, knownMode, badDetector}
+use Rattle.rules.specs.Personality.{bodyAt, recordAt, phaseCount, detectorsHead, detectorPhase, detectorMode, knownMode, badDetector, badDetectorAt}
 use Rattle.rules.specs.Verdicts.{firstOf}
 use Rattle.rules.specs.declared.answer.Verdict.the-variants.{Accepted}
 use Rattle.laws.proofs.Booleans.{and-left, and-right, or-false-both}
@@ -101,8 +101,8 @@ module _ (b : List ℕ) (bytes : (i : ℕ) → byteAt b i < 256) (few : phaseCou
       (n i : ℕ) →
       recordAt (detectorsHead b) 2 n ≡ i →
       RecordPasses (byteAt b (i + 1) * 256 + byteAt b i) (0x7d80 - phaseCount b) →
-      badDetector b n ≡ false
-  unfolding badDetector detectorPhase detectorMode
+      badDetectorAt b n ≡ false
+  unfolding badDetectorAt badDetector detectorPhase detectorMode
   good-at n i e p = rw e (record-good (byteAt b i) (byteAt b (i + 1)) (phaseCount b) (bytes i) (bytes (i + 1)) few p)
 
   -- the eight bytes of the records d, d + 1, d + 2 and d + 3
@@ -111,7 +111,7 @@ module _ (b : List ℕ) (bytes : (i : ℕ) → byteAt b i < 256) (few : phaseCou
       let place = detectorsHead b + 4 + d * 2 in
       Passes (fourAt b place + 4294967296 * fourAt b (place + 4)) 0x8080808080808080 0x7b7f7b7f7b7f7b7f
       (0x0001000100010001 * (0x7d80 - phaseCount b)) →
-      (badDetector b d ≡ false) × (badDetector b (d + 1) ≡ false) × (badDetector b (d + 2) ≡ false) × (badDetector b (d + 3) ≡ false)
+      (badDetectorAt b d ≡ false) × (badDetectorAt b (d + 1) ≡ false) × (badDetectorAt b (d + 2) ≡ false) × (badDetectorAt b (d + 3) ≡ false)
   unfolding fourAt twoAt recordAt bodyAt
   four-good d p =
       let place = detectorsHead b + 4 + d * 2 in

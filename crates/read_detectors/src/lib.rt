@@ -1,12 +1,11 @@
 // Kind 5: the detectors, each with its phase and its mode.
 ghost use Prim.Native.Nat.{_+_, _*_, _≤_};
-ghost use mathlib.Core.Bool.{true, false, not, _||_};
+ghost use mathlib.Core.Bool.{true, false};
 ghost use mathlib.Core.Path.{_≡_};
-ghost use lib.Dec.{leb};
 ghost use lib.ListN.{length};
 ghost use Rattle.rules.specs.declared.answer.Verdict.the-variants.{Accepted};
-ghost use Rattle.rules.specs.Verdicts.{refuseIf, firstOf};
-ghost use Rattle.rules.specs.Personality.{bodyAt, recordAt, detectorsHead, detectorCount, knownMode, badDetector};
+ghost use Rattle.rules.specs.Verdicts.{firstOf};
+ghost use Rattle.rules.specs.Personality.{bodyAt, detectorCount, badDetector, badDetectorAt, detectorRecord};
 ghost use Rattle.rules.specs.Personality.{siteSection, detectorsSection};
 ghost use Rattle.read_layout.specs.LayoutOf.{LayoutOf};
 use base_bytes::eight_in;
@@ -16,8 +15,8 @@ use read_sections::section_at;
 use rules::answer::Verdict;
 
 // A phase at or above P, or a mode not 0, 1, 2, 4, 5, 6. Without the bit that 4 is, a known mode is 0, 1 or 2.
-fn bad_detector(phase: u8, mode: u8, phases: u8) -> bool
-    ensures { λ r. ⌜ r ≡ (leb phases phase || not (knownMode mode)) ⌝ }
+fn bad_detector(phases: u8, phase: u8, mode: u8) -> bool
+    ensures { λ r. ⌜ r ≡ badDetector phases phase mode ⌝ }
 {
     (phases <= phase) | (3 <= mode & 251)
 }
@@ -28,8 +27,8 @@ fn bad_detector(phase: u8, mode: u8, phases: u8) -> bool
 fn four_good(s: &[u8], layout: Layout, d: usize) -> bool
     requires { ⌜ LayoutOf (now s) layout × (layout .phasecount ≤ 7) × (d ≤ 40000) × (bodyAt (layout .detectors) + (d + 4) * 2 ≤ length (now s)) ⌝ }
     ensures { λ r. ⌜ (r ≡ true →
-        (badDetector (now (s .entry)) d ≡ false) × (badDetector (now (s .entry)) (d + 1) ≡ false)
-        × (badDetector (now (s .entry)) (d + 2) ≡ false) × (badDetector (now (s .entry)) (d + 3) ≡ false)) ⌝ }
+        (badDetectorAt (now (s .entry)) d ≡ false) × (badDetectorAt (now (s .entry)) (d + 1) ≡ false)
+        × (badDetectorAt (now (s .entry)) (d + 2) ≡ false) × (badDetectorAt (now (s .entry)) (d + 3) ≡ false)) ⌝ }
 {
     let records = eight_in(s, layout.detectors + 4 + d * 2);
     let limits = 0x0001000100010001 * (0x7d80 - (layout.phasecount as u64));
@@ -40,8 +39,7 @@ fn four_good(s: &[u8], layout: Layout, d: usize) -> bool
 // How many records, four by four from the first on, are seen to be good.
 fn good_fours(s: &[u8], layout: Layout, count: usize) -> usize
     requires { ⌜ LayoutOf (now s) layout × (layout .phasecount ≤ 7) × (count ≤ 40000) × (bodyAt (layout .detectors) + count * 2 ≤ length (now s)) ⌝ }
-    ensures { λ r. ⌜ (r ≤ count) × (firstOf
-        (λ d. refuseIf (badDetector (now (s .entry)) d) 11 (recordAt (detectorsHead (now (s .entry))) 2 d)) r ≡ Accepted) ⌝ }
+    ensures { λ r. ⌜ (r ≤ count) × (firstOf (detectorRecord (now (s .entry))) r ≡ Accepted) ⌝ }
 {
     let mut d: usize = 0;
     while d + 4 <= count {
@@ -57,15 +55,13 @@ fn good_fours(s: &[u8], layout: Layout, count: usize) -> usize
 fn detector_records(s: &[u8], layout: Layout, count: usize) -> Verdict
     requires { ⌜ LayoutOf (now s) layout × (count ≡ detectorCount (now s)) × (layout .phasecount ≤ 7) × (count ≤ 40000)
         × (bodyAt (layout .detectors) + count * 2 ≤ length (now s)) ⌝ }
-    ensures { λ r. ⌜ r ≡ firstOf
-        (λ d. refuseIf (badDetector (now (s .entry)) d) 11 (recordAt (detectorsHead (now (s .entry))) 2 d))
-        (detectorCount (now (s .entry))) ⌝ }
+    ensures { λ r. ⌜ r ≡ firstOf (detectorRecord (now (s .entry))) (detectorCount (now (s .entry))) ⌝ }
 {
     let head = layout.detectors;
     let mut d = good_fours(s, layout, count);
     while d < count {
         let detector = pair_at(s, head, d);
-        if bad_detector(detector.first, detector.second, layout.phasecount) {
+        if bad_detector(layout.phasecount, detector.first, detector.second) {
             return Verdict::Refused {
                 number: 11,
                 place: head + 4 + d * 2,

@@ -1,16 +1,13 @@
 -- Kind 7 and the groups that stop early, by whether kind 7 is there: with it its own checks, and no group is refused for stopping early;
 -- without it the groups alone.
-use Prim.Native.Nat.{ℕ, _*_, _<_}
+use Prim.Native.Nat.{ℕ, _<_}
 use mathlib.Core.Bool.{true, false, not, _&&_, and-true}
 use mathlib.Core.List.{List}
 use mathlib.Core.Path.{_≡_, sym, _∙_}
-use native.Mathlib.Nat.{add-zero}
-use lib.Dec.{eqb}
 use Rattle.rules.specs.declared.answer.Verdict.the-variants.{Accepted, Refused}
 use Rattle.rules.specs.Limits.{earlySetting}
 use Rattle.laws.specs.Folds.{anyOf}
-use Rattle.rules.specs.Verdicts.{_orElse_, firstOf}
-use Rattle.rules.specs.Personality.{bodyLength, recordAt, phaseCount, groupCount, groupsHead, earlyHead, hasEarly, sectionAt, timeAt, timesAt, stopsEarly, earlySection, earlyMissing}
+use Rattle.rules.specs.Personality.{recordAt, phaseCount, groupCount, groupsHead, earlyHead, hasEarly, timedSection, stopsEarly, earlySection, earlyMissing}
 use Rattle.laws.proofs.Booleans.{and-false-left, and-false-right}
 use Rattle.laws.proofs.Folds.{any-false}
 use Rattle.rules.proofs.Verdicts.{bad-stop, all-good}
@@ -23,17 +20,9 @@ module _ (b : List ℕ) where
   -- ── With kind 7 ──
 
   module _ (there : hasEarly b ≡ true) where
-    -- a record has one time
-    one-time : (place setting : ℕ) → timesAt b place setting 1 ≡ timeAt b place setting
-    unfolding timesAt firstOf _orElse_
-    one-time place setting = rw (add-zero place, add-zero setting)
-
-    pub early-checked :
-        (sectionAt b (earlyHead b) 7 (eqb (bodyLength b (earlyHead b)) (phaseCount b * 2))
-        orElse firstOf (λ p. timesAt b (recordAt (earlyHead b) 2 p) earlySetting 1) (phaseCount b))
-        ≡ earlySection b
+    pub early-checked : timedSection b (earlyHead b) 7 earlySetting 1 (phaseCount b) ≡ earlySection b
     unfolding earlySection
-    early-checked = rw there (simp one-time)
+    early-checked = rw there
 
     pub none-missing : Accepted ≡ earlyMissing b
     unfolding earlyMissing

@@ -1,7 +1,7 @@
 -- Phase sets as numbers. A set below 2 ^ P has as many phases as its number has ones, and has them all exactly where it is one less than
 -- 2 ^ P. So a record is bad by its two bytes, and the union of the sets tells whether a phase is in none.
 use Prim.Native.Nat.{ℕ, zero, suc, _+_, _-_, _*_, _/_, _%_, _^_, _≤_, _<_, min}
-use mathlib.Core.Bool.{true, false, not, _&&_, _||_, or-false}
+use mathlib.Core.Bool.{true, false, not, or-false}
 use mathlib.Core.List.{List}
 use mathlib.Core.Logic.{⊎-elim}
 use mathlib.Core.Path.{_≡_, refl, sym, ap, _∙_}
@@ -11,11 +11,11 @@ use native.Mathlib.Omega.{arith}
 use lib.Arith.{mod-mul}
 use lib.Bits.{bitOr, or-lt}
 use lib.Count.{onesIn, ones, ones-cat}
-use lib.Dec.{leb, ltb, eqb}
+use lib.Dec.{eqb}
 use lib.Pow.{pow-pos, shl-exact}
-use borrow.Author.Tests.{leb-true, leb-false, le-leb, lt-leb, not-false}
+use borrow.Author.Tests.{leb-false, not-false}
 use Rattle.laws.specs.Bytes.{bit}
-use Rattle.rules.specs.Personality.{phaseCount, groupCount, groupSet, groupMark, pedestrian, badGroup, phaseWithoutGroup, walksPhase}
+use Rattle.rules.specs.Personality.{phaseCount, groupCount, groupSet, pedestrian, badGroup, badGroupAt, phaseWithoutGroup, walksPhase}
 use Rattle.laws.specs.Folds.{if_then_else_, anyOf, countOf}
 use Rattle.laws.proofs.Bits.{bit-blank}
 use Rattle.laws.proofs.Folds.{any-none, any-false}
@@ -71,25 +71,6 @@ all-full n x h all =
 -- ── The records of a personality ──
 
 module _ (b : List ℕ) where
-  -- whether a record is bad, from its two bytes
-  pub bad-decided :
-      (g : ℕ) {bound set mark : ℕ} →
-      bound ≡ min (2 ^ phaseCount b) 512 →
-      set < 256 →
-      set ≡ groupSet b g →
-      mark ≡ groupMark b g →
-      (leb bound set || ltb 3 mark || (eqb mark 2 && not (eqb (ones set) 1))) ≡ badGroup b g
-  unfolding badGroup pedestrian
-  bad-decided g {bound} {set} {mark} bounded h e m =
-      rw (← e, ← m)
-      (⊎-elim
-      (λ (t : leb (2 ^ phaseCount b) set ≡ true).
-      rw (t, le-leb bound set (omega (arith, bounded, leb-true (2 ^ phaseCount b) set t))))
-      (λ (t : leb (2 ^ phaseCount b) set ≡ false).
-      let below = leb-false (2 ^ phaseCount b) set t in
-      rw (t, lt-leb bound set (omega (arith, bounded, below)), ones-counted (phaseCount b) set below))
-      (decided (leb (2 ^ phaseCount b) set)))
-
   -- the union of the first g sets, in a byte
   abbrev pub Gathered : ℕ → ℕ → Type 0
   Gathered served g = (served < 256) × (served < 2 ^ phaseCount b) × ((p : ℕ) → bit p served ≡ anyOf (λ i. bit p (groupSet b i)) g)
@@ -99,15 +80,15 @@ module _ (b : List ℕ) where
   gathered-none = (omega arith, pow-pos (phaseCount b), bit-blank)
 
   -- the set of a group that is not bad
-  set-within : (g : ℕ) → badGroup b g ≡ false → groupSet b g < 2 ^ phaseCount b
-  unfolding badGroup
+  set-within : (g : ℕ) → badGroupAt b g ≡ false → groupSet b g < 2 ^ phaseCount b
+  unfolding badGroupAt badGroup
   set-within g good = leb-false _ _ (or-false-left _ _ (or-false-left _ _ good))
 
   pub gathered-more :
       (served g : ℕ) {set : ℕ} →
       set < 256 →
       set ≡ groupSet b g →
-      badGroup b g ≡ false →
+      badGroupAt b g ≡ false →
       Gathered served g →
       Gathered (bitOr served set) (g + 1)
   unfolding anyOf
@@ -123,7 +104,7 @@ module _ (b : List ℕ) where
   crossed-none = record { within = pow-pos (phaseCount b); told = bit-blank }
 
   module _ {crossed g : ℕ} (gathered : CrossedPhases b crossed g) where
-    pub crossed-more : {set : ℕ} → set ≡ groupSet b g → badGroup b g ≡ false → pedestrian b g ≡ true → CrossedPhases b (bitOr crossed set) (g + 1)
+    pub crossed-more : {set : ℕ} → set ≡ groupSet b g → badGroupAt b g ≡ false → pedestrian b g ≡ true → CrossedPhases b (bitOr crossed set) (g + 1)
     unfolding anyOf walksPhase
     crossed-more {set} e good walks =
         record {

@@ -1,12 +1,9 @@
 // Kind 3: the signal groups, each with its phase set and its mark.
-ghost use mathlib.Core.Bool.{not, _&&_, _||_};
 ghost use mathlib.Core.Path.{_≡_};
 ghost use Prim.Native.Nat.{_+_, _*_, _^_, _≤_, min};
-ghost use lib.Count.{ones};
-ghost use lib.Dec.{leb, ltb, eqb};
 ghost use lib.ListN.{length};
 ghost use Rattle.rules.specs.Verdicts.{_orElse_, refuseIf, firstOf};
-ghost use Rattle.rules.specs.Personality.{bodyAt, groupCount, groupsHead, groupRecord, phaseWithoutGroup, groupsSection};
+ghost use Rattle.rules.specs.Personality.{bodyAt, groupCount, groupsHead, badGroup, groupRecord, phaseWithoutGroup, groupsSection};
 ghost use Rattle.read_groups.specs.GroupsRead.{GroupsRead};
 ghost use Rattle.read_layout.specs.LayoutOf.{LayoutOf};
 use read_layout::Layout;
@@ -21,9 +18,11 @@ fn set_bound(phases: u8) -> u32
     if phases < 9 { 1u32 << phases } else { 512 }
 }
 
-// 6: a phase bit at or above P, a mark above 3, or pedestrian without exactly one phase.
-fn bad_group(set: u8, mark: u8, bound: u32) -> bool
-    ensures { λ r. ⌜ r ≡ (leb bound set || ltb 3 mark || (eqb mark 2 && not (eqb (ones set) 1))) ⌝ }
+// 6: a phase bit at or above P, a mark above 3, or pedestrian without exactly one phase. The bound is that of the phases, worked out once for
+// all records.
+fn bad_group(phases: u8, bound: u32, set: u8, mark: u8) -> bool
+    requires { ⌜ bound ≡ min (2 ^ phases) 512 ⌝ }
+    ensures { λ r. ⌜ r ≡ badGroup phases set mark ⌝ }
 {
     if bound <= set as u32 {
         return true;
@@ -74,7 +73,7 @@ fn group_records(s: &[u8], layout: Layout) -> Groups
         let set = group.first;
         let mark = group.second;
         let place = head + 4 + g * 2;
-        if bad_group(set, mark, bound) {
+        if bad_group(layout.phasecount, bound, set, mark) {
             return refused(Verdict::Refused { number: 6, place });
         }
         if mark == 2 {

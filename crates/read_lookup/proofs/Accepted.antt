@@ -9,7 +9,7 @@ use lib.Dec.{leb, eqb}
 use lib.ListN.{length}
 use borrow.Author.Tests.{leb-true, eqb-true}
 use Rattle.rules.specs.declared.answer.Verdict.the-variants.{Accepted}
-use Rattle.rules.specs.Personality.{bodyAt, bodyLength, siteHead, phasesHead, groupsHead, conflictsHead, detectorsHead, pedestriansHead, hasEarly, hasOrder, siteSection, phasesSection, groupsSection, conflictsSection, detectorsSection, pedestriansSection, verdictOf}
+use Rattle.rules.specs.Personality.{bodyAt, bodyLength, siteHead, phasesHead, groupsHead, conflictsHead, detectorsHead, pedestriansHead, earlyHead, pastSection, hasEarly, hasOrder, siteSection, timedSection, phasesSection, groupsSection, conflictsSection, detectorsSection, pedestriansSection, verdictOf}
 use Rattle.rules.specs.Lookup.{heldKind, headOf}
 use Rattle.laws.proofs.Booleans.{and-left, and-right, or-cases}
 use Rattle.rules.proofs.Verdicts.{or-first, or-later}
@@ -21,7 +21,7 @@ BodyWithin b head = bodyAt head + bodyLength b head ≤ length b
 
 module _ (b : List ℕ) (h : verdictOf b ≡ Accepted) where
   kind-within : (i : ℕ) → i < 6 → BodyWithin b (headOf b (suc i))
-  unfolding verdictOf siteSection phasesSection groupsSection conflictsSection detectorsSection pedestriansSection headOf
+  unfolding verdictOf siteSection timedSection phasesSection groupsSection conflictsSection detectorsSection pedestriansSection headOf
   kind-within zero l = body-held b siteHead 1 _ (or-first _ _ (or-first _ _ h)) .1
   kind-within (suc zero) l = body-held b phasesHead 2 _ (or-first _ _ (or-first _ _ (or-later _ _ h))) .1
   kind-within (suc (suc zero)) l = body-held b (groupsHead b) 3 _ (or-first _ _ (or-first _ _ (or-later _ _ (or-later _ _ h)))) .1

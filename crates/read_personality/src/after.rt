@@ -1,12 +1,9 @@
 // What follows kind 6: kinds 7 and 9 where they are there; then 21, a phase without a caller; then 17, a group that stops early without kind 7;
 // then 12, bytes left over.
 ghost use mathlib.Core.Path.{_≡_};
-ghost use lib.Dec.{ltb};
-ghost use lib.ListN.{length};
 ghost use Rattle.rules.specs.declared.answer.Verdict.the-variants.{Accepted};
 ghost use Rattle.laws.specs.Folds.{anyOf};
-ghost use Rattle.rules.specs.Verdicts.{refuseIf};
-ghost use Rattle.rules.specs.Personality.{groupCount, siteSection, groupsSection, detectorsSection, stopsEarly, afterPedestrians};
+ghost use Rattle.rules.specs.Personality.{groupCount, siteSection, groupsSection, detectorsSection, stopsEarly, leftOver, afterPedestrians};
 ghost use Rattle.read_groups.specs.GroupsRead.{CrossedPhases};
 ghost use Rattle.read_layout.specs.LayoutOf.{LayoutOf};
 use read_callers::each_called;
@@ -19,7 +16,7 @@ use rules::answer::Verdict;
 
 // 12: bytes after the last section, which ends at the place given.
 fn left_over(s: &[u8], place: usize) -> Verdict
-    ensures { λ r. ⌜ r ≡ refuseIf (ltb place (length (now (s .entry)))) 12 place ⌝ }
+    ensures { λ r. ⌜ r ≡ leftOver (now (s .entry)) place ⌝ }
 {
     if place < s.len() {
         return Verdict::Refused { number: 12, place };

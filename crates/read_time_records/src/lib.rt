@@ -1,10 +1,8 @@
 // Records of two-byte times, each field held to the one table of limits.
 ghost use Prim.Native.Nat.{_+_, _*_, _≤_};
 ghost use mathlib.Core.Path.{_≡_};
-ghost use lib.Dec.{eqb};
 ghost use lib.ListN.{length};
-ghost use Rattle.rules.specs.Personality.{bodyLength, recordAt, sectionAt, timeAt, timesAt};
-ghost use Rattle.rules.specs.Verdicts.{_orElse_, firstOf};
+ghost use Rattle.rules.specs.Personality.{timeAt, timesAt, timeRecords, timedSection};
 use base_bytes::two_in;
 use base_limits::within;
 use read_sections::sized_section;
@@ -41,7 +39,7 @@ fn times_at(s: &[u8], place: usize, setting: usize, fields: usize) -> Verdict
 fn time_records(s: &[u8], head: usize, setting: usize, fields: usize, count: usize) -> Verdict
     requires { ⌜ (head ≤ 200000) × (setting ≤ 10) × (fields ≤ 10) × (count ≤ 255)
         × (head + 4 + count * (fields * 2) ≤ length (now s)) ⌝ }
-    ensures { λ r. ⌜ r ≡ firstOf (λ i. timesAt (now (s .entry)) (recordAt head (fields * 2) i) setting fields) count ⌝ }
+    ensures { λ r. ⌜ r ≡ timeRecords (now (s .entry)) head setting fields count ⌝ }
 {
     let mut place = head + 4;
     let mut i: usize = 0;
@@ -66,8 +64,7 @@ pub fn timed_section(
     count: usize,
 ) -> Verdict
     requires { ⌜ (head ≤ 200000) × (setting ≤ 10) × (fields ≤ 10) × (count ≤ 255) ⌝ }
-    ensures { λ r. ⌜ r ≡ (sectionAt (now (s .entry)) head kind (eqb (bodyLength (now (s .entry)) head) (count * (fields * 2)))
-        orElse firstOf (λ i. timesAt (now (s .entry)) (recordAt head (fields * 2) i) setting fields) count) ⌝ }
+    ensures { λ r. ⌜ r ≡ timedSection (now (s .entry)) head kind setting fields count ⌝ }
 {
     let body = sized_section(s, head, kind, count * (fields * 2));
     if let Verdict::Refused { .. } = body {

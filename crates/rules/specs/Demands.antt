@@ -16,7 +16,7 @@ use Rattle.laws.specs.Folds.{if_then_else_, anyOf, setOf}
 use Rattle.laws.specs.Bytes.{bit}
 use Rattle.rules.specs.Site.{detectorOf, crosses, ring}
 use Rattle.rules.specs.IntervalTable.{isWalk, isGreen}
-use Rattle.rules.specs.State.{idle, locked, asked}
+use Rattle.rules.specs.State.{idle, locked}
 
 -- ── Inputs: bits 0 to 47 are the detectors, 48 to 55 the buttons ──
 
@@ -63,13 +63,18 @@ registersButton movements inputs k = pressed inputs k && not (isWalk (getD movem
 unfoldable pub calls : Site → State → ℕ → ℕ → Bool
 calls site s inputs p = detected calling site inputs p && not (inGreen (s .position) p)
 
+-- the locks that stand after part 1
+unfoldable pub locksAfter : Site → State → ℕ → ℕ
+locksAfter site s inputs = setOf (λ p. locked s p || registersLock site s inputs p)
+
+-- the button demands that stand after part 1
+unfoldable pub buttonsAfter : ℕ → List Movement → ℕ → ℕ
+buttonsAfter buttons movements inputs = setOf (λ k. bit k buttons || registersButton movements inputs k)
+
 -- the demands that stand after part 1
 unfoldable pub demandsAfter : Site → State → ℕ → Demands
 demandsAfter site s inputs =
-    record {
-      locks = setOf (λ p. locked s p || registersLock site s inputs p);
-      buttons = setOf (λ k. asked s k || registersButton (s .movements) inputs k);
-    }
+    record { locks = locksAfter site s inputs; buttons = buttonsAfter (s .demands .buttons) (s .movements) inputs }
 
 -- ── The phases demanded ──
 
@@ -77,13 +82,13 @@ demandsAfter site s inputs =
 unfoldable pub movementDemands : List ℕ → ℕ → ℕ → ℕ → Bool
 movementDemands crossings count buttons p = anyOf (λ k. bit k buttons && crosses crossings k p) count
 
--- demanded by its lock or by a demanded movement
-unfoldable pub stands : Site → Demands → ℕ → Bool
-stands site demands p =
-    bit p (demands .locks) || movementDemands (site .crossings) (site .size .movements) (demands .buttons) p
+-- demanded by its lock or by a demanded movement, one of count
+unfoldable pub stands : List ℕ → ℕ → Demands → ℕ → Bool
+stands crossings count demands p = bit p (demands .locks) || movementDemands crossings count (demands .buttons) p
 
 unfoldable pub demanded : Site → State → ℕ → ℕ → Bool
-demanded site s inputs p = stands site (demandsAfter site s inputs) p || calls site s inputs p
+demanded site s inputs p =
+    stands (site .crossings) (site .size .movements) (demandsAfter site s inputs) p || calls site s inputs p
 
 -- the phases of a ring that come after p, and those that come before it
 unfoldable pub after : ℕ → List ℕ → List ℕ
@@ -98,10 +103,11 @@ unfoldable pub firstIn : (ℕ → Bool) → List ℕ → Held
 firstIn test [] = Nothing
 firstIn test (p ∷ rest) = if test p then Phase p else firstIn test rest
 
--- the first phase that passes after this one in cyclic order, or nothing where no other phase passes
-unfoldable pub nextAfter : Site → ℕ → (ℕ → Bool) → Held
-nextAfter site p test = firstIn test (after p (ring site) ++ before p (ring site))
+-- the first phase of a ring that passes after this one in cyclic order, or nothing where no other phase passes
+unfoldable pub nextAfter : List ℕ → ℕ → (ℕ → Bool) → Held
+nextAfter phases p test = firstIn test (after p phases ++ before p phases)
 
 -- the first demanded phase after the phase of the state, or nothing where no other phase is demanded
 unfoldable pub nextDemanded : Site → State → ℕ → Held
-nextDemanded site s inputs = nextAfter site (s .position .phase) (demanded site s inputs)
+nextDemanded site s inputs =
+    nextAfter (ring (site .order) (site .size .phases)) (s .position .phase) (demanded site s inputs)

@@ -2,14 +2,16 @@
 -- lock, walk and clearing holds it true. Non-locking calls count beside it, for their step only.
 use Prim.Native.Nat.{ℕ}
 use mathlib.Core.Bool.{Bool, not, _&&_, _||_}
+use mathlib.Core.List.{List}
 use lib.Dec.{eqb}
 use Rattle.rules.specs.declared.site.Site.{Site}
 use Rattle.rules.specs.declared.state.Demands.{Demands}
 use Rattle.rules.specs.declared.state.Held.{Held}
 use Rattle.rules.specs.declared.state.KeptState.{KeptState}
+use Rattle.rules.specs.declared.state.Movement.{Movement}
 use Rattle.laws.specs.Bytes.{bit}
 use Rattle.laws.specs.Folds.{anyOf, setOf}
-use Rattle.rules.specs.Site.{crosses}
+use Rattle.rules.specs.Site.{crosses, ring}
 use Rattle.rules.specs.State.{fresh, valid}
 use Rattle.rules.specs.Demands.{registersLock, registersButton, calls, demandsAfter, stands, nextAfter}
 use Rattle.rules.specs.Step.{steppedTo}
@@ -25,21 +27,26 @@ isKept s p = bit p (s .kept)
 
 -- a kept set that differs from a scan of the locks and the demanded movements is not valid
 unfoldable pub keptValid : Site → KeptState → Bool
-keptValid site s = valid site (s .core) && eqb (s .kept) (setOf (stands site (s .core .demands)))
+keptValid site s =
+    valid site (s .core) && eqb (s .kept) (setOf (stands (site .crossings) (site .size .movements) (s .core .demands)))
 
 -- ── Part 1: a lock and a press keep their phase ──
 
--- a button is registered whose movement is of phase p
-unfoldable pub pressKeeps : Site → KeptState → ℕ → ℕ → Bool
-pressKeeps site s inputs p =
-    anyOf (λ k. registersButton (s .core .movements) inputs k && crosses (site .crossings) k p) (site .size .movements)
+-- a button is registered, one of count, whose movement is of phase p
+unfoldable pub pressKeeps : List Movement → List ℕ → ℕ → ℕ → ℕ → Bool
+pressKeeps movements crossings count inputs p = anyOf (λ k. registersButton movements inputs k && crosses crossings k p) count
 
 unfoldable pub keptAfter : Site → KeptState → ℕ → ℕ → Bool
-keptAfter site s inputs p = isKept s p || registersLock site (s .core) inputs p || pressKeeps site s inputs p
+keptAfter site s inputs p =
+    isKept s p
+    || registersLock site (s .core) inputs p
+    || pressKeeps (s .core .movements) (site .crossings) (site .size .movements) inputs p
 
 -- the first phase after this one that is kept, or called in this step
 unfoldable pub nextKept : Site → KeptState → ℕ → Held
-nextKept site s inputs = nextAfter site (s .core .position .phase) (λ p. keptAfter site s inputs p || calls site (s .core) inputs p)
+nextKept site s inputs =
+    nextAfter (ring (site .order) (site .size .phases)) (s .core .position .phase)
+    (λ p. keptAfter site s inputs p || calls site (s .core) inputs p)
 
 -- ── Parts 4 and 5: clearing a lock and beginning a walk give the phase up where no other demand of it is left ──
 
@@ -48,13 +55,12 @@ unfoldable pub gone : ℕ → ℕ → ℕ → Bool
 gone old new i = bit i old && not (bit i new)
 
 -- the lock of phase p, or the demand of one of its movements, was cleared
-unfoldable pub cleared : Site → Demands → Demands → ℕ → Bool
-cleared site old new p =
-    gone (old .locks) (new .locks) p
-    || anyOf (λ k. gone (old .buttons) (new .buttons) k && crosses (site .crossings) k p) (site .size .movements)
+unfoldable pub cleared : List ℕ → ℕ → Demands → Demands → ℕ → Bool
+cleared crossings count old new p =
+    gone (old .locks) (new .locks) p || anyOf (λ k. gone (old .buttons) (new .buttons) k && crosses crossings k p) count
 
-unfoldable pub keptLeft : Site → Demands → Demands → (ℕ → Bool) → ℕ → Bool
-keptLeft site old new kept p = kept p && (not (cleared site old new p) || stands site new p)
+unfoldable pub keptLeft : List ℕ → ℕ → Demands → Demands → (ℕ → Bool) → ℕ → Bool
+keptLeft crossings count old new kept p = kept p && (not (cleared crossings count old new p) || stands crossings count new p)
 
 -- ── The step ──
 
@@ -62,4 +68,7 @@ unfoldable pub keptStepped : Site → KeptState → ℕ → KeptState
 keptStepped site s inputs =
     let core = steppedTo (nextKept site s inputs) site (s .core) inputs in
     let standing = demandsAfter site (s .core) inputs in
-    record { core = core; kept = setOf (keptLeft site standing (core .demands) (keptAfter site s inputs)) }
+    record {
+      core = core;
+      kept = setOf (keptLeft (site .crossings) (site .size .movements) standing (core .demands) (keptAfter site s inputs));
+    }

@@ -130,6 +130,15 @@ timeAt b place setting = refuseIf (not (within limits setting (twoAt b place))) 
 unfoldable pub timesAt : List ℕ → ℕ → ℕ → ℕ → Verdict
 timesAt b place setting fields = firstOf (λ f. timeAt b (place + f * 2) (setting + f)) fields
 
+-- Such records one after the other, from a section's head on.
+unfoldable pub timeRecords : List ℕ → ℕ → ℕ → ℕ → ℕ → Verdict
+timeRecords b head setting fields count = firstOf (λ i. timesAt b (recordAt head (fields * 2) i) setting fields) count
+
+-- A section of such records.
+unfoldable pub timedSection : List ℕ → ℕ → ℕ → ℕ → ℕ → ℕ → Verdict
+timedSection b head kind setting fields count =
+    sectionAt b head kind (eqb (bodyLength b head) (count * (fields * 2))) orElse timeRecords b head setting fields count
+
 unfoldable pub siteSection : List ℕ → Verdict
 siteSection b =
     sectionAt b siteHead 1 (eqb (bodyLength b siteHead) 4)
@@ -137,17 +146,18 @@ siteSection b =
     orElse refuseIf (not (leb 1 (groupCount b) && leb (groupCount b) 32)) 4 5
     orElse timeAt b 6 startRedSetting
 
+-- kind 2: L, M, X, G, Y, R of each phase
 unfoldable pub phasesSection : List ℕ → Verdict
-phasesSection b =
-    sectionAt b phasesHead 2 (eqb (bodyLength b phasesHead) (phaseCount b * 12))
-    orElse firstOf (λ p. timesAt b (recordAt phasesHead 12 p) phaseSettings 6) (phaseCount b)
+phasesSection b = timedSection b phasesHead 2 phaseSettings 6 (phaseCount b)
 
 -- 6: a phase bit at or above P, a mark above 3, or pedestrian without exactly one phase
-unfoldable pub badGroup : List ℕ → ℕ → Bool
-badGroup b g =
-    leb (2 ^ phaseCount b) (groupSet b g)
-    || ltb 3 (groupMark b g)
-    || (pedestrian b g && not (eqb (countOf (λ p. bit p (groupSet b g)) (phaseCount b)) 1))
+unfoldable pub badGroup : ℕ → ℕ → ℕ → Bool
+badGroup phases set mark =
+    leb (2 ^ phases) set || ltb 3 mark || (eqb mark 2 && not (eqb (countOf (λ p. bit p set) phases) 1))
+
+-- group record g is one
+unfoldable pub badGroupAt : List ℕ → ℕ → Bool
+badGroupAt b g = badGroup (phaseCount b) (groupSet b g) (groupMark b g)
 
 -- 7: the ninth pedestrian group
 unfoldable pub ninthPedestrian : List ℕ → ℕ → Bool
@@ -155,7 +165,7 @@ ninthPedestrian b g = pedestrian b g && eqb (pedestriansBefore b g) 8
 
 unfoldable pub groupRecord : List ℕ → ℕ → Verdict
 groupRecord b g =
-    refuseIf (badGroup b g) 6 (recordAt (groupsHead b) 2 g)
+    refuseIf (badGroupAt b g) 6 (recordAt (groupsHead b) 2 g)
     orElse refuseIf (ninthPedestrian b g) 7 (recordAt (groupsHead b) 2 g)
 
 -- 8: a phase in no group's set
@@ -193,27 +203,28 @@ unfoldable pub knownMode : ℕ → Bool
 knownMode mode = ltb (mode % 4) 3 && ltb (mode / 4) 2
 
 -- 11: a phase at or above P, or a mode not 0, 1, 2, 4, 5, 6
-unfoldable pub badDetector : List ℕ → ℕ → Bool
-badDetector b d = leb (phaseCount b) (detectorPhase b d) || not (knownMode (detectorMode b d))
+unfoldable pub badDetector : ℕ → ℕ → ℕ → Bool
+badDetector phases phase mode = leb phases phase || not (knownMode mode)
+
+-- detector record d is one
+unfoldable pub badDetectorAt : List ℕ → ℕ → Bool
+badDetectorAt b d = badDetector (phaseCount b) (detectorPhase b d) (detectorMode b d)
+
+unfoldable pub detectorRecord : List ℕ → ℕ → Verdict
+detectorRecord b d = refuseIf (badDetectorAt b d) 11 (recordAt (detectorsHead b) 2 d)
 
 unfoldable pub detectorsSection : List ℕ → Verdict
 detectorsSection b =
     sectionAt b (detectorsHead b) 5 (eqb (bodyLength b (detectorsHead b) % 2) 0 && leb (bodyLength b (detectorsHead b)) 96)
-    orElse firstOf (λ d. refuseIf (badDetector b d) 11 (recordAt (detectorsHead b) 2 d)) (detectorCount b)
+    orElse firstOf (detectorRecord b) (detectorCount b)
 
+-- kind 6: W, C1, C2 of each movement
 unfoldable pub pedestriansSection : List ℕ → Verdict
-pedestriansSection b =
-    sectionAt b (pedestriansHead b) 6 (eqb (bodyLength b (pedestriansHead b)) (movementCount b * 6))
-    orElse firstOf (λ k. timesAt b (recordAt (pedestriansHead b) 6 k) walkSettings 3) (movementCount b)
+pedestriansSection b = timedSection b (pedestriansHead b) 6 walkSettings 3 (movementCount b)
 
 -- kind 7, where it is there: a time of early cut-off green for each phase
 unfoldable pub earlySection : List ℕ → Verdict
-earlySection b =
-    if hasEarly b
-    then
-    sectionAt b (earlyHead b) 7 (eqb (bodyLength b (earlyHead b)) (phaseCount b * 2))
-    orElse firstOf (λ p. timeAt b (recordAt (earlyHead b) 2 p) earlySetting) (phaseCount b)
-    else Accepted
+earlySection b = if hasEarly b then timedSection b (earlyHead b) 7 earlySetting 1 (phaseCount b) else Accepted
 
 -- 18: not each phase once
 unfoldable pub phaseNotOnce : List ℕ → Bool
@@ -250,6 +261,10 @@ unfoldable pub earlyMissing : List ℕ → Verdict
 earlyMissing b =
     firstOf (λ g. refuseIf (stopsEarly b g && not (hasEarly b)) 17 (recordAt (groupsHead b) 2 g)) (groupCount b)
 
+-- 12: bytes left over from a place on
+unfoldable pub leftOver : List ℕ → ℕ → Verdict
+leftOver b place = refuseIf (ltb place (length b)) 12 place
+
 -- What follows kind 6: kinds 7 and 9 where they are there; then 21; then 17; then 12, bytes left over.
 unfoldable pub afterPedestrians : List ℕ → Verdict
 afterPedestrians b =
@@ -257,7 +272,7 @@ afterPedestrians b =
     orElse orderSection b
     orElse refuseIf (phaseWithoutCaller b) 21 (detectorsHead b)
     orElse earlyMissing b
-    orElse refuseIf (ltb (endOf b) (length b)) 12 (endOf b)
+    orElse leftOver b (endOf b)
 
 unfoldable pub verdictOf : List ℕ → Verdict
 verdictOf b =

@@ -42,7 +42,7 @@ KeptIsScan =
     keptValid site s ≡ true →
     (p : ℕ) →
     p < 8 →
-    isKept s p ≡ stands site (s .core .demands) p
+    isKept s p ≡ stands (site .crossings) (site .size .movements) (s .core .demands) p
 
 -- ── Forgetting the kept set gives the scanning rules ──
 

@@ -110,6 +110,6 @@ movementOf groups g = countOf (isPedestrian groups) g
 unfoldable pub conflict : Site → ℕ → ℕ → Bool
 conflict site g j = bit j (getD (site .conflicts) g 0)
 
--- the phases in running order
-unfoldable pub ring : Site → List ℕ
-ring site = listOf (λ i. getD (site .order) i 0) (site .size .phases)
+-- the phases in running order, count of them
+unfoldable pub ring : List ℕ → ℕ → List ℕ
+ring order count = listOf (λ i. getD order i 0) count

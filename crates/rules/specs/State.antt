@@ -7,6 +7,7 @@ use lib.ListN.{getD, replicate}
 use Rattle.rules.specs.declared.site.PhaseTimes.{PhaseTimes}
 use Rattle.rules.specs.declared.site.Site.{Site}
 use Rattle.rules.specs.declared.state.Counts.{Counts}
+use Rattle.rules.specs.declared.state.Demands.{Demands}
 use Rattle.rules.specs.declared.state.Held.{Held}
 use Rattle.rules.specs.declared.state.Held.the-variants.{Nothing, Phase}
 use Rattle.rules.specs.declared.state.Interval.{Interval}
@@ -89,6 +90,11 @@ countsValid times counts = leb (counts .gap) (times .gap) && leb (counts .maximu
 unfoldable pub demandExists : ℕ → ℕ → ℕ → Bool
 demandExists demands count i = not (bit i demands) || ltb i count
 
+-- demands only for phases and movements that exist
+unfoldable pub demandsValid : ℕ → ℕ → Demands → Bool
+demandsValid phases movements demands =
+    allOf (demandExists (demands .locks) phases) 8 && allOf (demandExists (demands .buttons) movements) 8
+
 -- movement k is one of phase p, and one of the count that the site has
 unfoldable pub movementIn : ℕ → List ℕ → ℕ → ℕ → Bool
 movementIn count crossings p k = ltb k count && crosses crossings k p
@@ -114,7 +120,6 @@ valid site s =
     every
     (positionValid (site .early) (site .size .phases) (s .position)
     ∷ countsValid (phaseTimes (site .times) (s .position .phase)) (s .counts)
-    ∷ allOf (demandExists (s .demands .locks) (site .size .phases)) 8
-    ∷ allOf (demandExists (s .demands .buttons) (site .size .movements)) 8
+    ∷ demandsValid (site .size .phases) (site .size .movements) (s .demands)
     ∷ movementsValid (site .size .movements) (site .crossings) (s .position) (s .movements)
     ∷ [])

@@ -1,12 +1,13 @@
 // The colours that the signal groups show in a state, one byte a group.
 ghost use Prim.Native.Nat.{_≤_, _<_};
-ghost use mathlib.Core.List.{_++_};
 ghost use mathlib.Core.Bool.{_&&_};
 ghost use mathlib.Core.Path.{_≡_};
-ghost use lib.ListN.{length, drop};
+ghost use lib.ListN.{length};
 ghost use Rattle.rules.specs.IntervalTable.{heldIn};
 ghost use Rattle.laws.specs.Folds.{if_then_else_};
-ghost use Rattle.rules.specs.Colours.{red, yellow, green, sinceCutOff, closing, vehicleColour, movementColour, vehicleShown, colourOf, coloursOf, bufferAt};
+ghost use Rattle.rules.specs.Colours.{red, yellow, green, sinceCutOff, closing, vehicleColour, movementColour, vehicleShown, colourOf, bufferAt};
+ghost use Rattle.rules.specs.Call.{bufferFor};
+ghost use Rattle.rules.specs.declared.answer.Verdict.the-variants.{Accepted};
 ghost use Rattle.rules.specs.Laws.{Sound};
 ghost use Rattle.step_colours.specs.Showable.{Showable};
 ghost use Rattle.step_colours.specs.Turn.{TurnOf};
@@ -136,8 +137,7 @@ fn since_cut_off(interval: Interval, times: PhaseTimes, age: u16) -> u32
 fn closing(times: Times, position: Position) -> bool
     ensures { λ r. ⌜ r ≡ closing times position ⌝ }
 {
-    let settings = times.phases;
-    let own = step_counts::phase_times(settings, position.phase);
+    let own = step_counts::phase_times(times, position.phase);
     let interval = position.interval;
     since_cut_off(interval, own, position.age) <= own.yellow as u32
 }
@@ -205,7 +205,7 @@ fn buffer_at(
 // Writes the colours of all groups from the buffer's start on; the bytes past them stay as they are.
 pub fn colours_of(site: Site, state: State, buffer: &mut [u8])
     requires { ⌜ Sound site × (site .size .groups ≤ length (now buffer)) ⌝ }
-    ensures { λ _. ⌜ now (buffer .exit) ≡ coloursOf site state ++ drop (site .size .groups) (now (buffer .entry)) ⌝ }
+    ensures { λ _. ⌜ now (buffer .exit) ≡ bufferFor Accepted site state (now (buffer .entry)) ⌝ }
 {
     let groups = site.groups;
     let count = site.size.groups as usize;

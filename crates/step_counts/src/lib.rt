@@ -1,16 +1,17 @@
 // Part 3 of a step: the gap count and the maximum count; and the settings of the phase that they go by.
 ghost use mathlib.Core.Path.{_≡_};
-ghost use lib.ListN.{getD};
-ghost use Rattle.rules.specs.Site.{noPhaseTimes};
+ghost use Rattle.rules.specs.Site.{phaseTimes};
 ghost use Rattle.rules.specs.Counts.{gapAfter, maximumAfter, countsAfter};
 use rules::site::PhaseTimes;
+use rules::site::Times;
 use rules::state::Counts;
 use rules::state::Interval;
 
 // The settings of a phase; a phase that there is no room for has none.
-pub fn phase_times(settings: [PhaseTimes; 7], phase: u8) -> PhaseTimes
-    ensures { λ r. ⌜ r ≡ getD settings phase noPhaseTimes ⌝ }
+pub fn phase_times(times: Times, phase: u8) -> PhaseTimes
+    ensures { λ r. ⌜ r ≡ phaseTimes times phase ⌝ }
 {
+    let settings = times.phases;
     let p = phase as usize;
     if p < 7 {
         return settings[p];

@@ -1,80 +1,73 @@
 -- Part 1 put together: what its calls give from the sets of phases of which detectors are occupied is what the rules say, set by set.
 use Prim.Native.Nat.{ℕ, _<_}
 use mathlib.Core.Bool.{Bool, not, _&&_, _||_}
-use mathlib.Core.Path.{_≡_, refl, sym, ap, _∙_}
-use native.Mathlib.Nat.{lt-of-le-of-lt}
+use mathlib.Core.Path.{_≡_, sym, ap, _∙_}
 use native.Mathlib.Omega.{arith}
-use lib.Bits.{bitAnd, bitOr, and-le-r}
+use lib.Bits.{bitOr}
 use Rattle.rules.specs.declared.site.Site.{Site}
 use Rattle.rules.specs.declared.state.Demands.{Demands}
 use Rattle.rules.specs.declared.state.Held.{Held}
 use Rattle.rules.specs.declared.state.KeptState.{KeptState}
 use Rattle.laws.specs.Bytes.{bit}
-use Rattle.laws.specs.Folds.{anyOf, setOf}
-use Rattle.rules.specs.Site.{crosses}
-use Rattle.rules.specs.State.{locked, asked}
-use Rattle.rules.specs.Demands.{calling, locking, extending, detectedAmong, detected, inGreen, registersLock, registersButton, calls, demandsAfter, firstIn}
+use Rattle.laws.specs.Folds.{setOf}
+use Rattle.rules.specs.Site.{ring}
+use Rattle.rules.specs.State.{locked}
+use Rattle.rules.specs.Demands.{calling, locking, extending, detectedAmong, detected, inGreen, registersLock, registersButton, calls, locksAfter, buttonsAfter, demandsAfter, nextAfter}
 use Rattle.rules.specs.Kept.{isKept, pressKeeps, keptAfter, nextKept}
 use Rattle.rules.specs.Laws.{Sound}
-use Rattle.laws.proofs.Sets.{bit-set, set-small, set-same}
+use Rattle.laws.proofs.Sets.{bit-set, set-same}
 use Rattle.laws.proofs.Booleans.{and-false-right}
-use Rattle.laws.proofs.CommonBits.{bit-and}
-use Rattle.laws.proofs.Members.{set-told, union-told}
+use Rattle.laws.proofs.Members.{self-told, union-told}
 use Rattle.laws.proofs.Passing.{any-past}
 use Rattle.step_demands_detectors.specs.declared.Sensed.{Sensed}
 use Rattle.step_demands_detectors.specs.Sensed.{SensedBy}
-use Rattle.step_demands_ring.specs.RingPlaces.{others}
 use Rattle.step_demands.specs.Registered.{RegisteredBy}
 use Rattle.step_demands.proofs.Sites.{ring-same}
 
--- a byte is the set of its bits
-own-set : (x : ℕ) → x < 256 → x ≡ setOf (λ p. bit p x)
-own-set x small = set-told _ x small (λ p l. refl)
-
 module _
-    (site : Site) (s : KeptState) (inputs : ℕ) (sensed : Sensed) (waiting : ℕ)
+    (site : Site) (s : KeptState) (inputs : ℕ) (sensed : Sensed) (green toLock toCall : ℕ)
     (scanned : SensedBy (site .detectors) (site .size .detectors) inputs (s .core .position .phase) sensed)
-    (waits : waiting ≡ setOf (λ p. not (inGreen (s .core .position) p)))
+    (greens : green ≡ setOf (inGreen (s .core .position)))
+    (locks : toLock ≡ setOf (λ p. bit p (sensed .locks) && not (bit p green)))
+    (called : toCall ≡ setOf (λ p. bit p (sensed .calls) && not (bit p green)))
   where
     -- of a set of phases those that may be demanded
     outside :
         (kind : ℕ → Bool) (set : ℕ) →
         ((p : ℕ) → p < 8 → bit p set ≡ detectedAmong (site .detectors) (site .size .detectors) kind inputs p) →
-        bitAnd set waiting ≡ setOf (λ p. detected kind site inputs p && not (inGreen (s .core .position) p))
+        setOf (λ p. bit p set && not (bit p green)) ≡ setOf (λ p. detected kind site inputs p && not (inGreen (s .core .position) p))
     unfolding detected
-    outside kind set told =
-        set-told _ _ (lt-of-le-of-lt (and-le-r set waiting) (rw waits (set-small _)))
-        (λ p l. bit-and p set waiting ∙ rw (told p l, waits, bit-set))
+    outside kind set told = set-same _ _ (λ p l. rw (told p l, greens, bit-set (inGreen (s .core .position)) p l))
 
-    lock-told : bitAnd (sensed .locks) waiting ≡ setOf (registersLock site (s .core) inputs)
+    lock-told : toLock ≡ setOf (registersLock site (s .core) inputs)
     unfolding registersLock
-    lock-told = outside locking (sensed .locks) (scanned .locks)
+    lock-told = locks ∙ outside locking (sensed .locks) (scanned .locks)
 
-    call-told : bitAnd (sensed .calls) waiting ≡ setOf (calls site (s .core) inputs)
+    call-told : toCall ≡ setOf (calls site (s .core) inputs)
     unfolding calls
-    call-told = outside calling (sensed .calls) (scanned .calls)
+    call-told = called ∙ outside calling (sensed .calls) (scanned .calls)
 
     module _
         (buttons pressing : ℕ) (next : Held)
-        (pressed : buttons ≡ setOf (λ k. bit k (s .core .demands .buttons) || registersButton (s .core .movements) inputs k))
-        (presses : pressing ≡ setOf (λ p. anyOf (λ k. registersButton (s .core .movements) inputs k && crosses (site .crossings) k p) 8))
+        (pressed : buttons ≡ buttonsAfter (s .core .demands .buttons) (s .core .movements) inputs)
+        (presses : pressing ≡ setOf (pressKeeps (s .core .movements) (site .crossings) 8 inputs))
         (searched :
         next
-        ≡ firstIn (λ p. bit p (bitOr (bitOr (bitOr (s .kept) (bitAnd (sensed .locks) waiting)) pressing) (bitAnd (sensed .calls) waiting)))
-        (others (s .core .position .phase) (site .order) (site .size .phases)))
+        ≡ nextAfter (ring (site .order) (site .size .phases)) (s .core .position .phase)
+        (λ p. bit p (bitOr (bitOr (bitOr (s .kept) toLock) pressing) toCall)))
         (sound : Sound site) (locksSmall : s .core .demands .locks < 256) (keptSmall : s .kept < 256)
       where
         abbrev standing : Demands
-        standing = record { locks = bitOr (s .core .demands .locks) (bitAnd (sensed .locks) waiting); buttons = buttons }
+        standing = record { locks = bitOr (s .core .demands .locks) toLock; buttons = buttons }
 
         -- the demands that stand
         standing-told : standing ≡ demandsAfter site (s .core) inputs
-        unfolding demandsAfter locked asked
+        unfolding demandsAfter locksAfter locked
         standing-told =
-            rw (pressed, union-told _ _ _ _ (own-set (s .core .demands .locks) locksSmall) lock-told)
+            rw (pressed, union-told _ _ _ _ (self-told (s .core .demands .locks) locksSmall) lock-told)
 
         -- a movement that the site has not is of no phase
-        press-told : pressing ≡ setOf (pressKeeps site s inputs)
+        press-told : pressing ≡ setOf (pressKeeps (s .core .movements) (site .crossings) (site .size .movements) inputs)
         unfolding pressKeeps
         press-told =
             presses
@@ -86,18 +79,18 @@ module _
 
         -- the phases kept
         abbrev kept : ℕ
-        kept = bitOr (bitOr (s .kept) (bitAnd (sensed .locks) waiting)) pressing
+        kept = bitOr (bitOr (s .kept) toLock) pressing
 
         kept-told : kept ≡ setOf (keptAfter site s inputs)
         unfolding keptAfter isKept
-        kept-told = union-told _ _ _ _ (union-told _ _ _ _ (own-set (s .kept) keptSmall) lock-told) press-told
+        kept-told = union-told _ _ _ _ (union-told _ _ _ _ (self-told (s .kept) keptSmall) lock-told) press-told
 
         -- a phase is demanded that is kept, or called by a detector
         next-told : next ≡ nextKept site s inputs
         unfolding nextKept
         next-told =
             searched
-            ∙ ring-same site sound (λ p. bit p (bitOr kept (bitAnd (sensed .calls) waiting)))
+            ∙ ring-same site sound (λ p. bit p (bitOr kept toCall))
             (λ p. keptAfter site s inputs p || calls site (s .core) inputs p) (s .core .position .phase)
             (λ p l. ap (bit p) (union-told _ _ _ _ kept-told call-told) ∙ bit-set _ p (omega arith))
 

@@ -9,14 +9,13 @@ use lib.Dec.{ltb}
 use Rattle.rules.specs.declared.site.Site.{Site}
 use Rattle.rules.specs.Personality.{knownMode}
 use Rattle.rules.specs.Site.{detectorOf, ring}
-use Rattle.rules.specs.Demands.{firstIn, nextAfter}
+use Rattle.rules.specs.Demands.{nextAfter}
 use Rattle.rules.specs.Laws.{Sound}
 use Rattle.laws.proofs.Booleans.{and-left, and-right}
 use Rattle.proof_ring.proofs.RunningOrder.{ring-of}
 use Rattle.proof_ring.proofs.Ring.{found-same}
 use Rattle.proof_ring.proofs.Turns.{turn}
 use Rattle.step_demands_detectors.specs.Sensed.{Tabled}
-use Rattle.step_demands_ring.specs.RingPlaces.{others}
 
 -- the detectors of an accepted site are within the table
 pub tabled : (site : Site) → Sound site → Tabled (site .detectors) (site .size .detectors)
@@ -40,6 +39,6 @@ module _ (site : Site) (sound : Sound site) where
   pub ring-same :
       (f g : ℕ → Bool) (p : ℕ) →
       ((q : ℕ) → q < 7 → f q ≡ g q) →
-      firstIn f (others p (site .order) (site .size .phases)) ≡ nextAfter site p g
-  unfolding nextAfter ring turn
+      nextAfter (ring (site .order) (site .size .phases)) p f ≡ nextAfter (ring (site .order) (site .size .phases)) p g
+  unfolding nextAfter turn
   ring-same f g p same = found-same (ring-of site sound) f g p (λ q l. same q (omega (arith, l, sound .phases .1)))

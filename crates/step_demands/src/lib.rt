@@ -2,6 +2,7 @@
 ghost use Prim.Native.Nat.{_<_};
 ghost use Rattle.rules.specs.Laws.{Sound};
 ghost use Rattle.step_demands.specs.Registered.{RegisteredBy};
+use base_bytes::sets;
 use rules::site::Site;
 use rules::state::Demands;
 use rules::state::Held;
@@ -30,8 +31,9 @@ pub fn register(site: Site, state: KeptState, inputs: u64) -> Registered
     let size = site.size;
     let detectors = site.detectors;
     let sensed = step_demands_detectors::sense(detectors, size.detectors, inputs, phase);
-    let waiting = phases::waiting(position);
-    let locking = sensed.locks & waiting;
+    let green = phases::in_green(position);
+    let locking = sets::except(sensed.locks, green);
+    let calling = sets::except(sensed.calls, green);
     let old = core.demands;
     let movements = core.movements;
     let crossings = site.crossings;
@@ -44,12 +46,7 @@ pub fn register(site: Site, state: KeptState, inputs: u64) -> Registered
             buttons: pressed.buttons,
         },
         kept: kept,
-        next: step_demands_ring::next_after(
-            kept | (sensed.calls & waiting),
-            phase,
-            order,
-            size.phases,
-        ),
+        next: step_demands_ring::next_after(kept | calling, phase, order, size.phases),
         extended: sensed.extended,
     }
 }

@@ -1,5 +1,4 @@
-// The phases that detectors may demand.
-ghost use mathlib.Core.Bool.{not};
+// The phase that detectors do not demand.
 ghost use mathlib.Core.Path.{_≡_};
 ghost use Prim.Native.Nat.{_<_};
 ghost use Rattle.laws.specs.Folds.{setOf};
@@ -7,15 +6,14 @@ ghost use Rattle.rules.specs.Demands.{inGreen};
 use base_bytes::sets;
 use rules::state::Position;
 
-// All phases but one that is in minimum green or running, as a set.
-pub fn waiting(position: Position) -> u8
+// The phase that is in minimum green or running, as a set; no phase in any other interval.
+pub fn in_green(position: Position) -> u8
     requires { ⌜ position .phase < 8 ⌝ }
-    ensures { λ r. ⌜ r ≡ setOf (λ p. not (inGreen position p)) ⌝ }
+    ensures { λ r. ⌜ r ≡ setOf (inGreen position) ⌝ }
 {
     let interval = position.interval;
     if base_intervals::is_green(interval) {
-        sets::without(255, position.phase)
-    } else {
-        255
+        return sets::with(0, position.phase);
     }
+    0
 }

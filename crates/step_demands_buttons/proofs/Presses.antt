@@ -14,11 +14,11 @@ use lib.ListN.{getD}
 use lib.Pow.{pow-pos}
 use Rattle.rules.specs.declared.state.Movement.{Movement}
 use Rattle.laws.specs.Bytes.{bit}
-use Rattle.laws.specs.Folds.{anyOf, setOf}
-use Rattle.rules.specs.Site.{crosses}
+use Rattle.laws.specs.Folds.{setOf}
 use Rattle.rules.specs.IntervalTable.{isWalk}
 use Rattle.rules.specs.State.{idle}
-use Rattle.rules.specs.Demands.{pressed, registersButton}
+use Rattle.rules.specs.Demands.{pressed, registersButton, buttonsAfter}
+use Rattle.rules.specs.Kept.{pressKeeps}
 use Rattle.laws.proofs.Bits.{bit-lower}
 use Rattle.laws.proofs.Sets.{bit-set, set-same}
 use Rattle.laws.proofs.Booleans.{decided}
@@ -102,12 +102,14 @@ module _
       unfolding registersButton pressed
       all-registered k l = rw (bit-lower 8 k (inputs / 2 ^ 48) l ∙ bit-down inputs 48 k)
 
-      pub all-pressed : out ≡ setOf (λ k. bit k buttons || registersButton movements inputs k)
+      pub all-pressed : out ≡ buttonsAfter buttons movements inputs
+      unfolding buttonsAfter
       all-pressed =
           known .told
           ∙ set-same _ _
           (λ k l.
           ap (λ (t : Bool). bit k buttons || t) (all-counted (known .keeps) done (registersButton movements inputs) all-registered k l))
 
-      pub all-kept : phases ≡ setOf (λ p. anyOf (λ k. registersButton movements inputs k && crosses crossings k p) 8)
+      pub all-kept : phases ≡ setOf (pressKeeps movements crossings 8 inputs)
+      unfolding pressKeeps
       all-kept = all-crossed (known .keeps) done (registersButton movements inputs) all-registered

@@ -1,11 +1,9 @@
 // The buttons: the demands that they register, and the phases that these keep.
-ghost use mathlib.Core.Bool.{_||_, _&&_};
 ghost use mathlib.Core.Path.{_≡_};
-ghost use Rattle.laws.specs.Bytes.{bit};
-ghost use Rattle.laws.specs.Folds.{anyOf, setOf};
-ghost use Rattle.rules.specs.Site.{crosses};
+ghost use Rattle.laws.specs.Folds.{setOf};
 ghost use Rattle.rules.specs.IntervalTable.{isWalk};
-ghost use Rattle.rules.specs.Demands.{registersButton};
+ghost use Rattle.rules.specs.Demands.{buttonsAfter};
+ghost use Rattle.rules.specs.Kept.{pressKeeps};
 use base_bytes::sets;
 use rules::state::Movement;
 use rules::state::Stage;
@@ -26,8 +24,7 @@ fn dropped(stage: Stage) -> bool
 // A pressed button demands its movement unless that movement is in walk, and keeps its phase. Button k is input bit 48 + k. Each turn takes
 // the lowest button that is left.
 pub fn press(buttons: u8, movements: [Movement; 8], crossings: [u8; 8], inputs: u64) -> Pressed
-    ensures { λ r. ⌜ (r .buttons ≡ setOf (λ k. bit k buttons || registersButton movements inputs k))
-        × (r .phases ≡ setOf (λ p. anyOf (λ k. registersButton movements inputs k && crosses crossings k p) 8)) ⌝ }
+    ensures { λ r. ⌜ (r .buttons ≡ buttonsAfter buttons movements inputs) × (r .phases ≡ setOf (pressKeeps movements crossings 8 inputs)) ⌝ }
 {
     let mut out = buttons;
     let mut phases: u8 = 0;

@@ -1,8 +1,9 @@
-// The phases that the demanded movements demand.
+// The phases that the demanded movements demand, and those that stand by them or by a lock.
 ghost use Prim.Native.Nat.{_≤_};
 ghost use mathlib.Core.Path.{_≡_};
 ghost use Rattle.laws.specs.Folds.{setOf};
-ghost use Rattle.rules.specs.Demands.{movementDemands};
+ghost use Rattle.rules.specs.Demands.{movementDemands, stands as standsBy};
+use rules::state::Demands;
 
 // The phases of the demanded movements among the first count, as a set. Each turn takes the lowest movement that is left.
 pub fn movement_demands(crossings: [u8; 8], buttons: u8, count: u8) -> u8
@@ -17,4 +18,12 @@ pub fn movement_demands(crossings: [u8; 8], buttons: u8, count: u8) -> u8
         rest = rest & (rest - 1);
     }
     set
+}
+
+// The phases that are demanded by a lock or by a demanded movement, as a set.
+pub fn stands(crossings: [u8; 8], count: u8, demands: Demands) -> u8
+    requires { ⌜ count ≤ 8 ⌝ }
+    ensures { λ r. ⌜ r ≡ setOf (standsBy crossings count demands) ⌝ }
+{
+    demands.locks | movement_demands(crossings, demands.buttons, count)
 }

@@ -13,9 +13,10 @@ use lib.Dec.{eqb}
 use lib.ListN.{getD}
 use Rattle.rules.specs.declared.state.Held.the-variants.{Nothing, Phase}
 use Rattle.laws.specs.Folds.{listOf}
-use Rattle.rules.specs.Demands.{after, before, firstIn}
+use Rattle.rules.specs.Site.{ring}
+use Rattle.rules.specs.Demands.{after, before, firstIn, nextAfter}
 use Rattle.laws.proofs.Booleans.{decided}
-use Rattle.step_demands_ring.specs.RingPlaces.{run, others, PlaceOf}
+use Rattle.step_demands_ring.specs.RingPlaces.{run, PlaceOf}
 
 -- ── A search of a run, entry by entry ──
 
@@ -113,7 +114,8 @@ module _ (order : List ℕ) where
         (decided (eqb (getD order i 0) p))
 
     -- the search of those after p, and where it finds none, of those before it
-    pub next-later : (f : ℕ → Bool) {q : ℕ} → firstIn f (run order (at + 1) (m - (at + 1))) ≡ Phase q → firstIn f (others p order m) ≡ Phase q
+    pub next-later : (f : ℕ → Bool) {q : ℕ} → firstIn f (run order (at + 1) (m - (at + 1))) ≡ Phase q → nextAfter (ring order m) p f ≡ Phase q
+    unfolding nextAfter ring
     next-later f e =
         rw (entries-run m, after-run 0 m (omega arith) (omega arith), before-run 0 m (omega arith) (omega arith))
         (first-found f (run order (at + 1) (m - (at + 1))) (run order 0 (at - 0)) e)
@@ -121,7 +123,8 @@ module _ (order : List ℕ) where
     pub next-earlier :
         (f : ℕ → Bool) →
         firstIn f (run order (at + 1) (m - (at + 1))) ≡ Nothing →
-        firstIn f (others p order m) ≡ firstIn f (run order 0 (at - 0))
+        nextAfter (ring order m) p f ≡ firstIn f (run order 0 (at - 0))
+    unfolding nextAfter ring
     next-earlier f e =
         rw (entries-run m, after-run 0 m (omega arith) (omega arith), before-run 0 m (omega arith) (omega arith))
         (first-none f (run order (at + 1) (m - (at + 1))) (run order 0 (at - 0)) e)

@@ -2,8 +2,9 @@
 ghost use mathlib.Core.Path.{_≡_};
 ghost use Prim.Native.Nat.{_-_, _≤_};
 ghost use Rattle.laws.specs.Bytes.{bit};
-ghost use Rattle.rules.specs.Demands.{firstIn};
-ghost use Rattle.step_demands_ring.specs.RingPlaces.{run, others, PlaceOf};
+ghost use Rattle.rules.specs.Demands.{firstIn, nextAfter};
+ghost use Rattle.rules.specs.Site.{ring};
+ghost use Rattle.step_demands_ring.specs.RingPlaces.{run, PlaceOf};
 use rules::state::Held;
 
 // Where the phase stands among the first phases of the order, or past them where it does not.
@@ -40,7 +41,7 @@ fn search(set: u8, order: [u8; 7], from: u8, to: u8) -> Held
 // The first phase of the set after this one in cyclic order: the phases after it, then those before it.
 pub fn next_after(set: u8, phase: u8, order: [u8; 7], phases: u8) -> Held
     requires { ⌜ phases ≤ 7 ⌝ }
-    ensures { λ r. ⌜ r ≡ firstIn (λ p. bit p set) (others phase order phases) ⌝ }
+    ensures { λ r. ⌜ r ≡ nextAfter (ring order phases) phase (λ p. bit p set) ⌝ }
 {
     let at = place_of(order, phase, phases);
     let later = search(set, order, at + 1, phases);

@@ -49,9 +49,8 @@ pub fn counts_changed(
     let before = old.interval;
     let after = now.interval;
     if ended {
-        let settings = times.phases;
         let left = counts_leaving(before, counted);
-        return counts_entering(after, step_counts::phase_times(settings, now.phase), left);
+        return counts_entering(after, step_counts::phase_times(times, now.phase), left);
     }
     counted
 }

@@ -24,8 +24,7 @@ fn entering(interval: Interval, target: Held, position: Position) -> Position
 fn starting(times: Times, phase: u8, previous: Held) -> Position
     ensures { λ r. ⌜ r ≡ starting times phase previous ⌝ }
 {
-    let settings = times.phases;
-    let own = step_counts::phase_times(settings, phase);
+    let own = step_counts::phase_times(times, phase);
     if own.late == 0 {
         return Position {
             phase: phase,
@@ -49,8 +48,7 @@ fn starting(times: Times, phase: u8, previous: Held) -> Position
 fn leaving(times: Times, next: Held, position: Position) -> Position
     ensures { λ r. ⌜ r ≡ leaving times next position ⌝ }
 {
-    let settings = times.phases;
-    let own = step_counts::phase_times(settings, position.phase);
+    let own = step_counts::phase_times(times, position.phase);
     if own.early == 0 {
         return entering(Interval::Yellow, next, position);
     }

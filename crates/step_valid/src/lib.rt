@@ -1,12 +1,10 @@
 // The checks of a step call on its state and on its input bits.
 ghost use Prim.Native.Nat.{_≤_};
-ghost use mathlib.Core.Bool.{_&&_};
 ghost use mathlib.Core.Path.{_≡_};
 ghost use Rattle.rules.specs.Call.{strayInput};
 ghost use Rattle.rules.specs.Kept.{keptValid};
 ghost use Rattle.rules.specs.Laws.{Sound};
-ghost use Rattle.laws.specs.Folds.{allOf};
-ghost use Rattle.rules.specs.State.{intervalValid, targetValid, previousValid, ageValid, positionValid, countsValid, demandExists, movementValid, movementsValid, valid};
+ghost use Rattle.rules.specs.State.{intervalValid, targetValid, previousValid, ageValid, positionValid, countsValid, demandsValid, movementValid, movementsValid, valid};
 use base_bytes::sets;
 use rules::site::PhaseTimes;
 use rules::site::Site;
@@ -83,9 +81,9 @@ fn counts_valid(times: PhaseTimes, counts: Counts) -> bool
 }
 
 // Locks only of phases that exist, button demands only of movements that exist.
-fn demands_valid(demands: Demands, phases: u8, count: u8) -> bool
+fn demands_valid(phases: u8, count: u8, demands: Demands) -> bool
     requires { ⌜ (phases ≤ 8) × (count ≤ 8) ⌝ }
-    ensures { λ r. ⌜ r ≡ (allOf (demandExists (demands .locks) phases) 8 && allOf (demandExists (demands .buttons) count) 8) ⌝ }
+    ensures { λ r. ⌜ r ≡ demandsValid phases count demands ⌝ }
 {
     sets::all_below(demands.locks, phases) & sets::all_below(demands.buttons, count)
 }
@@ -138,15 +136,14 @@ fn valid(site: Site, state: State) -> bool
     let count = site.size.movements;
     let position = state.position;
     let times = site.times;
-    let settings = times.phases;
-    let own = step_counts::phase_times(settings, position.phase);
+    let own = step_counts::phase_times(times, position.phase);
     let counts = state.counts;
     let demands = state.demands;
     let crossings = site.crossings;
     let movements = state.movements;
     position_valid(site.early, phases, position)
         & counts_valid(own, counts)
-        & demands_valid(demands, phases, count)
+        & demands_valid(phases, count, demands)
         & movements_valid(count, crossings, position, movements)
 }
 
@@ -158,8 +155,8 @@ pub fn kept_valid(site: Site, state: KeptState) -> bool
     let core = state.core;
     let demands = core.demands;
     let crossings = site.crossings;
-    let crossed = movements::movement_demands(crossings, demands.buttons, site.size.movements);
-    valid(site, core) & (state.kept == demands.locks | crossed)
+    let standing = movements::stands(crossings, site.size.movements, demands);
+    valid(site, core) & (state.kept == standing)
 }
 
 // Whether an input bit is set without a detector or button there.

@@ -1,27 +1,29 @@
 // The phases kept after parts 4 and 5 of a step.
-ghost use Prim.Native.Nat.{_≤_, _<_};
-ghost use mathlib.Core.Bool.{not, _&&_, _||_};
+ghost use Prim.Native.Nat.{_≤_};
 ghost use mathlib.Core.Path.{_≡_};
-ghost use lib.Dec.{eqb};
 ghost use Rattle.laws.specs.Bytes.{bit};
 ghost use Rattle.laws.specs.Folds.{setOf};
-ghost use Rattle.rules.specs.Demands.{movementDemands};
+ghost use Rattle.rules.specs.Kept.{keptLeft};
 use base_bytes::sets;
 use rules::state::Demands;
 use step_demands_buttons::movements;
 
-// What is left of a kept set. Only demands of the phase that is on are cleared: its lock, and those of its movements, count of which the site
-// has. It is given up where none of them is left.
-pub fn kept_left(set: u8, phase: u8, demands: Demands, crossings: [u8; 8], count: u8) -> u8
-    requires { ⌜ (phase < 8) × (count ≤ 8) ⌝ }
-    ensures { λ r. ⌜ r ≡ setOf (λ p. bit p set && (not (eqb p phase) || (bit p (demands .locks) || movementDemands crossings count (demands .buttons) p))) ⌝ }
+// What is left of a kept set: a phase is given up if a demand of it was cleared and none is left. Most steps clear none. The site has count
+// movements.
+pub fn kept_left(crossings: [u8; 8], count: u8, old: Demands, new: Demands, kept: u8) -> u8
+    requires { ⌜ count ≤ 8 ⌝ }
+    ensures { λ r. ⌜ r ≡ setOf (keptLeft crossings count old new (λ p. bit p kept)) ⌝ }
 {
-    if !base_bytes::bit8(phase, set) | base_bytes::bit8(phase, demands.locks) {
-        return set;
+    if (old.locks == new.locks) & (old.buttons == new.buttons) {
+        return kept;
     }
-    let crossed = movements::movement_demands(crossings, demands.buttons, count);
-    if base_bytes::bit8(phase, crossed) {
-        return set;
-    }
-    sets::without(set, phase)
+    let gone = Demands {
+        locks: sets::except(old.locks, new.locks),
+        buttons: sets::except(old.buttons, new.buttons),
+    };
+    let cleared = movements::stands(crossings, count, gone);
+    sets::except(
+        kept,
+        sets::except(cleared, movements::stands(crossings, count, new)),
+    )
 }

@@ -22,8 +22,7 @@ pub fn kept_stepped(site: Site, state: KeptState, inputs: u64) -> KeptState
     let old = core.position;
     let interval = old.interval;
     let times = site.times;
-    let settings = times.phases;
-    let own = step_counts::phase_times(settings, old.phase);
+    let own = step_counts::phase_times(times, old.phase);
     let count = site.size.movements;
     // 1. demands
     let asked = step_demands::register(site, state, inputs);
@@ -65,6 +64,6 @@ pub fn kept_stepped(site: Site, state: KeptState, inputs: u64) -> KeptState
             demands: standing,
             movements: movements,
         },
-        kept: kept::kept_left(asked.kept, now.phase, standing, crossings, count),
+        kept: kept::kept_left(crossings, count, demands, standing, asked.kept),
     }
 }

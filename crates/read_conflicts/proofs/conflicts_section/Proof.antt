@@ -1,17 +1,16 @@
 -- `read_conflicts::conflicts_section` meets its contract: head, number 9, then number 10, the first refusal being the answer. Where the quick
 -- test passes, no record is refused.
-use Prim.Native.Nat.{ℕ, _*_}
-use mathlib.Core.List.{List}
+use Prim.Native.Nat.{_*_}
 use mathlib.Core.Path.{_≡_, refl, sym, _∙_}
 use native.Mathlib.Omega.{arith}
 use lib.Dec.{eqb}
 use borrow.Author.Needs.{needs}
-use Rattle.rules.specs.Personality.{bodyLength, recordAt, groupCount, conflictsHead, sectionAt, conflictsSection}
-use Rattle.rules.specs.Verdicts.{_orElse_, firstOf}
+use Rattle.rules.specs.Personality.{bodyLength, groupCount, conflictsHead, sectionAt, conflictsSection}
+use Rattle.rules.specs.Verdicts.{_orElse_}
 use Rattle.rules.specs.declared.answer.Verdict.{Verdict}
-use Rattle.rules.proofs.Verdicts.{recordCheck, or-next, or-stop, all-good}
+use Rattle.rules.proofs.Verdicts.{or-next, or-stop, all-good}
 use Rattle.proof_acceptance.proofs.Sections.{records-held, site-accepted, groups-accepted}
-use Rattle.read_conflicts.specs.Refused.{refusedRecord}
+use Rattle.read_conflicts.specs.Refused.{refusedRecord, firstRefused}
 use Rattle.read_conflicts.proofs.conflicts_section.Statement.{statement}
 use Rattle.read_conflicts.proofs.conflicts_section.Tie as tie
 
@@ -57,21 +56,17 @@ surely-right-requires c κs =
       conflicts = records-held _ _ 4 _ 4 (sym (atSection .sized-section .ensures) ∙ c .enum-told2 .given .1);
     }
 
--- what the search for a number answers
-abbrev refusals : List ℕ → ℕ → Verdict
-refusals b number = firstOf (recordCheck (refusedRecord b number) number (recordAt (conflictsHead b) 4)) (groupCount b)
-
 -- the head has passed: the answer is that of the two searches
 afterHead :
     (c : tie.After-enum-told2) {v : Verdict} →
     let b = c .before .before .before .before .before .args .s .now in
-    v ≡ (refusals b 9 orElse refusals b 10) →
+    v ≡ (firstRefused b 9 orElse firstRefused b 10) →
     v ≡ conflictsSection b
-unfolding conflictsSection refusedRecord
+unfolding conflictsSection firstRefused refusedRecord
 afterHead c e = or-next (checked (c .before .before)) (c .enum-told2 .given .1) e
 
 returns-2 : tie.Need-returns-2
-unfolding refusedRecord
+unfolding firstRefused refusedRecord
 returns-2 c =
     let good = c .before .surely-right .ensures (c .if1 .taken) in
     afterHead (c .before .before) (or-next (all-good _ _ _ _ (λ g l. good g l .0)) refl (all-good _ _ _ _ (λ g l. good g l .1)))

@@ -2,10 +2,10 @@
 -- four start: no record before d is bad.
 use Prim.Native.Nat.{_-_, _≤_}
 use mathlib.Core.Path.{_≡_, sym, _∙_}
-use Rattle.rules.specs.Personality.{bodyAt, recordAt, detectorsHead, detectorPhase, detectorMode, badDetector}
+use Rattle.rules.specs.Personality.{bodyAt, recordAt, detectorPhase, detectorMode, badDetectorAt, detectorRecord}
 use Rattle.rules.specs.Verdicts.{firstOf}
 use Rattle.rules.specs.declared.answer.Verdict.the-variants.{Accepted}
-use Rattle.rules.proofs.Verdicts.{recordCheck, good-more, bad-stop, first-done}
+use Rattle.rules.proofs.Verdicts.{good-more, bad-stop, first-done}
 use Rattle.proof_acceptance.proofs.Sections.{record-within}
 use borrow.Author.Needs.{needs}
 use native.Mathlib.Omega.{arith}
@@ -13,7 +13,7 @@ use Rattle.read_detectors.proofs.detector_records.Statement.{statement}
 use Rattle.read_detectors.proofs.detector_records.Tie as tie
 
 abbrev Inv-loop : tie.InvT-loop
-Inv-loop s layout count head d₀ d = (d ≤ count) × (firstOf (recordCheck (badDetector s) 11 (recordAt (detectorsHead s) 2)) d ≡ Accepted)
+Inv-loop s layout count head d₀ d = (d ≤ count) × (firstOf (detectorRecord s) d ≡ Accepted)
 
 abbrev μ-loop : tie.MeasureT-loop
 μ-loop s layout count head d₀ d = count - d
@@ -36,8 +36,8 @@ bad-detector-requires c κs = search needs
 tested :
     (c : tie.After-bad-detector Inv-loop μ-loop) →
     let atLoop = c .before .before .before in
-    c .bad-detector .result ≡ badDetector (atLoop .before .before .before .args .s .now) (atLoop .loop .d)
-unfolding badDetector detectorPhase detectorMode
+    c .bad-detector .result ≡ badDetectorAt (atLoop .before .before .before .args .s .now) (atLoop .loop .d)
+unfolding badDetectorAt detectorPhase detectorMode
 tested c =
     let laid = c .before .before .before .before .before .before .pre .0 in
     let detector = c .before .pair-at .ensures in
@@ -53,7 +53,7 @@ add-t11 : tie.Need-add-t11 Inv-loop μ-loop
 add-t11 c = search needs
 
 returns : tie.Need-returns Inv-loop μ-loop
-unfolding recordAt bodyAt
+unfolding recordAt bodyAt detectorRecord
 returns c =
     let atLoop = c .before .before .before .before in
     bad-stop _ _ _ _ (atLoop .loop .d) (omega arith) (atLoop .loop .inv .1) (sym (tested (c .before)) ∙ c .if1 .taken) (omega arith)
@@ -65,6 +65,7 @@ loop-less : tie.Need-loop-less Inv-loop μ-loop
 loop-less c = search needs
 
 loop-again : tie.Need-loop-again Inv-loop μ-loop
+unfolding detectorRecord
 loop-again c =
     let atLoop = c .before .before .before .before in
     (omega arith, good-more _ _ _ _ (atLoop .loop .inv .1) (sym (tested (c .before)) ∙ c .if1 .left))

@@ -2,10 +2,9 @@
 use Prim.Native.Nat.{_-_, _≤_}
 use mathlib.Core.Path.{_≡_, refl}
 use borrow.Author.Tests.{not-false}
-use Rattle.rules.specs.Personality.{recordAt, detectorsHead, badDetector}
+use Rattle.rules.specs.Personality.{detectorRecord}
 use Rattle.rules.specs.Verdicts.{firstOf}
 use Rattle.rules.specs.declared.answer.Verdict.the-variants.{Accepted}
-use Rattle.rules.proofs.Verdicts.{recordCheck}
 use Rattle.read_detectors.proofs.Words.{four-more}
 use borrow.Author.Needs.{needs}
 use native.Mathlib.Omega.{arith}
@@ -13,7 +12,7 @@ use Rattle.read_detectors.proofs.good_fours.Statement.{statement}
 use Rattle.read_detectors.proofs.good_fours.Tie as tie
 
 abbrev Inv-loop : tie.InvT-loop
-Inv-loop s layout count d₀ d = (d ≤ count) × (firstOf (recordCheck (badDetector s) 11 (recordAt (detectorsHead s) 2)) d ≡ Accepted)
+Inv-loop s layout count d₀ d = (d ≤ count) × (firstOf (detectorRecord s) d ≡ Accepted)
 
 abbrev μ-loop : tie.MeasureT-loop
 μ-loop s layout count d₀ d = count - d
@@ -38,6 +37,7 @@ loop-less : tie.Need-loop-less Inv-loop μ-loop
 loop-less c = search needs
 
 loop-again : tie.Need-loop-again Inv-loop μ-loop
+unfolding detectorRecord
 loop-again c =
     let atLoop = c .before .before .before in
     (omega arith, four-more _ _ _ (atLoop .loop .d) (atLoop .loop .inv .1) (c .before .four-good .ensures (not-false _ (c .if1 .left))))

@@ -1,26 +1,20 @@
 -- `read_time_records::time_records` meets its contract. The invariant: every record before i has passed, and place is that of record i.
-use Prim.Native.Nat.{ℕ, _*_, _-_, _≤_}
-use mathlib.Core.List.{List}
+use Prim.Native.Nat.{_*_, _-_, _≤_}
 use mathlib.Core.Path.{_≡_, refl, sym, _∙_}
 use native.Mathlib.Omega.{arith}
 use borrow.Author.Needs.{needs}
-use Rattle.rules.specs.Personality.{bodyAt, recordAt, timesAt}
+use Rattle.rules.specs.Personality.{bodyAt, recordAt, timeRecords}
 use Rattle.rules.specs.Verdicts.{firstOf}
 use Rattle.rules.specs.declared.answer.Verdict.the-variants.{Accepted}
-use Rattle.rules.specs.declared.answer.Verdict.{Verdict}
 use Rattle.proof_acceptance.proofs.Sections.{record-within}
 use Rattle.rules.proofs.Verdicts.{first-more, first-stop, first-done}
 use Rattle.read_time_records.proofs.TimePlaces.{record-first, record-next, record-near}
 use Rattle.read_time_records.proofs.time_records.Statement.{statement}
 use Rattle.read_time_records.proofs.time_records.Tie as tie
 
--- the check of record i
-abbrev recordOf : List ℕ → ℕ → ℕ → ℕ → ℕ → Verdict
-recordOf b head setting fields i = timesAt b (recordAt head (fields * 2) i) setting fields
-
 abbrev Inv-loop : tie.InvT-loop
 Inv-loop s head setting fields count place₀ i₀ place i =
-    (i ≤ count) × (place ≡ recordAt head (fields * 2) i) × (firstOf (recordOf s head setting fields) i ≡ Accepted)
+    (i ≤ count) × (place ≡ recordAt head (fields * 2) i) × (timeRecords s head setting fields i ≡ Accepted)
 
 abbrev μ-loop : tie.MeasureT-loop
 μ-loop s head setting fields count place₀ i₀ place i = count - i
@@ -29,7 +23,7 @@ add-place : tie.Need-add-place Inv-loop μ-loop
 add-place c = search needs
 
 loop-holds : tie.Need-loop-holds Inv-loop μ-loop
-unfolding firstOf
+unfolding timeRecords firstOf
 loop-holds c = (omega arith, record-first (c .before .args .head) (c .before .args .fields * 2), refl)
 
 times-at-requires : tie.Need-times-at-requires Inv-loop μ-loop
@@ -45,6 +39,7 @@ enum-told : tie.Need-enum-told Inv-loop μ-loop
 enum-told c = search needs
 
 returns : tie.Need-returns Inv-loop μ-loop
+unfolding timeRecords
 returns c =
     let atLoopTest = c .before .before .before in
     let atLoop = atLoopTest .before in
@@ -70,6 +65,7 @@ loop-less : tie.Need-loop-less Inv-loop μ-loop
 loop-less c = search needs
 
 loop-again : tie.Need-loop-again Inv-loop μ-loop
+unfolding timeRecords
 loop-again c =
     let atLoop = c .before .before .before .before in
     let atStart = atLoop .before .before in (
@@ -80,6 +76,7 @@ loop-again c =
     )
 
 returns-2 : tie.Need-returns-2 Inv-loop μ-loop
+unfolding timeRecords
 returns-2 c = first-done _ _ _ (c .before .loop .inv .2) (omega arith)
 
 pub time-records-spec : {M : Type 1} → statement M

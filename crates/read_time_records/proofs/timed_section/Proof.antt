@@ -4,7 +4,7 @@ use mathlib.Core.Path.{sym, _∙_}
 use native.Mathlib.Nat.{mul-le-mul}
 use native.Mathlib.Omega.{arith}
 use borrow.Author.Needs.{needs}
-use Rattle.rules.specs.Personality.{bodyAt}
+use Rattle.rules.specs.Personality.{bodyAt, timedSection}
 use Rattle.rules.proofs.Verdicts.{or-next, or-stop}
 use Rattle.proof_acceptance.proofs.Sections.{records-held}
 use Rattle.read_time_records.proofs.timed_section.Statement.{statement}
@@ -26,6 +26,7 @@ enum-told : tie.Need-enum-told
 enum-told c = search needs
 
 returns : tie.Need-returns
+unfolding timedSection
 returns c = or-stop _ (c .before .before .sized-section .ensures) (c .enum-told .given .1)
 
 enum-told-2 : tie.Need-enum-told-2
@@ -38,6 +39,7 @@ time-records-requires c κs =
     omega (arith, records-held _ _ _ _ _ (sym (atSection .sized-section .ensures) ∙ c .enum-told2 .given .1))
 
 returns-2 : tie.Need-returns-2
+unfolding timedSection
 returns-2 c =
     let passed = c .before in
     or-next (passed .before .before .sized-section .ensures) (passed .enum-told2 .given .1) (c .time-records .ensures)

@@ -5,6 +5,7 @@ use mathlib.Core.Path.{ap, _∙_}
 use lib.ListN.{length, drop}
 use borrow.Author.Needs.{needs}
 use Rattle.rules.specs.Colours.{shownIn, coloursOf, bufferAt}
+use Rattle.rules.specs.Call.{bufferFor}
 use Rattle.laws.proofs.Arrays.{list-same}
 use Rattle.step_colours.proofs.Sizes.{showable}
 use Rattle.step_colours.proofs.Unclosed.{closing-there}
@@ -26,7 +27,7 @@ same-length : tie.Need-same-length
 same-length c = search needs
 
 returns : tie.Need-returns
-unfolding coloursOf shownIn bufferAt
+unfolding bufferFor coloursOf shownIn bufferAt
 returns c =
     let start = c .before .before .before .before .before .before .before .before .before .before .before in
     let a = start .args in

@@ -2,8 +2,8 @@
 use borrow.Author.Needs.{needs}
 use mathlib.Core.Path.{sym}
 use native.Mathlib.Omega.{arith}
-use lib.ListN.{List·getD-eq-default}
-use Rattle.rules.specs.Site.{noPhaseTimes}
+use lib.ListN.{length-map, List·getD-eq-default}
+use Rattle.rules.specs.Site.{noPhaseTimes, phaseTimes}
 use Rattle.step_counts.proofs.phase_times.Statement.{statement}
 use Rattle.step_counts.proofs.phase_times.Tie as tie
 
@@ -14,12 +14,14 @@ array-copy-out-result : tie.Need-array-copy-out-result
 array-copy-out-result c = search needs
 
 returns : tie.Need-returns
+unfolding phaseTimes
 returns c = search needs
 
 returns-2 : tie.Need-returns-2
+unfolding phaseTimes
 returns-2 c =
-    let at-start = c .before in
-    sym (List·getD-eq-default (at-start .args .t1) noPhaseTimes (omega (arith, at-start .good .0 .1 .0 .1)))
+    let settings = c .before .before .args .times .phases in
+    sym (List·getD-eq-default settings noPhaseTimes (omega (arith, rw length-map at (c .before .before .good .0 .1 .1 .1 .0 .1 .0 .1))))
 
 pub phase-times-spec : {M : Type 1} → statement M
 phase-times-spec = tie.close (tie.spec mul-result array-copy-out-result returns returns-2)

@@ -15,18 +15,27 @@ sense-requires c κs =
       omega (arith, start .pre .1, start .pre .0 .phases .1),
     )
 
-waiting-requires : tie.Need-waiting-requires
-waiting-requires c κs = search needs
+in-green-requires : tie.Need-in-green-requires
+in-green-requires c κs = search needs
+
+except-requires : tie.Need-except-requires
+except-requires c κs = search needs
+
+except-requires-2 : tie.Need-except-requires-2
+except-requires-2 c κs = search needs
 
 press-requires : tie.Need-press-requires
 press-requires c κs = search needs
 
+-- where the buttons are pressed: the two sets of phases that detectors demand, and the start
+abbrev demanding : tie.After-press → tie.After-except2
+demanding c = c .before .before .before .before
+
+abbrev start : tie.After-press → tie.Start
+start c = demanding c .before .before .before .before .before .before .before .before
+
 next-after-requires : tie.Need-next-after-requires
-next-after-requires c κs =
-    let pressed = c .before .before .before .before .before in
-    let waiting = pressed .before .before .before .before .before in
-    let start = waiting .before .before .before .before .before .before in
-    start .pre .0 .phases .1
+next-after-requires c κs = start (c .before .before .before .before) .pre .0 .phases .1
 
 -- the sets of the state are bytes
 locks-small : (c : tie.Start) → c .args .state .core .demands .locks < 256
@@ -37,15 +46,18 @@ kept-small c = search needs
 
 returns : tie.Need-returns
 returns c =
-    let pressed = c .before .before .before .before .before .before in
-    let waiting = pressed .before .before .before .before .before in
-    let scanned = waiting .before in
-    let start = scanned .before .before .before .before .before in
-    asked-told (start .args .site) (start .args .state) (start .args .inputs) (scanned .sense .result) (waiting .waiting .result)
-    (scanned .sense .ensures) (waiting .waiting .ensures)
+    let pressed = c .before .before .before .before .before in
+    let calling = demanding pressed in
+    let locking = calling .before in
+    let green = locking .before in
+    let scanned = green .before in
+    let entry = start pressed in
+    asked-told (entry .args .site) (entry .args .state) (entry .args .inputs) (scanned .sense .result) (green .in-green .result)
+    (locking .except .result) (calling .except2 .result)
+    (scanned .sense .ensures) (green .in-green .ensures) (locking .except .ensures) (calling .except2 .ensures)
     (pressed .press .result .buttons) (pressed .press .result .phases) (c .next-after .result)
     (pressed .press .ensures .0) (pressed .press .ensures .1) (c .next-after .ensures)
-    (start .pre .0) (locks-small start) (kept-small start)
+    (entry .pre .0) (locks-small entry) (kept-small entry)
 
 pub register-spec : {M : Type 1} → statement M
-register-spec = tie.close (tie.spec sense-requires waiting-requires press-requires next-after-requires returns)
+register-spec = tie.close (tie.spec sense-requires in-green-requires except-requires except-requires-2 press-requires next-after-requires returns)

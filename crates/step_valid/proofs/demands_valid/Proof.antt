@@ -1,6 +1,6 @@
 -- `step_valid::demands_valid` meets its contract: a demand exists where its index is below the count.
 use borrow.Author.Needs.{needs}
-use Rattle.rules.specs.State.{demandExists}
+use Rattle.rules.specs.State.{demandExists, demandsValid}
 use Rattle.step_valid.proofs.demands_valid.Statement.{statement}
 use Rattle.step_valid.proofs.demands_valid.Tie as tie
 
@@ -11,7 +11,7 @@ all-below-requires-2 : tie.Need-all-below-requires-2
 all-below-requires-2 c κs = search needs
 
 returns : tie.Need-returns
-unfolding demandExists
+unfolding demandsValid demandExists
 returns c = rw (c .before .all-below .ensures, c .all-below2 .ensures)
 
 pub demands-valid-spec : {M : Type 1} → statement M

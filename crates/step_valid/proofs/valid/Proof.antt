@@ -1,11 +1,8 @@
 -- `step_valid::valid` meets its contract: its tests are those of the rule's list.
-use mathlib.Core.Bool.{Bool, _&&_, and-assoc}
 use mathlib.Core.List.{[], _∷_}
-use mathlib.Core.Path.{sym, ap, _∙_}
 use borrow.Author.Needs.{needs}
-use Rattle.laws.specs.Folds.{allOf}
 use Rattle.rules.specs.Site.{phaseTimes}
-use Rattle.rules.specs.State.{positionValid, countsValid, demandExists, movementsValid, valid}
+use Rattle.rules.specs.State.{positionValid, countsValid, demandsValid, movementsValid, valid}
 use Rattle.step_valid.proofs.Records.{joined-every}
 use Rattle.step_valid.proofs.valid.Statement.{statement}
 use Rattle.step_valid.proofs.valid.Tie as tie
@@ -26,19 +23,18 @@ movements-valid-requires : tie.Need-movements-valid-requires
 movements-valid-requires c κs = search needs
 
 returns : tie.Need-returns
-unfolding valid phaseTimes
+unfolding valid
 returns c =
     let demanded = c .before in
     let counted = demanded .before in
     let placed = counted .before in
     let own = placed .before .before .before .before .before in
-    let entry = own .before .before .before .before in
+    let entry = own .before .before .before in
     let site = entry .args .site in
     let s = entry .args .state in
     let place = positionValid (site .early) (site .size .phases) (s .position) in
     let counts = countsValid (phaseTimes (site .times) (s .position .phase)) (s .counts) in
-    let locks = allOf (demandExists (s .demands .locks) (site .size .phases)) 8 in
-    let buttons = allOf (demandExists (s .demands .buttons) (site .size .movements)) 8 in
+    let demands = demandsValid (site .size .phases) (site .size .movements) (s .demands) in
     let movements = movementsValid (site .size .movements) (site .crossings) (s .position) (s .movements) in
     rw (
       placed .position-valid .ensures,
@@ -47,8 +43,7 @@ returns c =
       c .movements-valid .ensures,
       own .phase-times .ensures,
     )
-    (ap (λ (t : Bool). t && movements) (sym (and-assoc (place && counts) locks buttons))
-    ∙ joined-every place (counts ∷ locks ∷ buttons ∷ movements ∷ []))
+    (joined-every place (counts ∷ demands ∷ movements ∷ []))
 
 pub valid-spec : {M : Type 1} → statement M
 valid-spec =

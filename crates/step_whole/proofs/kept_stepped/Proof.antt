@@ -2,8 +2,6 @@
 -- kept set.
 use borrow.Author.Needs.{needs}
 use Prim.Native.Nat.{_<_}
-use Rattle.rules.specs.Site.{phaseTimes}
-use Rattle.rules.specs.Demands.{stands}
 use Rattle.step_movements.proofs.Idle.{still-past}
 use Rattle.step_whole.proofs.Keeping.{whole-told}
 use Rattle.step_whole.proofs.Ready.{on, now-on, idle-past}
@@ -15,7 +13,7 @@ phase-times-requires c κs = search needs
 
 register-requires : tie.Need-register-requires
 register-requires c κs =
-    let start = c .before .before .before .before .before in
+    let start = c .before .before .before .before in
     (start .pre .0, on (start .args .site) (start .args .state) (start .pre))
 
 is-held-requires : tie.Need-is-held-requires
@@ -23,7 +21,7 @@ is-held-requires c κs = search needs
 
 -- the start, from where the movements are read
 abbrev start : tie.After-stages → tie.Start
-start c = c .before .before .before .before .before .before .before .before .before .before .before
+start c = c .before .before .before .before .before .before .before .before .before .before
 
 walk-may-end-requires : tie.Need-walk-may-end-requires
 walk-may-end-requires c κs = search needs
@@ -67,10 +65,9 @@ counts-changed-requires c κs = search needs
 kept-left-requires : tie.Need-kept-left-requires
 kept-left-requires c κs =
     let now = c .before .before .before .before .before .before in
-    (now-within now, start (now .before .before .before .before) .pre .0 .movements)
+    start (now .before .before .before .before) .pre .0 .movements
 
 returns : tie.Need-returns
-unfolding phaseTimes stands
 returns c =
     let changed = c .before in
     let lefts = changed .before in
@@ -84,8 +81,8 @@ returns c =
     let held = mayEnd .before .before in
     let asked = held .before .before in
     let own = asked .before in
-    let entry = own .before .before .before .before .before in
-    whole-told (entry .args .site) (entry .pre .0) (entry .args .state) (entry .args .inputs) (entry .pre .1)
+    let entry = own .before .before .before .before in
+    whole-told (entry .args .site) (entry .args .state) (entry .args .inputs)
     (own .phase-times .ensures) (asked .register .ensures) (held .is-held .ensures) (mayEnd .walk-may-end .ensures) (moved .movements-after .ensures) (counted .counts-after .ensures) (over .ends .ensures)
     (now .position-after .ensures) (started .starts .ensures) (begun .begin .ensures) (lefts .locks-left .ensures)
     (changed .counts-changed .ensures) (c .kept-left .ensures)

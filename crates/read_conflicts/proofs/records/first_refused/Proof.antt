@@ -5,7 +5,7 @@ use Rattle.rules.specs.Personality.{bodyAt, recordAt, conflictsHead}
 use Rattle.rules.specs.Verdicts.{firstOf}
 use Rattle.rules.specs.declared.answer.Verdict.the-variants.{Accepted}
 use Rattle.rules.proofs.Verdicts.{recordCheck, good-more, bad-stop, first-done}
-use Rattle.read_conflicts.specs.Refused.{refusedRecord}
+use Rattle.read_conflicts.specs.Refused.{refusedRecord, firstRefused}
 use borrow.Author.Needs.{needs}
 use native.Mathlib.Omega.{arith}
 use Rattle.read_conflicts.proofs.records.first_refused.Statement.{statement}
@@ -38,7 +38,7 @@ add-t11 : tie.Need-add-t11 Inv-loop μ-loop
 add-t11 c = search needs
 
 returns : tie.Need-returns Inv-loop μ-loop
-unfolding recordAt bodyAt
+unfolding firstRefused recordAt bodyAt
 returns c =
     let atLoop = c .before .before .before in
     bad-stop _ _ _ _ (atLoop .loop .g) (omega arith) (atLoop .loop .inv .1) (sym (c .before .refused-record .ensures) ∙ c .if1 .taken) (omega arith)
@@ -55,6 +55,7 @@ loop-again c =
     (omega arith, good-more _ _ _ _ (atLoop .loop .inv .1) (sym (c .before .refused-record .ensures) ∙ c .if1 .left))
 
 returns-2 : tie.Need-returns-2 Inv-loop μ-loop
+unfolding firstRefused
 returns-2 c = first-done _ _ _ (c .before .loop .inv .1) (omega arith)
 
 pub first-refused-spec : {M : Type 1} → statement M

@@ -8,7 +8,7 @@ use Rattle.rules.specs.Personality.{conflictSet}
 use Rattle.laws.specs.Folds.{anyOf}
 use Rattle.laws.proofs.Folds.{any-at, any-more, any-done}
 use Rattle.laws.proofs.Booleans.{and-both, and-false-left, and-false-right}
-use Rattle.read_conflicts.specs.Refused.{refusedPair}
+use Rattle.read_conflicts.specs.Refused.{refusedPair, refusedConflict}
 use borrow.Author.Needs.{needs}
 use native.Mathlib.Omega.{arith}
 use Rattle.read_conflicts.proofs.records.refused_conflict.Statement.{statement}
@@ -45,6 +45,7 @@ refused-pair-requires : tie.Need-refused-pair-requires Inv-loop μ-loop
 refused-pair-requires c κs = search needs
 
 returns : tie.Need-returns Inv-loop μ-loop
+unfolding refusedConflict
 returns c =
     let atPair = c .before in
     let atLoop = atPair .before .before .before .before in
@@ -72,6 +73,7 @@ loop-again c =
     (omega arith, any-more _ _ (atLoop .loop .inv .1) passed)
 
 returns-2 : tie.Need-returns-2 Inv-loop μ-loop
+unfolding refusedConflict
 returns-2 c = any-done _ _ _ (c .before .loop .inv .1) (omega arith)
 
 pub refused-conflict-spec : {M : Type 1} → statement M

@@ -1,7 +1,7 @@
 -- `records::refused_record` meets its contract: with 10 the conflicts decide, with 9 the record's own bits as well.
 use borrow.Author.Tests.{eq-eqb, ne-eqb}
 use Rattle.rules.specs.Personality.{badConflict, conflictInPhase}
-use Rattle.read_conflicts.specs.Refused.{refusedPair, refusedRecord}
+use Rattle.read_conflicts.specs.Refused.{refusedPair, refusedConflict, refusedRecord}
 use borrow.Author.Needs.{needs}
 use Rattle.read_conflicts.proofs.records.refused_record.Statement.{statement}
 use Rattle.read_conflicts.proofs.records.refused_record.Tie as tie
@@ -10,7 +10,7 @@ refused-conflict-requires : tie.Need-refused-conflict-requires
 refused-conflict-requires c κs = search needs
 
 returns : tie.Need-returns
-unfolding refusedRecord refusedPair conflictInPhase
+unfolding refusedRecord refusedConflict refusedPair conflictInPhase
 returns c =
     let other = ne-eqb _ _ (c .if1 .taken) in rw other (rw other at (c .before .refused-conflict .ensures))
 
@@ -24,7 +24,7 @@ reaches32-requires : tie.Need-reaches32-requires
 reaches32-requires c κs = search needs
 
 returns-2 : tie.Need-returns-2
-unfolding refusedRecord refusedPair badConflict
+unfolding refusedRecord refusedConflict refusedPair badConflict
 returns-2 c =
     let atConflict = c .before .before .before .before in
     let hasorder = eq-eqb _ _ (c .before .before .before .if1 .left) in

@@ -9,7 +9,7 @@ use native.Mathlib.Omega.{arith}
 use lib.Dec.{eqb}
 use borrow.Author.Needs.{needs}
 use borrow.Author.Tests.{eq-eqb, ne-eqb}
-use Rattle.rules.specs.Personality.{bodyAt, recordAt, phaseCount, groupCount, groupsHead, groupSet, groupMark, pedestrian, pedestriansBefore, movementCount, badGroup, ninthPedestrian, groupRecord, phaseWithoutGroup, stopsEarly}
+use Rattle.rules.specs.Personality.{bodyAt, recordAt, phaseCount, groupCount, groupsHead, groupSet, groupMark, pedestrian, pedestriansBefore, movementCount, badGroupAt, ninthPedestrian, groupRecord, phaseWithoutGroup, stopsEarly}
 use Rattle.laws.specs.Folds.{anyOf, countOf}
 use Rattle.rules.specs.Verdicts.{_orElse_, refuseIf, firstOf}
 use Rattle.rules.specs.declared.answer.Verdict.{Verdict}
@@ -21,12 +21,12 @@ use Rattle.rules.proofs.Verdicts.{refuse-yes, refuse-no, or-next, or-stop, firs
 use Rattle.proof_acceptance.proofs.Sections.{record-within}
 use Rattle.read_groups.specs.GroupsRead.{CrossedPhases}
 use Rattle.read_groups.proofs.GroupChecks.{group-passed, refused-told}
-use Rattle.read_groups.proofs.PhaseSets.{Gathered, gathered-none, gathered-more, crossed-none, crossed-more, crossed-same, bad-decided, all-served, one-unserved}
+use Rattle.read_groups.proofs.PhaseSets.{Gathered, gathered-none, gathered-more, crossed-none, crossed-more, crossed-same, all-served, one-unserved}
 use Rattle.read_groups.proofs.records.group_records.Statement.{statement}
 use Rattle.read_groups.proofs.records.group_records.Tie as tie
 
 abbrev Inv-loop : tie.InvT-loop
-Inv-loop s bound head count movements₀ crossed₀ early₀ served₀ g₀ movements crossed early served g =
+Inv-loop s layout bound head count movements₀ crossed₀ early₀ served₀ g₀ movements crossed early served g =
     (g ≤ count)
     × (movements ≡ countOf (pedestrian s) g)
     × (firstOf (groupRecord s) g ≡ Accepted)
@@ -35,7 +35,7 @@ Inv-loop s bound head count movements₀ crossed₀ early₀ served₀ g₀ move
     × CrossedPhases s crossed g
 
 abbrev μ-loop : tie.MeasureT-loop
-μ-loop s bound head count movements₀ crossed₀ early₀ served₀ g₀ movements crossed early served g = count - g
+μ-loop s layout bound head count movements₀ crossed₀ early₀ served₀ g₀ movements crossed early served g = count - g
 
 set-bound-requires : tie.Need-set-bound-requires Inv-loop μ-loop
 set-bound-requires c κs = search needs
@@ -68,7 +68,7 @@ add-place-2 : tie.Need-add-place-2 Inv-loop μ-loop
 add-place-2 c = search needs
 
 bad-group-requires : tie.Need-bad-group-requires Inv-loop μ-loop
-bad-group-requires c κs = search needs
+bad-group-requires c κs = c .before .before .before .before .set-bound .ensures
 
 -- where record g stands
 place :
@@ -86,15 +86,15 @@ recordRead :
     let g = atLoop .loop .g in
     (c .before .pair-at .result .first ≡ groupSet b g)
     × (c .before .pair-at .result .second ≡ groupMark b g)
-    × (c .bad-group .result ≡ badGroup b g)
-unfolding groupSet groupMark
+    × (c .bad-group .result ≡ badGroupAt b g)
+unfolding groupSet groupMark badGroupAt
 recordRead c =
     let atLoop = c .before .before .before in
-    let atBound = atLoop .before .before in
-    let head = atBound .before .before .pre .0 .groups in
+    let laid = atLoop .before .before .before .before .pre .0 in
+    let head = laid .groups in
     let set = rw head at (c .before .pair-at .ensures .0) in
     let mark = rw head at (c .before .pair-at .ensures .1) in
-    (set, mark, c .bad-group .ensures ∙ bad-decided _ _ (bounded atBound) (omega arith) set mark)
+    (set, mark, c .bad-group .ensures ∙ rw (laid .phasecount, set, mark))
 
 -- record g is the first that does not pass
 refusedAt :

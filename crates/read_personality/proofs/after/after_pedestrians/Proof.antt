@@ -2,21 +2,19 @@
 use Prim.Native.Nat.{ℕ}
 use mathlib.Core.List.{List}
 use mathlib.Core.Path.{_≡_, refl, sym, ap, _∙_}
-use lib.Dec.{ltb}
-use lib.ListN.{length}
 use borrow.Author.Needs.{needs}
 use borrow.Author.Tests.{not-true, not-false}
 use Rattle.rules.specs.declared.answer.Verdict.{Verdict}
 use Rattle.rules.specs.declared.answer.Verdict.the-variants.{Refused}
 use Rattle.rules.specs.Verdicts.{_orElse_, refuseIf}
-use Rattle.rules.specs.Personality.{detectorsHead, endOf, orderSection, phaseWithoutCaller, earlyMissing, afterPedestrians}
+use Rattle.rules.specs.Personality.{detectorsHead, endOf, orderSection, phaseWithoutCaller, earlyMissing, leftOver, afterPedestrians}
 use Rattle.rules.proofs.Verdicts.{or-next, or-stop, refuse-yes, refuse-no}
 use Rattle.read_personality.proofs.after.after_pedestrians.Statement.{statement}
 use Rattle.read_personality.proofs.after.after_pedestrians.Tie as tie
 
 -- the check of bytes left over
 abbrev restFrom : List ℕ → Verdict
-restFrom b = refuseIf (ltb (endOf b) (length b)) 12 (endOf b)
+restFrom b = leftOver b (endOf b)
 
 -- the check of callers
 abbrev callers : List ℕ → Verdict

@@ -1,6 +1,5 @@
 -- `step_interval::changes::counts_changed` meets its contract: what the interval left and the one entered do to the counts, where there is a change.
 use borrow.Author.Needs.{needs}
-use Rattle.rules.specs.Site.{phaseTimes}
 use Rattle.rules.specs.Interval.{countsChanged}
 use Rattle.step_interval.proofs.changes.counts_changed.Statement.{statement}
 use Rattle.step_interval.proofs.changes.counts_changed.Tie as tie
@@ -15,8 +14,8 @@ counts-entering-requires : tie.Need-counts-entering-requires
 counts-entering-requires c κs = search needs
 
 returns : tie.Need-returns
-unfolding countsChanged phaseTimes
-returns c = rw (c .counts-entering .ensures, c .before .phase-times .ensures, c .before .before .counts-leaving .ensures, c .before .before .before .before .if1 .taken)
+unfolding countsChanged
+returns c = rw (c .counts-entering .ensures, c .before .phase-times .ensures, c .before .before .counts-leaving .ensures, c .before .before .before .if1 .taken)
 
 returns-2 : tie.Need-returns-2
 unfolding countsChanged

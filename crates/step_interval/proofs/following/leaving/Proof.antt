@@ -2,7 +2,6 @@
 use borrow.Author.Needs.{needs}
 use mathlib.Core.Path.{sym}
 use borrow.Author.Tests.{eq-eqb, ne-eqb}
-use Rattle.rules.specs.Site.{phaseTimes}
 use Rattle.rules.specs.Interval.{leaving}
 use Rattle.step_interval.proofs.following.leaving.Statement.{statement}
 use Rattle.step_interval.proofs.following.leaving.Tie as tie
@@ -14,14 +13,14 @@ entering-requires : tie.Need-entering-requires
 entering-requires c κs = search needs
 
 returns : tie.Need-returns
-unfolding leaving phaseTimes
+unfolding leaving
 returns c = rw (c .entering .ensures, sym (c .before .before .before .phase-times .ensures), eq-eqb _ 0 (c .before .if1 .taken))
 
 entering-requires-2 : tie.Need-entering-requires-2
 entering-requires-2 c κs = search needs
 
 returns-2 : tie.Need-returns-2
-unfolding leaving phaseTimes
+unfolding leaving
 returns-2 c = rw (c .entering2 .ensures, sym (c .before .before .before .phase-times .ensures), ne-eqb _ 0 (c .before .if1 .left))
 
 pub leaving-spec : {M : Type 1} → statement M

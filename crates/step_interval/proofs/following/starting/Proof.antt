@@ -2,7 +2,6 @@
 use borrow.Author.Needs.{needs}
 use mathlib.Core.Path.{sym}
 use borrow.Author.Tests.{eq-eqb, ne-eqb}
-use Rattle.rules.specs.Site.{phaseTimes}
 use Rattle.rules.specs.Interval.{starting}
 use Rattle.step_interval.proofs.following.starting.Statement.{statement}
 use Rattle.step_interval.proofs.following.starting.Tie as tie
@@ -11,11 +10,11 @@ phase-times-requires : tie.Need-phase-times-requires
 phase-times-requires c κs = search needs
 
 returns : tie.Need-returns
-unfolding starting phaseTimes
+unfolding starting
 returns c = rw (sym (c .before .before .phase-times .ensures), eq-eqb _ 0 (c .if1 .taken))
 
 returns-2 : tie.Need-returns-2
-unfolding starting phaseTimes
+unfolding starting
 returns-2 c = rw (sym (c .before .before .phase-times .ensures), ne-eqb _ 0 (c .if1 .left))
 
 pub starting-spec : {M : Type 1} → statement M

@@ -1,0 +1,14 @@
+-- `base_bytes::sets::except` meets its contract: the byte of all bits that the other set has not leaves the rest.
+use borrow.Author.Needs.{needs}
+use Rattle.laws.proofs.Members.{except-told}
+use Rattle.base_bytes.proofs.sets.except.Statement.{statement}
+use Rattle.base_bytes.proofs.sets.except.Tie as tie
+
+sub-result : tie.Need-sub-result
+sub-result c = search needs
+
+returns : tie.Need-returns
+returns c = except-told (c .args .set) (c .args .other) (search needs) (search needs)
+
+pub except-spec : {M : Type 1} → statement M
+except-spec = tie.close (tie.spec sub-result returns)
