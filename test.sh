@@ -1,7 +1,7 @@
 #!/usr/bin/env bash
-# Passes everything: layout; every crate proved from nothing, every must-fail edit refused and every program run; the edits of the
-# rules that a theorem must refuse; the example sites, their traces and the ways a trace ends; the vectors; the tests of rust/ and the
-# library against the model; the library from C.
+# Passes everything: layout; the names in the documents; every crate proved from nothing, every must-fail edit refused and every program
+# run; the edits of the rules that a theorem must refuse; the example sites, their traces and the ways a trace ends; the vectors; the
+# tests of rust/ and the library against the model; the library from C.
 # The last line is `N passed, M failed`; the exit status is 0 only where M is 0.
 set -u
 cd "$(dirname "$0")" || exit 2
@@ -22,6 +22,8 @@ check() { # WHAT COMMAND..
 }
 
 check 'layout (rt fmt --check)' rt fmt --check
+check 'names in the documents' python3 docs/check_names.py
+check 'docs/TRUSTED.md' python3 docs/trusted.py --check
 
 # The edits of the rules that a theorem must refuse are tried beside rt ci, which leaves a processor idle while it waits for the crates that
 # the next ones need.

@@ -1,4 +1,4 @@
--- Numbers 9 and 10 of kind 4 as one test, which takes the number.
+-- Internal: no promise cites this file. Numbers 9 and 10 of kind 4 as one test, which takes the number.
 use Prim.Native.Nat.{ℕ}
 use mathlib.Core.Bool.{Bool, not}
 use mathlib.Core.List.{List}

@@ -1,4 +1,4 @@
--- What the quick test asks of two tiles, and what it tells of the groups: of two, of two bands, and of all.
+-- Internal: no promise cites this file. What the quick test asks of two tiles, and what it tells of the groups: of two, of two bands, and of all.
 use Prim.Native.Nat.{ℕ, _+_, _*_, _≤_, _<_}
 use mathlib.Core.Bool.{true, false}
 use mathlib.Core.List.{List}

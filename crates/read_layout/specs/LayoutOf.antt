@@ -1,4 +1,4 @@
--- What the layout of a personality holds.
+-- Internal: no promise cites this file. What the layout of a personality holds.
 use Prim.Native.Nat.{ℕ, _≤_}
 use mathlib.Core.List.{List}
 use mathlib.Core.Path.{_≡_}

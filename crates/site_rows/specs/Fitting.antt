@@ -1,4 +1,5 @@
--- What the decoders take for granted of the bytes and their layout, and the movements that one pass over the groups finds.
+-- Internal: no promise cites this file. What the decoders take for granted of the bytes and their layout, and the movements that one pass over the groups
+-- finds.
 use Prim.Native.Nat.{ℕ, _+_, _*_, _≤_}
 use mathlib.Core.Bool.{true}
 use mathlib.Core.List.{List}

@@ -1,4 +1,4 @@
--- What part 1 hands on.
+-- Internal: no promise cites this file. What part 1 hands on.
 use Prim.Native.Nat.{ℕ}
 use mathlib.Core.Path.{_≡_}
 use Rattle.rules.specs.declared.site.Site.{Site}

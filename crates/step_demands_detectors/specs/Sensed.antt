@@ -1,4 +1,4 @@
--- What a list of detectors asks for, and what is asked of it.
+-- Internal: no promise cites this file. What a list of detectors asks for, and what is asked of it.
 use Prim.Native.Nat.{ℕ, _≤_, _<_}
 use mathlib.Core.List.{List}
 use mathlib.Core.Path.{_≡_}

@@ -1,4 +1,4 @@
--- An order of phases: the entries of a row from a place on, and the other phases in cyclic order.
+-- Internal: no promise cites this file. An order of phases: the entries of a row from a place on, and the other phases in cyclic order.
 use Prim.Native.Nat.{ℕ, zero, suc, _≤_, _<_}
 use mathlib.Core.List.{List, [], _∷_, _++_}
 use mathlib.Core.Path.{_≡_}

@@ -1,4 +1,4 @@
--- What part 5 hands on.
+-- Internal: no promise cites this file. What part 5 hands on.
 use Prim.Native.Nat.{ℕ}
 use mathlib.Core.Bool.{Bool}
 use mathlib.Core.List.{List}
