@@ -1,4 +1,4 @@
-// Little-endian numbers and bits, read from a slice. A byte past the end reads as 0, so no place is out of reach.
+// Little-endian numbers and bits, read from a slice. A byte past the end reads as 0, so every index is allowed.
 ghost use Prim.Native.Nat.{_+_, _*_, _<_, _≤_};
 ghost use mathlib.Core.Path.{_≡_};
 ghost use Rattle.laws.specs.Bytes.{byteAt, twoAt, fourAt, bit};
@@ -28,7 +28,7 @@ fn quad(low: u16, high: u16) -> u32
     (low as u32) + 65536 * (high as u32)
 }
 
-// The number in the two bytes from i on.
+// The number in the two bytes at i and i + 1.
 pub fn two_at(s: &[u8], i: usize) -> u16
     ensures { λ r. ⌜ r ≡ twoAt (now (s .entry)) i ⌝ }
 {
@@ -39,7 +39,7 @@ pub fn two_at(s: &[u8], i: usize) -> u16
     }
 }
 
-// The number in the four bytes from i on.
+// The number in the four bytes at i to i + 3.
 pub fn four_at(s: &[u8], i: usize) -> u32
     ensures { λ r. ⌜ r ≡ fourAt (now (s .entry)) i ⌝ }
 {
@@ -50,7 +50,7 @@ pub fn four_at(s: &[u8], i: usize) -> u32
     }
 }
 
-// The same where all the bytes are known to be in the slice, without a test.
+// The same without a test: the caller ensures that all the bytes are in the slice.
 
 pub fn byte_in(s: &[u8], i: usize) -> u8
     requires { ⌜ i < length (now s) ⌝ }

@@ -1,4 +1,4 @@
-// The fresh state, from which a caller begins.
+// The fresh state, with which a caller starts.
 ghost use mathlib.Core.Path.{_≡_};
 ghost use Rattle.rules.specs.Kept.{freshKept};
 use rules::state::Counts;

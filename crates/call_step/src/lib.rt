@@ -1,4 +1,4 @@
-// Unit two as a caller sees it: the step call.
+// Unit two for callers: the step call.
 ghost use lib.ListN.{length};
 ghost use mathlib.Core.Path.{_≡_};
 ghost use Rattle.rules.specs.declared.answer.Outcome.the-variants.{StepRefused};

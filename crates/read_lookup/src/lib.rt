@@ -1,4 +1,4 @@
-// What an accepted personality holds: the site, decoded in one go for a step call, and the bytes of a section, looked up by its kind.
+// What an accepted personality holds: the site, decoded at once for a step call, and the bytes of a section, looked up by kind.
 pub mod lookup;
 
 ghost use mathlib.Core.Path.{_≡_};
@@ -20,7 +20,7 @@ pub fn site(personality: &[u8], layout: Layout) -> Site
     site_whole::site_of(personality, layout)
 }
 
-// The parts of that site that the wait bound goes by.
+// The parts of that site that the wait bound needs.
 pub fn timing(personality: &[u8]) -> Timing
     requires { ⌜ verdictOf (now personality) ≡ Accepted ⌝ }
     ensures { λ r. ⌜ r ≡ timingIn (siteOf (now (personality .entry))) ⌝ }

@@ -1,5 +1,5 @@
-// The section lookup. The answer is the section's own bytes in the caller's buffer, body only; for a refused personality or a kind
-// not held it is empty, and the report beside it gives the number and place.
+// The section lookup. The answer is the body of the section, as a part of the caller's buffer. It is empty if the personality is refused or
+// does not hold the kind; the report gives the number and place.
 ghost use Prim.Native.Nat.{_≤_};
 ghost use mathlib.Core.Path.{_≡_};
 ghost use Rattle.rules.specs.Lookup.{heldKind, headOf, lookupVerdict, lookupReport, sectionOf};
@@ -16,7 +16,7 @@ fn held_kind(s: &[u8], kind: u16) -> bool
     ((1 <= kind) & (kind <= 6)) | ((kind == 7) & layout.hasearly) | ((kind == 9) & layout.hasorder)
 }
 
-// The head of the section of a kind, those of kinds 7 and 9 whether or not they are there, and 0 for any other number.
+// The place of the head of a kind. For kinds 7 and 9 it is given even if they are not present; it is 0 for any other number.
 pub fn head_of(s: &[u8], kind: u16) -> usize
     ensures { λ r. ⌜ (r ≡ headOf (now (s .entry)) kind) × (r ≤ 201227) ⌝ }
 {
@@ -55,7 +55,7 @@ fn lookup_verdict(s: &[u8], kind: u16) -> Verdict
     }
 }
 
-// The part of the personality that is the body of the kind's section.
+// The body of the section of this kind, as a part of the personality.
 pub fn section_of(personality: &[u8], kind: u16) -> &[u8]
     ensures { λ r. ⌜ now r ≡ sectionOf (now (personality .entry)) kind ⌝ }
 {
@@ -69,7 +69,7 @@ pub fn section_of(personality: &[u8], kind: u16) -> &[u8]
     &personality[start..end]
 }
 
-// The number and place beside the lookup, 0 at 0 where the section is found.
+// The number and place of the lookup, 0 at 0 if the section is found.
 pub fn lookup_report(personality: &[u8], kind: u16) -> Report
     ensures { λ r. ⌜ r ≡ lookupReport (now (personality .entry)) kind ⌝ }
 {
