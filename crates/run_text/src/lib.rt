@@ -1,5 +1,5 @@
-// The trace program's work on slices: the input bits of a step record, and the text of a line, from a state's position and the
-// colours that the groups show.
+// The parts of the trace program that work on slices: the input bits of a step record, and the text of a line, from the position of a state
+// and the colours of the groups.
 ghost use Prim.Native.Nat.{_+_, _*_};
 ghost use mathlib.Core.Path.{_≡_};
 ghost use lib.ListN.{length, getD};
@@ -41,7 +41,7 @@ fn leading_letter(position: Position, i: usize) -> u8
     32
 }
 
-// Letter i of a line from the groups on: one letter a group, and the line's end.
+// Letter i of a line from the groups on: one letter for each group, and the end of the line.
 fn shown_letter(colours: &[u8], i: usize) -> u8
     ensures { λ r. ⌜ r ≡ getD (shown (now (colours .entry))) i 10 ⌝ }
 {
@@ -52,7 +52,7 @@ fn shown_letter(colours: &[u8], i: usize) -> u8
     }
 }
 
-// Letter i of what follows the step's number in a line.
+// Letter i of the part of a line after the step number.
 fn letter(position: Position, colours: &[u8], i: usize) -> u8
     ensures { λ r. ⌜ r ≡ getD (lineTail position (now (colours .entry))) i 10 ⌝ }
 {
@@ -63,8 +63,8 @@ fn letter(position: Position, colours: &[u8], i: usize) -> u8
     }
 }
 
-// Puts what follows the step's number in a line at the start of out and answers its length. Where out has no room for it, out
-// stays as it is and the answer is 0.
+// Writes the part of a line after the step number to the start of `out`, and answers its length. If `out` is too short, it stays as it is
+// and the answer is 0.
 pub fn tail(position: Position, colours: &[u8], out: &mut [u8]) -> usize
     ensures { λ r. ⌜ Counted r (now (out .exit)) ⌝ }
     ensures { λ r. ⌜ r ≡ tailLength (length (now (colours .entry))) (length (now (out .entry))) ⌝ }
@@ -82,7 +82,7 @@ pub fn tail(position: Position, colours: &[u8], out: &mut [u8]) -> usize
     end
 }
 
-// The number that two halves of four bytes make.
+// The number made of two halves of four bytes.
 fn joined(low: u32, high: u32) -> u64
     ensures { λ r. ⌜ r ≡ low + 4294967296 * high ⌝ }
 {

@@ -1,11 +1,11 @@
-// Minimum green and passage time from a site sheet, after source document 002: start loss 4 s, headway 2 s, 6 m a vehicle. All times are in
-// steps of 0.1 s, distances in metres, speeds in km/h.
+// Minimum green and passage time from a site sheet, after source document 002: start loss 4 s, headway 2 s, 6 m for each vehicle. Times are
+// in steps of 0.1 s, distances in metres, speeds in km/h.
 ghost use mathlib.Core.Bool.{true};
 ghost use mathlib.Core.Path.{_≡_};
 ghost use Rattle.sheet_settings.specs.Sheet.{metresOf, speedInRange, metresInRange, inRange, minimumGreen, passageOver, passageTime, answerFrom, answerOf, AnswerFor};
 use base_limits::limits;
 
-// Where an approach is detected: in advance, at a distance from the stop line, or in a zone of a length at the stop line.
+// The detector of an approach: at a distance before the stop line, or a zone of some length at the stop line. The number is in metres.
 pub enum Detector {
     Advance(f64),
     StopLine(f64),
@@ -35,7 +35,7 @@ fn metres_of(detector: Detector) -> f64
     }
 }
 
-// Whether the speed is from 20 to 110 and the metres are from 0 to 300. What is no number is not.
+// Whether the speed is from 20 to 110 and the metres are from 0 to 300. A NaN is out of range.
 fn in_range(sheet: Sheet) -> bool
     ensures { λ r. ⌜ r ≡ inRange sheet ⌝ }
 {
@@ -80,7 +80,7 @@ fn passage_time(speed: u32, detector: Detector) -> u16
     }
 }
 
-// The settings where they are not above the limits of M and G.
+// The settings, or 20 if one is above the limit of M or G.
 fn answer_from(minimum: u16, passage: u16) -> Answer
     ensures { λ r. ⌜ r ≡ answerFrom minimum passage ⌝ }
 {

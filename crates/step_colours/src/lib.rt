@@ -1,4 +1,4 @@
-// The colours that the signal groups show in a state, one byte a group.
+// The colours that the signal groups show in a state, one byte for each group.
 ghost use Prim.Native.Nat.{_≤_, _<_};
 ghost use mathlib.Core.List.{_++_};
 ghost use mathlib.Core.Bool.{_&&_};
@@ -58,9 +58,9 @@ impl Colour {
         Self::RED
     }
 
-    // A vehicle group of the state's phase, by the interval. In late start mark 1 waits in red unless came-from is in its set. In early
-    // cut-off green, yellow and all-red the group stays green if its set has the target also; else mark 3 is yellow while groups that
-    // stop early are closing, then red, and the others stay green in early cut-off green and are then yellow, then red.
+    // The colour of a vehicle group that has the state's phase in its set. In late start mark 1 waits in red, unless came-from is in its
+    // set. In early cut-off green, yellow and all-red the group stays green if its set also has the target. Else a group of mark 3 is
+    // yellow while `closes` is true, then red; the other groups are green in early cut-off green, then yellow, then red.
     pub fn vehicle_colour(
         interval: Interval,
         closes: bool,
@@ -93,7 +93,7 @@ impl Colour {
         }
     }
 
-    // A pedestrian group, by its movement's stage.
+    // The colour of a pedestrian group, by the stage of its movement.
     pub fn movement_colour(stage: Stage) -> u8
         ensures { λ r. ⌜ r ≡ movementColour stage ⌝ }
     {
@@ -106,7 +106,7 @@ impl Colour {
     }
 }
 
-// A vehicle group, by where the controller stands: one that is not of the phase is red.
+// The colour of a vehicle group in a position. It is red if the phase is not in its set.
 fn vehicle_shown(closes: bool, position: Position, group: Group) -> u8
     ensures { λ r. ⌜ r ≡ vehicleShown closes position group ⌝ }
 {
@@ -142,7 +142,7 @@ fn closing(times: Times, position: Position) -> bool
     since_cut_off(interval, own, position.age) <= own.yellow as u32
 }
 
-// The same at a site that has times of early cut-off green: without them no group stops early, and it does not matter.
+// The same, but false without section 7: then no group stops early, and the answer does not matter.
 fn closing_there(early: bool, times: Times, position: Position) -> bool
     ensures { λ r. ⌜ r ≡ (early && closing times position) ⌝ }
 {
@@ -202,7 +202,7 @@ fn buffer_at(
     }
 }
 
-// Writes the colours of all groups from the buffer's start on; the bytes past them stay as they are.
+// Writes the colours of all groups to the start of the buffer. The bytes past them stay as they are.
 pub fn colours_of(site: Site, state: State, buffer: &mut [u8])
     requires { ⌜ Sound site × (site .size .groups ≤ length (now buffer)) ⌝ }
     ensures { λ _. ⌜ now (buffer .exit) ≡ coloursOf site state ++ drop (site .size .groups) (now (buffer .entry)) ⌝ }

@@ -1,4 +1,4 @@
-// Part 3 of a step: the gap count and the maximum count; and the settings of the phase that they go by.
+// Part 3 of a step: the gap count and the maximum count, and the settings of the phase that they use.
 ghost use mathlib.Core.Path.{_≡_};
 ghost use lib.ListN.{getD};
 ghost use Rattle.rules.specs.Site.{noPhaseTimes};
@@ -7,7 +7,7 @@ use rules::site::PhaseTimes;
 use rules::state::Counts;
 use rules::state::Interval;
 
-// The settings of a phase; a phase that there is no room for has none.
+// The settings of a phase. They are all 0 for a phase number above 6.
 pub fn phase_times(settings: [PhaseTimes; 7], phase: u8) -> PhaseTimes
     ensures { λ r. ⌜ r ≡ getD settings phase noPhaseTimes ⌝ }
 {
@@ -58,7 +58,7 @@ fn maximum_after(interval: Interval, times: PhaseTimes, another: bool, maximum: 
     maximum
 }
 
-// Both counts, by the interval and the settings of the phase that is on.
+// Both counts after part 3, by the interval and the settings of the phase.
 pub fn counts_after(
     interval: Interval,
     times: PhaseTimes,

@@ -7,7 +7,7 @@ ghost use Rattle.rules.specs.Demands.{inGreen};
 use base_bytes::sets;
 use rules::state::Position;
 
-// All phases but one that is in minimum green or running, as a set.
+// The set of all phases, without the phase of the state if that is in minimum green or running.
 pub fn waiting(position: Position) -> u8
     requires { ⌜ position .phase < 8 ⌝ }
     ensures { λ r. ⌜ r ≡ setOf (λ p. not (inGreen position p)) ⌝ }

@@ -1,4 +1,4 @@
-// What a change of interval does to the counts and to the lock of the phase, and whether a phase starts with it.
+// What a change of interval does to the counts and to the lock of the phase, and whether a phase starts.
 ghost use Prim.Native.Nat.{_<_};
 ghost use mathlib.Core.Path.{_≡_};
 ghost use Rattle.rules.specs.Interval.{countsLeaving, countsEntering, countsChanged, locksLeft, starts as startsAt};
@@ -36,7 +36,7 @@ fn counts_entering(interval: Interval, times: PhaseTimes, before: Counts) -> Cou
     Counts { gap, maximum }
 }
 
-// A change of interval sets counts, by what is left and by what is entered.
+// The counts after a change of interval, by the interval that ends and the one that begins.
 pub fn counts_changed(
     ended: bool,
     times: Times,
@@ -68,7 +68,7 @@ pub fn locks_left(ended: bool, now: Position, locks: u8) -> u8
     locks
 }
 
-// Start red or all-red has ended: a phase starts.
+// Whether a phase starts: start red or all-red has ended.
 pub fn starts(ended: bool, old: Position) -> bool
     ensures { λ r. ⌜ r ≡ startsAt ended old ⌝ }
 {

@@ -14,7 +14,7 @@ pub struct Busy {
     pub clearing: bool,
 }
 
-// Idle records are in neither, so the movements that the site has settle it.
+// Looks at the site's own movements only: the records past them are idle.
 fn under_way(movements: [Movement; 8], count: u8) -> Busy
     requires { ⌜ IdlePast count movements ⌝ }
     ensures { λ r. ⌜ (r .walking ≡ someMovement isWalkOrFirst movements) × (r .clearing ≡ someMovement isSecond movements) ⌝ }
