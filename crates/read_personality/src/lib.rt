@@ -1,4 +1,4 @@
-// Unit one: reading a personality. The checks go from top to bottom, section by section, and the first refusal is the answer.
+// Unit one: reads a personality. The sections are checked in their order, and the first check that fails gives the answer.
 ghost use mathlib.Core.Path.{_≡_};
 ghost use Rattle.rules.specs.Personality.{verdictOf};
 ghost use Rattle.read_layout.specs.LayoutOf.{LayoutOf};

@@ -1,5 +1,5 @@
--- Demanded phases kept ready: the set of phases that are demanded by lock or by a demanded movement stands in the state, and every press,
--- lock, walk and clearing holds it true. Non-locking calls count beside it, for their step only.
+-- The kept set: the phases that have a locked demand or a demanded movement, kept in the state and updated in each step. Calls without lock
+-- count beside it, in their step only.
 use Prim.Native.Nat.{ℕ}
 use mathlib.Core.Bool.{Bool, not, _&&_, _||_}
 use lib.Dec.{eqb}
@@ -27,7 +27,7 @@ isKept s p = bit p (s .kept)
 unfoldable pub keptValid : Site → KeptState → Bool
 keptValid site s = valid site (s .core) && eqb (s .kept) (setOf (stands site (s .core .demands)))
 
--- ── Part 1: a lock and a press keep their phase ──
+-- ── Part 1: a registered lock or press adds its phase to the set ──
 
 -- a button is registered whose movement is of phase p
 unfoldable pub pressKeeps : Site → KeptState → ℕ → ℕ → Bool
@@ -37,13 +37,13 @@ pressKeeps site s inputs p =
 unfoldable pub keptAfter : Site → KeptState → ℕ → ℕ → Bool
 keptAfter site s inputs p = isKept s p || registersLock site (s .core) inputs p || pressKeeps site s inputs p
 
--- the first phase after this one that is kept, or called in this step
+-- the first phase after this one that is in the set or has a call
 unfoldable pub nextKept : Site → KeptState → ℕ → Held
 nextKept site s inputs = nextAfter site (s .core .position .phase) (λ p. keptAfter site s inputs p || calls site (s .core) inputs p)
 
--- ── Parts 4 and 5: clearing a lock and beginning a walk give the phase up where no other demand of it is left ──
+-- ── Parts 4 and 5: when a lock or a button demand is cleared, the phase leaves the set if no other demand of it is left ──
 
--- the demand stood and stands no more
+-- demand i was stored before and is not any more
 unfoldable pub gone : ℕ → ℕ → ℕ → Bool
 gone old new i = bit i old && not (bit i new)
 

@@ -1,6 +1,6 @@
-// The trace program. From standard input it reads a two-byte length, a personality of that length, and 8 bytes for each step. If the
-// personality is accepted, it prints a header, then a line for each step. A refusal prints its own line and ends the trace. The end of
-// the input and the last step end the trace without a line.
+// The trace program. From standard input it reads a two-byte length, a personality of that length, and 8 bytes for each step. For an
+// accepted personality it prints a header and then a line for each step. A refusal prints its own line and ends the trace. The end of the
+// input and the last step end the trace without a line.
 use libc::STDIN_FILENO;
 use libc::STDOUT_FILENO;
 use rules::answer::Outcome;

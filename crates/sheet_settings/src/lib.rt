@@ -45,7 +45,7 @@ fn in_range(sheet: Sheet) -> bool
     ((20 <= speed) & (speed <= 110)) & ((0.0 <= metres) & (metres <= 300.0))
 }
 
-// 40 + 20n steps, n the largest whole number with 6n not above the metres.
+// Minimum green: 40 + 20 n steps. n is the number of whole vehicles of 6 m in the metres: 6 n ≤ metres < 6 (n + 1).
 fn minimum_green(metres: f64) -> u16
     requires { ⌜ metresInRange metres ≡ true ⌝ }
     ensures { λ r. ⌜ r ≡ minimumGreen metres ⌝ }
@@ -57,7 +57,7 @@ fn minimum_green(metres: f64) -> u16
     40 + 20 * n
 }
 
-// The smallest whole t with t × speed not below 36 × distance, that product rounded once.
+// Passage time of an advance detector: the lowest whole t with t × speed ≥ q. q is 36 × metres, rounded once to binary64.
 fn passage_over(speed: u32, metres: f64) -> u16
     requires { ⌜ (speedInRange speed ≡ true) × (metresInRange metres ≡ true) ⌝ }
     ensures { λ r. ⌜ r ≡ passageOver speed metres ⌝ }
@@ -70,6 +70,7 @@ fn passage_over(speed: u32, metres: f64) -> u16
     t as u16
 }
 
+// The passage time of a detector; 0 for a stop-line zone.
 fn passage_time(speed: u32, detector: Detector) -> u16
     requires { ⌜ (speedInRange speed ≡ true) × (metresInRange (metresOf detector) ≡ true) ⌝ }
     ensures { λ r. ⌜ r ≡ passageTime speed detector ⌝ }

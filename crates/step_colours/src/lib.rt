@@ -58,9 +58,9 @@ impl Colour {
         Self::RED
     }
 
-    // The colour of a vehicle group that has the state's phase in its set. In late start mark 1 waits in red, unless came-from is in its
-    // set. In early cut-off green, yellow and all-red the group stays green if its set also has the target. Else a group of mark 3 is
-    // yellow while `closes` is true, then red; the other groups are green in early cut-off green, then yellow, then red.
+    // The colour of a vehicle group that has the state's phase in its set. In late start a group of mark 1 is red, except if its set has
+    // came-from. In early cut-off green, yellow and all-red a group whose set also has the target stays green. Of the others, those of
+    // mark 3 are yellow while `closes` is true, then red; the rest are green in early cut-off green, then yellow, then red.
     pub fn vehicle_colour(
         interval: Interval,
         closes: bool,
@@ -152,8 +152,8 @@ fn closing_there(early: bool, times: Times, position: Position) -> bool
     false
 }
 
-// One turn of the pass: writes what group g shows, by its record and by its movement's stage if it is a pedestrian group, and answers how many
-// pedestrian groups are passed then. It takes no array: one that goes in by value would be copied at every turn.
+// One turn of the pass: writes the colour of group g and answers how many pedestrian groups there are up to it. `stage` is that of its
+// movement if it is a pedestrian group. It takes no array: an array by value would be copied at every turn.
 fn pass_group(
     group: Group,
     stage: Stage,
@@ -174,8 +174,8 @@ fn pass_group(
     k
 }
 
-// Writes what the first count groups show, in one pass of the list. It takes the parts that this rests on, and not the site and the state: a
-// parameter with an array that is read by a running index is copied whole.
+// Writes the colours of the first `count` groups in one pass. It takes only the parts that it needs, and not the site and the state: a
+// struct parameter with an array that is read by a running index is copied whole.
 fn buffer_at(
     groups: [Group; 32],
     count: usize,

@@ -26,7 +26,7 @@ pub fn phase_times(settings: [PhaseTimes; 7], phase: u8) -> PhaseTimes
     }
 }
 
-// In minimum green and running an occupied extending detector sets the gap count to G, else it falls by one, not below 0.
+// The gap count after part 3. In minimum green and running it is G if a detector extends the phase; else it counts down to 0.
 fn gap_after(interval: Interval, times: PhaseTimes, extended: bool, gap: u16) -> u16
     ensures { λ r. ⌜ r ≡ gapAfter interval times extended gap ⌝ }
 {
@@ -42,7 +42,7 @@ fn gap_after(interval: Interval, times: PhaseTimes, extended: bool, gap: u16) ->
     gap
 }
 
-// In running the maximum count rises by one, up to X, if another phase is demanded or it is already above 0.
+// The maximum count after part 3. In running it starts when another phase is demanded, and then counts every step up to X.
 fn maximum_after(interval: Interval, times: PhaseTimes, another: bool, maximum: u16) -> u16
     ensures { λ r. ⌜ r ≡ maximumAfter interval times another maximum ⌝ }
 {

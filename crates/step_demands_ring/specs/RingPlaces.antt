@@ -15,7 +15,7 @@ run order i (suc n) = getD order i 0 ∷ run order (suc i) n
 abbrev pub others : ℕ → List ℕ → ℕ → List ℕ
 others p order n = after p (listOf (λ i. getD order i 0) n) ++ before p (listOf (λ i. getD order i 0) n)
 
--- the first of the first n places at which p stands, or n where it stands at none
+-- the first of the first n places that has p, or n if none has it
 pub record PlaceOf (order : List ℕ) (p n at : ℕ) : Type 0 where
   pub within : at ≤ n
   pub earlier : (j : ℕ) → j < at → getD order j 0 ≡ p → ⊥

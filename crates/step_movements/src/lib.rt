@@ -19,7 +19,7 @@ pub fn older(age: u16) -> u16
 }
 
 // Whether a walk of at least W steps may end: the interval is running, another phase is demanded, and the gap count is 0 or the maximum
-// count is X. Interval and counts are those of the state handed in.
+// count has reached X. Interval and counts are those of the state handed in.
 pub fn walk_may_end(interval: Interval, times: PhaseTimes, another: bool, counts: Counts) -> bool
     ensures { λ r. ⌜ r ≡ walkMayEnd interval times another counts ⌝ }
 {

@@ -1,5 +1,5 @@
-// Part 5 of a step: walks. If a phase starts, its demanded movements begin their walk. If the interval is now running and no other phase is
-// demanded, the idle demanded movements of the phase begin their walk. This clears the demand and sets the age to 1.
+// Part 5 of a step: walks. If a phase starts, its demanded movements begin their walk. They also begin it in running, if they are idle and
+// no other phase is demanded. A walk that begins has age 1, and its demand is cleared.
 ghost use mathlib.Core.Path.{_≡_};
 ghost use Rattle.rules.specs.Walks.{begins};
 ghost use Rattle.step_walks.specs.Begun.{begunBy};

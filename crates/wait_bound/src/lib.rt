@@ -1,6 +1,6 @@
-// The wait bound of a site in steps: start red plus the sum over the phases of L + M + X + 2 × (A + E + Y + R + C). A is the greatest
-// W + C1 among the movements of the phase and C the greatest C2, both 0 without movements. E is the time of early cut-off green. All times
-// are inside the limits, so every sum here fits in two bytes.
+// The wait bound of a site in steps: start red plus the sum over the phases of L + M + X + 2 × (A + E + Y + R + C). For the movements of
+// the phase, A is the largest sum W + C1 and C the largest C2; without movements both are 0. E is the time of early cut-off green. All
+// times are inside the limits, so every sum here fits in two bytes.
 ghost use Prim.Native.Nat.{_≤_};
 ghost use mathlib.Core.Path.{_≡_};
 ghost use Rattle.rules.specs.WaitBound.{phaseShare, waitBoundBy};
