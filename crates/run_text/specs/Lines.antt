@@ -1,5 +1,5 @@
--- Internal: no promise cites this file. What goes into a trace and comes out of it: the input bits of a step record, and a buffer with a line's text at
--- its start.
+-- Internal: no promise cites this file. Input and output of a trace: the input bits of a step record, and a buffer with the text of a line
+-- at its start.
 use Prim.Native.Nat.{ℕ, _+_, _*_, _≤_}
 use mathlib.Core.List.{List, [], _∷_, _++_, map}
 use mathlib.Core.Path.{_≡_}
