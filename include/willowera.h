@@ -13,7 +13,7 @@
  *
  * Not required (examples/c/conditions.c tries these points):
  *
- * - A valid pointer for length 0. The pointer may be null; the buffer is empty and is not accessed.
+ * - A valid pointer for length 0. The pointer may be anything, also null; the buffer is empty and is not accessed.
  * - Alignment, of any buffer.
  * - A writable personality. It may be in read-only memory.
  * - Initial values in the colour buffer or in the buffer for a fresh state.
