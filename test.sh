@@ -31,9 +31,9 @@ log=$(mktemp)
 room=$(mktemp -d)
 trap 'rm -rf "$log" "$room"' EXIT
 try_edits() {
-    for edit in edits/*.edit; do
+    for edit in must-fail-rules/*.edit; do
         name=$(basename "$edit" .edit)
-        edits/run.sh "$name" >"$room/$name.out" 2>&1 && touch "$room/$name.refused"
+        must-fail-rules/run.sh "$name" >"$room/$name.out" 2>&1 && touch "$room/$name.refused"
     done
 }
 refused_edit() { cat "$room/$1.out" && [ -e "$room/$1.refused" ]; }
@@ -93,7 +93,7 @@ compare_sheets() { (cd rust && cargo run --quiet --release --offline --features 
 check 'settings of site sheets agree' compare_sheets 1 1000000
 
 wait "$edits"
-for edit in edits/*.edit; do
+for edit in must-fail-rules/*.edit; do
     check "$edit" refused_edit "$(basename "$edit" .edit)"
 done
 

@@ -18,7 +18,7 @@ use Rattle.rules.specs.Site.{siteOf}
 use Rattle.rules.specs.Kept.{keptValid, keptStepped}
 use Rattle.rules.specs.Colours.{coloursOf}
 use Rattle.rules.specs.WaitBound.{waitBound}
-use Rattle.rules.specs.Call.{strayInput, stepVerdict, callVerdict, boundFor, handedBack, bufferFor}
+use Rattle.rules.specs.Call.{strayInput, stepVerdict, boundFor, handedBack, bufferFor, checksBy, callVerdict}
 use Rattle.rules.specs.Laws.{Sound, AcceptedIsSound}
 use Rattle.proof_acceptance.proofs.Acceptance.{accepted-is-sound}
 
@@ -50,7 +50,7 @@ module _ (site : Site) {isValid : Bool} (inputs room : ℕ) where
 -- what a call answers, and the buffer as it returns
 abbrev pub Answers : Verdict → Site → KeptState → ℕ → List ℕ → Answer → List ℕ → Type 0
 Answers v site s inputs buffer answer out =
-    (answer ≡ record { outcome = boundFor v site; state = handedBack v (keptStepped site s inputs) s })
+    (answer ≡ record { outcome = boundFor v (waitBound site); state = handedBack v (keptStepped site s inputs) s })
     × (out ≡ bufferFor v site (keptStepped site s inputs .core) buffer)
 
 pub declines :
@@ -81,7 +81,7 @@ pub call-refused :
     (b : List ℕ) (s : KeptState) (inputs room number place : ℕ) →
     verdictOf b ≡ Refused number place →
     callVerdict b s inputs room ≡ Refused number place
-unfolding callVerdict _orElse_
+unfolding checksBy _orElse_
 call-refused b s inputs room number place e = rw e
 
 -- a step on the site of the bytes is the call's
@@ -91,7 +91,7 @@ pub stepped-call :
     site ≡ siteOf b →
     Answers (stepVerdict site (keptValid site s) inputs (length buffer)) site s inputs buffer answer out →
     Answers (callVerdict b s inputs (length buffer)) (siteOf b) s inputs buffer answer out
-unfolding callVerdict _orElse_
+unfolding checksBy _orElse_
 stepped-call b site s inputs buffer answer out e f w =
     rw e
     (subst (λ (x : Site). Answers (stepVerdict x (keptValid x s) inputs (length buffer)) x s inputs buffer answer out) f w)

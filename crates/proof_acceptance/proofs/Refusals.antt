@@ -16,7 +16,7 @@ use Rattle.rules.specs.Limits.{phaseSettings, walkSettings}
 use Rattle.laws.specs.Folds.{if_then_else_}
 use Rattle.rules.specs.Verdicts.{_orElse_, refuseIf, firstOf}
 use Rattle.rules.specs.Personality.{bodyAt, bodyLength, recordAt, phaseCount, groupCount, siteHead, phasesHead, groupsHead, conflictsHead, detectorsHead, pedestriansHead, movementCount, detectorCount, pastSection, earlyHead, hasEarly, orderHead, hasOrder, endOf, sectionAt, timeAt, timesAt, siteSection, phasesSection, groupRecord, groupsSection, conflictsSection, detectorsSection, pedestriansSection, earlySection, orderSection, phaseWithoutCaller, earlyMissing, afterPedestrians, verdictOf}
-use Rattle.rules.specs.Call.{stepVerdict, callVerdict}
+use Rattle.rules.specs.Call.{stepVerdict, checksBy, callVerdict}
 use Rattle.rules.specs.Laws.{readingNumber, stepNumber, sectionLength, greatestLength, AcceptedIsShort, PlaceIn, Written, RefusalIsWritten}
 use Rattle.rules.proofs.Verdicts.{refused-not-accepted, or-refused, refuse-failed, first-refused}
 use Rattle.proof_acceptance.proofs.Sections.{SiteAccepted, GroupsAccepted, DetectorsAccepted, PedestriansAccepted, EarlyAccepted, OrderAccepted, records-held, record-within, detectors-held, site-accepted, phases-accepted, groups-accepted, conflicts-accepted, detectors-accepted, pedestrians-accepted, early-accepted, order-accepted, sections-accepted}
@@ -249,7 +249,7 @@ module _
         (s : KeptState) (inputs room : ℕ) →
         ((number : ℕ) → stepNumber number ≡ true → Allowed number 0) →
         Refusals Allowed (callVerdict b s inputs room)
-    unfolding callVerdict stepVerdict
+    unfolding checksBy stepVerdict
     call-refusals s inputs room step =
         or-refusals Allowed _ _ personality-refusals
         (λ e. or-refusals Allowed _ _ (if-refusals Allowed _ 13 0 (step 13 refl))

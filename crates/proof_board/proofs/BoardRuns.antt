@@ -19,7 +19,7 @@ use Rattle.rules.specs.Personality.{verdictOf}
 use Rattle.rules.specs.Site.{siteOf}
 use Rattle.rules.specs.Kept.{freshKept, keptValid, keptStepped}
 use Rattle.rules.specs.WaitBound.{waitBound}
-use Rattle.rules.specs.Call.{callVerdict, boundFor, handedBack, answerOf, bufferOf}
+use Rattle.rules.specs.Call.{boundFor, handedBack, checksBy, callVerdict, answerOf, bufferOf}
 use Rattle.rules.specs.Laws.{Sound, AcceptedIsSound, RefusalIsWritten}
 use Rattle.rules.specs.Scanning.{FreshKeptIsValid, StepKeepsKept}
 use Rattle.rules.specs.DemandThree.{ruled, Call, takenFrom, SafeRun, DemandThreeOf, DemandThree}
@@ -69,7 +69,7 @@ module _ (b : List ℕ) (s : KeptState) (inputs room : ℕ) where
   outcome-for :
       (v : Verdict) →
       callVerdict b s inputs room ≡ v →
-      outcomeIn (packedOutcome (boundFor v (siteOf b))) ≡ boundFor v (siteOf b)
+      outcomeIn (packedOutcome (boundFor v (waitBound (siteOf b)))) ≡ boundFor v (waitBound (siteOf b))
   unfolding boundFor packedOutcome stepReportOf waitOf RefusalIsWritten
   outcome-for Accepted e = rw (zero-add (waitBound (siteOf b))) (outcome-stepped (waitBound (siteOf b)))
   outcome-for (Refused number place) e =
@@ -81,7 +81,7 @@ module _ (b : List ℕ) (s : KeptState) (inputs room : ℕ) where
 
 -- the answer to reading a personality reads back
 read-for : (b : List ℕ) (v : Verdict) → verdictOf b ≡ v → verdictIn (packedVerdict v) ≡ v
-unfolding packedVerdict packed reportOf verdictIn RefusalIsWritten callVerdict _orElse_
+unfolding packedVerdict packed reportOf verdictIn RefusalIsWritten checksBy _orElse_
 read-for b Accepted e = refl
 read-for b (Refused number place) e =
     verdict-refused number place (number-fits b number place (refusal-is-written b freshKept 0 0 number place (rw e)))
@@ -96,7 +96,7 @@ module _ (b : List ℕ) (s : KeptState) (proper : Proper s) (inputs : ℕ) where
   next-for :
       (v : Verdict) →
       let next = handedBack v (keptStepped (siteOf b) s inputs) s in
-      stateFor (boundFor v (siteOf b)) next (encoded s) ≡ encoded next
+      stateFor (boundFor v (waitBound (siteOf b))) next (encoded s) ≡ encoded next
   unfolding boundFor handedBack stateFor
   next-for Accepted = refl
   next-for (Refused number place) = refl
@@ -121,7 +121,7 @@ module _ (b : List ℕ) (sound : Sound (siteOf b)) (buffer : List ℕ) where
       callVerdict b s inputs room ≡ v →
       let next = handedBack v (keptStepped (siteOf b) s inputs) s in
       (keptValid (siteOf b) next ≡ true) × Proper next
-  unfolding callVerdict handedBack StepKeepsKept StepIsProper
+  unfolding checksBy handedBack StepKeepsKept StepIsProper
   kept-for s validState proper inputs room Accepted e =
       let wired = checks-told b inputs room (keptValid (siteOf b) s) e .1 in
       (step-keeps-kept step-keeps-valid (siteOf b) sound s inputs validState wired, step-is-proper (siteOf b) sound s inputs validState wired)
@@ -132,7 +132,7 @@ module _ (b : List ℕ) (sound : Sound (siteOf b)) (buffer : List ℕ) where
       keptValid (siteOf b) s ≡ true →
       Proper s →
       takenFrom (board buffer) b (encoded s) calls ≡ takenFrom ruled b s calls
-  unfolding takenFrom board ruled answerOf
+  unfolding takenFrom board ruled answerOf bufferOf
   same-run [] s validState proper = refl
   same-run (c ∷ calls) s validState proper =
       let room = length (c .buffer) in

@@ -13,7 +13,7 @@ use Rattle.rules.specs.declared.state.Held.the-variants.{Nothing, Phase}
 use Rattle.rules.specs.declared.state.KeptState.{KeptState}
 use Rattle.rules.specs.IntervalTable.{isLeaving, phaseHeld}
 use Rattle.rules.specs.State.{fresh, movement, targetValid, previousValid, valid}
-use Rattle.rules.specs.Step.{steppedTo}
+use Rattle.rules.specs.Step.{steppedBy, steppedTo}
 use Rattle.rules.specs.Kept.{freshKept, keptValid, keptStepped}
 use Rattle.rules.specs.Interval.{locksLeft}
 use Rattle.rules.specs.Walks.{walksBegun, buttonsLeft}
@@ -66,7 +66,7 @@ proper-of site sound s validState locks buttons movements kept =
     (position, (counts, (demands, (records, kept))))
 
 pub step-is-proper : StepIsProper
-unfolding StepIsProper StepKeepsKept keptStepped steppedTo locksLeft walksBegun buttonsLeft
+unfolding StepIsProper StepKeepsKept keptStepped steppedTo steppedBy locksLeft walksBegun buttonsLeft
 step-is-proper site sound s inputs validState wired =
     proper-of site sound (keptStepped site s inputs) (step-keeps-kept step-keeps-valid site sound s inputs validState wired)
     (set-small _)

@@ -14,7 +14,8 @@ use Rattle.rules.specs.Personality.{verdictOf}
 use Rattle.rules.specs.Site.{siteOf}
 use Rattle.rules.specs.State.{valid}
 use Rattle.rules.specs.Step.{stepped}
-use Rattle.rules.specs.Call.{strayInput, stepVerdict, handedBack, boundFor}
+use Rattle.rules.specs.WaitBound.{waitBound}
+use Rattle.rules.specs.Call.{strayInput, stepVerdict, boundFor, handedBack, checksBy}
 use Rattle.rules.specs.Laws.{Sound, StepKeepsValid}
 use Rattle.rules.specs.DemandThree.{Call, Taken, takenFrom, NoDeadEnd}
 use Rattle.rules.specs.Scanning.{scanVerdict, scanning}
@@ -39,12 +40,12 @@ module _ (keeps : StepKeepsValid) (b : List ℕ) (sound : Sound (siteOf b)) wher
     own inputs room = refuseIf (strayInput (siteOf b) inputs) 15 0 orElse refuseIf (ltb room (siteOf b .size .groups)) 14 0
 
     own-verdict : (s : State) → valid (siteOf b) s ≡ true → (inputs room : ℕ) → scanVerdict b s inputs room ≡ own inputs room
-    unfolding scanVerdict stepVerdict refuseIf _orElse_
+    unfolding checksBy stepVerdict refuseIf _orElse_
     own-verdict s validState inputs room = rw (known, validState)
 
     -- the call answers what its own inputs and buffer call for
     abbrev Own : State → Taken → Type 0
-    Own s call = call .outcome ≡ boundFor (own (call .inputs) (call .room)) (siteOf b)
+    Own s call = call .outcome ≡ boundFor (own (call .inputs) (call .room)) (waitBound (siteOf b))
 
     own-from : (calls : List Call) (s : State) → valid (siteOf b) s ≡ true → Linked Own s (takenFrom scanning b s calls)
     unfolding takenFrom scanning
@@ -52,7 +53,7 @@ module _ (keeps : StepKeepsValid) (b : List ℕ) (sound : Sound (siteOf b)) wher
     own-from (c ∷ calls) s validState =
         let room = length (c .buffer) in
         let v = scanVerdict b s (c .inputs) room in (
-          ap (λ (w : Verdict). boundFor w (siteOf b)) (own-verdict s validState (c .inputs) room),
+          ap (λ (w : Verdict). boundFor w (waitBound (siteOf b))) (own-verdict s validState (c .inputs) room),
           own-from calls (handedBack v (stepped (siteOf b) s (c .inputs)) s) (valid-for s validState (c .inputs) room v refl),
         )
 

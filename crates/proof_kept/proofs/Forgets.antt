@@ -24,7 +24,8 @@ use Rattle.rules.specs.Demands.{stands, movementDemands}
 use Rattle.rules.specs.Interval.{clearsLock}
 use Rattle.rules.specs.Step.{steppedTo, stepped}
 use Rattle.rules.specs.Kept.{freshKept, keptValid, keptAfter, keptLeft, keptStepped}
-use Rattle.rules.specs.Call.{stepVerdict, callVerdict, boundFor, handedBack, bufferFor, answerOf, bufferOf}
+use Rattle.rules.specs.WaitBound.{waitBound}
+use Rattle.rules.specs.Call.{stepVerdict, boundFor, handedBack, bufferFor, checksBy, callVerdict, answerOf, bufferOf}
 use Rattle.rules.specs.DemandThree.{Call, Taken, ruled, takenFrom}
 use Rattle.rules.specs.Laws.{Sound, AcceptedIsSound, FreshIsValid, StepKeepsValid}
 use Rattle.rules.specs.Scanning.{scanVerdict, scanning, FreshKeptIsValid, StepKeepsKept, StepForgets, RunForgets}
@@ -96,7 +97,7 @@ module _ (sound : AcceptedIsSound) (keeps : StepKeepsValid) (b : List ℕ) where
   -- in a valid state the checks are the same
   verdict-same :
       (s : KeptState) (inputs room : ℕ) → keptValid (siteOf b) s ≡ true → callVerdict b s inputs room ≡ scanVerdict b (s .core) inputs room
-  unfolding callVerdict scanVerdict keptValid
+  unfolding checksBy keptValid
   verdict-same s inputs room v =
       ap (λ (ok : Bool). verdictOf b orElse stepVerdict (siteOf b) ok inputs room) (v ∙ sym (and-left (valid (siteOf b) (s .core)) _ v))
 
@@ -107,7 +108,7 @@ module _ (sound : AcceptedIsSound) (keeps : StepKeepsValid) (b : List ℕ) where
         before = before;
         inputs = c .inputs;
         room = length (c .buffer);
-        outcome = boundFor v (siteOf b);
+        outcome = boundFor v (waitBound (siteOf b));
         after = after;
         shown = bufferFor v (siteOf b) new (c .buffer);
       }
@@ -120,7 +121,7 @@ module _ (sound : AcceptedIsSound) (keeps : StepKeepsValid) (b : List ℕ) where
       _≡_ {A = List Taken}
       (entry v (s .core) (keptStepped (siteOf b) s (c .inputs) .core) (handedBack v (keptStepped (siteOf b) s (c .inputs)) s .core) c ∷ takenFrom ruled b (handedBack v (keptStepped (siteOf b) s (c .inputs)) s) calls)
       (entry v (s .core) (stepped (siteOf b) (s .core) (c .inputs)) (handedBack v (stepped (siteOf b) (s .core) (c .inputs)) (s .core)) c ∷ takenFrom scanning b (handedBack v (stepped (siteOf b) (s .core) (c .inputs)) (s .core)) calls)
-  unfolding entry handedBack boundFor bufferFor AcceptedIsSound StepForgets StepKeepsKept callVerdict
+  unfolding entry handedBack boundFor bufferFor AcceptedIsSound StepForgets StepKeepsKept checksBy
   taken-alike Accepted s c calls v e later =
       let site = siteOf b in
       let next = keptStepped site s (c .inputs) in

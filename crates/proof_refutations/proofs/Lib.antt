@@ -1,4 +1,3 @@
 pub mod Violations
 pub mod Witnesses
-pub mod SameRules
 pub mod Refutations

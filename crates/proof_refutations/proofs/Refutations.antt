@@ -1,92 +1,86 @@
 -- Each controller that must not pass is refuted by one list of calls on one personality: the facts at which a part of the demand fails
 -- are computed, once. What follows the calls are the places of steps in the list, counted from 0, and the phase, movement or groups.
-use Prim.Native.Nat.{ℕ}
-use mathlib.Core.List.{List}
-use mathlib.Core.Path.{_≡_, refl}
+use mathlib.Core.Path.{refl}
 use lib.ListN.{set}
-use Rattle.rules.specs.declared.answer.Verdict.the-variants.{Accepted}
 use Rattle.rules.specs.Personality.{verdictOf}
-use Rattle.rules.specs.Site.{siteOf}
-use Rattle.rules.specs.Interval.{ends, following}
 use Rattle.rules.specs.Step.{stepped}
-use Rattle.rules.specs.Kept.{freshKept}
+use Rattle.rules.specs.WaitBound.{waitBound}
 use Rattle.rules.specs.Junctions.{junction}
-use Rattle.rules.specs.DemandThree.{ruled, Call, takenFrom, accepted, DemandsMet, DemandThreeOf}
+use Rattle.rules.specs.DemandThree.{ruled, DemandThreeOf}
 use Rattle.rules.proofs.Opened.{opened}
-use Rattle.proof_refutations.specs.Faults.{checksBy, controllerBy, steppedBy, moved, agesOnly, neverAlters, leavesTheSite, endsOnTimer, choosesAgain, choosesEarlyAgain, clearing, dropsPresses, smallBound, passesTen}
-use Rattle.proof_refutations.specs.Refutations.{Refutations}
-use Rattle.proof_refutations.proofs.Violations.{together, starts, cut, skipped, met, answers, refuted-by-greens, refuted-by-clearance, refuted-by-yellow, unmet-by-lock, unmet-by-button, refuted-by-wait, refuted-by-refusal}
+use Rattle.proof_refutations.specs.Faults.{faulty, passed, passesTen, moved, is, agesOnly, neverAlters, leavesTheSite, endsTimed, endsOnTimer, choosing, choosesAgain, choosesEarlyAgain, clearing, dropsPresses, inventedBound, smallBound}
+use Rattle.proof_refutations.specs.Refutations.{Refutations, SmallBoundFails}
+use Rattle.proof_refutations.proofs.Violations.{together, starts, cut, skipped, met, answers, refuted-by-greens, refuted-by-clearance, refuted-by-yellow, unmet-by-lock, unmet-by-button, refuted-by-wait, refuted-by-refusal, refuted-by-bound}
 use Rattle.proof_refutations.proofs.Witnesses.{callsFrom, crossings, shared, sharedArrow, atOnce, walkThenB, laterB, pressedAgain, longestWait}
 
 -- what the runs compute with
 unfoldable computing : Unit {0}
 unfolding
-    opened checksBy controllerBy steppedBy moved agesOnly neverAlters leavesTheSite endsOnTimer choosesAgain choosesEarlyAgain clearing dropsPresses
-    smallBound passesTen together starts cut skipped met answers callsFrom crossings shared sharedArrow atOnce walkThenB laterB pressedAgain longestWait
+    opened passed passesTen moved agesOnly neverAlters leavesTheSite is endsTimed endsOnTimer choosing choosesAgain choosesEarlyAgain clearing
+    dropsPresses inventedBound smallBound together starts cut skipped met answers callsFrom crossings shared sharedArrow atOnce walkThenB laterB
+    pressedAgain longestWait
 computing = tt
 
 -- Group 1 of the junction is made one of A too: both groups are green in step 10.
-passes-ten : ¬ DemandThreeOf (controllerBy (λ b. passesTen (verdictOf b)) stepped)
+passes-ten : ¬ DemandThreeOf (faulty passesTen stepped waitBound)
 unfolding computing
-passes-ten = refuted-by-greens (controllerBy (λ b. passesTen (verdictOf b)) stepped) (set junction 42 3) refl (callsFrom atOnce 2 1 10) 9 0 1 refl
+passes-ten = refuted-by-greens (faulty passesTen stepped waitBound) (set junction 42 3) refl (callsFrom atOnce 2 1 10) 9 0 1 refl
 
 -- B starts its green in step 120. The crossing was green in step 29 for the last time, and 90 steps are less than 50 + 50.
-ends-on-timer : ¬ DemandThreeOf (controllerBy verdictOf (steppedBy endsOnTimer following))
+ends-on-timer : ¬ DemandThreeOf (faulty verdictOf endsOnTimer waitBound)
 unfolding computing
 ends-on-timer =
-    refuted-by-clearance (controllerBy verdictOf (steppedBy endsOnTimer following)) (crossings 50) refl (callsFrom walkThenB 4 1 120) 28 119 1 2 refl refl
+    refuted-by-clearance (faulty verdictOf endsOnTimer waitBound) (crossings 50) refl (callsFrom walkThenB 4 1 120) 28 119 1 2 refl refl
 
 -- A's group stays green in yellow for C, up to step 60; then the target is B, the group goes to red, and B starts in step 71.
-chooses-again : ¬ DemandThreeOf (controllerBy verdictOf (steppedBy ends choosesAgain))
+chooses-again : ¬ DemandThreeOf (faulty verdictOf choosesAgain waitBound)
 unfolding computing
-chooses-again = refuted-by-yellow (controllerBy verdictOf (steppedBy ends choosesAgain)) (shared 0) refl (callsFrom laterB 2 1 71) 59 70 1 0 refl refl
+chooses-again = refuted-by-yellow (faulty verdictOf choosesAgain waitBound) (shared 0) refl (callsFrom laterB 2 1 71) 59 70 1 0 refl refl
 
 -- The arrow stays green in early cut-off green for C, up to step 60; then the target is B, and it goes to red with no yellow, since its Y
 -- steps would be over. B starts in step 101.
-chooses-early-again : ¬ DemandThreeOf (controllerBy verdictOf (steppedBy ends choosesEarlyAgain))
+chooses-early-again : ¬ DemandThreeOf (faulty verdictOf choosesEarlyAgain waitBound)
 unfolding computing
 chooses-early-again =
-    refuted-by-yellow (controllerBy verdictOf (steppedBy ends choosesEarlyAgain)) sharedArrow refl (callsFrom laterB 2 1 101) 59 100 1 0 refl refl
+    refuted-by-yellow (faulty verdictOf choosesEarlyAgain waitBound) sharedArrow refl (callsFrom laterB 2 1 101) 59 100 1 0 refl refl
 
 -- B's detector in the first step: the bound of the junction is 270, and B does not start in 270 further steps.
-ages-only : ¬ DemandThreeOf (controllerBy verdictOf agesOnly)
+ages-only : ¬ DemandThreeOf (faulty verdictOf agesOnly waitBound)
 unfolding computing
 ages-only =
-    let controller = controllerBy verdictOf agesOnly in
+    let controller = faulty verdictOf agesOnly waitBound in
     let calls = callsFrom atOnce 2 1 271 in
     refuted-by-wait controller junction refl calls (unmet-by-lock controller junction refl calls 270 0 1 refl)
 
-never-alters : ¬ DemandThreeOf (controllerBy verdictOf neverAlters)
+never-alters : ¬ DemandThreeOf (faulty verdictOf neverAlters waitBound)
 unfolding computing
 never-alters =
-    let controller = controllerBy verdictOf neverAlters in
+    let controller = faulty verdictOf neverAlters waitBound in
     let calls = callsFrom atOnce 2 1 271 in
     refuted-by-wait controller junction refl calls (unmet-by-lock controller junction refl calls 270 0 1 refl)
 
 -- The press in step 31 is dropped; the bound is 270, and no walk begins in 270 further steps.
-drops-presses : ¬ DemandThreeOf (controllerBy verdictOf dropsPresses)
+drops-presses : ¬ DemandThreeOf (faulty verdictOf dropsPresses waitBound)
 unfolding computing
 drops-presses =
-    let controller = controllerBy verdictOf dropsPresses in
+    let controller = faulty verdictOf dropsPresses waitBound in
     let calls = callsFrom pressedAgain 4 1 301 in
     refuted-by-wait controller (crossings 10) refl calls (unmet-by-button controller (crossings 10) refl calls 270 30 0 refl refl)
 
--- The press in step 31 waits for its own movement's clearances, then for the walk and clearances of the other crossing, then for B: 468
--- further steps, where the smaller bound says 420. (The bound itself says 630.)
-small-bound :
-    ¬ ((b : List ℕ) →
-    verdictOf b ≡ Accepted →
-    (calls : List Call) →
-    DemandsMet (siteOf b) (smallBound (siteOf b)) (accepted (takenFrom ruled b freshKept calls)))
-unfolding computing
-small-bound holds =
-    let calls = callsFrom longestWait 4 1 451 in
-    unmet-by-button ruled (crossings 100) refl calls 420 30 0 refl refl (holds (crossings 100) refl calls)
-
 -- The second call is refused with 13.
-leaves-the-site : ¬ DemandThreeOf (controllerBy verdictOf leavesTheSite)
+leaves-the-site : ¬ DemandThreeOf (faulty verdictOf leavesTheSite waitBound)
 unfolding computing
-leaves-the-site = refuted-by-refusal (controllerBy verdictOf leavesTheSite) junction refl (callsFrom atOnce 2 1 2) 1 13 0 refl
+leaves-the-site = refuted-by-refusal (faulty verdictOf leavesTheSite waitBound) junction refl (callsFrom atOnce 2 1 2) 1 13 0 refl
+
+-- The first call at the junction reports 600 steps, not 270.
+reports-invented : ¬ DemandThreeOf (faulty verdictOf stepped inventedBound)
+unfolding computing
+reports-invented = refuted-by-bound (faulty verdictOf stepped inventedBound) junction refl (callsFrom atOnce 2 1 1) 0 600 refl refl
+
+-- The first call reports 420 steps, not 630.
+reports-small : ¬ DemandThreeOf (faulty verdictOf stepped smallBound)
+unfolding computing
+reports-small = refuted-by-bound (faulty verdictOf stepped smallBound) (crossings 100) refl (callsFrom walkThenB 4 1 1) 0 420 refl refl
 
 pub refutations : Refutations
 refutations =
@@ -98,6 +92,15 @@ refutations =
       agesOnly = ages-only;
       neverAlters = never-alters;
       dropsPresses = drops-presses;
-      smallBound = small-bound;
       leavesTheSite = leaves-the-site;
+      reportsInvented = reports-invented;
+      reportsSmall = reports-small;
     }
+
+-- The press in step 31 waits for its own movement's clearances, then for the walk and clearances of the other crossing, then for B: 468
+-- further steps, where the smaller bound says 420. (The bound itself says 630.)
+pub small-bound-fails : SmallBoundFails
+unfolding computing SmallBoundFails
+small-bound-fails holds =
+    let calls = callsFrom longestWait 4 1 451 in
+    unmet-by-button ruled (crossings 100) refl calls 420 30 0 refl refl (holds (crossings 100) refl calls)

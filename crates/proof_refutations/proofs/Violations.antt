@@ -41,6 +41,9 @@ yellow-first (suc y) r h = refl
 declined-not-stepped : {number place wait : ℕ} → StepRefused number place ≡ Stepped wait → ⊥
 declined-not-stepped h = let z : _≡_ {A = ℕ} 0 1 = cc in omega arith
 
+stepped-same : {wait other : ℕ} → Stepped wait ≡ Stepped other → wait ≡ other
+stepped-same {wait} {other} h = let z : wait ≡ other = cc in z
+
 module _ {S : Type 0} (controller : Controller S) (b : List ℕ) (known : controller .verdict b ≡ Accepted) (calls : List Call) where
   abbrev made : List Taken
   made = takenFrom controller b (controller .fresh) calls
@@ -209,10 +212,23 @@ module _ {S : Type 0} (controller : Controller S) (b : List ℕ) (known : contro
         refuseIf (strayInput (siteOf b) (call .inputs)) 15 0 orElse refuseIf (ltb (call .room) (siteOf b .size .groups)) 14 0,
       )
 
-  pub refuted-by-refusal : (n number place : ℕ) → answers n ≡ (true, StepRefused number place, Accepted) → ¬ DemandThreeOf controller
+  -- what it must answer where neither refuses it
+  answered :
+      (n : ℕ) {outcome : Outcome} →
+      answers n ≡ (true, outcome, Accepted) →
+      DemandThreeOf controller →
+      outcome ≡ Stepped (waitBound (siteOf b))
   unfolding answers DemandThreeOf NoDeadEnd boundFor
-  refuted-by-refusal n number place facts holds =
+  answered n facts holds =
       let says =
       holds b known calls .noDeadEnd (take n made) (drop (suc n) made) (getD made n nowhere)
       (split-at made n nowhere (ltb-true n (length made) (λ i. facts i .0))) in
-      declined-not-stepped (sym (λ i. facts i .1) ∙ says ∙ (λ i. boundFor (facts i .2) (siteOf b)))
+      sym (λ i. facts i .1) ∙ says ∙ (λ i. boundFor (facts i .2) (waitBound (siteOf b)))
+
+  pub refuted-by-refusal : (n number place : ℕ) → answers n ≡ (true, StepRefused number place, Accepted) → ¬ DemandThreeOf controller
+  refuted-by-refusal n number place facts holds = declined-not-stepped (answered n facts holds)
+
+  pub refuted-by-bound :
+      (n wait : ℕ) → answers n ≡ (true, Stepped wait, Accepted) → eqb wait (waitBound (siteOf b)) ≡ false → ¬ DemandThreeOf controller
+  refuted-by-bound n wait facts other holds =
+      eqb-false wait (waitBound (siteOf b)) other (stepped-same (answered n facts holds))

@@ -17,7 +17,8 @@ use Rattle.rules.specs.Site.{siteOf}
 use Rattle.rules.specs.State.{valid}
 use Rattle.rules.specs.Step.{stepped}
 use Rattle.rules.specs.Colours.{shownIn, coloursOf}
-use Rattle.rules.specs.Call.{strayInput, stepVerdict, boundFor, handedBack, bufferFor}
+use Rattle.rules.specs.WaitBound.{waitBound}
+use Rattle.rules.specs.Call.{strayInput, stepVerdict, boundFor, handedBack, bufferFor, checksBy}
 use Rattle.rules.specs.DemandThree.{Call, Taken, takenFrom, ifStepped, accepted, shows}
 use Rattle.rules.specs.Scanning.{scanVerdict, scanning}
 use Rattle.laws.proofs.Folds.{list-length, list-at}
@@ -65,7 +66,7 @@ pub accepted-told :
     (b : List ℕ) (s : State) (inputs room : ℕ) →
     scanVerdict b s inputs room ≡ Accepted →
     (valid (siteOf b) s ≡ true) × (strayInput (siteOf b) inputs ≡ false)
-unfolding scanVerdict
+unfolding checksBy
 accepted-told b s inputs room e = checks-told b inputs room (valid (siteOf b) s) e
 
 module _ (b : List ℕ) (s : State) (c : Call) where
@@ -76,7 +77,7 @@ module _ (b : List ℕ) (s : State) (c : Call) where
         before = s;
         inputs = c .inputs;
         room = length (c .buffer);
-        outcome = boundFor v (siteOf b);
+        outcome = boundFor v (waitBound (siteOf b));
         after = handedBack v (stepped (siteOf b) s (c .inputs)) s;
         shown = bufferFor v (siteOf b) (stepped (siteOf b) s (c .inputs)) (c .buffer);
       }

@@ -18,7 +18,7 @@ use Rattle.rules.specs.Verdicts.{_orElse_, refuseIf}
 use Rattle.rules.specs.Personality.{verdictOf}
 use Rattle.rules.specs.Site.{siteOf}
 use Rattle.rules.specs.Demands.{occupied, pressed}
-use Rattle.rules.specs.Kept.{keptValid, keptStepped}
+use Rattle.rules.specs.Kept.{freshKept, keptValid, keptStepped}
 use Rattle.rules.specs.Colours.{coloursOf}
 use Rattle.rules.specs.WaitBound.{waitBound}
 
@@ -37,35 +37,72 @@ stepVerdict site isValid inputs room =
     orElse refuseIf (strayInput site inputs) 15 0
     orElse refuseIf (ltb room (site .size .groups)) 14 0
 
--- all checks of a step call: those of the personality come first
-unfoldable pub callVerdict : List ℕ → KeptState → ℕ → ℕ → Verdict
-callVerdict b s inputs room = verdictOf b orElse stepVerdict (siteOf b) (keptValid (siteOf b) s) inputs room
-
--- an accepted step gives the wait bound
-unfoldable pub boundFor : Verdict → Site → Outcome
-boundFor Accepted site = Stepped (waitBound site)
-boundFor (Refused number place) site = StepRefused number place
+-- an accepted step reports the wait
+unfoldable pub boundFor : Verdict → ℕ → Outcome
+boundFor Accepted wait = Stepped wait
+boundFor (Refused number place) wait = StepRefused number place
 
 -- a refusal hands back the old state
 unfoldable pub handedBack : {S : Type 0} → Verdict → S → S → S
 handedBack Accepted new old = new
 handedBack (Refused number place) new old = old
 
--- the first N bytes are the colours of the new state, and the others are unchanged; after a refusal all bytes are
+-- the first N bytes become the colours of the new state, and the others do not change; after a refusal no byte changes
 unfoldable pub bufferFor : Verdict → Site → State → List ℕ → List ℕ
 bufferFor Accepted site new buffer = coloursOf site new ++ drop (site .size .groups) buffer
 bufferFor (Refused number place) site new buffer = buffer
 
+-- ── The call of a controller, by its parts ──
+
+-- The parts of a controller: its verdict on a personality, its fresh state, its test of a valid state, its step, and the wait that an
+-- accepted step reports. Its states may be of any type; `seen` gives the state of document 01 that one represents.
+pub record Parts (S : Type 0) : Type 0 where
+  pub verdict : List ℕ → Verdict
+  pub fresh : S
+  pub valid : Site → S → Bool
+  pub step : Site → S → ℕ → S
+  pub wait : Site → ℕ
+  pub seen : S → State
+
+module _ {S : Type 0} (parts : Parts S) where
+  -- the checks: the personality first
+  unfoldable pub checksBy : List ℕ → S → ℕ → ℕ → Verdict
+  checksBy b s inputs room = parts .verdict b orElse stepVerdict (siteOf b) (parts .valid (siteOf b) s) inputs room
+
+  -- the outcome, the state handed back, and the buffer as the call returns
+  abbrev pub outcomeBy : List ℕ → S → ℕ → ℕ → Outcome
+  outcomeBy b s inputs room = boundFor (checksBy b s inputs room) (parts .wait (siteOf b))
+
+  abbrev pub nextBy : List ℕ → S → ℕ → ℕ → S
+  nextBy b s inputs room = handedBack (checksBy b s inputs room) (parts .step (siteOf b) s inputs) s
+
+  abbrev pub bufferBy : List ℕ → S → ℕ → List ℕ → List ℕ
+  bufferBy b s inputs buffer =
+      bufferFor (checksBy b s inputs (length buffer)) (siteOf b) (parts .seen (parts .step (siteOf b) s inputs)) buffer
+
+-- ── The call of the rules ──
+
+abbrev pub ruledParts : Parts KeptState
+ruledParts =
+    record {
+      verdict = verdictOf;
+      fresh = freshKept;
+      valid = keptValid;
+      step = keptStepped;
+      wait = waitBound;
+      seen = λ s. s .core;
+    }
+
+abbrev pub callVerdict : List ℕ → KeptState → ℕ → ℕ → Verdict
+callVerdict = checksBy ruledParts
+
 unfoldable pub answerOf : List ℕ → KeptState → ℕ → ℕ → Answer
-answerOf b s inputs room =
-    let verdict = callVerdict b s inputs room in
-    record { outcome = boundFor verdict (siteOf b); state = handedBack verdict (keptStepped (siteOf b) s inputs) s }
+answerOf b s inputs room = record { outcome = outcomeBy ruledParts b s inputs room; state = nextBy ruledParts b s inputs room }
 
 unfoldable pub bufferOf : List ℕ → KeptState → ℕ → List ℕ → List ℕ
-bufferOf b s inputs buffer =
-    bufferFor (callVerdict b s inputs (length buffer)) (siteOf b) (keptStepped (siteOf b) s inputs .core) buffer
+bufferOf = bufferBy ruledParts
 
 -- ── Unit three: the wait bound of a personality, or its refusal ──
 
 unfoldable pub boundOf : List ℕ → Outcome
-boundOf b = boundFor (verdictOf b) (siteOf b)
+boundOf b = boundFor (verdictOf b) (waitBound (siteOf b))

@@ -14,21 +14,19 @@ use Rattle.rules.specs.declared.state.KeptState.{KeptState}
 use Rattle.rules.specs.declared.state.State.{State}
 use Rattle.laws.specs.Folds.{if_then_else_}
 use Rattle.rules.specs.Verdicts.{_orElse_, refuseIf}
-use Rattle.rules.specs.Personality.{verdictOf}
 use Rattle.rules.specs.Site.{siteOf, phaseTimes, walkTimes, isPedestrian, movementOf, conflict}
 use Rattle.rules.specs.IntervalTable.{isMinimumGreen, isRunning, isWalk}
 use Rattle.rules.specs.State.{movement}
 use Rattle.rules.specs.Demands.{pressed, locking, detected}
-use Rattle.rules.specs.Kept.{freshKept}
 use Rattle.rules.specs.Colours.{red, yellow, green, flashing}
 use Rattle.rules.specs.WaitBound.{waitBound}
-use Rattle.rules.specs.Call.{strayInput, answerOf, bufferOf, boundFor}
+use Rattle.rules.specs.Call.{strayInput, boundFor, Parts, outcomeBy, nextBy, bufferBy, ruledParts}
 
 -- ── Controllers ──
 
--- What the demand is said of: a reader of personalities, a fresh state, and a step call on bytes, a state, 64 input bits and a colour
--- buffer, or its length: the outcome, the state handed back, and the buffer as the call returns. States may have any form; `seen` is the
--- state of document 01 that one stands for.
+-- What demand 3 is about: a reader of personalities, a fresh state, and a step call. The call takes bytes, a state, 64 input bits and a
+-- colour buffer or its length; it gives the outcome, the state handed back, and the buffer afterwards. States may be of any type; `seen`
+-- gives the state of document 01 that one represents.
 pub record Controller (S : Type 0) : Type 0 where
   pub verdict : List ℕ → Verdict
   pub fresh : S
@@ -37,17 +35,21 @@ pub record Controller (S : Type 0) : Type 0 where
   pub buffer : List ℕ → S → ℕ → List ℕ → List ℕ
   pub seen : S → State
 
--- The controller of the rules: its calls are those that the contracts of `read`, `fresh` and `step` cite.
-unfoldable pub ruled : Controller KeptState
-ruled =
+-- the controller made of these parts
+abbrev pub controllerOf : {S : Type 0} → Parts S → Controller S
+controllerOf parts =
     record {
-      verdict = verdictOf;
-      fresh = freshKept;
-      outcome = λ b s inputs room. answerOf b s inputs room .outcome;
-      next = λ b s inputs room. answerOf b s inputs room .state;
-      buffer = bufferOf;
-      seen = λ s. s .core;
+      verdict = parts .verdict;
+      fresh = parts .fresh;
+      outcome = outcomeBy parts;
+      next = nextBy parts;
+      buffer = bufferBy parts;
+      seen = parts .seen;
     }
+
+-- The controller of the rules. `answerOf` and `bufferOf`, which the contract of `step` cites, are made of the same parts.
+unfoldable pub ruled : Controller KeptState
+ruled = controllerOf ruledParts
 
 -- ── The list of calls ──
 
@@ -190,8 +192,8 @@ someStep event (step ∷ later) = event step || someStep event later
 unfoldable pub comesWithin : ℕ → (Taken → Bool) → Taken → List Taken → Bool
 comesWithin n event step later = someStep event (step ∷ take n later)
 
--- If a step registers a locked demand, minimum green of the phase begins in this step or in one of the next `wait` steps; if it registers a
--- button demand, the walk of the movement does. This is said if the list has that many more steps.
+-- If a step registers a locked demand, minimum green of the phase begins in this step or in one of the next `wait` steps; if it registers
+-- a button demand, the walk of the movement does. This holds if the list has `wait` more steps.
 unfoldable pub DemandsMet : Site → ℕ → List Taken → Type 0
 DemandsMet site wait steps =
     (earlier later : List Taken) (step : Taken) →
@@ -209,7 +211,7 @@ NoDeadEnd site calls =
     (earlier later : List Taken) (call : Taken) →
     calls ≡ earlier ++ call ∷ later →
     call .outcome
-    ≡ boundFor (refuseIf (strayInput site (call .inputs)) 15 0 orElse refuseIf (ltb (call .room) (site .size .groups)) 14 0) site
+    ≡ boundFor (refuseIf (strayInput site (call .inputs)) 15 0 orElse refuseIf (ltb (call .room) (site .size .groups)) 14 0) (waitBound site)
 
 -- ── The demand ──
 

@@ -4,35 +4,34 @@ use Prim.Native.Nat.{ℕ, _<_}
 use mathlib.Core.Bool.{true, false}
 use mathlib.Core.List.{List}
 use mathlib.Core.Path.{_≡_}
-use lib.ListN.{length}
 use Rattle.rules.specs.declared.answer.Verdict.{Verdict}
 use Rattle.rules.specs.declared.site.Site.{Site}
 use Rattle.rules.specs.declared.state.KeptState.{KeptState}
 use Rattle.rules.specs.declared.state.State.{State}
-use Rattle.rules.specs.Verdicts.{_orElse_}
 use Rattle.rules.specs.Personality.{verdictOf}
 use Rattle.rules.specs.Site.{siteOf}
 use Rattle.rules.specs.State.{fresh, valid}
 use Rattle.rules.specs.Demands.{stands}
 use Rattle.rules.specs.Step.{stepped}
 use Rattle.rules.specs.Kept.{isKept, keptValid, keptStepped, freshKept}
-use Rattle.rules.specs.Call.{strayInput, stepVerdict, boundFor, handedBack, bufferFor}
-use Rattle.rules.specs.DemandThree.{Controller, Call, ruled, takenFrom}
+use Rattle.rules.specs.WaitBound.{waitBound}
+use Rattle.rules.specs.Call.{strayInput, Parts, checksBy}
+use Rattle.rules.specs.DemandThree.{Controller, controllerOf, Call, ruled, takenFrom}
 use Rattle.rules.specs.Laws.{Sound}
 
-unfoldable pub scanVerdict : List ℕ → State → ℕ → ℕ → Verdict
-scanVerdict b s inputs room = verdictOf b orElse stepVerdict (siteOf b) (valid (siteOf b) s) inputs room
+-- the parts of a controller whose state has no kept set, by its verdict, its step and its wait
+abbrev pub withoutKept : (List ℕ → Verdict) → (Site → State → ℕ → State) → (Site → ℕ) → Parts State
+withoutKept verdict step wait =
+    record { verdict = verdict; fresh = fresh; valid = valid; step = step; wait = wait; seen = λ s. s }
+
+abbrev pub scanningParts : Parts State
+scanningParts = withoutKept verdictOf stepped waitBound
+
+abbrev pub scanVerdict : List ℕ → State → ℕ → ℕ → Verdict
+scanVerdict = checksBy scanningParts
 
 unfoldable pub scanning : Controller State
-scanning =
-    record {
-      verdict = verdictOf;
-      fresh = fresh;
-      outcome = λ b s inputs room. boundFor (scanVerdict b s inputs room) (siteOf b);
-      next = λ b s inputs room. handedBack (scanVerdict b s inputs room) (stepped (siteOf b) s inputs) s;
-      buffer = λ b s inputs buffer. bufferFor (scanVerdict b s inputs (length buffer)) (siteOf b) (stepped (siteOf b) s inputs) buffer;
-      seen = λ s. s;
-    }
+scanning = controllerOf scanningParts
 
 -- ── The kept set is the scan, and a step keeps it so ──
 

@@ -1,7 +1,15 @@
 -- One step: the five parts in order. The phase that is demanded next is an argument.
 use Prim.Native.Nat.{ℕ}
+use mathlib.Core.Bool.{Bool}
+use mathlib.Core.List.{List}
+use Rattle.rules.specs.declared.site.PhaseTimes.{PhaseTimes}
 use Rattle.rules.specs.declared.site.Site.{Site}
+use Rattle.rules.specs.declared.site.Times.{Times}
+use Rattle.rules.specs.declared.state.Counts.{Counts}
 use Rattle.rules.specs.declared.state.Held.{Held}
+use Rattle.rules.specs.declared.state.Interval.{Interval}
+use Rattle.rules.specs.declared.state.Movement.{Movement}
+use Rattle.rules.specs.declared.state.Position.{Position}
 use Rattle.rules.specs.declared.state.State.{State}
 use Rattle.rules.specs.Site.{phaseTimes}
 use Rattle.rules.specs.IntervalTable.{isHeld}
@@ -11,8 +19,13 @@ use Rattle.rules.specs.Counts.{countsAfter}
 use Rattle.rules.specs.Interval.{ends, positionAfter, countsChanged, locksLeft, starts}
 use Rattle.rules.specs.Walks.{begins, walksBegun, buttonsLeft}
 
-unfoldable pub steppedTo : Held → Site → State → ℕ → State
-steppedTo next site s inputs =
+-- The two rules of part 4 are arguments: when an interval ends, and the position after it. So a step with a wrong rule in the place of one of
+-- them has this definition too.
+unfoldable pub steppedBy :
+    (Interval → ℕ → PhaseTimes → ℕ → Bool → List Movement → Counts → Bool) →
+    (Bool → Times → Held → Position → Position) →
+    Held → Site → State → ℕ → State
+steppedBy ends positionAfter next site s inputs =
     let old = s .position in
     let times = phaseTimes (site .times) (old .phase) in
     -- 1. demands
@@ -34,6 +47,10 @@ steppedTo next site s inputs =
       demands = record { locks = locksLeft ended now (demands .locks); buttons = buttonsLeft begun (demands .buttons) };
       movements = walksBegun begun movements;
     }
+
+-- the step of the rules
+unfoldable pub steppedTo : Held → Site → State → ℕ → State
+steppedTo = steppedBy ends positionAfter
 
 -- the phase demanded next is found by a scan of the locks and the demanded movements
 unfoldable pub stepped : Site → State → ℕ → State

@@ -27,7 +27,7 @@ use Rattle.rules.specs.Movements.{walkMayEnd, movementsAfter}
 use Rattle.rules.specs.Counts.{countsAfter}
 use Rattle.rules.specs.Interval.{ends, positionAfter, countsChanged, clearsLock, locksLeft, starts}
 use Rattle.rules.specs.Walks.{begins, buttonsLeft}
-use Rattle.rules.specs.Step.{steppedTo}
+use Rattle.rules.specs.Step.{steppedBy, steppedTo}
 use Rattle.rules.specs.Kept.{keptValid, keptAfter, nextKept, gone, cleared, keptLeft, keptStepped}
 use Rattle.rules.specs.Laws.{Sound}
 use Rattle.laws.proofs.Folds.{any-none}
@@ -157,7 +157,7 @@ module _ (site : Site) (sound : Sound site) (s : KeptState) (inputs : ℕ) (v : 
       let core = steppedTo next site (s .core) inputs in
       (keptAfter site s inputs p && (not (eqb p (core .position .phase)) || stands site (core .demands) p))
       ≡ keptLeft site (demandsAfter site (s .core) inputs) (core .demands) (keptAfter site s inputs) p
-  unfolding steppedTo
+  unfolding steppedTo steppedBy
   set-left p l =
       only-own site sound (demandsAfter site (s .core) inputs) _ _ _ (begins-own (site .crossings) _ _ _ _ _) (keptAfter site s inputs) p l
       (kept-after site sound s inputs v p l)
@@ -185,7 +185,7 @@ module _ (site : Site) (sound : Sound site) (s : KeptState) (inputs : ℕ) (v : 
         kept = kept;
       })
       (keptStepped site s inputs)
-  unfolding keptStepped steppedTo begunBy
+  unfolding keptStepped steppedTo steppedBy begunBy
   whole-told {asked = asked} e1 e2 e3 e4 e5 e6 e7 e8 e9 e10 e11 e12 e13 =
       let after = steppedTo next site (s .core) inputs in
       rw (e13, e12, e11, e10, e9, e8, e7, e6, e5, e4, e3, e2 .next, e2 .extended, e2 .demands, e1)

@@ -14,14 +14,14 @@ use Rattle.rules.specs.declared.answer.Outcome.the-variants.{Stepped, StepRefus
 use Rattle.rules.specs.declared.answer.Report.{Report}
 use Rattle.rules.specs.declared.answer.Verdict.{Verdict}
 use Rattle.rules.specs.declared.answer.Verdict.the-variants.{Accepted, Refused}
-use Rattle.rules.specs.declared.site.Site.{Site}
 use Rattle.rules.specs.declared.state.KeptState.{KeptState}
 use Rattle.laws.specs.Bytes.{twoAt}
 use Rattle.rules.specs.Verdicts.{_orElse_, reportOf, stepReportOf, waitOf}
 use Rattle.rules.specs.Personality.{bodyAt, bodyLength, verdictOf}
 use Rattle.rules.specs.Site.{siteOf}
 use Rattle.rules.specs.Lookup.{lookupVerdict, lookupReport, headOf}
-use Rattle.rules.specs.Call.{callVerdict, boundFor, handedBack, bufferFor, boundOf, answerOf, bufferOf}
+use Rattle.rules.specs.WaitBound.{waitBound}
+use Rattle.rules.specs.Call.{boundFor, handedBack, bufferFor, checksBy, callVerdict, boundOf, answerOf, bufferOf}
 use Rattle.state_bytes.specs.Layout.{stateBytes, isState, decoded, encodedOver}
 use Rattle.state_bytes.proofs.KnownBytes.{state-told}
 use Rattle.willowera.specs.Board.{packed, packedVerdict, packedOutcome, stepAnswer, stateFor, stateAfter, coloursAfter, sectionFor, sectionAnswer}
@@ -61,14 +61,14 @@ stepped-not-declined h = let z : _≡_ {A = ℕ} 0 1 = cc in omega arith
 same-refusal : {m q n p : ℕ} → StepRefused m q ≡ StepRefused n p → Refused m q ≡ Refused n p
 same-refusal {m} {q} {n} {p} h = let x : m ≡ n = cc in let y : q ≡ p = cc in rw (x, y)
 
-bound-declined : (v : Verdict) (site : Site) {n p : ℕ} → boundFor v site ≡ StepRefused n p → v ≡ Refused n p
+bound-declined : (v : Verdict) (wait : ℕ) {n p : ℕ} → boundFor v wait ≡ StepRefused n p → v ≡ Refused n p
 unfolding boundFor
-bound-declined Accepted site h = absurd (stepped-not-declined h)
-bound-declined (Refused m q) site h = same-refusal h
+bound-declined Accepted wait h = absurd (stepped-not-declined h)
+bound-declined (Refused m q) wait h = same-refusal h
 
 pub bound-near : (b : List ℕ) (o : Outcome) {number place : ℕ} → o ≡ boundOf b → o ≡ StepRefused number place → place ≤ lastPlace
 unfolding boundOf
-bound-near b o {number} {place} e f = personality-named b number place (bound-declined (verdictOf b) (siteOf b) (sym e ∙ f)) .1
+bound-near b o {number} {place} e f = personality-named b number place (bound-declined (verdictOf b) (waitBound (siteOf b)) (sym e ∙ f)) .1
 
 -- what a step call answers, with the buffer as it returns
 abbrev pub Called : List ℕ → KeptState → ℕ → List ℕ → Answer → List ℕ → Type 0
@@ -82,7 +82,7 @@ pub answer-near :
 unfolding answerOf
 answer-near b s inputs buffer a out {number} {place} called f =
     call-named b s inputs (length buffer) number place
-    (bound-declined (callVerdict b s inputs (length buffer)) (siteOf b) (sym (ap (λ (x : Answer). x .outcome) (called .0)) ∙ f)) .1
+    (bound-declined (callVerdict b s inputs (length buffer)) (waitBound (siteOf b)) (sym (ap (λ (x : Answer). x .outcome) (called .0)) ∙ f)) .1
 
 -- ── A step over bytes ──
 
@@ -103,7 +103,7 @@ module _ (b old buffer : List ℕ) (inputs r : ℕ) where
       verdictOf b ≡ Refused number place →
       r ≡ packed number place →
       Steps b old inputs buffer r old buffer
-  unfolding stepAnswer stateAfter coloursAfter answerOf bufferOf callVerdict _orElse_ boundFor handedBack bufferFor packedVerdict packedOutcome reportOf stepReportOf waitOf stateFor
+  unfolding stepAnswer stateAfter coloursAfter answerOf bufferOf checksBy _orElse_ boundFor handedBack bufferFor packedVerdict packedOutcome reportOf stepReportOf waitOf stateFor
   refused-by true {place = place} k e p = (rw (k, e, p, add-zero place), rw (k, e), rw (k, e))
   refused-by false k e p = (rw (k, e, p), rw k, rw k)
 
