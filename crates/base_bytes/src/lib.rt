@@ -1,4 +1,4 @@
-// Little-endian numbers and bits, read from a slice. A byte past the end reads as 0, so no place is out of reach.
+// Little-endian numbers and bits, read from a slice. A byte past the end reads as 0, so every index is allowed.
 ghost use Prim.Native.Nat.{_+_, _*_, _<_, _≤_};
 ghost use mathlib.Core.Path.{_≡_};
 ghost use Rattle.laws.specs.Bytes.{byteAt, twoAt, fourAt, eightAt, bit};
@@ -35,7 +35,7 @@ fn halves(low: u32, high: u32) -> u64
     (low as u64) + 4294967296 * (high as u64)
 }
 
-// The number in the two bytes from i on.
+// The number in the two bytes at i and i + 1.
 pub fn two_at(s: &[u8], i: usize) -> u16
     ensures { λ r. ⌜ r ≡ twoAt (now (s .entry)) i ⌝ }
 {
@@ -46,7 +46,7 @@ pub fn two_at(s: &[u8], i: usize) -> u16
     }
 }
 
-// The number in the four bytes from i on.
+// The number in the four bytes at i to i + 3.
 pub fn four_at(s: &[u8], i: usize) -> u32
     ensures { λ r. ⌜ r ≡ fourAt (now (s .entry)) i ⌝ }
 {
@@ -68,7 +68,7 @@ pub fn eight_at(s: &[u8], i: usize) -> u64
     }
 }
 
-// The same where all the bytes are known to be in the slice, without a test.
+// The same without a test: the caller ensures that all the bytes are in the slice.
 
 pub fn byte_in(s: &[u8], i: usize) -> u8
     requires { ⌜ i < length (now s) ⌝ }

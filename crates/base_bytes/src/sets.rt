@@ -1,4 +1,4 @@
-// Sets of phases or movements in one byte; bit 0 is phase A, or the first movement.
+// Sets of phases or movements in one byte. Bit 0 is phase A, or the first movement.
 ghost use Prim.Native.Nat.{_<_, _≤_};
 ghost use mathlib.Core.Bool.{not, _&&_, _||_};
 ghost use mathlib.Core.Path.{_≡_};
@@ -29,7 +29,7 @@ pub fn except(set: u8, other: u8) -> u8
     set & (255 - other)
 }
 
-// Every member is below the count.
+// Whether every member is below the count.
 pub fn all_below(set: u8, count: u8) -> bool
     requires { ⌜ count ≤ 8 ⌝ }
     ensures { λ r. ⌜ r ≡ allOf (λ i. not (bit i set) || ltb i count) 8 ⌝ }

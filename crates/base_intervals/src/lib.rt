@@ -1,4 +1,4 @@
-// The intervals and the stages, a row for each, the tests of them, and what is asked of a phase that may be held.
+// A table row for each interval and each stage, tests that read the row, and tests of a phase-or-none value.
 ghost use Prim.Native.Nat.{_<_};
 ghost use mathlib.Core.Path.{_≡_};
 ghost use lib.Dec.{ltb};
@@ -98,14 +98,14 @@ pub fn interval_row(interval: Interval) -> IntervalRow
     }
 }
 
-// A code stands for an interval.
+// Whether the code is one of an interval.
 pub fn interval_known(code: u8) -> bool
     ensures { λ r. ⌜ r ≡ ltb code (length intervals) ⌝ }
 {
     code < 7
 }
 
-// The interval of a code.
+// The interval with this code.
 pub fn interval_of(code: u8) -> Interval
     requires { ⌜ code < length intervals ⌝ }
     ensures { λ r. ⌜ r ≡ getD intervals code StartRed ⌝ }
@@ -200,14 +200,14 @@ pub fn stage_row(stage: Stage) -> StageRow
     }
 }
 
-// A code stands for a stage.
+// Whether the code is one of a stage.
 pub fn stage_known(code: u8) -> bool
     ensures { λ r. ⌜ r ≡ ltb code (length stages) ⌝ }
 {
     code < 4
 }
 
-// The stage of a code. The remainder is the code itself, and has no value but four.
+// The stage with this code. The code is below 4, so code % 4 is the code, and the match needs only four cases.
 pub fn stage_of(code: u8) -> Stage
     requires { ⌜ code < length stages ⌝ }
     ensures { λ r. ⌜ r ≡ getD stages code Idle ⌝ }
@@ -233,7 +233,7 @@ pub fn is_walk(stage: Stage) -> bool
     stage_row(stage).walk
 }
 
-// Walk or C1.
+// Walk or first clearance.
 pub fn is_walk_or_first(stage: Stage) -> bool
     ensures { λ r. ⌜ r ≡ isWalkOrFirst stage ⌝ }
 {
@@ -246,7 +246,7 @@ pub fn is_second(stage: Stage) -> bool
     stage_row(stage).second
 }
 
-// ---- A phase that may be held ----
+// ---- A phase or none ----
 
 pub fn is_held(h: Held) -> bool
     ensures { λ r. ⌜ r ≡ isHeld h ⌝ }
@@ -257,7 +257,7 @@ pub fn is_held(h: Held) -> bool
     }
 }
 
-// The phase held, or A.
+// The phase; 0 (A) if there is none.
 pub fn phase_held(h: Held) -> u8
     ensures { λ r. ⌜ r ≡ phaseHeld h ⌝ }
 {

@@ -1,4 +1,4 @@
-// The fresh state, from which a caller begins.
+// The fresh state, with which a caller starts.
 ghost use mathlib.Core.Path.{_≡_};
 ghost use Rattle.rules.specs.Kept.{freshKept};
 use rules::state::Counts;
@@ -11,7 +11,7 @@ use rules::state::Position;
 use rules::state::Stage;
 use rules::state::State;
 
-// Phase A in start red, age 1, came-from none, counts 0, no demands, movements idle; no phase is kept.
+// Start red of phase A at age 1. There is no came-from and no target. All counts are 0, all sets empty, all movements idle at age 1.
 pub fn fresh() -> KeptState
     ensures { λ r. ⌜ r ≡ freshKept ⌝ }
 {

@@ -1,4 +1,4 @@
-// Unit two as a caller sees it: the step call.
+// Unit two for callers: the step call.
 ghost use lib.ListN.{length};
 ghost use mathlib.Core.Path.{_≡_};
 ghost use Rattle.rules.specs.declared.answer.Outcome.the-variants.{StepRefused};
@@ -22,8 +22,8 @@ fn step_refused(number: u8, place: usize, state: KeptState) -> Answer
     }
 }
 
-// A step call on an accepted personality whose layout is at hand: 13, then 15, then 14, then the step. The site is made here and not handed
-// in, since what goes in by value is copied.
+// A step call on an accepted personality with its layout: 13, then 15, then 14, then the step. The site is made here and not passed in,
+// because an argument by value is copied.
 pub fn step_accepted(
     personality: &[u8],
     layout: Layout,
@@ -59,7 +59,7 @@ pub fn step_accepted(
     }
 }
 
-// A step call: the personality is read and checked first, then the step.
+// A step call: checks the personality, then makes the step.
 pub fn step(personality: &[u8], state: KeptState, inputs: u64, colours: &mut [u8]) -> Answer
     ensures { λ r. ⌜ (r ≡ answerOf (now (personality .entry)) state inputs (length (now (colours .entry))))
         × (now (colours .exit) ≡ bufferOf (now (personality .entry)) state inputs (now (colours .entry))) ⌝ }

@@ -1,4 +1,4 @@
-// Unit three as a caller sees it: the wait bound of a personality.
+// Unit three for callers: the wait bound of a personality.
 ghost use mathlib.Core.Path.{_≡_};
 ghost use Rattle.rules.specs.Call.{boundOf};
 use rules::answer::Outcome;

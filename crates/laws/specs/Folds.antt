@@ -33,7 +33,7 @@ sumOf f (suc n) = sumOf f n + f n
 unfoldable pub setOf : (ℕ → Bool) → ℕ
 setOf f = sumOf (λ i. if f i then 2 ^ i else 0) 8
 
--- the greatest of f 0 .. f (n - 1), or 0 where there is none
+-- the greatest of f 0 .. f (n - 1), or 0 if n is 0
 unfoldable pub greatestOf : (ℕ → ℕ) → ℕ → ℕ
 greatestOf f zero = 0
 greatestOf f (suc n) = max (greatestOf f n) (f n)

@@ -1,2 +1,2 @@
-// Vocabulary and laws that know nothing of traffic: folds over the indices below a number, bytes and bits, sets in one byte. This crate has no
+// General definitions and laws, without traffic: folds over the numbers 0 to n - 1, bytes and bits, sets in one byte. This crate has no
 // function.

@@ -1,4 +1,4 @@
-// 21: a phase that nobody can call.
+// Number 21: a phase that nobody can call.
 ghost use mathlib.Core.Bool.{not};
 ghost use mathlib.Core.Path.{_≡_};
 ghost use Rattle.rules.specs.declared.answer.Verdict.the-variants.{Accepted};
@@ -8,8 +8,8 @@ ghost use Rattle.read_layout.specs.LayoutOf.{LayoutOf};
 use read_layout::Layout;
 use read_sections::records::pair_at;
 
-// Whether each phase has a caller: a pedestrian group, as the set of their phases says, or a detector whose mode calls, with lock or without.
-// The pass over the detectors ends where every phase has one. Kinds 1 and 5 have been accepted, so every record is in the slice.
+// Whether each phase has a caller: a pedestrian group (`crossed` is the set of their phases), or a detector with a calling mode. The loop
+// ends as soon as every phase has a caller. Kinds 1 and 5 are accepted before, so every record is in the slice.
 pub fn each_called(s: &[u8], layout: Layout, crossed: u8) -> bool
     requires { ⌜ LayoutOf (now s) layout × (siteSection (now s) ≡ Accepted) × (detectorsSection (now s) ≡ Accepted)
         × CrossedPhases (now s) crossed (groupCount (now s)) ⌝ }

@@ -9,7 +9,7 @@ use Rattle.rules.specs.Personality.{recordAt, groupCount, conflictsHead, confli
 use Rattle.laws.specs.Folds.{if_then_else_, anyOf}
 use Rattle.rules.specs.Verdicts.{refuseIf, firstOf}
 
--- a conflict of group g with group j: with 9 where the set of j lacks g, with 10 where the two share a phase
+-- a conflict of group g with group j is refused: with 9 if the set of j lacks g, with 10 if the two share a phase
 unfoldable pub refusedPair : List ℕ → ℕ → ℕ → ℕ → Bool
 refusedPair b number g j = if eqb number 9 then not (bit g (conflictSet b j)) else sharePhase b g j
 

@@ -1,5 +1,5 @@
-// Kind 4: which groups conflict. All of number 9 is checked before any of number 10, record by record, unless a quick test finds both in
-// order.
+// Kind 4: which groups conflict. A quick test comes first. If it fails, number 9 is checked record by record, then number 10 record by
+// record.
 ghost use mathlib.Core.Path.{_≡_};
 ghost use Rattle.rules.specs.declared.answer.Verdict.the-variants.{Accepted};
 ghost use Rattle.rules.specs.Personality.{siteSection, groupsSection, conflictsSection};
@@ -12,7 +12,7 @@ use rules::answer::Verdict;
 
 mod records;
 
-// Kinds 1 and 3 have been accepted before it.
+// The checks of kind 4. Kinds 1 and 3 are accepted before.
 pub fn conflicts_section(s: &[u8], layout: Layout) -> Verdict
     requires { ⌜ LayoutOf (now s) layout × (siteSection (now s) ≡ Accepted) × (groupsSection (now s) ≡ Accepted) ⌝ }
     ensures { λ r. ⌜ r ≡ conflictsSection (now (s .entry)) ⌝ }

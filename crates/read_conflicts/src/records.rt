@@ -21,7 +21,7 @@ fn conflict_set(s: &[u8], layout: Layout, g: usize) -> u32
     four_at(s, layout.conflicts + 4 + g * 4)
 }
 
-// Whether a conflict of group g with group j is refused: with 9 where the set of j lacks g, with 10 where the two share a phase.
+// Whether a conflict of group g with group j is refused: with 9 if the set of j lacks g, with 10 if the two share a phase.
 fn refused_pair(s: &[u8], layout: Layout, number: u8, g: usize, j: usize) -> bool
     requires { ⌜ LayoutOf (now s) layout × (groupsSection (now s) ≡ Accepted) × (g ≤ 255) × (j < layout .groupcount) ⌝ }
     ensures { λ r. ⌜ r ≡ refusedPair (now (s .entry)) number g j ⌝ }
@@ -32,7 +32,7 @@ fn refused_pair(s: &[u8], layout: Layout, number: u8, g: usize, j: usize) -> boo
     overlap(group_set(s, layout, g), group_set(s, layout, j))
 }
 
-// Whether group g has such a conflict.
+// Whether group g has a conflict that is refused with the number.
 fn refused_conflict(s: &[u8], layout: Layout, number: u8, g: usize) -> bool
     requires { ⌜ LayoutOf (now s) layout × (groupsSection (now s) ≡ Accepted) × (g ≤ 255) ⌝ }
     ensures { λ r. ⌜ r ≡ refusedConflict (now (s .entry)) number g ⌝ }
@@ -51,7 +51,7 @@ fn refused_conflict(s: &[u8], layout: Layout, number: u8, g: usize) -> bool
     false
 }
 
-// Whether the record of group g is refused with the number; with 9 also where its own bit or a bit at or above N is set.
+// Whether the record of group g is refused with the number; with 9 also if its own bit or a bit at or above N is set.
 fn refused_record(s: &[u8], layout: Layout, number: u8, g: usize) -> bool
     requires { ⌜ LayoutOf (now s) layout × (groupsSection (now s) ≡ Accepted) × (g ≤ 255) ⌝ }
     ensures { λ r. ⌜ r ≡ refusedRecord (now (s .entry)) number g ⌝ }
@@ -64,7 +64,7 @@ fn refused_record(s: &[u8], layout: Layout, number: u8, g: usize) -> bool
     bit32(g, set) | reaches32(layout.groupcount, set) | conflict
 }
 
-// The first record that is refused with the number.
+// Refuses at the first record that has the fault of this number.
 pub fn first_refused(s: &[u8], layout: Layout, number: u8) -> Verdict
     requires { ⌜ LayoutOf (now s) layout × (groupsSection (now s) ≡ Accepted) ⌝ }
     ensures { λ r. ⌜ r ≡ firstRefused (now (s .entry)) number ⌝ }

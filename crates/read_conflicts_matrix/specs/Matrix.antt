@@ -1,5 +1,5 @@
--- Internal: no promise cites this file. The conflicts as a matrix of bits in tiles. Bands are of eight groups: band a has groups 8 a to 8 a + 7. A tile is
--- a number of 64 bits, eight rows of eight, bit c of row r being bit 8 r + c.
+-- Internal: no promise cites this file. The conflicts as a matrix of bits in tiles. Band a has the eight groups 8 a to 8 a + 7. A tile is a
+-- number of 64 bits in eight rows of eight; bit c of row r is bit 8 r + c.
 use Prim.Native.Nat.{ℕ, _+_, _*_, _≤_, _<_}
 use mathlib.Core.List.{List}
 use mathlib.Core.Path.{_≡_}

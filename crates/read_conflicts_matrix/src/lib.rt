@@ -1,5 +1,5 @@
-// The conflicts as a matrix of bits. Eight groups are a band, and the conflicts of one band with another are a tile, a number of 64 bits:
-// eight rows of eight, the first row lowest.
+// The conflicts as a matrix of bits. Eight groups are a band. The conflicts of one band with another are a tile: a number of 64 bits in
+// eight rows of eight bits, the first row lowest.
 ghost use Prim.Native.Nat.{ℕ, _+_, _*_, _<_, _≤_};
 ghost use mathlib.Core.Bool.{true};
 ghost use mathlib.Core.Path.{_≡_};
@@ -27,7 +27,7 @@ fn tile(s: &[u8], at: usize, stride: usize, rows: usize) -> u64
     t
 }
 
-// The tile of band a in a section of `count` records of `width` bytes: byte `k` of each record, a record a row.
+// The tile of band a in a section of `count` records of `width` bytes. Each row is byte `k` of one record.
 fn band_tile(s: &[u8], head: usize, width: usize, count: usize, a: usize, k: usize) -> u64
     requires { ⌜ (head ≤ 4000) × (width ≤ 4) × (count ≤ 32) × (8 * a < count) × (k < width)
         × (bodyAt head + count * width ≤ length (now s)) ⌝ }
@@ -72,8 +72,8 @@ pub fn set_tiles(s: &[u8], layout: Layout) -> [u64; 4]
     tiles
 }
 
-// The bits that the conflicts of two bands may not have: those given, and those of groups that share a phase. The first band's sets have
-// a group a row; the second band's members have a phase a row.
+// The bits that the conflicts of two bands may not have: those of `given`, and those of groups that share a phase. In `sets` each row has
+// the phases of one group of the first band. In `members` each row has the groups of the second band in one phase.
 pub fn barred(given: u64, sets: u64, members: u64, phases: usize) -> u64
     requires { ⌜ phases ≤ 7 ⌝ }
     ensures { λ t. ⌜ ((k : ℕ) → bit k given ≡ true → bit k t ≡ true)

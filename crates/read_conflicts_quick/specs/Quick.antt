@@ -1,4 +1,4 @@
--- Internal: no promise cites this file. What the quick test asks of two tiles, and what it tells of the groups: of two, of two bands, and of all.
+-- Internal: no promise cites this file. What the quick test requires of two tiles, and what follows for two groups, two bands, all groups.
 use Prim.Native.Nat.{ℕ, _+_, _*_, _≤_, _<_}
 use mathlib.Core.Bool.{true, false}
 use mathlib.Core.List.{List}
@@ -23,7 +23,7 @@ pub record Matched (t back given sets members phases : ℕ) : Type 0 where
       bit (8 * p + c) members ≡ true →
       bit (8 * r + c) t ≡ false
 
--- groups g and j conflict with each other or not at all, not where they are one group, and not where they share a phase
+-- the conflict of groups g and j is in both records or in none; in none if they are one group or share a phase
 pub record PairRight (b : List ℕ) (g j : ℕ) : Type 0 where
   pub answered : bit j (conflictSet b g) ≡ bit g (conflictSet b j)
   pub other : g ≡ j → bit j (conflictSet b g) ≡ false

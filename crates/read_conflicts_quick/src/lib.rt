@@ -1,5 +1,5 @@
-// A quick test of numbers 9 and 10 together: where it passes, all records are good. Nothing is owed where it fails, since the records are
-// then searched one by one in the paper's order: a test that failed too often would cost time and change no answer.
+// A quick test of numbers 9 and 10 together. If it passes, all records are good. If it fails, the record-by-record search in the paper's
+// order decides, so a false alarm only costs time.
 ghost use Prim.Native.Nat.{ℕ, _*_, _<_, _≤_, _^_};
 ghost use mathlib.Core.Bool.{true, false, not};
 ghost use mathlib.Core.Path.{_≡_};
@@ -20,8 +20,7 @@ use read_layout::Layout;
 // Bit r of each row r.
 const DIAGONAL: u64 = 0x8040_2010_0804_0201;
 
-// Whether a tile is the mirror image of the one back, and has neither a bit given nor one of groups that share a phase: the first band's
-// sets have a group a row, the second band's members a phase a row.
+// Whether a tile is the mirror image of `back`, the tile of the other direction, and has no bit that `barred` excludes.
 fn matched(t: u64, back: u64, given: u64, sets: u64, members: u64, phases: usize) -> bool
     requires { ⌜ phases ≤ 7 ⌝ }
     ensures { λ r. ⌜ (r ≡ true → Matched t back given sets members phases) ⌝ }
@@ -29,7 +28,7 @@ fn matched(t: u64, back: u64, given: u64, sets: u64, members: u64, phases: usize
     (mirrored(t) == back) & (t & barred(given, sets, members, phases) == 0)
 }
 
-// Whether the groups of band k are sound with each other.
+// Whether the conflicts among the groups of band k are right.
 fn own_block(s: &[u8], layout: Layout, k: usize, sets: u64, members: u64) -> bool
     requires { ⌜ MatrixFits (now s) layout × (8 * k < layout .groupcount) × SetRows (now s) k sets × MemberRows (now s) k members ⌝ }
     ensures { λ r. ⌜ (r ≡ true → BlockRight (now (s .entry)) k k) ⌝ }
@@ -38,7 +37,7 @@ fn own_block(s: &[u8], layout: Layout, k: usize, sets: u64, members: u64) -> boo
     matched(t, t, DIAGONAL, sets, members, layout.phasecount as usize)
 }
 
-// Whether the groups of band a are sound with those of an earlier band k.
+// Whether the conflicts between band a and an earlier band k are right.
 fn block(s: &[u8], layout: Layout, a: usize, k: usize, sets: u64, members: u64) -> bool
     requires { ⌜ MatrixFits (now s) layout × (8 * a < layout .groupcount) × (k < a) × SetRows (now s) a sets × MemberRows (now s) k members ⌝ }
     ensures { λ r. ⌜ (r ≡ true → BlockRight (now (s .entry)) a k) ⌝ }
@@ -48,7 +47,7 @@ fn block(s: &[u8], layout: Layout, a: usize, k: usize, sets: u64, members: u64) 
     matched(t, back, 0, sets, members, layout.phasecount as usize)
 }
 
-// Whether all groups of a site with one band only are sound with each other.
+// Whether all conflicts of a site with only one band are right.
 fn single_band(s: &[u8], layout: Layout) -> bool
     requires { ⌜ MatrixFits (now s) layout × (layout .groupcount ≤ 8) ⌝ }
     ensures { λ r. ⌜ (r ≡ true → AllRight (now (s .entry))) ⌝ }
@@ -65,7 +64,7 @@ fn single_band(s: &[u8], layout: Layout) -> bool
     )
 }
 
-// Whether the groups of band k are sound with all groups from the band on.
+// Whether the conflicts between band k and itself and all later bands are right.
 fn band(s: &[u8], layout: Layout, k: usize, sets: [u64; 4]) -> bool
     requires { ⌜ MatrixFits (now s) layout × (8 * k < layout .groupcount) × SetTiles (now s) sets ⌝ }
     ensures { λ r. ⌜ (r ≡ true → BandRight (now (s .entry)) k) ⌝ }
@@ -86,7 +85,7 @@ fn band(s: &[u8], layout: Layout, k: usize, sets: [u64; 4]) -> bool
     true
 }
 
-// Whether all groups are sound with each other.
+// Whether all conflicts are right.
 fn bands(s: &[u8], layout: Layout) -> bool
     requires { ⌜ MatrixFits (now s) layout ⌝ }
     ensures { λ r. ⌜ (r ≡ true → AllRight (now (s .entry))) ⌝ }
@@ -119,7 +118,7 @@ fn below(s: &[u8], layout: Layout) -> bool
     !reaches32(layout.groupcount, all)
 }
 
-// Whether no record is refused with 9 or with 10. Only `true` tells.
+// If true, no record is refused with 9 or 10. If false, nothing is known.
 pub fn surely_right(s: &[u8], layout: Layout) -> bool
     requires { ⌜ MatrixFits (now s) layout ⌝ }
     ensures { λ r. ⌜ (r ≡ true → (g : ℕ) → g < groupCount (now (s .entry))

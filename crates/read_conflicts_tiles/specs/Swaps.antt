@@ -1,5 +1,5 @@
--- Internal: no promise cites this file. Swaps of bits in pairs, in a number of 64: the lower place of each pair is a bit of `low`, the upper one is
--- `shift` above it.
+-- Internal: no promise cites this file. Swaps of bits in pairs, in a number of 64 bits: the lower place of each pair is a bit of `low`, and
+-- the upper place is `shift` above it.
 use Prim.Native.Nat.{ℕ, _+_, _-_}
 use mathlib.Core.Bool.{Bool, not, _&&_}
 use lib.Dec.{leb, ltb}

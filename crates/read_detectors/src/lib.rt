@@ -14,16 +14,16 @@ use read_sections::records::pair_at;
 use read_sections::section_at;
 use rules::answer::Verdict;
 
-// A phase at or above P, or a mode not 0, 1, 2, 4, 5, 6. Without the bit that 4 is, a known mode is 0, 1 or 2.
+// Whether the phase is at or above P, or the mode is not 0, 1, 2, 4, 5 or 6. With the bit of 4 cleared, a known mode is 0, 1 or 2.
 fn bad_detector(phases: u8, phase: u8, mode: u8) -> bool
     ensures { λ r. ⌜ r ≡ badDetector phases phase mode ⌝ }
 {
     (phases <= phase) | (3 <= mode & 251)
 }
 
-// Whether the four records from d on are seen to be good, all at once. With 0x80 - P added, a phase at or above P reaches 0x80; with 0x7d
-// added, an unknown mode without the bit that 4 is does. Only what is below 0x80 is added to, so no byte carries into the next. Nothing is
-// owed where the test fails, since the records are then taken one by one: one that failed too often would cost time and change no answer.
+// Whether the four records from d on are good, by one test. A phase at or above P reaches 0x80 if 0x80 - P is added. An unknown mode, with
+// the bit of 4 cleared, reaches 0x80 if 0x7d is added. Both sums start below 0x80, so no byte carries into the next. If the test fails, the
+// records are tested one by one, so a false alarm only costs time.
 fn four_good(s: &[u8], layout: Layout, d: usize) -> bool
     requires { ⌜ LayoutOf (now s) layout × (layout .phasecount ≤ 7) × (d ≤ 40000) × (bodyAt (layout .detectors) + (d + 4) * 2 ≤ length (now s)) ⌝ }
     ensures { λ r. ⌜ (r ≡ true →
@@ -36,7 +36,7 @@ fn four_good(s: &[u8], layout: Layout, d: usize) -> bool
     (records & 0x8080808080808080 == 0) & (raised & 0x8080808080808080 == 0)
 }
 
-// How many records, four by four from the first on, are seen to be good.
+// How many of the first records pass the test, four by four.
 fn good_fours(s: &[u8], layout: Layout, count: usize) -> usize
     requires { ⌜ LayoutOf (now s) layout × (layout .phasecount ≤ 7) × (count ≤ 40000) × (bodyAt (layout .detectors) + count * 2 ≤ length (now s)) ⌝ }
     ensures { λ r. ⌜ (r ≤ count) × (firstOf (detectorRecord (now (s .entry))) r ≡ Accepted) ⌝ }
@@ -51,7 +51,7 @@ fn good_fours(s: &[u8], layout: Layout, count: usize) -> usize
     d
 }
 
-// 11: the first bad detector record, where all of them are in the slice.
+// 11: refuses at the first bad detector record. All records are in the slice.
 fn detector_records(s: &[u8], layout: Layout, count: usize) -> Verdict
     requires { ⌜ LayoutOf (now s) layout × (count ≡ detectorCount (now s)) × (layout .phasecount ≤ 7) × (count ≤ 40000)
         × (bodyAt (layout .detectors) + count * 2 ≤ length (now s)) ⌝ }
@@ -72,7 +72,7 @@ fn detector_records(s: &[u8], layout: Layout, count: usize) -> Verdict
     Verdict::Accepted
 }
 
-// The body length, which reaches to the next head, is even and at most that of 48 records. Kind 1 has been accepted before it.
+// The checks of kind 5. The body reaches to the next head; its length must be even and at most 96. Kind 1 is accepted before.
 pub fn detectors_section(s: &[u8], layout: Layout) -> Verdict
     requires { ⌜ LayoutOf (now s) layout × (siteSection (now s) ≡ Accepted) ⌝ }
     ensures { λ r. ⌜ r ≡ detectorsSection (now (s .entry)) ⌝ }

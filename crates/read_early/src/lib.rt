@@ -1,4 +1,4 @@
-// Kind 7, the times of early cut-off green, where it is there; and 17, a group that stops early without it.
+// Kind 7, optional: the times of early cut-off green. Number 17: a group stops early, but kind 7 is missing.
 ghost use mathlib.Core.Path.{_≡_};
 ghost use Rattle.rules.specs.declared.answer.Verdict.the-variants.{Accepted};
 ghost use Rattle.laws.specs.Folds.{anyOf};
@@ -9,7 +9,7 @@ use read_sections::records::pair_at;
 use read_time_records::timed_section;
 use rules::answer::Verdict;
 
-// Kind 7, where it is there: a time of early cut-off green for each phase.
+// The checks of kind 7, if it is present: a time of early cut-off green for each phase.
 pub fn early_section(s: &[u8], layout: Layout) -> Verdict
     requires { ⌜ LayoutOf (now s) layout ⌝ }
     ensures { λ r. ⌜ r ≡ earlySection (now (s .entry)) ⌝ }
@@ -20,7 +20,7 @@ pub fn early_section(s: &[u8], layout: Layout) -> Verdict
     timed_section(s, layout.early, 7, 10, 1, layout.phasecount as usize)
 }
 
-// 17: the first group that stops early, if there is some and kind 7 is not there. Kind 3 has been accepted, so every mark is in the slice.
+// 17: if kind 7 is missing, refuses at the first group that stops early. `some` says if there is one. Kind 3 is accepted before.
 pub fn early_missing(s: &[u8], layout: Layout, some: bool) -> Verdict
     requires { ⌜ LayoutOf (now s) layout × (groupsSection (now s) ≡ Accepted)
         × (some ≡ anyOf (stopsEarly (now s)) (groupCount (now s))) ⌝ }

@@ -1,4 +1,4 @@
--- Internal: no promise cites this file. What the reading of kind 3 tells: its verdict, and of an accepted one what its marks say.
+-- Internal: no promise cites this file. What the reading of kind 3 answers: its verdict and, if it is accepted, what the marks say.
 use Prim.Native.Nat.{ℕ, _^_, _<_}
 use mathlib.Core.List.{List}
 use mathlib.Core.Path.{_≡_}

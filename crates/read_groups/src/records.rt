@@ -11,15 +11,14 @@ use read_sections::records::pair_at;
 use read_sections::sized_section;
 use rules::answer::Verdict;
 
-// The number past the sets of the site's phases, 2 ^ P. A byte has no bit above 7, so 512 stands for every greater one.
+// 2 ^ P: a set has only phases below P if it is below this number. A byte has no bit above 7, so 512 is used for every greater number.
 fn set_bound(phases: u8) -> u32
     ensures { λ r. ⌜ r ≡ min (2 ^ phases) 512 ⌝ }
 {
     if phases < 9 { 1u32 << phases } else { 512 }
 }
 
-// 6: a phase bit at or above P, a mark above 3, or pedestrian without exactly one phase. The bound is that of the phases, worked out once for
-// all records.
+// 6: a phase bit at or above P, a mark above 3, or a pedestrian group without exactly one phase. The bound is computed once for all records.
 fn bad_group(phases: u8, bound: u32, set: u8, mark: u8) -> bool
     requires { ⌜ bound ≡ min (2 ^ phases) 512 ⌝ }
     ensures { λ r. ⌜ r ≡ badGroup phases set mark ⌝ }
@@ -33,8 +32,8 @@ fn bad_group(phases: u8, bound: u32, set: u8, mark: u8) -> bool
     3 < mark
 }
 
-// The verdict on the groups and, where it is acceptance, what later checks go by: how many pedestrian movements the site has, one for each
-// pedestrian group, the phases of these groups as a set, and whether some group stops early.
+// The verdict on the groups and, if they are accepted, what later checks use: the number of pedestrian movements (one for each pedestrian
+// group), the set of the phases of these groups, and whether some group stops early.
 pub struct Groups {
     pub verdict: Verdict,
     pub movements: usize,
@@ -53,8 +52,8 @@ fn refused(verdict: Verdict) -> Groups
     }
 }
 
-// One pass over the records: each is checked for 6 and then for 7, the ninth pedestrian group. The union of the sets tells 8, a phase
-// in no group's set.
+// One pass over the records: each is checked for 6 and then for 7, the ninth pedestrian group. Then the union of all sets shows if a phase
+// is in no group's set, which is 8.
 fn group_records(s: &[u8], layout: Layout) -> Groups
     requires { ⌜ LayoutOf (now s) layout × (bodyAt (layout .groups) + layout .groupcount * 2 ≤ length (now s)) ⌝ }
     ensures { λ r. ⌜ GroupsRead (now (s .entry)) (firstOf (groupRecord (now (s .entry))) (groupCount (now (s .entry)))
@@ -101,6 +100,7 @@ fn group_records(s: &[u8], layout: Layout) -> Groups
     })
 }
 
+// The checks of kind 3.
 pub fn groups_section(s: &[u8], layout: Layout) -> Groups
     requires { ⌜ LayoutOf (now s) layout ⌝ }
     ensures { λ r. ⌜ GroupsRead (now (s .entry)) (groupsSection (now (s .entry))) r ⌝ }

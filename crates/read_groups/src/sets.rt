@@ -1,4 +1,4 @@
-// The phase set of a record of kind 3; and how far up the bits of a set go.
+// The phase set of a group record, and the test for high bits in a set.
 ghost use Prim.Native.Nat.{_^_, _≤_};
 ghost use mathlib.Core.Path.{_≡_};
 ghost use lib.Dec.{leb};

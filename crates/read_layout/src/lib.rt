@@ -1,4 +1,4 @@
-// Where the sections of a personality stand.
+// The places of the sections of a personality.
 ghost use Prim.Native.Nat.{_+_, _≤_};
 ghost use mathlib.Core.Path.{_≡_};
 ghost use Rattle.laws.specs.Folds.{if_then_else_};
@@ -8,8 +8,8 @@ use base_bytes::byte_at;
 use base_bytes::two_at;
 use base_bytes::two_in;
 
-// The counts P and N, and the heads of kinds 3 to 7 and 9. Those of kinds 7 and 9 are where they would stand, and `hasearly` and `hasorder` say whether
-// they are there. The heads of kinds 1 and 2 are at 0 and 8.
+// The counts P and N, and the places of the heads of kinds 3 to 7 and 9. Kinds 7 and 9 are optional: `hasearly` and `hasorder` say if they
+// are present, and `early` and `order` are the places that their heads would have. The heads of kinds 1 and 2 are at 0 and 8.
 pub struct Layout {
     pub phasecount: u8,
     pub groupcount: u8,
@@ -23,7 +23,7 @@ pub struct Layout {
     pub hasorder: bool,
 }
 
-// The body length at a head, all of which need not be there; nearly always it is, and one test tells.
+// The body length in a head that may lie past the end. The common case comes first: both bytes are present.
 fn body_length(s: &[u8], head: usize) -> usize
     requires { ⌜ head ≤ 300000 ⌝ }
     ensures { λ r. ⌜ (r ≡ bodyLength (now (s .entry)) head) × (r ≤ 65535) ⌝ }
@@ -34,7 +34,7 @@ fn body_length(s: &[u8], head: usize) -> usize
     two_at(s, head) as usize
 }
 
-// Whether a whole head of the kind stands there.
+// Whether a whole head of this kind is at the place.
 fn has_head(s: &[u8], head: usize, kind: u16) -> bool
     requires { ⌜ head ≤ 300000 ⌝ }
     ensures { λ r. ⌜ r ≡ hasHead (now (s .entry)) head kind ⌝ }
@@ -45,7 +45,7 @@ fn has_head(s: &[u8], head: usize, kind: u16) -> bool
     false
 }
 
-// The place after a section that may be there: its own head where it is not.
+// The place after an optional section; if the section is not present, the place of its head.
 pub fn past_section(s: &[u8], head: usize, there: bool) -> usize
     requires { ⌜ head ≤ 300000 ⌝ }
     ensures { λ r. ⌜ (r ≡ (if there then pastSection (now (s .entry)) head else head)) × (r ≤ head + 65539) ⌝ }
@@ -56,7 +56,7 @@ pub fn past_section(s: &[u8], head: usize, there: bool) -> usize
     head
 }
 
-// The layout that the counts and the body lengths give, whether or not the sections are there: a byte past the end reads as 0.
+// The layout that follows from the counts and the body lengths. The sections may be missing: a byte past the end reads as 0.
 pub fn layout_of(s: &[u8]) -> Layout
     ensures { λ r. ⌜ LayoutOf (now (s .entry)) r ⌝ }
 {

@@ -1,5 +1,5 @@
-// The section lookup. The answer is the section's own bytes in the caller's buffer, body only; for a refused personality or a kind
-// not held it is empty, and the report beside it gives the number and place.
+// The section lookup. The answer is a part of the caller's own buffer: the body of the section. It is empty if the personality is refused or
+// does not hold the kind. A second function gives the number and place.
 ghost use Prim.Native.Nat.{_≤_};
 ghost use mathlib.Core.Bool.{not};
 ghost use mathlib.Core.Path.{_≡_};
@@ -12,7 +12,7 @@ use read_personality::read_with_layout;
 use rules::answer::Report;
 use rules::answer::Verdict;
 
-// A personality has the kinds 1 to 6, and may have kinds 7 and 9.
+// Whether the personality holds the kind: 1 to 6, and 7 and 9 if they are present.
 fn held_kind(s: &[u8], layout: Layout, kind: u16) -> bool
     requires { ⌜ LayoutOf (now s) layout ⌝ }
     ensures { λ r. ⌜ r ≡ heldKind (now (s .entry)) kind ⌝ }
@@ -20,7 +20,7 @@ fn held_kind(s: &[u8], layout: Layout, kind: u16) -> bool
     ((1 <= kind) & (kind <= 6)) | ((kind == 7) & layout.hasearly) | ((kind == 9) & layout.hasorder)
 }
 
-// The head of the section of a kind, those of kinds 7 and 9 whether or not they are there, and 0 for any other number.
+// The head of the section of a kind. For kinds 7 and 9 it is their place even if they are not present; for any other number it is 0.
 fn head_of(s: &[u8], layout: Layout, kind: u16) -> usize
     requires { ⌜ LayoutOf (now s) layout ⌝ }
     ensures { λ r. ⌜ (r ≡ headOf (now (s .entry)) kind) × (r ≤ 201227) ⌝ }
@@ -93,7 +93,7 @@ pub fn section_of(personality: &[u8], kind: u16) -> &[u8]
     &personality[start..end]
 }
 
-// The number and place beside the lookup, 0 at 0 where the section is found.
+// The number and place of the lookup, 0 at 0 if the section is found.
 pub fn lookup_report(personality: &[u8], kind: u16) -> Report
     ensures { λ r. ⌜ r ≡ lookupReport (now (personality .entry)) kind ⌝ }
 {

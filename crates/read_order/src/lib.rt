@@ -1,4 +1,4 @@
-// Kind 9: the phases in running order.
+// Kind 9, optional: the phases in running order.
 ghost use Prim.Native.Nat.{_+_, _≤_};
 ghost use mathlib.Core.Bool.{not};
 ghost use mathlib.Core.Path.{_≡_};
@@ -11,8 +11,8 @@ use read_layout::Layout;
 use read_sections::sized_section;
 use rules::answer::Verdict;
 
-// Whether each phase stands in the order once. There are as many entries as phases, so it is enough that each is listed; a byte that is no
-// phase lists none.
+// Whether the order has each phase exactly once. There are as many entries as phases, so it is enough that each phase is listed. A byte
+// that is no phase lists nothing.
 fn each_once(s: &[u8], layout: Layout) -> bool
     requires { ⌜ LayoutOf (now s) layout × (phaseCount (now s) ≤ 7) × (bodyAt (layout .order) + layout .phasecount ≤ length (now s)) ⌝ }
     ensures { λ r. ⌜ r ≡ not (phaseNotOnce (now (s .entry))) ⌝ }
@@ -31,7 +31,7 @@ fn each_once(s: &[u8], layout: Layout) -> bool
     listed + 1 == 1u8 << phases
 }
 
-// Kind 9, where it is there: an entry for each phase. 18: not each phase once. Kind 1 has been accepted, so there are at most 7.
+// The checks of kind 9, if it is present. 18: some phase is not listed exactly once. Kind 1 is accepted before, so P is at most 7.
 pub fn order_section(s: &[u8], layout: Layout) -> Verdict
     requires { ⌜ LayoutOf (now s) layout × (siteSection (now s) ≡ Accepted) ⌝ }
     ensures { λ r. ⌜ r ≡ orderSection (now (s .entry)) ⌝ }

@@ -1,5 +1,5 @@
-// What follows kind 6: kinds 7 and 9 where they are there; then 21, a phase without a caller; then 17, a group that stops early without kind 7;
-// then 12, bytes left over.
+// The checks after kind 6, in order: kinds 7 and 9 if they are present; 21, a phase without a caller; 17, a group that stops early without
+// kind 7; 12, bytes left over.
 ghost use mathlib.Core.Path.{_≡_};
 ghost use Rattle.rules.specs.declared.answer.Verdict.the-variants.{Accepted};
 ghost use Rattle.laws.specs.Folds.{anyOf};
@@ -14,7 +14,7 @@ use read_layout::past_section;
 use read_order::order_section;
 use rules::answer::Verdict;
 
-// 12: bytes after the last section, which ends at the place given.
+// 12: bytes from `place` on, where the last section ends.
 fn left_over(s: &[u8], place: usize) -> Verdict
     ensures { λ r. ⌜ r ≡ leftOver (now (s .entry)) place ⌝ }
 {
@@ -24,7 +24,8 @@ fn left_over(s: &[u8], place: usize) -> Verdict
     Verdict::Accepted
 }
 
-// All of them. Kinds 1, 3 and 5 have been accepted, so there are at most 7 phases, and what the groups' marks say is known.
+// All these checks. Kinds 1, 3 and 5 are accepted before. `crossed` has the phases of the pedestrian groups, and `early` says if a group
+// stops early.
 pub fn after_pedestrians(s: &[u8], layout: Layout, crossed: u8, early: bool) -> Verdict
     requires { ⌜ LayoutOf (now s) layout × (siteSection (now s) ≡ Accepted) × (groupsSection (now s) ≡ Accepted)
         × (detectorsSection (now s) ≡ Accepted) × CrossedPhases (now s) crossed (groupCount (now s))

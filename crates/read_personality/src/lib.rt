@@ -1,4 +1,4 @@
-// Unit one: reading a personality. The checks go from top to bottom, section by section, and the first refusal is the answer.
+// Unit one: reads a personality. The sections are checked in their order, and the first check that fails gives the answer.
 ghost use mathlib.Core.Path.{_≡_};
 ghost use Rattle.rules.specs.Personality.{verdictOf};
 ghost use Rattle.read_layout.specs.LayoutOf.{LayoutOf};
@@ -16,7 +16,7 @@ use read_time_sections::phases_section;
 use read_time_sections::site_section;
 use rules::answer::Verdict;
 
-// A verdict, and where the sections are.
+// A verdict and the places of the sections.
 pub struct Reading {
     pub verdict: Verdict,
     pub layout: Layout,
@@ -54,8 +54,8 @@ fn checked(personality: &[u8], layout: Layout) -> Verdict
     after_pedestrians(personality, layout, groups.crossed, groups.early)
 }
 
-// The verdict, with the layout for whoever goes on to the site. It is handed out and not taken in: the checks then hold it in registers, and
-// need not wait for it to be stored.
+// The verdict, and the layout for callers that go on to decode the site. The layout is returned and not taken as an argument: so the checks
+// keep it in registers and do not wait until it is stored.
 pub fn read_with_layout(personality: &[u8]) -> Reading
     ensures { λ r. ⌜ (r .verdict ≡ verdictOf (now (personality .entry))) × LayoutOf (now (personality .entry)) (r .layout) ⌝ }
 {
@@ -64,6 +64,7 @@ pub fn read_with_layout(personality: &[u8]) -> Reading
     Reading { verdict, layout }
 }
 
+// Accepts or refuses a personality.
 pub fn read(personality: &[u8]) -> Verdict
     ensures { λ r. ⌜ r ≡ verdictOf (now (personality .entry)) ⌝ }
 {

@@ -1,4 +1,4 @@
-// What the sections of a personality have in common: the check of a head with its body, and records of two bytes.
+// What all sections of a personality have in common: the check of the head and of the body length, and records of two bytes.
 ghost use Prim.Native.Nat.{_≤_};
 ghost use mathlib.Core.Path.{_≡_};
 ghost use lib.Dec.{eqb};
@@ -9,7 +9,7 @@ pub mod records;
 use base_bytes::two_in;
 use rules::answer::Verdict;
 
-// A section's head, and that its body is there: 1, 2, 3, 1, all at the head.
+// Checks a head, and that the body is present: numbers 1, 2, 3, 1, all at the head. `right` says if the length is right.
 pub fn section_at(s: &[u8], head: usize, kind: u16, right: bool) -> Verdict
     requires { ⌜ head ≤ 300000 ⌝ }
     ensures { λ r. ⌜ r ≡ sectionAt (now (s .entry)) head kind right ⌝ }
@@ -41,7 +41,7 @@ pub fn section_at(s: &[u8], head: usize, kind: u16, right: bool) -> Verdict
     Verdict::Accepted
 }
 
-// The same where the body has to have just so many bytes.
+// The same for a body that must have this number of bytes.
 pub fn sized_section(s: &[u8], head: usize, kind: u16, bytes: usize) -> Verdict
     requires { ⌜ head ≤ 300000 ⌝ }
     ensures { λ r. ⌜ r ≡ sectionAt (now (s .entry)) head kind (eqb (bodyLength (now (s .entry)) head) bytes) ⌝ }

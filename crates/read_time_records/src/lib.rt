@@ -1,4 +1,4 @@
-// Records of two-byte times, each field held to the one table of limits.
+// Records of two-byte times. Each field is checked with the one table of limits.
 ghost use Prim.Native.Nat.{_+_, _*_, _≤_};
 ghost use mathlib.Core.Path.{_≡_};
 ghost use lib.ListN.{length};
@@ -8,7 +8,7 @@ use base_limits::within;
 use read_sections::sized_section;
 use rules::answer::Verdict;
 
-// 5: a time outside its range. It is in the slice, and so are the records below.
+// 5: a time outside its limits. The caller ensures that it is in the slice.
 pub fn time_at(s: &[u8], place: usize, setting: usize) -> Verdict
     requires { ⌜ place + 2 ≤ length (now s) ⌝ }
     ensures { λ r. ⌜ r ≡ timeAt (now (s .entry)) place setting ⌝ }
@@ -19,7 +19,7 @@ pub fn time_at(s: &[u8], place: usize, setting: usize) -> Verdict
     Verdict::Refused { number: 5, place }
 }
 
-// A record of two-byte times, field by field, where the first is that of the setting given.
+// A record of two-byte times, field by field. The first field has the setting number given.
 fn times_at(s: &[u8], place: usize, setting: usize, fields: usize) -> Verdict
     requires { ⌜ (place ≤ 300000) × (setting ≤ 10) × (fields ≤ 10) × (place + fields * 2 ≤ length (now s)) ⌝ }
     ensures { λ r. ⌜ r ≡ timesAt (now (s .entry)) place setting fields ⌝ }
@@ -35,7 +35,7 @@ fn times_at(s: &[u8], place: usize, setting: usize, fields: usize) -> Verdict
     Verdict::Accepted
 }
 
-// A section's records of times, one after the other.
+// All records of times of a section, one after the other.
 fn time_records(s: &[u8], head: usize, setting: usize, fields: usize, count: usize) -> Verdict
     requires { ⌜ (head ≤ 200000) × (setting ≤ 10) × (fields ≤ 10) × (count ≤ 255)
         × (head + 4 + count * (fields * 2) ≤ length (now s)) ⌝ }
@@ -54,7 +54,7 @@ fn time_records(s: &[u8], head: usize, setting: usize, fields: usize, count: usi
     Verdict::Accepted
 }
 
-// A section whose records are of times: its head and its body, and then the records.
+// The checks of a section of times: head and body length, then the records.
 pub fn timed_section(
     s: &[u8],
     head: usize,

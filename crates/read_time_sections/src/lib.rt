@@ -1,4 +1,4 @@
-// Kinds 1, 2 and 6: the site's counts and start red, and the times of phases and of pedestrian movements.
+// Kinds 1, 2 and 6: the counts and start red of the site, the times of the phases, the times of the pedestrian movements.
 ghost use Prim.Native.Nat.{_≤_};
 ghost use mathlib.Core.Path.{_≡_};
 ghost use Rattle.rules.specs.Personality.{movementCount, siteSection, phasesSection, pedestriansSection};
@@ -9,7 +9,7 @@ use read_time_records::time_at;
 use read_time_records::timed_section;
 use rules::answer::Verdict;
 
-// Kind 1. 4: P not 2 to 7 or N not 1 to 32. 5: start red outside its range.
+// Kind 1. 4: P is not 2 to 7, or N is not 1 to 32. 5: start red is outside its limits.
 pub fn site_section(s: &[u8], layout: Layout) -> Verdict
     requires { ⌜ LayoutOf (now s) layout ⌝ }
     ensures { λ r. ⌜ r ≡ siteSection (now (s .entry)) ⌝ }

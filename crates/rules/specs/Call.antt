@@ -1,4 +1,4 @@
--- A step call on bytes, a state, 64 input bits and a colour buffer, each of any content: its answer, and the buffer as it returns.
+-- A step call: from personality bytes, a state, 64 input bits and a colour buffer of any content to the answer and the buffer afterwards.
 use Prim.Native.Nat.{ℕ, _+_}
 use mathlib.Core.Bool.{Bool, not, _&&_, _||_}
 use mathlib.Core.List.{List, _++_}
@@ -26,11 +26,11 @@ use Rattle.rules.specs.WaitBound.{waitBound}
 unfoldable pub wired : Site → ℕ → Bool
 wired site i = ltb i (site .size .detectors) || (leb 48 i && ltb i (48 + site .size .movements))
 
--- any of the 64 input bits is set without a detector or button there
+-- some input bit is set that has no detector and no button
 unfoldable pub strayInput : Site → ℕ → Bool
 strayInput site inputs = anyOf (λ i. bit i inputs && not (wired site i)) 64
 
--- the checks of a step on an accepted site, whose state is valid or not: 13, then 15, then 14, all at 0
+-- the checks of a step call on an accepted site: 13, then 15, then 14, all at 0
 unfoldable pub stepVerdict : Site → Bool → ℕ → ℕ → Verdict
 stepVerdict site isValid inputs room =
     refuseIf (not isValid) 13 0
@@ -47,15 +47,15 @@ unfoldable pub handedBack : {S : Type 0} → Verdict → S → S → S
 handedBack Accepted new old = new
 handedBack (Refused number place) new old = old
 
--- the colours of the new state, and the bytes past N untouched; all of it untouched on a refusal
+-- the first N bytes become the colours of the new state, and the others do not change; after a refusal no byte changes
 unfoldable pub bufferFor : Verdict → Site → State → List ℕ → List ℕ
 bufferFor Accepted site new buffer = coloursOf site new ++ drop (site .size .groups) buffer
 bufferFor (Refused number place) site new buffer = buffer
 
 -- ── The call of a controller, by its parts ──
 
--- What a controller is made of: its verdict on a personality, its fresh state, its test of a valid state, its step, and the wait that an
--- accepted step reports. States may have any form; `seen` is the state of document 01 that one stands for.
+-- The parts of a controller: its verdict on a personality, its fresh state, its test of a valid state, its step, and the wait that an
+-- accepted step reports. Its states may be of any type; `seen` gives the state of document 01 that one represents.
 pub record Parts (S : Type 0) : Type 0 where
   pub verdict : List ℕ → Verdict
   pub fresh : S

@@ -1,6 +1,6 @@
--- Worked cases of one call each, in a list with one statement: each of them holds. Each can be checked by hand beside the papers; all of them
--- compute in less than a second, and each must-fail edit of the rules makes one of them fail. All other worked cases, document 01's starred
--- ones among them, are in the crate proof_cases; two of the starred ones stand here too, since an edit needs them.
+-- Worked cases of one call each, as one list with one statement: every case holds. Each can be checked by hand with the papers. All of them
+-- compute in less than a second, and each must-fail edit of the rules makes one of them fail. All other worked cases are in proof_cases,
+-- also the starred ones of document 01; two of those are repeated here, because an edit needs them.
 use Prim.Native.Nat.{ℕ, _^_}
 use mathlib.Core.Path.{_≡_}
 use mathlib.Core.List.{List, [], _∷_, _++_}
@@ -28,8 +28,8 @@ use Rattle.rules.specs.WaitBound.{waitBound}
 use Rattle.rules.specs.Call.{answerOf}
 use Rattle.rules.specs.Junctions.{junction, putTwo, crossing, threePhases, callingB, overlap, cutOffs, turning, turningBoth, ordered}
 
--- What a case says of a personality: its verdict, its wait bound, the answer to a step call from a state, with room for every group, or the
--- colours in a state.
+-- What a case states about a personality: its verdict, its wait bound, the answer to a step call from a state with a buffer that is long
+-- enough, or the colours in a state.
 pub data CallCase : Type 0 where
   reading : List ℕ → Verdict → CallCase
   waiting : List ℕ → ℕ → CallCase
@@ -83,11 +83,11 @@ declining number old = record { outcome = StepRefused number 0; state = old }
 
 -- ── A being left ──
 
--- for B, whose lock stands
+-- the target is B, which has a lock
 abbrev pub forB : Interval → ℕ → KeptState
 forB interval age = state (at 0 interval age (Phase 1)) (gap 0 max 1) (locks 2 buttons 0) idle 2
 
--- for C, whose lock stands; by now that of B stands too
+-- the target is C, which has a lock; B has one too by now
 abbrev pub forC : Interval → ℕ → KeptState
 forC interval age = state (at 0 interval age (Phase 2)) (gap 0 max 1) (locks 6 buttons 0) idle 6
 
@@ -114,7 +114,7 @@ callCases =
     ∷ reading (turning ++ (1 ∷ [])) (Refused 17 42)
     -- a movement's walk and clearances count twice in its phase's share: 10 + 2 × 50 + 2 × 2 × 40 + 2 × (20 + 50)
     ∷ waiting crossing 410
-    -- early cut-off green is not valid without a section of kind 7; with one it is, even where the time is 0, and goes on to yellow
+    -- early cut-off green is not valid without a section of kind 7; with one it is, even if the time is 0, and yellow follows
     ∷ answering junction (forB EarlyCutOff 1) 0 (declining 13 (forB EarlyCutOff 1))
     ∷ answering (junction ++ cutOffs (0 ∷ 0 ∷ [])) (forB EarlyCutOff 1) 0 (stepping 270 (forB Yellow 1))
     -- part 1: a locking detector of the phase locks in early cut-off green
@@ -126,7 +126,7 @@ callCases =
     -- part 2: a walk that has lasted W goes on while no other phase is demanded
     ∷ answering crossing (state (at 0 Running 40 Nothing) (gap 0 max 0) (locks 0 buttons 0) (moving Walk 10) 0) 0
     (stepping 410 (state (at 0 Running 41 Nothing) (gap 0 max 0) (locks 0 buttons 0) (moving Walk 11) 0))
-    -- and where B is demanded, but the gap count is 0 only after part 3
+    -- also if B is demanded, but the gap count is 0 only after part 3
     ∷ answering crossing (state (at 0 Running 40 Nothing) (gap 1 max 1) (locks 2 buttons 0) (moving Walk 10) 2) 0
     (stepping 410 (state (at 0 Running 41 Nothing) (gap 0 max 2) (locks 2 buttons 0) (moving Walk 11) 2))
     -- part 3: the maximum count goes on rising while the non-locking call of B is away
@@ -135,7 +135,7 @@ callCases =
     -- part 4: running ends, and a time of 0 skips early cut-off green
     ∷ answering (turning ++ cutOffs (0 ∷ 0 ∷ [])) (state (at 0 Running 1 Nothing) (gap 0 max 0) (locks 2 buttons 0) idle 2) 0
     (stepping 270 (forB Yellow 1))
-    -- in the order A, C, B the target after A is C, where both others are demanded
+    -- in the order A, C, B the target after A is C if both others are demanded
     ∷ answering (threePhases ++ ordered (0 ∷ 2 ∷ 1 ∷ [])) (state (at 0 Running 1 Nothing) (gap 0 max 0) (locks 6 buttons 0) idle 6) 0
     (stepping 400 (forC Yellow 1))
     -- the target stays C over the end of early cut-off green, and over that of yellow, though B would be next
@@ -146,7 +146,7 @@ callCases =
     -- all-red stays past R while a movement is in C2
     ∷ answering crossing (state (at 0 AllRed 10 (Phase 1)) (gap 0 max 1) (locks 2 buttons 0) (moving ClearanceTwo 40) 2) 0
     (stepping 410 (state (at 0 AllRed 11 (Phase 1)) (gap 0 max 1) (locks 2 buttons 0) (moving ClearanceTwo 41) 2))
-    -- a group that has the target in its set stays green in yellow, and in early cut-off green where it stops early
+    -- a group that has the target in its set stays green in yellow, and in early cut-off green if it stops early
     ∷ showing overlap (forB Yellow 1) (yellow ∷ red ∷ green ∷ red ∷ [])
     ∷ showing (turningBoth ++ cutOffs (20 ∷ 0 ∷ [])) (forB EarlyCutOff 1) (green ∷ green ∷ red ∷ [])
     -- an arrow is red in yellow once Y steps are over since early cut-off green began: 20 + 11 is past 30

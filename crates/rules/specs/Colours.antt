@@ -43,15 +43,15 @@ flashing = 3
 unfoldable pub sinceCutOff : Interval → PhaseTimes → ℕ → ℕ
 sinceCutOff interval times age = if isEarly interval then age else times .early + age
 
--- Y steps from there are not over: the groups that stop early are still closing
+-- the groups that stop early are still closing: Y steps from the start of early cut-off green are not over
 unfoldable pub closing : Times → Position → Bool
 closing times position =
     let own = phaseTimes times (position .phase) in
     leb (sinceCutOff (position .interval) own (position .age)) (own .yellow)
 
--- A vehicle group of the phase. In late start mark 1 waits in red unless came-from is in its set. In early cut-off green, yellow and
--- all-red the group stays green if its set has the target also; else mark 3 is yellow while it is closing, then red, and the others stay
--- green in early cut-off green and are then yellow, then red.
+-- The colour of a vehicle group that has the phase in its set. In late start a group of mark 1 is red, except if its set has came-from. In
+-- early cut-off green, yellow and all-red a group whose set also has the target stays green. Of the others, those of mark 3 are yellow
+-- while they are closing, then red; the rest are green in early cut-off green, then yellow, then red.
 unfoldable pub vehicleColour : Interval → Bool → Held → Held → Group → ℕ
 vehicleColour StartRed closes previous target group = red
 vehicleColour LateStart closes previous target group =
@@ -70,14 +70,14 @@ movementColour Walk = green
 movementColour ClearanceOne = flashing
 movementColour ClearanceTwo = flashing
 
--- what a vehicle group shows; one that is not of the phase is red
+-- what a vehicle group shows; it is red if the phase is not in its set
 unfoldable pub vehicleShown : Bool → Position → Group → ℕ
 vehicleShown closes position group =
     if bit (position .phase) (group .phases)
     then vehicleColour (position .interval) closes (position .previous) (position .target) group
     else red
 
--- what group g shows, by the position and the movements of a state, and whether groups that stop early are closing
+-- what group g shows, by the position, by the movements, and by whether groups that stop early are closing
 unfoldable pub colourOf : List Group → Bool → Position → List Movement → ℕ → ℕ
 colourOf groups closes position movements g =
     if isPedestrian groups g
@@ -93,13 +93,13 @@ coloursOf site s = listOf (shownIn site s) (site .size .groups)
 
 -- ── The pass of the group list ──
 
--- what the buffer holds once the first g groups are passed, by what each group shows: a byte for each of them, in their order, and every
--- other byte as handed in
+-- the buffer after the first g groups of the pass: one byte for each of them, in their order, with what the group shows; every other byte
+-- is as handed in
 unfoldable pub bufferAt : (ℕ → ℕ) → List ℕ → ℕ → List ℕ
 bufferAt shown handedIn g = listOf shown g ++ drop g handedIn
 
--- A point of the pass, where the first g groups are passed: what the buffer holds, and how many of these groups are pedestrian ones, which is
--- the movement of the next pedestrian group.
+-- A point of the pass, after the first g groups: what the buffer holds, and how many of these groups are pedestrian groups, which is the
+-- movement number of the next pedestrian group.
 pub record PassedTo
     (groups : List Group)
     (shown : ℕ → ℕ)
@@ -111,7 +111,7 @@ pub record PassedTo
   pub bytes : buffer ≡ bufferAt shown handedIn g
   pub counted : pedestrians ≡ movementOf groups g
 
--- One turn of the pass: whatever buffer was handed in, it leads from the point where the first g groups are passed to that of one group more.
+-- One turn of the pass: for every buffer handed in, it leads from the point after g groups to the point after g + 1 groups.
 abbrev pub Turn : List Group → (ℕ → ℕ) → ℕ → List ℕ → ℕ → List ℕ → ℕ → Type 0
 Turn groups shown g buffer pedestrians after more =
     (handedIn : List ℕ) →

@@ -8,11 +8,11 @@ use Rattle.rules.specs.declared.state.Interval.{Interval}
 use Rattle.laws.specs.Folds.{if_then_else_}
 use Rattle.rules.specs.IntervalTable.{isGreen, isRunning}
 
--- an occupied extending detector of the phase sets the gap count to G, else it falls by one, not below 0
+-- in minimum green and running the gap count is G if a detector extends the phase; else it counts down to 0
 unfoldable pub gapAfter : Interval → PhaseTimes → Bool → ℕ → ℕ
 gapAfter interval times extended gap = if isGreen interval then (if extended then times .gap else gap - 1) else gap
 
--- in running only, the maximum count rises by one, up to X, if another phase is demanded or it is already above 0
+-- in running the maximum count starts when another phase is demanded, and then counts every step up to X
 unfoldable pub maximumAfter : Interval → PhaseTimes → Bool → ℕ → ℕ
 maximumAfter interval times another maximum =
     if isRunning interval && (another || ltb 0 maximum) then min (maximum + 1) (times .maximum) else maximum

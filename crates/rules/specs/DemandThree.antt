@@ -1,4 +1,4 @@
--- Demand 3, stated: one claim about the whole list of step calls on one accepted personality, refused calls among them.
+-- Demand 3 as one statement about every list of step calls on an accepted personality. Some of the calls may be refused.
 use Prim.Native.Nat.{ℕ, _+_, _≤_, _<_}
 use mathlib.Core.Bool.{Bool, true, false, not, _&&_, _||_}
 use mathlib.Core.Path.{_≡_}
@@ -24,9 +24,9 @@ use Rattle.rules.specs.Call.{strayInput, boundFor, Parts, outcomeBy, nex
 
 -- ── Controllers ──
 
--- What the demand is said of: a reader of personalities, a fresh state, and a step call on bytes, a state, 64 input bits and a colour
--- buffer, or its length: the outcome, the state handed back, and the buffer as the call returns. States may have any form; `seen` is the
--- state of document 01 that one stands for.
+-- What demand 3 is about: a reader of personalities, a fresh state, and a step call. The call takes bytes, a state, 64 input bits and a
+-- colour buffer or its length; it gives the outcome, the state handed back, and the buffer afterwards. States may be of any type; `seen`
+-- gives the state of document 01 that one represents.
 pub record Controller (S : Type 0) : Type 0 where
   pub verdict : List ℕ → Verdict
   pub fresh : S
@@ -35,7 +35,7 @@ pub record Controller (S : Type 0) : Type 0 where
   pub buffer : List ℕ → S → ℕ → List ℕ → List ℕ
   pub seen : S → State
 
--- the controller that is made of such parts
+-- the controller made of these parts
 abbrev pub controllerOf : {S : Type 0} → Parts S → Controller S
 controllerOf parts =
     record {
@@ -53,7 +53,7 @@ ruled = controllerOf ruledParts
 
 -- ── The list of calls ──
 
--- One call: any 64 input bits, and a colour buffer of any length and content.
+-- One call: its 64 input bits and its colour buffer. Both may be anything.
 pub record Call : Type 0 where
   pub inputs : ℕ
   pub buffer : List ℕ
@@ -79,7 +79,7 @@ takenFrom controller b s (c ∷ calls) =
     record { before = controller .seen s; inputs = c .inputs; room = room; outcome = outcome; after = controller .seen next; shown = shown }
     ∷ takenFrom controller b next calls
 
--- a refused call shows and registers nothing and isn't counted
+-- a refused call is left out: it has no colours, registers no demand and does not count as a step
 unfoldable pub ifStepped : Outcome → Taken → List Taken → List Taken
 ifStepped (Stepped wait) step later = step ∷ later
 ifStepped (StepRefused number place) step later = later
@@ -91,7 +91,7 @@ accepted (call ∷ later) = ifStepped (call .outcome) call (accepted later)
 
 -- ── Colours ──
 
--- what a group shows after a step: its byte in that call's buffer as the call returns
+-- what a group shows after a step: its byte in the buffer when the call returns
 unfoldable pub shows : Taken → ℕ → ℕ
 shows step g = getD (step .shown) g 0
 
@@ -103,13 +103,13 @@ abbrev pub NeverGreen : ℕ → List Taken → Type 0
 NeverGreen g [] = Unit {0}
 NeverGreen g (step ∷ later) = (shows step g ≡ green → ⊥) × NeverGreen g later
 
--- the group shows green after the last of the steps, or has the value given where there is none
+-- whether the group shows green after the last of the steps; the value given if there is no step
 unfoldable pub lastGreen : Bool → ℕ → List Taken → Bool
 lastGreen none g [] = none
 lastGreen none g (step ∷ later) = lastGreen (eqb (shows step g) green) g later
 
--- A group starts a green at a step after which it shows green, if that is the first step or it showed another colour after the
--- step before.
+-- A group starts a green at a step if it shows green after this step, and did not after the step before. In the first step every green is a
+-- start.
 unfoldable pub StartsGreen : ℕ → List Taken → Taken → Type 0
 StartsGreen g earlier step = (shows step g ≡ green) × (lastGreen false g earlier ≡ false)
 
@@ -127,14 +127,14 @@ NoConflictingGreens site steps =
 
 -- ── Part b: no group starts a green before every conflicting group that was green has been cleared ──
 
--- A vehicle group shows first yellow for Y steps in a row, then red for at least R in a row, Y and R being those of the phase in
--- the state after its last green step; nothing else follows.
+-- A vehicle group shows yellow for exactly Y steps, and then only red, for R steps or more. Y and R are those of the phase that the state
+-- has after the last green step.
 unfoldable pub VehicleCleared : Site → ℕ → Taken → List Taken → Type 0
 VehicleCleared site g last since =
     let times = phaseTimes (site .times) (last .after .position .phase) in
     (n : ℕ) × (times .red ≤ n) × (shownBy g since ≡ replicate (times .yellow) yellow ++ replicate n red)
 
--- A pedestrian group shows first flashing red for C1 + C2 steps in a row; only red follows.
+-- A pedestrian group shows flashing red for exactly C1 + C2 steps, and then only red.
 unfoldable pub PedestrianCleared : Site → ℕ → List Taken → Type 0
 PedestrianCleared site g since =
     let times = walkTimes (site .times) (movementOf (site .groups) g) in
@@ -166,13 +166,13 @@ inWalk s k = isWalk (movement s k .stage)
 unfoldable pub inRunning : State → ℕ → Bool
 inRunning s p = eqb (s .position .phase) p && isRunning (s .position .interval)
 
--- A step registers a locked demand of a phase where a locking detector of it is occupied, unless the state handed in has that
--- phase in minimum green or running.
+-- A step registers a locked demand of a phase if one of its locking detectors is occupied. Exception: in the state handed in the phase is
+-- in minimum green or running.
 unfoldable pub registersLocked : Site → Taken → ℕ → Bool
 registersLocked site step p =
     detected locking site (step .inputs) p && not (inMinimumGreen (step .before) p || inRunning (step .before) p)
 
--- A step registers a button demand where the button is pressed, unless the state handed in has its movement in walk.
+-- A step registers a button demand if the button is pressed. Exception: in the state handed in the movement is in walk.
 unfoldable pub registersPressed : Taken → ℕ → Bool
 registersPressed step k = pressed (step .inputs) k && not (inWalk (step .before) k)
 
@@ -192,8 +192,8 @@ someStep event (step ∷ later) = event step || someStep event later
 unfoldable pub comesWithin : ℕ → (Taken → Bool) → Taken → List Taken → Bool
 comesWithin n event step later = someStep event (step ∷ take n later)
 
--- For each locked demand that a step registers its phase's minimum green, and for each button demand its walk, begins in that
--- step or within so many further steps, if the list goes on so long.
+-- If a step registers a locked demand, minimum green of the phase begins in this step or in one of the next `wait` steps; if it registers
+-- a button demand, the walk of the movement does. This holds if the list has `wait` more steps.
 unfoldable pub DemandsMet : Site → ℕ → List Taken → Type 0
 DemandsMet site wait steps =
     (earlier later : List Taken) (step : Taken) →
@@ -204,8 +204,8 @@ DemandsMet site wait steps =
 
 -- ── Part d: no call is refused for the state that the calls before it left ──
 
--- Each call is refused with 15 at 0 where an input bit is set without a detector or button there, else with 14 at 0 where its buffer is
--- shorter than N; any other is accepted, and its answer has the wait bound.
+-- Each call with a stray input is refused with 15 at 0; else each call with a buffer shorter than N is refused with 14 at 0. Every other
+-- call is accepted, and its answer has the wait bound.
 unfoldable pub NoDeadEnd : Site → List Taken → Type 0
 NoDeadEnd site calls =
     (earlier later : List Taken) (call : Taken) →

@@ -26,7 +26,7 @@ occupied inputs d = bit d inputs
 unfoldable pub pressed : ℕ → ℕ → Bool
 pressed inputs k = bit (48 + k) inputs
 
--- ── Modes: 1 calling without lock, 2 calling with lock; plus 4 where it extends ──
+-- ── Modes: 1 calls without lock, 2 calls with lock; plus 4 if it extends ──
 
 unfoldable pub calling : ℕ → Bool
 calling mode = eqb (mode % 4) 1
@@ -51,27 +51,27 @@ detected kind site inputs p = detectedAmong (site .detectors) (site .size .detec
 unfoldable pub inGreen : Position → ℕ → Bool
 inGreen position p = eqb p (position .phase) && isGreen (position .interval)
 
--- an occupied locking detector locks its phase's demand, unless that phase is in minimum green or running
+-- a locked demand of phase p is registered: one of its locking detectors is occupied, and p is not in minimum green or running
 unfoldable pub registersLock : Site → State → ℕ → ℕ → Bool
 registersLock site s inputs p = detected locking site inputs p && not (inGreen (s .position) p)
 
--- a pressed button demands its movement unless that movement is in walk
+-- a button demand of movement k is registered: its button is pressed, and it is not in walk
 unfoldable pub registersButton : List Movement → ℕ → ℕ → Bool
 registersButton movements inputs k = pressed inputs k && not (isWalk (getD movements k idle .stage))
 
--- a non-locking detector demands its phase in this step only, under the same exception
+-- phase p has a call, for this step only: one of its non-locking detectors is occupied, and p is not in minimum green or running
 unfoldable pub calls : Site → State → ℕ → ℕ → Bool
 calls site s inputs p = detected calling site inputs p && not (inGreen (s .position) p)
 
--- the locks that stand after part 1
+-- the stored locks after part 1
 unfoldable pub locksAfter : Site → State → ℕ → ℕ
 locksAfter site s inputs = setOf (λ p. locked s p || registersLock site s inputs p)
 
--- the button demands that stand after part 1
+-- the stored button demands after part 1
 unfoldable pub buttonsAfter : ℕ → List Movement → ℕ → ℕ
 buttonsAfter buttons movements inputs = setOf (λ k. bit k buttons || registersButton movements inputs k)
 
--- the demands that stand after part 1
+-- the stored demands after part 1
 unfoldable pub demandsAfter : Site → State → ℕ → Demands
 demandsAfter site s inputs =
     record { locks = locksAfter site s inputs; buttons = buttonsAfter (s .demands .buttons) (s .movements) inputs }
@@ -103,11 +103,11 @@ unfoldable pub firstIn : (ℕ → Bool) → List ℕ → Held
 firstIn test [] = Nothing
 firstIn test (p ∷ rest) = if test p then Phase p else firstIn test rest
 
--- the first phase of a ring that passes after this one in cyclic order, or nothing where no other phase passes
+-- the first phase after p in the cycle that passes the test, or nothing if no other phase passes
 unfoldable pub nextAfter : List ℕ → ℕ → (ℕ → Bool) → Held
 nextAfter phases p test = firstIn test (after p phases ++ before p phases)
 
--- the first demanded phase after the phase of the state, or nothing where no other phase is demanded
+-- the first demanded phase after the phase of the state, or nothing if no other phase is demanded
 unfoldable pub nextDemanded : Site → State → ℕ → Held
 nextDemanded site s inputs =
     nextAfter (ring (site .order) (site .size .phases)) (s .position .phase) (demanded site s inputs)

@@ -1,4 +1,4 @@
--- Part 4 of a step: the interval, judged by its age, at most one change a step.
+-- Part 4 of a step: the interval. At most one change is made in a step.
 use Prim.Native.Nat.{ℕ}
 use mathlib.Core.Bool.{Bool, not, _&&_, _||_}
 use mathlib.Core.List.{List}
@@ -21,15 +21,14 @@ use Rattle.rules.specs.IntervalTable.{isWalkOrFirst, isSecond, isMinimum
 use Rattle.rules.specs.State.{idle}
 use Rattle.rules.specs.Movements.{older}
 
--- some movement is in such a stage
+-- some movement is in a stage that passes the test
 unfoldable pub someMovement : (Stage → Bool) → List Movement → Bool
 someMovement test movements = anyOf (λ k. test (getD movements k idle .stage)) 8
 
 -- ── When the interval ends ──
 
--- Start red, late start, minimum green, early cut-off green and yellow end once the age is at least the setting. Running ends if another
--- phase is demanded, no movement is in walk or C1, and the gap count is 0 or the maximum count is X. All-red ends when its age is at
--- least R and no movement is in C2.
+-- Running ends if another phase is demanded, the gap is over or the maximum is used up, and no movement is in walk or C1. All-red ends when
+-- its age has reached R, but not while a movement is in C2. Every other interval ends when its age has reached its setting.
 unfoldable pub ends : Interval → ℕ → PhaseTimes → ℕ → Bool → List Movement → Counts → Bool
 ends StartRed start times age another movements counts = leb start age
 ends LateStart start times age another movements counts = leb (times .late) age
@@ -47,7 +46,7 @@ unfoldable pub entering : Interval → Held → Position → Position
 entering interval target position =
     record { phase = position .phase; interval = interval; age = 1; previous = position .previous; target = target }
 
--- a phase starts with late start, or minimum green if L is 0
+-- the position in which phase p starts: late start, or minimum green if its L is 0
 unfoldable pub starting : Times → ℕ → Held → Position
 starting times p previous =
     record {
@@ -58,7 +57,7 @@ starting times p previous =
       target = Nothing;
     }
 
--- running is followed by early cut-off green, or by yellow if its time is 0; the target is the phase that is demanded next at that moment
+-- the position after running: early cut-off green, or yellow if E is 0; the phase that is demanded next in this step becomes the target
 unfoldable pub leaving : Times → Held → Position → Position
 leaving times next position =
     entering (if eqb (phaseTimes times (position .phase) .early) 0 then Yellow else EarlyCutOff) next position
@@ -72,7 +71,7 @@ following EarlyCutOff times next position = entering Yellow (position .target) p
 following Yellow times next position = entering AllRed (position .target) position
 following AllRed times next position = starting times (phaseHeld (position .target)) (Phase (position .phase))
 
--- the same interval, a step older
+-- the same interval, one step older
 unfoldable pub staying : Position → Position
 staying position =
     record {
@@ -89,11 +88,11 @@ positionAfter ended times next position =
 
 -- ── What a change does to the counts and the lock ──
 
--- both counts are 0 when all-red ends: the interval that leaves a phase and comes before a start
+-- both counts are 0 after all-red, the only interval that is leaving and before a start
 unfoldable pub countsLeaving : Interval → Counts → Counts
 countsLeaving interval counts = if isLeaving interval && isBeforeStart interval then record { gap = 0; maximum = 0 } else counts
 
--- entering minimum green sets the gap count to G; entering running sets the maximum count to 0
+-- minimum green begins with a gap count of G, running with a maximum count of 0
 unfoldable pub countsEntering : Interval → PhaseTimes → Counts → Counts
 countsEntering interval times counts =
     record {
@@ -105,7 +104,7 @@ unfoldable pub countsChanged : Bool → Times → Position → Position → Coun
 countsChanged ended times old new counts =
     if ended then countsEntering (new .interval) (phaseTimes times (new .phase)) (countsLeaving (old .interval) counts) else counts
 
--- entering minimum green clears the lock of the phase
+-- the lock of the phase is cleared when its minimum green begins
 unfoldable pub clearsLock : Bool → Position → ℕ → Bool
 clearsLock ended new p = ended && isMinimumGreen (new .interval) && eqb p (new .phase)
 

@@ -1,4 +1,4 @@
--- The intervals and the stages, a row for each, the tests of them that the rules make, and what is asked of a phase that may be held.
+-- A table row for each interval and each stage, the tests of the rules that read the row, and tests of a phase-or-none value.
 use Prim.Native.Nat.{ℕ}
 use mathlib.Core.Bool.{Bool, true, false}
 use mathlib.Core.List.{List, [], _∷_}
@@ -81,18 +81,18 @@ isWalkOrFirst stage = stageRow stage .holding
 unfoldable pub isSecond : Stage → Bool
 isSecond stage = stageRow stage .second
 
--- ── A phase that may be held ──
+-- ── A phase or none ──
 
 unfoldable pub isHeld : Held → Bool
 isHeld Nothing = false
 isHeld (Phase p) = true
 
--- the phase held, or 0
+-- the phase, or 0 if there is none
 unfoldable pub phaseHeld : Held → ℕ
 phaseHeld Nothing = 0
 phaseHeld (Phase p) = p
 
--- the phase held is in the set
+-- there is a phase, and it is in the set
 unfoldable pub heldIn : Held → ℕ → Bool
 heldIn Nothing set = false
 heldIn (Phase p) set = bit p set

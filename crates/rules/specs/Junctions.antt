@@ -1,4 +1,4 @@
--- Personalities that the worked cases are about, written out section by section.
+-- The personalities of the worked cases, section by section.
 use Prim.Native.Nat.{ℕ, _+_, _/_, _%_}
 use mathlib.Core.List.{List, [], _∷_, _++_}
 use lib.ListN.{length, set}
@@ -74,7 +74,7 @@ threePhases =
 unfoldable pub callingB : List ℕ
 callingB = set junction 63 1
 
--- A and B, where B has a late start of 20; group 2 is of both phases, group 3 is of B with late start
+-- A and B; B has a late start of 20. Group 2 is of both phases, group 3 is of B with late start
 unfoldable pub overlap : List ℕ
 overlap =
     sections
@@ -108,7 +108,7 @@ turning =
     (0 ∷ 6 ∷ 1 ∷ 6 ∷ [])
     []
 
--- the same where the arrow is of both phases, and conflicts with no group
+-- the same, but the arrow is of both phases and conflicts with no group
 unfoldable pub turningBoth : List ℕ
 turningBoth =
     sections

@@ -1,5 +1,5 @@
--- Demanded phases kept ready: the set of phases that are demanded by lock or by a demanded movement stands in the state, and every press,
--- lock, walk and clearing holds it true. Non-locking calls count beside it, for their step only.
+-- The kept set: the phases that have a locked demand or a demanded movement, kept in the state and updated in each step. Calls without lock
+-- count beside it, in their step only.
 use Prim.Native.Nat.{ℕ}
 use mathlib.Core.Bool.{Bool, not, _&&_, _||_}
 use mathlib.Core.List.{List}
@@ -30,7 +30,7 @@ unfoldable pub keptValid : Site → KeptState → Bool
 keptValid site s =
     valid site (s .core) && eqb (s .kept) (setOf (stands (site .crossings) (site .size .movements) (s .core .demands)))
 
--- ── Part 1: a lock and a press keep their phase ──
+-- ── Part 1: a registered lock or press adds its phase to the set ──
 
 -- a button is registered, one of count, whose movement is of phase p
 unfoldable pub pressKeeps : List Movement → List ℕ → ℕ → ℕ → ℕ → Bool
@@ -42,15 +42,15 @@ keptAfter site s inputs p =
     || registersLock site (s .core) inputs p
     || pressKeeps (s .core .movements) (site .crossings) (site .size .movements) inputs p
 
--- the first phase after this one that is kept, or called in this step
+-- the first phase after this one that is in the set or has a call
 unfoldable pub nextKept : Site → KeptState → ℕ → Held
 nextKept site s inputs =
     nextAfter (ring (site .order) (site .size .phases)) (s .core .position .phase)
     (λ p. keptAfter site s inputs p || calls site (s .core) inputs p)
 
--- ── Parts 4 and 5: clearing a lock and beginning a walk give the phase up where no other demand of it is left ──
+-- ── Parts 4 and 5: when a lock or a button demand is cleared, the phase leaves the set if no other demand of it is left ──
 
--- the demand stood and stands no more
+-- demand i was stored before and is not any more
 unfoldable pub gone : ℕ → ℕ → ℕ → Bool
 gone old new i = bit i old && not (bit i new)
 

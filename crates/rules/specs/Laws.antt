@@ -1,6 +1,6 @@
--- Laws that show the rules fit together, stated: what a table of limits has to give, what acceptance tells of a site, which refusals
--- there are, how long a personality and how large a wait bound can be, what the buffer holds at each point of the pass over the groups,
--- that every phase can be called, and that steps lead from valid states to valid states. What needs acceptance is stated over the bytes of an
+-- Statements that show that the rules fit together: what a table of limits must provide, what is known of an accepted site, which refusals
+-- there are, how long a personality and how large a wait bound can be, what the buffer holds at each point of the pass over the groups, that
+-- every phase can be called, and that a step from a valid state gives a valid state. What needs acceptance is stated over the bytes of an
 -- accepted personality.
 use Prim.Native.Nat.{ℕ, _+_, _*_, _%_, _^_, _≤_, _<_}
 use mathlib.Core.Bool.{Bool, true, false, _&&_, _||_}
@@ -31,7 +31,7 @@ use Rattle.rules.specs.Call.{strayInput, callVerdict, bufferFor}
 
 -- ── A table of limits ──
 
--- a value that the table admits for the setting
+-- the table allows the value for the setting
 abbrev pub InTable : List Range → ℕ → ℕ → Type 0
 InTable table setting value = (limitOf table setting .low ≤ value) × (value ≤ limitOf table setting .high)
 
@@ -58,7 +58,7 @@ pub record TimesIn (table : List Range) (size : Size) (times : Times) : Type 0 w
 unfoldable pub highest : List Range → ℕ → ℕ
 highest table setting = limitOf table setting .high
 
--- the times of a phase and of a movement where every setting is the highest
+-- the times of a phase and of a movement with every setting at its highest
 unfoldable pub highestPhase : List Range → PhaseTimes
 highestPhase table =
     record {
@@ -96,14 +96,14 @@ mayBeZero setting = eqb setting phaseSettings || eqb setting (phaseSettings + 3)
 unfoldable pub timely : List Range → ℕ → Bool
 timely table setting = leb (highest table setting) highestAge && (mayBeZero setting || leb 1 (limitOf table setting .low))
 
--- What the guarantees and the code need of a table, as a test: each setting is such a one, and the greatest wait is a number of two bytes.
+-- What the theorems and the code need of a table, as a test: each setting is timely, and the greatest wait fits in two bytes.
 unfoldable pub usable : List Range → Bool
 usable table = allOf (timely table) settingCount && leb (greatestWait table) 65535
 
 abbrev pub TableIsUsable : Type 0
 TableIsUsable = usable limits ≡ true
 
--- ── What acceptance tells ──
+-- ── What is known of an accepted site ──
 
 -- all times of a site of that size are in one table, and the table is usable
 pub record SoundTimes (size : Size) (times : Times) : Type 0 where
@@ -115,7 +115,7 @@ pub record SoundTimes (size : Size) (times : Times) : Type 0 where
 abbrev pub OnePhase : Site → ℕ → Type 0
 OnePhase site k = (p : ℕ) × (p < site .size .phases) × (crosses (site .crossings) k p ≡ true) × ((q : ℕ) → crosses (site .crossings) k q ≡ true → q ≡ p)
 
--- a detector calls the phase, with lock or without, or a movement is one of it
+-- a detector calls the phase, with lock or without, or the phase has a movement
 abbrev pub Caller : Site → ℕ → Type 0
 Caller site p =
     ((d : ℕ) × (d < site .size .detectors) × (detectorOf (site .detectors) d .phase ≡ p) × (detectorOf (site .detectors) d .mode % 4 ≡ 0 → ⊥))
@@ -135,7 +135,7 @@ pub record Sound (site : Site) : Type 0 where
   -- 17: without a section of kind 7 no phase has early cut-off green, and no group stops early
   pub noEarlyTime : (p : ℕ) → site .early ≡ false → phaseTimes (site .times) p .early ≡ 0
   pub noEarlyGroup : (g : ℕ) → site .early ≡ false → groupOf (site .groups) g .mark ≡ 3 → ⊥
-  -- 18: each phase stands once in the running order
+  -- 18: each phase is in the running order exactly once
   pub orderOnce : (p : ℕ) → p < site .size .phases → countOf (λ i. eqb (getD (site .order) i 0) p) (site .size .phases) ≡ 1
   -- 6: groups are of phases that exist, and their marks are known
   pub groupPhase : (g p : ℕ) → inPhase (site .groups) g p ≡ true → (g < site .size .groups) × (p < site .size .phases)
@@ -173,7 +173,7 @@ AcceptedIsInTable = (b : List ℕ) → verdictOf b ≡ Accepted → TimesIn limi
 
 -- ── Refusals ──
 
--- the numbers of the personality's checks, and those of a step's
+-- the numbers of the personality's checks, and those of a step call
 abbrev pub readingNumber : ℕ → Bool
 readingNumber number = (leb 1 number && leb number 12) || eqb number 17 || eqb number 18 || eqb number 21
 
@@ -184,8 +184,8 @@ stepNumber number = leb 13 number && leb number 15
 abbrev pub sectionLength : ℕ → ℕ → ℕ
 sectionLength count width = 4 + count * width
 
--- the longest personality: the site, 7 phases, 32 groups, their conflicts, 48 detectors, 8 pedestrian groups, the times of kind 7 and the order
--- of 7 phases
+-- the longest personality: the site, 7 phases, 32 groups, their conflicts, 48 detectors, 8 pedestrian groups, the times of kind 7 and the
+-- order of 7 phases
 abbrev pub greatestLength : ℕ
 greatestLength =
     sectionLength 1 4
@@ -201,11 +201,11 @@ greatestLength =
 unfoldable pub AcceptedIsShort : Type 0
 AcceptedIsShort = (greatestLength ≡ 477) × ((b : List ℕ) → verdictOf b ≡ Accepted → length b ≤ greatestLength)
 
--- a place of the personality: within the bytes or just past their end, and no further on than the longest personality goes
+-- a place of the personality: inside the bytes or just past their end, and not above the length of the longest personality
 abbrev pub PlaceIn : List ℕ → ℕ → Type 0
 PlaceIn b place = (place ≤ length b) × (place ≤ greatestLength)
 
--- a number of the personality's checks, with such a place; or one of a step's, at 0
+-- a number of the personality's checks with a place of the personality, or a number of a step call at 0
 abbrev pub Written : List ℕ → ℕ → ℕ → Type 0
 Written b number place =
     ((readingNumber number ≡ true) × PlaceIn b place) ⊎ ((stepNumber number ≡ true) × (place ≡ 0))
@@ -224,7 +224,7 @@ WaitIsInTable = (greatestWait limits ≡ 37950) × ((b : List ℕ) → verdictOf
 
 -- ── The pass of the group list ──
 
--- once g groups are passed, byte by byte: theirs are what they show, every other one is as handed in, and there are as many as before
+-- after g groups, byte by byte: their bytes are what they show, every other byte is as handed in, and the length is the same
 unfoldable pub PassedBytes : Type 0
 PassedBytes =
     (shown : ℕ → ℕ) (buffer : List ℕ) (g : ℕ) →
@@ -233,7 +233,7 @@ PassedBytes =
     × ((i : ℕ) → g ≤ i → getD (bufferAt shown buffer g) i 0 ≡ getD buffer i 0)
     × (length (bufferAt shown buffer g) ≡ length buffer)
 
--- once all groups are passed, the buffer is as an accepted step hands it back
+-- after all groups the buffer is that of an accepted step
 unfoldable pub PassEndsInColours : Type 0
 PassEndsInColours =
     (site : Site) (s : State) (buffer : List ℕ) →
@@ -241,8 +241,8 @@ PassEndsInColours =
 
 -- ── Every phase can be called ──
 
--- From every valid state there are 64 input bits, none of them stray, that demand any phase other than the one of the state. (The only caller
--- of that one may be a movement in walk.)
+-- From every valid state, for each phase other than the phase of the state, there are 64 input bits, none of them stray, that demand it. (The only
+-- caller of the phase of the state may be a movement in walk.)
 unfoldable pub PhasesCanBeCalled : Type 0
 PhasesCanBeCalled =
     (b : List ℕ) →

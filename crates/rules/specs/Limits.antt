@@ -1,4 +1,4 @@
--- The one table of lowest and highest values, for every time setting. Settings are numbered in the order of the paper's table:
+-- The one table of the lowest and highest values of all time settings. The settings are numbered in this order:
 -- start red; L, M, X, G, Y, R of a phase; W, C1, C2 of a movement; early cut-off green of a phase.
 use Prim.Native.Nat.{ℕ, _+_}
 use mathlib.Core.Bool.{Bool, _&&_}
@@ -22,14 +22,14 @@ limits =
     ∷ record { low = 0; high = 200 }
     ∷ []
 
--- a table's entry for the setting; a setting that it has not admits 0 alone
+-- the table's entry for a setting; a setting outside the table allows only 0
 unfoldable pub limitOf : List Range → ℕ → Range
 limitOf table setting = getD table setting (record { low = 0; high = 0 })
 
 unfoldable pub within : List Range → ℕ → ℕ → Bool
 within table setting value = leb (limitOf table setting .low) value && leb value (limitOf table setting .high)
 
--- the settings' numbers: that of start red, the first of a phase record (L), the first of a pedestrian record (W), and that of early
+-- numbers of settings: start red, the first of a phase record (L), the first of a pedestrian record (W), and early
 -- cut-off green
 abbrev pub startRedSetting : ℕ
 startRedSetting = 0

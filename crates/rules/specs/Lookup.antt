@@ -1,4 +1,4 @@
--- The section lookup: the section's own bytes, body only, and the number and place of the call beside it.
+-- The section lookup: the body of a section as a part of the personality, and the number and place of the report.
 use Prim.Native.Nat.{ℕ, _-_}
 use mathlib.Core.Bool.{Bool, not, _&&_, _||_}
 use mathlib.Core.List.{List, [], _∷_}
@@ -10,7 +10,7 @@ use Rattle.rules.specs.declared.answer.Report.{Report}
 use Rattle.rules.specs.Verdicts.{_orElse_, refuseIf, reportOf}
 use Rattle.rules.specs.Personality.{verdictOf, bodyAt, bodyLength, siteHead, phasesHead, groupsHead, conflictsHead, detectorsHead, pedestriansHead, earlyHead, hasEarly, orderHead, hasOrder}
 
--- kinds 1 to 6, and 7 and 9 where they are there
+-- kinds 1 to 6, and 7 and 9 if they are present
 unfoldable pub heldKind : List ℕ → ℕ → Bool
 heldKind b kind = (leb 1 kind && leb kind 6) || (eqb kind 7 && hasEarly b) || (eqb kind 9 && hasOrder b)
 
@@ -22,7 +22,7 @@ heads b = siteHead ∷ phasesHead ∷ groupsHead b ∷ conflictsHead b ∷ detec
 unfoldable pub headOf : List ℕ → ℕ → ℕ
 headOf b kind = getD (heads b) (kind - 1) 0
 
--- The personality's own refusal, and then 2 at 0 for a kind that is not held.
+-- The refusal of the personality, else 2 at 0 for a kind that is not held.
 unfoldable pub lookupVerdict : List ℕ → ℕ → Verdict
 lookupVerdict b kind = verdictOf b orElse refuseIf (not (heldKind b kind)) 2 0
 

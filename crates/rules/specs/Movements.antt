@@ -1,5 +1,5 @@
--- Part 2 of a step: movements. Walk, C1 and C2 follow each other once the age is at least the setting; after C2 the movement is idle. A walk
--- that has lasted goes on until it may end.
+-- Part 2 of a step: movements. Walk, C1 and C2 follow each other; each ends when its age has reached its setting, and then the movement is
+-- idle. A walk also goes on until it may end.
 use Prim.Native.Nat.{ℕ, _+_, min}
 use mathlib.Core.Bool.{Bool, true, _&&_, _||_}
 use mathlib.Core.List.{List}
@@ -18,17 +18,17 @@ use Rattle.rules.specs.Site.{walkTimes}
 use Rattle.rules.specs.IntervalTable.{isRunning}
 use Rattle.rules.specs.State.{highestAge, idle}
 
--- ages rise by one and stop at 2,000
+-- the next age: one more, but at most 2,000
 unfoldable pub older : ℕ → ℕ
 older age = min (age + 1) highestAge
 
--- Running has another phase demanded, and the gap count is 0 or the maximum count is X: a walk that has lasted may end. The interval and the
--- counts are those before part 3.
+-- A walk of at least W steps may end: the interval is running, another phase is demanded, and the gap count is 0 or the maximum count has
+-- reached X. Interval and counts are those before part 3.
 unfoldable pub walkMayEnd : Interval → PhaseTimes → Bool → Counts → Bool
 walkMayEnd interval times another counts =
     isRunning interval && another && (eqb (counts .gap) 0 || eqb (counts .maximum) (times .maximum))
 
--- a stage that lasts for the setting at least and then until it may end, and what follows it
+-- one step of a stage: it ends if its age is at least the setting and it may end, and `next` follows
 unfoldable pub lasting : Bool → ℕ → Stage → Stage → ℕ → Movement
 lasting mayEnd setting stage next age =
     if mayEnd && leb setting age then record { stage = next; age = 1 } else record { stage = stage; age = older age }

@@ -1,4 +1,4 @@
--- The personality's sections and the order of checks: numbers 1 to 12, 17, 18 and 21, each with its place. Places count from the first byte.
+-- The sections of a personality and their checks in order: numbers 1 to 12, 17, 18 and 21, each with its place. A place is a byte offset.
 use Prim.Native.Nat.{ℕ, _+_, _*_, _/_, _%_, _^_}
 use mathlib.Core.Bool.{Bool, not, _&&_, _||_}
 use mathlib.Core.List.{List, [], _∷_}
@@ -11,7 +11,7 @@ use Rattle.laws.specs.Bytes.{byteAt, twoAt, fourAt, bit}
 use Rattle.rules.specs.Limits.{limits, within, startRedSetting, phaseSettings, walkSettings, earlySetting}
 use Rattle.rules.specs.Verdicts.{_orElse_, refuseIf, firstOf}
 
--- ── Sections: a two-byte body length, a two-byte kind, then the body ──
+-- ── Sections: two bytes of body length, two bytes of kind, the body ──
 
 unfoldable pub bodyLength : List ℕ → ℕ → ℕ
 bodyLength b head = twoAt b head
@@ -26,7 +26,7 @@ bodyAt head = head + 4
 unfoldable pub recordAt : ℕ → ℕ → ℕ → ℕ
 recordAt head width i = bodyAt head + i * width
 
--- ── Counts, and where each section's head is ──
+-- ── Counts, and the places of the heads ──
 
 unfoldable pub phaseCount : List ℕ → ℕ
 phaseCount b = byteAt b 4
@@ -56,18 +56,18 @@ pedestriansHead b = bodyAt (detectorsHead b) + bodyLength b (detectorsHead b)
 unfoldable pub pastSection : List ℕ → ℕ → ℕ
 pastSection b head = bodyAt head + bodyLength b head
 
--- the bytes from a place on begin with a whole head of the kind: an optional section is there
+-- an optional section is present: a whole head of its kind is at the place
 unfoldable pub hasHead : List ℕ → ℕ → ℕ → Bool
 hasHead b head kind = leb (head + 4) (length b) && eqb (kindAt b head) kind
 
--- just past kind 6, where the head of the optional kind 7 stands if it is there
+-- just past kind 6: the head of kind 7, if it is present
 unfoldable pub earlyHead : List ℕ → ℕ
 earlyHead b = pastSection b (pedestriansHead b)
 
 unfoldable pub hasEarly : List ℕ → Bool
 hasEarly b = hasHead b (earlyHead b) 7
 
--- just past kind 7, or kind 6 where there is none: where the head of the optional kind 9 stands if it is there
+-- just past kind 7, or past kind 6 if kind 7 is not present: the head of kind 9, if it is present
 unfoldable pub orderHead : List ℕ → ℕ
 orderHead b = if hasEarly b then pastSection b (earlyHead b) else earlyHead b
 
@@ -89,7 +89,7 @@ groupMark b g = byteAt b (recordAt (groupsHead b) 2 g + 1)
 unfoldable pub pedestrian : List ℕ → ℕ → Bool
 pedestrian b g = eqb (groupMark b g) 2
 
--- how many pedestrian groups stand before group g
+-- how many pedestrian groups come before group g
 unfoldable pub pedestriansBefore : List ℕ → ℕ → ℕ
 pedestriansBefore b g = countOf (pedestrian b) g
 
@@ -114,7 +114,7 @@ orderAt b i = byteAt b (recordAt (orderHead b) 1 i)
 
 -- ── Checks, from top to bottom ──
 
--- A section's head, and that its body is there: 1, 2, 3, 1, all at the head.
+-- A section's head, and that its body is present: 1, 2, 3, 1, all at the head.
 unfoldable pub sectionAt : List ℕ → ℕ → ℕ → Bool → Verdict
 sectionAt b head kind lengthRight =
     refuseIf (ltb (length b) (head + 4)) 1 head
@@ -122,11 +122,11 @@ sectionAt b head kind lengthRight =
     orElse refuseIf (not lengthRight) 3 head
     orElse refuseIf (ltb (length b) (bodyAt head + bodyLength b head)) 1 head
 
--- 5: a time outside its range
+-- 5: a time outside its limits
 unfoldable pub timeAt : List ℕ → ℕ → ℕ → Verdict
 timeAt b place setting = refuseIf (not (within limits setting (twoAt b place))) 5 place
 
--- A record of two-byte times, field by field, where the first is that of the setting given.
+-- A record of two-byte times, field by field. The first field has the setting number given.
 unfoldable pub timesAt : List ℕ → ℕ → ℕ → ℕ → Verdict
 timesAt b place setting fields = firstOf (λ f. timeAt b (place + f * 2) (setting + f)) fields
 
@@ -150,12 +150,12 @@ siteSection b =
 unfoldable pub phasesSection : List ℕ → Verdict
 phasesSection b = timedSection b phasesHead 2 phaseSettings 6 (phaseCount b)
 
--- 6: a phase bit at or above P, a mark above 3, or pedestrian without exactly one phase
+-- 6: a phase bit at or above P, a mark above 3, or a pedestrian group without exactly one phase
 unfoldable pub badGroup : ℕ → ℕ → ℕ → Bool
 badGroup phases set mark =
     leb (2 ^ phases) set || ltb 3 mark || (eqb mark 2 && not (eqb (countOf (λ p. bit p set) phases) 1))
 
--- group record g is one
+-- group record g is bad
 unfoldable pub badGroupAt : List ℕ → ℕ → Bool
 badGroupAt b g = badGroup (phaseCount b) (groupSet b g) (groupMark b g)
 
@@ -178,7 +178,7 @@ groupsSection b =
     orElse firstOf (groupRecord b) (groupCount b)
     orElse refuseIf (phaseWithoutGroup b) 8 (groupsHead b)
 
--- 9: own bit set, a bit at or above N set, or a set bit j whose record j lacks the bit back
+-- 9: the record of g has bit g, a bit at or above N, or a bit j while the record of j does not have bit g
 unfoldable pub badConflict : List ℕ → ℕ → Bool
 badConflict b g =
     bit g (conflictSet b g)
@@ -198,7 +198,7 @@ conflictsSection b =
     orElse firstOf (λ g. refuseIf (badConflict b g) 9 (recordAt (conflictsHead b) 4 g)) (groupCount b)
     orElse firstOf (λ g. refuseIf (conflictInPhase b g) 10 (recordAt (conflictsHead b) 4 g)) (groupCount b)
 
--- 0 no call, 1 calling without lock, 2 calling with lock; plus 4 where it extends
+-- 0 does not call, 1 calls without lock, 2 calls with lock; plus 4 if it extends
 unfoldable pub knownMode : ℕ → Bool
 knownMode mode = ltb (mode % 4) 3 && ltb (mode / 4) 2
 
@@ -222,7 +222,7 @@ detectorsSection b =
 unfoldable pub pedestriansSection : List ℕ → Verdict
 pedestriansSection b = timedSection b (pedestriansHead b) 6 walkSettings 3 (movementCount b)
 
--- kind 7, where it is there: a time of early cut-off green for each phase
+-- kind 7, if it is present: a time of early cut-off green for each phase
 unfoldable pub earlySection : List ℕ → Verdict
 earlySection b = if hasEarly b then timedSection b (earlyHead b) 7 earlySetting 1 (phaseCount b) else Accepted
 
@@ -230,7 +230,7 @@ earlySection b = if hasEarly b then timedSection b (earlyHead b) 7 earlySetting 
 unfoldable pub phaseNotOnce : List ℕ → Bool
 phaseNotOnce b = anyOf (λ p. not (eqb (countOf (λ i. eqb (orderAt b i) p) (phaseCount b)) 1)) (phaseCount b)
 
--- kind 9, where it is there: all phases in running order
+-- kind 9, if it is present: all phases in running order
 unfoldable pub orderSection : List ℕ → Verdict
 orderSection b =
     if hasOrder b
@@ -265,7 +265,7 @@ earlyMissing b =
 unfoldable pub leftOver : List ℕ → ℕ → Verdict
 leftOver b place = refuseIf (ltb place (length b)) 12 place
 
--- What follows kind 6: kinds 7 and 9 where they are there; then 21; then 17; then 12, bytes left over.
+-- After kind 6: kinds 7 and 9 if they are present; then 21; then 17; then 12, bytes left over.
 unfoldable pub afterPedestrians : List ℕ → Verdict
 afterPedestrians b =
     earlySection b

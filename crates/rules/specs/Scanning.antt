@@ -1,5 +1,5 @@
--- What keeping the demanded phases must not change: the same rules with the demanded phases found by a scan in each step and no set kept,
--- and the laws that hold the kept set to them.
+-- The rules without the kept set: each step finds the demanded phases by a scan. And the statements that the kept set equals this scan and
+-- changes nothing else.
 use Prim.Native.Nat.{ℕ, _<_}
 use mathlib.Core.Bool.{true}
 use mathlib.Core.List.{List}
@@ -55,7 +55,7 @@ StepForgets =
     keptValid (siteOf b) s ≡ true →
     keptStepped (siteOf b) s inputs .core ≡ stepped (siteOf b) (s .core) inputs
 
--- every list of calls from a valid state is taken as by the scanning rules: the same outcomes, waits, buffers and rest of the state
+-- both rules take every list of calls from a valid state alike: the same outcomes, waits, buffers and rest of the state
 unfoldable pub RunForgets : Type 0
 RunForgets =
     (b : List ℕ) (s : KeptState) →

@@ -1,4 +1,4 @@
--- The site that accepted bytes hold.
+-- The site that an accepted personality describes.
 use Prim.Native.Nat.{ℕ, _+_}
 use mathlib.Core.Bool.{Bool}
 use mathlib.Core.List.{List}
@@ -60,7 +60,7 @@ timesIn b =
 unfoldable pub crossingAt : List ℕ → ℕ → ℕ
 crossingAt b k = groupSet b (getD (indicesOf (pedestrian b) (groupCount b)) k 0)
 
--- the i-th phase in running order; without a section of kind 9 letters rule
+-- the i-th phase in running order; without a section of kind 9 it is phase i
 unfoldable pub orderIn : List ℕ → ℕ → ℕ
 orderIn b i = if hasOrder b then orderAt b i else i
 
@@ -77,7 +77,7 @@ siteOf b =
       times = timesIn b;
     }
 
--- ── What the other rules ask of a site ──
+-- ── What the other rules need of a site ──
 
 unfoldable pub groupOf : List Group → ℕ → Group
 groupOf groups g = getD groups g noGroup
@@ -106,7 +106,7 @@ isPedestrian groups g = eqb (groupOf groups g .mark) 2
 unfoldable pub movementOf : List Group → ℕ → ℕ
 movementOf groups g = countOf (isPedestrian groups) g
 
--- section 4 has the bits of the two groups set
+-- section 4 says that the two groups conflict
 unfoldable pub conflict : Site → ℕ → ℕ → Bool
 conflict site g j = bit j (getD (site .conflicts) g 0)
 

@@ -24,7 +24,7 @@ use Rattle.rules.specs.Site.{phaseTimes, crosses}
 abbrev pub idle : Movement
 idle = record { stage = Idle; age = 1 }
 
--- Phase A in start red, age 1, came-from none, counts 0, no demands, movements idle.
+-- Start red of phase A at age 1; no came-from, no target, both counts 0, no demands, all movements idle.
 unfoldable pub fresh : State
 fresh =
     record {
@@ -34,7 +34,7 @@ fresh =
       movements = replicate 8 idle;
     }
 
--- ── What the rules ask of a state ──
+-- ── Parts of a state ──
 
 abbrev pub highestAge : ℕ
 highestAge = 2000
@@ -58,7 +58,7 @@ every (test ∷ tests) = test && every tests
 unfoldable pub intervalValid : Bool → Interval → Bool
 intervalValid early interval = early || not (isEarly interval)
 
--- a target unlike the phase, held in early cut-off green, yellow and all-red only
+-- in a leaving interval the target is another phase; in the other intervals there is none
 unfoldable pub targetValid : ℕ → ℕ → Bool → Held → Bool
 targetValid count phase leaving Nothing = not leaving
 targetValid count phase leaving (Phase t) = leaving && ltb t count && not (eqb t phase)
@@ -82,11 +82,11 @@ positionValid early phases position =
     ∷ ageValid (position .age)
     ∷ [])
 
--- gap count at most G and maximum count at most X of the phase
+-- the gap count is not above G of the phase, and the maximum count not above X
 unfoldable pub countsValid : PhaseTimes → Counts → Bool
 countsValid times counts = leb (counts .gap) (times .gap) && leb (counts .maximum) (times .maximum)
 
--- demand i is of a phase or movement that exists, there being count of them
+-- if demand i is stored, it is below the count of phases or movements
 unfoldable pub demandExists : ℕ → ℕ → ℕ → Bool
 demandExists demands count i = not (bit i demands) || ltb i count
 
@@ -95,12 +95,12 @@ unfoldable pub demandsValid : ℕ → ℕ → Demands → Bool
 demandsValid phases movements demands =
     allOf (demandExists (demands .locks) phases) 8 && allOf (demandExists (demands .buttons) movements) 8
 
--- movement k is one of phase p, and one of the count that the site has
+-- movement k is one of the site's, and it is of phase p
 unfoldable pub movementIn : ℕ → List ℕ → ℕ → ℕ → Bool
 movementIn count crossings p k = ltb k count && crosses crossings k p
 
--- One movement record, by whether it is a movement of the phase: any other, or one that the site doesn't have, idle; none in walk or
--- C1 in early cut-off green, yellow and all-red; idle in start red; idle ones at age 1.
+-- One movement record. A record that is not of the phase is idle; `ofPhase` says which it is. In start red every record is idle, and in a
+-- leaving interval none is in walk or C1. An idle record has age 1.
 unfoldable pub movementValid : Bool → Interval → Movement → Bool
 movementValid ofPhase interval m =
     every

@@ -1,4 +1,4 @@
--- One step: the five parts, in order, by the phase that is demanded next.
+-- One step: the five parts in order. The phase that is demanded next is an argument.
 use Prim.Native.Nat.{ℕ}
 use mathlib.Core.Bool.{Bool}
 use mathlib.Core.List.{List}

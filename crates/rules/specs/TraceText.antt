@@ -1,4 +1,4 @@
--- What the trace program prints, in ASCII: the header, and of each line what follows the step's number.
+-- What the trace program prints, in ASCII: the header, and the part of each line after the step number.
 use Prim.Native.Nat.{ℕ}
 use mathlib.Core.List.{List, [], _∷_, _++_, map}
 use lib.ListN.{getD}
@@ -13,7 +13,7 @@ phaseLetter p = getD (65 ∷ 66 ∷ 67 ∷ 68 ∷ 69 ∷ 70 ∷ 71 ∷ []) p 63
 unfoldable pub colourLetter : ℕ → ℕ
 colourLetter code = getD (82 ∷ 89 ∷ 71 ∷ 70 ∷ []) code 82
 
--- a space, the phase, a space, the interval, a space, one letter a group, and the line's end
+-- a space, the phase, a space, the interval, a space, one letter for each group, and the end of the line
 unfoldable pub lineTail : Position → List ℕ → List ℕ
 lineTail position colours =
     (32 ∷ phaseLetter (position .phase) ∷ 32 ∷ letterOf (position .interval) ∷ 32 ∷ []) ++ map colourLetter colours ++ (10 ∷ [])

@@ -1,4 +1,4 @@
--- A verdict is acceptance, or a number with its place. Checks go in order, and the first refusal wins.
+-- A verdict is acceptance, or a refusal with its number and place. Of several checks in order, the first refusal is the verdict.
 use Prim.Native.Nat.{ℕ, zero, suc}
 use mathlib.Core.Bool.{Bool, true, false}
 use Rattle.rules.specs.declared.answer.Verdict.{Verdict}

@@ -1,4 +1,4 @@
--- The wait bound: start red plus, summed over phases, L + M + X + 2 × (A + E + Y + R + C), where E is the time of early cut-off green.
+-- The wait bound: start red plus the sum over the phases of L + M + X + 2 × (A + E + Y + R + C). E is the time of early cut-off green.
 use Prim.Native.Nat.{ℕ, _+_, _*_}
 use mathlib.Core.List.{List}
 use lib.ListN.{getD}
@@ -16,16 +16,16 @@ phaseShare times a c = times .late + times .minimum + times .maximum + 2 * (a + 
 
 -- Among the first n movements, by the phase set and the times of each.
 module _ (crossings : List ℕ) (walks : List WalkTimes) (n : ℕ) where
-  -- A: the greatest W + C1 among the phase's movements, 0 without movements
+  -- A: the largest sum W + C1 of the phase's movements, 0 if it has none
   unfoldable pub longestWalk : ℕ → ℕ
   longestWalk p =
       greatestOf (λ k. if crosses crossings k p then getD walks k noWalkTimes .walk + getD walks k noWalkTimes .first else 0) n
 
-  -- C: the greatest C2 among the phase's movements, 0 without movements
+  -- C: the largest C2 of the phase's movements, 0 if it has none
   unfoldable pub longestClearance : ℕ → ℕ
   longestClearance p = greatestOf (λ k. if crosses crossings k p then getD walks k noWalkTimes .second else 0) n
 
--- of a site it needs the counts, the times and the phase set of each movement
+-- the bound from the parts of a site that it needs: the counts, the times and the phase set of each movement
 unfoldable pub waitBoundBy : Size → Times → List ℕ → ℕ
 waitBoundBy size times crossings =
     let a = longestWalk crossings (times .walks) (size .movements) in

@@ -1,14 +1,14 @@
-// What reading a personality, a section lookup and a step answer.
+// The answers of reading a personality, of a section lookup and of a step call.
 use crate::state::KeptState;
 
 // The outcome of reading a personality.
 pub enum Verdict {
     Accepted,
-    // A number of document 01's table of checks, and the byte place given with it.
+    // A number of the paper's table of checks, and its place as a byte offset.
     Refused { number: u8, place: usize },
 }
 
-// The number and place of a verdict, 0 at 0 where nothing is refused.
+// The number and place of a verdict, 0 at 0 if it is acceptance.
 pub struct Report {
     pub number: u8,
     pub place: usize,

@@ -1,4 +1,4 @@
-// The site that an accepted personality holds. Arrays have room for the largest site; entries past the site's own count are zero.
+// The site that an accepted personality describes. The arrays have room for the largest site; entries past the site's own count are zero.
 
 // The lowest and highest value of a time setting.
 pub struct Range {
@@ -6,7 +6,7 @@ pub struct Range {
     pub high: u16,
 }
 
-// The time settings of one phase: L, M, X, G, Y, R, and that of early cut-off green, 0 without a section of kind 7.
+// The time settings of one phase: L, M, X, G, Y, R, and E of early cut-off green, which is 0 without a section of kind 7.
 pub struct PhaseTimes {
     pub late: u16,
     pub minimum: u16,
@@ -24,7 +24,7 @@ pub struct WalkTimes {
     pub second: u16,
 }
 
-// All time settings of a site, apart from the rest of it. Movement k is that of the k-th pedestrian group.
+// All time settings of a site, as a value of their own. Movement k belongs to the k-th pedestrian group, counted from 0.
 pub struct Times {
     pub start: u16,
     pub phases: [PhaseTimes; 7],

@@ -1,12 +1,12 @@
-// The state that a step takes and hands back, and what it is made of.
+// The state that a step takes and hands back, and its parts.
 
-// The interval of the phase in the state.
+// The interval that the phase is in.
 pub enum Interval {
     StartRed,
     LateStart,
     MinimumGreen,
     Running,
-    // the groups that stop early close, the phase's others stay green
+    // the groups that stop early close, and the other groups of the phase stay green
     EarlyCutOff,
     Yellow,
     AllRed,
@@ -20,7 +20,7 @@ pub enum Stage {
     ClearanceTwo,
 }
 
-// An interval's row: its code in a state's bytes, its letter in a trace as its ASCII code, and what the rules ask of it.
+// The table row of an interval: its code in the bytes of a state, its letter in a trace (ASCII), and the tests of the rules.
 pub struct IntervalRow {
     pub code: u8,
     pub letter: u8,
@@ -40,26 +40,26 @@ pub struct IntervalRow {
     pub starts: bool,
 }
 
-// A stage's row: its code in a state's bytes, and what the rules ask of it.
+// The table row of a stage: its code in the bytes of a state, and the tests of the rules.
 pub struct StageRow {
     pub code: u8,
     // the movement is idle
     pub idle: bool,
     // it is in walk
     pub walk: bool,
-    // it is in walk or C1, and the phase stays
+    // it is in walk or C1, so the phase cannot be left
     pub holding: bool,
     // it is in C2
     pub second: bool,
 }
 
-// A phase that the state holds, or none.
+// A phase or none.
 pub enum Held {
     Nothing,
     Phase { phase: u8 },
 }
 
-// Where the controller stands: the phase, its interval and the interval's age, came-from and the target.
+// The phase, its interval, the age of the interval, came-from (`previous`) and the target.
 pub struct Position {
     pub phase: u8,
     pub interval: Interval,
@@ -92,8 +92,8 @@ pub struct State {
     pub movements: [Movement; 8],
 }
 
-// What a step call takes and hands back: the state, and beside it the set of phases that are demanded by their lock or by a demanded
-// movement.
+// What a step call takes and hands back: the state, and beside it the kept set, which has the phases with a locked demand or with a
+// demanded movement.
 pub struct KeptState {
     pub core: State,
     pub kept: u8,

@@ -1,6 +1,6 @@
-// Reads the vectors of the file `reads` and compares the reader's verdict with each: a two-byte length, the bytes, the number
-// (1 byte) and the place (4 bytes). The sections of an accepted one are looked up, and must make up all of it. Prints how many vectors
-// there are and how many agree, and the first that does not.
+// Compares the reader's verdict with each vector of the file `reads`. A vector has a two-byte length, the bytes, the number (1 byte) and
+// the place (4 bytes). The sections of an accepted vector are looked up; together they must be all of its bytes. Prints how many vectors
+// there are, how many agree, and the first that does not.
 ghost use Prim.Native.Nat.{_+_, _<_, _≤_, _^_};
 ghost use mathlib.Core.Path.{_≡_};
 use libc::STDOUT_FILENO;
@@ -15,7 +15,7 @@ enum Found {
     Vector { agrees: bool },
 }
 
-// How many vectors were read and agree, and the first that does not, counted from 1, or 0.
+// How many vectors were read, how many agree, and the first that does not: counted from 1, or 0 if all agree.
 struct Tally {
     read: u64,
     agree: u64,
@@ -44,7 +44,7 @@ fn whole(personality: &[u8]) -> bool {
     left == 0
 }
 
-// Whether the reader gives this number and place, 0 at 0 where it accepts.
+// Whether the reader gives this number and place, 0 at 0 if it accepts.
 fn agrees(personality: &[u8], number: u8, place: u32) -> bool {
     let verdict = read_personality::read(personality);
     match verdict {

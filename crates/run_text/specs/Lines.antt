@@ -16,11 +16,11 @@ leading position = 32 ∷ phaseLetter (position .phase) ∷ 32 ∷ letterOf (pos
 unfoldable pub shown : List ℕ → List ℕ
 shown colours = map colourLetter colours ++ (10 ∷ [])
 
--- the tail's length, or 0 where a buffer has no room for it
+-- the length of the tail, or 0 if the buffer is too short
 unfoldable pub tailLength : ℕ → ℕ → ℕ
 tailLength groups room = if leb (groups + 6) room then groups + 6 else 0
 
--- the buffer with the tail at its start and its other bytes as they were; as it was where it has no room
+-- the buffer with the tail at its start and its other bytes unchanged; all unchanged if it is too short
 unfoldable pub tailOf : Position → List ℕ → List ℕ → List ℕ
 tailOf position colours out =
     if leb (length colours + 6) (length out) then lineTail position colours ++ drop (length colours + 6) out else out

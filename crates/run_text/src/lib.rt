@@ -39,7 +39,7 @@ fn leading_letter(position: Position, i: usize) -> u8
     32
 }
 
-// Letter i of a line from the groups on: one letter a group, and the line's end.
+// Letter i of a line from the groups on: one letter for each group, and the end of the line.
 fn shown_letter(colours: &[u8], i: usize) -> u8
     ensures { λ r. ⌜ r ≡ getD (shown (now (colours .entry))) i 10 ⌝ }
 {
@@ -50,7 +50,7 @@ fn shown_letter(colours: &[u8], i: usize) -> u8
     }
 }
 
-// Letter i of what follows the step's number in a line.
+// Letter i of the part of a line after the step number.
 fn letter(position: Position, colours: &[u8], i: usize) -> u8
     ensures { λ r. ⌜ r ≡ getD (lineTail position (now (colours .entry))) i 10 ⌝ }
 {
@@ -61,8 +61,8 @@ fn letter(position: Position, colours: &[u8], i: usize) -> u8
     }
 }
 
-// Puts what follows the step's number in a line at the start of out and answers its length. Where out has no room for it, out
-// stays as it is and the answer is 0.
+// Writes the part of a line after the step number to the start of `out`, and answers its length. If `out` is too short, it stays as it is
+// and the answer is 0.
 pub fn tail(position: Position, colours: &[u8], out: &mut [u8]) -> usize
     ensures { λ r. ⌜ Counted r (now (out .exit)) ⌝ }
     ensures { λ r. ⌜ r ≡ tailLength (length (now (colours .entry))) (length (now (out .entry))) ⌝ }

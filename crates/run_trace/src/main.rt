@@ -1,6 +1,6 @@
-// The trace program. From standard input it reads a two-byte length, a personality of that length, and 8 bytes a step. It prints a
-// header once the personality is accepted, then a line a step. A refusal prints its line and ends the trace; the end of the input and
-// the last step end it without one.
+// The trace program. From standard input it reads a two-byte length, a personality of that length, and 8 bytes for each step. For an
+// accepted personality it prints a header and then a line for each step. A refusal prints its own line and ends the trace. The end of the
+// input and the last step end the trace without a line.
 use libc::STDIN_FILENO;
 use libc::STDOUT_FILENO;
 use rules::answer::Outcome;
@@ -11,14 +11,14 @@ use rules::state::Position;
 // An hour of steps. What the input holds past them is not read.
 const STEPS: u64 = 36000;
 
-// Where a step record is next: the end of the input, a part of a record, or the input bits of a whole one.
+// What comes next in the input: its end, a part of a step record, or the input bits of a whole one.
 enum Record {
     Ended,
     Cut,
     Inputs { bits: u64 },
 }
 
-// How a turn left the trace: whether it goes on, and the state to go on from.
+// The result of a turn: whether the trace goes on, and with which state.
 struct Turn {
     goes: bool,
     state: KeptState,

@@ -38,15 +38,15 @@ inRange s = speedInRange (s .speed) && metresInRange (metresOf (s .detector))
 
 -- ── The two settings ──
 
--- 6n is not above the metres: n vehicles stand in them
+-- n vehicles fit in the metres: 6 n ≤ metres
 unfoldable pub stand : Float → ℕ → Bool
 stand metres n = le (whole (6 * n)) metres
 
--- t × speed is not below 36 × distance, that product rounded once: a vehicle covers the distance in t steps
+-- a vehicle covers the distance in t steps: t × speed ≥ q, with q = 36 × metres rounded once to binary64
 unfoldable pub covered : ℕ → Float → ℕ → Bool
 covered speed metres t = le (mul binary64 metres (whole 36)) (whole (t * speed))
 
--- minimum green is 40 + 20n steps (start loss 4 s, headway 2 s), n the largest whole number with 6n not above the metres
+-- minimum green is 40 + 20 n steps (start loss 4 s, headway 2 s); n is the largest number of vehicles that fit in the metres
 pub record MinimumGreen (metres : Float) (minimum : ℕ) : Type 0 where
   pub n : ℕ
   pub largest : Largest (stand metres) n

@@ -1,11 +1,11 @@
-// Minimum green and passage time from a site sheet, after source document 002: start loss 4 s, headway 2 s, 6 m a vehicle. All times are in
-// steps of 0.1 s, distances in metres, speeds in km/h.
+// Minimum green and passage time from a site sheet, after source document 002: start loss 4 s, headway 2 s, 6 m for each vehicle. Times are
+// in steps of 0.1 s, distances in metres, speeds in km/h.
 ghost use mathlib.Core.Bool.{true};
 ghost use mathlib.Core.Path.{_≡_};
 ghost use Rattle.sheet_settings.specs.Sheet.{metresOf, speedInRange, metresInRange, inRange, minimumGreen, passageOver, passageTime, answerFrom, answerOf, AnswerFor};
 use base_limits::limits;
 
-// Where an approach is detected: in advance, at a distance from the stop line, or in a zone of a length at the stop line.
+// The detector of an approach: at a distance before the stop line, or a zone of some length at the stop line. The number is in metres.
 pub enum Detector {
     Advance(f64),
     StopLine(f64),
@@ -35,7 +35,7 @@ fn metres_of(detector: Detector) -> f64
     }
 }
 
-// Whether the speed is from 20 to 110 and the metres are from 0 to 300. What is no number is not.
+// Whether the speed is from 20 to 110 and the metres are from 0 to 300. A NaN is out of range.
 fn in_range(sheet: Sheet) -> bool
     ensures { λ r. ⌜ r ≡ inRange sheet ⌝ }
 {
@@ -45,7 +45,7 @@ fn in_range(sheet: Sheet) -> bool
     ((20 <= speed) & (speed <= 110)) & ((0.0 <= metres) & (metres <= 300.0))
 }
 
-// 40 + 20n steps, n the largest whole number with 6n not above the metres.
+// Minimum green: 40 + 20 n steps. n is the number of whole vehicles of 6 m in the metres: 6 n ≤ metres < 6 (n + 1).
 fn minimum_green(metres: f64) -> u16
     requires { ⌜ metresInRange metres ≡ true ⌝ }
     ensures { λ r. ⌜ r ≡ minimumGreen metres ⌝ }
@@ -57,7 +57,7 @@ fn minimum_green(metres: f64) -> u16
     40 + 20 * n
 }
 
-// The smallest whole t with t × speed not below 36 × distance, that product rounded once.
+// Passage time of an advance detector: the lowest whole t with t × speed ≥ q. q is 36 × metres, rounded once to binary64.
 fn passage_over(speed: u32, metres: f64) -> u16
     requires { ⌜ (speedInRange speed ≡ true) × (metresInRange metres ≡ true) ⌝ }
     ensures { λ r. ⌜ r ≡ passageOver speed metres ⌝ }
@@ -70,6 +70,7 @@ fn passage_over(speed: u32, metres: f64) -> u16
     t as u16
 }
 
+// The passage time of a detector; 0 for a stop-line zone.
 fn passage_time(speed: u32, detector: Detector) -> u16
     requires { ⌜ (speedInRange speed ≡ true) × (metresInRange (metresOf detector) ≡ true) ⌝ }
     ensures { λ r. ⌜ r ≡ passageTime speed detector ⌝ }
@@ -80,7 +81,7 @@ fn passage_time(speed: u32, detector: Detector) -> u16
     }
 }
 
-// The settings where they are not above the limits of M and G.
+// The settings, or 20 if one is above the limit of M or G.
 fn answer_from(minimum: u16, passage: u16) -> Answer
     ensures { λ r. ⌜ r ≡ answerFrom minimum passage ⌝ }
 {

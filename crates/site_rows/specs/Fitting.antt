@@ -1,4 +1,5 @@
--- Internal: no promise cites this file. What the decoders take for granted of the bytes and their layout, and what one pass over the groups finds.
+-- Internal: no promise cites this file. What the decoders require of the bytes and their layout, and what one pass over the groups
+-- finds.
 use Prim.Native.Nat.{ℕ, _+_, _*_, _≤_}
 use mathlib.Core.Bool.{true}
 use mathlib.Core.List.{List}
@@ -10,7 +11,7 @@ use Rattle.read_layout.specs.declared.Layout.{Layout}
 use Rattle.read_layout.specs.LayoutOf.{LayoutOf}
 use Rattle.site_rows.specs.declared.GroupRows.{GroupRows}
 
--- each count is at most the room of its array, and all sections are there
+-- each count is at most the room of its array, and all sections are present
 pub record Fitting (b : List ℕ) (w : Layout) : Type 0 where
   pub laid : LayoutOf b w
   pub phases : w .phasecount ≤ 7

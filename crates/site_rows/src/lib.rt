@@ -1,5 +1,5 @@
-// The rows of a site, in the bytes of a personality that reach to the end of its last section: groups with the sets of the pedestrian
-// ones, conflicts, detectors and the running order. The records go into an array from the front; entries past the section's own count stay blank.
+// The tables of a site, decoded from the bytes of a personality: groups with the phase sets of the pedestrian ones, conflicts,
+// detectors and the running order. The bytes reach to the end of the last section. Array entries past the section's own count are zero.
 ghost use Prim.Native.Nat.{_<_};
 ghost use mathlib.Core.Path.{_≡_};
 ghost use Rattle.rules.specs.Personality.{detectorCount};
@@ -89,7 +89,7 @@ pub fn detectors(s: &[u8], layout: Layout, count: usize) -> [Detector; 48]
 
 // ---- The running order ----
 
-// Its i-th phase: as kind 9 lists it, or by letter without it.
+// The i-th phase of the running order: entry i of kind 9, or phase i if kind 9 is not present.
 fn order_in(s: &[u8], layout: Layout, i: u8) -> u8
     requires { ⌜ Fitting (now s) layout × (i < layout .phasecount) ⌝ }
     ensures { λ r. ⌜ r ≡ orderIn (now (s .entry)) i ⌝ }

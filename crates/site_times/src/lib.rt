@@ -1,5 +1,5 @@
-// The times of a site, in the bytes of a personality that reach to the end of its last section: those of kinds 1, 2, 6 and 7. Entries past
-// the section's own count stay blank. Each part of `Times` has its function: as one the compiler would keep them apart from a step.
+// The times of a site, decoded from kinds 1, 2, 6 and 7 of a personality. The bytes reach to the end of the last section. Entries past the
+// section's own count are zero. Each part of `Times` has its own function, so that the compiler can inline it into a step.
 ghost use Prim.Native.Nat.{_+_, _*_, _≤_, _<_};
 ghost use mathlib.Core.Path.{_≡_};
 ghost use lib.ListN.{length};

@@ -1,4 +1,4 @@
--- Internal: no promise cites this file. The parts of a site that the wait bound goes by.
+-- Internal: no promise cites this file. The parts of a site that the wait bound needs.
 use Rattle.rules.specs.declared.site.Site.{Site}
 use Rattle.site_whole.specs.declared.Timing.{Timing}
 

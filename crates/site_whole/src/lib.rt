@@ -1,4 +1,4 @@
-// The site in the bytes of a personality that reach to the end of its last section. Each section is passed once.
+// The site, decoded from the bytes of a personality, which reach to the end of its last section. Each section is read once.
 ghost use mathlib.Core.Path.{_≡_};
 ghost use Rattle.rules.specs.Personality.{movementCount};
 ghost use Rattle.rules.specs.Site.{siteOf};
@@ -16,7 +16,7 @@ use site_times::phase_times;
 use site_times::start_red;
 use site_times::walk_times;
 
-// The counts. Kind 5 has records of 2, and its body reaches to the next head.
+// The counts. Kind 5 has records of two bytes, and its body reaches to the next head.
 fn size(s: &[u8], layout: Layout, movements: usize) -> Size
     requires { ⌜ Fitting (now s) layout × (movements ≡ movementCount (now s)) ⌝ }
     ensures { λ r. ⌜ r ≡ siteOf (now (s .entry)) .size ⌝ }
@@ -53,14 +53,14 @@ pub fn site_of(s: &[u8], layout: Layout) -> Site
     }
 }
 
-// The parts of the site that the wait bound goes by.
+// The parts of the site that the wait bound needs.
 pub struct Timing {
     pub size: Size,
     pub times: Times,
     pub crossings: [u8; 8],
 }
 
-// Read apart from the rest, so that a step has the only call of `site` and the compiler takes it in there.
+// Only these parts are decoded. So `site_of` has a single caller, the step call, and the compiler can inline it there.
 pub fn timing_in(s: &[u8], layout: Layout) -> Timing
     requires { ⌜ Fitting (now s) layout ⌝ }
     ensures { λ r. ⌜ r ≡ timingIn (siteOf (now (s .entry))) ⌝ }

@@ -1,6 +1,6 @@
--- The layout of a state in bytes: a table for each record, with a row for each field: the place of its first byte in the record, its form, and
--- the field. `encoded` writes the layout, `decoded` reads it, `isState` says which bytes are a state, and `Proper` which states the machine's
--- types have.
+-- The layout of a state in bytes. Each record has a table with a row for each field: the place of its first byte in the record, its form,
+-- and the field. `encoded` writes the layout, `decoded` reads it, `isState` says which bytes are a state, and `Proper` says which states
+-- fit the types of the machine.
 use Prim.Native.Nat.{ℕ, _+_}
 use mathlib.Core.Bool.{Bool, _&&_}
 use mathlib.Core.List.{List}
@@ -26,7 +26,7 @@ interval = coded intervals StartRed (λ i. intervalRow i .code)
 abbrev pub stage : Form Stage
 stage = coded stages Idle (λ s. stageRow s .code)
 
--- ── Where the controller stands: 8 bytes ──
+-- ── The position: 8 bytes ──
 
 abbrev pub positionRows : Table Position
 positionRows =
@@ -55,7 +55,7 @@ countsOf = λ (gap, maximum). record { gap = gap; maximum = maximum }
 abbrev pub counts : Form Counts
 counts = made countsRows countsOf
 
--- ── Demands: the set of locked phases and that of demanded movements, 2 bytes ──
+-- ── Demands: the set of locked phases and the set of demanded movements, 2 bytes ──
 
 abbrev pub demandsRows : Table Demands
 demandsRows = field 0 byte (λ d. d .locks) ⊗ field 1 byte (λ d. d .buttons)
@@ -77,7 +77,7 @@ movementOf = λ (stage, age). record { stage = stage; age = age }
 abbrev pub movement : Form Movement
 movement = made movementRows movementOf
 
--- ── The state: 39 bytes, its parts one behind the other ──
+-- ── The state: 39 bytes, one part after the other ──
 
 abbrev pub movements : Form (List Movement)
 movements = row 8 idle movement
@@ -126,7 +126,7 @@ decoded b = state .read b 0
 unfoldable pub isState : List ℕ → Bool
 isState b = eqb (length b) stateBytes && state .known b 0
 
--- each number fits its type, and the movements are eight
+-- each number fits its type, and there are eight movements
 unfoldable pub Proper : KeptState → Type 0
 Proper = state .fits
 

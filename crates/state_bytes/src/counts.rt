@@ -1,4 +1,4 @@
-// The gap count and the maximum count, in 4 bytes. Any bytes are such counts.
+// The gap count and the maximum count, in 4 bytes. Any 4 bytes are such counts.
 ghost use Prim.Native.Nat.{_+_, _≤_};
 ghost use mathlib.Core.Path.{_≡_};
 ghost use lib.ListN.{length};

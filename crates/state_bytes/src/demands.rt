@@ -1,4 +1,4 @@
-// The set of locked phases and that of demanded movements, in 2 bytes. Any bytes are such sets.
+// The set of locked phases and the set of demanded movements, in 2 bytes. Any 2 bytes are such sets.
 ghost use Prim.Native.Nat.{_+_, _≤_};
 ghost use mathlib.Core.Path.{_≡_};
 ghost use lib.ListN.{length};

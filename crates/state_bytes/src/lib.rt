@@ -1,4 +1,4 @@
-// The state as bytes, for callers that hold it: 39 bytes in the layout of specs/Layout.antt.
+// The state as 39 bytes, for callers in C and Rust. The layout is in specs/Layout.antt.
 mod counts;
 mod demands;
 mod movements;
@@ -25,7 +25,7 @@ const KEPT: usize = 38;
 // How many bytes a state has.
 pub const STATE_BYTES: usize = 39;
 
-// Whether the bytes are a state. The length is tested first, so no other test of a place is made. Any counts and sets are those of a state.
+// Whether the bytes are a state. The length is tested first; after it no index needs a check. Counts and sets may have any value.
 pub fn is_state(bytes: &[u8]) -> bool
     ensures { λ r. ⌜ r ≡ isState (now (bytes .entry)) ⌝ }
 {
@@ -35,7 +35,7 @@ pub fn is_state(bytes: &[u8]) -> bool
     position::known(bytes, POSITION) & movements::known(bytes, MOVEMENTS)
 }
 
-// The state that the bytes are.
+// The state in these bytes.
 pub fn decode(bytes: &[u8]) -> KeptState
     requires { ⌜ isState (now bytes) ≡ true ⌝ }
     ensures { λ r. ⌜ r ≡ decoded (now (bytes .entry)) ⌝ }
@@ -51,7 +51,7 @@ pub fn decode(bytes: &[u8]) -> KeptState
     }
 }
 
-// Writes the state into a buffer of 39 bytes. A buffer of another length stays as it is, and the answer is false.
+// Writes the state into a buffer of 39 bytes. If the buffer has another length, it stays as it is, and the answer is false.
 pub fn encode(state: KeptState, bytes: &mut [u8]) -> bool
     ensures { λ r. ⌜ (r ≡ eqb (length (now (bytes .entry))) stateBytes) × (now (bytes .exit) ≡ encodedOver state (now (bytes .entry))) ⌝ }
 {

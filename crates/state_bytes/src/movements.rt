@@ -14,7 +14,7 @@ const AGE: usize = 1;
 
 const RECORD: usize = 3;
 
-// All stages are known where the bits of all, joined, are those of a stage.
+// Whether all stages are known. The known codes are 0 to 3, so it is enough to test the bitwise or of all eight.
 pub fn known(bytes: &[u8], at: usize) -> bool
     requires { ⌜ at + movementsForm .width ≤ length (now bytes) ⌝ }
     ensures { λ r. ⌜ r ≡ movementsForm .known (now (bytes .entry)) at ⌝ }

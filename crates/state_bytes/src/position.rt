@@ -1,4 +1,4 @@
-// Where the controller stands, in 8 bytes.
+// The position in 8 bytes: phase, interval, age, came-from, target.
 ghost use Prim.Native.Nat.{_+_, _≤_};
 ghost use mathlib.Core.Bool.{true};
 ghost use mathlib.Core.Path.{_≡_};

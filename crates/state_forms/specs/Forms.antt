@@ -1,5 +1,5 @@
--- How values stand in bytes. A form tells how many bytes a value has, which bytes they are, whether the bytes from a place on are such a
--- value, and which value; and which values the machine's type has, where the rules' type has more. Numbers are little-endian.
+-- How values are written in bytes. A form says how many bytes a value has, which bytes they are, whether the bytes at a place are such a
+-- value, and which value they are. `fits` says which values the type of the machine has. Numbers are little-endian.
 use Prim.Native.Nat.{ℕ, zero, suc, _+_, _*_, _/_, _%_, _<_}
 use mathlib.Core.Bool.{Bool, true, _&&_, _||_}
 use mathlib.Core.List.{List, [], _∷_, _++_}
@@ -28,7 +28,7 @@ byte = record { width = 1; written = λ x. x ∷ []; known = λ b at. true; read
 abbrev pub two : Form ℕ
 two = record { width = 2; written = λ x. x % 256 ∷ x / 256 ∷ []; known = λ b at. true; read = twoAt; fits = λ x. x < 65536 }
 
--- one of several, by its code, which is its place among them all
+-- one of several values, by its code, which is its index in the list of all
 abbrev pub coded : {A : Type 0} → List A → A → (A → ℕ) → Form A
 coded all first code =
     record {
@@ -39,7 +39,7 @@ coded all first code =
       fits = λ x. record {};
     }
 
--- a phase or none: a tag, 1 where a phase is held, and the phase, 0 where none is
+-- a phase or none: a tag of 1 and the phase, or 0 and 0 for none
 abbrev pub flagCode : Bool → ℕ
 flagCode flag = if flag then 1 else 0
 
@@ -61,12 +61,12 @@ held =
 
 -- ── Several of a kind ──
 
--- f 0, .., f (n - 1), one behind the other
+-- f 0, .., f (n - 1), one after the other
 unfoldable pub partsOf : (ℕ → List ℕ) → ℕ → List ℕ
 partsOf f zero = []
 partsOf f (suc n) = partsOf f n ++ f n
 
--- n values, one behind the other; past a list's end stands the default
+-- n values, one after the other; the default fills up a list that is too short
 abbrev pub row : {A : Type 0} → ℕ → A → Form A → Form (List A)
 row n default form =
     record {
@@ -79,7 +79,7 @@ row n default form =
 
 -- ── Records ──
 
--- the value stands so many bytes further on
+-- the value is `place` bytes further on
 abbrev pub placed : {A : Type 0} → ℕ → Form A → Form A
 placed place form =
     record {

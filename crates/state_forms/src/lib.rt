@@ -1,6 +1,6 @@
-// Values in bytes by their forms (specs/Forms.antt), from a place on: whether the bytes are such a value, which one, and writing one. A read
-// asks that the bytes are known, so that it goes by their lowest bits; a write leaves the bytes around it. What is one byte is read and
-// written where it stands, without a function.
+// Tests, reads and writes values in bytes at a given place, by their forms (specs/Forms.antt). A read requires that the test has passed, so
+// it looks at the lowest bits only. A write changes no other bytes. For values of one byte there is no function: the caller reads or
+// writes that byte.
 ghost use Prim.Native.Nat.{_+_, _≤_};
 ghost use mathlib.Core.Bool.{true};
 ghost use mathlib.Core.Path.{_≡_};

@@ -1,5 +1,5 @@
--- Internal: no promise cites this file. What showing the colours asks of the groups and of the buffer: count groups are within the site's array and within
--- the buffer, and each pedestrian group has a movement record.
+-- Internal: no promise cites this file. What writing the colours requires: the site's array and the buffer have room for count groups, and
+-- each pedestrian group has a movement record.
 use Prim.Native.Nat.{ℕ, _≤_, _<_}
 use mathlib.Core.Bool.{true}
 use mathlib.Core.List.{List}

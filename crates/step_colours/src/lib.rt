@@ -1,4 +1,4 @@
-// The colours that the signal groups show in a state, one byte a group.
+// The colours that the signal groups show in a state, one byte for each group.
 ghost use Prim.Native.Nat.{_≤_, _<_};
 ghost use mathlib.Core.Bool.{_&&_};
 ghost use mathlib.Core.Path.{_≡_};
@@ -59,9 +59,9 @@ impl Colour {
         Self::RED.code
     }
 
-    // A vehicle group of the state's phase, by the interval. In late start mark 1 waits in red unless came-from is in its set. In early
-    // cut-off green, yellow and all-red the group stays green if its set has the target also; else mark 3 is yellow while groups that
-    // stop early are closing, then red, and the others stay green in early cut-off green and are then yellow, then red.
+    // The colour of a vehicle group that has the state's phase in its set. In late start a group of mark 1 is red, except if its set has
+    // came-from. In early cut-off green, yellow and all-red a group whose set also has the target stays green. Of the others, those of
+    // mark 3 are yellow while `closes` is true, then red; the rest are green in early cut-off green, then yellow, then red.
     pub fn vehicle_colour(
         interval: Interval,
         closes: bool,
@@ -94,7 +94,7 @@ impl Colour {
         }
     }
 
-    // A pedestrian group, by its movement's stage.
+    // The colour of a pedestrian group, by the stage of its movement.
     pub fn movement_colour(stage: Stage) -> u8
         ensures { λ r. ⌜ r ≡ movementColour stage ⌝ }
     {
@@ -107,7 +107,7 @@ impl Colour {
     }
 }
 
-// A vehicle group, by where the controller stands: one that is not of the phase is red.
+// The colour of a vehicle group in a position. It is red if the phase is not in its set.
 fn vehicle_shown(closes: bool, position: Position, group: Group) -> u8
     ensures { λ r. ⌜ r ≡ vehicleShown closes position group ⌝ }
 {
@@ -142,7 +142,7 @@ fn closing(times: Times, position: Position) -> bool
     since_cut_off(interval, own, position.age) <= own.yellow as u32
 }
 
-// The same at a site that has times of early cut-off green: without them no group stops early, and it does not matter.
+// The same, but false without section 7: then no group stops early, and the answer does not matter.
 fn closing_there(early: bool, times: Times, position: Position) -> bool
     ensures { λ r. ⌜ r ≡ (early && closing times position) ⌝ }
 {
@@ -152,8 +152,8 @@ fn closing_there(early: bool, times: Times, position: Position) -> bool
     false
 }
 
-// One turn of the pass: writes what group g shows, by its record and by its movement's stage if it is a pedestrian group, and answers how many
-// pedestrian groups are passed then. It takes no array: one that goes in by value would be copied at every turn.
+// One turn of the pass: writes the colour of group g and answers how many pedestrian groups there are up to it. `stage` is that of its
+// movement if it is a pedestrian group. It takes no array: an array by value would be copied at every turn.
 fn pass_group(
     group: Group,
     stage: Stage,
@@ -174,8 +174,8 @@ fn pass_group(
     k
 }
 
-// Writes what the first count groups show, in one pass of the list. It takes the parts that this rests on, and not the site and the state: a
-// parameter with an array that is read by a running index is copied whole.
+// Writes the colours of the first `count` groups in one pass. It takes only the parts that it needs, and not the site and the state: a
+// struct parameter with an array that is read by a running index is copied whole.
 fn buffer_at(
     groups: [Group; 32],
     count: usize,
@@ -202,7 +202,7 @@ fn buffer_at(
     }
 }
 
-// Writes the colours of all groups from the buffer's start on; the bytes past them stay as they are.
+// Writes the colours of all groups to the start of the buffer. The bytes past them stay as they are.
 pub fn colours_of(site: Site, state: State, buffer: &mut [u8])
     requires { ⌜ Sound site × (site .size .groups ≤ length (now buffer)) ⌝ }
     ensures { λ _. ⌜ now (buffer .exit) ≡ bufferFor Accepted site state (now (buffer .entry)) ⌝ }

@@ -1,4 +1,4 @@
-// Part 3 of a step: the gap count and the maximum count; and the settings of the phase that they go by.
+// Part 3 of a step: the gap count and the maximum count, and the settings of the phase that they use.
 ghost use mathlib.Core.Path.{_≡_};
 ghost use Rattle.rules.specs.Site.{phaseTimes};
 ghost use Rattle.rules.specs.Counts.{gapAfter, maximumAfter, countsAfter};
@@ -7,7 +7,7 @@ use rules::site::Times;
 use rules::state::Counts;
 use rules::state::Interval;
 
-// The settings of a phase; a phase that there is no room for has none.
+// The settings of a phase. They are all 0 for a phase number above 6.
 pub fn phase_times(times: Times, phase: u8) -> PhaseTimes
     ensures { λ r. ⌜ r ≡ phaseTimes times phase ⌝ }
 {
@@ -27,7 +27,7 @@ pub fn phase_times(times: Times, phase: u8) -> PhaseTimes
     }
 }
 
-// In minimum green and running an occupied extending detector sets the gap count to G, else it falls by one, not below 0.
+// The gap count after part 3. In minimum green and running it is G if a detector extends the phase; else it counts down to 0.
 fn gap_after(interval: Interval, times: PhaseTimes, extended: bool, gap: u16) -> u16
     ensures { λ r. ⌜ r ≡ gapAfter interval times extended gap ⌝ }
 {
@@ -43,7 +43,7 @@ fn gap_after(interval: Interval, times: PhaseTimes, extended: bool, gap: u16) ->
     gap
 }
 
-// In running the maximum count rises by one, up to X, if another phase is demanded or it is already above 0.
+// The maximum count after part 3. In running it starts when another phase is demanded, and then counts every step up to X.
 fn maximum_after(interval: Interval, times: PhaseTimes, another: bool, maximum: u16) -> u16
     ensures { λ r. ⌜ r ≡ maximumAfter interval times another maximum ⌝ }
 {
@@ -59,7 +59,7 @@ fn maximum_after(interval: Interval, times: PhaseTimes, another: bool, maximum: 
     maximum
 }
 
-// Both counts, by the interval and the settings of the phase that is on.
+// Both counts after part 3, by the interval and the settings of the phase.
 pub fn counts_after(
     interval: Interval,
     times: PhaseTimes,

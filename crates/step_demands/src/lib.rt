@@ -1,4 +1,4 @@
-// Part 1 of a step: what detectors and buttons demand, which phases are kept for it, and which demanded phase is next in the ring.
+// Part 1 of a step: what detectors and buttons demand, the kept set, and the demanded phase that is next in the running order.
 ghost use Prim.Native.Nat.{_<_};
 ghost use Rattle.rules.specs.Laws.{Sound};
 ghost use Rattle.step_demands.specs.Registered.{RegisteredBy};
@@ -11,8 +11,8 @@ use step_demands_buttons::buttons;
 
 mod phases;
 
-// What part 1 hands on: the demands that stand, the phases kept as a set, the next demanded phase other than the one on, and whether a
-// detector extends the phase that is on.
+// The result of part 1: the stored demands, the kept set, the next demanded phase other than the phase of the state, and whether a detector
+// extends the phase of the state.
 pub struct Registered {
     pub demands: Demands,
     pub kept: u8,
@@ -20,7 +20,7 @@ pub struct Registered {
     pub extended: bool,
 }
 
-// Part 1. A lock and a registered press keep their phase. A phase is demanded that is kept, or called by a detector in this step only.
+// Part 1. A registered lock or press adds its phase to the kept set. A phase is demanded if it is in the kept set or has a call.
 pub fn register(site: Site, state: KeptState, inputs: u64) -> Registered
     requires { ⌜ Sound site × (state .core .position .phase < site .size .phases) ⌝ }
     ensures { λ r. ⌜ RegisteredBy site state inputs r ⌝ }

@@ -6,7 +6,7 @@ ghost use Rattle.rules.specs.Demands.{inGreen};
 use base_bytes::sets;
 use rules::state::Position;
 
-// The phase that is in minimum green or running, as a set; no phase in any other interval.
+// The phase of the state as a set if it is in minimum green or running; else the empty set.
 pub fn in_green(position: Position) -> u8
     requires { ⌜ position .phase < 8 ⌝ }
     ensures { λ r. ⌜ r ≡ setOf (inGreen position) ⌝ }

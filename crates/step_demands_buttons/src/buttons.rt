@@ -8,21 +8,21 @@ use base_bytes::sets;
 use rules::state::Movement;
 use rules::state::Stage;
 
-// The button demands that stand, and the phases of the movements whose buttons are registered in this step, as sets.
+// The set of the stored button demands, and the set of the phases whose movements register a press in this step.
 pub struct Pressed {
     pub buttons: u8,
     pub phases: u8,
 }
 
-// The stage in which a press is dropped: walk, and neither clearance.
+// Whether a press is dropped in this stage: in walk, but not in a clearance.
 fn dropped(stage: Stage) -> bool
     ensures { λ r. ⌜ r ≡ isWalk stage ⌝ }
 {
     base_intervals::is_walk(stage)
 }
 
-// A pressed button demands its movement unless that movement is in walk, and keeps its phase. Button k is input bit 48 + k. Each turn takes
-// the lowest button that is left.
+// Registers the pressed buttons. A press demands its movement, unless the movement is in walk, and adds its phase to the kept set. Button k
+// is input bit 48 + k. Each turn of the loop takes the lowest button that is left.
 pub fn press(buttons: u8, movements: [Movement; 8], crossings: [u8; 8], inputs: u64) -> Pressed
     ensures { λ r. ⌜ (r .buttons ≡ buttonsAfter buttons movements inputs) × (r .phases ≡ setOf (pressKeeps movements crossings 8 inputs)) ⌝ }
 {

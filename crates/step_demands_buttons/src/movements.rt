@@ -5,7 +5,7 @@ ghost use Rattle.laws.specs.Folds.{setOf};
 ghost use Rattle.rules.specs.Demands.{movementDemands, stands as standsBy};
 use rules::state::Demands;
 
-// The phases of the demanded movements among the first count, as a set. Each turn takes the lowest movement that is left.
+// The set of the phases of the demanded movements among the first `count`. Each turn takes the lowest movement that is left.
 pub fn movement_demands(crossings: [u8; 8], buttons: u8, count: u8) -> u8
     requires { ⌜ count ≤ 8 ⌝ }
     ensures { λ r. ⌜ r ≡ setOf (movementDemands crossings count buttons) ⌝ }

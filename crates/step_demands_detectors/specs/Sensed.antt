@@ -1,4 +1,4 @@
--- Internal: no promise cites this file. What a list of detectors asks for, and what is asked of it.
+-- Internal: no promise cites this file. What a list of detectors asks for, and what is required of the list.
 use Prim.Native.Nat.{ℕ, _≤_, _<_}
 use mathlib.Core.List.{List}
 use mathlib.Core.Path.{_≡_}
@@ -14,7 +14,7 @@ pub record Tabled (detectors : List Detector) (count : ℕ) : Type 0 where
   pub phase : (d : ℕ) → d < count → detectorOf detectors d .phase < 8
   pub mode : (d : ℕ) → d < count → detectorOf detectors d .mode ≤ 6
 
--- the sets of phases of which a detector asks, and whether one extends the phase that is on
+-- the phases that detectors lock or call, and whether one extends the phase of the state
 pub record SensedBy (detectors : List Detector) (count inputs phase : ℕ) (sensed : Sensed) : Type 0 where
   pub locks : (p : ℕ) → p < 8 → bit p (sensed .locks) ≡ detectedAmong detectors count locking inputs p
   pub calls : (p : ℕ) → p < 8 → bit p (sensed .calls) ≡ detectedAmong detectors count calling inputs p

@@ -7,16 +7,16 @@ ghost use Rattle.rules.specs.Demands.{detectedAmong};
 ghost use Rattle.step_demands_detectors.specs.Sensed.{Tabled, SensedBy};
 use rules::site::Detector;
 
-// What the occupied detectors ask for, as sets of phases: a demand with lock, a demand in this step only; and whether one of them
-// extends the phase that is on.
+// What the occupied detectors ask for: the phases with a locked demand, the phases with a call in this step, and whether a detector extends
+// the phase of the state.
 pub struct Sensed {
     pub locks: u8,
     pub calls: u8,
     pub extended: bool,
 }
 
-// The occupied detectors among the first count as a table of modes by phases: bit 8 * m + p where one of phase p has mode m. Each turn
-// takes the lowest input that is left.
+// The occupied detectors among the first `count`, as a table of modes and phases: bit 8 * m + p is set if one of phase p has mode m. Each
+// turn takes the lowest input that is left.
 fn table(detectors: [Detector; 48], count: u8, inputs: u64) -> u64
     requires { ⌜ Tabled detectors count ⌝ }
     ensures { λ r. ⌜ ((m p : ℕ) → p < 8 → bit (8 * m + p) r ≡ detectedAmong detectors count (λ mode. eqb mode m) inputs p) ⌝ }
@@ -40,7 +40,7 @@ fn with_mode(set: u64, mode: u8) -> u8
     ((set >> (8 * mode)) % 256) as u8
 }
 
-// What the first count detectors ask for, by their modes: 1 calling without lock, 2 calling with lock; plus 4 where it extends.
+// What the first `count` detectors ask for, by mode: 1 calls without lock, 2 calls with lock; plus 4 if it extends.
 pub fn sense(detectors: [Detector; 48], count: u8, inputs: u64, phase: u8) -> Sensed
     requires { ⌜ Tabled detectors count × (phase < 8) ⌝ }
     ensures { λ r. ⌜ SensedBy detectors count inputs phase r ⌝ }

@@ -1,4 +1,4 @@
-// The search along the ring of phases, which stand there in running order.
+// The search for the next phase in the running order.
 ghost use mathlib.Core.Path.{_≡_};
 ghost use Prim.Native.Nat.{_-_, _≤_};
 ghost use Rattle.laws.specs.Bytes.{bit};
@@ -7,7 +7,7 @@ ghost use Rattle.rules.specs.Site.{ring};
 ghost use Rattle.step_demands_ring.specs.RingPlaces.{run, PlaceOf};
 use rules::state::Held;
 
-// Where the phase stands among the first phases of the order, or past them where it does not.
+// The index of the phase among the first `phases` entries of the order; `phases` if it is not there.
 fn place_of(order: [u8; 7], phase: u8, phases: u8) -> u8
     requires { ⌜ phases ≤ 7 ⌝ }
     ensures { λ r. ⌜ PlaceOf order phase phases r ⌝ }
@@ -22,7 +22,7 @@ fn place_of(order: [u8; 7], phase: u8, phases: u8) -> u8
     phases
 }
 
-// The first phase of the set, from a place of the order on, up to and without another.
+// The first phase of the set among the entries `from` to `to` - 1 of the order.
 fn search(set: u8, order: [u8; 7], from: u8, to: u8) -> Held
     requires { ⌜ to ≤ 7 ⌝ }
     ensures { λ r. ⌜ r ≡ firstIn (λ p. bit p set) (run order from (to - from)) ⌝ }
@@ -38,7 +38,7 @@ fn search(set: u8, order: [u8; 7], from: u8, to: u8) -> Held
     Held::Nothing
 }
 
-// The first phase of the set after this one in cyclic order: the phases after it, then those before it.
+// The first phase of the set after this one in the cycle: first the phases after it, then those before it.
 pub fn next_after(set: u8, phase: u8, order: [u8; 7], phases: u8) -> Held
     requires { ⌜ phases ≤ 7 ⌝ }
     ensures { λ r. ⌜ r ≡ nextAfter (ring order phases) phase (λ p. bit p set) ⌝ }

@@ -1,4 +1,4 @@
-// What a change of interval does to the counts and to the lock of the phase, and whether a phase starts with it.
+// What a change of interval does to the counts and to the lock of the phase, and whether a phase starts.
 ghost use Prim.Native.Nat.{_<_};
 ghost use mathlib.Core.Path.{_≡_};
 ghost use Rattle.rules.specs.Interval.{countsLeaving, countsEntering, countsChanged, locksLeft, starts as startsAt};
@@ -9,7 +9,7 @@ use rules::state::Counts;
 use rules::state::Interval;
 use rules::state::Position;
 
-// Both counts are 0 when all-red ends: the interval that leaves a phase and comes before a start.
+// The counts when an interval ends: both are 0 after all-red, the only interval that is leaving and before a start.
 fn counts_leaving(interval: Interval, before: Counts) -> Counts
     ensures { λ r. ⌜ r ≡ countsLeaving interval before ⌝ }
 {
@@ -19,7 +19,7 @@ fn counts_leaving(interval: Interval, before: Counts) -> Counts
     before
 }
 
-// Entering minimum green sets the gap count to G; entering running sets the maximum count to 0.
+// The counts when an interval begins: minimum green loads the gap count with G, running clears the maximum count.
 fn counts_entering(interval: Interval, times: PhaseTimes, before: Counts) -> Counts
     ensures { λ r. ⌜ r ≡ countsEntering interval times before ⌝ }
 {
@@ -36,7 +36,7 @@ fn counts_entering(interval: Interval, times: PhaseTimes, before: Counts) -> Cou
     Counts { gap, maximum }
 }
 
-// A change of interval sets counts, by what is left and by what is entered.
+// The counts after a change of interval, by the interval that ends and the one that begins.
 pub fn counts_changed(
     ended: bool,
     times: Times,
@@ -55,7 +55,7 @@ pub fn counts_changed(
     counted
 }
 
-// Entering minimum green clears the lock of the phase.
+// The locks after part 4: when minimum green begins, the lock of the phase is cleared.
 pub fn locks_left(ended: bool, now: Position, locks: u8) -> u8
     requires { ⌜ now .phase < 8 ⌝ }
     ensures { λ r. ⌜ r ≡ locksLeft ended now locks ⌝ }
@@ -67,7 +67,7 @@ pub fn locks_left(ended: bool, now: Position, locks: u8) -> u8
     locks
 }
 
-// Start red or all-red has ended: a phase starts.
+// Whether a phase starts: start red or all-red has ended.
 pub fn starts(ended: bool, old: Position) -> bool
     ensures { λ r. ⌜ r ≡ startsAt ended old ⌝ }
 {

@@ -14,7 +14,7 @@ pub struct Busy {
     pub clearing: bool,
 }
 
-// Idle records are in neither, so the movements that the site has settle it.
+// Looks at the site's own movements only: the records past them are idle.
 fn under_way(movements: [Movement; 8], count: u8) -> Busy
     requires { ⌜ IdlePast count movements ⌝ }
     ensures { λ r. ⌜ (r .walking ≡ someMovement isWalkOrFirst movements) × (r .clearing ≡ someMovement isSecond movements) ⌝ }
@@ -33,9 +33,9 @@ fn under_way(movements: [Movement; 8], count: u8) -> Busy
     Busy { walking, clearing }
 }
 
-// Start red, late start, minimum green, early cut-off green and yellow end once the age is at least the setting. Running ends if another
-// phase is demanded, no movement is in walk or C1, and the gap count is 0 or the maximum count is X. All-red ends when its age is at
-// least R and no movement is in C2.
+// Whether the interval ends. Running ends if another phase is demanded, the gap is over or the maximum is used up, and no movement is in
+// walk or C1. All-red ends when its age has reached R, but not while a movement is in C2. Every other interval ends when its age has
+// reached its setting.
 pub fn ends(
     interval: Interval,
     start: u16,

@@ -20,7 +20,7 @@ fn entering(interval: Interval, target: Held, position: Position) -> Position
     }
 }
 
-// A phase starts with late start, or minimum green if L is 0.
+// The position in which a phase starts: late start, or minimum green if its L is 0.
 fn starting(times: Times, phase: u8, previous: Held) -> Position
     ensures { λ r. ⌜ r ≡ starting times phase previous ⌝ }
 {
@@ -43,8 +43,7 @@ fn starting(times: Times, phase: u8, previous: Held) -> Position
     }
 }
 
-// Running is followed by early cut-off green, or by yellow if its time is 0. The target is the phase that is demanded next at that
-// moment.
+// The position after running: early cut-off green, or yellow if E is 0. The phase that is demanded next in this step becomes the target.
 fn leaving(times: Times, next: Held, position: Position) -> Position
     ensures { λ r. ⌜ r ≡ leaving times next position ⌝ }
 {
@@ -55,7 +54,7 @@ fn leaving(times: Times, next: Held, position: Position) -> Position
     entering(Interval::EarlyCutOff, next, position)
 }
 
-// What follows the interval once it has ended. The target is chosen when running ends, and kept.
+// The position after the interval has ended. The target is chosen when running ends, and then kept.
 fn following(times: Times, next: Held, position: Position) -> Position
     ensures { λ r. ⌜ r ≡ following (position .interval) times next position ⌝ }
 {

@@ -1,4 +1,4 @@
-// Part 4 of a step: the interval, judged by its age, at most one change a step. When it ends, what follows it, and what a change does.
+// Part 4 of a step: the interval. When it ends, what follows, and what a change does. At most one change is made in a step.
 pub mod changes;
 pub mod ending;
 pub mod following;

@@ -1,5 +1,5 @@
--- Internal: no promise cites this file. What a pass over the movements that a site has may rely on: there is room for them, and every record past them is
--- idle.
+-- Internal: no promise cites this file. What a pass over the site's own movements requires: there is room for them, and every record past
+-- them is idle.
 use Prim.Native.Nat.{ℕ, _≤_, _<_}
 use mathlib.Core.List.{List}
 use mathlib.Core.Path.{_≡_}

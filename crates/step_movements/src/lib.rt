@@ -1,5 +1,5 @@
-// Part 2 of a step: movements. Walk, C1 and C2 follow each other once the age is at least the setting; after C2 the movement is idle. A walk
-// that has lasted goes on until it may end.
+// Part 2 of a step: movements. Walk, C1 and C2 follow each other; each ends once its age is at least its setting. After C2 the movement is
+// idle. A walk also goes on until it may end.
 ghost use mathlib.Core.Path.{_≡_};
 ghost use Rattle.rules.specs.Movements.{older, walkMayEnd, lasting, advanced, movementsAfter};
 ghost use Rattle.step_movements.specs.IdlePast.{IdlePast};
@@ -11,15 +11,15 @@ use rules::state::Interval;
 use rules::state::Movement;
 use rules::state::Stage;
 
-// Ages rise by one and stop at 2,000.
+// The next age: one more, but at most 2,000.
 pub fn older(age: u16) -> u16
     ensures { λ r. ⌜ r ≡ older age ⌝ }
 {
     if age < 2000 { age + 1 } else { 2000 }
 }
 
-// Whether a walk that has lasted may end: running has another phase demanded, and the gap count is 0 or the maximum count is X. The interval
-// and the counts are those handed in.
+// Whether a walk of at least W steps may end: the interval is running, another phase is demanded, and the gap count is 0 or the maximum
+// count has reached X. Interval and counts are those of the state handed in.
 pub fn walk_may_end(interval: Interval, times: PhaseTimes, another: bool, counts: Counts) -> bool
     ensures { λ r. ⌜ r ≡ walkMayEnd interval times another counts ⌝ }
 {
@@ -27,7 +27,7 @@ pub fn walk_may_end(interval: Interval, times: PhaseTimes, another: bool, counts
     base_intervals::is_running(interval) & another & due
 }
 
-// A stage that lasts for the setting at least and then until it may end, and what follows it.
+// One step of a stage: it ends if its age is at least the setting and it may end, and `next` follows.
 fn lasting(may_end: bool, setting: u16, stage: Stage, next: Stage, age: u16) -> Movement
     ensures { λ r. ⌜ r ≡ lasting «may_end» setting stage next age ⌝ }
 {
@@ -43,7 +43,7 @@ fn lasting(may_end: bool, setting: u16, stage: Stage, next: Stage, age: u16) -> 
     }
 }
 
-// One movement, a step on. Only a walk waits until it may end.
+// One movement after a step. Only a walk waits until it may end.
 fn advanced(may_end: bool, stage: Stage, times: WalkTimes, age: u16) -> Movement
     ensures { λ r. ⌜ r ≡ advanced «may_end» stage times age ⌝ }
 {
@@ -64,7 +64,7 @@ fn advanced(may_end: bool, stage: Stage, times: WalkTimes, age: u16) -> Movement
     }
 }
 
-// All movements, a step on. The count is of those that the site has: the records past them are idle and stay.
+// All movements after a step. `count` is the number of movements of the site; the records past them are idle and do not change.
 pub fn movements_after(
     times: Times,
     may_end: bool,

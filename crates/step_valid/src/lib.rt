@@ -47,7 +47,7 @@ fn interval_valid(early: bool, interval: Interval) -> bool
     early | !base_intervals::is_early(interval)
 }
 
-// A target unlike the phase, held in early cut-off green, yellow and all-red only.
+// In early cut-off green, yellow and all-red the target is another phase below P. In the other intervals there is no target.
 fn target_valid(phases: u8, phase: u8, leaving: bool, target: Held) -> bool
     ensures { λ r. ⌜ r ≡ targetValid phases phase leaving target ⌝ }
 {
@@ -88,8 +88,8 @@ fn demands_valid(phases: u8, count: u8, demands: Demands) -> bool
     sets::all_below(demands.locks, phases) & sets::all_below(demands.buttons, count)
 }
 
-// One movement record, by whether it is a movement of the phase: an idle one is at age 1. Any other has a valid age, is of the phase, is
-// not in walk or C1 in early cut-off green, yellow and all-red, and is not in start red.
+// Whether a movement record is valid; `of_phase` says if it is a movement of the phase. An idle record has age 1. Any other has a valid age
+// and is of the phase. It is not allowed in start red, and in early cut-off green, yellow and all-red it may only be in C2.
 fn movement_valid(of_phase: bool, interval: Interval, movement: Movement) -> bool
     ensures { λ r. ⌜ r ≡ movementValid «of_phase» interval movement ⌝ }
 {
@@ -104,7 +104,7 @@ fn movement_valid(of_phase: bool, interval: Interval, movement: Movement) -> boo
         & !base_intervals::is_start_red(interval)
 }
 
-// All movement records, up to the first that is not valid. A movement past the count is one that the site doesn't have, and of no phase.
+// Whether all movement records are valid. A record past the count belongs to no movement of the site, so it is of no phase.
 fn movements_valid(
     count: u8,
     crossings: [u8; 8],
@@ -147,7 +147,7 @@ fn valid(site: Site, state: State) -> bool
         & movements_valid(count, crossings, position, movements)
 }
 
-// Whether the state is valid for the site: a kept set that differs from a scan of its locks and demanded movements is not.
+// Whether the state is valid for the site, and its kept set equals a scan of its locks and demanded movements.
 pub fn kept_valid(site: Site, state: KeptState) -> bool
     requires { ⌜ Sound site ⌝ }
     ensures { λ r. ⌜ r ≡ keptValid site state ⌝ }
@@ -159,7 +159,7 @@ pub fn kept_valid(site: Site, state: KeptState) -> bool
     valid(site, core) & (state.kept == standing)
 }
 
-// Whether an input bit is set without a detector or button there.
+// Whether an input bit is set that has no detector and no button.
 pub fn stray_input(site: Site, inputs: u64) -> bool
     requires { ⌜ Sound site ⌝ }
     ensures { λ r. ⌜ r ≡ strayInput site inputs ⌝ }

@@ -1,5 +1,5 @@
-// Part 5 of a step: walks. When a phase starts, its demanded movements begin walk. When the interval is now running and no other
-// phase is demanded, idle demanded movements of the phase begin walk. Beginning clears the demand; the age is 1.
+// Part 5 of a step: walks. If a phase starts, its demanded movements begin their walk. They also begin it in running, if they are idle and
+// no other phase is demanded. A walk that begins has age 1, and its demand is cleared.
 ghost use mathlib.Core.Path.{_≡_};
 ghost use Rattle.rules.specs.Walks.{begins};
 ghost use Rattle.step_walks.specs.Begun.{begunBy};
@@ -14,8 +14,8 @@ pub struct Begun {
     pub movements: [Movement; 8],
 }
 
-// The movements that begin walk are demanded. Where no phase starts and walks may not begin, there are none. Each turn takes the lowest
-// demanded movement that is left.
+// Begins the walks. Only demanded movements can begin one, and none does if no phase starts and running does not allow it. Each turn of
+// the loop takes the lowest demanded movement that is left.
 pub fn begin(
     crossings: [u8; 8],
     starts: bool,

@@ -8,8 +8,8 @@ use base_bytes::sets;
 use rules::state::Demands;
 use step_demands_buttons::movements;
 
-// What is left of a kept set: a phase is given up if a demand of it was cleared and none is left. Most steps clear none. The site has count
-// movements.
+// The kept set after demands were cleared. A phase leaves the set if a demand of it was cleared and none is left. Most steps clear none.
+// `count` is the number of movements of the site.
 pub fn kept_left(crossings: [u8; 8], count: u8, old: Demands, new: Demands, kept: u8) -> u8
     requires { ⌜ count ≤ 8 ⌝ }
     ensures { λ r. ⌜ r ≡ setOf (keptLeft crossings count old new (λ p. bit p kept)) ⌝ }

@@ -1,6 +1,6 @@
-// The wait bound of a site: start red plus, summed over phases, L + M + X + 2 × (A + E + Y + R + C), in steps. A is the greatest W + C1
-// among the phase's movements and C the greatest C2, both 0 without movements; E is the time of early cut-off green. Every time is in the
-// table of limits, and the greatest wait that the table admits is a number of two bytes: so is every sum here.
+// The wait bound of a site in steps: start red plus the sum over the phases of L + M + X + 2 × (A + E + Y + R + C). For the movements of
+// the phase, A is the largest sum W + C1 and C the largest C2; without movements both are 0. E is the time of early cut-off green. All
+// times are inside the limits, so every sum here fits in two bytes.
 ghost use Prim.Native.Nat.{_≤_};
 ghost use mathlib.Core.Path.{_≡_};
 ghost use Rattle.rules.specs.WaitBound.{phaseShare, waitBoundBy};
@@ -10,7 +10,7 @@ use rules::site::Size;
 use rules::site::Times;
 use wait_bound_movements::longest_of;
 
-// The share of a phase whose A and C are given.
+// The share of a phase, with its A (`walk`) and C (`clearance`).
 fn phase_share(times: PhaseTimes, walk: u16, clearance: u16) -> u16
     requires { ⌜ phaseShare times walk clearance ≤ 65535 ⌝ }
     ensures { λ r. ⌜ r ≡ phaseShare times walk clearance ⌝ }
@@ -21,7 +21,7 @@ fn phase_share(times: PhaseTimes, walk: u16, clearance: u16) -> u16
         + 2 * (walk + times.early + times.yellow + times.red + clearance)
 }
 
-// The bound of a site, by the three parts of it that it goes by.
+// The wait bound, from the three parts of the site that it needs.
 pub fn wait_bound_by(size: Size, times: Times, crossings: [u8; 8]) -> u32
     requires { ⌜ (size .phases ≤ 7) × (size .movements ≤ 8) × SoundTimes size times ⌝ }
     ensures { λ r. ⌜ r ≡ waitBoundBy size times crossings ⌝ }

@@ -1,5 +1,5 @@
-// What the wait bound takes from the pedestrian movements of each phase: A, the greatest W + C1 among them, and C, the greatest C2, both 0
-// without movements.
+// What the wait bound needs of the pedestrian movements of each phase: A, the greatest W + C1 among them, and C, the greatest C2. Both are
+// 0 without movements.
 ghost use Prim.Native.Nat.{ℕ, _+_, _*_, _≤_, _<_, max};
 ghost use mathlib.Core.Bool.{_&&_};
 ghost use mathlib.Core.Path.{_≡_};
@@ -16,7 +16,7 @@ fn greater(a: u16, b: u16) -> u16
     if a < b { b } else { a }
 }
 
-// The sets of the first count movements in one number: bit 8 * k + p where movement k is of phase p.
+// The phase sets of the first `count` movements in one number: bit 8 * k + p is set if movement k is of phase p.
 fn sets_of(crossings: [u8; 8], count: u8) -> u64
     requires { ⌜ count ≤ 8 ⌝ }
     ensures { λ r. ⌜ ((k p : ℕ) → k < 8 → p < 8 → bit (8 * k + p) r ≡ (ltb k count && bit p (getD crossings k 0))) ⌝ }
@@ -36,8 +36,8 @@ fn sets_of(crossings: [u8; 8], count: u8) -> u64
     all
 }
 
-// A and C of each phase among the first count movements: A of phase p at p, C at 8 + p. Each turn takes the lowest bit that is left, so a
-// movement has a turn for each of its phases.
+// A and C of each phase among the first `count` movements: A of phase p at p, C at 8 + p. Each turn of the loop takes the lowest bit that
+// is left, so a movement has one turn for each of its phases.
 pub fn longest_of(crossings: [u8; 8], walks: [WalkTimes; 8], count: u8) -> [u16; 16]
     requires { ⌜ (count ≤ 8) × ((k : ℕ) → k < count → getD walks k noWalkTimes .walk + getD walks k noWalkTimes .first ≤ 65535) ⌝ }
     ensures { λ r. ⌜ ((p : ℕ) → p < 8 → (getD r p 0 ≡ longestWalk crossings walks count p) × (getD r (8 + p) 0 ≡ longestClearance crossings walks count p)) ⌝ }

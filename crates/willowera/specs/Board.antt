@@ -1,5 +1,5 @@
--- The calls of the board's library, over bytes. An answer is one number: the lowest byte is the number of the refusal, 0 where the call
--- is accepted, and the rest is the place, or the wait bound where a step or a wait bound is given.
+-- The calls of the library for C and Rust, with states as bytes. An answer is one number: its lowest byte is the number of the refusal, 0
+-- if the call is accepted; the bytes above it are the place of a refusal or the result of an accepted call.
 use Prim.Native.Nat.{ℕ, _+_, _*_}
 use mathlib.Core.Bool.{not}
 use mathlib.Core.List.{List}
@@ -23,17 +23,17 @@ packed number value = number + 256 * value
 unfoldable pub packedVerdict : Verdict → ℕ
 packedVerdict v = packed (reportOf v .number) (reportOf v .place)
 
--- of the place and the wait bound one is 0
+-- either the place or the wait bound is 0
 unfoldable pub packedOutcome : Outcome → ℕ
 packedOutcome o = packed (stepReportOf o .number) (stepReportOf o .place + waitOf o)
 
 -- ── The fresh state ──
 
--- 13 for a buffer that has not the length of a state
+-- 13 if the buffer does not have the length of a state
 unfoldable pub freshAnswer : List ℕ → ℕ
 freshAnswer old = packedVerdict (refuseIf (not (eqb (length old) stateBytes)) 13 0)
 
--- ── A step call, its state in bytes: the personality's own refusal comes before 13 for bytes that are no state ──
+-- ── A step call with its state in bytes: the personality is checked before 13, which also means bytes that are no state ──
 
 unfoldable pub stepAnswer : List ℕ → List ℕ → ℕ → ℕ → ℕ
 stepAnswer b old inputs room =
@@ -45,7 +45,7 @@ unfoldable pub stateFor : Outcome → KeptState → List ℕ → List ℕ
 stateFor (Stepped wait) next old = encoded next
 stateFor (StepRefused number place) next old = old
 
--- the bytes of the new state; those handed in on a refusal
+-- the bytes of the new state; after a refusal those handed in
 unfoldable pub stateAfter : List ℕ → List ℕ → ℕ → ℕ → List ℕ
 stateAfter b old inputs room =
     if isState old
@@ -55,7 +55,7 @@ stateAfter b old inputs room =
 unfoldable pub coloursAfter : List ℕ → List ℕ → ℕ → List ℕ → List ℕ
 coloursAfter b old inputs buffer = if isState old then bufferOf b (decoded old) inputs buffer else buffer
 
--- ── The section lookup: where the body starts, counted from the first byte of the personality, and how long it is ──
+-- ── The section lookup: the offset of the body in the personality, and its length ──
 
 unfoldable pub sectionFor : Verdict → ℕ → ℕ → ℕ
 sectionFor Accepted offset size = 256 * offset + 1099511627776 * size

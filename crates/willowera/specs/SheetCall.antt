@@ -1,5 +1,5 @@
--- The settings of a site sheet over the board's interface. The lowest byte of the answer is the number of the refusal, 0 where there are settings; above it
--- stand the place, or minimum green in 16 bits and the passage time in the 16 bits above them.
+-- The settings of a site sheet for C and Rust. The lowest byte of the answer is the number of the refusal, 0 if there are settings. Above
+-- it are the place, or minimum green in 16 bits and then the passage time in 16 bits.
 use Prim.Native.Nat.{ℕ, _+_, _*_}
 use lib.Dec.{eqb}
 use lib.Ieee.{Float}
@@ -13,7 +13,7 @@ unfoldable pub packedSettings : Answer → ℕ
 packedSettings a =
     packed (settingsReportOf a .number) (settingsReportOf a .place + minimumOf a + 65536 * passageOf a)
 
--- 0 is an advance detector, 1 a stop-line zone; another number names no detector and is refused as a sheet out of range
+-- 0 is an advance detector, 1 a stop-line zone; any other number is refused like a sheet out of range
 unfoldable pub settingsAnswer : ℕ → ℕ → Float → ℕ
 settingsAnswer speed detector metres =
     if eqb detector 0

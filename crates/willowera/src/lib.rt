@@ -1,5 +1,5 @@
-// The board's library for C and Rust: units one to three over bytes. A slice is passed as a pointer and a length. An answer's lowest
-// byte is the number of the refusal, 0 where the call is accepted; the rest is the place, or the wait bound of an accepted step.
+// The library for C and Rust: units one to three, with states as bytes. A slice is passed as a pointer and a length. The lowest byte of an
+// answer is the number of the refusal, 0 if the call is accepted. The bytes above it are the place, or the result of an accepted call.
 ghost use Prim.Native.Nat.{_+_, _*_, _≤_, _<_};
 ghost use mathlib.Core.Path.{_≡_};
 ghost use lib.ListN.{length};
@@ -23,7 +23,7 @@ fn packed(number: u8, value: u32) -> u64
     (number as u64) + 256 * (value as u64)
 }
 
-// A refusal. No place is past the length of the longest personality.
+// A refusal. No place is above the length of the longest personality.
 fn refusal(number: u8, place: usize) -> u64
     requires { ⌜ place ≤ greatestLength ⌝ }
     ensures { λ r. ⌜ r ≡ packed number place ⌝ }
@@ -31,7 +31,7 @@ fn refusal(number: u8, place: usize) -> u64
     packed(number, place as u32)
 }
 
-// Accepts or refuses a personality.
+// Accepts a personality (0) or refuses it.
 #[no_mangle]
 pub extern "C" fn willowera_read(personality: &[u8]) -> u64
     ensures { λ r. ⌜ r ≡ packedVerdict (verdictOf (now (personality .entry))) ⌝ }
@@ -43,7 +43,7 @@ pub extern "C" fn willowera_read(personality: &[u8]) -> u64
     }
 }
 
-// The longest wait of a demand, in steps.
+// The wait bound of a personality in steps, or its refusal.
 #[no_mangle]
 pub extern "C" fn willowera_wait_bound(personality: &[u8]) -> u64
     ensures { λ r. ⌜ r ≡ packedOutcome (boundOf (now (personality .entry))) ⌝ }
@@ -55,7 +55,7 @@ pub extern "C" fn willowera_wait_bound(personality: &[u8]) -> u64
     }
 }
 
-// Writes the fresh state into a buffer of 39 bytes. Another buffer stays as it is, and the answer is 13.
+// Writes the fresh state into a buffer of 39 bytes. If the buffer has another length, it stays as it is, and the answer is 13.
 #[no_mangle]
 pub extern "C" fn willowera_fresh(state: &mut [u8]) -> u64
     ensures { λ r. ⌜ (r ≡ freshAnswer (now (state .entry))) × (now (state .exit) ≡ encodedOver freshKept (now (state .entry))) ⌝ }
@@ -67,9 +67,9 @@ pub extern "C" fn willowera_fresh(state: &mut [u8]) -> u64
     }
 }
 
-// One step of 0.1 s: the bytes of the new state take the place of the old, the colours of the groups are written, and the wait bound
-// is the answer. A refused step changes nothing, and the personality's own refusal comes before 13 for bytes that are no state. The state
-// is decoded last, so that it is not held while the personality is read.
+// One step of 0.1 s: replaces the state by the next state, writes the colours of the groups, and answers the wait bound. A refused step
+// changes nothing. The personality is checked first, then whether the bytes are a state (13). The state is decoded after the reading, so
+// that it is not held during it.
 #[no_mangle]
 pub extern "C" fn willowera_step(
     personality: &[u8],
@@ -102,7 +102,7 @@ pub extern "C" fn willowera_step(
     }
 }
 
-// The place and the length of a part of the personality, above a lowest byte of 0: the place in 32 bits, the length in 24.
+// The answer for a part of the personality: 0 in the lowest byte, then the place in 32 bits and the length in 24.
 fn part(start: usize, size: u16) -> u64
     requires { ⌜ start < 4294967296 ⌝ }
     ensures { λ r. ⌜ r ≡ 256 * start + 1099511627776 * size ⌝ }
@@ -110,7 +110,7 @@ fn part(start: usize, size: u16) -> u64
     256 * (start as u64) + 1099511627776 * (size as u64)
 }
 
-// Where the body of the section of a kind is.
+// Offset and length of the body of a section, or a refusal.
 #[no_mangle]
 pub extern "C" fn willowera_section(personality: &[u8], kind: u16) -> u64
     ensures { λ r. ⌜ r ≡ sectionAnswer (now (personality .entry)) kind ⌝ }
@@ -123,7 +123,7 @@ pub extern "C" fn willowera_section(personality: &[u8], kind: u16) -> u64
     }
 }
 
-// The version of these calls.
+// The version of the interface.
 #[no_mangle]
 pub extern "C" fn willowera_version() -> u32
     ensures { λ r. ⌜ r ≡ 4 ⌝ }

@@ -1,4 +1,4 @@
-// The settings of a site sheet for C: the detector is a number, 0 in advance and 1 at the stop line.
+// The settings of a site sheet for C. The detector is a number: 0 an advance detector, 1 a stop-line zone.
 ghost use mathlib.Core.Path.{_≡_};
 ghost use Rattle.sheet_settings.specs.Sheet.{answerOf};
 ghost use Rattle.willowera.specs.SheetCall.{packedSettings, settingsAnswer};
@@ -8,7 +8,7 @@ use sheet_settings::Answer;
 use sheet_settings::Detector;
 use sheet_settings::Sheet;
 
-// The settings above a lowest byte of 0: minimum green in 16 bits, the passage time in the 16 bits above them.
+// The answer for a sheet: 0 in the lowest byte, then minimum green in 16 bits and the passage time in 16 bits; or the refusal.
 fn settings_of(sheet: Sheet) -> u64
     ensures { λ r. ⌜ r ≡ packedSettings (answerOf sheet) ⌝ }
 {
@@ -21,7 +21,7 @@ fn settings_of(sheet: Sheet) -> u64
     }
 }
 
-// Minimum green and passage time of an approach. Another detector than 0 and 1 is refused with 19.
+// Minimum green and passage time of an approach, or a refusal. A detector other than 0 and 1 is refused with 19.
 #[no_mangle]
 pub extern "C" fn willowera_settings(speed: u32, detector: u32, metres: f64) -> u64
     ensures { λ r. ⌜ r ≡ settingsAnswer speed detector metres ⌝ }
