@@ -29,9 +29,9 @@ use Rattle.rules.specs.DemandThree.{Call, Taken, ruled, takenFrom}
 use Rattle.rules.specs.Laws.{Sound, AcceptedIsSound, FreshIsValid, StepKeepsValid}
 use Rattle.rules.specs.Scanning.{scanVerdict, scanning, FreshKeptIsValid, StepKeepsKept, StepForgets, RunForgets}
 use Rattle.laws.proofs.Booleans.{and-left, and-both, and-false-left, or-false-both}
-use Rattle.laws.proofs.Bits.{bit-blank}
 use Rattle.laws.proofs.Folds.{any-none}
-use Rattle.laws.proofs.Sets.{set-same}
+use Rattle.laws.proofs.Bits.{bit-blank}
+use Rattle.laws.proofs.ByteSets.{set-same}
 use Rattle.rules.proofs.Verdicts.{or-first}
 use Rattle.proof_runs.proofs.Chains.{checks-told}
 use Rattle.proof_runs.proofs.Steps.{askedNow, lockedNow, begun, ended, now, asked-at, locked-at, locked-of, asked-of}

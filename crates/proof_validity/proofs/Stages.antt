@@ -12,16 +12,12 @@ use Rattle.rules.specs.declared.state.Stage.the-variants.{Idle, Walk, Clearance
 use Rattle.rules.specs.IntervalTable.{isIdle, isWalkOrFirst, isSecond}
 use Rattle.rules.specs.Movements.{older, lasting, advanced}
 use Rattle.laws.proofs.Booleans.{never-both}
-use Rattle.rules.proofs.IntervalTests.{idle-only}
+use Rattle.rules.proofs.IntervalTests.{idle-not-walking}
 use Rattle.proof_runs.proofs.ValidStates.{Aged, ValidMovement}
 use Rattle.proof_runs.proofs.Lasting.{lasting-cases}
 use Rattle.proof_validity.proofs.Positions.{older-aged, new-aged}
 
 -- ── Stages ──
-
-idle-not-walking : (stage : Stage) → isIdle stage ≡ true → isWalkOrFirst stage ≡ false
-unfolding isWalkOrFirst
-idle-not-walking stage h = rw (idle-only stage h)
 
 -- a movement in no walk and no clearance is idle
 pub cleared-idle : (stage : Stage) → isWalkOrFirst stage ≡ false → isSecond stage ≡ false → isIdle stage ≡ true

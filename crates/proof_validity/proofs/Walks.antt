@@ -22,7 +22,7 @@ use Rattle.rules.specs.Interval.{following, starts}
 use Rattle.rules.specs.Step.{stepped}
 use Rattle.rules.specs.Laws.{Sound}
 use Rattle.laws.proofs.Booleans.{and-left, and-right, or-cases, never-both}
-use Rattle.laws.proofs.Counting.{passes-below}
+use Rattle.laws.proofs.Indices.{passes-below}
 use Rattle.rules.proofs.IntervalTests.{running-only}
 use Rattle.proof_runs.proofs.ValidStates.{ValidMovement, ValidState}
 use Rattle.proof_runs.proofs.Steps.{another, ended, now, started, moved, askedNow, begun, movement-of}

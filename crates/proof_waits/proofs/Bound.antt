@@ -15,7 +15,7 @@ use Rattle.rules.specs.IntervalTable.{phaseHeld, isLeaving, isStartRed}
 use Rattle.rules.specs.State.{movement, targetValid}
 use Rattle.rules.specs.WaitBound.{phaseShare, waitBound, waitBoundBy}
 use Rattle.rules.specs.Laws.{Sound}
-use Rattle.laws.proofs.Counting.{sum-at, sum-both}
+use Rattle.laws.proofs.Sums.{sum-at, sum-both}
 use Rattle.proof_runs.proofs.ValidStates.{ValidState, target-below}
 use Rattle.proof_runs.proofs.Steps.{timesNow}
 use Rattle.proof_waits.proofs.Stages.{longestWalk, longestClearance, outs, idles, outs-most, clear-most}

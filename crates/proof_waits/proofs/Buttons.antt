@@ -22,7 +22,7 @@ use Rattle.rules.specs.WaitBound.{waitBound}
 use Rattle.rules.specs.Laws.{Sound}
 use Rattle.rules.specs.DemandThree.{Taken, inWalk, walkBegins}
 use Rattle.laws.proofs.Booleans.{and-right, and-both, or-left, or-right, decided, never-both, not-false-true}
-use Rattle.laws.proofs.Counting.{same-or-apart}
+use Rattle.laws.proofs.Indices.{same-or-apart}
 use Rattle.proof_runs.proofs.ValidStates.{ValidState}
 use Rattle.proof_runs.proofs.Steps.{another, mayEnd, ended, now, started, moved, askedNow, begun, position-of, asked-of, movement-of}
 use Rattle.proof_runs.proofs.Demanded.{button-demands}

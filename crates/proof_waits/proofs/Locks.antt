@@ -23,7 +23,7 @@ use Rattle.rules.specs.WaitBound.{waitBound}
 use Rattle.rules.specs.Laws.{Sound}
 use Rattle.rules.specs.DemandThree.{Taken, inMinimumGreen, inRunning, minimumGreenBegins}
 use Rattle.laws.proofs.Booleans.{and-left, and-right, and-both, or-left, or-right, or-false-left, decided, never-both, not-true-false}
-use Rattle.laws.proofs.Counting.{same-or-apart}
+use Rattle.laws.proofs.Indices.{same-or-apart}
 use Rattle.proof_runs.proofs.ValidStates.{ValidState}
 use Rattle.proof_runs.proofs.Steps.{ended, now, lockedNow, position-of, locked-of}
 use Rattle.proof_runs.proofs.Demanded.{lock-demands}

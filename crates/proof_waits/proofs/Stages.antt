@@ -23,8 +23,8 @@ use Rattle.rules.specs.Movements.{older, lasting, advanced}
 use Rattle.rules.specs.WaitBound.{longestWalk as walkBy, longestClearance as clearanceBy}
 use Rattle.rules.specs.Laws.{Sound}
 use Rattle.laws.proofs.Booleans.{decided, never-both}
+use Rattle.laws.proofs.Sums.{greatest-at}
 use Rattle.rules.proofs.IntervalTests.{idle-only}
-use Rattle.laws.proofs.Folds.{greatest-at}
 use Rattle.proof_runs.proofs.ValidStates.{Aged, ValidMovement, ValidState}
 use Rattle.proof_runs.proofs.Steps.{timesNow}
 use Rattle.proof_runs.proofs.Lasting.{lasting-cases}

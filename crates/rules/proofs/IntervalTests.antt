@@ -1,11 +1,11 @@
 -- Tests of an interval and of a stage, by cases: which one a test tells, and a test that is put together from two.
-use mathlib.Core.Bool.{true, _||_, false≢true}
+use mathlib.Core.Bool.{true, false, _||_, false≢true}
 use mathlib.Core.Path.{_≡_, refl}
 use Rattle.rules.specs.declared.state.Interval.{Interval}
 use Rattle.rules.specs.declared.state.Interval.the-variants.{StartRed, LateStart, MinimumGreen, Running, EarlyCutOff, Yellow, AllRed}
 use Rattle.rules.specs.declared.state.Stage.{Stage}
 use Rattle.rules.specs.declared.state.Stage.the-variants.{Idle, Walk, ClearanceOne, ClearanceTwo}
-use Rattle.rules.specs.IntervalTable.{isIdle, isRunning, isMinimumGreen, isGreen}
+use Rattle.rules.specs.IntervalTable.{isIdle, isWalkOrFirst, isRunning, isMinimumGreen, isGreen}
 
 pub running-only : (interval : Interval) → isRunning interval ≡ true → interval ≡ Running
 unfolding isRunning
@@ -33,3 +33,7 @@ idle-only Idle h = refl
 idle-only Walk h = absurd (false≢true h)
 idle-only ClearanceOne h = absurd (false≢true h)
 idle-only ClearanceTwo h = absurd (false≢true h)
+
+pub idle-not-walking : (stage : Stage) → isIdle stage ≡ true → isWalkOrFirst stage ≡ false
+unfolding isWalkOrFirst
+idle-not-walking stage h = rw (idle-only stage h)

@@ -1,26 +1,15 @@
--- Bytes within a list: those that stand behind others, the part of a list from a place on, and lists of bytes.
+-- Bytes within a list: the part of a list from a place on, rows of parts, and lists of bytes.
 use Prim.Native.Nat.{ℕ, zero, suc, _+_, _*_, _≤_, _<_}
 use mathlib.Core.List.{List, [], _∷_, _++_}
-use mathlib.Core.Path.{_≡_, refl, sym, ap, _∙_}
-use native.Mathlib.Nat.{mul-le-mul-right, le-of-suc-le-suc, not-suc-le-zero}
+use mathlib.Core.Path.{_≡_, refl, ap, _∙_}
+use native.Mathlib.Nat.{mul-le-mul-right}
 use native.Mathlib.Numerals.{add-one}
 use native.Mathlib.Omega.{arith}
-use lib.ListN.{length, getD, take, drop, length-append}
-use lib.Seq.{getD-at, getD-append-add, drop-cons, take-add, drop-drop, ext-getD}
+use lib.ListN.{length, take, drop, length-append}
+use lib.Seq.{drop-cons, take-add, drop-drop}
 use Rattle.laws.specs.Bytes.{byteAt}
-use Rattle.laws.specs.Folds.{listOf}
-use Rattle.laws.proofs.Folds.{list-length, list-at}
+use Rattle.laws.proofs.Folds.{fold-same}
 use Rattle.state_forms.specs.Forms.{partsOf, AreBytes}
-
--- ── Behind others ──
-
-pub first-byte : (p q : List ℕ) (x at : ℕ) → length p ≡ at → byteAt (p ++ (x ∷ q)) at ≡ x
-unfolding byteAt
-first-byte p q x at e = getD-at p x q 0 at e
-
-pub second-byte : (p q : List ℕ) (x y at : ℕ) → length p ≡ at → byteAt (p ++ (x ∷ y ∷ q)) (at + 1) ≡ y
-unfolding byteAt
-second-byte p q x y at e = rw (sym e) (getD-append-add p (x ∷ y ∷ q) 1 0)
 
 -- ── A part of a list ──
 
@@ -53,8 +42,7 @@ parts-joined b at w (suc n) =
 
 pub parts-same : (f g : ℕ → List ℕ) (n : ℕ) → ((i : ℕ) → i < n → f i ≡ g i) → partsOf f n ≡ partsOf g n
 unfolding partsOf
-parts-same f g zero h = refl
-parts-same f g (suc n) h = rw (parts-same f g n (λ i l. h i (omega arith)), h n (omega arith))
+parts-same = fold-same partsOf (λ f g. refl) (λ f g n front last. rw (front, last))
 
 pub parts-length : (f : ℕ → List ℕ) (w n : ℕ) → ((i : ℕ) → length (f i) ≡ w) → length (partsOf f n) ≡ n * w
 unfolding partsOf
@@ -66,18 +54,6 @@ pub record-within : (w k n : ℕ) → k < n → k * w + w ≤ n * w
 record-within w k n l =
     let e : suc k * w ≡ k * w + w = omega arith in
     rw e at (mul-le-mul-right w l)
-
--- a list is the row of its own entries
-pub listed : {A : Type 0} (l : List A) (n : ℕ) (d : A) → length l ≡ n → listOf (λ i. getD l i d) n ≡ l
-listed l n d e =
-    ext-getD d (listOf (λ i. getD l i d) n) l (list-length (λ i. getD l i d) n ∙ sym e)
-    (λ i h. list-at (λ i. getD l i d) n i d (omega (arith, list-length (λ i. getD l i d) n)))
-
--- within a list the default is never read
-pub entry-within : {A : Type 0} (l : List A) (i : ℕ) (d e : A) → i < length l → getD l i d ≡ getD l i e
-entry-within [] i d e h = absurd (not-suc-le-zero h)
-entry-within (x ∷ l) zero d e h = refl
-entry-within (x ∷ l) (suc i) d e h = entry-within l i d e (le-of-suc-le-suc h)
 
 -- ── Lists of bytes ──
 

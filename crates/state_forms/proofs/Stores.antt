@@ -9,7 +9,7 @@ use native.Mathlib.Omega.{arith}
 use lib.ListN.{length, set}
 use lib.Seq.{sets, sets-eq, length-sets, drop-length}
 use Rattle.laws.specs.Folds.{listOf}
-use Rattle.laws.proofs.Folds.{list-length}
+use Rattle.laws.proofs.Lists.{list-length}
 use Rattle.state_forms.specs.Forms.{partsOf}
 use Rattle.state_forms.proofs.Parts.{parts-length}
 

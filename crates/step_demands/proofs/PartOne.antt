@@ -1,7 +1,7 @@
 -- Part 1 put together: what its calls give from the sets of phases of which detectors are occupied is what the rules say, set by set.
 use Prim.Native.Nat.{ℕ, _<_}
 use mathlib.Core.Bool.{Bool, not, _&&_, _||_}
-use mathlib.Core.Path.{_≡_, refl, sym, ap, _∙_}
+use mathlib.Core.Path.{_≡_, sym, ap, _∙_}
 use native.Mathlib.Nat.{lt-of-le-of-lt}
 use native.Mathlib.Omega.{arith}
 use lib.Bits.{bitAnd, bitOr, and-le-r}
@@ -16,20 +16,15 @@ use Rattle.rules.specs.State.{locked, asked}
 use Rattle.rules.specs.Demands.{calling, locking, extending, detectedAmong, detected, inGreen, registersLock, registersButton, calls, demandsAfter, firstIn}
 use Rattle.rules.specs.Kept.{isKept, pressKeeps, keptAfter, nextKept}
 use Rattle.rules.specs.Laws.{Sound}
-use Rattle.laws.proofs.Sets.{bit-set, set-small, set-same}
 use Rattle.laws.proofs.Booleans.{and-false-right}
-use Rattle.laws.proofs.CommonBits.{bit-and}
-use Rattle.laws.proofs.Members.{set-told, union-told}
-use Rattle.laws.proofs.Passing.{any-past}
+use Rattle.laws.proofs.Folds.{any-past}
+use Rattle.laws.proofs.JoinedBits.{bit-and}
+use Rattle.laws.proofs.ByteSets.{bit-set, set-small, set-same, set-told, union-told, self-told}
 use Rattle.step_demands_detectors.specs.declared.Sensed.{Sensed}
 use Rattle.step_demands_detectors.specs.Sensed.{SensedBy}
 use Rattle.step_demands_ring.specs.RingPlaces.{others}
 use Rattle.step_demands.specs.Registered.{RegisteredBy}
 use Rattle.step_demands.proofs.Sites.{ring-same}
-
--- a byte is the set of its bits
-own-set : (x : ℕ) → x < 256 → x ≡ setOf (λ p. bit p x)
-own-set x small = set-told _ x small (λ p l. refl)
 
 module _
     (site : Site) (s : KeptState) (inputs : ℕ) (sensed : Sensed) (waiting : ℕ)
@@ -71,7 +66,7 @@ module _
         standing-told : standing ≡ demandsAfter site (s .core) inputs
         unfolding demandsAfter locked asked
         standing-told =
-            rw (pressed, union-told _ _ _ _ (own-set (s .core .demands .locks) locksSmall) lock-told)
+            rw (pressed, union-told _ _ _ _ (self-told (s .core .demands .locks) locksSmall) lock-told)
 
         -- a movement that the site has not is of no phase
         press-told : pressing ≡ setOf (pressKeeps site s inputs)
@@ -90,7 +85,7 @@ module _
 
         kept-told : kept ≡ setOf (keptAfter site s inputs)
         unfolding keptAfter isKept
-        kept-told = union-told _ _ _ _ (union-told _ _ _ _ (own-set (s .kept) keptSmall) lock-told) press-told
+        kept-told = union-told _ _ _ _ (union-told _ _ _ _ (self-told (s .kept) keptSmall) lock-told) press-told
 
         -- a phase is demanded that is kept, or called by a detector
         next-told : next ≡ nextKept site s inputs

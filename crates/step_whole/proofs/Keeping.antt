@@ -30,9 +30,9 @@ use Rattle.rules.specs.Walks.{begins, buttonsLeft}
 use Rattle.rules.specs.Step.{steppedTo}
 use Rattle.rules.specs.Kept.{keptValid, keptAfter, nextKept, gone, cleared, keptLeft, keptStepped}
 use Rattle.rules.specs.Laws.{Sound}
-use Rattle.laws.proofs.Folds.{any-none}
-use Rattle.laws.proofs.Sets.{bit-set, set-same}
 use Rattle.laws.proofs.Booleans.{and-left, and-right, and-false-left, and-false-right, or-false-both, decided, not-true-false}
+use Rattle.laws.proofs.Folds.{any-none}
+use Rattle.laws.proofs.ByteSets.{bit-set, set-same}
 use Rattle.proof_kept.proofs.Scans.{kept-after, kept-left}
 use Rattle.step_demands.specs.declared.Registered.{Registered}
 use Rattle.step_demands.specs.Registered.{RegisteredBy}

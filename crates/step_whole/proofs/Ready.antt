@@ -19,9 +19,9 @@ use Rattle.rules.specs.Interval.{entering, starting, leaving, following, stayin
 use Rattle.rules.specs.Kept.{keptValid}
 use Rattle.rules.specs.Laws.{Sound}
 use Rattle.laws.proofs.Booleans.{decided, and-left}
+use Rattle.rules.proofs.IntervalTests.{idle-only}
 use Rattle.proof_runs.proofs.ValidStates.{ValidState, state-told, target-below}
 use Rattle.step_movements.specs.IdlePast.{IdlePast}
-use Rattle.step_movements.proofs.Idle.{idle-only}
 
 -- a change of interval stays in its phase, or goes to the target where the phase is left
 followed-below :

@@ -5,7 +5,7 @@ use mathlib.Core.Path.{ap, _∙_}
 use lib.ListN.{length, drop}
 use borrow.Author.Needs.{needs}
 use Rattle.rules.specs.Colours.{shownIn, coloursOf, bufferAt}
-use Rattle.laws.proofs.Arrays.{list-same}
+use Rattle.laws.proofs.Lists.{list-same}
 use Rattle.step_colours.proofs.Sizes.{showable}
 use Rattle.step_colours.proofs.Unclosed.{closing-there}
 use Rattle.step_colours.proofs.colours_of.Statement.{statement}

@@ -9,7 +9,7 @@ use Rattle.laws.specs.Bytes.{bit}
 use Rattle.rules.specs.Demands.{movementDemands, stands}
 use Rattle.rules.specs.State.{valid}
 use Rattle.rules.specs.Kept.{keptValid}
-use Rattle.laws.proofs.Members.{self-told, union-told}
+use Rattle.laws.proofs.ByteSets.{self-told, union-told}
 use Rattle.step_valid.proofs.kept_valid.Statement.{statement}
 use Rattle.step_valid.proofs.kept_valid.Tie as tie
 

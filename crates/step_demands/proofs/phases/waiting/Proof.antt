@@ -5,9 +5,8 @@ use mathlib.Core.Bool.{not, and-true}
 use mathlib.Core.Path.{sym, ap, _∙_}
 use lib.Dec.{eqb}
 use Rattle.rules.specs.Demands.{inGreen}
-use Rattle.laws.proofs.Sets.{set-same}
 use Rattle.laws.proofs.Booleans.{and-false-right}
-use Rattle.laws.proofs.Members.{bit-all, set-told}
+use Rattle.laws.proofs.ByteSets.{set-same, bit-all, set-told}
 use Rattle.step_demands.proofs.phases.waiting.Statement.{statement}
 use Rattle.step_demands.proofs.phases.waiting.Tie as tie
 

@@ -9,10 +9,8 @@ use Rattle.laws.specs.Bytes.{bit}
 use lib.Dec.{eqb}
 use Rattle.laws.specs.Folds.{setOf}
 use Rattle.rules.specs.Demands.{movementDemands}
-use Rattle.laws.proofs.Sets.{bit-set, set-same}
-use Rattle.laws.proofs.Booleans.{or-left, or-right, or-false-right, or-false-both}
-use Rattle.laws.proofs.Members.{set-told}
-use Rattle.proof_runs.proofs.ValidStates.{implied}
+use Rattle.laws.proofs.Booleans.{or-left, or-right, or-false-right, or-false-both, implied}
+use Rattle.laws.proofs.ByteSets.{bit-set, set-same, set-told}
 use Rattle.step_whole.proofs.Keeping.{onlyOf, phase-stays, phase-gone}
 use Rattle.step_whole.proofs.kept.kept_left.Statement.{statement}
 use Rattle.step_whole.proofs.kept.kept_left.Tie as tie

@@ -1,0 +1,73 @@
+-- Numbers in lists of bytes: those that start past the end are 0, a byte behind others is found at their length, and the bits of a number of
+-- four bytes are those of its bytes.
+use Prim.Native.Nat.{ℕ, zero, suc, _+_, _*_, _≤_, _<_}
+use mathlib.Core.List.{List, _∷_, _++_}
+use mathlib.Core.Path.{_≡_, sym, ap, _∙_}
+use native.Mathlib.Omega.{arith}
+use lib.ListN.{length, List·getD-eq-default}
+use lib.Seq.{getD-at, getD-append-add}
+use Rattle.laws.specs.Bytes.{byteAt, twoAt, fourAt, bit}
+use Rattle.laws.proofs.JoinedBits.{byte-bit, upper-bit}
+
+-- ── Past the end ──
+
+pub byte-past : (b : List ℕ) (i : ℕ) → length b ≤ i → byteAt b i ≡ 0
+unfolding byteAt
+byte-past b i h = List·getD-eq-default b 0 h
+
+pub two-past : (b : List ℕ) (i : ℕ) → length b ≤ i → twoAt b i ≡ 0
+unfolding twoAt
+two-past b i h = omega (arith, byte-past b i h, byte-past b (i + 1) (omega arith))
+
+pub four-past : (b : List ℕ) (i : ℕ) → length b ≤ i → fourAt b i ≡ 0
+unfolding fourAt
+four-past b i h = omega (arith, two-past b i h, two-past b (i + 2) (omega arith))
+
+-- ── Behind others ──
+
+pub first-byte : (p q : List ℕ) (x at : ℕ) → length p ≡ at → byteAt (p ++ (x ∷ q)) at ≡ x
+unfolding byteAt
+first-byte p q x at e = getD-at p x q 0 at e
+
+pub second-byte : (p q : List ℕ) (x y at : ℕ) → length p ≡ at → byteAt (p ++ (x ∷ y ∷ q)) (at + 1) ≡ y
+unfolding byteAt
+second-byte p q x y at e = rw (sym e) (getD-append-add p (x ∷ y ∷ q) 1 0)
+
+-- ── The bits of four bytes ──
+
+-- row 0, and the rows further up
+first-row : (y x c : ℕ) → x < 256 → c < 8 → bit (8 * 0 + c) (y * 256 + x) ≡ bit c x
+first-row y x c h l = ap (λ (p : ℕ). bit p (y * 256 + x)) (omega arith) ∙ byte-bit y x c h l
+
+next-row : (y x k c : ℕ) → x < 256 → bit (8 * suc k + c) (y * 256 + x) ≡ bit (8 * k + c) y
+next-row y x k c h = ap (λ (p : ℕ). bit p (y * 256 + x)) (omega arith) ∙ upper-bit y x (8 * k + c) h
+
+pub four-bit :
+    (b : List ℕ) →
+    ((i : ℕ) → byteAt b i < 256) →
+    (i k c : ℕ) →
+    k < 4 →
+    c < 8 →
+    bit (8 * k + c) (fourAt b i) ≡ bit c (byteAt b (i + k))
+unfolding fourAt twoAt
+four-bit b small i zero c h l =
+    ap (bit (8 * 0 + c)) (omega arith)
+    ∙ first-row (byteAt b (i + 1) + 256 * (byteAt b (i + 2) + 256 * byteAt b (i + 2 + 1))) (byteAt b i) c (small i) l
+    ∙ ap (λ (j : ℕ). bit c (byteAt b j)) (omega arith)
+four-bit b small i (suc zero) c h l =
+    ap (bit (8 * 1 + c)) (omega arith)
+    ∙ next-row ((byteAt b (i + 2) + 256 * byteAt b (i + 2 + 1)) * 256 + byteAt b (i + 1)) (byteAt b i) 0 c (small i)
+    ∙ first-row (byteAt b (i + 2) + 256 * byteAt b (i + 2 + 1)) (byteAt b (i + 1)) c (small (i + 1)) l
+four-bit b small i (suc (suc zero)) c h l =
+    ap (bit (8 * 2 + c)) (omega arith)
+    ∙ next-row ((byteAt b (i + 2 + 1) * 256 + byteAt b (i + 2)) * 256 + byteAt b (i + 1)) (byteAt b i) 1 c (small i)
+    ∙ next-row (byteAt b (i + 2 + 1) * 256 + byteAt b (i + 2)) (byteAt b (i + 1)) 0 c (small (i + 1))
+    ∙ first-row (byteAt b (i + 2 + 1)) (byteAt b (i + 2)) c (small (i + 2)) l
+four-bit b small i (suc (suc (suc zero))) c h l =
+    ap (bit (8 * 3 + c)) (omega arith)
+    ∙ next-row (((0 * 256 + byteAt b (i + 2 + 1)) * 256 + byteAt b (i + 2)) * 256 + byteAt b (i + 1)) (byteAt b i) 2 c (small i)
+    ∙ next-row ((0 * 256 + byteAt b (i + 2 + 1)) * 256 + byteAt b (i + 2)) (byteAt b (i + 1)) 1 c (small (i + 1))
+    ∙ next-row (0 * 256 + byteAt b (i + 2 + 1)) (byteAt b (i + 2)) 0 c (small (i + 2))
+    ∙ first-row 0 (byteAt b (i + 2 + 1)) c (small (i + 2 + 1)) l
+    ∙ ap (λ (j : ℕ). bit c (byteAt b j)) (omega arith)
+four-bit b small i (suc (suc (suc (suc k)))) c h l = absurd (omega arith)
