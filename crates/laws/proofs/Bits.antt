@@ -44,7 +44,7 @@ pub bit-odd : (x : ℕ) → bit 0 x ≡ true → x % 2 ≡ 1
 unfolding bit
 bit-odd x e = let odd = eqb-true (x / 2 ^ 0 % 2) 1 e in omega arith
 
-pub same-parity : (x y : ℕ) → bit 0 x ≡ bit 0 y → x % 2 ≡ y % 2
+same-parity : (x y : ℕ) → bit 0 x ≡ bit 0 y → x % 2 ≡ y % 2
 same-parity x y q =
     ⊎-elim
     (λ (e : bit 0 x ≡ true). bit-odd x e ∙ sym (bit-odd y (sym q ∙ e)))

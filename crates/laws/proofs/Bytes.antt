@@ -7,7 +7,7 @@ use native.Mathlib.Omega.{arith}
 use lib.ListN.{length, List·getD-eq-default}
 use lib.Seq.{getD-at, getD-append-add}
 use Rattle.laws.specs.Bytes.{byteAt, twoAt, fourAt, bit}
-use Rattle.laws.proofs.JoinedBits.{byte-bit, upper-bit}
+use Rattle.laws.proofs.JoinedBits.{first-row, next-row}
 
 -- ── Past the end ──
 
@@ -34,13 +34,6 @@ unfolding byteAt
 second-byte p q x y at e = rw (sym e) (getD-append-add p (x ∷ y ∷ q) 1 0)
 
 -- ── The bits of four bytes ──
-
--- row 0, and the rows further up
-first-row : (y x c : ℕ) → x < 256 → c < 8 → bit (8 * 0 + c) (y * 256 + x) ≡ bit c x
-first-row y x c h l = ap (λ (p : ℕ). bit p (y * 256 + x)) (omega arith) ∙ byte-bit y x c h l
-
-next-row : (y x k c : ℕ) → x < 256 → bit (8 * suc k + c) (y * 256 + x) ≡ bit (8 * k + c) y
-next-row y x k c h = ap (λ (p : ℕ). bit p (y * 256 + x)) (omega arith) ∙ upper-bit y x (8 * k + c) h
 
 pub four-bit :
     (b : List ℕ) →

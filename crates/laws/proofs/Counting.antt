@@ -34,7 +34,7 @@ count-one-more f i e t = rw (add-one i, count-passed f i t, e, add-one)
 pub count-as-before : (f : ℕ → Bool) (i : ℕ) {k : ℕ} → k ≡ countOf f i → f i ≡ false → k ≡ countOf f (i + 1)
 count-as-before f i e t = rw (add-one i, count-failed f i t) e
 
-pub count-more : (f : ℕ → Bool) (n : ℕ) → countOf f n ≤ countOf f (suc n)
+count-more : (f : ℕ → Bool) (n : ℕ) → countOf f n ≤ countOf f (suc n)
 unfolding countOf
 count-more f n = omega arith
 

@@ -187,9 +187,16 @@ union-reaches n x y =
 
 -- ── A byte under a number ──
 
-pub byte-bit : (y x c : ℕ) → x < 256 → c < 8 → bit c (y * 256 + x) ≡ bit c x
+byte-bit : (y x c : ℕ) → x < 256 → c < 8 → bit c (y * 256 + x) ≡ bit c x
 byte-bit y x c h l =
     ap (bit c) (sym (or-shifted y 8 x h)) ∙ bit-or c (y * 2 ^ 8) x ∙ ap (λ (t : Bool). t || bit c x) (vacated-bit y 8 c l)
 
-pub upper-bit : (y x p : ℕ) → x < 256 → bit (8 + p) (y * 256 + x) ≡ bit p y
+upper-bit : (y x p : ℕ) → x < 256 → bit (8 + p) (y * 256 + x) ≡ bit p y
 upper-bit y x p h = sym (bit-down (y * 256 + x) 8 p) ∙ ap (bit p) (high y 8 h)
+
+-- by rows of eight bits: row 0, and the rows further up
+pub first-row : (y x c : ℕ) → x < 256 → c < 8 → bit (8 * 0 + c) (y * 256 + x) ≡ bit c x
+first-row y x c h l = ap (λ (p : ℕ). bit p (y * 256 + x)) (omega arith) ∙ byte-bit y x c h l
+
+pub next-row : (y x k c : ℕ) → x < 256 → bit (8 * suc k + c) (y * 256 + x) ≡ bit (8 * k + c) y
+next-row y x k c h = ap (λ (p : ℕ). bit p (y * 256 + x)) (omega arith) ∙ upper-bit y x (8 * k + c) h

@@ -51,14 +51,14 @@ record-within head width n i l = omega (arith, mul-le-mul-right width l, suc-mul
 
 -- ── Times ──
 
-pub time-passed : (b : List ℕ) (place setting : ℕ) → timeAt b place setting ≡ Accepted → InTable limits setting (twoAt b place)
+time-passed : (b : List ℕ) (place setting : ℕ) → timeAt b place setting ≡ Accepted → InTable limits setting (twoAt b place)
 unfolding timeAt within
 time-passed b place setting h =
     let passed = both-passed _ _ (refuse-passed _ _ _ h) in
     (leb-true _ _ (passed .0), leb-true _ _ (passed .1))
 
 -- each field of each record of times
-pub times-passed :
+times-passed :
     (b : List ℕ) (head width setting fields n : ℕ) →
     firstOf (λ i. timesAt b (recordAt head width i) setting fields) n ≡ Accepted →
     (i : ℕ) →

@@ -42,11 +42,11 @@ pub record ValidState (site : Site) (s : State) : Type 0 where
 
 -- ── The definition and the facts ──
 
-pub age-told : (age : ℕ) → ageValid age ≡ true → Aged age
+age-told : (age : ℕ) → ageValid age ≡ true → Aged age
 unfolding ageValid
 age-told age h = (leb-true 1 age (and-left (leb 1 age) (leb age highestAge) h), leb-true age highestAge (and-right (leb 1 age) (leb age highestAge) h))
 
-pub age-holds : (age : ℕ) → Aged age → ageValid age ≡ true
+age-holds : (age : ℕ) → Aged age → ageValid age ≡ true
 unfolding ageValid
 age-holds age h = and-both (le-leb 1 age (h .0)) (le-leb age highestAge (h .1))
 
@@ -59,7 +59,7 @@ every-tail : (test : Bool) (tests : List Bool) → every (test ∷ tests) ≡ tr
 unfolding every
 every-tail test tests h = and-right test (every tests) h
 
-pub movement-told :
+movement-told :
     (site : Site) (position : Position) (k : ℕ) (m : Movement) → movementValid (movementIn (site .size .movements) (site .crossings) (position .phase) k) (position .interval) m ≡ true → ValidMovement site position k m
 unfolding movementValid movementIn
 movement-told site position k m h =
@@ -79,7 +79,7 @@ movement-told site position k m h =
       idleAge = λ q. eqb-true (m .age) 1 (implied (isIdle (m .stage)) (eqb (m .age) 1) (every-head _ _ h4) q);
     }
 
-pub movement-holds :
+movement-holds :
     (site : Site) (position : Position) (k : ℕ) (m : Movement) → ValidMovement site position k m → movementValid (movementIn (site .size .movements) (site .crossings) (position .phase) k) (position .interval) m ≡ true
 unfolding movementValid movementIn every
 movement-holds site position k m v =

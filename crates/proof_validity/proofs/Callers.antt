@@ -31,7 +31,6 @@ last-left : (rest : ℕ) → rest < 3 → (rest ≡ 0 → ⊥) → (rest ≡ 1 �
 last-left rest few some other = omega (arith, some, other)
 
 walk-not-idle : (stage : Stage) → isWalk stage ≡ true → isIdle stage ≡ false
-unfolding isWalk isIdle
 walk-not-idle Idle h = sym h
 walk-not-idle Walk h = refl
 walk-not-idle ClearanceOne h = refl

@@ -5,7 +5,6 @@ use native.Mathlib.Omega.{arith}
 use lib.ListN.{getD-replicate}
 use Rattle.rules.specs.declared.site.Site.{Site}
 use Rattle.rules.specs.declared.state.Movement.{Movement}
-use Rattle.rules.specs.IntervalTable.{isIdle, isEarly, isLeaving}
 use Rattle.rules.specs.State.{idle, fresh, locked, asked, movement, intervalValid, targetValid, previousValid}
 use Rattle.rules.specs.Laws.{Sound, FreshIsValid}
 use Rattle.laws.proofs.Booleans.{or-right, never-both}
@@ -15,7 +14,7 @@ use Rattle.proof_validity.proofs.Positions.{new-aged}
 use Rattle.proof_validity.proofs.Stages.{idle-valid}
 
 fresh-state : (site : Site) → Sound site → ValidState site fresh
-unfolding fresh locked asked movement intervalValid targetValid previousValid isEarly isLeaving isIdle
+unfolding fresh locked asked movement intervalValid targetValid previousValid
 fresh-state site sound =
     record {
       phase = omega (arith, sound .phases .0);

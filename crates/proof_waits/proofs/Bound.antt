@@ -103,7 +103,7 @@ module _
         (i : Interval) →
         s .position .interval ≡ i →
         LeftIn site ahead onward i own (s .position) (s .counts .maximum) (outs site s) (idles site s) (waitBound site)
-    unfolding isLeaving isStartRed again fromRunning fromLeaving visit
+    unfolding again fromRunning fromLeaving visit
     within StartRed e = omega (arith, bound, far (s .position .phase) (v .phase), start-timed site sound, v .age)
     within LateStart e = omega (arith, bound, fits (rw e refl) (rw e refl), clear, times, v .age)
     within MinimumGreen e = omega (arith, bound, fits (rw e refl) (rw e refl), clear, times, v .age)

@@ -226,7 +226,7 @@ module _
         ended site s inputs ≡ b →
         LeftIn site ahead onward i own (s .position) (s .counts .maximum) (outs site s) (idles site s) (suc n) →
         Outcome
-    unfolding following entering staying isBeforeStart isRunning isLeaving ends fromRunning fromLeaving
+    unfolding following entering staying ends fromRunning fromLeaving
     step StartRed true e b h =
         begins (s .position .phase) (s .position .previous) (started-in site s inputs StartRed e true b)
         (next-in site s inputs StartRed e true b)

@@ -1,5 +1,5 @@
 -- The bits of a tile. A number that has a byte under another number has the byte's bits first and the other's eight further up, and that
--- is how a tile's rows, the bytes of a number of four and a product of a row of single bits with a byte are read off.
+-- is how a tile's rows and a product of a row of single bits with a byte are read off.
 use Prim.Native.Nat.{ℕ, zero, suc, _+_, _-_, _*_, _/_, _%_, _^_, _≤_, _<_}
 use mathlib.Core.Bool.{true, _||_}
 use mathlib.Core.List.{List}
@@ -13,7 +13,7 @@ use Rattle.laws.specs.Bytes.{byteAt, bit}
 use Rattle.laws.proofs.Booleans.{or-left, or-right}
 use Rattle.laws.proofs.Indices.{last-or-below}
 use Rattle.laws.proofs.Bits.{bit-odd, bit-lower, bit-down}
-use Rattle.laws.proofs.JoinedBits.{bit-or}
+use Rattle.laws.proofs.JoinedBits.{bit-or, first-row, next-row}
 use Rattle.read_conflicts_matrix.specs.Matrix.{ByteRows}
 
 -- ── Rows put one under the other, the last first ──
@@ -86,7 +86,7 @@ part-small x y h =
     let single : x % 2 ≤ 1 = omega arith in
     omega (arith, mul-le-mul-right y single)
 
-pub product-bit :
+product-bit :
     (n r c x y : ℕ) →
     r < n →
     c < 8 →

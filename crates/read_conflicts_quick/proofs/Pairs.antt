@@ -89,7 +89,7 @@ block-sound {b} {w} {a} {k} {t} {back} chart there home rows columns own matched
     }
 
 -- the other way round
-pub pair-turned : (b : List ℕ) (g j : ℕ) → PairRight b g j → PairRight b j g
+pair-turned : (b : List ℕ) (g j : ℕ) → PairRight b g j → PairRight b j g
 pair-turned b g j sound =
     record {
       answered = sym (sound .answered);

@@ -8,7 +8,6 @@ use Rattle.rules.specs.declared.state.Stage.the-variants.{Idle, Walk, Cl
 use Rattle.rules.specs.IntervalTable.{isIdle, isWalkOrFirst, isRunning, isMinimumGreen, isGreen}
 
 pub running-only : (interval : Interval) → isRunning interval ≡ true → interval ≡ Running
-unfolding isRunning
 running-only StartRed h = absurd (false≢true h)
 running-only LateStart h = absurd (false≢true h)
 running-only MinimumGreen h = absurd (false≢true h)
@@ -18,7 +17,6 @@ running-only Yellow h = absurd (false≢true h)
 running-only AllRed h = absurd (false≢true h)
 
 pub green-either : (interval : Interval) → isGreen interval ≡ (isMinimumGreen interval || isRunning interval)
-unfolding isGreen isMinimumGreen isRunning
 green-either StartRed = refl
 green-either LateStart = refl
 green-either MinimumGreen = refl
@@ -28,12 +26,10 @@ green-either Yellow = refl
 green-either AllRed = refl
 
 pub idle-only : (stage : Stage) → isIdle stage ≡ true → stage ≡ Idle
-unfolding isIdle
 idle-only Idle h = refl
 idle-only Walk h = absurd (false≢true h)
 idle-only ClearanceOne h = absurd (false≢true h)
 idle-only ClearanceTwo h = absurd (false≢true h)
 
 pub idle-not-walking : (stage : Stage) → isIdle stage ≡ true → isWalkOrFirst stage ≡ false
-unfolding isWalkOrFirst
 idle-not-walking stage h = rw (idle-only stage h)

@@ -41,7 +41,7 @@ module _ {A : Type 0} where
     pub stored-length : {out : List A} {i : ℕ} → Stored row old at n out i → length out ≡ length old
     stored-length {out} {i} h = ap length (h .entries) ∙ length-sets old at (row i)
 
-    pub stored-more :
+    stored-more :
         {out : List A} {i : ℕ} (part : List A) (m : ℕ) →
         Stored row old at n out i →
         i < n →

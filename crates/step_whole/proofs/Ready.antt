@@ -29,7 +29,7 @@ followed-below :
     position .phase < n →
     (isLeaving interval ≡ true → phaseHeld (position .target) < n) →
     following interval times next position .phase < n
-unfolding following starting entering leaving isLeaving
+unfolding following starting entering leaving
 followed-below n StartRed times next position on to = on
 followed-below n LateStart times next position on to = on
 followed-below n MinimumGreen times next position on to = on

@@ -66,7 +66,7 @@ module _ (f : ℕ → ℕ) (fits : (k : ℕ) → f k < 2 ^ 8) where
       let whole : f 0 * 1 ≡ f 0 = omega arith in
       ap (bit (8 * k + p)) (sym whole) ∙ placed 0 k p (f 0) (fits 0) l
 
-  pub packed-bit : (k p : ℕ) → k < 8 → p < 8 → bit (8 * k + p) packed ≡ bit p (f k)
+  packed-bit : (k p : ℕ) → k < 8 → p < 8 → bit (8 * k + p) packed ≡ bit p (f k)
   unfolding anyOf
   packed-bit k p few l =
       joined _ _ 7 k p

@@ -62,7 +62,6 @@ loop-again c =
     )
 
 returns : tie.Need-returns Inv-loop μ-loop
-unfolding isWalkOrFirst isSecond
 returns c =
     let here = c .before in
     let a = here .before .args in
