@@ -1,15 +1,16 @@
--- Arrays that a loop fills by index: with f in front and the old entries behind, a store at the boundary gives one more of f, and so does
--- an old entry that is as f has it; filled to the end it is the list of f.
+-- An array that a loop fills: f in front, the old entries behind, one more of f after each turn; or written part behind part.
 use Prim.Native.Nat.{ℕ, zero, suc, _+_, _-_, _≤_, _<_}
 use mathlib.Core.List.{List, [], _∷_, _++_, append-nil}
-use mathlib.Core.Path.{_≡_, refl, sym, _∙_}
+use mathlib.Core.Path.{_≡_, refl, sym, ap, _∙_}
 use native.Mathlib.Numerals.{add-one}
 use native.Mathlib.Omega.{arith}
-use native.Mathlib.Nat.{le-of-eq}
+use native.Mathlib.Nat.{add-zero, zero-add, le-of-eq}
 use lib.ListN.{length, getD, drop, set, drop-of-length-le}
-use lib.Seq.{drop-cons, set-at, append-snoc, getD-at}
+use lib.Seq.{drop-cons, drop-length, set-at, append-snoc, getD-at, sets, sets-eq, length-sets}
 use Rattle.laws.specs.Folds.{listOf}
 use Rattle.laws.proofs.Lists.{list-length}
+
+-- ── Filled from the front ──
 
 -- f at the first k indices, and the old entries from there on
 pub record Filled {ℓ} {A : Type ℓ} (f : ℕ → A) (old out : List A) (k : ℕ) : Type ℓ where
@@ -114,3 +115,57 @@ module _ {ℓ} {A : Type ℓ} where
   fill-kept d k n filled len h same =
       let rest : k + (n - k) ≡ n = omega arith in
       fill-done (rw rest at (fill-more d k (n - k) filled (omega arith) (λ i a b. same i a (omega arith)))) len (omega arith) (omega arith)
+
+-- ── Written from a place on, part behind part ──
+
+-- the first i of n entries are stored from the place on
+pub record Stored {A : Type 0} (row : ℕ → List A) (old : List A) (at n : ℕ) (out : List A) (i : ℕ) : Type 0 where
+  pub within : i ≤ n
+  pub entries : out ≡ sets old at (row i)
+
+module _ {A : Type 0} where
+  sets-append : (l p q : List A) (i : ℕ) → sets l i (p ++ q) ≡ sets (sets l i p) (i + length p) q
+  sets-append l [] q i = rw add-zero
+  sets-append l (a ∷ p) q i =
+      sets-append (set l i a) p q (suc i)
+      ∙ ap (λ (n : ℕ). sets (sets (set l i a) (suc i) p) n q) (omega arith)
+
+  -- a part stored behind another
+  pub sets-next : (l p q : List A) (i n : ℕ) → n ≡ i + length p → sets (sets l i p) n q ≡ sets l i (p ++ q)
+  sets-next l p q i n e = rw (e, sets-append l p q i)
+
+  pub sets-whole : (l p : List A) → length p ≡ length l → sets l 0 p ≡ p
+  sets-whole l p e =
+      sets-eq p l 0 (omega arith)
+      ∙ rw (zero-add (length p), e, drop-length l) (append-nil p)
+
+  module _ {row : ℕ → List A} {old : List A} {at n : ℕ} where
+    pub stored-none : row 0 ≡ [] → Stored row old at n old 0
+    stored-none e = record { within = omega arith; entries = rw e }
+
+    pub stored-length : {out : List A} {i : ℕ} → Stored row old at n out i → length out ≡ length old
+    stored-length {out} {i} h = ap length (h .entries) ∙ length-sets old at (row i)
+
+    pub stored-more :
+        {out : List A} {i : ℕ} (part : List A) (m : ℕ) →
+        Stored row old at n out i →
+        i < n →
+        m ≡ at + length (row i) →
+        row (suc i) ≡ row i ++ part →
+        Stored row old at n (sets out m part) (i + 1)
+    stored-more {out} {i} part m h l e more =
+        record { within = omega arith; entries = rw (h .entries, add-one i, more) (sets-next old (row i) part at m e) }
+
+    pub stored-all : {out : List A} {i : ℕ} → Stored row old at n out i → n ≤ i → out ≡ sets old at (row n)
+    stored-all {out} {i} h l = let e : i ≡ n = omega (arith, h .within) in rw e at (h .entries)
+
+  -- one entry of a list by index
+  pub stored-one :
+      (f : ℕ → A) {old out : List A} {at n i m : ℕ} {v : A} →
+      Stored (listOf f) old at n out i →
+      i < n →
+      m ≡ at + i →
+      v ≡ f i →
+      Stored (listOf f) old at n (set out m v) (i + 1)
+  unfolding listOf
+  stored-one f {i = i} {m = m} {v = v} h l e same = stored-more (v ∷ []) m h l (rw (list-length f i) e) (rw same)

@@ -1,5 +1,4 @@
--- The bits from a place on, and those below it: a number has a bit from d on exactly if its quotient by 2 ^ d is not 0, exactly if it is
--- at least 2 ^ d; it has all bits below n exactly if it is 2 ^ n - 1; a remainder by 2 ^ n has the first n bits.
+-- The bits from a place on: none exactly if the quotient is 0. The bits below n: all exactly if the number is 2 ^ n - 1.
 use Prim.Native.Nat.{ℕ, zero, suc, _+_, _-_, _*_, _/_, _%_, _^_, _≤_, _<_}
 use mathlib.Core.Bool.{true, false, not}
 use mathlib.Core.Logic.{⊎-elim}

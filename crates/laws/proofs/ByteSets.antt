@@ -1,5 +1,4 @@
--- A byte as the set of its bits: it has the members that pass and no others, bytes with the same members are the same, and unions, one
--- member more and one less are those of the sets.
+-- A byte as the set of its bits: the members of a set, of a union, and of a set with one member more or less.
 use Prim.Native.Nat.{ℕ, zero, suc, _+_, _-_, _*_, _/_, _%_, _^_, _≤_, _<_}
 use mathlib.Core.Bool.{Bool, true, false, not, _&&_, _||_}
 use mathlib.Core.Logic.{_⊎_, inl, inr, ⊎-elim}
@@ -86,7 +85,7 @@ union-told f g x y e k =
     set-told (λ i. f i || g i) (bitOr x y) (rw (e, k) (or-lt 8 (setOf f) (setOf g) (set-small f) (set-small g)))
     (λ i l. rw (e, k) (bit-or i (setOf f) (setOf g) ∙ rw (bit-set f i l, bit-set g i l)))
 
--- every member is below the count where no bit is left from there on
+-- every member is below the count if no bit is left from there on
 pub below-told : (set count : ℕ) → set < 256 → eqb (set / 2 ^ count) 0 ≡ allOf (λ i. not (bit i set) || ltb i count) 8
 below-told set count small =
     ⊎-elim

@@ -1,11 +1,12 @@
--- Numbers in lists of bytes: those that start past the end are 0, a byte behind others is found at their length, and the bits of a number of
--- four bytes are those of its bytes.
+-- Numbers in lists of bytes: 0 past the end; a byte behind others is at their length; the bits of four bytes.
 use Prim.Native.Nat.{ℕ, zero, suc, _+_, _*_, _≤_, _<_}
-use mathlib.Core.List.{List, _∷_, _++_}
+use mathlib.Core.List.{List, [], _∷_, _++_}
 use mathlib.Core.Path.{_≡_, sym, ap, _∙_}
+use native.Mathlib.Nat.{mul-le-mul-right}
+use native.Mathlib.Numerals.{add-one}
 use native.Mathlib.Omega.{arith}
-use lib.ListN.{length, List·getD-eq-default}
-use lib.Seq.{getD-at, getD-append-add}
+use lib.ListN.{length, take, drop, List·getD-eq-default}
+use lib.Seq.{getD-at, getD-append-add, drop-cons, take-add, drop-drop}
 use Rattle.laws.specs.Bytes.{byteAt, twoAt, fourAt, bit}
 use Rattle.laws.proofs.JoinedBits.{first-row, next-row}
 
@@ -32,6 +33,31 @@ first-byte p q x at e = getD-at p x q 0 at e
 pub second-byte : (p q : List ℕ) (x y at : ℕ) → length p ≡ at → byteAt (p ++ (x ∷ y ∷ q)) (at + 1) ≡ y
 unfolding byteAt
 second-byte p q x y at e = rw (sym e) (getD-append-add p (x ∷ y ∷ q) 1 0)
+
+-- ── A part of a list ──
+
+abbrev pub part : List ℕ → ℕ → ℕ → List ℕ
+part b at n = take n (drop at b)
+
+pub part-one : (b : List ℕ) (at : ℕ) → at < length b → byteAt b at ∷ [] ≡ part b at 1
+unfolding byteAt
+part-one b at h = rw (drop-cons b at 0 h)
+
+pub part-two : (b : List ℕ) (at : ℕ) → at + 1 < length b → byteAt b at ∷ byteAt b (at + 1) ∷ [] ≡ part b at 2
+unfolding byteAt
+part-two b at h =
+    let here : at < length b = omega arith in
+    let next : suc at < length b = omega arith in
+    rw (add-one at, drop-cons b at 0 here, drop-cons b (suc at) 0 next)
+
+pub part-more : (b : List ℕ) (at m n : ℕ) → part b at (m + n) ≡ part b at m ++ part b (at + m) n
+part-more b at m n = take-add m n (drop at b) ∙ ap (λ (r : List ℕ). take m (drop at b) ++ take n r) (drop-drop m at b)
+
+-- record k of n, of w bytes each, is within them all
+pub record-within : (w k n : ℕ) → k < n → k * w + w ≤ n * w
+record-within w k n l =
+    let e : suc k * w ≡ k * w + w = omega arith in
+    rw e at (mul-le-mul-right w l)
 
 -- ── The bits of four bytes ──
 

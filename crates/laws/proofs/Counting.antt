@@ -1,5 +1,4 @@
--- How many indices below n pass: the count grows by one past each index that passes and past no other, so the count before such an
--- index is its own number among them, and a count of one is one index alone.
+-- How many indices below n pass: one more past each that passes, so the count before one is its number among them.
 use Prim.Native.Nat.{ℕ, zero, suc, _+_, _≤_, _<_}
 use mathlib.Core.Bool.{Bool, true, false}
 use mathlib.Core.List.{List, [], _∷_, _++_, append-nil}

@@ -1,5 +1,4 @@
--- Sums over the entries of a list of numbers, and how often a number is in one: that is a sum too, so that what is counted of a list cut in
--- parts follows from one law of sums.
+-- Sums over the entries of a list of numbers; how often a number is in a list is such a sum.
 use Prim.Native.Nat.{ℕ, zero, suc, _+_, _≤_, _<_}
 use mathlib.Core.List.{List, [], _∷_, _++_}
 use mathlib.Core.Path.{_≡_, refl}

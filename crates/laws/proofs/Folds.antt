@@ -1,5 +1,4 @@
--- Folds over the indices below n: equal entries give equal folds, each entry is in its fold, and what a test of some or of every index
--- says of each.
+-- Folds over the indices below n: equal entries give equal folds, and each entry is in its fold; some index, or every index, passes.
 use Prim.Native.Nat.{ℕ, zero, suc, _+_, _≤_, _<_}
 use mathlib.Core.Bool.{Bool, true, false, _&&_, _||_, or-false, true≢false}
 use mathlib.Core.Logic.{⊎-elim}

@@ -1,5 +1,4 @@
--- The bits of two numbers joined: of their conjunction, union and exclusive union; two numbers have a bit in common exactly if their
--- conjunction is not 0; a union stays below 2 ^ n exactly if both do.
+-- The bits of two numbers joined by and, or, xor; they have one in common exactly if their conjunction is not 0.
 use Prim.Native.Nat.{ℕ, zero, suc, _+_, _*_, _/_, _%_, _^_, _≤_, _<_, min, max}
 use mathlib.Core.Bool.{Bool, true, false, not, _&&_, _||_}
 use mathlib.Core.Logic.{⊎-elim}
@@ -170,7 +169,7 @@ joined-below k a b =
     le-ltb (bitOr a b) (2 ^ k) (omega (arith, ltb-false a (2 ^ k) e, left-within a b)) ∙ sym (and-false-left (ltb b (2 ^ k)) e))
     (decided (ltb a (2 ^ k)))
 
--- a union reaches 2 ^ n exactly where one of the two sets does
+-- a union reaches 2 ^ n exactly if one of the two sets does
 pub union-reaches : (n x y : ℕ) → leb (2 ^ n) (bitOr x y) ≡ (leb (2 ^ n) x || leb (2 ^ n) y)
 union-reaches n x y =
     ⊎-elim

@@ -8,14 +8,14 @@
 --   Sums        sumOf and greatestOf: sum-same, sum-at, sum-within, greatest-at, greatest-most, greatest-with
 --   Counting    countOf and indicesOf: count-before, count-apart, count-within, count-one, count-only, indices-at, listed-once
 --   Lists       listOf, rowOf and any list: list-at, list-same, list-told, listed, list-set, row-at, row-past; entry-same (the default)
---   Arrays      an array that a loop fills: Filled, fill-set, fill-skip, fill-done, fill-kept
+--   Arrays      an array that a loop fills: Filled, fill-set, fill-skip, fill-done, fill-kept; or writes part behind part: Stored
 --   Entries     sums over the entries of a list: total, places, In, total-append
 --   Bits        bits of one number: bit-above, bit-below, bit-lower, bit-down, bit-up, half-bit, odd-bit, same-bits, no-bits, bit-one
 --   BitRanges   bits from a place on or below one: no-bits-from, bit-from, reaches, full-each, all-full, ones-counted, shifted, firsts
 --   JoinedBits  bits of two numbers: bit-and, bit-or, bit-xor, in-common, common-below, joined-below, first-row, next-row
 --   LowestBit   the lowest bit of a word and the rest: lowest-in, others-in; a pass over the bits: taken, Left, next-within, left-more
 --   ByteSets    a byte as a set: set-small, bit-set, set-same, set-told, self-told, union-told, with-told, without-told, below-told
---   Bytes       numbers in lists of bytes: byte-past, first-byte, four-bit
+--   Bytes       numbers in lists of bytes: byte-past, first-byte, part, part-more, four-bit
 pub mod Booleans
 pub mod Indices
 pub mod Folds

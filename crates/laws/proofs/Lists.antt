@@ -1,5 +1,4 @@
--- Lists by index: the entries of the list of f, of a row with blanks, and of joined lists; inside a list the default is not asked for; a
--- list is the list of its own entries.
+-- Lists by index: the list of f has f at each index, a row has blanks past it, and inside a list the default is not asked for.
 use Prim.Native.Nat.{ℕ, zero, suc, _-_, _≤_, _<_}
 use mathlib.Core.List.{List, [], _∷_, _++_, map}
 use mathlib.Core.Logic.{⊎-elim}
@@ -71,7 +70,7 @@ module _ {ℓ} {A : Type ℓ} where
   pub listed : (l : List A) (n : ℕ) (d : A) → length l ≡ n → listOf (λ i. getD l i d) n ≡ l
   listed l n d e = sym (list-told (λ i. getD l i d) l n d e (λ i h. refl))
 
-  -- a store where f has the new entry, and the old entries elsewhere
+  -- a store, if f has the new entry there and the old entries elsewhere
   pub list-set :
       (f : ℕ → A) (l : List A) (n i : ℕ) (a d : A) →
       length l ≡ n →

@@ -1,5 +1,4 @@
--- The lowest bit of a word and the rest: the rest has every other bit, and a pass that takes the lowest bit of what is left takes each bit
--- once.
+-- The lowest bit of a word and the rest: a pass that takes the lowest bit of what is left takes each bit once.
 use Prim.Native.Nat.{ℕ, zero, suc, _-_, _*_, _/_, _%_, _^_, _≤_, _<_}
 use mathlib.Core.Bool.{Bool, true, false, not, _&&_, and-true, and-false, and-not-self}
 use mathlib.Core.Logic.{⊎-elim}

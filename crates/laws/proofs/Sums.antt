@@ -74,7 +74,7 @@ greatest-most f (suc n) m h = omega (arith, greatest-most f n m (λ i l. h i (om
 pub greatest-none : (f : ℕ → ℕ) (n : ℕ) → ((i : ℕ) → i < n → f i ≡ 0) → greatestOf f n ≡ 0
 greatest-none f n h = omega (arith, greatest-most f n 0 (λ i l. omega (arith, h i l)))
 
--- a row with v at t as well, where the other has nothing
+-- with v at t as well, if the other has nothing there
 pub greatest-with :
     (f g : ℕ → ℕ) (n t v : ℕ) →
     t < n →

@@ -1,3 +1,2 @@
 pub mod Lawful
 pub mod Parts
-pub mod Stores

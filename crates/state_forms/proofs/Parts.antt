@@ -1,34 +1,17 @@
--- Bytes within a list: the part of a list from a place on, rows of parts, and lists of bytes.
-use Prim.Native.Nat.{ℕ, zero, suc, _+_, _*_, _≤_, _<_}
+-- Rows of parts of a list, and lists of bytes.
+use Prim.Native.Nat.{ℕ, zero, suc, _+_, _*_, _<_}
 use mathlib.Core.List.{List, [], _∷_, _++_}
-use mathlib.Core.Path.{_≡_, refl, ap, _∙_}
-use native.Mathlib.Nat.{mul-le-mul-right}
-use native.Mathlib.Numerals.{add-one}
+use mathlib.Core.Path.{_≡_, refl, _∙_}
 use native.Mathlib.Omega.{arith}
-use lib.ListN.{length, take, drop, length-append}
-use lib.Seq.{drop-cons, take-add, drop-drop}
+use lib.ListN.{length, length-append}
+use lib.Seq.{sets}
 use Rattle.laws.specs.Bytes.{byteAt}
 use Rattle.laws.proofs.Folds.{fold-same}
+use Rattle.laws.proofs.Arrays.{Stored, stored-more}
+use Rattle.laws.proofs.Bytes.{part, part-more}
 use Rattle.state_forms.specs.Forms.{partsOf, AreBytes}
 
--- ── A part of a list ──
-
-abbrev pub part : List ℕ → ℕ → ℕ → List ℕ
-part b at n = take n (drop at b)
-
-pub part-one : (b : List ℕ) (at : ℕ) → at < length b → byteAt b at ∷ [] ≡ part b at 1
-unfolding byteAt
-part-one b at h = rw (drop-cons b at 0 h)
-
-pub part-two : (b : List ℕ) (at : ℕ) → at + 1 < length b → byteAt b at ∷ byteAt b (at + 1) ∷ [] ≡ part b at 2
-unfolding byteAt
-part-two b at h =
-    let here : at < length b = omega arith in
-    let next : suc at < length b = omega arith in
-    rw (add-one at, drop-cons b at 0 here, drop-cons b (suc at) 0 next)
-
-pub part-more : (b : List ℕ) (at m n : ℕ) → part b at (m + n) ≡ part b at m ++ part b (at + m) n
-part-more b at m n = take-add m n (drop at b) ∙ ap (λ (r : List ℕ). take m (drop at b) ++ take n r) (drop-drop m at b)
+-- ── Rows of parts ──
 
 -- parts of w bytes in a row are one part
 pub parts-joined : (b : List ℕ) (at w n : ℕ) → partsOf (λ k. part b (at + k * w) w) n ≡ part b at (n * w)
@@ -37,8 +20,6 @@ parts-joined b at w zero = let e : 0 * w ≡ 0 = omega arith in rw e
 parts-joined b at w (suc n) =
     let e : suc n * w ≡ n * w + w = omega arith in
     rw (e, part-more b at (n * w) w, parts-joined b at w n)
-
--- ── Rows of parts ──
 
 pub parts-same : (f g : ℕ → List ℕ) (n : ℕ) → ((i : ℕ) → i < n → f i ≡ g i) → partsOf f n ≡ partsOf g n
 unfolding partsOf
@@ -49,11 +30,19 @@ unfolding partsOf
 parts-length f w zero h = omega arith
 parts-length f w (suc n) h = length-append (partsOf f n) (f n) ∙ omega (arith, parts-length f w n h, h n)
 
--- record k of n is within them all
-pub record-within : (w k n : ℕ) → k < n → k * w + w ≤ n * w
-record-within w k n l =
-    let e : suc k * w ≡ k * w + w = omega arith in
-    rw e at (mul-le-mul-right w l)
+-- the bytes of one more record behind those that are stored, w bytes each
+pub stored-record :
+    (f : ℕ → List ℕ) (w : ℕ) →
+    ((k : ℕ) → length (f k) ≡ w) →
+    {old out : List ℕ} {at n k : ℕ} (m : ℕ) (part : List ℕ) →
+    Stored (partsOf f) old at n out k →
+    k < n →
+    m ≡ at + k * w →
+    part ≡ f k →
+    Stored (partsOf f) old at n (sets out m part) (k + 1)
+unfolding partsOf
+stored-record f w sized {k = k} m part h l e same =
+    stored-more part m h l (omega (arith, parts-length f w k sized)) (rw same)
 
 -- ── Lists of bytes ──
 

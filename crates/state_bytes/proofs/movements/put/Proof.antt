@@ -8,7 +8,8 @@ use Rattle.rules.specs.State.{idle}
 use Rattle.state_forms.specs.Forms.{partsOf}
 use Rattle.state_bytes.specs.Layout.{movement}
 use Rattle.laws.proofs.Lists.{entry-same}
-use Rattle.state_forms.proofs.Stores.{Stored, stored-none, stored-record, stored-length, stored-all}
+use Rattle.laws.proofs.Arrays.{Stored, stored-none, stored-length, stored-all}
+use Rattle.state_forms.proofs.Parts.{stored-record}
 use borrow.Author.Needs.{needs}
 use native.Mathlib.Omega.{arith}
 use Rattle.state_bytes.proofs.movements.put.Statement.{statement}
