@@ -13,7 +13,7 @@
 --   Bits        bits of one number: bit-above, bit-below, bit-lower, bit-down, bit-up, half-bit, odd-bit, same-bits, no-bits, bit-one
 --   BitRanges   bits from a place on or below one: no-bits-from, bit-from, reaches, full-each, all-full, ones-counted, shifted, firsts
 --   JoinedBits  bits of two numbers: bit-and, bit-or, bit-xor, in-common, common-below, joined-below, first-row, next-row
---   LowestBit   the lowest bit of a word and the rest: lowest-in, others-in; a pass over the bits: taken, Left, next-within, left-more
+--   LowestBit   a pass that takes the lowest bit of what is left: lowest, others, taken, Left, next-within, left-more, counted, counted-same
 --   ByteSets    a byte as a set: set-small, bit-set, set-same, set-told, self-told, union-told, with-told, without-told, below-told
 --   Bytes       numbers in lists of bytes: byte-past, first-byte, part, part-more, four-bit
 pub mod Booleans
