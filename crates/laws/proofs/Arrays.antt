@@ -1,28 +1,22 @@
--- Arrays that are written by index: a list with f in front of its old entries has one more of f after a store at the boundary, or where the
--- old entry is as f has it; and a list that has f at every index is the list of f.
+-- An array that a loop fills: f in front, the old entries behind, one more of f after each turn; or written part behind part.
 use Prim.Native.Nat.{ℕ, zero, suc, _+_, _-_, _≤_, _<_}
-use mathlib.Core.Bool.{true, false}
 use mathlib.Core.List.{List, [], _∷_, _++_, append-nil}
-use mathlib.Core.Logic.{⊎-elim}
-use mathlib.Core.Path.{_≡_, refl, sym, _∙_}
+use mathlib.Core.Path.{_≡_, refl, sym, ap, _∙_}
 use native.Mathlib.Numerals.{add-one}
 use native.Mathlib.Omega.{arith}
-use native.Mathlib.Nat.{le-of-eq, le-of-suc-le-suc, not-suc-le-zero}
-use borrow.Author.Tests.{eqb-true, eqb-false}
-use lib.Dec.{eqb}
-use lib.ListN.{length, getD, drop, set, length-append, length-drop, length-set, drop-of-length-le}
-use lib.Seq.{drop-cons, set-at, append-snoc, ext-getD, getD-at, getD-set-same, getD-set-other}
+use native.Mathlib.Nat.{add-zero, zero-add, le-of-eq}
+use lib.ListN.{length, getD, drop, set, drop-of-length-le}
+use lib.Seq.{drop-cons, drop-length, set-at, append-snoc, getD-at, sets, sets-eq, length-sets}
 use Rattle.laws.specs.Folds.{listOf}
-use Rattle.laws.proofs.Booleans.{decided}
-use Rattle.laws.proofs.Folds.{list-length, list-at}
+use Rattle.laws.proofs.Lists.{list-length}
+
+-- ── Filled from the front ──
 
 -- f at the first k indices, and the old entries from there on
 pub record Filled {ℓ} {A : Type ℓ} (f : ℕ → A) (old out : List A) (k : ℕ) : Type ℓ where
   pub told : out ≡ listOf f k ++ drop k old
 
 module _ {ℓ} {A : Type ℓ} where
-  -- ── Filling from the front ──
-
   -- a store at the boundary, behind a front of any kind
   pub store-more :
       (front old : List A) (k : ℕ) (v : A) →
@@ -39,10 +33,6 @@ module _ {ℓ} {A : Type ℓ} where
   pub fill-none : (f : ℕ → A) (old : List A) → Filled f old old 0
   unfolding listOf
   fill-none f old = record { told = refl }
-
-  pub fill-length : {f : ℕ → A} {old out : List A} {k : ℕ} → Filled f old out k → k ≤ length old → length out ≡ length old
-  fill-length {f} {old} {out} {k} filled h =
-      rw (filled .told) (omega (arith, length-append (listOf f k) (drop k old), list-length f k, length-drop k old))
 
   pub fill-step :
       {f : ℕ → A} {old out : List A} {k : ℕ} {a : A} →
@@ -126,44 +116,56 @@ module _ {ℓ} {A : Type ℓ} where
       let rest : k + (n - k) ≡ n = omega arith in
       fill-done (rw rest at (fill-more d k (n - k) filled (omega arith) (λ i a b. same i a (omega arith)))) len (omega arith) (omega arith)
 
-  -- ── By entries ──
+-- ── Written from a place on, part behind part ──
 
-  -- inside a list the default is not asked for
-  pub entry-same : (l : List A) (i : ℕ) (d e : A) → i < length l → getD l i d ≡ getD l i e
-  entry-same [] i d e h = absurd (not-suc-le-zero h)
-  entry-same (x ∷ l) zero d e h = refl
-  entry-same (x ∷ l) (suc i) d e h = entry-same l i d e (le-of-suc-le-suc h)
+-- the first i of n entries are stored from the place on
+pub record Stored {A : Type 0} (row : ℕ → List A) (old : List A) (at n : ℕ) (out : List A) (i : ℕ) : Type 0 where
+  pub within : i ≤ n
+  pub entries : out ≡ sets old at (row i)
 
-  pub list-told :
-      (f : ℕ → A) (l : List A) (n : ℕ) (d : A) →
-      length l ≡ n →
-      ((i : ℕ) → i < n → getD l i d ≡ f i) →
-      l ≡ listOf f n
-  list-told f l n d e h =
-      ext-getD d l (listOf f n) (e ∙ sym (list-length f n))
-      (λ i m. let below : i < n = omega arith in h i below ∙ sym (list-at f n i d below))
+module _ {A : Type 0} where
+  sets-append : (l p q : List A) (i : ℕ) → sets l i (p ++ q) ≡ sets (sets l i p) (i + length p) q
+  sets-append l [] q i = rw add-zero
+  sets-append l (a ∷ p) q i =
+      sets-append (set l i a) p q (suc i)
+      ∙ ap (λ (n : ℕ). sets (sets (set l i a) (suc i) p) n q) (omega arith)
 
-  pub list-same : (f g : ℕ → A) (n : ℕ) → ((i : ℕ) → i < n → f i ≡ g i) → listOf f n ≡ listOf g n
-  unfolding listOf
-  list-same f g zero h = refl
-  list-same f g (suc n) h = rw (list-same f g n (λ i l. h i (omega arith)), h n (omega arith))
+  -- a part stored behind another
+  pub sets-next : (l p q : List A) (i n : ℕ) → n ≡ i + length p → sets (sets l i p) n q ≡ sets l i (p ++ q)
+  sets-next l p q i n e = rw (e, sets-append l p q i)
 
-  -- a store where f has the new entry, and the old entries elsewhere
-  pub list-set :
-      (f : ℕ → A) (l : List A) (n i : ℕ) (a d : A) →
-      length l ≡ n →
+  pub sets-whole : (l p : List A) → length p ≡ length l → sets l 0 p ≡ p
+  sets-whole l p e =
+      sets-eq p l 0 (omega arith)
+      ∙ rw (zero-add (length p), e, drop-length l) (append-nil p)
+
+  module _ {row : ℕ → List A} {old : List A} {at n : ℕ} where
+    pub stored-none : row 0 ≡ [] → Stored row old at n old 0
+    stored-none e = record { within = omega arith; entries = rw e }
+
+    pub stored-length : {out : List A} {i : ℕ} → Stored row old at n out i → length out ≡ length old
+    stored-length {out} {i} h = ap length (h .entries) ∙ length-sets old at (row i)
+
+    pub stored-more :
+        {out : List A} {i : ℕ} (part : List A) (m : ℕ) →
+        Stored row old at n out i →
+        i < n →
+        m ≡ at + length (row i) →
+        row (suc i) ≡ row i ++ part →
+        Stored row old at n (sets out m part) (i + 1)
+    stored-more {out} {i} part m h l e more =
+        record { within = omega arith; entries = rw (h .entries, add-one i, more) (sets-next old (row i) part at m e) }
+
+    pub stored-all : {out : List A} {i : ℕ} → Stored row old at n out i → n ≤ i → out ≡ sets old at (row n)
+    stored-all {out} {i} h l = let e : i ≡ n = omega (arith, h .within) in rw e at (h .entries)
+
+  -- one entry of a list by index
+  pub stored-one :
+      (f : ℕ → A) {old out : List A} {at n i m : ℕ} {v : A} →
+      Stored (listOf f) old at n out i →
       i < n →
-      f i ≡ a →
-      ((j : ℕ) → j < n → (j ≡ i → ⊥) → f j ≡ getD l j d) →
-      set l i a ≡ listOf f n
-  list-set f l n i a d e m own other =
-      list-told f (set l i a) n d (length-set l i a ∙ e)
-      (λ j k.
-      ⊎-elim
-      (λ (t : eqb j i ≡ true).
-      let same = eqb-true j i t in
-      rw same (getD-set-same l i a d (omega arith) ∙ sym own))
-      (λ (t : eqb j i ≡ false).
-      let apart = eqb-false j i t in
-      getD-set-other l i j a d apart ∙ sym (other j k apart))
-      (decided (eqb j i)))
+      m ≡ at + i →
+      v ≡ f i →
+      Stored (listOf f) old at n (set out m v) (i + 1)
+  unfolding listOf
+  stored-one f {i = i} {m = m} {v = v} h l e same = stored-more (v ∷ []) m h l (rw (list-length f i) e) (rw same)

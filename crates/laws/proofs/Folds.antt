@@ -1,26 +1,47 @@
--- Laws of rows by index: what a row tells of each of its entries, and how a row is put together from them.
-use Prim.Native.Nat.{ℕ, zero, suc, _+_, _-_, _≤_, _<_, max}
-use mathlib.Core.Bool.{Bool, true, false, _&&_, _||_}
-use mathlib.Core.List.{List, [], _∷_, _++_, append-nil}
-use mathlib.Core.Logic.{_⊎_, inl, inr, ⊎-elim}
-use mathlib.Core.Path.{_≡_, refl, sym, subst, ap, _∙_}
-use native.Mathlib.Nat.{eq-or-lt-of-le, le-of-suc-le-suc, not-suc-le-zero}
+-- Folds over the indices below n: equal entries give equal folds, and each entry is in its fold; some index, or every index, passes.
+use Prim.Native.Nat.{ℕ, zero, suc, _+_, _≤_, _<_}
+use mathlib.Core.Bool.{Bool, true, false, _&&_, _||_, or-false, true≢false}
+use mathlib.Core.Logic.{⊎-elim}
+use mathlib.Core.Path.{_≡_, refl, sym, ap, _∙_}
+use native.Mathlib.Nat.{eq-or-lt-of-le, not-suc-le-zero}
 use native.Mathlib.Numerals.{add-one}
 use native.Mathlib.Omega.{arith}
-use lib.ListN.{length, getD, replicate, length-append, List·getD-append}
-use lib.Seq.{getD-append-add, getD-at}
-use Rattle.laws.specs.Folds.{if_then_else_, anyOf, allOf, countOf, sumOf, greatestOf, listOf, indicesOf, rowOf}
-use Rattle.laws.proofs.Booleans.{and-left, and-right, and-both, or-left, or-right, or-cases, or-false-left, or-false-right, or-false-both}
+use borrow.Author.Tests.{eqb-true, eq-eqb}
+use lib.Dec.{eqb}
+use Rattle.laws.specs.Folds.{anyOf, allOf}
+use Rattle.laws.proofs.Booleans.{and-left, and-right, and-both, or-left, or-right, or-cases, or-false-left, or-false-right, or-false-both, decided, never-both, not-true-false}
+use Rattle.laws.proofs.Indices.{last-or-below, same-or-apart}
 
--- an index below n + 1 is n, or is below n
-pub last-or-below : {i n : ℕ} → i < suc n → (i ≡ n) ⊎ (i < n)
-last-or-below h = eq-or-lt-of-le (le-of-suc-le-suc h)
+-- ── Any fold ──
 
--- ── anyOf, allOf ──
+module _ {ℓ ℓ′} {A : Type ℓ} {B : Type ℓ′} (fold : (ℕ → A) → ℕ → B) where
+  -- f = g below n, so fold f = fold g: from the start, and from one index to the next
+  pub fold-same :
+      ((f g : ℕ → A) → fold f 0 ≡ fold g 0) →
+      ((f g : ℕ → A) (n : ℕ) → fold f n ≡ fold g n → f n ≡ g n → fold f (suc n) ≡ fold g (suc n)) →
+      (f g : ℕ → A) (n : ℕ) →
+      ((i : ℕ) → i < n → f i ≡ g i) →
+      fold f n ≡ fold g n
+  fold-same start next f g zero h = start f g
+  fold-same start next f g (suc n) h = next f g n (fold-same start next f g n (λ i l. h i (omega arith))) (h n (omega arith))
+
+  -- each entry is in the fold: the last one is, and what is in it stays
+  pub fold-at :
+      (P : A → B → Type 0) →
+      ((f : ℕ → A) (n : ℕ) → P (f n) (fold f (suc n))) →
+      ((f : ℕ → A) (n : ℕ) (a : A) → P a (fold f n) → P a (fold f (suc n))) →
+      (f : ℕ → A) (n i : ℕ) →
+      i < n →
+      P (f i) (fold f n)
+  fold-at P last more f zero i l = absurd (not-suc-le-zero l)
+  fold-at P last more f (suc n) i l =
+      ⊎-elim (λ (e : i ≡ n). rw e (last f n)) (λ (m : i < n). more f n (f i) (fold-at P last more f n i m)) (last-or-below l)
+
+-- ── Some index passes ──
 
 pub any-found : (f : ℕ → Bool) (n : ℕ) → anyOf f n ≡ true → (i : ℕ) × (i < n) × (f i ≡ true)
 unfolding anyOf
-any-found f zero h = absurd (mathlib.Core.Bool.true≢false (sym h))
+any-found f zero h = absurd (true≢false (sym h))
 any-found f (suc n) h =
     ⊎-elim
     (λ (p : anyOf f n ≡ true). let w = any-found f n p in (w .0, omega (arith, w .1), w .2))
@@ -29,12 +50,8 @@ any-found f (suc n) h =
 
 pub any-at : (f : ℕ → Bool) (n i : ℕ) → i < n → f i ≡ true → anyOf f n ≡ true
 unfolding anyOf
-any-at f zero i h p = absurd (not-suc-le-zero h)
-any-at f (suc n) i h p =
-    ⊎-elim
-    (λ (e : i ≡ n). or-right (anyOf f n) (subst (λ (j : ℕ). f j ≡ true) e p))
-    (λ (l : i < n). or-left (f n) (any-at f n i l p))
-    (last-or-below h)
+any-at f n i l =
+    fold-at anyOf (λ t all. t ≡ true → all ≡ true) (λ f n p. or-right (anyOf f n) p) (λ f n t below p. or-left (f n) (below p)) f n i l
 
 pub any-none : (f : ℕ → Bool) (n : ℕ) → ((i : ℕ) → i < n → f i ≡ false) → anyOf f n ≡ false
 unfolding anyOf
@@ -43,14 +60,100 @@ any-none f (suc n) h = or-false-both (any-none f n (λ i l. h i (omega arith))) 
 
 pub any-false : (f : ℕ → Bool) (n i : ℕ) → anyOf f n ≡ false → i < n → f i ≡ false
 unfolding anyOf
-any-false f zero i p h = absurd (not-suc-le-zero h)
-any-false f (suc n) i p h =
-    ⊎-elim
-    (λ (e : i ≡ n). subst (λ (j : ℕ). f j ≡ false) (sym e) (or-false-right (anyOf f n) (f n) p))
-    (λ (l : i < n). any-false f n i (or-false-left (anyOf f n) (f n) p) l)
-    (last-or-below h)
+any-false f n i h l =
+    fold-at anyOf (λ t all. all ≡ false → t ≡ false)
+    (λ f n p. or-false-right (anyOf f n) (f n) p)
+    (λ f n t below p. below (or-false-left (anyOf f n) (f n) p)) f n i l h
 
--- as code asks for one after the other
+pub any-same : (f g : ℕ → Bool) (n : ℕ) → ((i : ℕ) → i < n → f i ≡ g i) → anyOf f n ≡ anyOf g n
+unfolding anyOf
+any-same = fold-same anyOf (λ f g. refl) (λ f g n front last. rw (front, last))
+
+-- a test that passes at t as well, if the other does not
+pub any-with :
+    (f g : ℕ → Bool) (n t : ℕ) (s : Bool) →
+    t < n →
+    f t ≡ false →
+    g t ≡ s →
+    ((i : ℕ) → (i ≡ t → ⊥) → g i ≡ f i) →
+    (anyOf f n || s) ≡ anyOf g n
+any-with f g n t s l out own same =
+    ⊎-elim
+    (λ (e : s ≡ true). or-right (anyOf f n) e ∙ sym (any-at g n t l (own ∙ e)))
+    (λ (e : s ≡ false).
+    rw e (or-false (anyOf f n))
+    ∙ any-same f g n
+    (λ i k.
+    ⊎-elim (λ (here : i ≡ t). rw here (out ∙ sym (own ∙ e))) (λ (apart : i ≡ t → ⊥). sym (same i apart)) (same-or-apart i t)))
+    (decided s)
+
+-- of the tests below n only that at k counts
+pub any-only : (f : ℕ → Bool) (n k : ℕ) → k < n → anyOf (λ i. eqb i k && f i) n ≡ f k
+any-only f n k l =
+    ⊎-elim
+    (λ (e : f k ≡ true). any-at (λ i. eqb i k && f i) n k l (rw (eq-eqb k k refl, e)) ∙ sym e)
+    (λ (e : f k ≡ false).
+    any-none (λ i. eqb i k && f i) n
+    (λ i m.
+    ⊎-elim
+    (λ (t : eqb i k ≡ true). rw t (ap f (eqb-true i k t) ∙ e))
+    (λ (t : eqb i k ≡ false). rw t)
+    (decided (eqb i k)))
+    ∙ sym e)
+    (decided (f k))
+
+-- indices from n on that fail add nothing
+pub any-past : (f : ℕ → Bool) (n m : ℕ) → n ≤ m → ((k : ℕ) → n ≤ k → k < m → f k ≡ false) → anyOf f n ≡ anyOf f m
+unfolding anyOf
+any-past f n zero h fails = let last : n ≡ 0 = omega arith in rw last
+any-past f n (suc m) h fails =
+    ⊎-elim
+    (λ (e : n ≡ suc m). rw e)
+    (λ (l : n < suc m).
+    any-past f n m (omega arith) (λ k a b. fails k a (omega arith))
+    ∙ rw (fails m (omega arith) (omega arith)) (sym (or-false (anyOf f m))))
+    (eq-or-lt-of-le h)
+
+-- two tests, one after the other, are one test of either
+pub any-join : (f g : ℕ → Bool) (n : ℕ) → (anyOf f n || anyOf g n) ≡ anyOf (λ i. f i || g i) n
+unfolding anyOf
+any-join f g zero = refl
+any-join f g (suc n) = swap (anyOf f n) (f n) (anyOf g n) (g n) ∙ rw (any-join f g n)
+  where
+    swap : (a b c d : Bool) → ((a || b) || (c || d)) ≡ ((a || c) || (b || d))
+    swap true b c d = refl
+    swap false true true d = refl
+    swap false true false d = refl
+    swap false false c d = refl
+
+-- ── Every index passes ──
+
+pub all-at : (f : ℕ → Bool) (n i : ℕ) → allOf f n ≡ true → i < n → f i ≡ true
+unfolding allOf
+all-at f n i h l =
+    fold-at allOf (λ t all. all ≡ true → t ≡ true)
+    (λ f n p. and-right (allOf f n) (f n) p)
+    (λ f n t below p. below (and-left (allOf f n) (f n) p)) f n i l h
+
+pub all-each : (f : ℕ → Bool) (n : ℕ) → ((i : ℕ) → i < n → f i ≡ true) → allOf f n ≡ true
+unfolding allOf
+all-each f zero h = refl
+all-each f (suc n) h = and-both (all-each f n (λ i l. h i (omega arith))) (h n (omega arith))
+
+-- one index that fails is enough
+pub all-fails : (f : ℕ → Bool) (n i : ℕ) → i < n → f i ≡ false → false ≡ allOf f n
+all-fails f n i l e = sym (not-true-false (allOf f n) (λ all. never-both (all-at f n i all l) e))
+
+-- ── One index after the other, as a loop asks ──
+
+pub none-passes : (f : ℕ → Bool) → false ≡ anyOf f 0
+unfolding anyOf
+none-passes f = refl
+
+pub one-more : (f : ℕ → Bool) (k : ℕ) {t u : Bool} → t ≡ anyOf f k → u ≡ f k → (t || u) ≡ anyOf f (k + 1)
+unfolding anyOf
+one-more f k e same = rw (e, same, add-one k)
+
 pub any-more : (f : ℕ → Bool) (i : ℕ) → anyOf f i ≡ false → f i ≡ false → anyOf f (i + 1) ≡ false
 unfolding anyOf
 any-more f i p q = rw add-one (or-false-both p q)
@@ -58,136 +161,19 @@ any-more f i p q = rw add-one (or-false-both p q)
 pub any-done : (f : ℕ → Bool) (n i : ℕ) → anyOf f i ≡ false → i ≡ n → false ≡ anyOf f n
 any-done f n i e m = sym (ap (anyOf f) (sym m) ∙ e)
 
-pub all-at : (f : ℕ → Bool) (n i : ℕ) → allOf f n ≡ true → i < n → f i ≡ true
-unfolding allOf
-all-at f zero i p h = absurd (not-suc-le-zero h)
-all-at f (suc n) i p h =
-    ⊎-elim
-    (λ (e : i ≡ n). subst (λ (j : ℕ). f j ≡ true) (sym e) (and-right (allOf f n) (f n) p))
-    (λ (l : i < n). all-at f n i (and-left (allOf f n) (f n) p) l)
-    (last-or-below h)
+-- the first i of n indices are tested, and all says whether they all pass
+pub record Tested (f : ℕ → Bool) (n : ℕ) (all : Bool) (i : ℕ) : Type 0 where
+  pub within : i ≤ n
+  pub passing : all ≡ allOf f i
 
-pub all-each : (f : ℕ → Bool) (n : ℕ) → ((i : ℕ) → i < n → f i ≡ true) → allOf f n ≡ true
-unfolding allOf
-all-each f zero h = refl
-all-each f (suc n) h = and-both (all-each f n (λ i l. h i (omega arith))) (h n (omega arith))
+module _ {f : ℕ → Bool} {n : ℕ} where
+  pub tested-none : Tested f n true 0
+  unfolding allOf
+  tested-none = record { within = omega arith; passing = refl }
 
--- ── countOf, sumOf, greatestOf ──
+  pub tested-more : {i : ℕ} {all own : Bool} → Tested f n all i → i < n → own ≡ f i → Tested f n (all && own) (i + 1)
+  unfolding allOf
+  tested-more {i} h l e = record { within = omega arith; passing = rw (h .passing, e, add-one i) }
 
-pub count-most : (f : ℕ → Bool) (n : ℕ) → countOf f n ≤ n
-unfolding countOf
-count-most f zero = omega arith
-count-most f (suc n) = step (f n) (count-most f n)
-  where
-    step : (t : Bool) → countOf f n ≤ n → countOf f n + (if t then 1 else 0) ≤ suc n
-    step true h = omega arith
-    step false h = omega arith
-
-pub sum-most : (f g : ℕ → ℕ) (n : ℕ) → ((i : ℕ) → i < n → f i ≤ g i) → sumOf f n ≤ sumOf g n
-unfolding sumOf
-sum-most f g zero h = omega arith
-sum-most f g (suc n) h = omega (arith, sum-most f g n (λ i l. h i (omega arith)), h n (omega arith))
-
-pub greatest-most : (f : ℕ → ℕ) (n m : ℕ) → ((i : ℕ) → i < n → f i ≤ m) → greatestOf f n ≤ m
-unfolding greatestOf
-greatest-most f zero m h = omega arith
-greatest-most f (suc n) m h = omega (arith, greatest-most f n m (λ i l. h i (omega arith)), h n (omega arith))
-
-pub greatest-at : (f : ℕ → ℕ) (n i : ℕ) → i < n → f i ≤ greatestOf f n
-unfolding greatestOf
-greatest-at f zero i h = absurd (not-suc-le-zero h)
-greatest-at f (suc n) i h =
-    ⊎-elim
-    (λ (e : i ≡ n). subst (λ (j : ℕ). f j ≤ max (greatestOf f n) (f n)) (sym e) (omega arith))
-    (λ (l : i < n). omega (arith, greatest-at f n i l))
-    (last-or-below h)
-
--- ── listOf, rowOf ──
-
-module _ {ℓ} {A : Type ℓ} where
-  pub list-length : (f : ℕ → A) (n : ℕ) → length (listOf f n) ≡ n
-  unfolding listOf
-  list-length f zero = refl
-  list-length f (suc n) = length-append (listOf f n) (f n ∷ []) ∙ omega (arith, list-length f n)
-
-  pub list-at : (f : ℕ → A) (n i : ℕ) (d : A) → i < n → getD (listOf f n) i d ≡ f i
-  unfolding listOf
-  list-at f zero i d h = absurd (not-suc-le-zero h)
-  list-at f (suc n) i d h =
-      ⊎-elim
-      (λ (e : i ≡ n).
-      subst (λ (j : ℕ). getD (listOf f n ++ (f n ∷ [])) j d ≡ f j) (sym e)
-      (getD-at (listOf f n) (f n) [] d n (list-length f n)))
-      (λ (l : i < n).
-      List·getD-append (listOf f n) (f n ∷ []) d i (subst (λ (m : ℕ). i < m) (sym (list-length f n)) l)
-      ∙ list-at f n i d l)
-      (last-or-below h)
-
-  pub row-at : (f : ℕ → A) (n room i : ℕ) (blank : A) → i < n → getD (rowOf f n room blank) i blank ≡ f i
-  unfolding rowOf
-  row-at f n room i blank h =
-      List·getD-append
-      (listOf f n)
-      (replicate (room - n) blank)
-      blank
-      i
-      (subst (λ (m : ℕ). i < m) (sym (list-length f n)) h)
-      ∙ list-at f n i blank h
-
-  blanks : (m i : ℕ) (blank : A) → getD (replicate m blank) i blank ≡ blank
-  blanks zero i blank = refl
-  blanks (suc m) zero blank = refl
-  blanks (suc m) (suc i) blank = blanks m i blank
-
-  pub row-past : (f : ℕ → A) (n room i : ℕ) (blank : A) → n ≤ i → getD (rowOf f n room blank) i blank ≡ blank
-  unfolding rowOf
-  row-past f n room i blank h =
-      subst (λ (j : ℕ). getD (listOf f n ++ replicate (room - n) blank) j blank ≡ blank) (omega (arith, list-length f n))
-      (getD-append-add (listOf f n) (replicate (room - n) blank) (i - n) blank ∙ blanks (room - n) (i - n) blank)
-
--- ── indicesOf ──
-
-pub indices-length : (f : ℕ → Bool) (n : ℕ) → length (indicesOf f n) ≡ countOf f n
-unfolding indicesOf countOf
-indices-length f zero = refl
-indices-length f (suc n) = step (f n) (indices-length f n)
-  where
-    step :
-        (t : Bool) →
-        length (indicesOf f n) ≡ countOf f n →
-        length (indicesOf f n ++ (if t then n ∷ [] else [])) ≡ countOf f n + (if t then 1 else 0)
-    step true h = length-append (indicesOf f n) (n ∷ []) ∙ omega arith
-    step false h = length-append (indicesOf f n) [] ∙ omega arith
-
--- ith of the indices that pass: it is below n, passes, and has i passing ones before it
-abbrev pub IthPassing : (ℕ → Bool) → ℕ → ℕ → ℕ → Type 0
-IthPassing f n i at = (at < n) × (f at ≡ true) × (countOf f at ≡ i)
-
-pub indices-at : (f : ℕ → Bool) (n i : ℕ) → i < countOf f n → IthPassing f n i (getD (indicesOf f n) i 0)
-unfolding indicesOf countOf
-indices-at f zero i h = absurd (not-suc-le-zero h)
-indices-at f (suc n) i h = step (f n) refl (indices-at f n i) (indices-length f n) h
-  where
-    wider : (at : ℕ) → IthPassing f n i at → IthPassing f (suc n) i at
-    wider at w = (omega (arith, w .0), w .1, w .2)
-
-    step :
-        (t : Bool) →
-        f n ≡ t →
-        (i < countOf f n → IthPassing f n i (getD (indicesOf f n) i 0)) →
-        length (indicesOf f n) ≡ countOf f n →
-        i < countOf f n + (if t then 1 else 0) →
-        IthPassing f (suc n) i (getD (indicesOf f n ++ (if t then n ∷ [] else [])) i 0)
-    step false e found len l =
-        subst (λ (xs : List ℕ). IthPassing f (suc n) i (getD xs i 0)) (sym (append-nil (indicesOf f n)))
-        (wider (getD (indicesOf f n) i 0) (found (omega arith)))
-    step true e found len l =
-        ⊎-elim
-        (λ (q : i ≡ countOf f n).
-        subst (λ (at : ℕ). IthPassing f (suc n) i at) (sym (getD-at (indicesOf f n) n [] 0 i (len ∙ sym q)))
-        (omega arith, e, sym q))
-        (λ (q : i < countOf f n).
-        subst (λ (at : ℕ). IthPassing f (suc n) i at)
-        (sym (List·getD-append (indicesOf f n) (n ∷ []) 0 i (omega arith)))
-        (wider (getD (indicesOf f n) i 0) (found q)))
-        (last-or-below (omega arith))
+  pub tested-all : {i : ℕ} {all : Bool} → Tested f n all i → n ≤ i → all ≡ allOf f n
+  tested-all {i} h l = let e : i ≡ n = omega (arith, h .within) in rw e at (h .passing)

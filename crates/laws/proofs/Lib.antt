@@ -1,22 +1,33 @@
--- The one home of general laws.
+-- Laws that know nothing of traffic signals: their one home. A law that two proofs need is here if it names nothing of the rules, and in
+-- rules/proofs if it does.
 --
--- Booleans: what a joined or negated test tells. Folds: any, all, sum, greatest, list of the indices below n. Counting: how many pass.
--- Bits: bits of small numbers. Parity, Shifts, CommonBits, HighBits, FirstBits, UnionBits: bits of a sum, a shift, a conjunction, a quotient, a
--- remainder, a union. LowestBit: a pass that takes the lowest bit that is left. Sets, Members: a byte as the set of its bits.
--- PastEnd: bytes past the end are 0. Arrays: a list that is written by index. Passing: a test of every index, one at a time.
+--   Booleans    and, or, not: and-left, and-both, or-cases, or-false-both; decided, never-both, same-tests; implied, otherwise, not-both
+--   Indices     last-or-below, below-or-past, same-or-apart; eqb-turned, in-range; passes-below, upto-more
+--   Folds       any fold: fold-same (f = g below n), fold-at (each entry); any-found, any-at, any-none, any-past, all-at, all-each; Tested (a loop)
+--   Tables      a rule shown by one computation: table-holds, table-same, table-equal, grid-holds, grid-same
+--   Sums        sumOf and greatestOf: sum-same, sum-at, sum-within, greatest-at, greatest-most, greatest-with
+--   Counting    countOf and indicesOf: count-before, count-apart, count-within, count-one, count-only, indices-at, listed-once
+--   Lists       listOf, rowOf and any list: list-at, list-same, list-told, listed, list-set, row-at, row-past; entry-same (the default)
+--   Arrays      an array that a loop fills: Filled, fill-set, fill-skip, fill-done, fill-kept; or writes part behind part: Stored
+--   Entries     sums over the entries of a list: total, places, In, total-append
+--   Bits        bits of one number: bit-above, bit-below, bit-lower, bit-down, bit-up, half-bit, odd-bit, same-bits, no-bits, bit-one
+--   BitRanges   bits from a place on or below one: no-bits-from, bit-from, reaches, full-each, all-full, ones-counted, shifted, firsts
+--   JoinedBits  bits of two numbers: bit-and, bit-or, bit-xor, in-common, common-below, joined-below, first-row, next-row
+--   LowestBit   a pass that takes the lowest bit of what is left: lowest, others, taken, Left, next-within, left-more, counted, counted-same
+--   ByteSets    a byte as a set: set-small, bit-set, set-same, set-told, self-told, union-told, with-told, without-told, below-told
+--   Bytes       numbers in lists of bytes: byte-past, first-byte, part, part-more, four-bit
 pub mod Booleans
+pub mod Indices
 pub mod Folds
+pub mod Tables
+pub mod Sums
 pub mod Counting
-pub mod Bits
-pub mod Parity
-pub mod Shifts
-pub mod CommonBits
-pub mod HighBits
-pub mod FirstBits
-pub mod UnionBits
-pub mod LowestBit
-pub mod Sets
-pub mod Members
-pub mod PastEnd
+pub mod Lists
 pub mod Arrays
-pub mod Passing
+pub mod Entries
+pub mod Bits
+pub mod BitRanges
+pub mod JoinedBits
+pub mod LowestBit
+pub mod ByteSets
+pub mod Bytes

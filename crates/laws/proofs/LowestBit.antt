@@ -1,38 +1,19 @@
--- A power of two has one bit; a number without its lowest bit has all its others; and a pass that takes the lowest bit of what is left
--- takes each bit once.
+-- The lowest bit of a word and the rest: a pass that takes the lowest bit of what is left takes each bit once.
 use Prim.Native.Nat.{ℕ, zero, suc, _-_, _*_, _/_, _%_, _^_, _≤_, _<_}
-use mathlib.Core.Bool.{Bool, true, false, not, _&&_, and-true, and-false}
+use mathlib.Core.Bool.{Bool, true, false, not, _&&_, and-true, and-false, and-not-self}
 use mathlib.Core.Logic.{⊎-elim}
-use mathlib.Core.Path.{_≡_, refl, sym, ap, _∙_}
+use mathlib.Core.Path.{_≡_, refl, sym, _∙_}
 use native.Mathlib.Nat.{pow-succ', lt-of-lt-of-le}
 use native.Mathlib.Omega.{arith}
-use lib.Bits.{bitAnd, and-step, and-self, and-le-r, shifted-half, shifted-even}
+use lib.Bits.{bitAnd, and-step, and-self, and-le-r}
 use lib.Count.{trailingZeros, under}
 use lib.Dec.{eqb}
 use lib.Pow.{pow-mono}
-use borrow.Author.Tests.{eqb-true, eqb-false, ne-eqb, eq-eqb}
+use borrow.Author.Tests.{ne-eqb, eq-eqb}
 use Rattle.laws.specs.Bytes.{bit}
-use Rattle.laws.proofs.Bits.{bit-blank, bit-below}
-use Rattle.laws.proofs.Booleans.{and-left, decided}
-use Rattle.laws.proofs.Parity.{even-bit, odd-bit}
-use Rattle.laws.proofs.Shifts.{half-bit}
-
--- ── One bit ──
-
-eqb-both : (a b : ℕ) → eqb (suc a) (suc b) ≡ eqb a b
-eqb-both a b =
-    ⊎-elim
-    (λ (e : eqb a b ≡ true). rw e (eq-eqb (suc a) (suc b) (ap suc (eqb-true a b e))))
-    (λ (e : eqb a b ≡ false). rw e (ne-eqb (suc a) (suc b) (λ z. eqb-false a b e (omega (arith, z)))))
-    (decided (eqb a b))
-
-pub bit-one : (k q : ℕ) → bit q (1 * 2 ^ k) ≡ eqb k q
-bit-one zero zero = odd-bit 1 refl
-bit-one zero (suc q) = half-bit q 1 ∙ bit-blank q ∙ sym (ne-eqb 0 (suc q) (λ z. omega (arith, z)))
-bit-one (suc k) zero =
-    even-bit (1 * 2 ^ suc k) (shifted-even 1 k) ∙ sym (ne-eqb (suc k) 0 (λ z. omega (arith, z)))
-bit-one (suc k) (suc q) =
-    half-bit q (1 * 2 ^ suc k) ∙ ap (bit q) (shifted-half 1 k) ∙ bit-one k q ∙ sym (eqb-both k q)
+use Rattle.laws.proofs.Booleans.{and-left}
+use Rattle.laws.proofs.Indices.{same-or-apart, eqb-suc}
+use Rattle.laws.proofs.Bits.{bit-blank, bit-below, even-bit, odd-bit, half-bit}
 
 -- ── Without the lowest bit ──
 
@@ -84,7 +65,7 @@ without-lowest (suc k) x i h l = go (x % 2) refl i (λ e j. without-lowest k (x 
           half-bit i (bitAnd (x / 2) (x / 2 - 1) * 2),
           double (bitAnd (x / 2) (x / 2 - 1)),
           half-bit i x,
-          eqb-both i (trailingZeros k (x / 2)),
+          eqb-suc i (trailingZeros k (x / 2)),
         )
         (ih e i)
     go (suc r) e zero ih = rw (odd-less x r e, odd-bit x (omega (arith, e))) (even-bit (x / 2 * 2) (omega arith))
@@ -92,25 +73,25 @@ without-lowest (suc k) x i h l = go (x % 2) refl i (λ e j. without-lowest k (x 
         let apart : eqb (suc i) 0 ≡ false = ne-eqb (suc i) 0 (λ z. omega (arith, z)) in
         rw (odd-less x r e, half-bit i (x / 2 * 2), double (x / 2), half-bit i x, apart) (sym (and-true (bit i (x / 2))))
 
--- the lowest bit of a word, and the word without it
-module _ (rest : ℕ) (some : 0 < rest) (room : rest < 2 ^ 64) where
-  abbrev lowest : ℕ
-  lowest = trailingZeros 64 rest
+-- the place of the lowest bit of a word, and the word without it
+abbrev pub lowest : ℕ → ℕ
+lowest word = trailingZeros 64 word
 
-  abbrev others : ℕ
-  others = bitAnd rest (rest - 1)
+abbrev pub others : ℕ → ℕ
+others word = bitAnd word (word - 1)
 
-  pub lowest-in : bit lowest rest ≡ true
-  lowest-in = lowest-set 64 rest some room
+module _ (word : ℕ) (some : 0 < word) (room : word < 2 ^ 64) where
+  lowest-in : bit (lowest word) word ≡ true
+  lowest-in = lowest-set 64 word some room
 
-  pub others-in : (i : ℕ) → bit i others ≡ (bit i rest && not (eqb i lowest))
-  others-in i = without-lowest 64 rest i some room
+  others-in : (i : ℕ) → bit i (others word) ≡ (bit i word && not (eqb i (lowest word)))
+  others-in i = without-lowest 64 word i some room
 
-  pub lowest-gone : bit lowest others ≡ false
-  lowest-gone = others-in lowest ∙ rw (lowest-in, eq-eqb lowest lowest refl)
+  lowest-gone : bit (lowest word) (others word) ≡ false
+  lowest-gone = others-in (lowest word) ∙ rw (lowest-in, eq-eqb (lowest word) (lowest word) refl)
 
-  pub others-same : (i : ℕ) → (i ≡ lowest → ⊥) → bit i others ≡ bit i rest
-  others-same i apart = others-in i ∙ rw (ne-eqb i lowest apart) (and-true (bit i rest))
+  others-same : (i : ℕ) → (i ≡ lowest word → ⊥) → bit i (others word) ≡ bit i word
+  others-same i apart = others-in i ∙ rw (ne-eqb i (lowest word) apart) (and-true (bit i word))
 
 -- ── A pass over the bits of a word, the lowest first ──
 
@@ -128,11 +109,7 @@ left-all word n within = record { within = within; left = λ i e. e }
 
 pub taken-none : (word i : ℕ) → taken word word i ≡ false
 unfolding taken
-taken-none word i = neither (bit i word)
-  where
-    neither : (t : Bool) → (t && not t) ≡ false
-    neither true = refl
-    neither false = refl
+taken-none word i = and-not-self (bit i word)
 
 pub taken-all : (word i : ℕ) {rest : ℕ} → rest ≡ 0 → taken word rest i ≡ bit i word
 unfolding taken
@@ -143,42 +120,52 @@ module _ {word n rest : ℕ} (known : Left word n rest) (some : 0 < rest) (few :
   room : rest < 2 ^ 64
   room = lt-of-lt-of-le (known .within) (pow-mono few)
 
-  abbrev next : ℕ
-  next = trailingZeros 64 rest
+  -- it is one of the word's
+  pub next-left : bit (lowest rest) word ≡ true
+  next-left = known .left (lowest rest) (lowest-in rest some room)
 
-  abbrev rest′ : ℕ
-  rest′ = bitAnd rest (rest - 1)
+  pub next-within : lowest rest < n
+  next-within = bit-below rest n (lowest rest) (known .within) (lowest-in rest some room)
 
-  pub next-within : next < n
-  next-within = bit-below rest n next (known .within) (lowest-in rest some room)
-
-  pub left-less : rest′ < rest
+  pub left-less : others rest < rest
   left-less = omega (arith, and-le-r rest (rest - 1))
 
-  pub left-more : Left word n rest′
+  pub left-more : Left word n (others rest)
   left-more =
       record {
         within = lt-of-lt-of-le left-less (omega (arith, known .within));
-        left = λ i e. known .left i (and-left (bit i rest) (not (eqb i next)) (sym (others-in rest some room i) ∙ e));
+        left = λ i e. known .left i (and-left (bit i rest) (not (eqb i (lowest rest))) (sym (others-in rest some room i) ∙ e));
       }
 
-  pub next-untaken : taken word rest next ≡ false
+  pub next-untaken : taken word rest (lowest rest) ≡ false
   unfolding taken
-  next-untaken = rw (lowest-in rest some room, known .left next (lowest-in rest some room))
+  next-untaken = rw (lowest-in rest some room, next-left)
 
-  pub next-taken : taken word rest′ next ≡ true
+  pub next-taken : taken word (others rest) (lowest rest) ≡ true
   unfolding taken
-  next-taken = rw (lowest-gone rest some room, known .left next (lowest-in rest some room))
+  next-taken = rw (lowest-gone rest some room, next-left)
 
-  pub taken-other : (i : ℕ) → (i ≡ next → ⊥) → taken word rest′ i ≡ taken word rest i
+  pub taken-other : (i : ℕ) → (i ≡ lowest rest → ⊥) → taken word (others rest) i ≡ taken word rest i
   unfolding taken
   taken-other i apart = rw (others-same rest some room i apart)
 
-  -- of the bits taken that pass a test, one that fails it alters nothing
-  pub taken-failing :
-      (passes : ℕ → Bool) → passes next ≡ false → (i : ℕ) → (taken word rest i && passes i) ≡ (taken word rest′ i && passes i)
-  taken-failing passes e i =
+-- ── Of the bits taken, those that pass a test ──
+
+abbrev pub counted : ℕ → (ℕ → Bool) → ℕ → ℕ → Bool
+counted word passes rest i = taken word rest i && passes i
+
+module _ {word n rest : ℕ} (known : Left word n rest) (some : 0 < rest) (few : n ≤ 64) (passes : ℕ → Bool) where
+  pub counted-other : (i : ℕ) → (i ≡ lowest rest → ⊥) → counted word passes (others rest) i ≡ counted word passes rest i
+  counted-other i apart = rw (taken-other known some few i apart)
+
+  pub counted-own : passes (lowest rest) ≡ true → counted word passes (others rest) (lowest rest) ≡ true
+  counted-own e = rw (next-taken known some few, e)
+
+  -- a bit that fails alters nothing
+  pub counted-same : passes (lowest rest) ≡ false → (i : ℕ) → counted word passes rest i ≡ counted word passes (others rest) i
+  counted-same e i =
       ⊎-elim
-      (λ (t : eqb i next ≡ true). rw (eqb-true i next t, e) (and-false (taken word rest next) ∙ sym (and-false (taken word rest′ next))))
-      (λ (t : eqb i next ≡ false). ap (λ (u : Bool). u && passes i) (sym (taken-other i (eqb-false i next t))))
-      (decided (eqb i next))
+      (λ (here : i ≡ lowest rest).
+      rw (here, e) (and-false (taken word rest (lowest rest)) ∙ sym (and-false (taken word (others rest) (lowest rest)))))
+      (λ (apart : i ≡ lowest rest → ⊥). sym (counted-other i apart))
+      (same-or-apart i (lowest rest))

@@ -1,7 +1,7 @@
 -- Every accepted personality holds a sound site: each fact that acceptance tells of the bytes is carried to the site's entries, and
 -- past the counts the entries are blank. The one phase of a movement is the one bit that its group's set is counted to have.
 use Prim.Native.Nat.{ℕ, _+_, _%_, _≤_, _<_}
-use mathlib.Core.Bool.{Bool, true, false}
+use mathlib.Core.Bool.{true, false}
 use mathlib.Core.List.{List}
 use mathlib.Core.Logic.{inl, inr, ⊎-elim}
 use mathlib.Core.Path.{_≡_, refl, sym, subst, ap, _∙_}
@@ -20,8 +20,9 @@ use Rattle.rules.specs.Personality.{recordAt, phasesHead, pedestriansHead, phas
 use Rattle.rules.specs.Site.{earlyTimeAt, phaseTimesAt, walkTimesAt, timesIn, crossingAt, orderIn, siteOf, groupOf, phaseTimes, inPhase, crosses, isPedestrian, movementOf, conflict}
 use Rattle.rules.specs.Laws.{InTable, PhaseTimesIn, WalkTimesIn, TimesIn, OnePhase, Caller, Sound, AcceptedIsSound, AcceptedIsInTable}
 use Rattle.laws.proofs.Booleans.{decided, never-both, and-left, and-right, or-cases}
-use Rattle.laws.proofs.Folds.{IthPassing, any-found, indices-at}
-use Rattle.laws.proofs.Counting.{below-or-past, passes-below, count-before, count-apart, count-same, count-within, count-one}
+use Rattle.laws.proofs.Indices.{below-or-past, passes-below}
+use Rattle.laws.proofs.Folds.{any-found}
+use Rattle.laws.proofs.Counting.{IthPassing, indices-at, count-before, count-apart, count-same, count-one, count-only}
 use Rattle.laws.proofs.Bits.{bit-below}
 use Rattle.rules.proofs.Settings.{table-is-usable}
 use Rattle.proof_acceptance.proofs.Sections.{PhasesAccepted, GroupsAccepted, ConflictsAccepted, PedestriansAccepted, EarlyAccepted, OrderAccepted, SectionsAccepted, sections-accepted}
@@ -98,18 +99,6 @@ accepted-is-in-table b h = times-in b (sections-accepted b h)
 
 -- ── The order of phases ──
 
--- the only index that passes is counted once
-only-one : (f : ℕ → Bool) (n i : ℕ) → i < n → f i ≡ true → ((j : ℕ) → f j ≡ true → j ≡ i) → countOf f n ≡ 1
-only-one f n i l passes only =
-    omega (
-      arith,
-      count-before f i n l passes,
-      count-within f n 1
-          (λ j m p e.
-          let first = indices-at f j 0 (omega arith) in
-          omega (arith, only j p, only (getD (indicesOf f j) 0 0) (first .1), first .0)),
-    )
-
 -- as kind 9 lists them, or by letter without it
 order-once :
     (b : List ℕ) →
@@ -122,7 +111,7 @@ order-once b s p l =
     count-same _ _ (phaseCount b) (λ i m. ap (λ (x : ℕ). eqb x p) (order-at b i m))
     ∙ ⊎-elim
     (λ (there : hasOrder b ≡ true). rw there (s there .once p l))
-    (λ (missing : hasOrder b ≡ false). rw missing (only-one (λ i. eqb i p) (phaseCount b) p l (eq-eqb p p refl) (λ j e. eqb-true j p e)))
+    (λ (missing : hasOrder b ≡ false). rw missing (count-only (λ i. eqb i p) (phaseCount b) p l (eq-eqb p p refl) (λ j e. eqb-true j p e)))
     (decided (hasOrder b))
 
 -- ── Groups ──

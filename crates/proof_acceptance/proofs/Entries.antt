@@ -10,8 +10,8 @@ use Rattle.rules.specs.declared.site.Group.{Group}
 use Rattle.laws.specs.Bytes.{bit}
 use Rattle.rules.specs.Personality.{phaseCount, groupCount, detectorCount, movementCount, groupSet, groupMark, conflictSet, detectorPhase, detectorMode, pedestrian, pedestriansBefore}
 use Rattle.rules.specs.Site.{noPhaseTimes, noWalkTimes, noGroup, noDetector, phaseTimesAt, walkTimesAt, timesIn, crossingAt, orderIn, siteOf, groupOf, detectorOf, phaseTimes, walkTimes, inPhase, crosses, isPedestrian, movementOf, conflict}
-use Rattle.laws.proofs.Folds.{row-at, row-past}
 use Rattle.laws.proofs.Counting.{count-same}
+use Rattle.laws.proofs.Lists.{row-at, row-past}
 use Rattle.laws.proofs.Bits.{bit-blank}
 
 module _ (b : List ℕ) where

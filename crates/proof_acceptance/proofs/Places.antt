@@ -7,23 +7,18 @@ use mathlib.Core.Logic.{⊎-elim}
 use mathlib.Core.Path.{_≡_}
 use lib.Dec.{leb, eqb}
 use native.Mathlib.Omega.{arith}
-use borrow.Author.Tests.{leb-true, eqb-true}
+use borrow.Author.Tests.{eqb-true}
 use Rattle.rules.specs.declared.answer.Verdict.{Verdict}
 use Rattle.rules.specs.declared.state.KeptState.{KeptState}
 use Rattle.rules.specs.Personality.{verdictOf}
 use Rattle.rules.specs.Call.{callVerdict}
 use Rattle.rules.specs.Lookup.{lookupVerdict}
 use Rattle.rules.specs.Laws.{readingNumber, stepNumber, greatestLength, PlaceIn, Written}
-use Rattle.laws.proofs.Booleans.{and-left, and-right, or-cases}
+use Rattle.laws.proofs.Booleans.{or-cases}
+use Rattle.laws.proofs.Indices.{in-range}
 use Rattle.proof_acceptance.proofs.Refusals.{Refusals, if-refusals, or-refusals, personality-refusals, call-refusals}
 
 -- ── Numbers ──
-
-in-range : (low high number : ℕ) → (leb low number && leb number high) ≡ true → (low ≤ number) × (number ≤ high)
-in-range low high number known = (
-  leb-true low number (and-left (leb low number) (leb number high) known),
-  leb-true number high (and-right (leb low number) (leb number high) known),
-)
 
 -- one number more
 or-fits :

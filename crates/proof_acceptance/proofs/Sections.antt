@@ -16,26 +16,10 @@ use Rattle.rules.specs.Limits.{limits, within, startRedSetting, phaseSettings, 
 use Rattle.rules.specs.Verdicts.{firstOf}
 use Rattle.rules.specs.Personality.{bodyLength, bodyAt, pastSection, recordAt, phaseCount, groupCount, siteHead, phasesHead, groupsHead, conflictsHead, detectorsHead, pedestriansHead, groupSet, groupMark, pedestrian, pedestriansBefore, movementCount, conflictSet, detectorCount, detectorPhase, sectionAt, timeAt, timesAt, siteSection, timeRecords, timedSection, phasesSection, badGroup, badGroupAt, ninthPedestrian, groupRecord, phaseWithoutGroup, groupsSection, badConflict, sharePhase, conflictInPhase, conflictsSection, badDetector, badDetectorAt, detectorRecord, detectorsSection, pedestriansSection, earlyHead, hasEarly, earlySection, orderHead, hasOrder, orderAt, phaseNotOnce, orderSection, callsPhase, walksPhase, phaseWithoutCaller, stopsEarly, earlyMissing, leftOver, afterPedestrians, endOf, verdictOf, detectorMode, knownMode}
 use Rattle.rules.specs.Laws.{InTable}
-use Rattle.laws.proofs.Booleans.{and-left, and-right, or-false-left, or-false-right, never-both}
+use Rattle.laws.proofs.Booleans.{and-right, or-false-left, or-false-right, never-both, both-passed, or-false-three, and-false-rest}
 use Rattle.laws.proofs.Folds.{any-false, any-found}
-use Rattle.rules.proofs.Verdicts.{or-first, or-later, refuse-passed, first-each}
 use Rattle.laws.proofs.Counting.{count-within}
-
--- ── Tests that passed ──
-
--- two conditions asked for together
-pub both-passed : (s t : Bool) → not (s && t) ≡ false → (s ≡ true) × (t ≡ true)
-both-passed s t h = let e = not-false (s && t) h in (and-left s t e, and-right s t e)
-
--- of two conditions that do not hold together, the second fails where the first holds
-pub joined-failed : {s : Bool} (t : Bool) → (s && t) ≡ false → s ≡ true → t ≡ false
-joined-failed t h p = rw p at h
-
--- none of three reasons to refuse
-pub three-failed : (s t u : Bool) → (s || t || u) ≡ false → (s ≡ false) × (t ≡ false) × (u ≡ false)
-three-failed s t u h =
-    let e = or-false-left (s || t) u h in
-    (or-false-left s t e, or-false-right s t e, or-false-right (s || t) u h)
+use Rattle.rules.proofs.Verdicts.{or-first, or-later, refuse-passed, first-each}
 
 -- ── Sections and records, for any width ──
 
@@ -67,14 +51,14 @@ record-within head width n i l = omega (arith, mul-le-mul-right width l, suc-mul
 
 -- ── Times ──
 
-pub time-passed : (b : List ℕ) (place setting : ℕ) → timeAt b place setting ≡ Accepted → InTable limits setting (twoAt b place)
+time-passed : (b : List ℕ) (place setting : ℕ) → timeAt b place setting ≡ Accepted → InTable limits setting (twoAt b place)
 unfolding timeAt within
 time-passed b place setting h =
     let passed = both-passed _ _ (refuse-passed _ _ _ h) in
     (leb-true _ _ (passed .0), leb-true _ _ (passed .1))
 
 -- each field of each record of times
-pub times-passed :
+times-passed :
     (b : List ℕ) (head width setting fields n : ℕ) →
     firstOf (λ i. timesAt b (recordAt head width i) setting fields) n ≡ Accepted →
     (i : ℕ) →
@@ -180,10 +164,10 @@ groups-accepted b h =
       next = records-held b (groupsHead b) 3 (groupCount b) 2 (or-first _ _ h);
       set = λ g l. leb-false _ _ (good g l .0);
       mark = λ g l. ltb-false _ _ (good g l .1);
-      onePhase = λ g l p. eqb-true _ _ (not-false _ (joined-failed _ (good g l .2) p));
+      onePhase = λ g l p. eqb-true _ _ (not-false _ (and-false-rest _ (good g l .2) p));
       movements =
           count-within (pedestrian b) (groupCount b) 8
-          (λ g l p. eqb-false _ _ (joined-failed _ (refuse-passed _ _ _ (or-later _ _ (each g l))) p));
+          (λ g l p. eqb-false _ _ (and-false-rest _ (refuse-passed _ _ _ (or-later _ _ (each g l))) p));
       served = λ p l. any-found _ _ (not-false _ (any-false _ _ p (refuse-passed _ _ _ (or-later _ _ (or-later _ _ h))) l));
     }
   where
@@ -196,7 +180,7 @@ groups-accepted b h =
         (leb (2 ^ phaseCount b) (groupSet b g) ≡ false)
         × (ltb 3 (groupMark b g) ≡ false)
         × ((pedestrian b g && not (eqb (countOf (λ p. bit p (groupSet b g)) (phaseCount b)) 1)) ≡ false)
-    good g l = three-failed _ _ _ (refuse-passed _ _ _ (or-first _ _ (each g l)))
+    good g l = or-false-three _ _ _ (refuse-passed _ _ _ (or-first _ _ (each g l)))
 
 pub conflicts-accepted : (b : List ℕ) → conflictsSection b ≡ Accepted → ConflictsAccepted b
 unfolding conflictsSection detectorsHead badConflict conflictInPhase sharePhase
@@ -205,8 +189,8 @@ conflicts-accepted b h =
       next = records-held b (conflictsHead b) 4 (groupCount b) 4 (or-first _ _ h);
       other = λ g l. good g l .0;
       set = λ g l. leb-false _ _ (good g l .1);
-      back = λ g j l m e. not-false _ (joined-failed _ (any-false _ _ j (good g l .2) m) e);
-      apart = λ g j p l m n e q. joined-failed _ (any-false _ _ p (joined-failed _ (any-false _ _ j (shares g l) m) e) n) q;
+      back = λ g j l m e. not-false _ (and-false-rest _ (any-false _ _ j (good g l .2) m) e);
+      apart = λ g j p l m n e q. and-false-rest _ (any-false _ _ p (and-false-rest _ (any-false _ _ j (shares g l) m) e) n) q;
     }
   where
     good :
@@ -215,7 +199,7 @@ conflicts-accepted b h =
         (bit g (conflictSet b g) ≡ false)
         × (leb (2 ^ groupCount b) (conflictSet b g) ≡ false)
         × (anyOf (λ j. bit j (conflictSet b g) && not (bit g (conflictSet b j))) (groupCount b) ≡ false)
-    good g l = three-failed _ _ _ (refuse-passed _ _ _ (first-each _ _ g (or-first _ _ (or-later _ _ h)) l))
+    good g l = or-false-three _ _ _ (refuse-passed _ _ _ (first-each _ _ g (or-first _ _ (or-later _ _ h)) l))
 
     shares : (g : ℕ) → g < groupCount b → anyOf (λ j. bit j (conflictSet b g) && sharePhase b g j) (groupCount b) ≡ false
     shares g l = refuse-passed _ _ _ (first-each _ _ g (or-later _ _ (or-later _ _ h)) l)
@@ -317,7 +301,7 @@ sections-accepted b h =
       called = λ p l. not-false _ (any-false _ _ p (refuse-passed _ _ _ (or-first _ _ fromCallers)) l);
       noneEarly = λ missing g l mark.
           never-both
-          (not-false _ (joined-failed _ (refuse-passed _ _ _ (first-each _ _ g (or-first _ _ fromMissing) l)) (eq-eqb _ _ mark)))
+          (not-false _ (and-false-rest _ (refuse-passed _ _ _ (first-each _ _ g (or-first _ _ fromMissing) l)) (eq-eqb _ _ mark)))
           missing;
       last = ltb-false _ _ (refuse-passed _ _ _ (or-later _ _ fromMissing));
     }

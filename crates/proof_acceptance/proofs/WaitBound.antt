@@ -14,8 +14,7 @@ use Rattle.rules.specs.Limits.{limits, limitOf}
 use Rattle.rules.specs.Site.{phaseTimes, walkTimes, crosses, siteOf}
 use Rattle.rules.specs.WaitBound.{phaseShare, longestWalk, longestClearance, waitBoundBy}
 use Rattle.rules.specs.Laws.{TimesIn, AcceptedIsSound, AcceptedIsInTable, highest, highestPhase, highestWalk, greatestShare, greatestWait, WaitIsInTable}
-use Rattle.laws.proofs.Folds.{greatest-most}
-use Rattle.laws.proofs.Counting.{sum-within}
+use Rattle.laws.proofs.Sums.{greatest-most, sum-within}
 use Rattle.proof_acceptance.proofs.Acceptance.{accepted-is-sound, accepted-is-in-table}
 
 greatest-wait : greatestWait limits ≡ 37950

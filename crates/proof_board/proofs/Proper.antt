@@ -23,8 +23,8 @@ use Rattle.rules.specs.Interval.{locksLeft}
 use Rattle.rules.specs.Walks.{walksBegun, buttonsLeft}
 use Rattle.rules.specs.Laws.{Sound, AcceptedIsSound, FreshIsValid, StepKeepsValid}
 use Rattle.laws.proofs.Booleans.{and-left, and-right}
-use Rattle.laws.proofs.Folds.{list-length}
-use Rattle.laws.proofs.Sets.{set-small}
+use Rattle.laws.proofs.Lists.{list-length}
+use Rattle.laws.proofs.ByteSets.{set-small}
 use Rattle.rules.proofs.Settings.{phase-timed}
 use Rattle.state_bytes.specs.Layout.{position as positionForm, counts as countsForm, demands as demandsForm, movements as movementsForm, Proper}
 use Rattle.proof_runs.proofs.ValidStates.{state-told}

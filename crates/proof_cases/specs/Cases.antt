@@ -23,7 +23,7 @@ pub data Case : Type 0 where
   call : CallCase → Case
   running : List ℕ → (ℕ → ℕ) → ℕ → List Line → Case
 
-abbrev pub Holds : Case → Type 0
+abbrev Holds : Case → Type 0
 Holds (call c) = CallHolds c
 Holds (running b inputs n lines) = changes b inputs n ≡ lines
 
@@ -218,7 +218,7 @@ early =
 -- ── Request two: demanded phases kept ready ──
 
 -- A in start red at this age, with a set of locks and a kept set; the set of B alone is 2
-abbrev pub inStartRed : ℕ → ℕ → ℕ → KeptState
+abbrev inStartRed : ℕ → ℕ → ℕ → KeptState
 inStartRed age locked kept = state (at 0 StartRed age Nothing) (gap 0 max 0) (locks locked buttons 0) idle kept
 
 unfoldable pub keeping : List Case

@@ -31,7 +31,6 @@ module _ (site : Site) (sound : Sound site) (s : State) (validState : ValidState
 
   -- In a valid state a group that shows green has the phase in its set.
   green-has-phase : shownIn site s g ≡ green → inPhase (site .groups) g (s .position .phase) ≡ true
-  unfolding isIdle
   green-has-phase e = by-kind (isPedestrian (site .groups) g) refl
     where
       by-kind : (test : Bool) → isPedestrian (site .groups) g ≡ test → inPhase (site .groups) g (s .position .phase) ≡ true

@@ -33,7 +33,6 @@ pub data FlashesLeft (times : WalkTimes) (n : ℕ) (m : Movement) : Type 0 where
 
 -- a movement with flashing steps to come is not idle
 pub flashes-busy : (times : WalkTimes) (n : ℕ) (m : Movement) → FlashesLeft times n m → isIdle (m .stage) ≡ false
-unfolding isIdle
 flashes-busy times n m (in-walk e c) = rw e
 flashes-busy times n m (in-first e l c) = rw e
 flashes-busy times n m (in-second e c) = rw e

@@ -14,7 +14,6 @@ use Rattle.rules.specs.declared.state.Interval.the-variants.{StartRed, LateStar
 use Rattle.rules.specs.declared.state.Position.{Position}
 use Rattle.laws.specs.Folds.{if_then_else_}
 use Rattle.rules.specs.Site.{groupOf, inPhase, phaseTimes}
-use Rattle.rules.specs.IntervalTable.{isEarly}
 use Rattle.rules.specs.State.{highestAge}
 use Rattle.rules.specs.Movements.{older}
 use Rattle.rules.specs.Interval.{entering, following, staying}
@@ -92,7 +91,7 @@ module _ {site : Site} {j p c : ℕ} {position : Position} where
   -- yellow up to Y, and then red
   pub stopped-shows :
       Stopped site j p c position → vehicleAt site j position ≡ (if leb c (phaseTimes (site .times) p .yellow) then yellow else red)
-  unfolding vehicleColour sinceCutOff isEarly
+  unfolding vehicleColour sinceCutOff
   stopped-shows (in-early mark row most) =
       rw (closes-by row (omega (arith, row .age)), row .phase, row .member, row .interval, row .apart, mark)
   stopped-shows (in-yellow row most) =

@@ -19,7 +19,7 @@ use Rattle.rules.specs.Interval.{ends, entering, following, staying}
 use Rattle.rules.specs.Colours.{red, yellow, green}
 use Rattle.rules.specs.DemandThree.{Taken}
 use Rattle.laws.proofs.Booleans.{and-left}
-use Rattle.laws.proofs.Counting.{below-or-past}
+use Rattle.laws.proofs.Indices.{below-or-past}
 use Rattle.rules.proofs.Settings.{Timed}
 use Rattle.proof_runs.proofs.Steps.{another, counted, moving, ended, position-of}
 use Rattle.proof_runs.proofs.Ends.{followed, by-end, ended-in}

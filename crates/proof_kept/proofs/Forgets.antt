@@ -17,10 +17,10 @@ use Rattle.rules.specs.Interval.{clearsLock}
 use Rattle.rules.specs.Step.{steppedTo, stepped}
 use Rattle.rules.specs.Kept.{freshKept, keptValid, keptAfter, keptLeft, keptStepped}
 use Rattle.rules.specs.Laws.{Sound}
-use Rattle.laws.proofs.Booleans.{and-left, and-false-left, or-false-both}
+use Rattle.laws.proofs.Booleans.{and-left, and-false-left, or-false-both, and-both}
 use Rattle.laws.proofs.Bits.{bit-blank}
 use Rattle.laws.proofs.Folds.{any-none}
-use Rattle.laws.proofs.Sets.{set-same}
+use Rattle.laws.proofs.ByteSets.{set-same}
 use Rattle.proof_runs.proofs.Steps.{askedNow, lockedNow, begun, ended, now, asked-at, locked-at, locked-of, asked-of}
 use Rattle.proof_kept.proofs.Scans.{standingAfter, kept-after, next-kept, kept-left}
 

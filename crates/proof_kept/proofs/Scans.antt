@@ -19,9 +19,9 @@ use Rattle.rules.specs.Demands.{registersLock, registersButton, calls, demandsA
 use Rattle.rules.specs.Kept.{isKept, keptValid, pressKeeps, keptAfter, nextKept, gone, cleared, keptLeft}
 use Rattle.rules.specs.Laws.{Sound}
 use Rattle.rules.specs.Scanning.{KeptIsScan}
-use Rattle.laws.proofs.Booleans.{and-left, and-right, and-both, or-left, or-right, or-cases, and-false-left, and-false-right, decided, never-both, not-true-false}
+use Rattle.laws.proofs.Booleans.{and-left, and-right, and-both, or-left, or-right, or-cases, and-false-left, and-false-right, decided, never-both, not-true-false, same-tests}
 use Rattle.laws.proofs.Folds.{any-found, any-at}
-use Rattle.laws.proofs.Sets.{bit-set}
+use Rattle.laws.proofs.ByteSets.{bit-set}
 use Rattle.proof_ring.proofs.Turns.{turn}
 use Rattle.proof_ring.proofs.Ring.{found-same}
 use Rattle.proof_ring.proofs.RunningOrder.{ring-of}
@@ -33,12 +33,6 @@ unfolding KeptIsScan keptValid isKept
 kept-is-scan site s v p l =
     let scan = stands (site .crossings) (site .size .movements) (s .core .demands) in
     ap (bit p) (eqb-true (s .kept) (setOf scan) (and-right (valid site (s .core)) _ v)) ∙ bit-set scan p l
-
--- two tests that imply each other are one
-either-way : (a b : Bool) → (a ≡ true → b ≡ true) → (b ≡ true → a ≡ true) → a ≡ b
-either-way true b f g = sym (f refl)
-either-way false true f g = g refl
-either-way false false f g = refl
 
 -- ── What the scan finds ──
 
@@ -155,7 +149,7 @@ module _ (site : Site) (sound : Sound site) (s : KeptState) (inputs : ℕ) (v : 
 
   -- after part 1 a phase is kept where the scan finds it
   pub kept-after : (p : ℕ) → p < 8 → keptAfter site s inputs p ≡ standing p
-  kept-after p l = either-way (keptAfter site s inputs p) (standing p) (stands-kept p l) (kept-stands p l)
+  kept-after p l = same-tests (keptAfter site s inputs p) (standing p) (stands-kept p l) (kept-stands p l)
 
   -- so the search by the kept set finds what the search by the scan does
   pub next-kept : nextKept site s inputs ≡ nextDemanded site (s .core) inputs

@@ -15,8 +15,9 @@ use Rattle.laws.specs.Folds.{if_then_else_, sumOf}
 use Rattle.rules.specs.IntervalTable.{isHeld}
 use Rattle.rules.specs.Demands.{after, before, firstIn}
 use Rattle.laws.proofs.Booleans.{decided, never-both}
-use Rattle.laws.proofs.Counting.{below-or-past, same-or-apart}
-use Rattle.proof_ring.proofs.Entries.{total, one, places, In, one-own, one-other, total-ones, sum-of-one, in-none, in-first, in-later, later-in, around, in-front, uncut}
+use Rattle.laws.proofs.Indices.{below-or-past, same-or-apart}
+use Rattle.laws.proofs.Entries.{total, one, places, In, one-own, one-other, total-ones, sum-of-one, in-none, in-first, in-later, later-in}
+use Rattle.proof_ring.proofs.Entries.{around, in-front, uncut}
 use Rattle.proof_ring.proofs.Turns.{turn, turn-leaves, turn-keeps, turn-in, turn-on}
 
 -- A ring of n phases: n entries, and each phase below n stands in it once.

@@ -10,8 +10,8 @@ use Rattle.rules.specs.declared.site.Site.{Site}
 use Rattle.laws.specs.Folds.{countOf, listOf}
 use Rattle.rules.specs.Site.{ring}
 use Rattle.rules.specs.Laws.{Sound}
-use Rattle.laws.proofs.Folds.{list-length}
-use Rattle.proof_ring.proofs.Entries.{total, one, places, total-append}
+use Rattle.laws.proofs.Lists.{list-length}
+use Rattle.laws.proofs.Entries.{total, one, places, total-append}
 use Rattle.proof_ring.proofs.Ring.{RingOf}
 
 places-counted : (f : ℕ → ℕ) (p n : ℕ) → places p (listOf f n) ≡ countOf (λ i. eqb (f i) p) n

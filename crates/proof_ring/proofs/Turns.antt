@@ -8,7 +8,8 @@ use native.Mathlib.Nat.{eq-zero-or-pos}
 use native.Mathlib.Omega.{arith}
 use borrow.Author.Tests.{ne-eqb}
 use Rattle.rules.specs.Demands.{after, before}
-use Rattle.proof_ring.proofs.Entries.{total, one, places, In, one-other, total-append, split, around, in-front, behind, uncut}
+use Rattle.proof_ring.proofs.Entries.{split, around, in-front, behind, uncut}
+use Rattle.laws.proofs.Entries.{total, one, places, In, one-other, total-append}
 
 -- the phases after p in cyclic order
 unfoldable pub turn : List ℕ → ℕ → List ℕ

@@ -21,7 +21,7 @@ use Rattle.rules.specs.WaitBound.{waitBound}
 use Rattle.rules.specs.Call.{strayInput, stepVerdict, boundFor, handedBack, bufferFor, checksBy}
 use Rattle.rules.specs.DemandThree.{Call, Taken, takenFrom, ifStepped, accepted, shows}
 use Rattle.rules.specs.Scanning.{scanVerdict, scanning}
-use Rattle.laws.proofs.Folds.{list-length, list-at}
+use Rattle.laws.proofs.Lists.{list-length, list-at}
 use Rattle.rules.proofs.Verdicts.{or-first, or-later, refuse-passed}
 use Rattle.proof_runs.proofs.Linked.{Linked}
 

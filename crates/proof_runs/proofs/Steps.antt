@@ -23,8 +23,8 @@ use Rattle.rules.specs.Counts.{countsAfter}
 use Rattle.rules.specs.Interval.{ends, positionAfter, countsChanged, clearsLock, locksLeft, starts}
 use Rattle.rules.specs.Walks.{begins, walksBegun, buttonsLeft}
 use Rattle.rules.specs.Step.{steppedBy, steppedTo, stepped}
-use Rattle.laws.proofs.Folds.{list-at}
-use Rattle.laws.proofs.Sets.{bit-set}
+use Rattle.laws.proofs.Lists.{list-at}
+use Rattle.laws.proofs.ByteSets.{bit-set}
 
 -- the times of the phase that a state has
 abbrev pub timesNow : Site → State → PhaseTimes

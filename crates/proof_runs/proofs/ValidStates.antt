@@ -1,8 +1,8 @@
 -- A valid state, read clause by clause: each field is what one clause of the definition tells, and the fields together give it back.
 use Prim.Native.Nat.{ℕ, _≤_, _<_}
-use mathlib.Core.Bool.{Bool, true, false, not, _&&_, _||_, true≢false}
-use mathlib.Core.List.{List, [], _∷_}
-use mathlib.Core.Path.{_≡_, refl, sym, ap, _∙_}
+use mathlib.Core.Bool.{Bool, true, false, not, _&&_, true≢false}
+use mathlib.Core.List.{List, _∷_}
+use mathlib.Core.Path.{_≡_, refl, sym}
 use lib.Dec.{leb, ltb, eqb}
 use borrow.Author.Tests.{ltb-true, leb-true, eqb-true, lt-ltb, le-leb, eq-eqb}
 use Rattle.rules.specs.declared.site.Site.{Site}
@@ -15,7 +15,7 @@ use Rattle.rules.specs.Site.{phaseTimes, crosses}
 use Rattle.rules.specs.IntervalTable.{isIdle, isWalkOrFirst, isStartRed, isLeaving, phaseHeld}
 use Rattle.laws.specs.Folds.{allOf}
 use Rattle.rules.specs.State.{highestAge, locked, asked, movement, intervalValid, targetValid, previousValid, ageValid, every, positionValid, countsValid, demandExists, demandsValid, movementIn, movementValid, movementsValid, valid}
-use Rattle.laws.proofs.Booleans.{and-left, and-right, and-both, or-left, or-right}
+use Rattle.laws.proofs.Booleans.{and-left, and-right, and-both, or-left, or-right, implied, implies, otherwise, else-holds, not-both, excludes}
 use Rattle.laws.proofs.Folds.{all-at, all-each}
 
 abbrev pub Aged : ℕ → Type 0
@@ -41,43 +41,13 @@ pub record ValidState (site : Site) (s : State) : Type 0 where
   pub buttons : (k : ℕ) → k < 8 → asked s k ≡ true → k < site .size .movements
   pub movements : (k : ℕ) → k < 8 → ValidMovement site (s .position) k (movement s k)
 
--- ── Tests as implications ──
-
--- a clause "not a, or b" tells b where a holds
-pub implied : (a b : Bool) → (not a || b) ≡ true → a ≡ true → b ≡ true
-implied true b h p = h
-implied false b h p = absurd (true≢false (sym p))
-
-pub implies : (a b : Bool) → (a ≡ true → b ≡ true) → (not a || b) ≡ true
-implies true b h = h refl
-implies false b h = refl
-
--- a clause "a, or b" tells a where b fails
-pub otherwise : (a b : Bool) → (a || b) ≡ true → b ≡ false → a ≡ true
-otherwise true b h q = refl
-otherwise false b h q = absurd (true≢false (sym h ∙ q))
-
-pub else-holds : (a b : Bool) → (b ≡ false → a ≡ true) → (a || b) ≡ true
-else-holds a true h = or-right a refl
-else-holds a false h = or-left false (h refl)
-
--- a clause "not both" tells that b fails where a holds
-pub not-both : (a b : Bool) → not (a && b) ≡ true → a ≡ true → b ≡ false
-not-both true true h p = absurd (true≢false (sym h))
-not-both true false h p = refl
-not-both false b h p = absurd (true≢false (sym p))
-
-pub excludes : (a b : Bool) → (a ≡ true → b ≡ false) → not (a && b) ≡ true
-excludes true b h = ap not (h refl)
-excludes false b h = refl
-
 -- ── The definition and the facts ──
 
-pub age-told : (age : ℕ) → ageValid age ≡ true → Aged age
+age-told : (age : ℕ) → ageValid age ≡ true → Aged age
 unfolding ageValid
 age-told age h = (leb-true 1 age (and-left (leb 1 age) (leb age highestAge) h), leb-true age highestAge (and-right (leb 1 age) (leb age highestAge) h))
 
-pub age-holds : (age : ℕ) → Aged age → ageValid age ≡ true
+age-holds : (age : ℕ) → Aged age → ageValid age ≡ true
 unfolding ageValid
 age-holds age h = and-both (le-leb 1 age (h .0)) (le-leb age highestAge (h .1))
 
@@ -90,7 +60,7 @@ every-tail : (test : Bool) (tests : List Bool) → every (test ∷ tests) ≡ tr
 unfolding every
 every-tail test tests h = and-right test (every tests) h
 
-pub movement-told :
+movement-told :
     (site : Site) (position : Position) (k : ℕ) (m : Movement) → movementValid (movementIn (site .size .movements) (site .crossings) (position .phase) k) (position .interval) m ≡ true → ValidMovement site position k m
 unfolding movementValid movementIn
 movement-told site position k m h =
@@ -110,7 +80,7 @@ movement-told site position k m h =
       idleAge = λ q. eqb-true (m .age) 1 (implied (isIdle (m .stage)) (eqb (m .age) 1) (every-head _ _ h4) q);
     }
 
-pub movement-holds :
+movement-holds :
     (site : Site) (position : Position) (k : ℕ) (m : Movement) → ValidMovement site position k m → movementValid (movementIn (site .size .movements) (site .crossings) (position .phase) k) (position .interval) m ≡ true
 unfolding movementValid movementIn every
 movement-holds site position k m v =

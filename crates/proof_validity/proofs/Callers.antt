@@ -1,7 +1,7 @@
 -- Every other phase can be called. A phase has a detector that calls it, with lock or without, or a movement; one input bit, that detector's or
 -- that movement's button, demands the phase. The movement is not in walk, since in a valid state only movements of the phase on are.
 use Prim.Native.Nat.{ℕ, _+_, _%_, _^_, _<_}
-use mathlib.Core.Bool.{Bool, true, false, not, true≢false}
+use mathlib.Core.Bool.{Bool, true, false, not}
 use mathlib.Core.Logic.{⊎-elim}
 use mathlib.Core.Path.{_≡_, refl, sym, ap, _∙_}
 use native.Mathlib.Omega.{arith}
@@ -20,8 +20,10 @@ use Rattle.rules.specs.State.{locked, asked, movement, valid}
 use Rattle.rules.specs.Demands.{occupied, pressed, calling, locking, detectedAmong, detected, inGreen, registersLock, registersButton, calls, demandsAfter, stands, demanded}
 use Rattle.rules.specs.Call.{wired, strayInput}
 use Rattle.rules.specs.Laws.{Sound}
-use Rattle.laws.proofs.Folds.{any-at, any-none, all-at}
+use Rattle.laws.proofs.Folds.{any-at, any-none}
+use Rattle.laws.proofs.Tables.{table-holds}
 use Rattle.laws.proofs.Booleans.{decided, and-left, and-both, and-false-left, and-false-right, or-left, or-right, not-true-false}
+use Rattle.laws.proofs.Bits.{bit-power}
 use Rattle.proof_runs.proofs.Demanded.{lock-demands, button-demands}
 use Rattle.proof_runs.proofs.Steps.{askedNow, lockedNow}
 use Rattle.proof_runs.proofs.ValidStates.{ValidState, state-told}
@@ -31,7 +33,6 @@ last-left : (rest : ℕ) → rest < 3 → (rest ≡ 0 → ⊥) → (rest ≡ 1 �
 last-left rest few some other = omega (arith, some, other)
 
 walk-not-idle : (stage : Stage) → isWalk stage ≡ true → isIdle stage ≡ false
-unfolding isWalk isIdle
 walk-not-idle Idle h = sym h
 walk-not-idle Walk h = refl
 walk-not-idle ClearanceOne h = refl
@@ -39,40 +40,23 @@ walk-not-idle ClearanceTwo h = refl
 
 -- ── One input bit ──
 
--- as a computed test
-abbrev agree : Bool → Bool → Bool
-agree true t = t
-agree false t = not t
-
-agree-told : (s t : Bool) → agree s t ≡ true → s ≡ t
-agree-told true t h = sym h
-agree-told false true h = absurd (true≢false (sym h))
-agree-told false false h = refl
-
-only-bit : (i j : ℕ) → i < 56 → j < 64 → bit j (2 ^ i) ≡ eqb i j
-unfolding bit allOf
-only-bit i j l m =
-    agree-told (bit j (2 ^ i)) (eqb i j)
-    (all-at (λ j. agree (bit j (2 ^ i)) (eqb i j)) 64 j
-    (all-at (λ i. allOf (λ j. agree (bit j (2 ^ i)) (eqb i j)) 64) 56 i refl l) m)
-
 -- as a number it fits 64 bits
 bit-fits : (i : ℕ) → i < 56 → 2 ^ i < 2 ^ 64
 unfolding allOf
-bit-fits i l = ltb-true (2 ^ i) (2 ^ 64) (all-at (λ i. ltb (2 ^ i) (2 ^ 64)) 56 i refl l)
+bit-fits i l = ltb-true (2 ^ i) (2 ^ 64) (table-holds (λ i. ltb (2 ^ i) (2 ^ 64)) 56 refl i l)
 
-own-bit : (i : ℕ) → i < 56 → bit i (2 ^ i) ≡ true
-own-bit i l = only-bit i i l (omega arith) ∙ eq-eqb i i refl
+own-bit : (i : ℕ) → bit i (2 ^ i) ≡ true
+own-bit i = bit-power i i ∙ eq-eqb i i refl
 
 module _ (site : Site) where
-  none-stray : (i : ℕ) → i < 56 → wired site i ≡ true → strayInput site (2 ^ i) ≡ false
+  none-stray : (i : ℕ) → wired site i ≡ true → strayInput site (2 ^ i) ≡ false
   unfolding strayInput
-  none-stray i l known =
+  none-stray i known =
       any-none _ 64
       (λ j m.
       ⊎-elim
       (λ (e : eqb i j ≡ true). and-false-right (bit j (2 ^ i)) (ap not (ap (wired site) (sym (eqb-true i j e)) ∙ known)))
-      (λ (e : eqb i j ≡ false). and-false-left (not (wired site j)) (only-bit i j l m ∙ e))
+      (λ (e : eqb i j ≡ false). and-false-left (not (wired site j)) (bit-power i j ∙ e))
       (decided (eqb i j)))
 
   -- ── Demands ──
@@ -99,20 +83,17 @@ module _ (site : Site) where
       CalledBy i = (2 ^ i < 2 ^ 64) × (strayInput site (2 ^ i) ≡ false) × (demanded site s (2 ^ i) p ≡ true)
 
       module _ (d : ℕ) (l : d < site .size .detectors) (own : detectorOf (site .detectors) d .phase ≡ p) where
-        detector-bit : d < 56
-        detector-bit = omega (arith, sound .detectors)
-
         found : (kind : ℕ → Bool) → kind (detectorOf (site .detectors) d .mode) ≡ true → detected kind site (2 ^ d) p ≡ true
         unfolding detected detectedAmong occupied
-        found kind e = any-at _ (site .size .detectors) d l (and-both (and-both (own-bit d detector-bit) (eq-eqb _ p own)) e)
+        found kind e = any-at _ (site .size .detectors) d l (and-both (and-both (own-bit d) (eq-eqb _ p own)) e)
 
         by-detector : (detectorOf (site .detectors) d .mode % 4 ≡ 0 → ⊥) → CalledBy d
         unfolding knownMode calling locking wired
         by-detector some =
             let rest = detectorOf (site .detectors) d .mode % 4 in
             let few = ltb-true rest 3 (and-left (ltb rest 3) _ (sound .detectorMode d l)) in (
-              bit-fits d detector-bit,
-              none-stray d detector-bit (or-left _ (lt-ltb d (site .size .detectors) l)),
+              bit-fits d (omega (arith, l, sound .detectors)),
+              none-stray d (or-left _ (lt-ltb d (site .size .detectors) l)),
               ⊎-elim
                   (λ (e : eqb rest 1 ≡ true). call-demands (2 ^ d) (found calling e))
                   (λ (e : eqb rest 1 ≡ false).
@@ -136,14 +117,13 @@ module _ (site : Site) where
 
         by-button : CalledBy (48 + k)
         unfolding askedNow registersButton pressed movement wired
-        by-button =
-            let button : 48 + k < 56 = omega (arith, room) in (
-              bit-fits (48 + k) button,
-              none-stray (48 + k) button
-                  (or-right (ltb (48 + k) (site .size .detectors))
-                  (and-both (le-leb 48 (48 + k) (omega arith)) (lt-ltb (48 + k) (48 + site .size .movements) (omega arith)))),
-              button-demands site s (2 ^ (48 + k)) k p room l own (or-right (asked s k) (and-both (own-bit (48 + k) button) (ap not not-walking))),
-            )
+        by-button = (
+          bit-fits (48 + k) (omega (arith, room)),
+          none-stray (48 + k)
+              (or-right (ltb (48 + k) (site .size .detectors))
+              (and-both (le-leb 48 (48 + k) (omega arith)) (lt-ltb (48 + k) (48 + site .size .movements) (omega arith)))),
+          button-demands site s (2 ^ (48 + k)) k p room l own (or-right (asked s k) (and-both (own-bit (48 + k)) (ap not not-walking))),
+        )
 
       called : (inputs : ℕ) × (inputs < 2 ^ 64) × (strayInput site inputs ≡ false) × (demanded site s inputs p ≡ true)
       called =

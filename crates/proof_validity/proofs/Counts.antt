@@ -15,7 +15,7 @@ use Rattle.rules.specs.declared.state.Position.{Position}
 use Rattle.rules.specs.declared.state.State.{State}
 use Rattle.laws.specs.Folds.{if_then_else_}
 use Rattle.rules.specs.Site.{phaseTimes}
-use Rattle.rules.specs.IntervalTable.{isGreen, isMinimumGreen, isRunning, isLeaving, isBeforeStart, phaseHeld}
+use Rattle.rules.specs.IntervalTable.{isGreen, isRunning, phaseHeld}
 use Rattle.rules.specs.Demands.{detected, extending, nextDemanded}
 use Rattle.rules.specs.Counts.{gapAfter, maximumAfter, countsAfter}
 use Rattle.rules.specs.Interval.{entering, starting, leaving, following, staying, positionAfter, countsLeaving, countsEntering, countsChanged}
@@ -57,7 +57,7 @@ module _ (times : PhaseTimes) where
   -- ── Part 4 ──
 
   entering-within : (interval : Interval) (counts : Counts) → Within times counts → Within times (countsEntering interval times counts)
-  unfolding countsEntering isMinimumGreen isRunning
+  unfolding countsEntering
   entering-within StartRed counts h = h
   entering-within LateStart counts h = h
   entering-within MinimumGreen counts h = (omega arith, h .1)
@@ -73,7 +73,7 @@ module _ (times : Times) (next : Held) (old : Position) (counts : Counts) (withi
   -- the counts that an interval leaves are within the times of the phase that is then running
   leaving-within :
       (interval : Interval) → Within (phaseTimes times (following interval times next old .phase)) (countsLeaving interval counts)
-  unfolding following leaving entering starting countsLeaving isLeaving isBeforeStart
+  unfolding following leaving entering starting countsLeaving
   leaving-within StartRed = within
   leaving-within LateStart = within
   leaving-within MinimumGreen = within

@@ -16,7 +16,7 @@ use Rattle.proof_validity.proofs.Positions.{new-aged}
 use Rattle.proof_validity.proofs.Stages.{idle-valid}
 
 fresh-state : (site : Site) → Sound site → ValidState site fresh
-unfolding fresh locked asked movement intervalValid targetValid previousValid isEarly isLeaving isIdle
+unfolding fresh locked asked movement intervalValid targetValid previousValid
 fresh-state site sound =
     record {
       phase = omega (arith, sound .phases .0);

@@ -77,7 +77,7 @@ module _
         position .interval ≡ interval →
         Cleared interval (m .stage) →
         ValidMovement site (following interval times next position) k m
-    unfolding following isStartRed isLeaving
+    unfolding following
     following-movement StartRed e c =
         let i : isIdle (m .stage) ≡ true = v .startRed (ap isStartRed e) in
         idle-valid site (starting times (position .phase) (position .previous)) k m i (v .idleAge i)

@@ -17,7 +17,7 @@ use Rattle.rules.specs.declared.state.Position.{Position}
 use Rattle.rules.specs.declared.state.State.{State}
 use Rattle.laws.specs.Folds.{if_then_else_}
 use Rattle.rules.specs.Site.{phaseTimes, ring}
-use Rattle.rules.specs.IntervalTable.{isStartRed, isEarly, isLeaving, isHeld, phaseHeld}
+use Rattle.rules.specs.IntervalTable.{isStartRed, isLeaving, isHeld, phaseHeld}
 use Rattle.rules.specs.State.{intervalValid, targetValid, previousValid}
 use Rattle.rules.specs.Demands.{demanded, firstIn, nextAfter, nextDemanded}
 use Rattle.rules.specs.Movements.{older}
@@ -95,7 +95,6 @@ by-late P none some times p previous = step (eqb (phaseTimes times p .late) 0)
 
 -- it is open
 pub start-open : (times : Times) (p : ℕ) (previous : Held) → Open (starting times p previous .interval)
-unfolding isStartRed isLeaving
 start-open = by-late Open (refl, refl) (refl, refl)
 
 module _
@@ -111,7 +110,7 @@ module _
 
   -- a phase that exists starts
   starting-valid : (p : ℕ) (previous : Held) → p < count → previousValid count previous ≡ true → ValidPosition early count (starting times p previous)
-  unfolding starting targetValid intervalValid isEarly
+  unfolding starting targetValid intervalValid
   starting-valid p previous h c =
       record {
         phase = h;
@@ -130,7 +129,7 @@ module _
       (interval ≡ Running → targetValid count (position .phase) true next ≡ true) →
       ((phaseTimes times (position .phase) .early ≡ 0 → ⊥) → early ≡ true) →
       ValidPosition early count (following interval times next position)
-  unfolding following targetValid previousValid isLeaving intervalValid isEarly
+  unfolding following targetValid previousValid intervalValid
   following-valid StartRed e h section = starting-valid (position .phase) (position .previous) (valid .phase) (valid .previous)
   following-valid LateStart e h section = entering-valid MinimumGreen Nothing (or-right early refl) refl
   following-valid MinimumGreen e h section = entering-valid Running Nothing (or-right early refl) refl

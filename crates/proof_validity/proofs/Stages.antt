@@ -12,20 +12,15 @@ use Rattle.rules.specs.declared.state.Stage.the-variants.{Idle, Walk, Clearance
 use Rattle.rules.specs.IntervalTable.{isIdle, isWalkOrFirst, isSecond}
 use Rattle.rules.specs.Movements.{older, lasting, advanced}
 use Rattle.laws.proofs.Booleans.{never-both}
-use Rattle.rules.proofs.IntervalTests.{idle-only}
+use Rattle.rules.proofs.IntervalTests.{idle-not-walking}
 use Rattle.proof_runs.proofs.ValidStates.{Aged, ValidMovement}
 use Rattle.proof_runs.proofs.Lasting.{lasting-cases}
 use Rattle.proof_validity.proofs.Positions.{older-aged, new-aged}
 
 -- ── Stages ──
 
-idle-not-walking : (stage : Stage) → isIdle stage ≡ true → isWalkOrFirst stage ≡ false
-unfolding isWalkOrFirst
-idle-not-walking stage h = rw (idle-only stage h)
-
 -- a movement in no walk and no clearance is idle
 pub cleared-idle : (stage : Stage) → isWalkOrFirst stage ≡ false → isSecond stage ≡ false → isIdle stage ≡ true
-unfolding isIdle isWalkOrFirst isSecond
 cleared-idle Idle w c = refl
 cleared-idle Walk w c = sym w
 cleared-idle ClearanceOne w c = sym w
@@ -93,7 +88,7 @@ module _ (site : Site) (position : Position) (k : ℕ) where
       (mayEnd : Bool) (stage : Stage) (times : WalkTimes) (age : ℕ) →
       ValidMovement site position k (record { stage = stage; age = age }) →
       ValidMovement site position k (advanced mayEnd stage times age)
-  unfolding advanced isIdle isWalkOrFirst
+  unfolding advanced
   advanced-valid mayEnd Idle times age v = v
   advanced-valid mayEnd Walk times age v = lasting-valid mayEnd (times .walk) Walk ClearanceOne age refl (λ h. h) v
   advanced-valid mayEnd ClearanceOne times age v = lasting-valid true (times .first) ClearanceOne ClearanceTwo age refl (λ h. refl) v

@@ -15,14 +15,14 @@ use Rattle.rules.specs.declared.state.Stage.the-variants.{Walk}
 use Rattle.rules.specs.declared.state.State.{State}
 use Rattle.laws.specs.Folds.{if_then_else_}
 use Rattle.rules.specs.Site.{crosses}
-use Rattle.rules.specs.IntervalTable.{isIdle, isStartRed, isRunning, isLeaving, isBeforeStart, phaseHeld}
+use Rattle.rules.specs.IntervalTable.{isIdle, isRunning, isBeforeStart, phaseHeld}
 use Rattle.rules.specs.State.{movement}
 use Rattle.rules.specs.Demands.{nextDemanded}
 use Rattle.rules.specs.Interval.{following, starts}
 use Rattle.rules.specs.Step.{stepped}
 use Rattle.rules.specs.Laws.{Sound}
 use Rattle.laws.proofs.Booleans.{and-left, and-right, or-cases, never-both}
-use Rattle.laws.proofs.Counting.{passes-below}
+use Rattle.laws.proofs.Indices.{passes-below}
 use Rattle.rules.proofs.IntervalTests.{running-only}
 use Rattle.proof_runs.proofs.ValidStates.{ValidMovement, ValidState}
 use Rattle.proof_runs.proofs.Steps.{another, ended, now, started, moved, askedNow, begun, movement-of}
@@ -42,7 +42,6 @@ walk-valid :
     crosses (site .crossings) k (position .phase) ≡ true →
     Open (position .interval) →
     ValidMovement site position k (record { stage = Walk; age = 1 })
-unfolding isIdle
 walk-valid site sound position k c opens =
     record {
       age = new-aged;
@@ -54,7 +53,6 @@ walk-valid site sound position k c opens =
 
 -- running is open
 running-open : (interval : Interval) → isRunning interval ≡ true → Open interval
-unfolding isStartRed isLeaving
 running-open interval h = rw (running-only interval h) (refl, refl)
 
 -- what follows start red or all-red is open
@@ -62,7 +60,7 @@ following-open :
     (interval : Interval) (times : Times) (next : Held) (position : Position) →
     isBeforeStart interval ≡ true →
     Open (following interval times next position .interval)
-unfolding isBeforeStart following
+unfolding following
 following-open StartRed times next position h = start-open times (position .phase) (position .previous)
 following-open LateStart times next position h = absurd (false≢true h)
 following-open MinimumGreen times next position h = absurd (false≢true h)

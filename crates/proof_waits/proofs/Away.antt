@@ -30,7 +30,6 @@ NotBegun q position = position .phase ≡ q → isMinimumGreen (position .interv
 
 -- a phase does not start with running
 start-away : (b : Bool) → isMinimumGreen (if b then MinimumGreen else LateStart) ≡ false → isGreen (if b then MinimumGreen else LateStart) ≡ false
-unfolding isMinimumGreen isGreen
 start-away true m = absurd (never-both refl m)
 start-away false m = refl
 
@@ -41,7 +40,7 @@ pub following-away :
     AwayAt q position →
     NotBegun q (following i times next position) →
     AwayAt q (following i times next position)
-unfolding isMinimumGreen isGreen following entering starting
+unfolding following entering starting
 following-away q StartRed times next position e away none same =
     start-away (eqb (phaseTimes times (position .phase) .late) 0) (none same)
 following-away q LateStart times next position e away none same = absurd (never-both refl (none same))

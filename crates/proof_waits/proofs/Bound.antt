@@ -15,7 +15,7 @@ use Rattle.rules.specs.IntervalTable.{phaseHeld, isLeaving, isStartRed}
 use Rattle.rules.specs.State.{movement, targetValid}
 use Rattle.rules.specs.WaitBound.{phaseShare, waitBound, waitBoundBy}
 use Rattle.rules.specs.Laws.{Sound}
-use Rattle.laws.proofs.Counting.{sum-at, sum-both}
+use Rattle.laws.proofs.Sums.{sum-at, sum-both}
 use Rattle.proof_runs.proofs.ValidStates.{ValidState, target-below}
 use Rattle.proof_runs.proofs.Steps.{timesNow}
 use Rattle.proof_waits.proofs.Stages.{longestWalk, longestClearance, outs, idles, outs-most, clear-most}
@@ -103,7 +103,7 @@ module _
         (i : Interval) →
         s .position .interval ≡ i →
         LeftIn site ahead onward i own (s .position) (s .counts .maximum) (outs site s) (idles site s) (waitBound site)
-    unfolding isLeaving isStartRed again fromRunning fromLeaving visit
+    unfolding again fromRunning fromLeaving visit
     within StartRed e = omega (arith, bound, far (s .position .phase) (v .phase), start-timed site sound, v .age)
     within LateStart e = omega (arith, bound, fits (rw e refl) (rw e refl), clear, times, v .age)
     within MinimumGreen e = omega (arith, bound, fits (rw e refl) (rw e refl), clear, times, v .age)

@@ -22,7 +22,7 @@ use Rattle.rules.specs.WaitBound.{waitBound}
 use Rattle.rules.specs.Laws.{Sound}
 use Rattle.rules.specs.DemandThree.{Taken, inWalk, walkBegins}
 use Rattle.laws.proofs.Booleans.{and-right, and-both, or-left, or-right, decided, never-both, not-false-true}
-use Rattle.laws.proofs.Counting.{same-or-apart}
+use Rattle.laws.proofs.Indices.{same-or-apart}
 use Rattle.proof_runs.proofs.ValidStates.{ValidState}
 use Rattle.proof_runs.proofs.Steps.{another, mayEnd, ended, now, started, moved, askedNow, begun, position-of, asked-of, movement-of}
 use Rattle.proof_runs.proofs.Demanded.{button-demands}
@@ -88,7 +88,7 @@ module _
 
       -- nor does it run with the movement idle and no other phase demanded
       not-alone : s .position .interval ≡ Running → s .position .phase ≡ q → idles site s m ≡ 0 → another site s inputs ≡ false → ⊥
-      unfolding begun ends staying moved idles isRunning
+      unfolding begun ends staying moved idles
       not-alone i e z a =
           let stays : ended site s inputs ≡ false = ended-in site s inputs Running i ∙ rw a in
           let now = now-in site s inputs Running i false stays in
@@ -133,7 +133,7 @@ module _
     -- ── A step ──
 
     walk-entered : (s : State) (inputs : ℕ) → begun site s inputs m ≡ true → inWalk (stepped site s inputs) m ≡ true
-    unfolding inWalk isWalk
+    unfolding inWalk
     walk-entered s inputs b = rw (movement-of site s inputs m button-room, b)
 
     module _ (s : State) (step : Taken) (link : ValidLink site s step) where

@@ -23,7 +23,7 @@ use Rattle.rules.specs.WaitBound.{waitBound}
 use Rattle.rules.specs.Laws.{Sound}
 use Rattle.rules.specs.DemandThree.{Taken, inMinimumGreen, inRunning, minimumGreenBegins}
 use Rattle.laws.proofs.Booleans.{and-left, and-right, and-both, or-left, or-right, or-false-left, decided, never-both, not-true-false}
-use Rattle.laws.proofs.Counting.{same-or-apart}
+use Rattle.laws.proofs.Indices.{same-or-apart}
 use Rattle.proof_runs.proofs.ValidStates.{ValidState}
 use Rattle.proof_runs.proofs.Steps.{ended, now, lockedNow, position-of, locked-of}
 use Rattle.proof_runs.proofs.Demanded.{lock-demands}
@@ -100,7 +100,6 @@ module _ (site : Site) (sound : Sound site) (q : ℕ) (below : q < site .size .p
 
       module _ (v : ValidState site s) (v' : ValidState site next) where
         stand : Standing site here beyond q s inputs 0 0
-        unfolding isGreen
         stand =
             let demanded = lock-demands site s inputs q lock-room standing in
             record {
@@ -114,7 +113,7 @@ module _ (site : Site) (sound : Sound site) (q : ℕ) (below : q < site .size .p
 
         -- the phase starts, with late start
         late-starts : (n : ℕ) → Starts site here q s inputs n → OwnLate site q (next .position) n
-        unfolding starting isMinimumGreen
+        unfolding starting
         late-starts n starts =
             rw (starts .position)
             (step (eqb (late site q) 0) refl (rw (starts .position) at none))
@@ -128,7 +127,7 @@ module _ (site : Site) (sound : Sound site) (q : ℕ) (below : q < site .size .p
             step false e never = (refl, refl, omega (arith, starts .near, ahead-own site q (late site q), eqb-false (late site q) 0 e))
 
         late-goes-on : (n : ℕ) → OwnLate site q (s .position) (suc n) → OwnLate site q (next .position) n
-        unfolding following entering staying ends isMinimumGreen
+        unfolding following entering staying ends
         late-goes-on n h =
             ⊎-elim
             (λ (e : ended site s inputs ≡ true).
@@ -211,7 +210,6 @@ module _ (site : Site) (sound : Sound site) (q : ℕ) (below : q < site .size .p
     whole fits = inl (left-within site sound here beyond 0 s v (ahead-most site q (late site q) sound below tail-most) fits (omega arith))
 
     lock-own : (i : Interval) → s .position .interval ≡ i → s .position .phase ≡ q → LockLeft site q (waitBound site) s
-    unfolding isGreen isStartRed isLeaving
     lock-own StartRed e same = whole (λ red leaving. absurd (never-both (ap isStartRed e) red))
     lock-own LateStart e same =
         inr (

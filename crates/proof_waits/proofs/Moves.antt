@@ -32,12 +32,12 @@ use Rattle.proof_runs.proofs.Ends.{ended-in, now-in, next-in, started-in, some-
 use Rattle.proof_waits.proofs.Stages.{greenLeft, outs, idles, out-of-walk, untilOut, untilIdle, out-falls, idle-falls, out-some, idle-some, stage-reached}
 
 rises : (times : PhaseTimes) (count : ℕ) → maximumAfter Running times true count ≡ min (count + 1) (times .maximum)
-unfolding maximumAfter isRunning
+unfolding maximumAfter
 rises times count = refl
 
 -- where a walk that has lasted may not end, the maximum count is not reached
 rests : (times : PhaseTimes) (counts : Counts) → walkMayEnd Running times true counts ≡ false → counts .maximum ≡ times .maximum → ⊥
-unfolding walkMayEnd isRunning
+unfolding walkMayEnd
 rests times counts h = eqb-false _ _ (or-false-right (eqb (counts .gap) 0) (eqb (counts .maximum) (times .maximum)) h)
 
 module _ (site : Site) (s : State) (inputs : ℕ) where
@@ -165,7 +165,7 @@ module _ (site : Site) (s : State) (inputs : ℕ) where
       ended site s inputs ≡ false →
       (s .position .age < timesNow site s .red)
       ⊎ ((k : ℕ) × (k < 8) × (1 ≤ idles site (stepped site s inputs) k))
-  unfolding ends idles isBeforeStart isRunning staying
+  unfolding ends idles staying
   red-held e h =
       ⊎-elim
       (λ (b : leb (timesNow site s .red) (s .position .age) ≡ false). inl (leb-false _ _ b))

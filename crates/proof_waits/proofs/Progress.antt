@@ -24,7 +24,7 @@ use Rattle.rules.specs.Movements.{older}
 use Rattle.rules.specs.Interval.{ends, following, entering, starting, staying}
 use Rattle.rules.specs.Step.{stepped}
 use Rattle.rules.specs.Laws.{Sound}
-use Rattle.laws.proofs.Counting.{same-or-apart}
+use Rattle.laws.proofs.Indices.{same-or-apart}
 use Rattle.proof_runs.proofs.ValidStates.{ValidState}
 use Rattle.proof_runs.proofs.Steps.{timesNow, another, counted, moving, ended, started}
 use Rattle.proof_runs.proofs.Ends.{by-early, ended-in, next-in, started-in, running-ends}
@@ -226,7 +226,7 @@ module _
         ended site s inputs ≡ b →
         LeftIn site ahead onward i own (s .position) (s .counts .maximum) (outs site s) (idles site s) (suc n) →
         Outcome
-    unfolding following entering staying isBeforeStart isRunning isLeaving ends fromRunning fromLeaving
+    unfolding following entering staying ends fromRunning fromLeaving
     step StartRed true e b h =
         begins (s .position .phase) (s .position .previous) (started-in site s inputs StartRed e true b)
         (next-in site s inputs StartRed e true b)

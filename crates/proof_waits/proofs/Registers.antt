@@ -1,36 +1,23 @@
 -- What a run says a step registers is what part 1 of the step registers: the same tests, of which "minimum green or running" is put
 -- together from two.
 use Prim.Native.Nat.{ℕ}
-use mathlib.Core.Bool.{Bool, true, false, not, _&&_, _||_}
-use mathlib.Core.Logic.{⊎-elim}
-use mathlib.Core.Path.{_≡_, refl, sym, ap, _∙_}
+use mathlib.Core.Bool.{Bool, not, _&&_, _||_, and-or-distrib-left}
+use mathlib.Core.Path.{_≡_, refl, sym, ap}
 use lib.Dec.{eqb}
-use borrow.Author.Tests.{ne-eqb}
 use Rattle.rules.specs.declared.site.Site.{Site}
 use Rattle.rules.specs.declared.state.State.{State}
 use Rattle.rules.specs.State.{movement}
 use Rattle.rules.specs.IntervalTable.{isMinimumGreen, isRunning}
 use Rattle.rules.specs.Demands.{locking, detected, inGreen, registersLock, registersButton}
 use Rattle.rules.specs.DemandThree.{Taken, inMinimumGreen, inRunning, inWalk, registersLocked, registersPressed}
-use Rattle.laws.proofs.Counting.{same-or-apart}
+use Rattle.laws.proofs.Indices.{eqb-turned}
 use Rattle.rules.proofs.IntervalTests.{green-either}
-
-turned : (a b : ℕ) → eqb a b ≡ eqb b a
-turned a b =
-    ⊎-elim
-    (λ (e : a ≡ b). rw e)
-    (λ (ne : a ≡ b → ⊥). ne-eqb a b ne ∙ sym (ne-eqb b a (λ e. ne (sym e))))
-    (same-or-apart a b)
-
-both-ways : (t a b : Bool) → (t && (a || b)) ≡ ((t && a) || (t && b))
-both-ways true a b = refl
-both-ways false a b = refl
 
 pub green-same : (s : State) (p : ℕ) → inGreen (s .position) p ≡ (inMinimumGreen s p || inRunning s p)
 unfolding inGreen inMinimumGreen inRunning
 green-same s p =
-    rw (turned p (s .position .phase), green-either (s .position .interval))
-    (both-ways (eqb (s .position .phase) p) (isMinimumGreen (s .position .interval)) (isRunning (s .position .interval)))
+    rw (eqb-turned p (s .position .phase), green-either (s .position .interval))
+    (and-or-distrib-left (eqb (s .position .phase) p) (isMinimumGreen (s .position .interval)) (isRunning (s .position .interval)))
 
 pub lock-same : (site : Site) (step : Taken) (p : ℕ) → registersLocked site step p ≡ registersLock site (step .before) (step .inputs) p
 unfolding registersLocked registersLock

@@ -23,8 +23,8 @@ use Rattle.rules.specs.Movements.{older, lasting, advanced}
 use Rattle.rules.specs.WaitBound.{longestWalk as walkBy, longestClearance as clearanceBy}
 use Rattle.rules.specs.Laws.{Sound}
 use Rattle.laws.proofs.Booleans.{decided, never-both}
+use Rattle.laws.proofs.Sums.{greatest-at}
 use Rattle.rules.proofs.IntervalTests.{idle-only}
-use Rattle.laws.proofs.Folds.{greatest-at}
 use Rattle.proof_runs.proofs.ValidStates.{Aged, ValidMovement, ValidState}
 use Rattle.proof_runs.proofs.Steps.{timesNow}
 use Rattle.proof_runs.proofs.Lasting.{lasting-cases}
@@ -32,7 +32,6 @@ use Rattle.rules.proofs.Settings.{Reached, walk-reached}
 
 -- a movement in neither walk nor C1 is not in walk
 pub out-of-walk : (stage : Stage) → isWalkOrFirst stage ≡ false → isWalk stage ≡ false
-unfolding isWalkOrFirst isWalk
 out-of-walk Idle h = refl
 out-of-walk Walk h = h
 out-of-walk ClearanceOne h = refl
@@ -86,7 +85,7 @@ module _ (mayEnd : Bool) (times : WalkTimes) (age : ℕ) where
       (isIdle stage ≡ false → Reached times) →
       untilOut green' (advanced mayEnd stage times age .stage) times (advanced mayEnd stage times age .age)
       ≤ untilOut green stage times age - 1
-  unfolding untilOut advanced isIdle
+  unfolding untilOut advanced
   out-falls green green' less held Idle r = omega arith
   out-falls green green' less held Walk r =
       lasting-cases (λ (m : Movement). untilOut green' (m .stage) times (m .age) ≤ untilOut green Walk times age - 1) mayEnd (times .walk) Walk
@@ -114,7 +113,7 @@ module _ (mayEnd : Bool) (times : WalkTimes) (age : ℕ) where
       isWalk stage ≡ false →
       (isIdle stage ≡ false → Reached times) →
       untilIdle (advanced mayEnd stage times age .stage) times (advanced mayEnd stage times age .age) ≤ untilIdle stage times age - 1
-  unfolding untilIdle advanced isIdle isWalk
+  unfolding untilIdle advanced
   idle-falls Idle h r = omega arith
   idle-falls Walk h r = absurd (never-both refl h)
   idle-falls ClearanceOne h r =
@@ -127,7 +126,7 @@ module _ (mayEnd : Bool) (times : WalkTimes) (age : ℕ) where
 
   -- a movement that is not in walk does not enter it in part 2
   pub walk-kept-out : (stage : Stage) → isWalk stage ≡ false → isWalk (advanced mayEnd stage times age .stage) ≡ false
-  unfolding advanced isWalk
+  unfolding advanced
   walk-kept-out Idle h = refl
   walk-kept-out Walk h = absurd (never-both refl h)
   walk-kept-out ClearanceOne h =
@@ -137,21 +136,21 @@ module _ (mayEnd : Bool) (times : WalkTimes) (age : ℕ) where
 
   -- an idle movement stays so in part 2
   pub idle-kept : (stage : Stage) → isIdle stage ≡ true → isIdle (advanced mayEnd stage times age .stage) ≡ true
-  unfolding isIdle advanced
+  unfolding advanced
   idle-kept stage h = rw (idle-only stage h)
 
 module _ (times : WalkTimes) (age : ℕ) where
   -- ── What a count tells of the stage ──
 
   pub out-some : (green : ℕ) (stage : Stage) → isWalkOrFirst stage ≡ true → 1 ≤ untilOut green stage times age
-  unfolding isWalkOrFirst untilOut
+  unfolding untilOut
   out-some green Idle h = absurd (never-both h refl)
   out-some green Walk h = omega arith
   out-some green ClearanceOne h = omega arith
   out-some green ClearanceTwo h = absurd (never-both h refl)
 
   pub idle-some : (stage : Stage) → isSecond stage ≡ true → 1 ≤ untilIdle stage times age
-  unfolding isSecond untilIdle
+  unfolding untilIdle
   idle-some Idle h = absurd (never-both h refl)
   idle-some Walk h = absurd (never-both h refl)
   idle-some ClearanceOne h = absurd (never-both h refl)
@@ -166,7 +165,7 @@ module _ (times : WalkTimes) (age : ℕ) where
   idle-none stage h = rw (idle-only stage h)
 
   pub idle-told : (stage : Stage) → untilIdle stage times age ≡ 0 → isIdle stage ≡ true
-  unfolding isIdle untilIdle
+  unfolding untilIdle
   idle-told Idle h = refl
   idle-told Walk h = absurd (omega arith)
   idle-told ClearanceOne h = absurd (omega arith)
@@ -179,7 +178,7 @@ module _ (times : WalkTimes) (age : ℕ) where
       1 ≤ age →
       (isIdle stage ≡ false → Reached times) →
       untilOut green stage times age ≤ green + (times .walk + times .first)
-  unfolding untilOut isIdle
+  unfolding untilOut
   out-limit green Idle a r = omega arith
   out-limit green Walk a r = omega (arith, r refl .walk)
   out-limit green ClearanceOne a r = omega (arith, r refl .first)
@@ -190,7 +189,7 @@ module _ (times : WalkTimes) (age : ℕ) where
       1 ≤ age →
       (isIdle stage ≡ false → Reached times) →
       untilIdle stage times age ≤ times .walk + times .first + times .second
-  unfolding untilIdle isIdle
+  unfolding untilIdle
   idle-limit Idle a r = omega arith
   idle-limit Walk a r = omega (arith, r refl .walk)
   idle-limit ClearanceOne a r = omega (arith, r refl .first)
@@ -202,7 +201,7 @@ module _ (times : WalkTimes) (age : ℕ) where
       (isIdle stage ≡ false → Reached times) →
       isWalkOrFirst stage ≡ false →
       untilIdle stage times age ≤ times .second
-  unfolding untilIdle isIdle isWalkOrFirst
+  unfolding untilIdle
   clear-limit Idle a r h = omega arith
   clear-limit Walk a r h = absurd (never-both refl h)
   clear-limit ClearanceOne a r h = absurd (never-both refl h)
@@ -248,7 +247,7 @@ module _ (site : Site) (sound : Sound site) (position : Position) (k : ℕ) (m :
   unfolding clearanceBy walkTimes
   clearance-limit = phase-limit (λ (times : WalkTimes). times .second)
 
-  pub out-most : (green : ℕ) → untilOut green (m .stage) (walkTimes (site .times) k) (m .age) ≤ green + longestWalk site (position .phase)
+  out-most : (green : ℕ) → untilOut green (m .stage) (walkTimes (site .times) k) (m .age) ≤ green + longestWalk site (position .phase)
   out-most green =
       unless-idle _ _ (idle-out (walkTimes (site .times) k) (m .age) green (m .stage))
       (λ h. omega (arith, out-limit (walkTimes (site .times) k) (m .age) green (m .stage) (v .age .0) stage-reached, walk-limit h))

@@ -14,24 +14,12 @@ use borrow.Author.Tests.{eqb-true, eqb-false, eq-eqb, ne-eqb, not-false}
 use Rattle.laws.specs.Bytes.{bit}
 use Rattle.laws.specs.Folds.{anyOf}
 use Rattle.rules.specs.Personality.{phaseCount, groupCount, detectorCount, detectorPhase, detectorMode, callsPhase, walksPhase, phaseWithoutCaller}
+use Rattle.laws.proofs.Booleans.{decided, or-left, or-right, or-cases, and-false-right, or-swap}
 use Rattle.laws.proofs.Folds.{any-found, any-at, any-none, any-false}
-use Rattle.laws.proofs.Booleans.{decided, or-left, or-right, or-cases, and-false-right}
-use Rattle.laws.proofs.LowestBit.{bit-one}
-use Rattle.laws.proofs.UnionBits.{bit-or}
+use Rattle.laws.proofs.Bits.{bit-one}
+use Rattle.laws.proofs.BitRanges.{shifted, full-each, all-full}
+use Rattle.laws.proofs.JoinedBits.{bit-or}
 use Rattle.read_groups.specs.GroupsRead.{CrossedPhases}
-use Rattle.read_groups.proofs.PhaseSets.{shifted, full-each, all-full}
-
--- the last of three tests, before the second
-swapped : (s t u : Bool) → ((s || t) || u) ≡ ((s || u) || t)
-swapped true t u = refl
-swapped false true true = refl
-swapped false true false = refl
-swapped false false true = refl
-swapped false false false = refl
-
--- a byte with one bit is not 0
-pub some-bit : (k : ℕ) → k ≤ 7 → 1 ≤ 1 * 2 ^ k % 2 ^ 8
-some-bit k l = rw (shifted k l) (omega (arith, pow-pos k))
 
 module _ (b : List ℕ) where
   -- phase p is called by one of the first d detectors, or by a pedestrian group
@@ -51,7 +39,7 @@ module _ (b : List ℕ) where
         phaseCount b ≤ 7 → phase < phaseCount b → (mode % 4 ≡ 0 → ⊥) → Called (bitOr set (1 * 2 ^ phase % 2 ^ 8)) (d + 1)
     unfolding anyOf callsPhase
     called-more few l calls =
-        rw (shifted phase (omega arith))
+        rw (shifted 8 phase (omega arith))
         (record {
           within = or-lt (phaseCount b) set (1 * 2 ^ phase) (called .within) (omega (arith, pow-mono l));
           told = λ p.
@@ -65,7 +53,7 @@ module _ (b : List ℕ) where
                 ne-eqb (mode % 4) 0 calls,
                 and-true (eqb phase p),
               )
-              (swapped (anyOf (callsPhase b p) d) (anyOf (walksPhase b p) (groupCount b)) (eqb phase p));
+              (or-swap (anyOf (callsPhase b p) d) (anyOf (walksPhase b p) (groupCount b)) (eqb phase p));
         })
 
     -- a mode that does not call
@@ -113,7 +101,7 @@ module _ (b : List ℕ) where
       (eqb set (1 * 2 ^ phaseCount b % 2 ^ 8 - 1) ≡ false → d ≡ detectorCount b) →
       eqb set (1 * 2 ^ phaseCount b % 2 ^ 8 - 1) ≡ not (phaseWithoutCaller b)
   called-decided {set} few called within whole =
-      let power = shifted (phaseCount b) few in
+      let power = shifted 8 (phaseCount b) (omega arith) in
       let some = pow-pos (phaseCount b) in
       ⊎-elim
       (λ (e : eqb set (1 * 2 ^ phaseCount b % 2 ^ 8 - 1) ≡ true).

@@ -9,11 +9,11 @@ use lib.ListN.{length, getD, set, replicate, length-set}
 use lib.Seq.{getD-set-same, getD-set-other}
 use Rattle.laws.specs.Bytes.{byteAt, bit}
 use Rattle.rules.specs.Personality.{bodyAt, recordAt, conflictsHead, groupSet, conflictSet}
-use Rattle.laws.proofs.Folds.{last-or-below}
+use Rattle.laws.proofs.Indices.{last-or-below}
+use Rattle.laws.proofs.Bytes.{four-bit}
 use Rattle.read_layout.specs.declared.Layout.{Layout}
 use Rattle.read_layout.specs.LayoutOf.{LayoutOf}
 use Rattle.read_conflicts_matrix.specs.Matrix.{ByteRows, BandRows, ConflictRows, SetRows}
-use Rattle.read_conflicts_matrix.proofs.TileBits.{four-bit}
 
 -- the rows of a band are bytes that stand one width apart
 pub band-rows :

@@ -1,70 +1,20 @@
 -- The bits of a tile. A number that has a byte under another number has the byte's bits first and the other's eight further up, and that
--- is how a tile's rows, the bytes of a number of four and a product of a row of single bits with a byte are read off.
+-- is how a tile's rows and a product of a row of single bits with a byte are read off.
 use Prim.Native.Nat.{ℕ, zero, suc, _+_, _-_, _*_, _/_, _%_, _^_, _≤_, _<_}
-use mathlib.Core.Bool.{Bool, true, _||_}
+use mathlib.Core.Bool.{true, _||_}
 use mathlib.Core.List.{List}
 use mathlib.Core.Logic.{⊎-elim}
 use mathlib.Core.Path.{_≡_, sym, ap, subst, _∙_}
 use native.Mathlib.Nat.{mul-assoc, mul-comm, add-mul, mul-le-mul-right, not-suc-le-zero}
 use native.Mathlib.Omega.{arith}
-use lib.Bits.{bitAnd, bitOr, or-shifted, and-block, and-le-r, and-mask}
-use lib.Pow.{pow-add, pow-mono, pow-pos, shr-shr, high, split}
-use Rattle.laws.specs.Bytes.{byteAt, twoAt, fourAt, bit}
-use Rattle.laws.proofs.Folds.{last-or-below}
+use lib.Bits.{bitAnd, bitOr, and-block, and-le-r, and-mask}
+use lib.Pow.{pow-add, pow-mono, pow-pos, shr-shr, split}
+use Rattle.laws.specs.Bytes.{byteAt, bit}
 use Rattle.laws.proofs.Booleans.{or-left, or-right}
-use Rattle.laws.proofs.UnionBits.{bit-or}
-use Rattle.laws.proofs.Parity.{bit-odd}
-use Rattle.laws.proofs.Bits.{bit-lower}
-use Rattle.laws.proofs.Shifts.{bit-down, vacated-bit}
+use Rattle.laws.proofs.Indices.{last-or-below}
+use Rattle.laws.proofs.Bits.{bit-odd, bit-lower, bit-down}
+use Rattle.laws.proofs.JoinedBits.{bit-or, first-row, next-row}
 use Rattle.read_conflicts_matrix.specs.Matrix.{ByteRows}
-
--- ── A byte under a number ──
-
-pub byte-bit : (y x c : ℕ) → x < 256 → c < 8 → bit c (y * 256 + x) ≡ bit c x
-byte-bit y x c h l =
-    ap (bit c) (sym (or-shifted y 8 x h)) ∙ bit-or c (y * 2 ^ 8) x ∙ ap (λ (t : Bool). t || bit c x) (vacated-bit y 8 c l)
-
-pub upper-bit : (y x p : ℕ) → x < 256 → bit (8 + p) (y * 256 + x) ≡ bit p y
-upper-bit y x p h = sym (bit-down (y * 256 + x) 8 p) ∙ ap (bit p) (high y 8 h)
-
--- row 0, and the rows further up
-first-row : (y x c : ℕ) → x < 256 → c < 8 → bit (8 * 0 + c) (y * 256 + x) ≡ bit c x
-first-row y x c h l = ap (λ (p : ℕ). bit p (y * 256 + x)) (omega arith) ∙ byte-bit y x c h l
-
-next-row : (y x k c : ℕ) → x < 256 → bit (8 * suc k + c) (y * 256 + x) ≡ bit (8 * k + c) y
-next-row y x k c h = ap (λ (p : ℕ). bit p (y * 256 + x)) (omega arith) ∙ upper-bit y x (8 * k + c) h
-
--- ── The bytes of a number of four ──
-
-pub four-bit :
-    (b : List ℕ) →
-    ((i : ℕ) → byteAt b i < 256) →
-    (i k c : ℕ) →
-    k < 4 →
-    c < 8 →
-    bit (8 * k + c) (fourAt b i) ≡ bit c (byteAt b (i + k))
-unfolding fourAt twoAt
-four-bit b small i zero c h l =
-    ap (bit (8 * 0 + c)) (omega arith)
-    ∙ first-row (byteAt b (i + 1) + 256 * (byteAt b (i + 2) + 256 * byteAt b (i + 2 + 1))) (byteAt b i) c (small i) l
-    ∙ ap (λ (j : ℕ). bit c (byteAt b j)) (omega arith)
-four-bit b small i (suc zero) c h l =
-    ap (bit (8 * 1 + c)) (omega arith)
-    ∙ next-row ((byteAt b (i + 2) + 256 * byteAt b (i + 2 + 1)) * 256 + byteAt b (i + 1)) (byteAt b i) 0 c (small i)
-    ∙ first-row (byteAt b (i + 2) + 256 * byteAt b (i + 2 + 1)) (byteAt b (i + 1)) c (small (i + 1)) l
-four-bit b small i (suc (suc zero)) c h l =
-    ap (bit (8 * 2 + c)) (omega arith)
-    ∙ next-row ((byteAt b (i + 2 + 1) * 256 + byteAt b (i + 2)) * 256 + byteAt b (i + 1)) (byteAt b i) 1 c (small i)
-    ∙ next-row (byteAt b (i + 2 + 1) * 256 + byteAt b (i + 2)) (byteAt b (i + 1)) 0 c (small (i + 1))
-    ∙ first-row (byteAt b (i + 2 + 1)) (byteAt b (i + 2)) c (small (i + 2)) l
-four-bit b small i (suc (suc (suc zero))) c h l =
-    ap (bit (8 * 3 + c)) (omega arith)
-    ∙ next-row (((0 * 256 + byteAt b (i + 2 + 1)) * 256 + byteAt b (i + 2)) * 256 + byteAt b (i + 1)) (byteAt b i) 2 c (small i)
-    ∙ next-row ((0 * 256 + byteAt b (i + 2 + 1)) * 256 + byteAt b (i + 2)) (byteAt b (i + 1)) 1 c (small (i + 1))
-    ∙ next-row (0 * 256 + byteAt b (i + 2 + 1)) (byteAt b (i + 2)) 0 c (small (i + 2))
-    ∙ first-row 0 (byteAt b (i + 2 + 1)) c (small (i + 2 + 1)) l
-    ∙ ap (λ (j : ℕ). bit c (byteAt b j)) (omega arith)
-four-bit b small i (suc (suc (suc (suc k)))) c h l = absurd (omega arith)
 
 -- ── Rows put one under the other, the last first ──
 
@@ -136,7 +86,7 @@ part-small x y h =
     let single : x % 2 ≤ 1 = omega arith in
     omega (arith, mul-le-mul-right y single)
 
-pub product-bit :
+product-bit :
     (n r c x y : ℕ) →
     r < n →
     c < 8 →

@@ -1,6 +1,6 @@
 -- From tiles to groups. The tiles of two bands tell of each pair of their groups, and where all pairs are sound and no set goes past N no
 -- record is bad.
-use Prim.Native.Nat.{ℕ, zero, suc, _+_, _*_, _/_, _%_, _^_, _≤_, _<_}
+use Prim.Native.Nat.{ℕ, _+_, _*_, _/_, _%_, _^_, _≤_, _<_}
 use mathlib.Core.Bool.{Bool, true, false, not, _&&_}
 use mathlib.Core.List.{List}
 use mathlib.Core.Logic.{⊎-elim}
@@ -13,12 +13,12 @@ use borrow.Author.Tests.{eqb-true}
 use Rattle.laws.specs.Bytes.{bit}
 use Rattle.rules.specs.Personality.{phaseCount, groupCount, groupSet, conflictSet}
 use Rattle.rules.specs.Personality.{badConflict, sharePhase, conflictInPhase}
-use Rattle.laws.specs.Folds.{anyOf}
-use Rattle.laws.proofs.Bits.{bit-blank}
-use Rattle.laws.proofs.Counting.{below-or-past}
-use Rattle.laws.proofs.Folds.{last-or-below, any-none, any-false}
-use Rattle.laws.proofs.Booleans.{decided, never-both, not-true-false, and-left, and-right, and-both, and-false-left, and-false-right, or-false-both}
-use Rattle.laws.proofs.CommonBits.{bit-and}
+use Rattle.laws.specs.Folds.{anyOf, allOf}
+use Rattle.laws.proofs.Booleans.{decided, never-both, not-true-false, and-left, and-right, and-false-left, and-false-right, or-false-both}
+use Rattle.laws.proofs.Indices.{below-or-past}
+use Rattle.laws.proofs.Folds.{any-none, any-false}
+use Rattle.laws.proofs.Tables.{table-holds}
+use Rattle.laws.proofs.JoinedBits.{clear-bit}
 use Rattle.read_layout.specs.declared.Layout.{Layout}
 use Rattle.read_conflicts_matrix.specs.Matrix.{MatrixFits, ConflictRows, SetRows}
 use Rattle.read_conflicts_quick.specs.Quick.{MemberRows, Matched, PairRight, BlockRight, BandRight, AllRight}
@@ -32,12 +32,6 @@ pub member-rows :
     ((r c : ℕ) → r < 8 → c < 8 → bit (8 * c + r) members ≡ bit (8 * r + c) sets) →
     MemberRows b k members
 member-rows rows mirror = record { told = λ p c h l m. mirror c p l h ∙ rows .told c p l h m }
-
--- a bit that another tile has, where the two have none in common
-clear-bit : (k t wrong : ℕ) → bitAnd t wrong ≡ 0 → bit k wrong ≡ true → bit k t ≡ false
-clear-bit k t wrong e p =
-    not-true-false (bit k t)
-    (λ q. never-both (bit-and k t wrong ∙ and-both q p) (ap (bit k) e ∙ bit-blank k))
 
 -- what both tests of a tile tell
 pub tile-matched :
@@ -64,16 +58,8 @@ tile-matched {t} {back} mirror wrong turned kept shared passed =
 
 -- the bits of the diagonal
 diagonal-row : (r : ℕ) → r < 8 → bit (8 * r + r) 9241421688590303745 ≡ true
-unfolding bit
-diagonal-row zero h = refl
-diagonal-row (suc zero) h = refl
-diagonal-row (suc (suc zero)) h = refl
-diagonal-row (suc (suc (suc zero))) h = refl
-diagonal-row (suc (suc (suc (suc zero)))) h = refl
-diagonal-row (suc (suc (suc (suc (suc zero))))) h = refl
-diagonal-row (suc (suc (suc (suc (suc (suc zero)))))) h = refl
-diagonal-row (suc (suc (suc (suc (suc (suc (suc zero))))))) h = refl
-diagonal-row (suc (suc (suc (suc (suc (suc (suc (suc r)))))))) h = absurd (omega arith)
+unfolding bit allOf
+diagonal-row = table-holds (λ r. bit (8 * r + r) 9241421688590303745) 8 refl
 
 pub diagonal-bit : (r c : ℕ) → r < 8 → r ≡ c → bit (8 * r + c) 9241421688590303745 ≡ true
 diagonal-bit r c h e = subst (λ (j : ℕ). bit (8 * r + j) 9241421688590303745 ≡ true) e (diagonal-row r h)
@@ -103,7 +89,7 @@ block-sound {b} {w} {a} {k} {t} {back} chart there home rows columns own matched
     }
 
 -- the other way round
-pub pair-turned : (b : List ℕ) (g j : ℕ) → PairRight b g j → PairRight b j g
+pair-turned : (b : List ℕ) (g j : ℕ) → PairRight b g j → PairRight b j g
 pair-turned b g j sound =
     record {
       answered = sym (sound .answered);
@@ -113,15 +99,6 @@ pair-turned b g j sound =
     }
 
 -- ── Bands ──
-
--- what holds of those before n, and of n
-pub upto-more :
-    (P : ℕ → Type 0) (k n : ℕ) → ((i : ℕ) → k ≤ i → i < n → P i) → P n → (i : ℕ) → k ≤ i → i < n + 1 → P i
-upto-more P k n before here i h l =
-    ⊎-elim
-    (λ (e : i ≡ n). subst P (sym e) here)
-    (λ (m : i < n). before i h m)
-    (last-or-below (omega (arith, l)))
 
 pub band-first : (b : List ℕ) (k : ℕ) → BlockRight b k k → (i : ℕ) → k ≤ i → i < k + 1 → BlockRight b i k
 band-first b k own i h l = let e : k ≡ i = omega arith in subst (λ (a : ℕ). BlockRight b a k) e own

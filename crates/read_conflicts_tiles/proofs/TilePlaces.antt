@@ -5,15 +5,15 @@ use mathlib.Core.Path.{_≡_, refl, sym, ap, _∙_}
 use native.Mathlib.Omega.{arith}
 use lib.Bits.{bitAnd, bitXor}
 use lib.Dec.{leb, ltb, eqb}
-use borrow.Author.Tests.{leb-true, ltb-true, eqb-true}
+use borrow.Author.Tests.{leb-true, ltb-true}
 use Rattle.laws.specs.Bytes.{bit}
 use Rattle.laws.specs.Folds.{if_then_else_, allOf}
 use Rattle.laws.proofs.Booleans.{and-left, and-right}
 use Rattle.laws.proofs.Folds.{all-at}
-use Rattle.laws.proofs.CommonBits.{bit-and}
+use Rattle.laws.proofs.Tables.{table-equal}
+use Rattle.laws.proofs.Bits.{bit-down, bit-up}
+use Rattle.laws.proofs.JoinedBits.{bit-and, other, other-none, other-twice, other-back, bit-xor}
 use Rattle.read_conflicts_tiles.specs.Swaps.{upper, source, placed, swaps}
-use Rattle.laws.proofs.Shifts.{bit-down, bit-up}
-use Rattle.read_conflicts_tiles.proofs.Unlike.{other, other-none, other-twice, other-back, bit-xor}
 
 -- bit k of y is one of the 64 of x, the one at f k
 abbrev pub From : (ℕ → ℕ) → ℕ → ℕ → Type 0
@@ -91,19 +91,13 @@ through {f} {g} x y z one two k h =
     let last = two k h in
     let first = one (g k) (last .0) in (first .0, last .1 ∙ first .1)
 
--- f takes k, the place of some bit r of some row c, to that of bit c of row r
-abbrev isMirrored : (ℕ → ℕ) → ℕ → Bool
-isMirrored f k = eqb (f k) (8 * (k % 8) + k / 8)
-
--- f does so with all 64
+-- f takes each place k, of some bit r of some row c, to that of bit c of row r
 unfoldable pub mirrors : (ℕ → ℕ) → Bool
-mirrors f = allOf (isMirrored f) 64
+mirrors f = allOf (λ k. eqb (f k) (8 * (k % 8) + k / 8)) 64
 
 mirrored-place : (f : ℕ → ℕ) (r c : ℕ) → mirrors f ≡ true → r < 8 → c < 8 → f (8 * c + r) ≡ 8 * r + c
 unfolding mirrors
-mirrored-place f r c ok h l =
-    let k = 8 * c + r in
-    omega (arith, eqb-true (f k) (8 * (k % 8) + k / 8) (all-at (isMirrored f) 64 k ok (omega arith)))
+mirrored-place f r c ok h l = omega (arith, table-equal f (λ k. 8 * (k % 8) + k / 8) 64 ok (8 * c + r) (omega arith))
 
 pub mirrored-bit :
     {f g h : ℕ → ℕ} (tile singles twos m : ℕ) →

@@ -12,10 +12,10 @@ use Rattle.rules.specs.Verdicts.{_orElse_}
 use Rattle.rules.specs.declared.answer.Verdict.{Verdict}
 use Rattle.rules.specs.declared.answer.Verdict.the-variants.{Accepted, Refused}
 use Rattle.laws.proofs.Booleans.{or-false-left}
+use Rattle.laws.proofs.JoinedBits.{common-below}
 use Rattle.rules.proofs.Verdicts.{refused-not-accepted, or-first, or-later, refuse-passed, first-each, refuse-no, or-next}
 use Rattle.read_groups.specs.declared.records.Groups.{Groups}
 use Rattle.read_groups.specs.GroupsRead.{GroupsRead}
-use Rattle.read_groups.proofs.Bits.{common-below}
 
 pub group-passed : (b : List ℕ) (g : ℕ) → badGroupAt b g ≡ false → ninthPedestrian b g ≡ false → groupRecord b g ≡ Accepted
 unfolding groupRecord

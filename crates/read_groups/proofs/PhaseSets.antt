@@ -4,11 +4,9 @@ use Prim.Native.Nat.{ℕ, zero, suc, _+_, _-_, _*_, _/_, _%_, _^_, _≤_, _<_, m
 use mathlib.Core.Bool.{true, false, not, or-false}
 use mathlib.Core.List.{List}
 use mathlib.Core.Logic.{⊎-elim}
-use mathlib.Core.Path.{_≡_, refl, sym, ap, _∙_}
-use native.Mathlib.Nat.{mod-eq-of-lt, mod-lt, mod-one, pow-succ', zero-lt-suc}
+use mathlib.Core.Path.{_≡_, sym, ap, _∙_}
 use native.Mathlib.Numerals.{add-one}
 use native.Mathlib.Omega.{arith}
-use lib.Arith.{mod-mul}
 use lib.Bits.{bitOr, or-lt}
 use lib.Count.{onesIn, ones, ones-cat}
 use lib.Dec.{eqb}
@@ -20,53 +18,9 @@ use Rattle.laws.specs.Folds.{if_then_else_, anyOf, countOf}
 use Rattle.laws.proofs.Bits.{bit-blank}
 use Rattle.laws.proofs.Folds.{any-none, any-false}
 use Rattle.laws.proofs.Booleans.{decided, or-false-left}
-use Rattle.laws.proofs.CommonBits.{same-bits}
-use Rattle.laws.proofs.Parity.{odd-bit}
-use Rattle.laws.proofs.Shifts.{half-bit}
-use Rattle.laws.proofs.UnionBits.{bit-or}
+use Rattle.laws.proofs.BitRanges.{ones-counted, full-each, all-full}
+use Rattle.laws.proofs.JoinedBits.{bit-or}
 use Rattle.read_groups.specs.GroupsRead.{CrossedPhases}
-
--- ── How many phases a set has ──
-
--- a digit counts itself
-digit : (d : ℕ) → d < 2 → (if eqb d 1 then 1 else 0) ≡ ones d
-unfolding ones onesIn
-digit zero h = refl
-digit (suc zero) h = refl
-digit (suc (suc d)) h = absurd (omega arith)
-
--- the ones among the n lowest digits
-lowest-ones : (n x : ℕ) → countOf (λ p. bit p x) n ≡ ones (x % 2 ^ n)
-unfolding countOf bit ones
-lowest-ones zero x = sym (ap ones (mod-one x))
-lowest-ones (suc n) x =
-    rw (
-      pow-succ' 2 n,
-      mod-mul x {m = 2} {c = 2 ^ n} (zero-lt-suc 1) (pow-pos n),
-      ones-cat n (x / 2 ^ n % 2) (x % 2 ^ n) (mod-lt x (pow-pos n)),
-      lowest-ones n x,
-      digit (x / 2 ^ n % 2) (mod-lt (x / 2 ^ n) (zero-lt-suc 1)),
-    )
-    (omega arith)
-
-pub ones-counted : (n x : ℕ) → x < 2 ^ n → countOf (λ p. bit p x) n ≡ ones x
-ones-counted n x h = lowest-ones n x ∙ ap ones (mod-eq-of-lt h)
-
--- ── A set of one phase, and a set of all phases ──
-
-pub shifted : (k : ℕ) → k ≤ 7 → 1 * 2 ^ k % 2 ^ 8 ≡ 1 * 2 ^ k
-shifted k l = shl-exact 1 k 8 (omega arith) (omega arith)
-
-pub full-each : (n x p : ℕ) → x + 1 ≡ 2 ^ n → p < n → bit p x ≡ true
-full-each zero x p e l = absurd (omega arith)
-full-each (suc n) x zero e l = odd-bit x (omega (arith, pow-succ' 2 n))
-full-each (suc n) x (suc p) e l = half-bit p x ∙ full-each n (x / 2) p (omega (arith, pow-succ' 2 n)) (omega arith)
-
-pub all-full : (n x : ℕ) → x < 2 ^ n → ((p : ℕ) → p < n → bit p x ≡ true) → x + 1 ≡ 2 ^ n
-all-full n x h all =
-    let full = 2 ^ n - 1 in
-    let whole : full + 1 ≡ 2 ^ n = omega (arith, pow-pos n) in
-    omega (arith, whole, same-bits n x full h (omega arith) (λ p l. all p l ∙ sym (full-each n full p whole l)))
 
 -- ── The records of a personality ──
 

@@ -10,7 +10,7 @@ use Rattle.laws.specs.Folds.{listOf}
 use Rattle.rules.specs.Colours.{coloursOf, bufferAt}
 use Rattle.rules.specs.Call.{bufferFor}
 use Rattle.rules.specs.Laws.{PassedBytes, PassEndsInColours}
-use Rattle.laws.proofs.Folds.{list-length, list-at}
+use Rattle.laws.proofs.Lists.{list-length, list-at}
 
 pub passed-length : (shown : ℕ → ℕ) (buffer : List ℕ) (g : ℕ) → length (bufferAt shown buffer g) ≡ g + (length buffer - g)
 unfolding bufferAt

@@ -65,7 +65,7 @@ module _ (table : List Range) (passed : usable table ≡ true) where
   counted : (setting : ℕ) {time : ℕ} → setting < settingCount → mayBeZero setting ≡ false → InTable table setting time → Counted time
   counted setting l some h = (omega (arith, leb-true 1 (limitOf table setting .low) (rw some at (told setting l .1))), reached setting l h)
 
-  pub phase-told : {times : PhaseTimes} → PhaseTimesIn table times → Timed times
+  phase-told : {times : PhaseTimes} → PhaseTimesIn table times → Timed times
   unfolding mayBeZero
   phase-told h =
       record {
@@ -87,7 +87,7 @@ module _ (table : List Range) (passed : usable table ≡ true) where
         second = counted (walkSettings + 2) (omega arith) refl (h .second);
       }
 
-  pub start-told : {time : ℕ} → InTable table startRedSetting time → Counted time
+  start-told : {time : ℕ} → InTable table startRedSetting time → Counted time
   unfolding mayBeZero
   start-told h = counted startRedSetting (omega arith) refl h
 

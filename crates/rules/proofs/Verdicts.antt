@@ -4,14 +4,15 @@
 use Prim.Native.Nat.{ℕ, zero, suc, _+_, _<_}
 use mathlib.Core.Bool.{Bool, true, false}
 use mathlib.Core.Logic.{_⊎_, inl, inr, ⊎-elim}
-use mathlib.Core.Path.{_≡_, refl, ap, sym, subst, _∙_}
+use mathlib.Core.Path.{_≡_, refl, ap, sym, _∙_}
 use native.Mathlib.Nat.{not-suc-le-zero}
 use native.Mathlib.Numerals.{add-one}
 use native.Mathlib.Omega.{arith}
 use Rattle.rules.specs.declared.answer.Verdict.{Verdict}
 use Rattle.rules.specs.declared.answer.Verdict.the-variants.{Accepted, Refused}
 use Rattle.rules.specs.Verdicts.{_orElse_, refuseIf, firstOf}
-use Rattle.laws.proofs.Folds.{last-or-below}
+use Rattle.laws.proofs.Indices.{last-or-below}
+use Rattle.laws.proofs.Folds.{fold-at}
 
 pub refused-not-accepted : {n p : ℕ} → Refused n p ≡ Accepted → ⊥
 refused-not-accepted h = let z : _≡_ {A = ℕ} 0 1 = cc in omega arith
@@ -43,12 +44,10 @@ refuse-failed false m q h = absurd (refused-not-accepted (sym h))
 
 pub first-each : (f : ℕ → Verdict) (n i : ℕ) → firstOf f n ≡ Accepted → i < n → f i ≡ Accepted
 unfolding firstOf
-first-each f zero i p h = absurd (not-suc-le-zero h)
-first-each f (suc n) i p h =
-    ⊎-elim
-    (λ (e : i ≡ n). subst (λ (j : ℕ). f j ≡ Accepted) (sym e) (or-later (firstOf f n) (f n) p))
-    (λ (l : i < n). first-each f n i (or-first (firstOf f n) (f n) p) l)
-    (last-or-below h)
+first-each f n i h l =
+    fold-at firstOf (λ v all. all ≡ Accepted → v ≡ Accepted)
+    (λ f n p. or-later (firstOf f n) (f n) p)
+    (λ f n v below p. below (or-first (firstOf f n) (f n) p)) f n i l h
 
 pub first-refused : (f : ℕ → Verdict) (m : ℕ) {n p : ℕ} → firstOf f m ≡ Refused n p → (i : ℕ) × (i < m) × (f i ≡ Refused n p)
 unfolding firstOf

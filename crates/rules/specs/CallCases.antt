@@ -60,7 +60,7 @@ infix 6 locks_buttons_
 abbrev pub locks_buttons_ : ℕ → ℕ → Demands
 locks ps buttons ks = record { locks = ps; buttons = ks }
 
-abbrev pub moving : Stage → ℕ → Movement
+abbrev moving : Stage → ℕ → Movement
 moving stage age = record { stage = stage; age = age }
 
 -- the first movement is given, the others are idle; the kept set comes last
@@ -84,11 +84,11 @@ declining number old = record { outcome = StepRefused number 0; state = old }
 -- ── A being left ──
 
 -- the target is B, which has a lock
-abbrev pub forB : Interval → ℕ → KeptState
+abbrev forB : Interval → ℕ → KeptState
 forB interval age = state (at 0 interval age (Phase 1)) (gap 0 max 1) (locks 2 buttons 0) idle 2
 
 -- the target is C, which has a lock; B has one too by now
-abbrev pub forC : Interval → ℕ → KeptState
+abbrev forC : Interval → ℕ → KeptState
 forC interval age = state (at 0 interval age (Phase 2)) (gap 0 max 1) (locks 6 buttons 0) idle 6
 
 -- ── The list and its statement ──

@@ -28,28 +28,28 @@ intervalRow AllRed = record { code = 6; letter = 82; start = false; minimum = fa
 abbrev pub intervals : List Interval
 intervals = StartRed ∷ LateStart ∷ MinimumGreen ∷ Running ∷ EarlyCutOff ∷ Yellow ∷ AllRed ∷ []
 
-unfoldable pub isStartRed : Interval → Bool
+abbrev pub isStartRed : Interval → Bool
 isStartRed interval = intervalRow interval .start
 
-unfoldable pub isMinimumGreen : Interval → Bool
+abbrev pub isMinimumGreen : Interval → Bool
 isMinimumGreen interval = intervalRow interval .minimum
 
-unfoldable pub isRunning : Interval → Bool
+abbrev pub isRunning : Interval → Bool
 isRunning interval = intervalRow interval .running
 
 -- minimum green or running
-unfoldable pub isGreen : Interval → Bool
+abbrev pub isGreen : Interval → Bool
 isGreen interval = intervalRow interval .green
 
-unfoldable pub isEarly : Interval → Bool
+abbrev pub isEarly : Interval → Bool
 isEarly interval = intervalRow interval .early
 
 -- early cut-off green, yellow or all-red: the phase is being left
-unfoldable pub isLeaving : Interval → Bool
+abbrev pub isLeaving : Interval → Bool
 isLeaving interval = intervalRow interval .leaving
 
 -- start red or all-red: a phase starts when it ends
-unfoldable pub isBeforeStart : Interval → Bool
+abbrev pub isBeforeStart : Interval → Bool
 isBeforeStart interval = intervalRow interval .starts
 
 -- the interval's letter in a trace, as its ASCII code
@@ -68,17 +68,17 @@ stageRow ClearanceTwo = record { code = 3; idle = false; walk = false; holding =
 abbrev pub stages : List Stage
 stages = Idle ∷ Walk ∷ ClearanceOne ∷ ClearanceTwo ∷ []
 
-unfoldable pub isIdle : Stage → Bool
+abbrev pub isIdle : Stage → Bool
 isIdle stage = stageRow stage .idle
 
-unfoldable pub isWalk : Stage → Bool
+abbrev pub isWalk : Stage → Bool
 isWalk stage = stageRow stage .walk
 
 -- walk or C1
-unfoldable pub isWalkOrFirst : Stage → Bool
+abbrev pub isWalkOrFirst : Stage → Bool
 isWalkOrFirst stage = stageRow stage .holding
 
-unfoldable pub isSecond : Stage → Bool
+abbrev pub isSecond : Stage → Bool
 isSecond stage = stageRow stage .second
 
 -- ── A phase or none ──

@@ -1,12 +1,12 @@
 -- The sections of a personality and their checks in order: numbers 1 to 12, 17, 18 and 21, each with its place. A place is a byte offset.
 use Prim.Native.Nat.{ℕ, _+_, _*_, _/_, _%_, _^_}
 use mathlib.Core.Bool.{Bool, not, _&&_, _||_}
-use mathlib.Core.List.{List, [], _∷_}
+use mathlib.Core.List.{List}
 use lib.Dec.{leb, ltb, eqb}
 use lib.ListN.{length}
 use Rattle.rules.specs.declared.answer.Verdict.{Verdict}
 use Rattle.rules.specs.declared.answer.Verdict.the-variants.{Accepted}
-use Rattle.laws.specs.Folds.{if_then_else_, anyOf, allOf, countOf}
+use Rattle.laws.specs.Folds.{if_then_else_, anyOf, countOf}
 use Rattle.laws.specs.Bytes.{byteAt, twoAt, fourAt, bit}
 use Rattle.rules.specs.Limits.{limits, within, startRedSetting, phaseSettings, walkSettings, earlySetting}
 use Rattle.rules.specs.Verdicts.{_orElse_, refuseIf, firstOf}

@@ -1,6 +1,6 @@
 -- A verdict is acceptance, or a refusal with its number and place. Of several checks in order, the first refusal is the verdict.
 use Prim.Native.Nat.{ℕ, zero, suc}
-use mathlib.Core.Bool.{Bool, true, false}
+use mathlib.Core.Bool.{Bool}
 use Rattle.rules.specs.declared.answer.Verdict.{Verdict}
 use Rattle.rules.specs.declared.answer.Verdict.the-variants.{Accepted, Refused}
 use Rattle.rules.specs.declared.answer.Outcome.{Outcome}

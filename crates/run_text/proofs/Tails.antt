@@ -11,7 +11,8 @@ use borrow.Author.Tests.{le-leb, lt-leb}
 use Rattle.rules.specs.declared.state.Position.{Position}
 use Rattle.rules.specs.TraceText.{colourLetter, lineTail}
 use Rattle.run_text.specs.Lines.{leading, shown, tailLength, tailOf, Counted}
-use Rattle.run_text.proofs.Texts.{written, one-more, in-table, past-first, past-end, letter-at}
+use Rattle.run_text.proofs.Texts.{written, one-more}
+use Rattle.laws.proofs.Lists.{entry-same, past-first, past-end, letter-at}
 
 -- ── Letters ──
 
@@ -39,7 +40,7 @@ pub before-groups :
 unfolding lineTail leading shown
 before-groups position colours i h =
     List·getD-append (leading position) (shown colours) 10 i h
-    ∙ in-table (leading position) i 10 32 h
+    ∙ entry-same (leading position) i 10 32 h
 
 pub from-groups :
     (position : Position) (colours : List ℕ) (i : ℕ) →

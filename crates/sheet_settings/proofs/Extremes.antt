@@ -7,21 +7,8 @@ use mathlib.Core.Path.{_≡_, refl, sym}
 use native.Mathlib.Nat.{add-zero, add-suc, suc-add, eq-or-lt-of-le, le-antisymm}
 use Rattle.laws.specs.Folds.{if_then_else_}
 use Rattle.laws.proofs.Booleans.{never-both}
-use Rattle.laws.proofs.Folds.{last-or-below}
-use Rattle.laws.proofs.Counting.{below-or-past}
+use Rattle.laws.proofs.Indices.{below-or-past, below-more, fails-to}
 use Rattle.sheet_settings.specs.Extremes.{Largest, Smallest, largestTo, smallestFrom}
-
--- ── Numbers that fail from 0 on ──
-
--- one more
-pub fails-more : (p : ℕ → Bool) (t : ℕ) → ((k : ℕ) → k < t → p k ≡ false) → p t ≡ false → (k : ℕ) → k < suc t → p k ≡ false
-fails-more p t before e k l =
-    ⊎-elim (λ (q : k ≡ t). rw q e) (λ (q : k < t). before k q) (last-or-below l)
-
--- they end at one that passes
-pub fails-to : (p : ℕ → Bool) {t top : ℕ} → ((k : ℕ) → k < t → p k ≡ false) → p top ≡ true → t ≤ top
-fails-to p {t} {top} before e =
-    ⊎-elim (λ (l : top < t). absurd (never-both e (before top l))) (λ (l : t ≤ top). l) (below-or-past top t)
 
 -- ── Only one ──
 
@@ -68,4 +55,4 @@ smallest-found p first (suc tries) last before =
         (((k : ℕ) → k < suc first → p k ≡ false) → Smallest p (smallestFrom (suc first) tries p)) →
         Smallest p (if t then first else smallestFrom (suc first) tries p)
     go true e after = record { passed = e; none-smaller = before }
-    go false e after = after (fails-more p first before e)
+    go false e after = after (below-more (λ k. p k ≡ false) first before e)

@@ -118,7 +118,7 @@ settings-for s r =
     time (Advance x) fraction speed = passage-smallest (s .speed) fraction speed
     time (StopLine x) fraction speed = refl
 
-pub answer-stated : (s : Sheet) → AnswerFor s (answerOf s)
+answer-stated : (s : Sheet) → AnswerFor s (answerOf s)
 unfolding answerOf answerFrom
 answer-stated s = first (inRange s) refl
   where

@@ -21,7 +21,7 @@ pub data Case : Type 0 where
   advance : ℕ → Float → Answer → Case
   zone : ℕ → Float → Answer → Case
 
-abbrev pub Holds : Case → Type 0
+abbrev Holds : Case → Type 0
 Holds (advance speed x answer) = answerOf (record { speed = speed; detector = Advance x }) ≡ answer
 Holds (zone speed x answer) = answerOf (record { speed = speed; detector = StopLine x }) ≡ answer
 
@@ -98,7 +98,7 @@ cases =
     ∷ advance 20 (metres 300) (Refused 20 0)
     ∷ []
 
-abbrev pub AllHold : List Case → Type 0
+abbrev AllHold : List Case → Type 0
 AllHold [] = Unit {0}
 AllHold (c ∷ cases) = Holds c × AllHold cases
 

@@ -1,6 +1,6 @@
 -- What the tests of bytes tell, field by field, and the test of the movement records at the places that the code reads.
 use Prim.Native.Nat.{ℕ, _+_, _*_, _<_}
-use mathlib.Core.Bool.{Bool, true, _&&_, and-true}
+use mathlib.Core.Bool.{true, and-true}
 use mathlib.Core.List.{List}
 use mathlib.Core.Path.{_≡_}
 use lib.Dec.{eqb}
@@ -10,13 +10,9 @@ use Rattle.laws.specs.Bytes.{byteAt}
 use Rattle.rules.specs.IntervalTable.{intervals, stages}
 use Rattle.laws.specs.Folds.{allOf}
 use Rattle.rules.specs.State.{idle}
-use Rattle.laws.proofs.Booleans.{and-left, and-right}
+use Rattle.laws.proofs.Booleans.{and-left, and-split}
 use Rattle.state_forms.specs.Forms.{held, row}
 use Rattle.state_bytes.specs.Layout.{interval, stage, position, movement, movements, movementsAt, state, stateBytes, isState}
-
--- both of two tests that pass
-split : (a b : Bool) → (a && b) ≡ true → (a ≡ true) × (b ≡ true)
-split a b h = (and-left a b h, and-right a b h)
 
 pub record PositionKnown (b : List ℕ) (at : ℕ) : Type 0 where
   pub code : byteAt b (at + 1) < length intervals
@@ -25,8 +21,8 @@ pub record PositionKnown (b : List ℕ) (at : ℕ) : Type 0 where
 
 pub position-told : (b : List ℕ) (at : ℕ) → position .known b at ≡ true → PositionKnown b at
 position-told b at h =
-    let first = split (interval .known b (at + 1)) _ h in
-    let rest = split (held .known b (at + 4)) _ (first .1) in
+    let first = and-split (interval .known b (at + 1)) _ h in
+    let rest = and-split (held .known b (at + 4)) _ (first .1) in
     record { code = ltb-true (byteAt b (at + 1)) (length intervals) (first .0); previous = rest .0; target = rest .1 }
 
 pub stage-told : (b : List ℕ) (at : ℕ) → movement .known b at ≡ true → byteAt b (at + 0) < length stages
@@ -44,8 +40,8 @@ pub record StateKnown (b : List ℕ) : Type 0 where
 pub state-told : (b : List ℕ) → isState b ≡ true → StateKnown b
 unfolding isState
 state-told b h =
-    let first = split (eqb (length b) stateBytes) _ h in
-    let second = split (position .known b 0) _ (first .1) in
+    let first = and-split (eqb (length b) stateBytes) _ h in
+    let second = and-split (position .known b 0) _ (first .1) in
     record {
       size = eqb-true (length b) stateBytes (first .0);
       known = first .1;

@@ -8,7 +8,7 @@ use lib.Seq.{sets}
 use Rattle.rules.specs.declared.state.KeptState.{KeptState}
 use Rattle.rules.specs.State.{idle}
 use Rattle.state_forms.specs.Forms.{byte}
-use Rattle.state_forms.proofs.Stores.{sets-next, sets-whole}
+use Rattle.laws.proofs.Arrays.{sets-next, sets-whole}
 use Rattle.state_forms.proofs.Lawful.{row-law}
 use Rattle.state_bytes.specs.Layout.{position, counts, demands, movement, movements, countsAt, demandsAt, movementsAt, keptAt, stateBytes, encoded}
 use Rattle.state_bytes.proofs.Laws.{position-law, counts-law, demands-law, movement-law, state-law}

@@ -15,10 +15,12 @@ use Rattle.rules.specs.declared.state.Held.the-variants.{Nothing, Phase}
 use Rattle.laws.specs.Bytes.{byteAt, twoAt}
 use Rattle.rules.specs.IntervalTable.{isHeld, phaseHeld}
 use Rattle.laws.specs.Folds.{if_then_else_, allOf, listOf}
-use Rattle.laws.proofs.Folds.{all-at, list-length, list-at}
 use Rattle.laws.proofs.Booleans.{decided, and-left, and-right, and-both, or-cases}
+use Rattle.laws.proofs.Folds.{all-at}
+use Rattle.laws.proofs.Lists.{list-length, list-at, listed}
+use Rattle.laws.proofs.Bytes.{first-byte, second-byte, part, part-one, part-two, part-more, record-within}
 use Rattle.state_forms.specs.Forms.{Form, Table, byte, two, coded, flagCode, heldKnown, heldOf, held, partsOf, row, placed, both, made, AreBytes}
-use Rattle.state_forms.proofs.Parts.{first-byte, second-byte, part, part-one, part-two, part-more, parts-joined, parts-same, parts-length, record-within, listed, no-bytes, one-more, bytes-joined, parts-bytes}
+use Rattle.state_forms.proofs.Parts.{parts-joined, parts-same, parts-length, no-bytes, one-more, bytes-joined, parts-bytes}
 
 -- The bytes of a value stand from a start on, counted from the place that is given.
 pub record Lawful {A : Type 0} (form : Form A) (start : ℕ) : Type 0 where

@@ -1,4 +1,2 @@
-pub mod Joined
 pub mod Lawful
 pub mod Parts
-pub mod Stores

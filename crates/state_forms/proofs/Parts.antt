@@ -1,45 +1,17 @@
--- Bytes within a list: those that stand behind others, the part of a list from a place on, and lists of bytes.
-use Prim.Native.Nat.{ℕ, zero, suc, _+_, _*_, _≤_, _<_}
+-- Rows of parts of a list, and lists of bytes.
+use Prim.Native.Nat.{ℕ, zero, suc, _+_, _*_, _<_}
 use mathlib.Core.List.{List, [], _∷_, _++_}
-use mathlib.Core.Path.{_≡_, refl, sym, ap, _∙_}
-use native.Mathlib.Nat.{mul-le-mul-right, le-of-suc-le-suc, not-suc-le-zero}
-use native.Mathlib.Numerals.{add-one}
+use mathlib.Core.Path.{_≡_, refl, _∙_}
 use native.Mathlib.Omega.{arith}
-use lib.ListN.{length, getD, take, drop, length-append}
-use lib.Seq.{getD-at, getD-append-add, drop-cons, take-add, drop-drop, ext-getD}
+use lib.ListN.{length, length-append}
+use lib.Seq.{sets}
 use Rattle.laws.specs.Bytes.{byteAt}
-use Rattle.laws.specs.Folds.{listOf}
-use Rattle.laws.proofs.Folds.{list-length, list-at}
+use Rattle.laws.proofs.Folds.{fold-same}
+use Rattle.laws.proofs.Arrays.{Stored, stored-more}
+use Rattle.laws.proofs.Bytes.{part, part-more}
 use Rattle.state_forms.specs.Forms.{partsOf, AreBytes}
 
--- ── Behind others ──
-
-pub first-byte : (p q : List ℕ) (x at : ℕ) → length p ≡ at → byteAt (p ++ (x ∷ q)) at ≡ x
-unfolding byteAt
-first-byte p q x at e = getD-at p x q 0 at e
-
-pub second-byte : (p q : List ℕ) (x y at : ℕ) → length p ≡ at → byteAt (p ++ (x ∷ y ∷ q)) (at + 1) ≡ y
-unfolding byteAt
-second-byte p q x y at e = rw (sym e) (getD-append-add p (x ∷ y ∷ q) 1 0)
-
--- ── A part of a list ──
-
-abbrev pub part : List ℕ → ℕ → ℕ → List ℕ
-part b at n = take n (drop at b)
-
-pub part-one : (b : List ℕ) (at : ℕ) → at < length b → byteAt b at ∷ [] ≡ part b at 1
-unfolding byteAt
-part-one b at h = rw (drop-cons b at 0 h)
-
-pub part-two : (b : List ℕ) (at : ℕ) → at + 1 < length b → byteAt b at ∷ byteAt b (at + 1) ∷ [] ≡ part b at 2
-unfolding byteAt
-part-two b at h =
-    let here : at < length b = omega arith in
-    let next : suc at < length b = omega arith in
-    rw (add-one at, drop-cons b at 0 here, drop-cons b (suc at) 0 next)
-
-pub part-more : (b : List ℕ) (at m n : ℕ) → part b at (m + n) ≡ part b at m ++ part b (at + m) n
-part-more b at m n = take-add m n (drop at b) ∙ ap (λ (r : List ℕ). take m (drop at b) ++ take n r) (drop-drop m at b)
+-- ── Rows of parts ──
 
 -- parts of w bytes in a row are one part
 pub parts-joined : (b : List ℕ) (at w n : ℕ) → partsOf (λ k. part b (at + k * w) w) n ≡ part b at (n * w)
@@ -49,35 +21,28 @@ parts-joined b at w (suc n) =
     let e : suc n * w ≡ n * w + w = omega arith in
     rw (e, part-more b at (n * w) w, parts-joined b at w n)
 
--- ── Rows of parts ──
-
 pub parts-same : (f g : ℕ → List ℕ) (n : ℕ) → ((i : ℕ) → i < n → f i ≡ g i) → partsOf f n ≡ partsOf g n
 unfolding partsOf
-parts-same f g zero h = refl
-parts-same f g (suc n) h = rw (parts-same f g n (λ i l. h i (omega arith)), h n (omega arith))
+parts-same = fold-same partsOf (λ f g. refl) (λ f g n front last. rw (front, last))
 
 pub parts-length : (f : ℕ → List ℕ) (w n : ℕ) → ((i : ℕ) → length (f i) ≡ w) → length (partsOf f n) ≡ n * w
 unfolding partsOf
 parts-length f w zero h = omega arith
 parts-length f w (suc n) h = length-append (partsOf f n) (f n) ∙ omega (arith, parts-length f w n h, h n)
 
--- record k of n is within them all
-pub record-within : (w k n : ℕ) → k < n → k * w + w ≤ n * w
-record-within w k n l =
-    let e : suc k * w ≡ k * w + w = omega arith in
-    rw e at (mul-le-mul-right w l)
-
--- a list is the row of its own entries
-pub listed : {A : Type 0} (l : List A) (n : ℕ) (d : A) → length l ≡ n → listOf (λ i. getD l i d) n ≡ l
-listed l n d e =
-    ext-getD d (listOf (λ i. getD l i d) n) l (list-length (λ i. getD l i d) n ∙ sym e)
-    (λ i h. list-at (λ i. getD l i d) n i d (omega (arith, list-length (λ i. getD l i d) n)))
-
--- within a list the default is never read
-pub entry-within : {A : Type 0} (l : List A) (i : ℕ) (d e : A) → i < length l → getD l i d ≡ getD l i e
-entry-within [] i d e h = absurd (not-suc-le-zero h)
-entry-within (x ∷ l) zero d e h = refl
-entry-within (x ∷ l) (suc i) d e h = entry-within l i d e (le-of-suc-le-suc h)
+-- the bytes of one more record behind those that are stored, w bytes each
+pub stored-record :
+    (f : ℕ → List ℕ) (w : ℕ) →
+    ((k : ℕ) → length (f k) ≡ w) →
+    {old out : List ℕ} {at n k : ℕ} (m : ℕ) (part : List ℕ) →
+    Stored (partsOf f) old at n out k →
+    k < n →
+    m ≡ at + k * w →
+    part ≡ f k →
+    Stored (partsOf f) old at n (sets out m part) (k + 1)
+unfolding partsOf
+stored-record f w sized {k = k} m part h l e same =
+    stored-more part m h l (omega (arith, parts-length f w k sized)) (rw same)
 
 -- ── Lists of bytes ──
 

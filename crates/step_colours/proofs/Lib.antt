@@ -1,4 +1,3 @@
-pub mod Choices
 pub mod Shown
 pub mod Sizes
 pub mod Unclosed

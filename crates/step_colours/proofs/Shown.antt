@@ -15,8 +15,8 @@ use Rattle.laws.specs.Folds.{countOf, listOf}
 use Rattle.rules.specs.Site.{groupOf, isPedestrian, movementOf}
 use Rattle.rules.specs.Colours.{movementColour, vehicleShown, colourOf, bufferAt, PassedTo, Turn}
 use Rattle.laws.proofs.Counting.{count-passed, count-failed}
-use Rattle.rules.proofs.Pass.{passed-length}
 use Rattle.laws.proofs.Arrays.{fill-step}
+use Rattle.rules.proofs.Pass.{passed-length}
 use Rattle.step_colours.specs.Turn.{TurnOf}
 
 pub none-passed : (groups : List Group) (shown : ℕ → ℕ) (buffer : List ℕ) → PassedTo groups shown buffer 0 buffer 0

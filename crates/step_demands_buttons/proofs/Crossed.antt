@@ -1,25 +1,19 @@
 -- A pass over the movements of a word, the lowest first: the phases of those that are taken and pass a test are in the set.
-use Prim.Native.Nat.{ℕ, _-_, _^_, _≤_, _<_}
+use Prim.Native.Nat.{ℕ, _^_, _≤_, _<_}
 use mathlib.Core.Bool.{Bool, true, false, _&&_}
 use mathlib.Core.List.{List}
 use mathlib.Core.Path.{_≡_, sym, ap, _∙_}
 use native.Mathlib.Omega.{arith}
-use lib.Bits.{bitAnd, bitOr, or-lt}
-use lib.Count.{trailingZeros}
+use lib.Bits.{bitOr, or-lt}
 use lib.ListN.{getD}
 use Rattle.laws.specs.Bytes.{bit}
 use Rattle.laws.specs.Folds.{anyOf, setOf}
 use Rattle.rules.specs.Site.{crosses}
+use Rattle.laws.proofs.Folds.{any-none, any-same, any-with}
 use Rattle.laws.proofs.Bits.{bit-blank}
-use Rattle.laws.proofs.Folds.{any-none}
-use Rattle.laws.proofs.Passing.{any-same, any-with}
-use Rattle.laws.proofs.LowestBit.{taken, Left, left-all, taken-none, taken-all, next-within, left-more, next-untaken, next-taken, taken-other, taken-failing}
-use Rattle.laws.proofs.Members.{set-told}
-use Rattle.laws.proofs.UnionBits.{bit-or}
-
--- a movement of the word is taken, and passes
-abbrev pub counted : ℕ → (ℕ → Bool) → ℕ → ℕ → Bool
-counted word passes rest k = taken word rest k && passes k
+use Rattle.laws.proofs.JoinedBits.{bit-or}
+use Rattle.laws.proofs.LowestBit.{lowest, others, Left, left-all, taken-none, taken-all, next-within, left-more, next-untaken, counted, counted-other, counted-own, counted-same}
+use Rattle.laws.proofs.ByteSets.{set-told}
 
 -- the set has the phases of the movements counted, and the bits of the rest are those of the word's n that are left
 pub record Crossed (crossings : List ℕ) (word n : ℕ) (passes : ℕ → Bool) (rest set : ℕ) : Type 0 where
@@ -37,49 +31,36 @@ none-crossed crossings word n passes within =
 
 module _ {crossings : List ℕ} {word n : ℕ} {passes : ℕ → Bool} {rest set : ℕ} (known : Crossed crossings word n passes rest set) where
   module _ (some : 0 < rest) (few : n ≤ 64) where
-    abbrev next : ℕ
-    next = trailingZeros 64 rest
-
-    -- the movements that are left after this turn
-    abbrev others : ℕ
-    others = bitAnd rest (rest - 1)
-
-    pub turn-within : next < n
+    pub turn-within : lowest rest < n
     turn-within = next-within (known .left) some few
 
-    pub other-same : (k : ℕ) → (k ≡ next → ⊥) → counted word passes others k ≡ counted word passes rest k
-    other-same k apart = rw (taken-other (known .left) some few k apart)
-
-    pub own-counted : passes next ≡ true → counted word passes others next ≡ true
-    own-counted e = rw (next-taken (known .left) some few, e)
-
     pub one-crossed :
-        getD crossings next 0 < 256 → passes next ≡ true → Crossed crossings word n passes others (bitOr set (getD crossings next 0))
+        getD crossings (lowest rest) 0 < 256 →
+        passes (lowest rest) ≡ true →
+        Crossed crossings word n passes (others rest) (bitOr set (getD crossings (lowest rest) 0))
     unfolding crosses
     one-crossed byte e =
         record {
           left = left-more (known .left) some few;
-          small = or-lt 8 set (getD crossings next 0) (known .small) byte;
+          small = or-lt 8 set (getD crossings (lowest rest) 0) (known .small) byte;
           told = λ p.
-              bit-or p set (getD crossings next 0)
+              bit-or p set (getD crossings (lowest rest) 0)
               ∙ rw (known .told p)
-              (any-with _ _ n next (crosses crossings next p) turn-within
+              (any-with _ _ n (lowest rest) (crosses crossings (lowest rest) p) turn-within
               (rw (next-untaken (known .left) some few))
-              (rw (own-counted e))
-              (λ k apart. ap (λ (t : Bool). t && crosses crossings k p) (other-same k apart)));
+              (rw (counted-own (known .left) some few passes e))
+              (λ k apart. ap (λ (t : Bool). t && crosses crossings k p) (counted-other (known .left) some few passes k apart)));
         }
 
     -- a movement that does not pass alters nothing
-    pub failed-same : passes next ≡ false → (k : ℕ) → counted word passes rest k ≡ counted word passes others k
-    failed-same = taken-failing (known .left) some few passes
-
-    pub one-failed : passes next ≡ false → Crossed crossings word n passes others set
+    pub one-failed : passes (lowest rest) ≡ false → Crossed crossings word n passes (others rest) set
     one-failed e =
         record {
           left = left-more (known .left) some few;
           small = known .small;
           told = λ p.
-              known .told p ∙ any-same _ _ n (λ k l. ap (λ (t : Bool). t && crosses crossings k p) (failed-same e k));
+              known .told p
+              ∙ any-same _ _ n (λ k l. ap (λ (t : Bool). t && crosses crossings k p) (counted-same (known .left) some few passes e k));
         }
 
   -- once none is left, the movements counted are all those of the word that pass

@@ -1,5 +1,5 @@
 -- The pass over the pressed buttons: those that are taken and not dropped have their demands, and their movements' phases are in the set.
-use Prim.Native.Nat.{ℕ, _-_, _/_, _%_, _^_, _<_}
+use Prim.Native.Nat.{ℕ, _/_, _%_, _^_, _<_}
 use mathlib.Core.Bool.{Bool, true, false, not, _&&_, _||_, or-false, or-true}
 use mathlib.Core.List.{List}
 use mathlib.Core.Logic.{⊎-elim}
@@ -7,8 +7,7 @@ use mathlib.Core.Path.{_≡_, sym, ap, _∙_}
 use native.Mathlib.Nat.{mod-lt}
 use native.Mathlib.Omega.{arith}
 use borrow.Author.Tests.{eqb-true, eqb-false}
-use lib.Bits.{bitAnd, bitOr}
-use lib.Count.{trailingZeros}
+use lib.Bits.{bitOr}
 use lib.Dec.{eqb}
 use lib.ListN.{getD}
 use lib.Pow.{pow-pos}
@@ -19,13 +18,11 @@ use Rattle.rules.specs.IntervalTable.{isWalk}
 use Rattle.rules.specs.State.{idle}
 use Rattle.rules.specs.Demands.{pressed, registersButton, buttonsAfter}
 use Rattle.rules.specs.Kept.{pressKeeps}
-use Rattle.laws.proofs.Bits.{bit-lower}
-use Rattle.laws.proofs.Sets.{bit-set, set-same}
+use Rattle.laws.proofs.Bits.{bit-lower, bit-down}
+use Rattle.laws.proofs.ByteSets.{bit-set, set-same, set-told}
 use Rattle.laws.proofs.Booleans.{decided}
-use Rattle.laws.proofs.LowestBit.{taken-none}
-use Rattle.laws.proofs.Members.{set-told}
-use Rattle.laws.proofs.Shifts.{bit-down}
-use Rattle.step_demands_buttons.proofs.Crossed.{counted, Crossed, none-crossed, other-same, own-counted, one-crossed, failed-same, one-failed, all-counted, all-crossed}
+use Rattle.laws.proofs.LowestBit.{lowest, others, taken-none, counted, counted-other, counted-own, counted-same}
+use Rattle.step_demands_buttons.proofs.Crossed.{Crossed, none-crossed, one-crossed, one-failed, all-counted, all-crossed}
 
 -- the inputs of the buttons
 abbrev word : ℕ → ℕ
@@ -61,16 +58,10 @@ module _
     standing rest k = bit k buttons || registered movements inputs rest k
 
     module _ (some : 0 < rest) where
-      abbrev next : ℕ
-      next = trailingZeros 64 rest
-
-      abbrev others : ℕ
-      others = bitAnd rest (rest - 1)
-
       pub one-pressed :
-          getD crossings next 0 < 256 →
-          stays movements next ≡ true →
-          Pressed buttons movements crossings inputs others (setOf (λ k. bit k out || eqb k next)) (bitOr phases (getD crossings next 0))
+          getD crossings (lowest rest) 0 < 256 →
+          stays movements (lowest rest) ≡ true →
+          Pressed buttons movements crossings inputs (others rest) (setOf (λ k. bit k out || eqb k (lowest rest))) (bitOr phases (getD crossings (lowest rest) 0))
       one-pressed byte e =
           record {
             keeps = one-crossed (known .keeps) some (omega arith) byte e;
@@ -79,22 +70,22 @@ module _
                 (λ k l.
                 rw (known .told, bit-set (standing rest) k l)
                 (⊎-elim
-                (λ (t : eqb k next ≡ true).
-                rw (t, eqb-true k next t, own-counted (known .keeps) some (omega arith) e)
-                (or-true (standing rest next) ∙ sym (or-true (bit next buttons))))
-                (λ (t : eqb k next ≡ false).
-                rw (t, other-same (known .keeps) some (omega arith) k (eqb-false k next t)) (or-false (standing rest k)))
-                (decided (eqb k next))));
+                (λ (t : eqb k (lowest rest) ≡ true).
+                rw (t, eqb-true k (lowest rest) t, counted-own (known .keeps .left) some (omega arith) (stays movements) e)
+                (or-true (standing rest (lowest rest)) ∙ sym (or-true (bit (lowest rest) buttons))))
+                (λ (t : eqb k (lowest rest) ≡ false).
+                rw (t, counted-other (known .keeps .left) some (omega arith) (stays movements) k (eqb-false k (lowest rest) t)) (or-false (standing rest k)))
+                (decided (eqb k (lowest rest)))));
           }
 
-      pub one-dropped : stays movements next ≡ false → Pressed buttons movements crossings inputs others out phases
+      pub one-dropped : stays movements (lowest rest) ≡ false → Pressed buttons movements crossings inputs (others rest) out phases
       one-dropped e =
           record {
             keeps = one-failed (known .keeps) some (omega arith) e;
             told =
                 known .told
                 ∙ set-same _ _
-                (λ k l. ap (λ (t : Bool). bit k buttons || t) (failed-same (known .keeps) some (omega arith) e k));
+                (λ k l. ap (λ (t : Bool). bit k buttons || t) (counted-same (known .keeps .left) some (omega arith) (stays movements) e k));
           }
 
     module _ (done : rest ≡ 0) where

@@ -1,28 +1,26 @@
 -- The pass over the occupied detectors: those that are taken have their cells in the table. A cell is the bit of a mode and a phase, and of
 -- no other.
-use Prim.Native.Nat.{ℕ, _+_, _-_, _*_, _%_, _^_, _≤_, _<_}
+use Prim.Native.Nat.{ℕ, _+_, _*_, _%_, _^_, _≤_, _<_}
 use mathlib.Core.Bool.{Bool, true, false, _&&_, _||_}
 use mathlib.Core.List.{List}
 use mathlib.Core.Logic.{⊎-elim}
 use mathlib.Core.Path.{_≡_, sym, ap, _∙_}
 use native.Mathlib.Omega.{arith}
 use borrow.Author.Tests.{eqb-true, eqb-false, eq-eqb, ne-eqb}
-use lib.Bits.{bitAnd, bitOr}
-use lib.Count.{trailingZeros}
+use lib.Bits.{bitOr}
 use lib.Dec.{eqb}
 use Rattle.rules.specs.declared.site.Detector.{Detector}
 use Rattle.laws.specs.Bytes.{bit}
 use Rattle.laws.specs.Folds.{anyOf}
 use Rattle.rules.specs.Site.{detectorOf}
 use Rattle.rules.specs.Demands.{occupied, detectedAmong}
-use Rattle.laws.proofs.Bits.{bit-blank}
-use Rattle.laws.proofs.Folds.{any-none}
 use Rattle.laws.proofs.Booleans.{decided}
-use Rattle.laws.proofs.Passing.{any-same, any-with}
-use Rattle.laws.proofs.LowestBit.{bit-one, taken, Left, left-all, taken-none, taken-all, next-within, left-more, next-untaken, next-taken, taken-other}
-use Rattle.laws.proofs.UnionBits.{bit-or}
+use Rattle.laws.proofs.Folds.{any-none, any-same, any-with}
+use Rattle.laws.proofs.Bits.{bit-blank, bit-one}
+use Rattle.laws.proofs.BitRanges.{shifted, firsts, firsts-within, firsts-bit}
+use Rattle.laws.proofs.JoinedBits.{bit-or}
+use Rattle.laws.proofs.LowestBit.{lowest, others, taken, Left, left-all, taken-none, taken-all, next-within, left-more, next-untaken, next-taken, taken-other}
 use Rattle.step_demands_detectors.specs.Sensed.{Tabled}
-use Rattle.laws.proofs.FirstBits.{shifted, firsts, firsts-within, firsts-bit}
 
 -- ── One cell ──
 
@@ -48,7 +46,7 @@ cell-more :
     p < 8 →
     bit (8 * m + p) (bitOr set (1 * 2 ^ (8 * mode + phase) % 2 ^ 64)) ≡ (bit (8 * m + p) set || (eqb phase p && eqb mode m))
 cell-more set phase mode m p room few l =
-    rw (shifted (8 * mode + phase) (omega arith), bit-or (8 * m + p) set (1 * 2 ^ (8 * mode + phase)), bit-one (8 * mode + phase) (8 * m + p))
+    rw (shifted 64 (8 * mode + phase) (omega arith), bit-or (8 * m + p) set (1 * 2 ^ (8 * mode + phase)), bit-one (8 * mode + phase) (8 * m + p))
     (ap (λ (t : Bool). bit (8 * m + p) set || t) (cell-told phase mode m p room l))
 
 -- ── The pass ──
@@ -78,23 +76,20 @@ module _ (detectors : List Detector) (n inputs : ℕ) where
         }
 
     module _ {rest set : ℕ} (entered : Entered rest set) (some : 0 < rest) where
-      abbrev next : ℕ
-      next = trailingZeros 64 rest
-
       few : n ≤ 64
       few = omega (arith, tabled .room)
 
-      pub turn-within : next < n
+      pub turn-within : lowest rest < n
       turn-within = next-within (entered .left) some few
 
-      pub one-entered : Entered (bitAnd rest (rest - 1)) (bitOr set (1 * 2 ^ (8 * at next .mode + at next .phase) % 2 ^ 64))
+      pub one-entered : Entered (others rest) (bitOr set (1 * 2 ^ (8 * at (lowest rest) .mode + at (lowest rest) .phase) % 2 ^ 64))
       one-entered =
           record {
             left = left-more (entered .left) some few;
             told = λ m p l.
-                cell-more set (at next .phase) (at next .mode) m p (tabled .phase next turn-within) (tabled .mode next turn-within) l
+                cell-more set (at (lowest rest) .phase) (at (lowest rest) .mode) m p (tabled .phase (lowest rest) turn-within) (tabled .mode (lowest rest) turn-within) l
                 ∙ rw (entered .told m p l)
-                (any-with _ _ n next (eqb (at next .phase) p && eqb (at next .mode) m) turn-within
+                (any-with _ _ n (lowest rest) (eqb (at (lowest rest) .phase) p && eqb (at (lowest rest) .mode) m) turn-within
                 (rw (next-untaken (entered .left) some few))
                 (rw (next-taken (entered .left) some few))
                 (λ d apart. rw (taken-other (entered .left) some few d apart)));

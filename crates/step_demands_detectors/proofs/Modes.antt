@@ -1,21 +1,20 @@
 -- What the table of the occupied detectors says: the row of a mode has the phases of the detectors with that mode, a union of rows those of
 -- either, and each of the three things that a detector may ask is asked by some of the modes.
-use Prim.Native.Nat.{ℕ, zero, suc, _≤_, _<_}
-use mathlib.Core.Bool.{Bool, true, false, _&&_, _||_}
+use Prim.Native.Nat.{ℕ, _≤_, _<_}
+use mathlib.Core.Bool.{Bool, true, _&&_, _||_, and-or-distrib-left}
 use mathlib.Core.List.{List}
-use mathlib.Core.Path.{_≡_, refl, sym, ap, _∙_}
+use mathlib.Core.Path.{_≡_, refl, sym, _∙_}
 use native.Mathlib.Omega.{arith}
 use lib.Bits.{bitOr}
 use lib.Dec.{eqb}
-use lib.ListN.{getD}
 use Rattle.rules.specs.declared.site.Detector.{Detector}
 use Rattle.laws.specs.Bytes.{bit}
-use Rattle.laws.specs.Folds.{anyOf, listOf}
+use Rattle.laws.specs.Folds.{allOf}
 use Rattle.rules.specs.Site.{detectorOf}
 use Rattle.rules.specs.Demands.{occupied, calling, locking, extending, detectedAmong}
-use Rattle.laws.proofs.Folds.{list-at}
-use Rattle.laws.proofs.UnionBits.{bit-or}
-use Rattle.laws.proofs.Passing.{any-same}
+use Rattle.laws.proofs.Folds.{any-same, any-join}
+use Rattle.laws.proofs.Tables.{agree, table-same}
+use Rattle.laws.proofs.JoinedBits.{bit-or}
 use Rattle.step_demands_detectors.specs.Sensed.{Tabled}
 
 -- ── What each mode asks ──
@@ -24,42 +23,22 @@ use Rattle.step_demands_detectors.specs.Sensed.{Tabled}
 pub record Same (f g : ℕ → Bool) : Type 0 where
   pub told : (m : ℕ) → m ≤ 6 → f m ≡ g m
 
-tried : (f g : ℕ → Bool) → listOf f 7 ≡ listOf g 7 → Same f g
-tried f g e =
-    record {
-      told = λ m l.
-          let below : m < 7 = omega arith in
-          sym (list-at f 7 m false below) ∙ ap (λ (row : List Bool). getD row m false) e ∙ list-at g 7 m false below;
-    }
+tried : (f g : ℕ → Bool) → allOf (λ m. agree (f m) (g m)) 7 ≡ true → Same f g
+tried f g h = record { told = λ m l. table-same f g 7 h m (omega arith) }
 
 pub locking-modes : Same (λ m. eqb m 2 || eqb m 6) locking
-unfolding locking listOf
+unfolding locking allOf
 locking-modes = tried (λ m. eqb m 2 || eqb m 6) locking refl
 
 pub calling-modes : Same (λ m. eqb m 1 || eqb m 5) calling
-unfolding calling listOf
+unfolding calling allOf
 calling-modes = tried (λ m. eqb m 1 || eqb m 5) calling refl
 
 pub extending-modes : Same (λ m. (eqb m 4 || eqb m 5) || eqb m 6) extending
-unfolding extending listOf
+unfolding extending allOf
 extending-modes = tried (λ m. (eqb m 4 || eqb m 5) || eqb m 6) extending refl
 
 -- ── The rows of the table ──
-
-either-of : (t a b : Bool) → ((t && a) || (t && b)) ≡ (t && (a || b))
-either-of true a b = refl
-either-of false a b = refl
-
-any-join : (f g : ℕ → Bool) (n : ℕ) → (anyOf f n || anyOf g n) ≡ anyOf (λ i. f i || g i) n
-unfolding anyOf
-any-join f g zero = refl
-any-join f g (suc n) = swap (anyOf f n) (f n) (anyOf g n) (g n) ∙ rw (any-join f g n)
-  where
-    swap : (a b c d : Bool) → ((a || b) || (c || d)) ≡ ((a || c) || (b || d))
-    swap true b c d = refl
-    swap false true true d = refl
-    swap false true false d = refl
-    swap false false c d = refl
 
 -- the set has the phases of the occupied detectors with a mode of the kind
 pub record Of (detectors : List Detector) (n inputs : ℕ) (kind : ℕ → Bool) (set : ℕ) : Type 0 where
@@ -81,7 +60,7 @@ module _ {detectors : List Detector} {n inputs : ℕ} {f g : ℕ → Bool} where
             bit-or p a b
             ∙ rw (left .told p l, right .told p l) (any-join has-f has-g n)
             ∙ any-same _ _ n
-            (λ d k. either-of (has detectors inputs p d) (f (detectorOf detectors d .mode)) (g (detectorOf detectors d .mode)));
+            (λ d k. sym (and-or-distrib-left (has detectors inputs p d) (f (detectorOf detectors d .mode)) (g (detectorOf detectors d .mode))));
       }
 
   pub of-kind :

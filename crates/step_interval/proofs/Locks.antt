@@ -8,7 +8,7 @@ use Rattle.laws.specs.Bytes.{bit}
 use Rattle.laws.specs.Folds.{setOf}
 use Rattle.rules.specs.IntervalTable.{isMinimumGreen}
 use Rattle.rules.specs.Interval.{clearsLock, locksLeft}
-use Rattle.laws.proofs.Members.{set-told}
+use Rattle.laws.proofs.ByteSets.{set-told}
 
 module _ (ended : Bool) (now : Position) (locks : ℕ) where
   pub lock-cleared :

@@ -14,7 +14,7 @@ use Rattle.laws.specs.Folds.{anyOf}
 use Rattle.rules.specs.State.{idle}
 use Rattle.rules.specs.Interval.{someMovement}
 use Rattle.laws.proofs.Booleans.{and-left, and-right, and-false-right, decided}
-use Rattle.laws.proofs.Passing.{any-past}
+use Rattle.laws.proofs.Folds.{any-past}
 use Rattle.step_movements.specs.IdlePast.{IdlePast}
 
 -- a test that an idle movement fails is settled by the movements that the site has

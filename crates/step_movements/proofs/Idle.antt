@@ -1,28 +1,18 @@
 -- The records past the movements that a site has are idle, and a step leaves them as they are.
 use Prim.Native.Nat.{ℕ, _≤_, _<_}
-use mathlib.Core.Bool.{Bool, true}
+use mathlib.Core.Bool.{Bool}
 use mathlib.Core.List.{List}
-use mathlib.Core.Path.{_≡_, refl, sym, ap, _∙_}
+use mathlib.Core.Path.{_≡_, sym, ap, _∙_}
 use lib.ListN.{getD}
 use Rattle.rules.specs.declared.site.Times.{Times}
 use Rattle.rules.specs.declared.site.WalkTimes.{WalkTimes}
 use Rattle.rules.specs.declared.state.Movement.{Movement}
-use Rattle.rules.specs.declared.state.Stage.{Stage}
-use Rattle.rules.specs.declared.state.Stage.the-variants.{Idle, Walk, ClearanceOne, ClearanceTwo}
+use Rattle.rules.specs.declared.state.Stage.the-variants.{Idle}
 use Rattle.rules.specs.Site.{noWalkTimes, walkTimes}
-use Rattle.rules.specs.IntervalTable.{isIdle}
 use Rattle.rules.specs.State.{idle}
 use Rattle.rules.specs.Movements.{advanced, movementsAfter}
-use Rattle.laws.proofs.Folds.{list-at}
-use Rattle.laws.proofs.Booleans.{never-both}
+use Rattle.laws.proofs.Lists.{list-at}
 use Rattle.step_movements.specs.IdlePast.{IdlePast}
-
-pub idle-only : (stage : Stage) → isIdle stage ≡ true → stage ≡ Idle
-unfolding isIdle
-idle-only Idle e = refl
-idle-only Walk e = absurd (never-both e refl)
-idle-only ClearanceOne e = absurd (never-both e refl)
-idle-only ClearanceTwo e = absurd (never-both e refl)
 
 stays : (mayEnd : Bool) (m : Movement) (times : WalkTimes) → m .stage ≡ Idle → m ≡ advanced mayEnd (m .stage) times (m .age)
 unfolding advanced

@@ -1,7 +1,7 @@
 -- An input bit is stray exactly where the quotient of the detectors' bits, or that of the buttons' bits, is not 0.
 use Prim.Native.Nat.{ℕ, _+_, _/_, _%_, _^_, _≤_, _<_}
 use mathlib.Core.Bool.{true, false, not, _&&_, _||_}
-use mathlib.Core.Logic.{_⊎_, ⊎-elim}
+use mathlib.Core.Logic.{⊎-elim}
 use mathlib.Core.Path.{_≡_, sym, ap, _∙_}
 use native.Mathlib.Omega.{arith}
 use lib.Dec.{leb, ltb, eqb}
@@ -11,11 +11,11 @@ use Rattle.rules.specs.declared.site.Site.{Site}
 use Rattle.laws.specs.Bytes.{bit}
 use Rattle.rules.specs.Call.{wired, strayInput}
 use Rattle.rules.specs.Laws.{Sound}
-use Rattle.laws.proofs.Counting.{below-or-past}
-use Rattle.laws.proofs.Folds.{any-found, any-false}
 use Rattle.laws.proofs.Booleans.{and-left, and-right, and-false-cases, and-false-left, and-false-right, or-left, or-right, or-false-left, or-false-right, or-false-both, decided, never-both}
+use Rattle.laws.proofs.Indices.{below-or-past}
+use Rattle.laws.proofs.Folds.{any-found, any-false}
 use Rattle.laws.proofs.Bits.{bit-lower}
-use Rattle.laws.proofs.HighBits.{no-bits-from, bit-from}
+use Rattle.laws.proofs.BitRanges.{no-bits-from, bit-from}
 
 module _ (site : Site) where
   -- ── Bits without a detector or button ──

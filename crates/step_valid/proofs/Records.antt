@@ -1,20 +1,16 @@
 -- Tests joined from the left are the tests of a list; and a movement record passes by whether it is idle.
-use Prim.Native.Nat.{ℕ, _<_}
 use mathlib.Core.Bool.{Bool, true, false, not, _&&_, and-assoc, and-true, and-false, or-true, or-false}
 use mathlib.Core.List.{List, [], _∷_}
 use mathlib.Core.Logic.{⊎-elim}
-use mathlib.Core.Path.{_≡_, refl, sym, _∙_}
+use mathlib.Core.Path.{_≡_, sym, _∙_}
 use lib.Dec.{eqb}
 use borrow.Author.Tests.{eqb-true}
 use Rattle.rules.specs.declared.state.Interval.{Interval}
 use Rattle.rules.specs.declared.state.Movement.{Movement}
-use Rattle.rules.specs.declared.state.Stage.{Stage}
-use Rattle.rules.specs.declared.state.Stage.the-variants.{Idle, Walk, ClearanceOne, ClearanceTwo}
 use Rattle.rules.specs.IntervalTable.{isIdle, isWalkOrFirst, isLeaving, isStartRed}
-use Rattle.laws.specs.Folds.{allOf}
 use Rattle.rules.specs.State.{ageValid, every, movementValid}
-use Rattle.laws.proofs.Folds.{all-at}
-use Rattle.laws.proofs.Booleans.{decided, never-both, not-true-false}
+use Rattle.laws.proofs.Booleans.{decided}
+use Rattle.rules.proofs.IntervalTests.{idle-not-walking}
 
 -- ── Tests joined ──
 
@@ -27,25 +23,14 @@ unfolding every
 joined-every test [] = sym (and-true test)
 joined-every test (next ∷ rest) = joined-every (test && next) rest ∙ and-assoc test next (every rest)
 
--- one index that fails is enough
-pub one-fails : (f : ℕ → Bool) (n i : ℕ) → i < n → f i ≡ false → false ≡ allOf f n
-one-fails f n i l e = sym (not-true-false (allOf f n) (λ all. never-both (all-at f n i all l) e))
-
 -- ── Movement records ──
-
-idle-no-walk : (stage : Stage) → isIdle stage ≡ true → isWalkOrFirst stage ≡ false
-unfolding isIdle isWalkOrFirst
-idle-no-walk Idle e = refl
-idle-no-walk Walk e = absurd (never-both e refl)
-idle-no-walk ClearanceOne e = absurd (never-both e refl)
-idle-no-walk ClearanceTwo e = refl
 
 module _ (of-phase : Bool) (interval : Interval) (m : Movement) where
   -- an idle record passes at age 1 alone, wherever it is
   pub idle-valid : isIdle (m .stage) ≡ true → eqb (m .age) 1 ≡ movementValid of-phase interval m
   unfolding movementValid every ageValid
   idle-valid idle-now =
-      let none = idle-no-walk (m .stage) idle-now in
+      let none = idle-not-walking (m .stage) idle-now in
       ⊎-elim
       (λ (e : eqb (m .age) 1 ≡ true). simp (idle-now, none, eqb-true (m .age) 1 e, or-true, and-false))
       (λ (e : eqb (m .age) 1 ≡ false). simp (idle-now, e, and-false))

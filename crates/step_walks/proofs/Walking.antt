@@ -1,14 +1,12 @@
 -- Part 5, movement by movement: what the movements that have begun walk leave, and the pass over the demanded ones. A movement that is taken
 -- and may begin has begun, and every other one is as it was.
-use Prim.Native.Nat.{ℕ, _-_, _<_}
+use Prim.Native.Nat.{ℕ, _<_}
 use mathlib.Core.Bool.{Bool, true, false, not, _&&_, _||_, and-true, and-false, and-assoc}
 use mathlib.Core.List.{List}
 use mathlib.Core.Logic.{⊎-elim}
 use mathlib.Core.Path.{_≡_, sym, _∙_}
 use native.Mathlib.Omega.{arith}
 use borrow.Author.Tests.{eqb-true, eqb-false}
-use lib.Bits.{bitAnd}
-use lib.Count.{trailingZeros}
 use lib.Dec.{eqb}
 use lib.ListN.{length, getD, set}
 use Rattle.rules.specs.declared.state.Movement.{Movement}
@@ -20,12 +18,10 @@ use Rattle.rules.specs.Site.{crosses}
 use Rattle.rules.specs.IntervalTable.{isIdle, isRunning}
 use Rattle.rules.specs.State.{idle}
 use Rattle.rules.specs.Walks.{begins, walksBegun, buttonsLeft}
-use Rattle.laws.proofs.Folds.{list-length, list-at}
-use Rattle.laws.proofs.Sets.{bit-set, set-same}
 use Rattle.laws.proofs.Booleans.{decided, and-false-left, and-false-right, or-false-left, or-false-right, or-false-both}
-use Rattle.laws.proofs.Arrays.{list-told, list-same, list-set}
-use Rattle.laws.proofs.LowestBit.{taken, Left, left-all, taken-none, next-within, left-more, next-untaken, next-taken, taken-other, taken-failing}
-use Rattle.laws.proofs.Members.{set-told}
+use Rattle.laws.proofs.Lists.{list-length, list-at, list-told, list-same, list-set}
+use Rattle.laws.proofs.LowestBit.{lowest, others, Left, left-all, taken-none, next-within, left-more, next-untaken, counted, counted-other, counted-own, counted-same}
+use Rattle.laws.proofs.ByteSets.{bit-set, set-same, set-told}
 use Rattle.step_walks.specs.declared.Begun.{Begun}
 use Rattle.step_walks.specs.Begun.{begunBy}
 
@@ -128,12 +124,9 @@ module _ {buttons left : ℕ} {movements out : List Movement} {f : ℕ → Bool}
 
 -- ── The pass over the demanded movements ──
 
-abbrev begun : ℕ → (ℕ → Bool) → ℕ → ℕ → Bool
-begun buttons may rest k = taken buttons rest k && may k
-
 pub record Walking (buttons : ℕ) (movements : List Movement) (may : ℕ → Bool) (rest left : ℕ) (out : List Movement) : Type 0 where
   pub untaken : Left buttons 8 rest
-  pub told : Leaves buttons movements (begun buttons may rest) left out
+  pub told : Leaves buttons movements (counted buttons may rest) left out
 
 pub none-walking :
     (buttons : ℕ) (movements : List Movement) (may : ℕ → Bool) →
@@ -143,50 +136,41 @@ pub none-walking :
 none-walking buttons movements may small len =
     record {
       untaken = left-all buttons 8 small;
-      told = leaves-none (begun buttons may buttons) small len (λ k. rw (taken-none buttons k));
+      told = leaves-none (counted buttons may buttons) small len (λ k. rw (taken-none buttons k));
     }
 
 module _
     {buttons rest left : ℕ} {movements out : List Movement} {may : ℕ → Bool}
     (known : Walking buttons movements may rest left out) (some : 0 < rest)
   where
-    abbrev next : ℕ
-    next = trailingZeros 64 rest
-
-    abbrev others : ℕ
-    others = bitAnd rest (rest - 1)
-
-    pub turn-within : next < 8
+    pub turn-within : lowest rest < 8
     turn-within = next-within (known .untaken) some (omega arith)
 
     -- the movement of a turn is as it was
-    pub turn-entry : (d : Movement) → getD out next d ≡ getD movements next idle
-    turn-entry d = entry-kept (known .told) next d turn-within (rw (next-untaken (known .untaken) some (omega arith)))
-
-    other-same : (k : ℕ) → (k ≡ next → ⊥) → begun buttons may others k ≡ begun buttons may rest k
-    other-same k apart = rw (taken-other (known .untaken) some (omega arith) k apart)
+    pub turn-entry : (d : Movement) → getD out (lowest rest) d ≡ getD movements (lowest rest) idle
+    turn-entry d = entry-kept (known .told) (lowest rest) d turn-within (rw (next-untaken (known .untaken) some (omega arith)))
 
     pub one-begun :
         {left′ : ℕ} {out′ : List Movement} →
-        may next ≡ true →
-        left′ ≡ setOf (λ i. bit i left && not (eqb i next)) →
-        out′ ≡ set out next (record { stage = Walk; age = 1 }) →
-        Walking buttons movements may others left′ out′
+        may (lowest rest) ≡ true →
+        left′ ≡ setOf (λ i. bit i left && not (eqb i (lowest rest))) →
+        out′ ≡ set out (lowest rest) (record { stage = Walk; age = 1 }) →
+        Walking buttons movements may (others rest) left′ out′
     one-begun e lefts outs =
         rw (lefts, outs)
         (record {
           untaken = left-more (known .untaken) some (omega arith);
           told =
-              leaves-one (known .told) (begun buttons may others) next turn-within
-              (rw (next-taken (known .untaken) some (omega arith), e))
-              other-same;
+              leaves-one (known .told) (counted buttons may (others rest)) (lowest rest) turn-within
+              (counted-own (known .untaken) some (omega arith) may e)
+              (counted-other (known .untaken) some (omega arith) may);
         })
 
-    pub one-kept : may next ≡ false → Walking buttons movements may others left out
+    pub one-kept : may (lowest rest) ≡ false → Walking buttons movements may (others rest) left out
     one-kept e =
         record {
           untaken = left-more (known .untaken) some (omega arith);
           told =
-              leaves-same (known .told) (begun buttons may others)
-              (taken-failing (known .untaken) some (omega arith) may e);
+              leaves-same (known .told) (counted buttons may (others rest))
+              (counted-same (known .untaken) some (omega arith) may e);
         }

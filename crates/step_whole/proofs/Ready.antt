@@ -19,9 +19,9 @@ use Rattle.rules.specs.Interval.{entering, starting, leaving, following, stayin
 use Rattle.rules.specs.Kept.{keptValid}
 use Rattle.rules.specs.Laws.{Sound}
 use Rattle.laws.proofs.Booleans.{decided, and-left}
+use Rattle.rules.proofs.IntervalTests.{idle-only}
 use Rattle.proof_runs.proofs.ValidStates.{ValidState, state-told, target-below}
 use Rattle.step_movements.specs.IdlePast.{IdlePast}
-use Rattle.step_movements.proofs.Idle.{idle-only}
 
 -- a change of interval stays in its phase, or goes to the target where the phase is left
 followed-below :
@@ -29,7 +29,7 @@ followed-below :
     position .phase < n →
     (isLeaving interval ≡ true → phaseHeld (position .target) < n) →
     following interval times next position .phase < n
-unfolding following starting entering leaving isLeaving
+unfolding following starting entering leaving
 followed-below n StartRed times next position on to = on
 followed-below n LateStart times next position on to = on
 followed-below n MinimumGreen times next position on to = on

@@ -1,10 +1,9 @@
 -- Start red and the shares of all phases are the bound, and no sum on the way is more than the bound: so each is at most the greatest wait
 -- that the table of limits admits, a number of two bytes.
-use Prim.Native.Nat.{ℕ, zero, suc, _+_, _≤_, _<_}
+use Prim.Native.Nat.{ℕ, _+_, _≤_, _<_}
 use mathlib.Core.List.{List}
-use mathlib.Core.Logic.{⊎-elim}
 use mathlib.Core.Path.{_≡_, refl, ap, _∙_}
-use native.Mathlib.Nat.{le-trans, eq-or-lt-of-le}
+use native.Mathlib.Nat.{le-trans}
 use native.Mathlib.Omega.{arith}
 use lib.ListN.{getD}
 use Rattle.rules.specs.declared.site.PhaseTimes.{PhaseTimes}
@@ -16,23 +15,7 @@ use Rattle.rules.specs.WaitBound.{phaseShare, longestWalk, longestClearance, wa
 use Rattle.rules.specs.Laws.{SoundTimes}
 use Rattle.rules.proofs.Settings.{walk-told, wait-two-bytes}
 use Rattle.proof_acceptance.proofs.WaitBound.{wait-within}
-
--- ── Sums ──
-
-sum-same : (f g : ℕ → ℕ) (n : ℕ) → ((i : ℕ) → i < n → f i ≡ g i) → sumOf f n ≡ sumOf g n
-unfolding sumOf
-sum-same f g zero h = refl
-sum-same f g (suc n) h = omega (arith, sum-same f g n (λ i l. h i (omega arith)), h n (omega arith))
-
--- a sum goes on to grow
-sum-part : (f : ℕ → ℕ) (i n : ℕ) → i < n → sumOf f i + f i ≤ sumOf f n
-unfolding sumOf
-sum-part f i zero l = omega arith
-sum-part f i (suc n) l =
-    ⊎-elim
-    (λ (e : suc i ≡ suc n). let same : i ≡ n = omega arith in rw same (omega arith))
-    (λ (m : suc i < suc n). omega (arith, sum-part f i n (omega arith)))
-    (eq-or-lt-of-le l)
+use Rattle.laws.proofs.Sums.{sum-same, sum-part}
 
 -- ── The shares ──
 

@@ -1,3 +1,2 @@
 pub mod Packed
-pub mod Greatest
 pub mod Passes

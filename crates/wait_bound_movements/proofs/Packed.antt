@@ -2,25 +2,21 @@
 use Prim.Native.Nat.{ℕ, _+_, _*_, _%_, _^_, _≤_, _<_}
 use mathlib.Core.Bool.{Bool, true, false, _&&_, _||_}
 use mathlib.Core.Logic.{⊎-elim}
-use mathlib.Core.Path.{_≡_, refl, sym, ap, ap₂, _∙_}
-use native.Mathlib.Nat.{mod-lt, mul-mod-left, one-mul}
+use mathlib.Core.Path.{_≡_, sym, ap, ap₂, _∙_}
+use native.Mathlib.Nat.{mod-lt, one-mul}
 use native.Mathlib.Omega.{arith}
-use borrow.Author.Tests.{eqb-true, eqb-false, eq-eqb, ltb-true, ltb-false, lt-ltb}
+use borrow.Author.Tests.{eqb-true, eqb-false, ltb-true, ltb-false, lt-ltb}
 use lib.Bits.{bitOr}
 use lib.Dec.{eqb, ltb}
 use lib.Pow.{pow-pos, shl-exact, shl-shr, shl-lt}
 use Rattle.laws.specs.Bytes.{bit}
 use Rattle.laws.specs.Folds.{anyOf}
-use Rattle.laws.proofs.Bits.{bit-blank, bit-above, bit-lower}
-use Rattle.laws.proofs.Folds.{any-at, any-none}
 use Rattle.laws.proofs.Booleans.{decided}
-use Rattle.laws.proofs.UnionBits.{bit-or}
-use Rattle.laws.proofs.Shifts.{bit-down}
+use Rattle.laws.proofs.Folds.{any-only}
+use Rattle.laws.proofs.Bits.{bit-above, bit-lower, bit-down, vacated-bit}
+use Rattle.laws.proofs.JoinedBits.{bit-or}
 
 -- ── One byte of the eight ──
-
-bit-under : (n i x : ℕ) → i < n → bit i (x * 2 ^ n) ≡ false
-bit-under n i x l = sym (bit-lower n i (x * 2 ^ n) l) ∙ ap (bit i) (mul-mod-left x (2 ^ n)) ∙ bit-blank i
 
 placed : (j k p x : ℕ) → x < 2 ^ 8 → p < 8 → bit (8 * k + p) (x * 2 ^ (8 * j)) ≡ (eqb j k && bit p x)
 placed j k p x fits l =
@@ -36,7 +32,7 @@ placed j k p x fits l =
     (λ (t : ltb j k ≡ false).
     let apart = eqb-false j k e in
     let under = ltb-false j k t in
-    bit-under (8 * j) (8 * k + p) x (omega (arith, apart, under)))
+    vacated-bit x (8 * j) (8 * k + p) (omega (arith, apart, under)))
     (decided (ltb j k))))
     (decided (eqb j k))
 
@@ -44,21 +40,6 @@ shifted : (j k p x : ℕ) → x < 2 ^ 8 → j < 8 → p < 8 → bit (8 * k + p) 
 shifted j k p x fits few l = rw (shl-exact {a = x} 8 (8 * j) 64 fits (omega arith)) (placed j k p x fits l)
 
 -- ── All eight ──
-
--- of the tests at 0 to n - 1 only that at k counts
-only-at : (b : ℕ → Bool) (n k : ℕ) → k < n → anyOf (λ j. eqb j k && b j) n ≡ b k
-only-at b n k l =
-    ⊎-elim
-    (λ (e : b k ≡ true). any-at (λ j. eqb j k && b j) n k l (rw (eq-eqb k k refl, e)) ∙ sym e)
-    (λ (e : b k ≡ false).
-    any-none (λ j. eqb j k && b j) n
-    (λ j m.
-    ⊎-elim
-    (λ (t : eqb j k ≡ true). rw t (ap b (eqb-true j k t) ∙ e))
-    (λ (t : eqb j k ≡ false). rw t)
-    (decided (eqb j k)))
-    ∙ sym e)
-    (decided (b k))
 
 module _ (f : ℕ → ℕ) (fits : (k : ℕ) → f k < 2 ^ 8) where
   abbrev four : ℕ
@@ -85,7 +66,7 @@ module _ (f : ℕ → ℕ) (fits : (k : ℕ) → f k < 2 ^ 8) where
       let whole : f 0 * 1 ≡ f 0 = omega arith in
       ap (bit (8 * k + p)) (sym whole) ∙ placed 0 k p (f 0) (fits 0) l
 
-  pub packed-bit : (k p : ℕ) → k < 8 → p < 8 → bit (8 * k + p) packed ≡ bit p (f k)
+  packed-bit : (k p : ℕ) → k < 8 → p < 8 → bit (8 * k + p) packed ≡ bit p (f k)
   unfolding anyOf
   packed-bit k p few l =
       joined _ _ 7 k p
@@ -96,7 +77,7 @@ module _ (f : ℕ → ℕ) (fits : (k : ℕ) → f k < 2 ^ 8) where
       (joined _ _ 2 k p
       (joined _ _ 1 k p (first k p l) (omega arith) l) (omega arith) l) (omega arith) l) (omega arith) l) (omega arith) l) (omega arith) l)
       (omega arith) l
-      ∙ only-at (λ j. bit p (f j)) 8 k few
+      ∙ any-only (λ j. bit p (f j)) 8 k few
 
   -- the bytes below n
   pub packed-below :

@@ -1,15 +1,12 @@
 -- The pass over the sets of all movements, which are the bits of one number: what counts for A and C of a phase are the movements whose
 -- bits are no longer in the rest.
 use Prim.Native.Nat.{ℕ, _+_, _-_, _*_, _/_, _%_, _^_, _≤_, _<_, max}
-use mathlib.Core.Bool.{Bool, true, false, not, _&&_, and-true}
+use mathlib.Core.Bool.{Bool, true, false, _&&_}
 use mathlib.Core.List.{List}
 use mathlib.Core.Logic.{⊎-elim}
 use mathlib.Core.Path.{_≡_, refl, sym, ap, _∙_}
-use native.Mathlib.Nat.{lt-of-le-of-lt}
 use native.Mathlib.Omega.{arith}
 use borrow.Author.Tests.{eqb-true, eqb-false, ltb-true, lt-ltb, le-ltb}
-use lib.Bits.{bitAnd, and-le-r}
-use lib.Count.{trailingZeros}
 use lib.Dec.{eqb, ltb}
 use lib.ListN.{length, getD, set, replicate, length-set, getD-replicate}
 use lib.Seq.{getD-set-same, getD-set-other}
@@ -18,58 +15,46 @@ use Rattle.laws.specs.Bytes.{bit}
 use Rattle.laws.specs.Folds.{if_then_else_, greatestOf}
 use Rattle.rules.specs.Site.{noWalkTimes, crosses}
 use Rattle.rules.specs.WaitBound.{longestWalk, longestClearance}
-use Rattle.laws.proofs.Bits.{bit-blank, bit-below}
 use Rattle.laws.proofs.Booleans.{decided, and-left}
-use Rattle.wait_bound_movements.proofs.Greatest.{greatest-same, greatest-none, greatest-with, greatest-past}
-use Rattle.laws.proofs.LowestBit.{lowest-in, others-in, lowest-gone, others-same}
+use Rattle.laws.proofs.Sums.{greatest-same, greatest-none, greatest-with, greatest-past}
+use Rattle.laws.proofs.LowestBit.{lowest, others, taken, Left, left-all, taken-none, taken-all, next-left, next-within, left-more, next-untaken, next-taken, taken-other}
 
 -- ── What counts for a phase ──
 
 -- of a row, by movement: the entries of the phase's movements that are passed
 abbrev counts : (all rest p : ℕ) → (ℕ → ℕ) → ℕ → ℕ
-counts all rest p row k = if bit (8 * k + p) all && not (bit (8 * k + p) rest) then row k else 0
-
-none-of : (b : Bool) (v : ℕ) → (if b && not b then v else 0) ≡ 0
-none-of true v = refl
-none-of false v = refl
+counts all rest p row k = if taken all rest (8 * k + p) then row k else 0
 
 counts-none : (all p : ℕ) (row : ℕ → ℕ) → 0 ≡ greatestOf (counts all all p row) 8
-counts-none all p row = sym (greatest-none (counts all all p row) 8 (λ k l. none-of (bit (8 * k + p) all) (row k)))
+counts-none all p row = sym (greatest-none (counts all all p row) 8 (λ k l. rw (taken-none all (8 * k + p))))
 
 -- the lowest bit of the rest
-module _ (all rest : ℕ) (some : 0 < rest) (room : rest < 2 ^ 64) (left : (i : ℕ) → bit i rest ≡ true → bit i all ≡ true) where
-  abbrev next : ℕ
-  next = trailingZeros 64 rest
-
-  abbrev rest′ : ℕ
-  rest′ = bitAnd rest (rest - 1)
-
-  pub next-within : next < 64
-  next-within = bit-below rest 64 next room (lowest-in rest some room)
-
-  next-parts : 8 * (next / 8) + next % 8 ≡ next
+module _ (all rest : ℕ) (known : Left all 64 rest) (some : 0 < rest) where
+  next-parts : 8 * (lowest rest / 8) + lowest rest % 8 ≡ lowest rest
   next-parts = omega arith
 
   -- the row of its phase has its movement as well
   counts-own :
       (row : ℕ → ℕ) →
-      max (greatestOf (counts all rest (next % 8) row) 8) (row (next / 8)) ≡ greatestOf (counts all rest′ (next % 8) row) 8
+      max (greatestOf (counts all rest (lowest rest % 8) row) 8) (row (lowest rest / 8))
+      ≡ greatestOf (counts all (others rest) (lowest rest % 8) row) 8
   counts-own row =
-      greatest-with (counts all rest (next % 8) row) (counts all rest′ (next % 8) row) 8 (next / 8) (row (next / 8))
-      (omega (arith, next-within))
-      (rw (next-parts, lowest-in rest some room, left next (lowest-in rest some room)))
-      (rw (next-parts, lowest-gone rest some room, left next (lowest-in rest some room)))
-      (λ k apart. rw (others-same rest some room (8 * k + next % 8) (λ e. apart (omega (arith, e)))))
+      greatest-with (counts all rest (lowest rest % 8) row) (counts all (others rest) (lowest rest % 8) row) 8 (lowest rest / 8)
+      (row (lowest rest / 8))
+      (omega (arith, next-within known some (omega arith)))
+      (rw (next-parts, next-untaken known some (omega arith)))
+      (rw (next-parts, next-taken known some (omega arith)))
+      (λ k apart. rw (taken-other known some (omega arith) (8 * k + lowest rest % 8) (λ e. apart (omega (arith, e)))))
 
   -- the row of any other is the same
   counts-other :
       (p : ℕ) (row : ℕ → ℕ) →
       p < 8 →
-      (p ≡ next % 8 → ⊥) →
-      greatestOf (counts all rest p row) 8 ≡ greatestOf (counts all rest′ p row) 8
+      (p ≡ lowest rest % 8 → ⊥) →
+      greatestOf (counts all rest p row) 8 ≡ greatestOf (counts all (others rest) p row) 8
   counts-other p row l apart =
-      greatest-same (counts all rest p row) (counts all rest′ p row) 8
-      (λ k m. rw (others-same rest some room (8 * k + p) (λ e. apart (omega (arith, e)))))
+      greatest-same (counts all rest p row) (counts all (others rest) p row) 8
+      (λ k m. rw (taken-other known some (omega arith) (8 * k + p) (λ e. apart (omega (arith, e)))))
 
 counts-all :
     (all n p : ℕ) (b : ℕ → Bool) (row : ℕ → ℕ) →
@@ -79,7 +64,7 @@ counts-all :
 counts-all all n p b row few told =
     let cut : ℕ → ℕ = λ k. if ltb k n && b k then row k else 0 in
     let reach : 8 - n + n ≡ 8 = omega arith in
-    greatest-same (counts all 0 p row) cut 8 (λ k l. rw (bit-blank (8 * k + p), and-true (bit (8 * k + p) all), told k l))
+    greatest-same (counts all 0 p row) cut 8 (λ k l. rw (taken-all all (8 * k + p) refl, told k l))
     ∙ ap (greatestOf cut) (sym reach)
     ∙ greatest-past cut n (8 - n) (λ k l. rw (le-ltb k n l))
     ∙ greatest-same cut (λ k. if b k then row k else 0) n (λ k l. rw (lt-ltb k n l))
@@ -95,26 +80,26 @@ module _ (place : ℕ → ℕ) (row : ℕ → ℕ) (all : ℕ) where
   row-none inside p l = getD-replicate 16 (place p) 0 0 (inside p l) ∙ counts-none all p row
 
   -- the entry of one phase is raised, those of the others stay
-  module _ (rest : ℕ) (some : 0 < rest) (room : rest < 2 ^ 64) (left : (i : ℕ) → bit i rest ≡ true → bit i all ≡ true) where
+  module _ (rest : ℕ) (known : Left all 64 rest) (some : 0 < rest) where
     abbrev raised : ℕ
-    raised = trailingZeros 64 rest % 8
+    raised = lowest rest % 8
 
     row-more :
         (out out′ : List ℕ) →
         Row place row all rest out →
-        getD out′ (place raised) 0 ≡ max (getD out (place raised) 0) (row (trailingZeros 64 rest / 8)) →
+        getD out′ (place raised) 0 ≡ max (getD out (place raised) 0) (row (lowest rest / 8)) →
         ((p : ℕ) → p < 8 → (p ≡ raised → ⊥) → getD out′ (place p) 0 ≡ getD out (place p) 0) →
-        Row place row all (bitAnd rest (rest - 1)) out′
+        Row place row all (others rest) out′
     row-more out out′ before new kept p l =
         ⊎-elim
         (λ (t : eqb p raised ≡ true).
         rw (eqb-true p raised t)
         (new
-        ∙ ap (λ (n : ℕ). max n (row (trailingZeros 64 rest / 8))) (before raised (omega arith))
-        ∙ counts-own all rest some room left row))
+        ∙ ap (λ (n : ℕ). max n (row (lowest rest / 8))) (before raised (omega arith))
+        ∙ counts-own all rest known some row))
         (λ (t : eqb p raised ≡ false).
         let apart = eqb-false p raised t in
-        kept p l apart ∙ before p l ∙ counts-other all rest some room left p row l apart)
+        kept p l apart ∙ before p l ∙ counts-other all rest known some p row l apart)
         (decided (eqb p raised))
 
 -- ── A and C ──
@@ -128,8 +113,7 @@ module _ (walks : List WalkTimes) where
 
   -- the rest are bits of the whole, and A and C of each phase are those of the movements that are passed
   pub record Passed (all rest : ℕ) (out : List ℕ) : Type 0 where
-    pub within : rest < 2 ^ 64
-    pub left : (i : ℕ) → bit i rest ≡ true → bit i all ≡ true
+    pub left : Left all 64 rest
     pub room : length out ≡ 16
     pub walk : Row (λ p. p) walkOf all rest out
     pub clearance : Row (λ p. 8 + p) clearanceOf all rest out
@@ -137,8 +121,7 @@ module _ (walks : List WalkTimes) where
   pub passed-none : (all : ℕ) → all < 2 ^ 64 → Passed all all (replicate 16 0)
   passed-none all within =
       record {
-        within = within;
-        left = λ i e. e;
+        left = left-all all 64 within;
         room = refl;
         walk = row-none (λ p. p) walkOf all (λ p l. omega arith);
         clearance = row-none (λ p. 8 + p) clearanceOf all (λ p l. omega arith);
@@ -146,35 +129,32 @@ module _ (walks : List WalkTimes) where
 
   module _ {all rest : ℕ} {out : List ℕ} (passed : Passed all rest out) (some : 0 < rest) where
     abbrev k : ℕ
-    k = trailingZeros 64 rest / 8
+    k = lowest rest / 8
 
     abbrev p : ℕ
-    p = trailingZeros 64 rest % 8
+    p = lowest rest % 8
 
-    pub at-within : trailingZeros 64 rest < 64
-    at-within = next-within all rest some (passed .within) (passed .left)
+    pub at-within : lowest rest < 64
+    at-within = next-within (passed .left) some (omega arith)
 
     pub passed-more :
         {a c : ℕ} →
         a ≡ max (getD out p 0) (walkOf k) →
         c ≡ max (getD out (8 + p) 0) (clearanceOf k) →
-        Passed all (bitAnd rest (rest - 1)) (set (set out p a) (8 + p) c)
+        Passed all (others rest) (set (set out p a) (8 + p) c)
     passed-more {a} {c} walk clearance =
         let first = set out p a in
         let both = set first (8 + p) c in
         let long : length first ≡ 16 = length-set out p a ∙ passed .room in
         record {
-          within = lt-of-le-of-lt (and-le-r rest (rest - 1)) (omega (arith, passed .within));
-          left =
-              λ i e.
-              passed .left i (and-left (bit i rest) (not (eqb i (trailingZeros 64 rest))) (sym (others-in rest some (passed .within) i) ∙ e));
+          left = left-more (passed .left) some (omega arith);
           room = length-set first (8 + p) c ∙ long;
           walk =
-              row-more (λ q. q) walkOf all rest some (passed .within) (passed .left) out both (passed .walk)
+              row-more (λ q. q) walkOf all rest (passed .left) some out both (passed .walk)
               (getD-set-other first (8 + p) p c 0 (λ e. omega (arith, e)) ∙ getD-set-same out p a 0 (omega (arith, passed .room)) ∙ walk)
               (λ q l apart. getD-set-other first (8 + p) q c 0 (λ e. omega (arith, e)) ∙ getD-set-other out p q a 0 apart);
           clearance =
-              row-more (λ q. 8 + q) clearanceOf all rest some (passed .within) (passed .left) out both (passed .clearance)
+              row-more (λ q. 8 + q) clearanceOf all rest (passed .left) some out both (passed .clearance)
               (getD-set-same first (8 + p) c 0 (omega (arith, long)) ∙ clearance)
               (λ q l apart.
               getD-set-other first (8 + p) (8 + q) c 0 (λ e. apart (omega (arith, e)))
@@ -191,11 +171,11 @@ module _ (walks : List WalkTimes) where
       (told : (k p : ℕ) → k < 8 → p < 8 → bit (8 * k + p) all ≡ (ltb k n && bit p (getD crossings k 0)))
     where
       -- the movement of the lowest bit of the rest is one of them
-      pub movement-below : 0 < rest → trailingZeros 64 rest / 8 < n
+      pub movement-below : 0 < rest → lowest rest / 8 < n
       movement-below some =
-          let at = trailingZeros 64 rest in
+          let at = lowest rest in
           let parts : 8 * (at / 8) + at % 8 ≡ at = omega arith in
-          let set = passed .left at (lowest-in rest some (passed .within)) in
+          let set = next-left (passed .left) some (omega arith) in
           let inside = at-within passed some in
           ltb-true (at / 8) n
           (and-left (ltb (at / 8) n) (bit (at % 8) (getD crossings (at / 8) 0))

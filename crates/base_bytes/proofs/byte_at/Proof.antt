@@ -2,7 +2,7 @@
 use borrow.Author.Needs.{needs}
 use mathlib.Core.Path.{refl, sym}
 use Rattle.laws.specs.Bytes.{byteAt}
-use Rattle.laws.proofs.PastEnd.{byte-past}
+use Rattle.laws.proofs.Bytes.{byte-past}
 use Rattle.base_bytes.proofs.byte_at.Statement.{statement}
 use Rattle.base_bytes.proofs.byte_at.Tie as tie
 

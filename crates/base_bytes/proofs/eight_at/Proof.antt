@@ -2,7 +2,7 @@
 use borrow.Author.Needs.{needs}
 use mathlib.Core.Path.{sym}
 use Rattle.laws.specs.Bytes.{eightAt}
-use Rattle.laws.proofs.PastEnd.{eight-past}
+use Rattle.laws.proofs.Bytes.{eight-past}
 use Rattle.base_bytes.proofs.eight_at.Statement.{statement}
 use Rattle.base_bytes.proofs.eight_at.Tie as tie
 

@@ -1,8 +1,8 @@
 -- `base_bytes::four_at` meets its contract: inside the slice its pairs of bytes put together, past its end 0.
 use borrow.Author.Needs.{needs}
-use mathlib.Core.Path.{sym, ap, _∙_}
-use Rattle.laws.specs.Bytes.{byteAt, twoAt, fourAt}
-use Rattle.laws.proofs.PastEnd.{four-past}
+use mathlib.Core.Path.{sym}
+use Rattle.laws.specs.Bytes.{fourAt}
+use Rattle.laws.proofs.Bytes.{four-past}
 use Rattle.base_bytes.proofs.four_at.Statement.{statement}
 use Rattle.base_bytes.proofs.four_at.Tie as tie
 

@@ -1,5 +1,5 @@
 -- `base_bytes::overlap` meets its contract: the conjunction of two bytes is 0 exactly where they have no bit in common.
-use Rattle.laws.proofs.CommonBits.{in-common}
+use Rattle.laws.proofs.JoinedBits.{in-common}
 use Rattle.base_bytes.proofs.overlap.Statement.{statement}
 use Rattle.base_bytes.proofs.overlap.Tie as tie
 

@@ -1,8 +1,8 @@
 -- `base_bytes::two_at` meets its contract: inside the slice its bytes put together, past its end 0.
 use borrow.Author.Needs.{needs}
-use mathlib.Core.Path.{sym, ap, _∙_}
-use Rattle.laws.specs.Bytes.{byteAt, twoAt, fourAt}
-use Rattle.laws.proofs.PastEnd.{two-past}
+use mathlib.Core.Path.{sym}
+use Rattle.laws.specs.Bytes.{byteAt, twoAt}
+use Rattle.laws.proofs.Bytes.{two-past}
 use Rattle.base_bytes.proofs.two_at.Statement.{statement}
 use Rattle.base_bytes.proofs.two_at.Tie as tie
 

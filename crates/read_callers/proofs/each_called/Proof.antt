@@ -8,10 +8,11 @@ use lib.Dec.{ltb, eqb}
 use borrow.Author.Needs.{needs}
 use borrow.Author.Tests.{ltb-true, ltb-false}
 use Rattle.rules.specs.Personality.{bodyAt, phaseCount, pedestriansHead, detectorCount, detectorPhase, detectorMode}
-use Rattle.laws.proofs.Booleans.{and-right}
-use Rattle.proof_acceptance.proofs.Sections.{DetectorsAccepted, joined-failed, record-within, site-accepted, detectors-accepted}
+use Rattle.laws.proofs.Booleans.{and-right, and-false-rest}
+use Rattle.laws.proofs.BitRanges.{shifted-some}
+use Rattle.proof_acceptance.proofs.Sections.{DetectorsAccepted, record-within, site-accepted, detectors-accepted}
 use Rattle.read_layout.proofs.Lengths.{detectors-apart, detectors-length}
-use Rattle.read_callers.proofs.Called.{Called, some-bit, called-none, called-more, called-same, called-decided}
+use Rattle.read_callers.proofs.Called.{Called, called-none, called-more, called-same, called-decided}
 use Rattle.read_callers.proofs.each_called.Statement.{statement}
 use Rattle.read_callers.proofs.each_called.Tie as tie
 
@@ -43,7 +44,7 @@ shl-all : tie.Need-shl-all Inv-loop μ-loop
 shl-all c = let start = c .before .before .before in omega (arith, few start, start .pre .0 .phasecount)
 
 sub-all : tie.Need-sub-all Inv-loop μ-loop
-sub-all c = let start = c .before .before .before in some-bit _ (omega (arith, few start, start .pre .0 .phasecount))
+sub-all c = let start = c .before .before .before in shifted-some 8 _ (omega (arith, few start, start .pre .0 .phasecount))
 
 loop-holds : tie.Need-loop-holds Inv-loop μ-loop
 loop-holds c = (omega arith, called-none _ (c .before .before .before .pre .3))
@@ -127,7 +128,7 @@ whole c e =
     let start = atLoop .before .before .before .before in
     let layout = start .args .layout in
     let count = (layout .pedestrians - layout .detectors - 4) / 2 in
-    let past = ltb-false (atLoop .loop .d) count (joined-failed (ltb (atLoop .loop .d) count) (c .loop-test .left) (ap not e)) in
+    let past = ltb-false (atLoop .loop .d) count (and-false-rest (ltb (atLoop .loop .d) count) (c .loop-test .left) (ap not e)) in
     omega (arith, past, atLoop .loop .inv .0, counted start)
 
 returns : tie.Need-returns Inv-loop μ-loop

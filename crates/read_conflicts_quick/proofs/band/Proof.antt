@@ -4,9 +4,10 @@ use mathlib.Core.Path.{refl}
 use lib.ListN.{getD}
 use borrow.Author.Tests.{not-false}
 use Rattle.laws.proofs.Booleans.{never-both}
+use Rattle.laws.proofs.Indices.{upto-more}
 use Rattle.read_conflicts_matrix.specs.Matrix.{SetRows}
 use Rattle.read_conflicts_quick.specs.Quick.{BlockRight}
-use Rattle.read_conflicts_quick.proofs.Pairs.{member-rows, upto-more, band-first, band-whole}
+use Rattle.read_conflicts_quick.proofs.Pairs.{member-rows, band-first, band-whole}
 use borrow.Author.Needs.{needs}
 use native.Mathlib.Omega.{arith}
 use Rattle.read_conflicts_quick.proofs.band.Statement.{statement}

@@ -5,8 +5,9 @@ use mathlib.Core.Path.{refl}
 use native.Mathlib.Nat.{not-suc-le-zero}
 use borrow.Author.Tests.{not-false}
 use Rattle.laws.proofs.Booleans.{never-both}
+use Rattle.laws.proofs.Indices.{upto-more}
 use Rattle.read_conflicts_quick.specs.Quick.{BandRight}
-use Rattle.read_conflicts_quick.proofs.Pairs.{upto-more, all-sound}
+use Rattle.read_conflicts_quick.proofs.Pairs.{all-sound}
 use borrow.Author.Needs.{needs}
 use native.Mathlib.Omega.{arith}
 use Rattle.read_conflicts_quick.proofs.bands.Statement.{statement}

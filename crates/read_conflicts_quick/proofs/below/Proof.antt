@@ -9,7 +9,8 @@ use lib.Dec.{leb}
 use borrow.Author.Needs.{needs}
 use Rattle.rules.specs.Personality.{bodyAt, recordAt, groupCount, conflictSet}
 use Rattle.laws.specs.Folds.{anyOf}
-use Rattle.read_groups.proofs.Bits.{reaches-nothing, union-reaches}
+use Rattle.laws.proofs.BitRanges.{reaches-nothing}
+use Rattle.laws.proofs.JoinedBits.{union-reaches}
 use Rattle.read_conflicts_quick.proofs.below.Statement.{statement}
 use Rattle.read_conflicts_quick.proofs.below.Tie as tie
 

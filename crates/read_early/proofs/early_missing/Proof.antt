@@ -9,8 +9,8 @@ use borrow.Author.Needs.{needs}
 use borrow.Author.Tests.{eq-eqb, ne-eqb, not-true}
 use Rattle.rules.specs.Personality.{bodyAt, recordAt, groupMark, stopsEarly}
 use Rattle.laws.specs.Folds.{anyOf}
-use Rattle.laws.proofs.Folds.{any-more, any-done}
 use Rattle.laws.proofs.Booleans.{or-cases, or-false-left}
+use Rattle.laws.proofs.Folds.{any-more, any-done}
 use Rattle.read_early.proofs.GroupMarks.{group-held, mark-read}
 use Rattle.read_early.proofs.Seventh.{none-stops, none-missing, one-stops}
 use Rattle.read_early.proofs.early_missing.Statement.{statement}

@@ -4,7 +4,7 @@ use mathlib.Core.List.{[], _∷_}
 use mathlib.Core.Path.{sym}
 use lib.ListN.{List·getD-eq-default}
 use Rattle.rules.specs.TraceText.{colourLetter}
-use Rattle.run_text.proofs.Texts.{in-table}
+use Rattle.laws.proofs.Lists.{entry-same}
 use Rattle.run_text.proofs.colour_letter.Statement.{statement}
 use Rattle.run_text.proofs.colour_letter.Tie as tie
 
@@ -13,7 +13,7 @@ array-read-result c = search needs
 
 returns : tie.Need-returns
 unfolding colourLetter
-returns c = in-table (82 ∷ 89 ∷ 71 ∷ 70 ∷ []) (c .before .args .code) 0 82 (c .if1 .taken)
+returns c = entry-same (82 ∷ 89 ∷ 71 ∷ 70 ∷ []) (c .before .args .code) 0 82 (c .if1 .taken)
 
 returns-2 : tie.Need-returns-2
 unfolding colourLetter

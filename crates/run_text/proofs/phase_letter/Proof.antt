@@ -4,7 +4,7 @@ use mathlib.Core.List.{[], _∷_}
 use mathlib.Core.Path.{sym}
 use lib.ListN.{List·getD-eq-default}
 use Rattle.rules.specs.TraceText.{phaseLetter}
-use Rattle.run_text.proofs.Texts.{in-table}
+use Rattle.laws.proofs.Lists.{entry-same}
 use Rattle.run_text.proofs.phase_letter.Statement.{statement}
 use Rattle.run_text.proofs.phase_letter.Tie as tie
 
@@ -13,7 +13,7 @@ array-read-result c = search needs
 
 returns : tie.Need-returns
 unfolding phaseLetter
-returns c = in-table (65 ∷ 66 ∷ 67 ∷ 68 ∷ 69 ∷ 70 ∷ 71 ∷ []) (c .before .args .phase) 0 63 (c .if1 .taken)
+returns c = entry-same (65 ∷ 66 ∷ 67 ∷ 68 ∷ 69 ∷ 70 ∷ 71 ∷ []) (c .before .args .phase) 0 63 (c .if1 .taken)
 
 returns-2 : tie.Need-returns-2
 unfolding phaseLetter

@@ -8,7 +8,8 @@ use native.Mathlib.Numerals.{add-one}
 use lib.Ieee.{ofBits}
 use borrow.Author.Tests.{not-true, not-false}
 use Rattle.sheet_settings.specs.Sheet.{covered}
-use Rattle.sheet_settings.proofs.Extremes.{fails-more, fails-to, smallest-only}
+use Rattle.sheet_settings.proofs.Extremes.{smallest-only}
+use Rattle.laws.proofs.Indices.{fails-to, below-more}
 use Rattle.sheet_settings.proofs.Metres.{as-fraction}
 use Rattle.sheet_settings.proofs.Stated.{bounded, covered-tested, covered-last, passage-smallest}
 use Rattle.sheet_settings.proofs.passage_over.Statement.{statement}
@@ -44,7 +45,7 @@ loop-again c =
     let loop = c .before .before .loop in
     let t = loop .t in
     let fails = sym (covered-tested speed x t (start .pre .0) (loop .inv .1)) ∙ not-true _ (c .if1 .taken) in
-    let before = fails-more (covered speed x) t (loop .inv .0) fails in
+    let before = below-more (λ k. covered speed x k ≡ false) t (loop .inv .0) fails in
     rw add-one (before, fails-to (covered speed x) before (covered-last speed (as-fraction x (start .pre .1)) (start .pre .0)))
 
 cast-result : tie.Need-cast-result Inv-loop μ-loop

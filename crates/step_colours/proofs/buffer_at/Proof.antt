@@ -12,7 +12,7 @@ use Rattle.rules.specs.declared.state.Stage.the-variants.{Idle}
 use Rattle.rules.specs.Site.{groupOf, isPedestrian, movementOf}
 use Rattle.rules.specs.State.{idle}
 use Rattle.rules.specs.Colours.{colourOf, PassedTo}
-use Rattle.laws.proofs.Folds.{count-most}
+use Rattle.laws.proofs.Counting.{count-most}
 use Rattle.rules.proofs.Pass.{passed-length}
 use Rattle.step_colours.proofs.Shown.{none-passed, pedestrian-mark, pedestrian-has}
 use Rattle.step_colours.proofs.buffer_at.Statement.{statement}

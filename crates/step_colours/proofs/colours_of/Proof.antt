@@ -6,7 +6,7 @@ use lib.ListN.{length, drop}
 use borrow.Author.Needs.{needs}
 use Rattle.rules.specs.Colours.{shownIn, coloursOf, bufferAt}
 use Rattle.rules.specs.Call.{bufferFor}
-use Rattle.laws.proofs.Arrays.{list-same}
+use Rattle.laws.proofs.Lists.{list-same}
 use Rattle.step_colours.proofs.Sizes.{showable}
 use Rattle.step_colours.proofs.Unclosed.{closing-there}
 use Rattle.step_colours.proofs.colours_of.Statement.{statement}

@@ -2,7 +2,7 @@
 use mathlib.Core.Path.{refl, sym, _∙_}
 use borrow.Author.Needs.{needs}
 use Rattle.rules.specs.Colours.{red, vehicleColour, vehicleShown}
-use Rattle.step_colours.proofs.Choices.{chosen, passed-by}
+use Rattle.laws.proofs.Booleans.{chosen, passed-by}
 use Rattle.step_colours.proofs.vehicle_shown.Statement.{statement}
 use Rattle.step_colours.proofs.vehicle_shown.Tie as tie
 

@@ -6,8 +6,8 @@ use Prim.Native.Nat.{_+_, _*_, _<_}
 use lib.Count.{trailingZeros}
 use Rattle.rules.specs.declared.site.Detector.{Detector}
 use Rattle.rules.specs.Site.{detectorOf}
+use Rattle.laws.proofs.BitRanges.{shifted-some}
 use Rattle.laws.proofs.LowestBit.{left-less}
-use Rattle.laws.proofs.FirstBits.{shifted-some}
 use Rattle.step_demands_detectors.proofs.Cells.{Entered, none-entered, turn-within, one-entered, all-entered}
 use Rattle.step_demands_detectors.proofs.table.Statement.{statement}
 use Rattle.step_demands_detectors.proofs.table.Tie as tie
@@ -22,7 +22,7 @@ shl-rest : tie.Need-shl-rest Inv-loop μ-loop
 shl-rest c = search needs
 
 rem-rest : tie.Need-rem-rest Inv-loop μ-loop
-rem-rest c = shifted-some (c .args .count) (omega (arith, c .pre .room))
+rem-rest c = shifted-some 64 (c .args .count) (omega (arith, c .pre .room))
 
 loop-holds : tie.Need-loop-holds Inv-loop μ-loop
 loop-holds c = none-entered (c .args .t1) (c .args .count) (c .args .inputs) (c .pre)

@@ -2,8 +2,7 @@
 use borrow.Author.Needs.{needs}
 use Prim.Native.Nat.{_*_, _/_, _^_}
 use mathlib.Core.Path.{_∙_}
-use Rattle.laws.proofs.Bits.{bit-lower}
-use Rattle.laws.proofs.Shifts.{bit-down}
+use Rattle.laws.proofs.Bits.{bit-lower, bit-down}
 use Rattle.step_demands_detectors.proofs.with_mode.Statement.{statement}
 use Rattle.step_demands_detectors.proofs.with_mode.Tie as tie
 

@@ -14,8 +14,10 @@ use Rattle.rules.specs.Site.{noWalkTimes, walkTimes}
 use Rattle.rules.specs.IntervalTable.{isIdle}
 use Rattle.rules.specs.State.{idle}
 use Rattle.rules.specs.Movements.{advanced, movementsAfter}
-use Rattle.laws.proofs.Arrays.{Filled, fill-none, fill-boundary, fill-set, fill-skip, fill-kept, entry-same, list-told}
-use Rattle.step_movements.proofs.Idle.{idle-only, after, idle-stays, past-stays}
+use Rattle.laws.proofs.Lists.{entry-same, list-told}
+use Rattle.laws.proofs.Arrays.{Filled, fill-none, fill-boundary, fill-set, fill-skip, fill-kept}
+use Rattle.rules.proofs.IntervalTests.{idle-only}
+use Rattle.step_movements.proofs.Idle.{after, idle-stays, past-stays}
 use Rattle.step_movements.proofs.movements_after.Statement.{statement}
 use Rattle.step_movements.proofs.movements_after.Tie as tie
 

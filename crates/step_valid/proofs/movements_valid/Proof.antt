@@ -14,9 +14,8 @@ use Rattle.rules.specs.declared.state.Stage.the-variants.{Idle}
 use Rattle.laws.specs.Bytes.{bit}
 use Rattle.rules.specs.Site.{crosses}
 use Rattle.rules.specs.State.{idle, movementIn, movementValid, movementsValid}
-use Rattle.laws.proofs.Arrays.{entry-same}
-use Rattle.laws.proofs.Passing.{Tested, tested-none, tested-more, tested-all}
-use Rattle.step_valid.proofs.Records.{one-fails}
+use Rattle.laws.proofs.Folds.{Tested, tested-none, tested-more, tested-all, all-fails}
+use Rattle.laws.proofs.Lists.{entry-same}
 use Rattle.step_valid.proofs.movements_valid.Statement.{statement}
 use Rattle.step_valid.proofs.movements_valid.Tie as tie
 
@@ -74,7 +73,7 @@ unfolding movementsValid
 returns c =
     let head = c .before .before .before .before .before in
     let a = head .before .args in
-    one-fails (passes (a .count) (a .t2) (a .position) (a .t4)) 8 (head .loop .k) (omega arith)
+    all-fails (passes (a .count) (a .t2) (a .position) (a .t4)) 8 (head .loop .k) (omega arith)
     (sym (own-valid (c .before)) ∙ not-true (c .before .movement-valid .result) (c .if1 .taken))
 
 add-k : tie.Need-add-k Inv-loop μ-loop

@@ -1,6 +1,6 @@
 -- `base_bytes::sets::all_below` meets its contract: no bit is left from the count on.
 use borrow.Author.Needs.{needs}
-use Rattle.laws.proofs.Members.{below-told}
+use Rattle.laws.proofs.ByteSets.{below-told}
 use Rattle.base_bytes.proofs.sets.all_below.Statement.{statement}
 use Rattle.base_bytes.proofs.sets.all_below.Tie as tie
 

@@ -1,6 +1,6 @@
 -- `base_bytes::sets::except` meets its contract: the byte of all bits that the other set has not leaves the rest.
 use borrow.Author.Needs.{needs}
-use Rattle.laws.proofs.Members.{except-told}
+use Rattle.laws.proofs.ByteSets.{except-told}
 use Rattle.base_bytes.proofs.sets.except.Statement.{statement}
 use Rattle.base_bytes.proofs.sets.except.Tie as tie
 

@@ -1,6 +1,6 @@
 -- `base_bytes::sets::with` meets its contract: the bit of the member is set and the others stay.
 use borrow.Author.Needs.{needs}
-use Rattle.laws.proofs.Members.{with-told}
+use Rattle.laws.proofs.ByteSets.{with-told}
 use Rattle.base_bytes.proofs.sets.with.Statement.{statement}
 use Rattle.base_bytes.proofs.sets.with.Tie as tie
 

@@ -1,6 +1,6 @@
 -- `base_bytes::sets::without` meets its contract: the byte of all bits but that of the member leaves the others.
 use borrow.Author.Needs.{needs}
-use Rattle.laws.proofs.Members.{without-told}
+use Rattle.laws.proofs.ByteSets.{without-told}
 use Rattle.base_bytes.proofs.sets.without.Statement.{statement}
 use Rattle.base_bytes.proofs.sets.without.Tie as tie
 

@@ -6,9 +6,9 @@ use mathlib.Core.Path.{_≡_, refl, sym, _∙_}
 use Rattle.laws.specs.Bytes.{bit}
 use Rattle.rules.specs.Personality.{conflictSet}
 use Rattle.laws.specs.Folds.{anyOf}
-use Rattle.laws.proofs.Folds.{any-at, any-more, any-done}
 use Rattle.laws.proofs.Booleans.{and-both, and-false-left, and-false-right}
 use Rattle.read_conflicts.specs.Refused.{refusedPair, refusedConflict}
+use Rattle.laws.proofs.Folds.{any-at, any-more, any-done}
 use borrow.Author.Needs.{needs}
 use native.Mathlib.Omega.{arith}
 use Rattle.read_conflicts.proofs.records.refused_conflict.Statement.{statement}

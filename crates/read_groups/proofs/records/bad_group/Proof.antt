@@ -4,8 +4,9 @@ use Prim.Native.Nat.{_^_, _<_}
 use native.Mathlib.Omega.{arith}
 use borrow.Author.Tests.{le-leb, lt-leb, ne-eqb}
 use Rattle.rules.specs.Personality.{badGroup}
-use Rattle.read_groups.proofs.Bits.{or-nothing}
-use Rattle.read_groups.proofs.PhaseSets.{ones-counted}
+use mathlib.Core.Bool.{or-false}
+use mathlib.Core.Path.{sym}
+use Rattle.laws.proofs.BitRanges.{ones-counted}
 use Rattle.read_groups.proofs.records.bad_group.Statement.{statement}
 use Rattle.read_groups.proofs.records.bad_group.Tie as tie
 
@@ -27,7 +28,7 @@ unfolding badGroup
 returns-3 c =
     let start = c .before .before in
     let small : start .args .set < 2 ^ start .args .phases = omega (arith, start .pre) in
-    rw (lt-leb (2 ^ start .args .phases) (start .args .set) small, ne-eqb _ _ (c .if2 .left)) (or-nothing _)
+    rw (lt-leb (2 ^ start .args .phases) (start .args .set) small, ne-eqb _ _ (c .if2 .left)) (sym (or-false _))
 
 pub bad-group-spec : {M : Type 1} → statement M
 bad-group-spec = tie.close (tie.spec returns returns-2 returns-3)

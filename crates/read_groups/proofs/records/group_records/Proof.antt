@@ -14,9 +14,8 @@ use Rattle.laws.specs.Folds.{anyOf, countOf}
 use Rattle.rules.specs.Verdicts.{_orElse_, refuseIf, firstOf}
 use Rattle.rules.specs.declared.answer.Verdict.{Verdict}
 use Rattle.rules.specs.declared.answer.Verdict.the-variants.{Accepted, Refused}
-use Rattle.laws.proofs.Counting.{count-one-more, count-as-before}
-use Rattle.laws.proofs.Folds.{count-most}
 use Rattle.laws.proofs.Booleans.{and-both, and-false-left, and-false-right}
+use Rattle.laws.proofs.Counting.{count-one-more, count-as-before, count-most}
 use Rattle.rules.proofs.Verdicts.{refuse-yes, refuse-no, or-next, or-stop, first-more, first-stop, first-done}
 use Rattle.proof_acceptance.proofs.Sections.{record-within}
 use Rattle.read_groups.specs.GroupsRead.{CrossedPhases}

@@ -1,7 +1,7 @@
 -- `sets::reaches32` meets its contract: below the width the shifted number is not 0, past it no bit is set.
 use mathlib.Core.Path.{sym}
 use borrow.Author.Needs.{needs}
-use Rattle.read_groups.proofs.Bits.{reaches, reaches-none}
+use Rattle.laws.proofs.BitRanges.{reaches, reaches-none}
 use Rattle.read_groups.proofs.sets.reaches32.Statement.{statement}
 use Rattle.read_groups.proofs.sets.reaches32.Tie as tie
 

@@ -24,11 +24,13 @@ same-length c = search needs
 
 returns : tie.Need-returns
 returns c =
-    let start = c .before .before .before .before .before .before .before .before .before in
+    let second = c .before .before in
+    let first = second .before .before .before .before in
+    let start = first .before .before .before in
     let b = start .args .bytes .now in
     let at = start .args .at in
     let further : at + 2 ≡ suc (suc at) = omega arith in
-    rw (c .before .before .put-two2 .ensures, c .before .before .before .before .before .before .put-two .ensures, add-zero at, further)
+    rw (second .put-two2 .ensures, first .put-two .ensures, add-zero at, further)
 
 pub put-spec : {M : Type 1} → statement M
 put-spec =

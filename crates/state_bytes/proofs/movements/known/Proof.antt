@@ -4,8 +4,8 @@ use Prim.Native.Nat.{_+_, _*_, _-_}
 use mathlib.Core.Path.{refl, sym, _∙_}
 use lib.Dec.{ltb}
 use Rattle.laws.specs.Bytes.{byteAt}
-use Rattle.laws.proofs.Passing.{Tested, tested-none, tested-more, tested-all}
-use Rattle.state_forms.proofs.Joined.{joined-below}
+use Rattle.laws.proofs.Folds.{Tested, tested-none, tested-more, tested-all}
+use Rattle.laws.proofs.JoinedBits.{joined-below}
 use Rattle.state_bytes.specs.Layout.{stage}
 use Rattle.state_bytes.proofs.KnownBytes.{movements-tested}
 use borrow.Author.Needs.{needs}

@@ -7,8 +7,9 @@ use Rattle.rules.specs.declared.state.Stage.the-variants.{Idle}
 use Rattle.rules.specs.State.{idle}
 use Rattle.state_forms.specs.Forms.{partsOf}
 use Rattle.state_bytes.specs.Layout.{movement}
-use Rattle.state_forms.proofs.Parts.{entry-within}
-use Rattle.state_forms.proofs.Stores.{Stored, stored-none, stored-record, stored-length, stored-all}
+use Rattle.laws.proofs.Lists.{entry-same}
+use Rattle.laws.proofs.Arrays.{Stored, stored-none, stored-length, stored-all}
+use Rattle.state_forms.proofs.Parts.{stored-record}
 use borrow.Author.Needs.{needs}
 use native.Mathlib.Omega.{arith}
 use Rattle.state_bytes.proofs.movements.put.Statement.{statement}
@@ -54,7 +55,7 @@ loop-again c =
     let inside : k < length own = omega arith in
     rw (c .before .before .put-one .ensures)
     (stored-record (λ k. movement .written (getD own k idle)) 3 (λ k. refl) _ _ (turn .before .loop .inv) (turn .loop-test .taken) refl
-    (ap (movement .written) (entry-within own k (record { stage = Idle; age = 0 }) idle inside)))
+    (ap (movement .written) (entry-same own k (record { stage = Idle; age = 0 }) idle inside)))
 
 same-length : tie.Need-same-length Inv-loop μ-loop
 same-length c = stored-length (c .before .loop .inv)

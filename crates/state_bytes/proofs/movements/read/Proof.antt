@@ -5,9 +5,10 @@ use mathlib.Core.Path.{refl, _∙_}
 use lib.ListN.{replicate}
 use Rattle.laws.specs.Folds.{listOf}
 use Rattle.rules.specs.State.{idle}
-use Rattle.laws.proofs.Folds.{all-at, list-length}
+use Rattle.laws.proofs.Folds.{all-at}
+use Rattle.laws.proofs.Lists.{list-length}
+use Rattle.laws.proofs.Arrays.{Stored, stored-none, stored-one, stored-all, sets-whole}
 use Rattle.state_bytes.specs.Layout.{movement}
-use Rattle.state_forms.proofs.Stores.{Stored, stored-none, stored-one, stored-all, sets-whole}
 use borrow.Author.Needs.{needs}
 use native.Mathlib.Omega.{arith}
 use Rattle.state_bytes.proofs.movements.read.Statement.{statement}

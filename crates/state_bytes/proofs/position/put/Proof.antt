@@ -40,7 +40,9 @@ add-put-held-2 : tie.Need-add-put-held-2
 add-put-held-2 c = search needs
 
 put-held-requires-2 : tie.Need-put-held-requires-2
-put-held-requires-2 c κs = omega (arith, simp length-set at (c .before .before .before .before .before .before .before .put-two .kept .0))
+put-held-requires-2 c κs =
+    let previous = c .before .before .before in
+    omega (arith, simp length-set at (previous .before .before .before .before .put-two .kept .0))
 
 same-length : tie.Need-same-length
 same-length c =

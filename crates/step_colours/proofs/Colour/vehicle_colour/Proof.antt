@@ -1,11 +1,11 @@
 -- `step_colours::Colour::vehicle_colour` meets its contract: each interval has its own rule, and the ways of its test are those of the choice.
 use mathlib.Core.Bool.{not, _&&_}
-use mathlib.Core.Path.{_≡_, refl, sym, _∙_}
+use mathlib.Core.Path.{_≡_, refl, _∙_}
 use lib.Dec.{eqb}
 use borrow.Author.Needs.{needs}
 use Rattle.rules.specs.IntervalTable.{heldIn}
 use Rattle.rules.specs.Colours.{red, green, vehicleColour}
-use Rattle.step_colours.proofs.Choices.{chosen, passed-by}
+use Rattle.laws.proofs.Booleans.{chosen, passed-by}
 use Rattle.step_colours.proofs.Colour.vehicle_colour.Statement.{statement}
 use Rattle.step_colours.proofs.Colour.vehicle_colour.Tie as tie
 

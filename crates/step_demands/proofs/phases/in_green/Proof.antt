@@ -6,9 +6,8 @@ use mathlib.Core.Path.{sym, _∙_}
 use lib.Dec.{eqb}
 use Rattle.rules.specs.Demands.{inGreen}
 use Rattle.laws.proofs.Bits.{bit-blank}
-use Rattle.laws.proofs.Sets.{set-same}
+use Rattle.laws.proofs.ByteSets.{set-same, set-told}
 use Rattle.laws.proofs.Booleans.{and-false-right}
-use Rattle.laws.proofs.Members.{set-told}
 use Rattle.step_demands.proofs.phases.in_green.Statement.{statement}
 use Rattle.step_demands.proofs.phases.in_green.Tie as tie
 

@@ -14,7 +14,7 @@ use Rattle.rules.specs.declared.state.Movement.{Movement}
 use Rattle.rules.specs.declared.state.Stage.the-variants.{Idle}
 use Rattle.rules.specs.IntervalTable.{isWalk}
 use Rattle.rules.specs.State.{idle}
-use Rattle.laws.proofs.Arrays.{entry-same}
+use Rattle.laws.proofs.Lists.{entry-same}
 use Rattle.laws.proofs.LowestBit.{left-less}
 use Rattle.step_demands_buttons.proofs.Crossed.{turn-within}
 use Rattle.step_demands_buttons.proofs.Presses.{Pressed, stays, none-pressed, one-pressed, one-dropped, all-pressed, all-kept}

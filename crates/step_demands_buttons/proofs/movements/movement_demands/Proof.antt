@@ -11,8 +11,8 @@ use mir.Syntax.{w8}
 use mir.Val.{Fits}
 use Rattle.laws.specs.Bytes.{bit}
 use Rattle.rules.specs.Demands.{movementDemands}
+use Rattle.laws.proofs.BitRanges.{shifted-some, firsts, firsts-within, firsts-bit}
 use Rattle.laws.proofs.LowestBit.{left-less}
-use Rattle.laws.proofs.FirstBits.{shifted-some, firsts, firsts-within, firsts-bit}
 use Rattle.step_demands_buttons.proofs.Crossed.{Crossed, none-crossed, turn-within, one-crossed, all-crossed}
 use Rattle.step_demands_buttons.proofs.movements.movement_demands.Statement.{statement}
 use Rattle.step_demands_buttons.proofs.movements.movement_demands.Tie as tie
@@ -31,7 +31,7 @@ shl-rest : tie.Need-shl-rest Inv-loop μ-loop
 shl-rest c = search needs
 
 rem-rest : tie.Need-rem-rest Inv-loop μ-loop
-rem-rest c = shifted-some (c .args .count) (omega (arith, c .pre))
+rem-rest c = shifted-some 64 (c .args .count) (omega (arith, c .pre))
 
 loop-holds : tie.Need-loop-holds Inv-loop μ-loop
 loop-holds c =

@@ -3,7 +3,7 @@ use borrow.Author.Needs.{needs}
 use native.Mathlib.Omega.{arith}
 use Rattle.laws.specs.Bytes.{bit}
 use Rattle.rules.specs.Demands.{stands}
-use Rattle.laws.proofs.Members.{self-told, union-told}
+use Rattle.laws.proofs.ByteSets.{self-told, union-told}
 use Rattle.step_demands_buttons.proofs.movements.stands.Statement.{statement}
 use Rattle.step_demands_buttons.proofs.movements.stands.Tie as tie
 

@@ -13,8 +13,8 @@ use Rattle.rules.specs.declared.state.Stage.the-variants.{Idle}
 use Rattle.laws.specs.Folds.{anyOf}
 use Rattle.rules.specs.IntervalTable.{isWalkOrFirst, isSecond}
 use Rattle.rules.specs.State.{idle}
-use Rattle.laws.proofs.Arrays.{entry-same}
-use Rattle.laws.proofs.Passing.{none-passes, one-more}
+use Rattle.laws.proofs.Folds.{none-passes, one-more}
+use Rattle.laws.proofs.Lists.{entry-same}
 use Rattle.step_interval.proofs.Some.{some-counted}
 use Rattle.step_interval.proofs.ending.under_way.Statement.{statement}
 use Rattle.step_interval.proofs.ending.under_way.Tie as tie
@@ -62,7 +62,6 @@ loop-again c =
     )
 
 returns : tie.Need-returns Inv-loop μ-loop
-unfolding isWalkOrFirst isSecond
 returns c =
     let here = c .before in
     let a = here .before .args in
