@@ -15,7 +15,7 @@ use Rattle.laws.proofs.Booleans.{decided, never-both, not-true-false}
 use Rattle.laws.proofs.Indices.{last-or-below, below-or-past, eqb-turned}
 use Rattle.laws.proofs.Folds.{all-at, all-each}
 use Rattle.laws.proofs.Sums.{sum-same}
-use Rattle.laws.proofs.Tables.{table-holds, grid-same}
+use Rattle.laws.proofs.Tables.{grid-same}
 use Rattle.laws.proofs.Bits.{bit-lower, same-bits, bit-one}
 use Rattle.laws.proofs.BitRanges.{no-bits-from, bit-from, shifted}
 use Rattle.laws.proofs.JoinedBits.{bit-and, bit-or}
@@ -103,11 +103,7 @@ below-told set count small =
     outside : (i : ℕ) → count ≤ i → (not (bit i set) || ltb i count) ≡ true → bit i set ≡ false
     outside i past h = not-true-false (bit i set) (λ e. never-both (rw e at h) (le-ltb i count past))
 
--- ── A byte with all bits, with all but one, and with every bit turned ──
-
-pub bit-all : (p : ℕ) → p < 8 → bit p 255 ≡ true
-unfolding bit allOf
-bit-all = table-holds (λ p. bit p 255) 8 refl
+-- ── A byte with all bits but one, and with every bit turned ──
 
 bit-others : (k p : ℕ) → k < 8 → p < 8 → bit p (255 - 1 * 2 ^ k % 256) ≡ not (eqb p k)
 unfolding bit allOf

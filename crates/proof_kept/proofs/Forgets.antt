@@ -17,7 +17,7 @@ use Rattle.rules.specs.Interval.{clearsLock}
 use Rattle.rules.specs.Step.{steppedTo, stepped}
 use Rattle.rules.specs.Kept.{freshKept, keptValid, keptAfter, keptLeft, keptStepped}
 use Rattle.rules.specs.Laws.{Sound}
-use Rattle.laws.proofs.Booleans.{and-left, and-false-left, or-false-both, and-both}
+use Rattle.laws.proofs.Booleans.{and-left, and-false-left, or-false-both}
 use Rattle.laws.proofs.Bits.{bit-blank}
 use Rattle.laws.proofs.Folds.{any-none}
 use Rattle.laws.proofs.ByteSets.{set-same}

@@ -38,7 +38,7 @@ kept-is-scan site s v p l =
 
 module _ (crossings : List ℕ) (count : ℕ) (d : Demands) (p : ℕ) where
   -- a lock, or a demanded movement of the phase
-  pub Found : Type 0
+  Found : Type 0
   Found =
       (bit p (d .locks) ≡ true)
       ⊎ ((k : ℕ) × (k < count) × (bit k (d .buttons) ≡ true) × (crosses crossings k p ≡ true))

@@ -15,7 +15,7 @@ use Rattle.rules.specs.Site.{phaseTimes, crosses}
 use Rattle.rules.specs.IntervalTable.{isIdle, isWalkOrFirst, isStartRed, isLeaving, phaseHeld}
 use Rattle.laws.specs.Folds.{allOf}
 use Rattle.rules.specs.State.{highestAge, locked, asked, movement, intervalValid, targetValid, previousValid, ageValid, every, positionValid, countsValid, demandExists, demandsValid, movementIn, movementValid, movementsValid, valid}
-use Rattle.laws.proofs.Booleans.{and-left, and-right, and-both, or-left, or-right, implied, implies, otherwise, else-holds, not-both, excludes}
+use Rattle.laws.proofs.Booleans.{and-left, and-right, and-both, implied, implies, otherwise, else-holds, not-both, excludes}
 use Rattle.laws.proofs.Folds.{all-at, all-each}
 
 abbrev pub Aged : ℕ → Type 0

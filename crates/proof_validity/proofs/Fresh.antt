@@ -6,7 +6,6 @@ use native.Mathlib.Omega.{arith}
 use lib.ListN.{getD-replicate}
 use Rattle.rules.specs.declared.site.Site.{Site}
 use Rattle.rules.specs.declared.state.Movement.{Movement}
-use Rattle.rules.specs.IntervalTable.{isIdle, isEarly, isLeaving}
 use Rattle.rules.specs.State.{idle, fresh, locked, asked, movement, intervalValid, targetValid, previousValid, valid}
 use Rattle.rules.specs.Laws.{Sound}
 use Rattle.laws.proofs.Bits.{bit-blank}

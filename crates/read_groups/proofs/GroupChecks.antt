@@ -45,7 +45,7 @@ told-next b e passed told =
 
 -- ── The sets ──
 
-pub set-below : (b : List ℕ) (g : ℕ) → groupsSection b ≡ Accepted → g < groupCount b → groupSet b g < 2 ^ phaseCount b
+set-below : (b : List ℕ) (g : ℕ) → groupsSection b ≡ Accepted → g < groupCount b → groupSet b g < 2 ^ phaseCount b
 unfolding groupsSection groupRecord badGroupAt badGroup
 set-below b g h l =
     let passed = first-each (groupRecord b) (groupCount b) g (or-first _ _ (or-later _ _ h)) l in

@@ -1,6 +1,6 @@
 -- Phase sets as numbers. A set below 2 ^ P has as many phases as its number has ones, and has them all exactly where it is one less than
 -- 2 ^ P. So a record is bad by its two bytes, and the union of the sets tells whether a phase is in none.
-use Prim.Native.Nat.{ℕ, zero, suc, _+_, _-_, _*_, _/_, _%_, _^_, _≤_, _<_, min}
+use Prim.Native.Nat.{ℕ, _+_, _^_, _<_, min}
 use mathlib.Core.Bool.{true, false, not, or-false}
 use mathlib.Core.List.{List}
 use mathlib.Core.Logic.{⊎-elim}
@@ -8,17 +8,15 @@ use mathlib.Core.Path.{_≡_, sym, ap, _∙_}
 use native.Mathlib.Numerals.{add-one}
 use native.Mathlib.Omega.{arith}
 use lib.Bits.{bitOr, or-lt}
-use lib.Count.{onesIn, ones, ones-cat}
-use lib.Dec.{eqb}
-use lib.Pow.{pow-pos, shl-exact}
+use lib.Pow.{pow-pos}
 use borrow.Author.Tests.{leb-false, not-false}
 use Rattle.laws.specs.Bytes.{bit}
 use Rattle.rules.specs.Personality.{phaseCount, groupCount, groupSet, pedestrian, badGroup, badGroupAt, phaseWithoutGroup, walksPhase}
-use Rattle.laws.specs.Folds.{if_then_else_, anyOf, countOf}
+use Rattle.laws.specs.Folds.{anyOf}
 use Rattle.laws.proofs.Bits.{bit-blank}
 use Rattle.laws.proofs.Folds.{any-none, any-false}
 use Rattle.laws.proofs.Booleans.{decided, or-false-left}
-use Rattle.laws.proofs.BitRanges.{ones-counted, full-each, all-full}
+use Rattle.laws.proofs.BitRanges.{full-each, all-full}
 use Rattle.laws.proofs.JoinedBits.{bit-or}
 use Rattle.read_groups.specs.GroupsRead.{CrossedPhases}
 

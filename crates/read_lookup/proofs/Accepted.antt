@@ -9,7 +9,7 @@ use lib.Dec.{leb, eqb}
 use lib.ListN.{length}
 use borrow.Author.Tests.{leb-true, eqb-true}
 use Rattle.rules.specs.declared.answer.Verdict.the-variants.{Accepted}
-use Rattle.rules.specs.Personality.{bodyAt, bodyLength, siteHead, phasesHead, groupsHead, conflictsHead, detectorsHead, pedestriansHead, earlyHead, pastSection, hasEarly, hasOrder, siteSection, timedSection, phasesSection, groupsSection, conflictsSection, detectorsSection, pedestriansSection, verdictOf}
+use Rattle.rules.specs.Personality.{bodyAt, bodyLength, siteHead, phasesHead, groupsHead, conflictsHead, detectorsHead, pedestriansHead, hasEarly, hasOrder, siteSection, timedSection, phasesSection, groupsSection, conflictsSection, detectorsSection, pedestriansSection, verdictOf}
 use Rattle.rules.specs.Lookup.{heldKind, headOf}
 use Rattle.laws.proofs.Booleans.{and-left, and-right, or-cases}
 use Rattle.rules.proofs.Verdicts.{or-first, or-later}

@@ -20,7 +20,7 @@ use Rattle.read_lookup.proofs.Accepted.{section-within}
 -- ── Verdicts ──
 
 -- where the section is found, the personality is accepted and the kind is held
-pub lookup-told : (b : List ℕ) (kind : ℕ) → lookupVerdict b kind ≡ Accepted → (verdictOf b ≡ Accepted) × (heldKind b kind ≡ true)
+lookup-told : (b : List ℕ) (kind : ℕ) → lookupVerdict b kind ≡ Accepted → (verdictOf b ≡ Accepted) × (heldKind b kind ≡ true)
 unfolding lookupVerdict
 lookup-told b kind h = (or-first _ _ h, not-false (heldKind b kind) (refuse-passed _ _ _ (or-later _ _ h)))
 

@@ -5,7 +5,7 @@ use Rattle.rules.specs.Limits.{limits, limitOf, within}
 use Rattle.rules.specs.Verdicts.{_orElse_, refuseIf, firstOf}
 use Rattle.rules.specs.Personality.{bodyLength, kindAt, bodyAt, recordAt, phaseCount, groupCount, groupsHead, conflictsHead, detectorsHead, pedestriansHead, groupSet, groupMark, pedestrian, pedestriansBefore, movementCount, conflictSet, detectorCount, detectorPhase, detectorMode, endOf, pastSection, hasHead, earlyHead, hasEarly, orderHead, hasOrder, orderAt, sectionAt, timeAt, timesAt, siteSection, timeRecords, timedSection, phasesSection, badGroup, badGroupAt, ninthPedestrian, groupRecord, phaseWithoutGroup, groupsSection, badConflict, sharePhase, conflictInPhase, conflictsSection, knownMode, badDetector, badDetectorAt, detectorRecord, detectorsSection, pedestriansSection, earlySection, phaseNotOnce, orderSection, callsPhase, walksPhase, phaseWithoutCaller, stopsEarly, earlyMissing, leftOver, afterPedestrians, verdictOf}
 use Rattle.rules.specs.Site.{earlyTimeAt, orderIn, phaseTimesAt, walkTimesAt, timesIn, crossingAt, siteOf, groupOf, detectorOf, phaseTimes, walkTimes, inPhase, crosses, isPedestrian, movementOf, conflict, ring}
-use Rattle.rules.specs.IntervalTable.{isIdle, isWalk, isWalkOrFirst, isSecond, isStartRed, isRunning, isMinimumGreen, isGreen, isEarly, isLeaving, isBeforeStart, isHeld, phaseHeld, heldIn}
+use Rattle.rules.specs.IntervalTable.{isHeld, phaseHeld, heldIn}
 use Rattle.rules.specs.State.{fresh, locked, asked, movement, intervalValid, targetValid, previousValid, ageValid, every, positionValid, countsValid, demandExists, demandsValid, movementIn, movementValid, movementsValid, valid}
 use Rattle.rules.specs.Demands.{occupied, pressed, calling, locking, extending, detectedAmong, detected, inGreen, registersLock, registersButton, calls, locksAfter, buttonsAfter, demandsAfter, movementDemands, stands, demanded, after, before, firstIn, nextAfter, nextDemanded}
 use Rattle.rules.specs.Movements.{older, walkMayEnd, lasting, advanced, movementsAfter}

@@ -17,7 +17,6 @@ use Rattle.laws.specs.Bytes.{bit}
 use Rattle.rules.specs.Verdicts.{_orElse_, refuseIf}
 use Rattle.rules.specs.Personality.{verdictOf}
 use Rattle.rules.specs.Site.{siteOf}
-use Rattle.rules.specs.Demands.{occupied, pressed}
 use Rattle.rules.specs.Kept.{freshKept, keptValid, keptStepped}
 use Rattle.rules.specs.Colours.{coloursOf}
 use Rattle.rules.specs.WaitBound.{waitBound}

@@ -24,7 +24,7 @@ abbrev pub withoutKept : (List ℕ → Verdict) → (Site → State → ℕ → 
 withoutKept verdict step wait =
     record { verdict = verdict; fresh = fresh; valid = valid; step = step; wait = wait; seen = λ s. s }
 
-abbrev pub scanningParts : Parts State
+abbrev scanningParts : Parts State
 scanningParts = withoutKept verdictOf stepped waitBound
 
 abbrev pub scanVerdict : List ℕ → State → ℕ → ℕ → Verdict

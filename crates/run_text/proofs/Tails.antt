@@ -51,7 +51,7 @@ from-groups position colours i h = past-first (leading position) (shown colours)
 
 -- ── The whole tail ──
 
-pub tail-length : (position : Position) (colours : List ℕ) → length (lineTail position colours) ≡ length colours + 6
+tail-length : (position : Position) (colours : List ℕ) → length (lineTail position colours) ≡ length colours + 6
 unfolding lineTail
 tail-length position colours =
     omega (arith, length-append (map colourLetter colours) (10 ∷ []), length-map colours colourLetter)

@@ -15,10 +15,9 @@ use Rattle.rules.specs.State.{locked}
 use Rattle.rules.specs.Demands.{calling, locking, extending, detectedAmong, detected, inGreen, registersLock, registersButton, calls, locksAfter, buttonsAfter, demandsAfter, nextAfter}
 use Rattle.rules.specs.Kept.{isKept, pressKeeps, keptAfter, nextKept}
 use Rattle.rules.specs.Laws.{Sound}
-use Rattle.laws.proofs.ByteSets.{bit-set, set-same, self-told, union-told, set-small, set-told}
+use Rattle.laws.proofs.ByteSets.{bit-set, set-same, self-told, union-told}
 use Rattle.laws.proofs.Booleans.{and-false-right}
 use Rattle.laws.proofs.Folds.{any-past}
-use Rattle.laws.proofs.JoinedBits.{bit-and}
 use Rattle.step_demands_detectors.specs.declared.Sensed.{Sensed}
 use Rattle.step_demands_detectors.specs.Sensed.{SensedBy}
 use Rattle.step_demands.specs.Registered.{RegisteredBy}

@@ -2,7 +2,7 @@
 use Prim.Native.Nat.{ℕ, _≤_, _<_}
 use mathlib.Core.Bool.{Bool, true, false, not, _&&_, _||_, and-true}
 use mathlib.Core.List.{List}
-use mathlib.Core.Path.{_≡_, refl, sym, ap, ap₂, _∙_}
+use mathlib.Core.Path.{_≡_, refl, sym, ap, ap₂}
 use native.Mathlib.Omega.{arith}
 use Rattle.rules.specs.declared.site.PhaseTimes.{PhaseTimes}
 use Rattle.rules.specs.declared.site.Site.{Site}
@@ -24,7 +24,7 @@ use Rattle.rules.specs.Step.{steppedBy, steppedTo}
 use Rattle.rules.specs.Kept.{keptAfter, nextKept, gone, cleared, keptLeft, keptStepped}
 use Rattle.laws.proofs.Folds.{any-none, any-same}
 use Rattle.laws.proofs.ByteSets.{bit-set, set-same, set-told}
-use Rattle.laws.proofs.Booleans.{and-false-left, or-false-both, and-left, and-right, and-false-right, decided, not-true-false}
+use Rattle.laws.proofs.Booleans.{and-false-left, or-false-both}
 use Rattle.step_demands.specs.declared.Registered.{Registered}
 use Rattle.step_demands.specs.Registered.{RegisteredBy}
 use Rattle.step_walks.specs.declared.Begun.{Begun}

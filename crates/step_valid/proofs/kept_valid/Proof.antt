@@ -1,7 +1,6 @@
 -- `step_valid::kept_valid` meets its contract: its tests are those of the rule.
 use borrow.Author.Needs.{needs}
 use Rattle.rules.specs.Kept.{keptValid}
-use Rattle.laws.proofs.ByteSets.{self-told, union-told}
 use Rattle.step_valid.proofs.kept_valid.Statement.{statement}
 use Rattle.step_valid.proofs.kept_valid.Tie as tie
 

@@ -8,8 +8,7 @@ use borrow.Author.Tests.{eqb-true}
 use Rattle.laws.specs.Folds.{setOf}
 use Rattle.rules.specs.Demands.{stands}
 use Rattle.rules.specs.Kept.{gone}
-use Rattle.laws.proofs.Booleans.{and-left, and-right, or-left, or-right, or-false-right, or-false-both, implied}
-use Rattle.laws.proofs.ByteSets.{bit-set, set-same, set-told}
+use Rattle.laws.proofs.Booleans.{and-left, and-right}
 use Rattle.step_whole.proofs.Keeping.{goneOnes, none-cleared, some-cleared}
 use Rattle.step_whole.proofs.kept.kept_left.Statement.{statement}
 use Rattle.step_whole.proofs.kept.kept_left.Tie as tie
