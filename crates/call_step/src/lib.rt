@@ -47,7 +47,7 @@ pub fn step_accepted(
     }
     let next = step_whole::kept_stepped(site, state, inputs);
     let core = next.core;
-    step_colours::colours_of(site, core, colours);
+    step_colours::buffer_for(site, core, colours);
     let size = site.size;
     let times = site.times;
     let crossings = site.crossings;

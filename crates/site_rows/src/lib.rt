@@ -21,7 +21,7 @@ pub struct GroupRows {
     pub crossings: [u8; 8],
 }
 
-pub fn groups(s: &[u8], layout: Layout) -> GroupRows
+pub fn group_rows_in(s: &[u8], layout: Layout) -> GroupRows
     requires { ⌜ Fitting (now s) layout ⌝ }
     ensures { λ r. ⌜ r ≡ groupRowsIn (now (s .entry)) ⌝ }
 {

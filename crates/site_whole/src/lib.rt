@@ -10,7 +10,7 @@ use rules::site::Size;
 use rules::site::Times;
 use site_rows::conflicts;
 use site_rows::detectors;
-use site_rows::groups;
+use site_rows::group_rows_in;
 use site_rows::order;
 use site_times::phase_times;
 use site_times::start_red;
@@ -33,7 +33,7 @@ pub fn site_of(s: &[u8], layout: Layout) -> Site
     requires { ⌜ Fitting (now s) layout ⌝ }
     ensures { λ r. ⌜ r ≡ siteOf (now (s .entry)) ⌝ }
 {
-    let found = groups(s, layout);
+    let found = group_rows_in(s, layout);
     let size = size(s, layout, found.movements);
     let rows = found.groups;
     let sets = found.crossings;
@@ -65,7 +65,7 @@ pub fn timing_in(s: &[u8], layout: Layout) -> Timing
     requires { ⌜ Fitting (now s) layout ⌝ }
     ensures { λ r. ⌜ r ≡ timingIn (siteOf (now (s .entry))) ⌝ }
 {
-    let found = groups(s, layout);
+    let found = group_rows_in(s, layout);
     let size = size(s, layout, found.movements);
     let sets = found.crossings;
     Timing {

@@ -36,7 +36,7 @@ pub fn is_state(bytes: &[u8]) -> bool
 }
 
 // The state in these bytes.
-pub fn decode(bytes: &[u8]) -> KeptState
+pub fn decoded(bytes: &[u8]) -> KeptState
     requires { ⌜ isState (now bytes) ≡ true ⌝ }
     ensures { λ r. ⌜ r ≡ decoded (now (bytes .entry)) ⌝ }
 {

@@ -203,7 +203,7 @@ fn buffer_at(
 }
 
 // Writes the colours of all groups to the start of the buffer. The bytes past them stay as they are.
-pub fn colours_of(site: Site, state: State, buffer: &mut [u8])
+pub fn buffer_for(site: Site, state: State, buffer: &mut [u8])
     requires { ⌜ Sound site × (site .size .groups ≤ length (now buffer)) ⌝ }
     ensures { λ _. ⌜ now (buffer .exit) ≡ bufferFor Accepted site state (now (buffer .entry)) ⌝ }
 {

@@ -16,7 +16,7 @@ pub struct Begun {
 
 // Begins the walks. Only demanded movements can begin one, and none does if no phase starts and running does not allow it. Each turn of
 // the loop takes the lowest demanded movement that is left.
-pub fn begin(
+pub fn begun_by(
     crossings: [u8; 8],
     starts: bool,
     another: bool,

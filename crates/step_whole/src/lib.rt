@@ -51,7 +51,7 @@ pub fn kept_stepped(site: Site, state: KeptState, inputs: u64) -> KeptState
     // 5. walks
     let crossings = site.crossings;
     let starts = changes::starts(ended, old);
-    let walked = step_walks::begin(crossings, starts, another, now, demands.buttons, moved);
+    let walked = step_walks::begun_by(crossings, starts, another, now, demands.buttons, moved);
     let movements = walked.movements;
     let standing = Demands {
         locks: changes::locks_left(ended, now, demands.locks),

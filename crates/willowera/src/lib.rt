@@ -90,7 +90,7 @@ pub extern "C" fn willowera_step(
         return refusal(13, 0);
     }
     let layout = reading.layout;
-    let before = state_bytes::decode(state);
+    let before = state_bytes::decoded(state);
     let answer = call_step::step_accepted(personality, layout, before, inputs, colours);
     let outcome = answer.outcome;
     match outcome {

@@ -9,7 +9,7 @@ use sheet_settings::Detector;
 use sheet_settings::Sheet;
 
 // The answer for a sheet: 0 in the lowest byte, then minimum green in 16 bits and the passage time in 16 bits; or the refusal.
-fn settings_of(sheet: Sheet) -> u64
+fn packed_settings(sheet: Sheet) -> u64
     ensures { λ r. ⌜ r ≡ packedSettings (answerOf sheet) ⌝ }
 {
     let answer = sheet_settings::settings(sheet);
@@ -27,13 +27,13 @@ pub extern "C" fn willowera_settings(speed: u32, detector: u32, metres: f64) -> 
     ensures { λ r. ⌜ r ≡ settingsAnswer speed detector metres ⌝ }
 {
     if detector == 0 {
-        return settings_of(Sheet {
+        return packed_settings(Sheet {
             speed,
             detector: Detector::Advance(metres),
         });
     }
     if detector == 1 {
-        return settings_of(Sheet {
+        return packed_settings(Sheet {
             speed,
             detector: Detector::StopLine(metres),
         });

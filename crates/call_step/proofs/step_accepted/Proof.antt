@@ -107,8 +107,8 @@ returns-3 c =
 kept-stepped-requires : tie.Need-kept-stepped-requires
 kept-stepped-requires c κs = let past = c .before .before in (sound (past .before .before .before .before), valid (past .before .before))
 
-colours-of-requires : tie.Need-colours-of-requires
-colours-of-requires c κs =
+buffer-for-requires : tie.Need-buffer-for-requires
+buffer-for-requires c κs =
     let roomy = c .before .before .before in
     (sound (roomy .before .before .before .before .before .before), roomy .if3 .left)
 
@@ -132,7 +132,7 @@ returns-4 c =
     whole held
     (goes-on _ site (a .state) (moved .kept-stepped .result) (a .inputs) (c .wait-bound-by .result) (a .colours .now) _
     (passes site (a .inputs) (length (a .colours .now)) (valid (past .before .before)) (wired past) (moved .before .if3 .left))
-    (c .wait-bound-by .ensures) (moved .kept-stepped .ensures) (written .colours-of .ensures))
+    (c .wait-bound-by .ensures) (moved .kept-stepped .ensures) (written .buffer-for .ensures))
 
 pub step-accepted-spec : {M : Type 1} → statement M
 step-accepted-spec =
@@ -149,7 +149,7 @@ step-accepted-spec =
     step-refused-requires-3
     returns-3
     kept-stepped-requires
-    colours-of-requires
+    buffer-for-requires
     wait-bound-by-requires
     same-length
     returns-4)

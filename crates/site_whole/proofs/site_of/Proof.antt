@@ -8,13 +8,13 @@ use borrow.Author.Needs.{needs}
 use Rattle.site_whole.proofs.site_of.Statement.{statement}
 use Rattle.site_whole.proofs.site_of.Tie as tie
 
-groups-requires : tie.Need-groups-requires
-groups-requires c κs = search needs
+group-rows-in-requires : tie.Need-group-rows-in-requires
+group-rows-in-requires c κs = search needs
 
 size-requires : tie.Need-size-requires
 unfolding groupRowsIn
 size-requires c κs =
-    (c .before .before .pre, ap (λ (x : GroupRows). x .movements) (c .groups .ensures))
+    (c .before .before .pre, ap (λ (x : GroupRows). x .movements) (c .group-rows-in .ensures))
 
 conflicts-requires : tie.Need-conflicts-requires
 conflicts-requires c κs = search needs
@@ -41,7 +41,7 @@ walk-times-requires : tie.Need-walk-times-requires
 unfolding groupRowsIn
 walk-times-requires c κs =
     let found = c .before .before .before .before .before .before .before .before .before in
-    (found .before .before .pre, ap (λ (x : GroupRows). x .movements) (found .groups .ensures))
+    (found .before .before .pre, ap (λ (x : GroupRows). x .movements) (found .group-rows-in .ensures))
 
 returns : tie.Need-returns
 unfolding siteOf groupRowsIn timesIn
@@ -58,7 +58,7 @@ returns c =
       detected .detectors .ensures,
       listed .conflicts .ensures,
       sized .size .ensures,
-      sized .before .groups .ensures,
+      sized .before .group-rows-in .ensures,
       sized .before .before .before .pre .laid .hasearly,
     )
 
@@ -66,7 +66,7 @@ pub site-of-spec : {M : Type 1} → statement M
 site-of-spec =
     tie.close
     (tie.spec
-    groups-requires
+    group-rows-in-requires
     size-requires
     conflicts-requires
     cast-detectors

@@ -7,13 +7,13 @@ use borrow.Author.Needs.{needs}
 use Rattle.site_whole.proofs.timing_in.Statement.{statement}
 use Rattle.site_whole.proofs.timing_in.Tie as tie
 
-groups-requires : tie.Need-groups-requires
-groups-requires c κs = search needs
+group-rows-in-requires : tie.Need-group-rows-in-requires
+group-rows-in-requires c κs = search needs
 
 size-requires : tie.Need-size-requires
 unfolding groupRowsIn
 size-requires c κs =
-    (c .before .before .pre, ap (λ (x : GroupRows). x .movements) (c .groups .ensures))
+    (c .before .before .pre, ap (λ (x : GroupRows). x .movements) (c .group-rows-in .ensures))
 
 start-red-requires : tie.Need-start-red-requires
 start-red-requires c κs = search needs
@@ -25,14 +25,14 @@ walk-times-requires : tie.Need-walk-times-requires
 unfolding groupRowsIn
 walk-times-requires c κs =
     let found = c .before .before .before .before in
-    (found .before .before .pre, ap (λ (x : GroupRows). x .movements) (found .groups .ensures))
+    (found .before .before .pre, ap (λ (x : GroupRows). x .movements) (found .group-rows-in .ensures))
 
 returns : tie.Need-returns
 unfolding siteOf groupRowsIn timesIn
 returns c =
     let timed = c .before .before in
     let sized = timed .before .before in
-    simp (c .walk-times .ensures, c .before .phase-times .ensures, timed .start-red .ensures, sized .size .ensures, sized .before .groups .ensures)
+    simp (c .walk-times .ensures, c .before .phase-times .ensures, timed .start-red .ensures, sized .size .ensures, sized .before .group-rows-in .ensures)
 
 pub timing-in-spec : {M : Type 1} → statement M
-timing-in-spec = tie.close (tie.spec groups-requires size-requires start-red-requires phase-times-requires walk-times-requires returns)
+timing-in-spec = tie.close (tie.spec group-rows-in-requires size-requires start-red-requires phase-times-requires walk-times-requires returns)

@@ -47,8 +47,8 @@ position-after-requires c κs = search needs
 starts-requires : tie.Need-starts-requires
 starts-requires c κs = search needs
 
-begin-requires : tie.Need-begin-requires
-begin-requires c κs = search needs
+begun-by-requires : tie.Need-begun-by-requires
+begun-by-requires c κs = search needs
 
 -- the phase that is on after part 4 is one of the site's
 now-within : (c : tie.After-position-after) → c .position-after .result .phase < 8
@@ -84,7 +84,7 @@ returns c =
     let entry = own .before .before .before .before in
     whole-told (entry .args .site) (entry .args .state) (entry .args .inputs)
     (own .phase-times .ensures) (asked .register .ensures) (held .is-held .ensures) (mayEnd .walk-may-end .ensures) (moved .movements-after .ensures) (counted .counts-after .ensures) (over .ends .ensures)
-    (now .position-after .ensures) (started .starts .ensures) (begun .begin .ensures) (lefts .locks-left .ensures)
+    (now .position-after .ensures) (started .starts .ensures) (begun .begun-by .ensures) (lefts .locks-left .ensures)
     (changed .counts-changed .ensures) (c .kept-left .ensures)
 
 pub kept-stepped-spec : {M : Type 1} → statement M
@@ -100,7 +100,7 @@ kept-stepped-spec =
     ends-requires
     position-after-requires
     starts-requires
-    begin-requires
+    begun-by-requires
     locks-left-requires
     counts-changed-requires
     kept-left-requires

@@ -69,8 +69,8 @@ told c = c .before .before .before
 known : (c : tie.Else1) → isState (start (told c) .args .state .now) ≡ true
 known c = sym (c .before .is-state .ensures) ∙ not-false (c .before .is-state .result) (c .if1 .left)
 
-decode-requires : tie.Need-decode-requires
-decode-requires c κs = known (c .before .before)
+decoded-requires : tie.Need-decoded-requires
+decoded-requires c κs = known (c .before .before)
 
 step-accepted-requires : tie.Need-step-accepted-requires
 step-accepted-requires c κs =
@@ -97,7 +97,7 @@ refusal-requires-3 : tie.Need-refusal-requires-3
 refusal-requires-3 c κs =
     let called = c .before .before .before .before .before in
     let a = start (told (past called)) .args in
-    answer-near (a .personality .now) (called .before .before .decode .result) (a .inputs) (a .colours .now) (called .step-accepted .result) _
+    answer-near (a .personality .now) (called .before .before .decoded .result) (a .inputs) (a .colours .now) (called .step-accepted .result) _
     (called .step-accepted .ensures)
     (c .before .outcome2 .given .1)
 
@@ -113,7 +113,7 @@ returns-3 c =
     let called = moved .before .before .before .before in
     let a = start (told (past called)) .args in
     steps-on (a .personality .now) (a .state .now) (a .colours .now) (a .inputs) (c .packed .result) (known (past called))
-    (called .before .before .decode .ensures)
+    (called .before .before .decoded .ensures)
     (called .step-accepted .ensures) _
     (moved .outcome .given .1)
     (c .before .before .before .encode .ensures .1)
@@ -130,7 +130,7 @@ returns-4 c =
     let called = c .before .before .before .before .before .before in
     let a = start (told (past called)) .args in
     stays (a .personality .now) (a .state .now) (a .colours .now) (a .inputs) (c .refusal3 .result) (known (past called))
-    (called .before .before .decode .ensures)
+    (called .before .before .decoded .ensures)
     (called .step-accepted .ensures)
     (c .before .before .outcome2 .given .1)
     (c .refusal3 .ensures)
@@ -148,7 +148,7 @@ willowera-step-spec =
     refusal-requires-2
     same-length
     returns-2
-    decode-requires
+    decoded-requires
     step-accepted-requires
     enum-known-outcome
     encode-requires

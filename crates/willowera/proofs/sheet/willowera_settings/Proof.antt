@@ -5,19 +5,19 @@ use Rattle.willowera.specs.SheetCall.{settingsAnswer}
 use Rattle.willowera.proofs.sheet.willowera_settings.Statement.{statement}
 use Rattle.willowera.proofs.sheet.willowera_settings.Tie as tie
 
-settings-of-requires : tie.Need-settings-of-requires
-settings-of-requires c κs = search needs
+packed-settings-requires : tie.Need-packed-settings-requires
+packed-settings-requires c κs = search needs
 
 returns : tie.Need-returns
 unfolding settingsAnswer
-returns c = rw (c .before .if1 .taken) (c .settings-of .ensures)
+returns c = rw (c .before .if1 .taken) (c .packed-settings .ensures)
 
-settings-of-requires-2 : tie.Need-settings-of-requires-2
-settings-of-requires-2 c κs = search needs
+packed-settings-requires-2 : tie.Need-packed-settings-requires-2
+packed-settings-requires-2 c κs = search needs
 
 returns-2 : tie.Need-returns-2
 unfolding settingsAnswer
-returns-2 c = rw (c .before .if2 .taken) (c .settings-of2 .ensures)
+returns-2 c = rw (c .before .if2 .taken) (c .packed-settings2 .ensures)
 
 refusal-requires : tie.Need-refusal-requires
 refusal-requires c κs = search needs
@@ -32,9 +32,9 @@ pub willowera-settings-spec : {M : Type 1} → statement M
 willowera-settings-spec =
     tie.close
     (tie.spec
-    settings-of-requires
+    packed-settings-requires
     returns
-    settings-of-requires-2
+    packed-settings-requires-2
     returns-2
     refusal-requires
     returns-3)

@@ -1,10 +1,10 @@
--- `state_bytes::decode` meets its contract: each part is read from bytes that the test passed.
+-- `state_bytes::decoded` meets its contract: each part is read from bytes that the test passed.
 use native.Mathlib.Omega.{arith}
 use Rattle.laws.specs.Bytes.{byteAt}
 use Rattle.state_bytes.specs.Layout.{decoded}
 use Rattle.state_bytes.proofs.KnownBytes.{StateKnown, state-told}
-use Rattle.state_bytes.proofs.decode.Statement.{statement}
-use Rattle.state_bytes.proofs.decode.Tie as tie
+use Rattle.state_bytes.proofs.decoded.Statement.{statement}
+use Rattle.state_bytes.proofs.decoded.Tie as tie
 
 -- what the test tells
 told : (c : tie.Start) → StateKnown (c .args .bytes .now)
@@ -35,7 +35,7 @@ returns c =
       c .before .before .before .before .read .ensures,
     )
 
-pub decode-spec : {M : Type 1} → statement M
-decode-spec =
+pub decoded-spec : {M : Type 1} → statement M
+decoded-spec =
     tie.close
     (tie.spec read-requires read-requires-2 read-requires-3 read-requires-4 shared-slice-read-t8 returns)

@@ -1,4 +1,4 @@
--- `step_walks::begin` meets its contract. The loop's invariant: the demanded movements that are taken and may begin walk have begun it, with
+-- `step_walks::begun_by` meets its contract. The loop's invariant: the demanded movements that are taken and may begin walk have begun it, with
 -- their demands cleared, and the others are as they were. The measure is the rest, which loses a bit a turn.
 use borrow.Author.Needs.{needs}
 use borrow.Author.Tests.{not-true}
@@ -13,8 +13,8 @@ use Rattle.rules.specs.Site.{crosses}
 use Rattle.rules.specs.Walks.{begins}
 use Rattle.laws.proofs.LowestBit.{left-less, taken-all}
 use Rattle.step_walks.proofs.Walking.{Walking, may, may-told, asked-begins, none-free, leaves-none, leaves-same, walked-told, none-walking, turn-within, turn-entry, one-begun, one-kept}
-use Rattle.step_walks.proofs.begin.Statement.{statement}
-use Rattle.step_walks.proofs.begin.Tie as tie
+use Rattle.step_walks.proofs.begun_by.Statement.{statement}
+use Rattle.step_walks.proofs.begun_by.Tie as tie
 
 abbrev Inv-loop : tie.InvT-loop
 Inv-loop starts another now buttons crossings free left₀ out₀ rest₀ left out rest =
@@ -106,8 +106,8 @@ returns-2 c =
     (leaves-same (c .before .loop .inv .told) (begins (a .t1) (a .starts) (a .another) (a .now) (a .buttons) (a .movements))
     (λ k. rw (taken-all (a .buttons) k (c .loop-test .left)) (asked-begins (a .t1) (a .starts) (a .another) (a .now) (a .movements) (a .buttons) k)))
 
-pub begin-spec : {M : Type 1} → statement M
-begin-spec =
+pub begun-by-spec : {M : Type 1} → statement M
+begun-by-spec =
     tie.close
     (tie.spec
     Inv-loop

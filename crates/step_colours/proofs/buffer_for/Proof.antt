@@ -1,4 +1,4 @@
--- `step_colours::colours_of` meets its contract: what the site's groups show of the state's position and movements is the colours of the state.
+-- `step_colours::buffer_for` meets its contract: what the site's groups show of the state's position and movements is the colours of the state.
 use Prim.Native.Nat.{ℕ}
 use mathlib.Core.List.{List, _++_}
 use mathlib.Core.Path.{ap, _∙_}
@@ -9,8 +9,8 @@ use Rattle.rules.specs.Call.{bufferFor}
 use Rattle.laws.proofs.Lists.{list-same}
 use Rattle.step_colours.proofs.Sizes.{showable}
 use Rattle.step_colours.proofs.Unclosed.{closing-there}
-use Rattle.step_colours.proofs.colours_of.Statement.{statement}
-use Rattle.step_colours.proofs.colours_of.Tie as tie
+use Rattle.step_colours.proofs.buffer_for.Statement.{statement}
+use Rattle.step_colours.proofs.buffer_for.Tie as tie
 
 cast-count : tie.Need-cast-count
 cast-count c = search needs
@@ -36,5 +36,5 @@ returns c =
     (ap (λ (l : List ℕ). l ++ drop (a .site .size .groups) (a .buffer .now))
     (list-same _ (shownIn (a .site) (a .state)) (a .site .size .groups) (λ g l. closing-there (a .site) (start .pre .0) (a .state) g)))
 
-pub colours-of-spec : {M : Type 1} → statement M
-colours-of-spec = tie.close (tie.spec cast-count closing-there-requires buffer-at-requires same-length returns)
+pub buffer-for-spec : {M : Type 1} → statement M
+buffer-for-spec = tie.close (tie.spec cast-count closing-there-requires buffer-at-requires same-length returns)

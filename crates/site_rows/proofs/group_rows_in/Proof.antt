@@ -1,4 +1,4 @@
--- `site_rows::groups` meets its contract: before group g the records of the groups below g are in place, the rest is blank, and the
+-- `site_rows::group_rows_in` meets its contract: before group g the records of the groups below g are in place, the rest is blank, and the
 -- pedestrian ones among them have been found. At the end of the pass every movement is.
 use Prim.Native.Nat.{_-_}
 use mathlib.Core.Logic.{⊎-elim}
@@ -12,8 +12,8 @@ use Rattle.site_rows.proofs.Filling.{Filled, filled-none, filled-more, 
 use Rattle.site_rows.proofs.Pedestrians.{Passed, passed-none, passed-vehicle, passed-pedestrian, room-left, passed-whole}
 use borrow.Author.Needs.{needs}
 use native.Mathlib.Omega.{arith}
-use Rattle.site_rows.proofs.groups.Statement.{statement}
-use Rattle.site_rows.proofs.groups.Tie as tie
+use Rattle.site_rows.proofs.group_rows_in.Statement.{statement}
+use Rattle.site_rows.proofs.group_rows_in.Tie as tie
 
 abbrev Inv-loop : tie.InvT-loop
 Inv-loop s head count rows₀ sets₀ movements₀ g₀ rows sets movements g =
@@ -86,8 +86,8 @@ returns c =
     let found = passed-whole _ (inv .1) (omega arith) in
     rw (filled-whole (inv .0) (omega arith), found .0, found .1)
 
-pub groups-spec : {M : Type 1} → statement M
-groups-spec =
+pub group-rows-in-spec : {M : Type 1} → statement M
+group-rows-in-spec =
     tie.close
     (tie.spec
     Inv-loop

@@ -1,4 +1,4 @@
--- `willowera::sheet::settings_of` meets its contract, by the two cases of the answer; the place of a refusal is 0.
+-- `willowera::sheet::packed_settings` meets its contract, by the two cases of the answer; the place of a refusal is 0.
 use Prim.Native.Nat.{ℕ, _+_, _*_}
 use mathlib.Core.Path.{_≡_, sym, _∙_}
 use native.Mathlib.Nat.{zero-add, add-zero}
@@ -10,8 +10,8 @@ use Rattle.sheet_settings.specs.Sheet.{settingsReportOf, minimumOf, passageOf}
 use Rattle.sheet_settings.proofs.Stated.{refused-place}
 use Rattle.willowera.specs.Board.{packed}
 use Rattle.willowera.specs.SheetCall.{packedSettings}
-use Rattle.willowera.proofs.sheet.settings_of.Statement.{statement}
-use Rattle.willowera.proofs.sheet.settings_of.Tie as tie
+use Rattle.willowera.proofs.sheet.packed_settings.Statement.{statement}
+use Rattle.willowera.proofs.sheet.packed_settings.Tie as tie
 
 packed-given : (a b : Answer) (r : ℕ) {m g : ℕ} → a ≡ b → a ≡ Settings m g → r ≡ packed 0 (m + 65536 * g) → r ≡ packedSettings b
 unfolding packedSettings settingsReportOf minimumOf passageOf
@@ -59,8 +59,8 @@ returns-2 c =
     let made = c .before .before .before .before .settings in
     packed-refused (made .result) _ _ (made .ensures .0) (c .before .before .answer2 .given .1) (c .refusal .ensures)
 
-pub settings-of-spec : {M : Type 1} → statement M
-settings-of-spec =
+pub packed-settings-spec : {M : Type 1} → statement M
+packed-settings-spec =
     tie.close
     (tie.spec
     settings-requires
