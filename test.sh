@@ -68,6 +68,11 @@ for input in examples/*/stdin*.bin; do
     trace=$(dirname "$input")/$(basename "$input" .bin | sed 's/^stdin/trace/').txt
     check "$trace" same_trace "$input" "$trace"
 done
+same_table() { ./target/bin/run_road <"$1" | cmp - "$2"; }
+for input in examples/*/road*.bin; do
+    table=$(dirname "$input")/$(basename "$input" .bin | sed 's/^road/table/').txt
+    check "$table" same_table "$input" "$table"
+done
 check 'endings of a trace' python3 examples/endings.py "$proved" "$model"
 
 # The vectors of the reader are those that the script makes.
@@ -83,8 +88,12 @@ check 'tests of rust/' rust_tests
 check 'library and model agree' compare_with_model 1 50000
 check 'demand 3 watched' compare_with_model 1 watch 4000000
 
+# Simulated roads of a model in Python, for the library and for the model in rust/.
+same_roads() { python3 vectors/make_roads.py "$log" && compare_with_model roads "$log"; }
+check 'roads of vectors/make_roads.py' same_roads
+
 # The library from C: what it needs, the conditions that its header states, and the example program.
-for part in needs conditions steps settings; do
+for part in needs conditions steps settings road; do
     check "examples/c/check.sh $part" examples/c/check.sh "$part"
 done
 

@@ -21,7 +21,7 @@ MARKS = {"vehicle": 0, "late-start": 1, "pedestrian": 2, "early-cut-off": 3}
 CALLS = {"no-call": 0, "non-locking": 1, "locking": 2}
 EXTENDS = 4
 FIRST_BUTTON = 48
-MOST = {"groups": 32, "detectors": 48, "pedestrian groups": 8, "steps": 36000}
+MOST = {"groups": 32, "detectors": 48, "pedestrian groups": 8, "steps": 36000, "road steps": 180000, "streams": 48, "rate": 1800}
 
 
 class Mistake(Exception):
@@ -324,15 +324,21 @@ def bit_of(line, site):
     return first + number
 
 
-def inputs_of(path, site):
-    """The 64 input bits of each step."""
+def steps_of(path, most):
+    """The lines of a script, and the number of steps that its first line has."""
     lines = lines_of(path)
     need(lines and lines[0].words[0] == "steps" and len(lines[0].words) == 2, f"{path.parent.name}/{path.name}",
          "its first line is `steps` with their number")
-    last = whole(lines[0], lines[0].words[1])
-    need(last <= MOST["steps"], lines[0].place, f"more than {MOST['steps']} steps")
+    steps = whole(lines[0], lines[0].words[1])
+    need(steps <= most, lines[0].place, f"more than {most} steps")
+    return steps, lines[1:]
+
+
+def inputs_of(path, site):
+    """The 64 input bits of each step."""
+    last, lines = steps_of(path, MOST["steps"])
     inputs = [0] * last
-    for line in lines[1:]:
+    for line in lines:
         bit = 1 << bit_of(line, site)
         for step in steps_in(line, last):
             inputs[step - 1] |= bit
@@ -341,6 +347,26 @@ def inputs_of(path, site):
 
 def stdin_of(personality, inputs):
     return little(len(personality), 2) + personality + packed([inputs], 8)
+
+
+# ── Roads ──
+
+def stream_of(line, site):
+    """`detector 4 group V3 rate 400`, as 4 bytes."""
+    need(len(line.words) == 6 and line.words[::2] == ["detector", "group", "rate"], line.place, "needs a detector, a group and a rate")
+    detector, name, rate = whole(line, line.words[1]), line.words[3], whole(line, line.words[5])
+    names = [group.name for group in site.groups]
+    need(detector < len(site.detectors), line.place, f"the site has no detector {detector}")
+    need(name in names and site.groups[names.index(name)].mark != MARKS["pedestrian"], line.place, f"the site has no vehicle group {name}")
+    need(rate <= MOST["rate"], line.place, f"the rate is {rate}, more than {MOST['rate']}")
+    return little(detector, 1) + little(names.index(name), 1) + little(rate, 2)
+
+
+def road_of(path, site, personality):
+    steps, lines = steps_of(path, MOST["road steps"])
+    need(len(lines) <= MOST["streams"], lines[-1].place if lines else path.name, f"more than {MOST['streams']} streams")
+    streams = b"".join(stream_of(line, site) for line in lines)
+    return little(len(personality), 2) + personality + little(steps, 4) + streams, len(lines)
 
 
 # ── Commands ──
@@ -359,6 +385,9 @@ def built(name):
         inputs = inputs_of(path, site)
         files[path.stem.replace("inputs", "stdin") + ".bin"] = stdin_of(personality, inputs)
         told.append(f"{path.name} {len(inputs)} steps")
+    for path in sorted(folder.glob("road*.txt")):
+        files[path.stem + ".bin"], count = road_of(path, site, personality)
+        told.append(f"{path.name} {count} streams")
     return files, ", ".join(told)
 
 

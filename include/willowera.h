@@ -7,8 +7,8 @@
  *
  * - A pointer has as many bytes behind it as the length next to it says. All 64 bits of a length count: bytes after a whole
  *   personality are refused with 12, and a state of any length other than WILLOWERA_STATE_BYTES with 13.
- * - During a call nobody else writes a buffer of the call, or reads the state or the colours.
- * - State and colours do not overlap each other or the personality. They may be adjacent.
+ * - During a call nobody else writes a buffer of the call, or reads the state, the colours or the results.
+ * - State, colours and results do not overlap each other, the personality or the streams. They may be adjacent.
  * - willowera_settings is called in the default floating-point environment: round to nearest, subnormal numbers on.
  *
  * Not required (examples/c/conditions.c tries these points):
@@ -20,8 +20,8 @@
  *
  * What a call does to memory:
  *
- * - It reads the personality and the state. An accepted step writes the state and one colour byte for each group. A refused call
- *   writes nothing. Otherwise a call uses only its stack.
+ * - It reads the personality, the state and the streams. An accepted step writes the state and one colour byte for each group, an
+ *   accepted road the state and the results. A refused call writes nothing. Otherwise a call uses only its stack.
  * - The library has no variables, no heap and no locks. Calls with their own state and colours may run at the same time, in several
  *   threads or in a signal handler that interrupts another call, and may share a personality.
  * - A state has no pointers in it: it may be copied, moved and stored. A step is not atomic: a call that never returns (a reset, a
@@ -50,6 +50,12 @@ extern "C" {
 #define WILLOWERA_MOST_GROUPS 32
 #define WILLOWERA_MOST_DETECTORS 48
 #define WILLOWERA_MOST_MOVEMENTS 8
+
+#define WILLOWERA_MOST_STREAMS 48
+#define WILLOWERA_MOST_RATE 1800
+#define WILLOWERA_MOST_ROAD_STEPS 180000
+#define WILLOWERA_STREAM_BYTES 4
+#define WILLOWERA_RESULT_BYTES 4
 
 /* ── Inputs: bit d is detector d (d from 0 to 47 only), bit 48 + k is push button k (k from 0 to 7 only) ── */
 
@@ -99,7 +105,7 @@ extern "C" {
 #define WILLOWERA_WRONG_DETECTOR 11     /* unknown phase or mode; place: the record */
 #define WILLOWERA_LEFT_OVER 12          /* bytes follow the last section; place: the first of them */
 #define WILLOWERA_STATE_NOT_VALID 13    /* state not valid, or not a state; place 0 */
-#define WILLOWERA_BUFFER_SHORT 14       /* colour buffer is shorter than the number of groups; place 0 */
+#define WILLOWERA_BUFFER_SHORT 14       /* colour or result buffer too short; place 0 */
 #define WILLOWERA_STRAY_INPUT 15        /* an input bit is set that has no detector and no button; place 0 */
 #define WILLOWERA_NO_EARLY_TIMES 17     /* a group stops early, but section 7 is missing; place: the first such record */
 #define WILLOWERA_WRONG_ORDER 18        /* section 9 does not list each phase once; place: its head */
@@ -108,6 +114,9 @@ extern "C" {
 /* Refusals of a site sheet. */
 #define WILLOWERA_SHEET_OUT_OF_RANGE 19 /* speed not 20 to 110, metres not 0 to 300, or unknown detector; place 0 */
 #define WILLOWERA_ABOVE_LIMITS 20       /* minimum green above 400, or passage time above 100; place 0 */
+
+/* Refusal of a simulated road. */
+#define WILLOWERA_WRONG_STREAMS 22      /* streams or steps out of range, or a detector or vehicle group not in the site; place 0 */
 
 /* ── Answers: the number in bits 0 to 7, above it the place of a refusal, or the result of an accepted call ── */
 
@@ -139,6 +148,21 @@ uint64_t willowera_step(const uint8_t *personality, size_t personality_length, u
  * The speed is in km/h. The metres are the distance of an advance detector, or the length of a stop-line zone. A NaN, an infinity,
  * and a detector that is neither WILLOWERA_ADVANCE nor WILLOWERA_STOP_LINE are refused with 19. */
 uint64_t willowera_settings(uint32_t speed, uint32_t detector, double metres);
+
+/* Tries the personality on a simulated road, from the fresh state: 0, or a refusal.
+ *
+ * A stream is 4 bytes: detector, vehicle group, vehicles per hour (2 bytes, the low one first). Streams may share a detector or a group.
+ * In each step of 0.1 s vehicles arrive by the rate of each stream, a detector is occupied while one of its streams has a queue, the
+ * controller makes a step, and a stream releases one vehicle for every 20 steps with green and a queue.
+ *
+ * The call writes the last state and, for each stream in the order given, 4 bytes: vehicles queued and vehicles gone (2 bytes each, the
+ * low one first). Later bytes of the results stay. The old content of the state does not matter.
+ *
+ * The checks: the personality; then 22 (bytes that are not whole streams, more than 48 streams, more than 180,000 steps, a rate above
+ * 1,800, a detector or a vehicle group that the site does not have); then 13 (state_length is not WILLOWERA_STATE_BYTES); then 14
+ * (results_length is less than 4 for each stream). A simulated hour takes a few milliseconds. */
+uint64_t willowera_road(const uint8_t *personality, size_t personality_length, const uint8_t *streams, size_t streams_length,
+                        uint32_t steps, uint8_t *state, size_t state_length, uint8_t *results, size_t results_length);
 
 /* Offset and length of the body of a section (WILLOWERA_OFFSET, WILLOWERA_LENGTH), or a refusal. */
 uint64_t willowera_section(const uint8_t *personality, size_t personality_length, uint16_t kind);

@@ -5,6 +5,7 @@
 #     check.sh conditions    what include/willowera.h says of buffers and threads, tried by conditions.c
 #     check.sh steps         steps.c prints the colours of the trace of the junction of two phases
 #     check.sh settings      settings.c prints the answers that the data sheet's table of site sheets has
+#     check.sh road          road.c prints what the tables of the example roads have, but for the longest queue
 #
 # The programs are built with gcc's address and undefined-behaviour sanitizers, which watch the caller's side.
 set -u -o pipefail
@@ -43,8 +44,14 @@ settings)
     # shellcheck disable=SC2046 # three words of each row
     run settings $(sheets '$2, $3, $4') | diff - <(sheets '$5')
     ;;
+road)
+    for road in examples/*/road*.bin; do
+        table=$(dirname "$road")/$(basename "$road" .bin | sed 's/^road/table/').txt
+        run road "$road" | cmp - <(tail -n +2 "$table" | cut -d ' ' -f 1-6) || exit 1
+    done
+    ;;
 *)
-    sed -n '2,9s/^# \{0,1\}//p' "$0"
+    sed -n '2,10s/^# \{0,1\}//p' "$0"
     exit 2
     ;;
 esac

@@ -20,7 +20,7 @@
 
 #include "willowera.h"
 
-enum { PAGE = 4096, STEPS = 600, THREADS = 8, RUNS = 40, ALIGNMENTS = 16, HANDLED = 100, MOST_KINDS = 10 };
+enum { STREAMS = 2, PAGE = 4096, STEPS = 600, THREADS = 8, RUNS = 40, ALIGNMENTS = 16, HANDLED = 100, MOST_KINDS = 10 };
 
 struct site {
     const uint8_t *personality;
@@ -194,6 +194,53 @@ static void refusals_write_nothing(const struct site *site)
     need(willowera_step(bytes, length, state, states, 0, colours, groups) == WILLOWERA_STATE_NOT_VALID, "13 for bytes that are no state");
     for (int i = 0; i < 3; i++)
         free_page(pages[i]);
+}
+
+/* ── Roads ── */
+
+/* Streams at the highest rate, a different detector each, of the first vehicle group. */
+static void put_streams(const struct site *site, uint8_t *streams)
+{
+    const uint8_t *groups = site->personality + WILLOWERA_OFFSET(willowera_section(site->personality, site->length, 3));
+    uint8_t vehicles = 0;
+
+    while (groups[2 * vehicles + 1] == 2)
+        vehicles++;
+    for (uint8_t i = 0; i < STREAMS; i++) {
+        uint8_t stream[WILLOWERA_STREAM_BYTES] = {i, vehicles, WILLOWERA_MOST_RATE % 256, WILLOWERA_MOST_RATE / 256};
+        memcpy(streams + i * sizeof stream, stream, sizeof stream);
+    }
+}
+
+/* An accepted road reads and writes nothing beside its buffers, and never writes the personality or the streams. A refused one writes nothing. */
+static void roads_between_fences(const struct site *site)
+{
+    const size_t size = STREAMS * WILLOWERA_STREAM_BYTES, states = WILLOWERA_STATE_BYTES;
+
+    for (int at_end = 0; at_end < 2; at_end++) {
+        uint8_t *pages[4] = {fenced_page(), fenced_page(), fenced_page(), fenced_page()};
+        struct site fenced = fenced_site(site, pages[0], at_end);
+        const uint8_t *bytes = fenced.personality;
+        uint8_t *streams = place(pages[1], size, at_end), *state = place(pages[2], states, at_end);
+        uint8_t *results = place(pages[3], size, at_end), fresh[WILLOWERA_STATE_BYTES];
+
+        put_streams(site, streams);
+        only_read(pages[1]);
+        need(willowera_road(bytes, site->length, streams, size, STEPS, state, states, results, size) == 0, "a road between fences");
+        only_read(pages[2]);
+        only_read(pages[3]);
+        need(willowera_road(bytes, site->length - 1, streams, size, STEPS, state, states, results, size) % 256 != 0, "a cut personality");
+        need(willowera_road(bytes, site->length, streams, size - 1, STEPS, state, states, results, size) == WILLOWERA_WRONG_STREAMS, "22");
+        need(willowera_road(bytes, site->length, streams, size, WILLOWERA_MOST_ROAD_STEPS + 1, state, states, results, size)
+                 == WILLOWERA_WRONG_STREAMS, "22 for the steps");
+        need(willowera_road(bytes, site->length, streams, size, STEPS, state, states - 1, results, size) == WILLOWERA_STATE_NOT_VALID, "13");
+        need(willowera_road(bytes, site->length, streams, size, STEPS, state, states, results, size - 1) == WILLOWERA_BUFFER_SHORT, "14");
+        writable(pages[2]);
+        need(willowera_road(bytes, site->length, NULL, 0, 0, state, states, NULL, 0) == 0, "no streams and no steps");
+        need(willowera_fresh(fresh, states) == 0 && memcmp(fresh, state, states) == 0, "no steps give the fresh state");
+        for (int i = 0; i < 4; i++)
+            free_page(pages[i]);
+    }
 }
 
 /* ── Where buffers may lie ── */
@@ -371,6 +418,7 @@ int main(int count, char **paths)
         steps_between_fences(&site);
         cut_personalities(&site);
         refusals_write_nothing(&site);
+        roads_between_fences(&site);
         alignments(&site);
         empty_buffers(&site);
         long_lengths(&site);

@@ -20,9 +20,9 @@ use Rattle.rules.specs.State.{locked, asked, movement, valid}
 use Rattle.rules.specs.Demands.{occupied, pressed, calling, locking, detectedAmong, detected, inGreen, registersLock, registersButton, calls, demandsAfter, stands, demanded}
 use Rattle.rules.specs.Call.{wired, strayInput}
 use Rattle.rules.specs.Laws.{Sound}
+use Rattle.laws.proofs.Booleans.{decided, and-left, and-both, and-false-left, and-false-right, or-left, or-right, not-true-false}
 use Rattle.laws.proofs.Folds.{any-at, any-none}
 use Rattle.laws.proofs.Tables.{table-holds}
-use Rattle.laws.proofs.Booleans.{decided, and-left, and-both, and-false-left, and-false-right, or-left, or-right, not-true-false}
 use Rattle.laws.proofs.Bits.{bit-power}
 use Rattle.proof_runs.proofs.Demanded.{lock-demands, button-demands}
 use Rattle.proof_runs.proofs.Steps.{askedNow, lockedNow}

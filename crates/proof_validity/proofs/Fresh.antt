@@ -8,8 +8,8 @@ use Rattle.rules.specs.declared.site.Site.{Site}
 use Rattle.rules.specs.declared.state.Movement.{Movement}
 use Rattle.rules.specs.State.{idle, fresh, locked, asked, movement, intervalValid, targetValid, previousValid, valid}
 use Rattle.rules.specs.Laws.{Sound}
-use Rattle.laws.proofs.Bits.{bit-blank}
 use Rattle.laws.proofs.Booleans.{or-right, never-both}
+use Rattle.laws.proofs.Bits.{bit-blank}
 use Rattle.proof_runs.proofs.ValidStates.{ValidState, ValidMovement, state-holds}
 use Rattle.proof_validity.proofs.Positions.{new-aged}
 use Rattle.proof_validity.proofs.Stages.{idle-valid}

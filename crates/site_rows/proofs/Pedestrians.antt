@@ -11,8 +11,8 @@ use borrow.Author.Tests.{eq-eqb, ne-eqb}
 use Rattle.laws.specs.Folds.{listOf, countOf, indicesOf, rowOf}
 use Rattle.rules.specs.Personality.{groupCount, groupSet, groupMark, pedestrian, pedestriansBefore, movementCount}
 use Rattle.rules.specs.Site.{crossingAt, siteOf}
-use Rattle.laws.proofs.Lists.{list-length, list-at}
 use Rattle.laws.proofs.Counting.{indices-length, count-passed, count-failed, count-before}
+use Rattle.laws.proofs.Lists.{list-length, list-at}
 use Rattle.laws.proofs.Arrays.{store-more}
 use Rattle.site_rows.proofs.Filling.{blanks-left}
 

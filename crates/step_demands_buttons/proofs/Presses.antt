@@ -18,10 +18,10 @@ use Rattle.rules.specs.IntervalTable.{isWalk}
 use Rattle.rules.specs.State.{idle}
 use Rattle.rules.specs.Demands.{pressed, registersButton, buttonsAfter}
 use Rattle.rules.specs.Kept.{pressKeeps}
-use Rattle.laws.proofs.Bits.{bit-lower, bit-down}
-use Rattle.laws.proofs.ByteSets.{bit-set, set-same, set-told}
 use Rattle.laws.proofs.Booleans.{decided}
+use Rattle.laws.proofs.Bits.{bit-lower, bit-down}
 use Rattle.laws.proofs.LowestBit.{lowest, others, taken-none, counted, counted-other, counted-own, counted-same}
+use Rattle.laws.proofs.ByteSets.{bit-set, set-same, set-told}
 use Rattle.step_demands_buttons.proofs.Crossed.{Crossed, none-crossed, one-crossed, one-failed, all-counted, all-crossed}
 
 -- the inputs of the buttons

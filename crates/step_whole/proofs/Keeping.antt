@@ -22,9 +22,9 @@ use Rattle.rules.specs.Interval.{ends, positionAfter, countsChanged, locksLeft,
 use Rattle.rules.specs.Walks.{begins}
 use Rattle.rules.specs.Step.{steppedBy, steppedTo}
 use Rattle.rules.specs.Kept.{keptAfter, nextKept, gone, cleared, keptLeft, keptStepped}
+use Rattle.laws.proofs.Booleans.{and-false-left, or-false-both}
 use Rattle.laws.proofs.Folds.{any-none, any-same}
 use Rattle.laws.proofs.ByteSets.{bit-set, set-same, set-told}
-use Rattle.laws.proofs.Booleans.{and-false-left, or-false-both}
 use Rattle.step_demands.specs.declared.Registered.{Registered}
 use Rattle.step_demands.specs.Registered.{RegisteredBy}
 use Rattle.step_walks.specs.declared.Begun.{Begun}

@@ -10,6 +10,7 @@ ghost use Rattle.rules.specs.Kept.{freshKept};
 ghost use Rattle.state_bytes.specs.Layout.{encodedOver};
 ghost use Rattle.willowera.specs.Board.{packed, packedVerdict, packedOutcome, freshAnswer, stepAnswer, stateAfter, coloursAfter, sectionAnswer};
 
+pub mod road;
 pub mod sheet;
 
 use base_bytes::two_at;

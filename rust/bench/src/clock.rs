@@ -18,11 +18,24 @@ pub struct Time {
 
 /// The times of several works. Each round times all of them, one after the
 /// other, so that they share what else the machine does.
-pub fn times_of<const WORKS: usize>(rounds: usize, mut works: [Work; WORKS]) -> [Time; WORKS] {
+pub fn times_of<const WORKS: usize>(rounds: usize, works: [Work; WORKS]) -> [Time; WORKS] {
+    times_of_calls(rounds, CALLS, works)
+}
+
+/// The times of several works that take long, so that a round is one call of each.
+pub fn times_of_long<const WORKS: usize>(rounds: usize, works: [Work; WORKS]) -> [Time; WORKS] {
+    times_of_calls(rounds, 1, works)
+}
+
+fn times_of_calls<const WORKS: usize>(
+    rounds: usize,
+    calls: usize,
+    mut works: [Work; WORKS],
+) -> [Time; WORKS] {
     let mut times = [const { Vec::new() }; WORKS];
     for round in 0..=rounds {
         for (work, times) in works.iter_mut().zip(&mut times) {
-            let time = round_ns(round * CALLS, work);
+            let time = round_ns(round * calls, calls, work);
             // The first round only warms up.
             if round > 0 {
                 times.push(time);
@@ -32,10 +45,10 @@ pub fn times_of<const WORKS: usize>(rounds: usize, mut works: [Work; WORKS]) -> 
     times.map(Time::of)
 }
 
-fn round_ns(first: usize, work: &mut Work) -> f64 {
+fn round_ns(first: usize, calls: usize, work: &mut Work) -> f64 {
     let start = Instant::now();
-    (first..first + CALLS).for_each(work);
-    start.elapsed().as_nanos() as f64 / CALLS as f64
+    (first..first + calls).for_each(work);
+    start.elapsed().as_nanos() as f64 / calls as f64
 }
 
 impl Time {

@@ -1,13 +1,15 @@
 //! Times of the model, and of the board library beside it where it is linked.
 //!
 //! `bench [seed] [rounds]`. A full step call reads and checks the personality,
-//! then steps; an inner step starts from a site already read. Each time is the
+//! then steps; an inner step starts from a site already read. A road is an hour
+//! of steps in one call. Each time is the
 //! median of the rounds, with the best round behind it; a ratio is the median of
 //! the rounds' own ratios, with that of the best rounds behind it.
 
 #![forbid(unsafe_code)]
 
 mod clock;
+mod road;
 mod site;
 
 use site::Bench;
@@ -33,5 +35,6 @@ fn main() -> ExitCode {
     for bench in Bench::all(seed) {
         bench.print(rounds);
     }
+    road::print(rounds);
     ExitCode::SUCCESS
 }

@@ -3,7 +3,7 @@
 
 use crate::difference::{Difference, Handed};
 use crate::tally::Tally;
-use generate::Rng;
+use generate::{Rng, RoadPlan};
 use model::packed::{Board, Model};
 
 /// A board, the tally of its answers, and where randomness comes from.
@@ -74,7 +74,7 @@ impl Comparison<'_> {
             state: state.to_vec(),
             inputs,
             colours: self.rng.bytes(colours_len),
-            kind: 0,
+            ..Handed::default()
         };
         let guarded = Guarded::new(&mut self.rng, personality);
         let mut found_state = Guarded::new(&mut self.rng, state);
@@ -91,6 +91,52 @@ impl Comparison<'_> {
         found_state.holds("step: the state", state, &handed)?;
         found_colours.holds("step: the colours", &colours, &handed)?;
         guarded.untouched("step: the personality", &handed)?;
+        self.tally.count_answer(expected);
+        Ok(expected)
+    }
+
+    /// Runs a road into a buffer that holds a state or other bytes, and a result
+    /// buffer of a length; gives the answer.
+    pub fn road(
+        &mut self,
+        personality: &[u8],
+        road: &RoadPlan,
+        state: &[u8],
+        results_len: usize,
+    ) -> Result<u64, Box<Difference>> {
+        let handed = Handed {
+            personality: personality.to_vec(),
+            state: state.to_vec(),
+            streams: road.streams.clone(),
+            steps: road.steps,
+            results: self.rng.bytes(results_len),
+            ..Handed::default()
+        };
+        let guarded = Guarded::new(&mut self.rng, personality);
+        let streams = Guarded::new(&mut self.rng, &road.streams);
+        let mut found_state = Guarded::new(&mut self.rng, state);
+        let mut found_results = Guarded::new(&mut self.rng, &handed.results);
+        let mut state = state.to_vec();
+        let mut results = handed.results.clone();
+        let expected = Model.road(
+            personality,
+            &road.streams,
+            road.steps,
+            &mut state,
+            &mut results,
+        );
+        let found = self.board.road(
+            guarded.inner(),
+            streams.inner(),
+            road.steps,
+            found_state.inner_mut(),
+            found_results.inner_mut(),
+        );
+        same("road: the answer", expected, found, &handed)?;
+        found_state.holds("road: the state", &state, &handed)?;
+        found_results.holds("road: the results", &results, &handed)?;
+        guarded.untouched("road: the personality", &handed)?;
+        streams.untouched("road: the streams", &handed)?;
         self.tally.count_answer(expected);
         Ok(expected)
     }

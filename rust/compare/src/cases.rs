@@ -5,10 +5,10 @@ use crate::difference::{Difference, Failure};
 use crate::tally::Tally;
 use generate::{
     any_inputs, broken_state_bytes, damaged, invalid_state, known_inputs, scrambled, twice_damaged,
-    unknown_inputs, valid_state, Breakage, Plan, Rng,
+    unknown_inputs, valid_state, Breakage, Plan, Rng, RoadDamage, RoadPlan,
 };
 use model::packed::Board;
-use model::{fresh, Site, STATE_LEN};
+use model::{fresh, Site, RESULT_LEN, STATE_LEN, STREAM_LEN};
 use monitor::{watch, Driver, Strategy};
 use std::fmt;
 
@@ -29,10 +29,14 @@ pub enum Kind {
     BufferLength,
     ManyWrongs,
     Watched,
+    Road,
+    DamagedRoad,
+    RoadBuffers,
+    RoadWrongs,
 }
 
 /// The kinds take turns, those that matter most more often.
-const TURNS: [Kind; 29] = [
+const TURNS: [Kind; 34] = [
     Kind::Accepted,
     Kind::Damaged(1),
     Kind::Run,
@@ -62,6 +66,11 @@ const TURNS: [Kind; 29] = [
     Kind::Damaged(18),
     Kind::Damaged(21),
     Kind::Watched,
+    Kind::Road,
+    Kind::DamagedRoad,
+    Kind::Road,
+    Kind::RoadBuffers,
+    Kind::RoadWrongs,
 ];
 
 impl Kind {
@@ -97,6 +106,10 @@ impl fmt::Display for Kind {
             Kind::BufferLength => "colour buffers short and long",
             Kind::ManyWrongs => "several wrongs in one call",
             Kind::Watched => "run watched for demand 3",
+            Kind::Road => "simulated roads",
+            Kind::DamagedRoad => "simulated roads refused with 22",
+            Kind::RoadBuffers => "state and result buffers of a road short and long",
+            Kind::RoadWrongs => "several wrongs in one road",
         };
         f.write_str(words)
     }
@@ -153,6 +166,10 @@ impl Comparison<'_> {
             Kind::BufferLength => self.buffer_lengths(),
             Kind::ManyWrongs => self.many_wrongs(),
             Kind::Watched => self.watched(),
+            Kind::Road => self.roads(),
+            Kind::DamagedRoad => self.damaged_roads(),
+            Kind::RoadBuffers => self.road_buffers(),
+            Kind::RoadWrongs => self.road_wrongs(),
         }
     }
 
@@ -165,7 +182,7 @@ impl Comparison<'_> {
         Ok(())
     }
 
-    /// A personality most likely refused: read, and stepped with anything.
+    /// A personality most likely refused: read, stepped and run with anything.
     fn refused(&mut self, personality: &[u8]) -> Outcome {
         self.reading(personality)?;
         let mut state = fresh().to_bytes().to_vec();
@@ -175,6 +192,12 @@ impl Comparison<'_> {
         let mut state = self.rng.bytes(length);
         let colours_len = self.rng.below(40);
         self.step(personality, &mut state, inputs, colours_len)?;
+        let length = self.rng.below(20);
+        let road = RoadPlan {
+            streams: self.rng.bytes(length),
+            steps: inputs as u32,
+        };
+        self.road(personality, &road, &fresh().to_bytes(), length)?;
         Ok(())
     }
 
@@ -311,6 +334,84 @@ impl Comparison<'_> {
         }
     }
 
+    /// Accepted roads. The state buffer holds a valid state or any bytes, which do
+    /// not matter, and the result buffer often has bytes to spare.
+    fn roads(&mut self) -> Outcome {
+        self.on_site(3, |comparison, personality, site| {
+            let road = RoadPlan::random(&mut comparison.rng, site);
+            let spare = comparison.rng.pick(&[0, 0, 1, 3, 4, 50]);
+            let length = results_len(&road) + spare;
+            let state = if comparison.rng.percent(50) {
+                valid_state(&mut comparison.rng, site).to_bytes().to_vec()
+            } else {
+                comparison.rng.bytes(STATE_LEN)
+            };
+            comparison.road(personality, &road, &state, length)
+        })
+    }
+
+    /// Roads refused with 22, each way in turn.
+    fn damaged_roads(&mut self) -> Outcome {
+        self.on_site(2, |comparison, personality, site| {
+            let mut last = 0;
+            for damage in RoadDamage::ALL {
+                let mut road = RoadPlan::random(&mut comparison.rng, site);
+                if road.damage(&mut comparison.rng, site, damage).is_some() {
+                    let length = results_len(&road);
+                    let state = comparison.rng.bytes(STATE_LEN);
+                    last = comparison.road(personality, &road, &state, length)?;
+                }
+            }
+            Ok(last)
+        })
+    }
+
+    /// Short accepted roads into buffers of any length.
+    fn road_buffers(&mut self) -> Outcome {
+        self.on_site(20, |comparison, personality, site| {
+            let rng = &mut comparison.rng;
+            let mut road = RoadPlan::random(rng, site);
+            road.steps %= 100;
+            let needed = results_len(&road);
+            let anywhere = rng.below(120);
+            let state_len = match rng.below(3) {
+                0 => rng.pick(&[0, STATE_LEN - 1, STATE_LEN + 1, anywhere]),
+                _ => STATE_LEN,
+            };
+            let anywhere = rng.below(250);
+            let length = rng.pick(&[0, needed.saturating_sub(1), needed, needed + 1, anywhere]);
+            let state = rng.bytes(state_len);
+            comparison.road(personality, &road, &state, length)
+        })
+    }
+
+    /// A road that may be damaged once or twice, buffers that may be wrong, on a
+    /// personality that may be refused.
+    fn road_wrongs(&mut self) -> Outcome {
+        let twice = twice_damaged(&mut self.rng);
+        self.on_site(20, |comparison, personality, site| {
+            let rng = &mut comparison.rng;
+            let mut road = RoadPlan::random(rng, site);
+            road.steps %= 100;
+            for _ in 0..rng.below(3) {
+                let damage = rng.pick(&RoadDamage::ALL);
+                // A site without the means stays undamaged.
+                let _ = road.damage(rng, site, damage);
+            }
+            if rng.percent(10) {
+                let length = rng.below(250);
+                road.streams = rng.bytes(length);
+            }
+            let state_len = rng.pick(&[STATE_LEN, STATE_LEN, STATE_LEN + 1, 0]);
+            let needed = results_len(&road);
+            let length = rng.pick(&[needed, needed, needed.saturating_sub(1), 0]);
+            let refused = rng.percent(25);
+            let personality = if refused { &twice } else { personality };
+            let state = rng.bytes(state_len);
+            comparison.road(personality, &road, &state, length)
+        })
+    }
+
     /// Some calls on one random accepted site.
     fn on_site(
         &mut self,
@@ -324,6 +425,11 @@ impl Comparison<'_> {
         }
         Ok(())
     }
+}
+
+/// The bytes that the results of a road take.
+fn results_len(road: &RoadPlan) -> usize {
+    road.streams.len() / STREAM_LEN * RESULT_LEN
 }
 
 fn site_whole(personality: &[u8]) -> Site<'_> {

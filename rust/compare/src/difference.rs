@@ -31,6 +31,9 @@ pub struct Handed {
     pub inputs: u64,
     pub colours: Vec<u8>,
     pub kind: u16,
+    pub streams: Vec<u8>,
+    pub steps: u32,
+    pub results: Vec<u8>,
 }
 
 /// A case that fails.
@@ -73,7 +76,10 @@ impl fmt::Display for Handed {
         writeln!(f, "  state       {}", hex(&self.state))?;
         writeln!(f, "  inputs      {:016x}", self.inputs)?;
         writeln!(f, "  colours     {}", hex(&self.colours))?;
-        write!(f, "  kind        {}", self.kind)
+        writeln!(f, "  kind        {}", self.kind)?;
+        writeln!(f, "  streams     {}", hex(&self.streams))?;
+        writeln!(f, "  steps       {}", self.steps)?;
+        write!(f, "  results     {}", hex(&self.results))
     }
 }
 

@@ -9,6 +9,7 @@ mod difference;
 #[cfg(feature = "linked")]
 mod library;
 mod tally;
+mod vectors;
 mod watches;
 
 pub use cases::{run_case, Kind};
@@ -16,6 +17,7 @@ pub use difference::{Difference, Failure};
 #[cfg(feature = "linked")]
 pub use library::Library;
 pub use tally::Tally;
+pub use vectors::run_vectors;
 pub use watches::{run_watches, Watched};
 
 /// The board that is compared: the library where it is linked.

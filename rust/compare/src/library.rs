@@ -30,4 +30,15 @@ impl Board for Library {
     fn section(&self, personality: &[u8], kind: u16) -> u64 {
         packed::section(personality, kind)
     }
+
+    fn road(
+        &self,
+        personality: &[u8],
+        streams: &[u8],
+        steps: u32,
+        state: &mut [u8],
+        results: &mut [u8],
+    ) -> u64 {
+        packed::road(personality, streams, steps, state, results)
+    }
 }

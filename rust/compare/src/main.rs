@@ -1,15 +1,18 @@
 //! `compare SEED CASES` compares the board library with the model on so many
 //! cases, `compare SEED case INDEX` runs one of them again, and `compare SEED
-//! watch STEPS` watches the library alone for demand 3.
+//! watch STEPS` watches the library alone for demand 3. `compare roads FILE` runs
+//! the vectors of the Python road on the library and on the model.
 
 #![forbid(unsafe_code)]
 
-use compare::{board_name, run_cases, run_watches, BOARD};
+use compare::{board_name, run_cases, run_vectors, run_watches, BOARD};
+use model::packed::Model;
 use std::process::ExitCode;
 
 const USAGE: &str = "usage: compare SEED CASES
        compare SEED case INDEX
-       compare SEED watch STEPS";
+       compare SEED watch STEPS
+       compare roads FILE";
 
 /// What is to be done.
 enum Task {
@@ -20,6 +23,11 @@ enum Task {
 
 fn main() -> ExitCode {
     let words: Vec<String> = std::env::args().skip(1).collect();
+    if let [word, file] = words.as_slice() {
+        if word == "roads" {
+            return exit_code(roads(file));
+        }
+    }
     let Some((seed, task)) = parse(&words) else {
         eprintln!("{USAGE}");
         return ExitCode::from(2);
@@ -30,6 +38,10 @@ fn main() -> ExitCode {
         Task::Case(index) => cases(seed, index..index.saturating_add(1)),
         Task::Watch(steps) => watches(seed, steps),
     };
+    exit_code(passed)
+}
+
+fn exit_code(passed: bool) -> ExitCode {
     if passed {
         ExitCode::SUCCESS
     } else {
@@ -77,6 +89,28 @@ fn watches(seed: u64, steps: u64) -> bool {
             println!("breach of demand 3: {breach}");
             println!("  personality {hex}");
             println!("again: compare {seed} watch {steps}");
+            false
+        }
+    }
+}
+
+fn roads(file: &str) -> bool {
+    println!("{file}: {} and the model", board_name());
+    let vectors = match std::fs::read(file) {
+        Ok(vectors) => vectors,
+        Err(error) => {
+            println!("{file}: {error}");
+            return false;
+        }
+    };
+    let by_model = run_vectors(&Model, &vectors).map_err(|what| format!("the model: {what}"));
+    match by_model.and_then(|_| run_vectors(&BOARD, &vectors)) {
+        Ok(count) => {
+            println!("{count:>9}  simulated roads\nno difference");
+            true
+        }
+        Err(what) => {
+            println!("{what}");
             false
         }
     }

@@ -2,10 +2,10 @@
 
 use generate::{
     broken_state_bytes, damaged, invalid_state, known_inputs, scrambled, twice_damaged,
-    unknown_inputs, valid_state, Breakage, Plan, Rng, AIMED, MODES,
+    unknown_inputs, valid_state, Breakage, Plan, Rng, RoadPlan, AIMED, MODES,
 };
 use model::packed::{self, number, rest};
-use model::{read, valid, Interval, Mark, Site, Stage, State};
+use model::{read, valid, Interval, Mark, Road, Site, Stage, State, Stream};
 use std::collections::{BTreeMap, BTreeSet};
 
 const SEED: u64 = 1_993;
@@ -250,10 +250,102 @@ fn inputs_known_and_unknown() {
     }
 }
 
+/// Random roads, each with the personality of its site.
+fn roads(count: usize) -> impl Iterator<Item = (Vec<u8>, RoadPlan)> {
+    let mut rng = Rng::new(SEED);
+    plans(count).map(move |plan| {
+        let bytes = plan.bytes();
+        let site = Site::read(&bytes).unwrap();
+        let road = RoadPlan::random(&mut rng, &site);
+        (bytes, road)
+    })
+}
+
+fn streams(road: &RoadPlan) -> Vec<Stream> {
+    let (records, ragged) = road.streams.as_chunks();
+    assert!(ragged.is_empty());
+    records.iter().map(|&one| Stream::from_bytes(one)).collect()
+}
+
+#[test]
+fn random_roads_are_accepted() {
+    for (bytes, road) in roads(3_000) {
+        let site = Site::read(&bytes).unwrap();
+        assert!(
+            Road::new(site, &road.streams, road.steps).is_ok(),
+            "{road:?}"
+        );
+    }
+}
+
+#[test]
+fn roads_have_every_size_and_trait() {
+    let mut counts = BTreeSet::new();
+    let mut rates = BTreeSet::new();
+    let mut steps = BTreeSet::new();
+    let mut marks = BTreeSet::new();
+    let mut modes = BTreeSet::new();
+    let mut seen: BTreeMap<&str, usize> = BTreeMap::new();
+    for (bytes, road) in roads(3_000) {
+        let site = Site::read(&bytes).unwrap();
+        let streams = streams(&road);
+        counts.insert(streams.len());
+        steps.insert(road.steps);
+        let shared = |of: fn(&Stream) -> u8| {
+            let distinct: BTreeSet<u8> = streams.iter().map(of).collect();
+            distinct.len() < streams.len()
+        };
+        let mut count = |name, holds| *seen.entry(name).or_default() += usize::from(holds);
+        count("shared detector", shared(|stream| stream.detector));
+        count("shared group", shared(|stream| stream.group));
+        let mut other_phase = false;
+        for stream in &streams {
+            let group = site.group(stream.group.into());
+            let detector = site.detector(stream.detector.into());
+            rates.insert(stream.rate);
+            marks.insert(group.mark as u8);
+            modes.insert(detector.mode);
+            other_phase |= group.set >> detector.phase & 1 == 0;
+        }
+        count("group of another phase", other_phase);
+        count(
+            "every group of its phase",
+            !streams.is_empty() && !other_phase,
+        );
+    }
+    for (name, count) in seen {
+        assert!(count >= 100, "{name}: {count}");
+    }
+    assert!(counts.into_iter().eq(0..=48));
+    assert_eq!((rates.first(), rates.last()), (Some(&0), Some(&1800)));
+    assert_eq!((steps.first(), steps.last()), (Some(&0), Some(&180_000)));
+    assert!(marks.into_iter().eq([0, 1, 3]));
+    assert!(modes.into_iter().eq(MODES));
+}
+
+#[test]
+fn roads_release_in_every_way() {
+    // Streams with vehicles gone, with none gone, and with a queue that ends empty.
+    let (mut left, mut stood, mut emptied) = (0, 0, 0);
+    for (bytes, road) in roads(300) {
+        let site = Site::read(&bytes).unwrap();
+        let mut road = Road::new(site, &road.streams, road.steps).unwrap();
+        road.run();
+        for vehicles in road.vehicles() {
+            left += usize::from(vehicles.gone > 0);
+            stood += usize::from(vehicles.gone == 0 && vehicles.queued > 0);
+            emptied += usize::from(vehicles.gone > 0 && vehicles.queued == 0);
+        }
+    }
+    for count in [left, stood, emptied] {
+        assert!(count >= 100, "{left}, {stood}, {emptied}");
+    }
+}
+
 #[test]
 fn every_refusal_number_occurs_in_the_cases() {
     let tally = compare::run_cases(&model::packed::Model, SEED, 0..2_000).unwrap();
-    for number in (0..=15).chain([17, 18, 21]) {
+    for number in (0..=15).chain([17, 18, 21, 22]) {
         assert!(tally.answers(number) >= 20, "{number}\n{tally}");
     }
     for kind in compare::Kind::all() {

@@ -43,6 +43,17 @@ impl Board for Wrong {
         let answer = Model.section(personality, kind);
         self.section.map_or(answer, |spoil| spoil(answer, kind))
     }
+
+    fn road(
+        &self,
+        personality: &[u8],
+        streams: &[u8],
+        steps: u32,
+        state: &mut [u8],
+        results: &mut [u8],
+    ) -> u64 {
+        Model.road(personality, streams, steps, state, results)
+    }
 }
 
 /// The failure that the comparison must find.
@@ -231,6 +242,17 @@ impl Board for ScansAnew {
     fn section(&self, personality: &[u8], kind: u16) -> u64 {
         Model.section(personality, kind)
     }
+
+    fn road(
+        &self,
+        personality: &[u8],
+        streams: &[u8],
+        steps: u32,
+        state: &mut [u8],
+        results: &mut [u8],
+    ) -> u64 {
+        Model.road(personality, streams, steps, state, results)
+    }
 }
 
 #[test]
@@ -265,6 +287,17 @@ impl Board for GoesByLetters {
 
     fn section(&self, personality: &[u8], kind: u16) -> u64 {
         Model.section(personality, kind)
+    }
+
+    fn road(
+        &self,
+        personality: &[u8],
+        streams: &[u8],
+        steps: u32,
+        state: &mut [u8],
+        results: &mut [u8],
+    ) -> u64 {
+        Model.road(personality, streams, steps, state, results)
     }
 }
 

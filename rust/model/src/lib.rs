@@ -3,8 +3,8 @@
 //!
 //! One step is 0.1 s and every time is counted in steps. The model reads a
 //! personality, steps the controller, gives the colours of the signal groups,
-//! the wait bound and the sections of a personality. It needs no heap and nothing
-//! of the standard library but its core.
+//! the wait bound and the sections of a personality, and runs a simulated road. It
+//! needs no heap and nothing of the standard library but its core.
 //!
 //! [`packed`] holds the same functions in the shape of the board library: states
 //! as bytes, by [`layout`], and answers as one number.
@@ -23,6 +23,7 @@ mod lookup;
 pub mod packed;
 mod reader;
 mod refusal;
+mod road;
 mod site;
 mod state;
 mod step;
@@ -35,6 +36,7 @@ pub use limits::{Limits, Setting};
 pub use lookup::{section, Part};
 pub use reader::read;
 pub use refusal::{Number, Refusal, Verdict};
+pub use road::{Road, Stream, Vehicles, MAX_RATE, MAX_STEPS, MAX_STREAMS, RESULT_LEN, STREAM_LEN};
 pub use site::{Detector, Group, Mark, Movement, PhaseTimes, Site};
 pub use state::{fresh, Interval, MovementState, Stage, State, MAX_AGE};
 pub use step::{scan, step, step_on, Answer};

@@ -4,9 +4,11 @@
 //! place.
 
 use crate::refusal::{Number, Refusal};
+use crate::road::{Road, RESULT_LEN};
 use crate::site::Site;
 use crate::state::State;
 use crate::step::step_on;
+use crate::STATE_LEN;
 
 /// A board: the calls of the library, over buffers of any content and length.
 pub trait Board {
@@ -15,6 +17,14 @@ pub trait Board {
     fn fresh(&self, state: &mut [u8]) -> u64;
     fn step(&self, personality: &[u8], state: &mut [u8], inputs: u64, colours: &mut [u8]) -> u64;
     fn section(&self, personality: &[u8], kind: u16) -> u64;
+    fn road(
+        &self,
+        personality: &[u8],
+        streams: &[u8],
+        steps: u32,
+        state: &mut [u8],
+        results: &mut [u8],
+    ) -> u64;
 }
 
 /// The model as a board.
@@ -40,6 +50,17 @@ impl Board for Model {
 
     fn section(&self, personality: &[u8], kind: u16) -> u64 {
         section(personality, kind)
+    }
+
+    fn road(
+        &self,
+        personality: &[u8],
+        streams: &[u8],
+        steps: u32,
+        state: &mut [u8],
+        results: &mut [u8],
+    ) -> u64 {
+        road(personality, streams, steps, state, results)
     }
 }
 
@@ -95,6 +116,35 @@ pub fn section(personality: &[u8], kind: u16) -> u64 {
     crate::section(personality, kind).map_or_else(refuse, |part| {
         u64::from(part.offset) << 8 | u64::from(part.length) << 40
     })
+}
+
+/// Runs a simulated road: writes the last state, and for each stream the vehicles
+/// queued and gone.
+pub fn road(
+    personality: &[u8],
+    streams: &[u8],
+    steps: u32,
+    state: &mut [u8],
+    results: &mut [u8],
+) -> u64 {
+    let opened = Site::read(personality).and_then(|site| Road::new(site, streams, steps));
+    let mut road = match opened {
+        Ok(road) => road,
+        Err(refusal) => return refuse(refusal),
+    };
+    if state.len() != STATE_LEN {
+        return Number::InvalidState as u64;
+    }
+    let (slots, _) = results.as_chunks_mut::<RESULT_LEN>();
+    let Some(slots) = slots.get_mut(..road.vehicles().count()) else {
+        return Number::ShortBuffer as u64;
+    };
+    road.run();
+    state.copy_from_slice(&road.state().to_bytes());
+    for (slot, vehicles) in slots.iter_mut().zip(road.vehicles()) {
+        *slot = vehicles.to_bytes();
+    }
+    0
 }
 
 const NO_STATE: Refusal = Refusal {

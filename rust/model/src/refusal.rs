@@ -31,7 +31,8 @@ pub enum Number {
     LeftOver = 12,
     /// The state is not valid.
     InvalidState = 13,
-    /// The colour buffer is shorter than the group count.
+    /// The colour buffer is shorter than the group count, or the result buffer
+    /// shorter than the results.
     ShortBuffer = 14,
     /// An input bit is set without a detector or button there.
     UnknownInput = 15,
@@ -41,6 +42,9 @@ pub enum Number {
     WrongOrder = 18,
     /// A phase with neither a calling detector nor a pedestrian group.
     UncalledPhase = 21,
+    /// Too many streams or steps for a road, a rate that is too high, or a
+    /// detector or vehicle group that the site lacks.
+    WrongRoad = 22,
 }
 
 /// A refusal: its number, and the byte of the personality it is about (0 where

@@ -59,7 +59,7 @@ pub fn step_on(
 
 /// The state after a valid one.
 #[inline]
-fn advance(site: &Site, before: &State, inputs: u64) -> State {
+pub(crate) fn advance(site: &Site, before: &State, inputs: u64) -> State {
     let mut state = *before;
     let occupied = Occupied::by(site, inputs);
     let demanded = register_demands(site, &mut state, &occupied, inputs);

@@ -46,6 +46,17 @@ impl<F: Fn(&mut Outcome)> Board for Broken<F> {
     fn section(&self, personality: &[u8], kind: u16) -> u64 {
         packed::section(personality, kind)
     }
+
+    fn road(
+        &self,
+        personality: &[u8],
+        streams: &[u8],
+        steps: u32,
+        state: &mut [u8],
+        results: &mut [u8],
+    ) -> u64 {
+        packed::road(personality, streams, steps, state, results)
+    }
 }
 
 /// The phases with a standing demand.
@@ -429,6 +440,17 @@ impl Board for Odd {
 
     fn section(&self, personality: &[u8], kind: u16) -> u64 {
         packed::section(personality, kind)
+    }
+
+    fn road(
+        &self,
+        personality: &[u8],
+        streams: &[u8],
+        steps: u32,
+        state: &mut [u8],
+        results: &mut [u8],
+    ) -> u64 {
+        packed::road(personality, streams, steps, state, results)
     }
 }
 

@@ -19,6 +19,55 @@ pub fn section(personality: &[u8], kind: u16) -> Result<&[u8], Refusal> {
     Ok(&personality[part.offset..part.offset + part.length])
 }
 
+/// A stream of vehicles on a simulated road.
+#[derive(Clone, Copy, Debug, PartialEq, Eq)]
+pub struct Stream {
+    /// The detector that its queue occupies.
+    pub detector: u8,
+    /// The vehicle group that releases it.
+    pub group: u8,
+    /// Vehicles an hour.
+    pub rate: u16,
+}
+
+/// The vehicles of a stream after the last step.
+#[derive(Clone, Copy, Debug, PartialEq, Eq)]
+pub struct Vehicles {
+    pub queued: u16,
+    pub gone: u16,
+}
+
+/// How a simulated road ends.
+#[derive(Clone, Debug, PartialEq, Eq)]
+pub struct RoadEnd {
+    /// The bytes of the last state.
+    pub state: [u8; STATE_LEN],
+    /// The vehicles of each stream, in the order of the streams.
+    pub vehicles: Vec<Vehicles>,
+}
+
+/// Runs streams of vehicles for so many steps from the fresh state.
+pub fn road(personality: &[u8], streams: &[Stream], steps: u32) -> Result<RoadEnd, Refusal> {
+    let mut handed = Vec::with_capacity(4 * streams.len());
+    for stream in streams {
+        handed.extend([stream.detector, stream.group]);
+        handed.extend(stream.rate.to_le_bytes());
+    }
+    let mut state = [0; STATE_LEN];
+    let mut results = vec![0; handed.len()];
+    let answer = packed::road(personality, &handed, steps, &mut state, &mut results);
+    wait_bound_or_refusal(answer)?;
+    let (results, _) = results.as_chunks();
+    let vehicles = |&[queued_low, queued_high, gone_low, gone_high]: &[u8; 4]| Vehicles {
+        queued: u16::from_le_bytes([queued_low, queued_high]),
+        gone: u16::from_le_bytes([gone_low, gone_high]),
+    };
+    Ok(RoadEnd {
+        state,
+        vehicles: results.iter().map(vehicles).collect(),
+    })
+}
+
 /// Where an approach is detected, in metres.
 #[derive(Clone, Copy, Debug, PartialEq)]
 pub enum Detector {

@@ -12,7 +12,10 @@ pub mod packed;
 
 pub use answer::{part, sheet_settings, wait_bound_or_refusal, Part, Refusal, Settings};
 #[cfg(feature = "linked")]
-pub use board::{read, section, settings, version, wait_bound, Controller, Detector};
+pub use board::{
+    read, road, section, settings, version, wait_bound, Controller, Detector, RoadEnd, Stream,
+    Vehicles,
+};
 
 /// The version of the interface that these wrappers are for.
 pub const VERSION: u32 = 4;

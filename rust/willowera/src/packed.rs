@@ -17,6 +17,17 @@ mod ffi {
             colours_len: usize,
         ) -> u64;
         pub fn willowera_section(personality: *const u8, personality_len: usize, kind: u16) -> u64;
+        pub fn willowera_road(
+            personality: *const u8,
+            personality_len: usize,
+            streams: *const u8,
+            streams_len: usize,
+            steps: u32,
+            state: *mut u8,
+            state_len: usize,
+            results: *mut u8,
+            results_len: usize,
+        ) -> u64;
         pub fn willowera_settings(speed: u32, detector: u32, metres: f64) -> u64;
         pub fn willowera_version() -> u32;
     }
@@ -62,6 +73,32 @@ pub fn step(personality: &[u8], state: &mut [u8], inputs: u64, colours: &mut [u8
 pub fn section(personality: &[u8], kind: u16) -> u64 {
     // SAFETY: the pointer and the length are those of one slice, only read.
     unsafe { ffi::willowera_section(personality.as_ptr(), personality.len(), kind) }
+}
+
+/// A simulated road: writes the last state, and 4 bytes for each stream, unless
+/// it is refused.
+pub fn road(
+    personality: &[u8],
+    streams: &[u8],
+    steps: u32,
+    state: &mut [u8],
+    results: &mut [u8],
+) -> u64 {
+    // SAFETY: each pointer and length are those of one slice; the two lent for
+    // writing overlap neither each other nor the two that are only read.
+    unsafe {
+        ffi::willowera_road(
+            personality.as_ptr(),
+            personality.len(),
+            streams.as_ptr(),
+            streams.len(),
+            steps,
+            state.as_mut_ptr(),
+            state.len(),
+            results.as_mut_ptr(),
+            results.len(),
+        )
+    }
 }
 
 /// The settings of a site sheet: minimum green in bits 8 to 23, the passage time

@@ -55,6 +55,60 @@ fn settings_of_a_sheet() {
 }
 
 #[test]
+fn roads_of_the_junction() {
+    use willowera::{road, Stream, Vehicles};
+    let stream = |detector, group, rate| Stream {
+        detector,
+        group,
+        rate,
+    };
+    let vehicles = |queued, gone| Vehicles { queued, gone };
+    // Phase, interval (2 minimum green, 3 running, 5 yellow) and age.
+    let hour = road(&JUNCTION, &[stream(0, 0, 600), stream(1, 1, 300)], 36_000).unwrap();
+    assert_eq!(hour.vehicles, [vehicles(4, 596), vehicles(1, 299)]);
+    assert_eq!(hour.state[..4], [1, 5, 28, 0]);
+    let full = [stream(0, 0, 1800), stream(1, 1, 1800)];
+    let short = road(&JUNCTION, &full, 200).unwrap();
+    assert_eq!(short.vehicles, [vehicles(8, 2), vehicles(8, 2)]);
+    assert_eq!(short.state[..4], [0, 2, 11, 0]);
+    let long = road(&JUNCTION, &full, 36_000).unwrap();
+    assert_eq!(long.vehicles, [vehicles(1400, 400); 2]);
+    let one_detector = [stream(1, 0, 1800), stream(1, 1, 900)];
+    let shared = road(&JUNCTION, &one_detector, 200).unwrap();
+    assert_eq!(shared.vehicles, [vehicles(10, 0), vehicles(1, 4)]);
+    assert_eq!(shared.state[..4], [1, 3, 110, 0]);
+}
+
+#[test]
+fn roads_refused() {
+    use willowera::{road, Stream};
+    let stream = |detector, group, rate| Stream {
+        detector,
+        group,
+        rate,
+    };
+    let refused = |number| Err(Refusal { number, place: 0 });
+    let good = stream(0, 0, 1800);
+    assert!(road(&JUNCTION, &[], 0).is_ok());
+    assert!(road(&JUNCTION, &[good; 48], 1).is_ok());
+    assert_eq!(road(&JUNCTION, &[good; 49], 1), refused(22));
+    assert_eq!(road(&JUNCTION, &[good], 180_001), refused(22));
+    assert_eq!(road(&JUNCTION, &[stream(0, 0, 1801)], 1), refused(22));
+    assert_eq!(road(&JUNCTION, &[stream(2, 0, 1800)], 1), refused(22));
+    assert_eq!(road(&JUNCTION, &[stream(0, 2, 1800)], 1), refused(22));
+    assert_eq!(road(&[], &[good; 49], 1), refused(1));
+    let mut state = [9; STATE_LEN];
+    let one = [0, 0, 8, 7];
+    assert_eq!(packed::road(&JUNCTION, &one, 1, &mut [], &mut []), 13);
+    assert_eq!(
+        packed::road(&JUNCTION, &one, 1, &mut state, &mut [0; 3]),
+        14
+    );
+    assert_eq!(packed::road(&JUNCTION, &one[..3], 1, &mut [], &mut []), 22);
+    assert_eq!(state, [9; STATE_LEN]);
+}
+
+#[test]
 fn steps_to_the_first_green() {
     let mut controller = Controller::new(&JUNCTION).unwrap();
     let mut colours = [9; 3];

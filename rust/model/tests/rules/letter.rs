@@ -1,7 +1,7 @@
 //! The paper once more, word by word and without any thought of speed, beside
 //! the model.
 
-use generate::{invalid_state, known_inputs, valid_state, Breakage, Plan, Rng};
+use generate::{invalid_state, known_inputs, valid_state, Breakage, Plan, Rng, RoadPlan};
 use model::packed;
 use model::{
     fresh, step, valid, wait_bound, Interval, MovementState, Number, Site, Stage, State, MAX_AGE,
@@ -410,6 +410,70 @@ fn runs_from_the_fresh_state() {
             }
             state = letter.check(&personality, &state, inputs);
         }
+    }
+}
+
+impl Letter<'_> {
+    /// A road from the fresh state: the last state, and for each stream the
+    /// vehicles queued and gone. Arrivals are not added up but worked out from the
+    /// rate and the step, and the steps that count for a release are listed.
+    fn road(&self, streams: &[u8], steps: u32) -> (State, Vec<[u64; 2]>) {
+        let streams: Vec<&[u8]> = streams.chunks(4).collect();
+        let rate = |stream: &[u8]| u64::from(stream[2]) + 256 * u64::from(stream[3]);
+        let mut state = fresh();
+        let mut gone = vec![0; streams.len()];
+        // For each stream, the steps at green with a queue that still count.
+        let mut counted: Vec<Vec<u32>> = vec![vec![]; streams.len()];
+        let arrived = |stream: &[u8], step: u32| rate(stream) * u64::from(step) / 36_000;
+        for step in 1..=steps {
+            let mut inputs = 0;
+            for (index, stream) in streams.iter().enumerate() {
+                if arrived(stream, step) > gone[index] {
+                    inputs |= 1 << stream[0];
+                }
+            }
+            state = self.step(&state, inputs);
+            for (index, stream) in streams.iter().enumerate() {
+                let green = self.colour(&state, usize::from(stream[1])) == 2;
+                let queue = arrived(stream, step) > gone[index];
+                if green && queue {
+                    counted[index].push(step);
+                } else {
+                    counted[index].clear();
+                }
+                if counted[index].len() == 20 {
+                    assert_eq!(counted[index][0] + 19, step, "20 steps in a row");
+                    counted[index].clear();
+                    gone[index] += 1;
+                }
+            }
+        }
+        let queued = |index: usize| arrived(streams[index], steps) - gone[index];
+        let results = (0..streams.len()).map(|index| [queued(index), gone[index]]);
+        (state, results.collect())
+    }
+}
+
+#[test]
+fn roads() {
+    let mut rng = Rng::new(SEED);
+    for _ in 0..250 {
+        let plan = Plan::random(&mut rng);
+        let personality = plan.bytes();
+        let site = Site::read(&personality).unwrap();
+        let RoadPlan { streams, steps } = RoadPlan::random(&mut rng, &site);
+        let steps = steps.min(30_000);
+        let mut state = [0; STATE_LEN];
+        let mut results = vec![0; streams.len()];
+        let answer = packed::road(&personality, &streams, steps, &mut state, &mut results);
+        assert_eq!(answer, 0);
+        let (last, vehicles) = Letter::new(&plan).road(&streams, steps);
+        let found: Vec<[u64; 2]> = results
+            .chunks(4)
+            .map(|four| [0, 2].map(|at| u64::from(four[at]) + 256 * u64::from(four[at + 1])))
+            .collect();
+        assert_eq!(found, vehicles, "{plan:?}, {streams:?}, {steps} steps");
+        assert_eq!(state, last.to_bytes());
     }
 }
 

@@ -13,6 +13,7 @@ mod overlaps;
 mod pedestrians;
 mod refusals;
 mod resting_walk;
+mod road;
 mod running;
 mod states;
 mod trace;

@@ -7,8 +7,8 @@ use Rattle.laws.specs.Bytes.{bit}
 use Rattle.rules.specs.Personality.{conflictSet}
 use Rattle.laws.specs.Folds.{anyOf}
 use Rattle.laws.proofs.Booleans.{and-both, and-false-left, and-false-right}
-use Rattle.read_conflicts.specs.Refused.{refusedPair, refusedConflict}
 use Rattle.laws.proofs.Folds.{any-at, any-more, any-done}
+use Rattle.read_conflicts.specs.Refused.{refusedPair, refusedConflict}
 use borrow.Author.Needs.{needs}
 use native.Mathlib.Omega.{arith}
 use Rattle.read_conflicts.proofs.records.refused_conflict.Statement.{statement}

@@ -1,0 +1,6 @@
+pub mod Words
+pub mod Streams
+pub mod Flow
+pub mod Steps
+pub mod Runs
+pub mod Refusals

@@ -1,0 +1,1 @@
+// Proofs about the simulated road. No function.

@@ -1,0 +1,139 @@
+-- One step on the road: what its parts ask for holds after n steps, and what they give is the road after n + 1 steps.
+use Prim.Native.Nat.{ℕ, suc, _+_, _≤_, _<_}
+use mathlib.Core.Bool.{true}
+use mathlib.Core.List.{List, _++_}
+use mathlib.Core.Path.{_≡_, sym, ap, subst⁻¹, _∙_}
+use lib.ListN.{length, drop, replicate, length-append, length-drop}
+use native.Mathlib.Numerals.{add-one}
+use native.Mathlib.Omega.{arith}
+use Rattle.rules.specs.declared.site.Site.{Site}
+use Rattle.rules.specs.declared.state.KeptState.{KeptState}
+use Rattle.rules.specs.declared.state.State.{State}
+use Rattle.rules.specs.Site.{siteOf}
+use Rattle.rules.specs.Kept.{keptValid, keptStepped}
+use Rattle.rules.specs.Colours.{shownIn, coloursOf}
+use Rattle.laws.specs.Folds.{listOf}
+use Rattle.laws.proofs.Lists.{list-length}
+use Rattle.rules.specs.Call.{bufferOf}
+use Rattle.rules.specs.Laws.{Sound}
+use Rattle.road_streams.specs.declared.Traffic.{Traffic}
+use Rattle.road_streams.specs.Road.{streamCount, streamAt, trafficOf, arrived, arrivals, inputsOf, blankColours, roadStepped, roadAfter}
+use Rattle.proof_road.proofs.Streams.{KnownStreams, known-streams}
+use Rattle.proof_road.proofs.Flow.{Flow, flow-arrived, flow-few, road-flow, arrivals-at}
+use Rattle.proof_road.proofs.Steps.{sound, road-valid, state-given, colours-given}
+use Rattle.road_step.specs.Cells.{trafficAt, trafficIn}
+use Rattle.road_step.specs.Passes.{Arriving, ArrivedIn, Releasing, ReleasedIn}
+use Rattle.road_step.specs.OnRoad.{OnRoad}
+use Rattle.road_step.proofs.Passes.{held-at}
+
+-- the colours of a site's groups fill a part of the buffer
+pub shown-length : (site : Site) (core : State) → Sound site → length (coloursOf site core ++ drop (site .size .groups) blankColours) ≡ 32
+unfolding coloursOf blankColours
+shown-length site core sound =
+    let count = site .size .groups in
+    let blank : List ℕ = replicate 32 0 in
+    let shown = listOf (shownIn site core) count in
+    omega (arith, length-append shown (drop count blank), list-length (shownIn site core) count, length-drop count blank, sound .groups .1)
+
+module _ {b streams : List ℕ} {steps : ℕ} {site : Site} {n : ℕ} {state : KeptState} {cells : List ℕ} (road : OnRoad b streams steps site n state cells) where
+  known : KnownStreams (siteOf b) streams steps
+  known = known-streams (siteOf b) streams steps (road .known)
+
+  pub on-sound : Sound site
+  on-sound = subst⁻¹ Sound (road .place) (sound b streams steps (road .read) (road .known))
+
+  pub on-valid : keptValid site state ≡ true
+  on-valid = rw (road .place, road .held) (road-valid b streams steps (road .read) (road .known) n)
+
+  module _ (before : n < steps) where
+    -- ── Arrivals ──
+
+    module _ (i : ℕ) (l : i < streamCount streams) where
+      slow : streamAt streams i .rate ≤ 1800
+      slow = known .each i l .rate
+
+      flow-held : Flow (streamAt streams i .rate) n (trafficOf (roadAfter b streams n .traffic) i)
+      flow-held = road-flow b streams i l (omega (arith, slow)) n
+
+      held : trafficAt cells i ≡ trafficOf (roadAfter b streams n .traffic) i
+      held = sym (held-at cells (streamCount streams) i l) ∙ ap (λ (t : List Traffic). trafficOf t i) (road .traffic)
+
+      -- a vehicle more may have come
+      flow-next : Flow (streamAt streams i .rate) (suc n) (arrived (streamAt streams i .rate) (trafficOf (roadAfter b streams n .traffic) i))
+      flow-next = flow-arrived _ n _ (omega (arith, slow)) flow-held
+
+    pub may-arrive : Arriving streams cells
+    may-arrive =
+        record {
+          room = road .room;
+          each =
+              λ i l.
+              let flow = flow-held i l in
+              let few = flow-few _ n _ (slow i l) (omega (arith, known .few)) flow in
+              rw (held i l)
+              record {
+                rate = slow i l;
+                detector = omega (arith, known .each i l .detector, sound b streams steps (road .read) (road .known) .detectors);
+                below = flow .below;
+                fits = omega (arith, few);
+              };
+        }
+
+    -- ── Releases ──
+
+    abbrev waiting : List Traffic
+    waiting = arrivals streams (roadAfter b streams n .traffic)
+
+    module _ {more : List ℕ} {inputs : ℕ} (came : ArrivedIn streams cells more inputs) where
+      came-traffic : trafficIn more (streamCount streams) ≡ waiting
+      came-traffic = came .traffic ∙ ap (arrivals streams) (road .traffic)
+
+      pub came-inputs : inputs ≡ inputsOf streams waiting
+      came-inputs = came .word ∙ ap (λ (t : List Traffic). inputsOf streams (arrivals streams t)) (road .traffic)
+
+      more-held : (i : ℕ) → i < streamCount streams → trafficAt more i ≡ arrived (streamAt streams i .rate) (trafficOf (roadAfter b streams n .traffic) i)
+      more-held i l =
+          sym (held-at more (streamCount streams) i l)
+          ∙ ap (λ (t : List Traffic). trafficOf t i) came-traffic
+          ∙ arrivals-at b streams i l (roadAfter b streams n .traffic)
+
+      pub may-release : (colours : List ℕ) → length colours ≡ 32 → Releasing streams colours more
+      may-release colours len =
+          record {
+            room = omega (arith, road .room, came .same);
+            each =
+                λ i l.
+                let flow = flow-next i l in
+                let few = flow-few _ (suc n) _ (slow i l) (omega (arith, known .few)) flow in
+                rw (more-held i l)
+                record {
+                  group = omega (arith, known .each i l .group, sound b streams steps (road .read) (road .known) .groups .1);
+                  counting = flow .counting;
+                  fits = omega (arith, few);
+                };
+          }
+
+      -- ── The next state of the road ──
+
+      pub next-road :
+          {next : KeptState} {colours last : List ℕ} →
+          next ≡ keptStepped site state inputs →
+          colours ≡ coloursOf site (next .core) ++ drop (site .size .groups) blankColours →
+          ReleasedIn streams colours more last →
+          OnRoad b streams steps site (n + 1) next last
+      unfolding roadAfter roadStepped
+      next-road {next} {colours} {last} stepped shown left =
+          let s = roadAfter b streams n .state in
+          let valid = road-valid b streams steps (road .read) (road .known) n in
+          let stepped-is : next ≡ keptStepped (siteOf b) s (inputsOf streams waiting) = stepped ∙ rw (road .place, road .held, came-inputs) in
+          let shown-is : colours ≡ bufferOf b s (inputsOf streams waiting) blankColours =
+          shown ∙ rw (stepped-is, road .place) (sym (colours-given b streams steps (road .read) (road .known) s waiting valid)) in
+          record {
+            read = road .read;
+            place = road .place;
+            known = road .known;
+            within = omega arith;
+            room = omega (arith, road .room, came .same, left .same);
+            held = rw (add-one n) (stepped-is ∙ sym (state-given b streams steps (road .read) (road .known) s waiting valid));
+            traffic = rw (add-one n) (left .traffic ∙ rw (came-traffic, shown-is));
+          }

@@ -1,0 +1,105 @@
+-- `road_step::releases` meets its contract. The loop's invariant: the streams passed have their releases.
+use Prim.Native.Nat.{_+_, _*_, _-_, _≤_, _<_}
+use mathlib.Core.Path.{_∙_}
+use lib.ListN.{length}
+use Rattle.road_streams.specs.Road.{streamCount, streamAt}
+use Rattle.road_step.specs.Cells.{trafficAt}
+use Rattle.road_step.specs.Passes.{MayRelease}
+use Rattle.road_step.proofs.Cells.{Passed, passed-none, passed-more}
+use Rattle.road_step.proofs.Passes.{releasing, released-all}
+use borrow.Author.Needs.{needs}
+use native.Mathlib.Omega.{arith}
+use Rattle.road_step.proofs.releases.Statement.{statement}
+use Rattle.road_step.proofs.releases.Tie as tie
+
+abbrev Inv-loop : tie.InvT-loop
+Inv-loop streams colours cells₀ count i₀ cells i = (i ≤ count) × Passed (releasing streams colours) cells₀ cells i
+
+abbrev μ-loop : tie.MeasureT-loop
+μ-loop streams colours cells₀ count i₀ cells i = count - i
+
+loop-holds : tie.Need-loop-holds Inv-loop μ-loop
+loop-holds c = (search needs, passed-none)
+
+-- ── A turn ──
+
+abbrev entry : tie.At-loop Inv-loop μ-loop → tie.Start Inv-loop μ-loop
+entry c = c .before .before .before .before
+
+-- the stream is one of those, and its cells are in the row
+within : (c : tie.In-loop Inv-loop μ-loop) → c .before .loop .i < streamCount (entry (c .before) .args .streams .now)
+unfolding streamCount
+within c = c .loop-test .taken
+
+inside : (c : tie.In-loop Inv-loop μ-loop) → 4 * c .before .loop .i + 4 ≤ length (c .before .loop .cells)
+inside c = omega (arith, within c, entry (c .before) .pre .room, c .before .loop .inv .1 .same)
+
+-- its traffic is as handed in
+fine :
+    (c : tie.In-loop Inv-loop μ-loop) →
+    MayRelease (length (entry (c .before) .args .colours .now)) (streamAt (entry (c .before) .args .streams .now) (c .before .loop .i)) (trafficAt (c .before .loop .cells) (c .before .loop .i))
+fine c = rw (c .before .loop .inv .1 .left (c .before .loop .i) (omega arith)) (entry (c .before) .pre .each (c .before .loop .i) (within c))
+
+stream-at-requires : tie.Need-stream-at-requires Inv-loop μ-loop
+stream-at-requires c κs = omega (arith, c .loop-test .taken)
+
+cast-byte-in : tie.Need-cast-byte-in Inv-loop μ-loop
+cast-byte-in c = search needs
+
+byte-in-requires : tie.Need-byte-in-requires Inv-loop μ-loop
+byte-in-requires c κs = rw (c .before .stream-at .ensures) (fine (c .before .before) .group)
+
+traffic-at-requires : tie.Need-traffic-at-requires Inv-loop μ-loop
+traffic-at-requires c κs = inside (c .before .before .before .before)
+
+released-requires : tie.Need-released-requires Inv-loop μ-loop
+released-requires c κs =
+    let ok = fine (c .before .before .before .before .before) in
+    rw (c .traffic-at .ensures) (ok .fits, ok .counting)
+
+put-at-requires : tie.Need-put-at-requires Inv-loop μ-loop
+put-at-requires c κs = inside (c .before .before .before .before .before .before .before)
+
+add-i : tie.Need-add-i Inv-loop μ-loop
+add-i c = search needs
+
+loop-less : tie.Need-loop-less Inv-loop μ-loop
+loop-less c = search needs
+
+loop-again : tie.Need-loop-again Inv-loop μ-loop
+loop-again c =
+    let put = c .before .before in
+    let made = put .before .before in
+    let read = made .before in
+    let shown = read .before .before in
+    let seen = shown .before .before in
+    let turn = seen .before in (
+      search needs,
+      passed-more (made .released .result) (turn .before .loop .inv .1) (inside turn) (put .put-at .ensures) (made .released .ensures ∙ cc),
+    )
+
+same-length : tie.Need-same-length Inv-loop μ-loop
+same-length c = c .before .loop .inv .1 .same
+
+returns : tie.Need-returns Inv-loop μ-loop
+unfolding streamCount
+returns c = released-all (c .before .loop .inv .1) (c .loop-test .left)
+
+pub releases-spec : {M : Type 1} → statement M
+releases-spec =
+    tie.close
+    (tie.spec
+    Inv-loop
+    μ-loop
+    loop-holds
+    stream-at-requires
+    cast-byte-in
+    byte-in-requires
+    traffic-at-requires
+    released-requires
+    put-at-requires
+    add-i
+    loop-less
+    loop-again
+    same-length
+    returns)

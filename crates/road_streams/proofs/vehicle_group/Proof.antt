@@ -1,0 +1,25 @@
+-- `road_streams::vehicle_group` meets its contract.
+use borrow.Author.Tests.{lt-ltb, le-ltb}
+use Rattle.rules.specs.Site.{groupOf, isPedestrian}
+use Rattle.road_streams.specs.Road.{vehicleGroup}
+use borrow.Author.Needs.{needs}
+use mathlib.Core.Path.{refl}
+use Rattle.road_streams.proofs.vehicle_group.Statement.{statement}
+use Rattle.road_streams.proofs.vehicle_group.Tie as tie
+
+mul-group : tie.Need-mul-group
+mul-group c = search needs
+
+array-copy-out-group : tie.Need-array-copy-out-group
+array-copy-out-group c = search needs
+
+returns : tie.Need-returns
+unfolding vehicleGroup isPedestrian groupOf
+returns c = rw (lt-ltb _ _ (c .before .before .before .if1 .taken)) refl
+
+returns-2 : tie.Need-returns-2
+unfolding vehicleGroup
+returns-2 c = rw (le-ltb _ _ (c .if1 .left)) refl
+
+pub vehicle-group-spec : {M : Type 1} → statement M
+vehicle-group-spec = tie.close (tie.spec mul-group array-copy-out-group returns returns-2)
