@@ -1,7 +1,7 @@
 #!/usr/bin/env bash
 # Passes everything: layout; the names in the documents; every crate proved from nothing, every must-fail edit refused and every program
-# run; the edits of the rules that a theorem must refuse; the example sites, their traces and the ways a trace ends; the vectors; the
-# tests of rust/ and the library against the model; the library from C.
+# run; the edits of the rules that a theorem must refuse; the example sites, their traces and the ways a trace ends; the lines of the table
+# of yellow times; the vectors; the tests of rust/ and the library against the model; the library from C.
 # The last line is `N passed, M failed`; the exit status is 0 only where M is 0.
 set -u
 cd "$(dirname "$0")" || exit 2
@@ -75,6 +75,14 @@ for input in examples/*/road*.bin; do
 done
 check 'endings of a trace' python3 examples/endings.py "$proved" "$model"
 
+# The lines of the table of yellow times in the source are those that the generator computes.
+yellow_lines() { sed -n '/^const YELLOW/,/^];/{//!p}' crates/sheet_yellow/src/lib.rt; }
+same_yellow() (
+    set -o pipefail
+    ./target/bin/run_yellow | cmp - <(yellow_lines)
+)
+check 'table of yellow times as generated' same_yellow
+
 # The vectors of the reader are those that the script makes.
 same_vectors() { python3 vectors/make_reads.py "$log" && cmp "$log" crates/run_reads/data/reads; }
 check 'vectors/make_reads.py' same_vectors
@@ -93,13 +101,19 @@ same_roads() { python3 vectors/make_roads.py "$log" && compare_with_model roads 
 check 'roads of vectors/make_roads.py' same_roads
 
 # The library from C: what it needs, the conditions that its header states, and the example program.
-for part in needs conditions steps settings road; do
+for part in needs conditions steps settings road yellow; do
     check "examples/c/check.sh $part" examples/c/check.sh "$part"
 done
 
 # The settings of site sheets against exact arithmetic.
 compare_sheets() { (cd rust && cargo run --quiet --release --offline --features linked -p sheet -- "$@"); }
 check 'settings of site sheets agree' compare_sheets 1 1000000
+
+# Yellow times: the library against whole numbers, and the source's table against exact fractions.
+compare_yellow() { (cd rust && cargo run --quiet --release --offline --features linked -p yellow -- compare); }
+check 'yellow times agree' compare_yellow
+exact_yellow() { yellow_lines | grep -v '//' >"$log" && python3 vectors/yellow.py "$log"; }
+check 'table of yellow times by vectors/yellow.py' exact_yellow
 
 wait "$edits"
 for edit in must-fail-rules/*.edit; do

@@ -28,8 +28,9 @@
  *   thread that was ended from outside) can leave state or colours half written. If that matters, keep a copy of the last state.
  *
  * The archive is for x86-64 Linux, System V calling convention, C or C++. It can be linked into programs and shared objects, and needs
- * only memcpy and memset. It uses the SSE2 registers and the red zone, and does not change the floating-point environment. All numbers
- * are unsigned; a byte is a uint8_t.
+ * only memcpy and memset. It uses the SSE2 registers and the red zone, and does not change the floating-point environment. A byte is a
+ * uint8_t. All numbers are unsigned, except two: the grade of willowera_yellow is signed, and the metres of willowera_settings are a
+ * double.
  *
  * Only willowera_settings uses floating-point numbers: its metres are a double, and it may raise floating-point exception flags.
  */
@@ -118,6 +119,9 @@ extern "C" {
 /* Refusal of a simulated road. */
 #define WILLOWERA_WRONG_STREAMS 22      /* streams or steps out of range, or a detector or vehicle group not in the site; place 0 */
 
+/* Refusal of a yellow time. */
+#define WILLOWERA_YELLOW_OUT_OF_RANGE 23 /* speed not 40 to 110, or grade not -10 to 10; place 0 */
+
 /* ── Answers: the number in bits 0 to 7, above it the place of a refusal, or the result of an accepted call ── */
 
 #define WILLOWERA_NUMBER(answer) ((unsigned)((answer) & 0xff))
@@ -127,6 +131,7 @@ extern "C" {
 #define WILLOWERA_LENGTH(answer) ((size_t)((answer) >> 40))
 #define WILLOWERA_MINIMUM_GREEN_SETTING(answer) ((uint16_t)((answer) >> 8))
 #define WILLOWERA_PASSAGE_TIME(answer) ((uint16_t)((answer) >> 24))
+#define WILLOWERA_YELLOW_TIME(answer) ((uint8_t)((answer) >> 8))
 
 /* ── Calls ── */
 
@@ -163,6 +168,10 @@ uint64_t willowera_settings(uint32_t speed, uint32_t detector, double metres);
  * (results_length is less than 4 for each stream). A simulated hour takes a few milliseconds. */
 uint64_t willowera_road(const uint8_t *personality, size_t personality_length, const uint8_t *streams, size_t streams_length,
                         uint32_t steps, uint8_t *state, size_t state_length, uint8_t *results, size_t results_length);
+
+/* The yellow time of an approach in steps (WILLOWERA_YELLOW_TIME), for use as Y, or a refusal. The speed is in km/h, 40 to 110. The
+ * grade is in percent, -10 to 10; uphill is positive. */
+uint64_t willowera_yellow(uint32_t speed, int32_t grade);
 
 /* Offset and length of the body of a section (WILLOWERA_OFFSET, WILLOWERA_LENGTH), or a refusal. */
 uint64_t willowera_section(const uint8_t *personality, size_t personality_length, uint16_t kind);

@@ -6,6 +6,7 @@
 #     check.sh steps         steps.c prints the colours of the trace of the junction of two phases
 #     check.sh settings      settings.c prints the answers that the data sheet's table of site sheets has
 #     check.sh road          road.c prints what the tables of the example roads have, but for the longest queue
+#     check.sh yellow        yellow.c prints the answers that the data sheet's table of yellow times has
 #
 # The programs are built with gcc's address and undefined-behaviour sanitizers, which watch the caller's side.
 set -u -o pipefail
@@ -26,6 +27,7 @@ run() { # NAME WORDS..
 undefined_names() { nm -u "$library" | awk '$1 == "U" { print $2 }' | sort | xargs; }
 writable_sections() { readelf -SW "$library" | sed 's/^ *\[ *[0-9]*\]//' | awk '$7 ~ /W/ { print $1 }'; }
 sheets() { awk -F ' *[|] *' "/^## / { here = /from a site sheet/ } here && \$2 ~ /^[0-9]+\$/ { print $1 }" docs/DATA-SHEET.md; }
+yellows() { awk -F ' *[|] *' "/^## / { here = /^## Yellow times/ } here && \$2 ~ /^[0-9]+\$/ { print $1 }" docs/DATA-SHEET.md; }
 changes() { awk 'NR > 1 && $4 != last { print $1, $4; last = $4 }' "$1"; }
 
 case "${1:-}" in
@@ -49,6 +51,10 @@ road)
         table=$(dirname "$road")/$(basename "$road" .bin | sed 's/^road/table/').txt
         run road "$road" | cmp - <(tail -n +2 "$table" | cut -d ' ' -f 1-6) || exit 1
     done
+    ;;
+yellow)
+    # shellcheck disable=SC2046 # two words of each row
+    run yellow $(yellows '$2, $3') | diff - <(yellows '$4')
     ;;
 *)
     sed -n '2,10s/^# \{0,1\}//p' "$0"

@@ -1,3 +1,4 @@
 pub mod Board
 pub mod SheetCall
 pub mod RoadCall
+pub mod YellowCall

@@ -12,6 +12,7 @@ ghost use Rattle.willowera.specs.Board.{packed, packedVerdict, packedOut
 
 pub mod road;
 pub mod sheet;
+pub mod yellow;
 
 use base_bytes::two_at;
 use rules::answer::Outcome;

@@ -86,6 +86,12 @@ pub fn settings(speed: u32, detector: Detector) -> Result<Settings, Refusal> {
     sheet_settings(packed::settings(speed, number, metres))
 }
 
+/// The yellow time in steps at a speed in km/h and a grade in percent, uphill
+/// positive.
+pub fn yellow(speed: u32, grade: i32) -> Result<u64, Refusal> {
+    wait_bound_or_refusal(packed::yellow(speed, grade))
+}
+
 /// The version of the library.
 pub fn version() -> u32 {
     packed::version()

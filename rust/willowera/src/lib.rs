@@ -13,8 +13,8 @@ pub mod packed;
 pub use answer::{part, sheet_settings, wait_bound_or_refusal, Part, Refusal, Settings};
 #[cfg(feature = "linked")]
 pub use board::{
-    read, road, section, settings, version, wait_bound, Controller, Detector, RoadEnd, Stream,
-    Vehicles,
+    read, road, section, settings, version, wait_bound, yellow, Controller, Detector, RoadEnd,
+    Stream, Vehicles,
 };
 
 /// The version of the interface that these wrappers are for.

@@ -29,6 +29,7 @@ mod ffi {
             results_len: usize,
         ) -> u64;
         pub fn willowera_settings(speed: u32, detector: u32, metres: f64) -> u64;
+        pub fn willowera_yellow(speed: u32, grade: i32) -> u64;
         pub fn willowera_version() -> u32;
     }
 }
@@ -106,6 +107,12 @@ pub fn road(
 pub fn settings(speed: u32, detector: u32, metres: f64) -> u64 {
     // SAFETY: takes numbers and touches no memory of ours.
     unsafe { ffi::willowera_settings(speed, detector, metres) }
+}
+
+/// The yellow time at a speed and a grade.
+pub fn yellow(speed: u32, grade: i32) -> u64 {
+    // SAFETY: takes numbers and touches no memory of ours.
+    unsafe { ffi::willowera_yellow(speed, grade) }
 }
 
 /// The version of the library.

@@ -109,6 +109,21 @@ fn roads_refused() {
 }
 
 #[test]
+fn yellow_times() {
+    use willowera::yellow;
+    assert_eq!(yellow(72, 0), Ok(44));
+    assert_eq!(yellow(40, 10), Ok(30));
+    assert_eq!(yellow(110, -10), Ok(86));
+    let refused = Err(Refusal {
+        number: 23,
+        place: 0,
+    });
+    assert_eq!(yellow(39, 0), refused);
+    assert_eq!(yellow(72, 11), refused);
+    assert_eq!(yellow(u32::MAX, i32::MIN), refused);
+}
+
+#[test]
 fn steps_to_the_first_green() {
     let mut controller = Controller::new(&JUNCTION).unwrap();
     let mut colours = [9; 3];

@@ -1,0 +1,5 @@
+pub mod Shift
+pub mod Stated
+pub mod Entries
+pub mod YellowLaws
+pub mod YellowCases

@@ -1,0 +1,4 @@
+pub mod Yellow
+pub mod Columns
+pub mod YellowLaws
+pub mod YellowCases

@@ -1,0 +1,18 @@
+// The yellow time by speed and grade for C.
+ghost use mathlib.Core.Path.{_≡_};
+ghost use Rattle.willowera.specs.YellowCall.{yellowAnswer};
+use crate::packed;
+use crate::refusal;
+use sheet_yellow::Answer;
+
+// The yellow time in steps, or a refusal.
+#[no_mangle]
+pub extern "C" fn willowera_yellow(speed: u32, grade: i32) -> u64
+    ensures { λ r. ⌜ r ≡ yellowAnswer speed grade ⌝ }
+{
+    let answer = sheet_yellow::yellow(speed, grade);
+    match answer {
+        Answer::Yellow { steps } => packed(0, steps as u32),
+        Answer::Refused { number, place } => refusal(number, place),
+    }
+}
