@@ -60,7 +60,7 @@ pub struct Timing {
     pub crossings: [u8; 8],
 }
 
-// Only these parts are decoded. So `site_of` has a single caller, the step call, and the compiler can inline it there.
+// Only these parts are decoded: the wait bound needs no groups, conflicts, detectors or order.
 pub fn timing_in(s: &[u8], layout: Layout) -> Timing
     requires { ⌜ Fitting (now s) layout ⌝ }
     ensures { λ r. ⌜ r ≡ timingIn (siteOf (now (s .entry))) ⌝ }
