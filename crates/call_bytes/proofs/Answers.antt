@@ -1,5 +1,5 @@
 -- The answers by cases: acceptance or a refusal, each packed, and of a step what becomes of the state's bytes and of the colours.
-use Prim.Native.Nat.{ℕ, _+_, _*_, _≤_}
+use Prim.Native.Nat.{ℕ, _≤_}
 use mathlib.Core.Bool.{Bool, true, false}
 use mathlib.Core.List.{List}
 use mathlib.Core.Path.{_≡_, refl, sym, ap, _∙_}
@@ -14,17 +14,15 @@ use Rattle.rules.specs.declared.answer.Outcome.the-variants.{Stepped, StepRefus
 use Rattle.rules.specs.declared.answer.Verdict.{Verdict}
 use Rattle.rules.specs.declared.answer.Verdict.the-variants.{Accepted, Refused}
 use Rattle.rules.specs.declared.state.KeptState.{KeptState}
-use Rattle.laws.specs.Bytes.{twoAt}
 use Rattle.rules.specs.Verdicts.{_orElse_, reportOf, stepReportOf, waitOf}
-use Rattle.rules.specs.Personality.{bodyAt, bodyLength, verdictOf}
+use Rattle.rules.specs.Personality.{verdictOf}
 use Rattle.rules.specs.Site.{siteOf}
-use Rattle.rules.specs.Lookup.{lookupVerdict, headOf}
 use Rattle.rules.specs.WaitBound.{waitBound}
 use Rattle.rules.specs.Call.{boundFor, handedBack, bufferFor, checksBy, callVerdict, boundOf, answerOf, bufferOf}
 use Rattle.state_bytes.specs.Layout.{stateBytes, isState, decoded, encodedOver}
 use Rattle.state_bytes.proofs.KnownBytes.{state-told}
-use Rattle.willowera.specs.Board.{packed, packedVerdict, packedOutcome, stepAnswer, stateFor, stateAfter, coloursAfter, sectionFor, sectionAnswer}
-use Rattle.proof_acceptance.proofs.Places.{lastPlace, personality-named, call-named, lookup-named}
+use Rattle.call_bytes.specs.CallBytes.{packed, packedVerdict, packedOutcome, stepAnswer, stateFor, stateAfter, coloursAfter}
+use Rattle.proof_acceptance.proofs.Places.{lastPlace, personality-named, call-named}
 
 -- ── One verdict ──
 
@@ -141,23 +139,3 @@ module _ (b old buffer : List ℕ) (inputs r : ℕ) where
         Steps b old inputs buffer r old out
     unfolding stepAnswer stateAfter coloursAfter packedOutcome stepReportOf waitOf stateFor
     stays {place = place} o p = (rw (known, sym (called .0), o, p, add-zero place), rw (known, sym (called .0), o), rw (known, called .1))
-
--- ── The section lookup ──
-
-module _ (b : List ℕ) (kind : ℕ) where
-  pub section-near : {number place : ℕ} → lookupVerdict b kind ≡ Refused number place → place ≤ lastPlace
-  section-near {number} {place} e = lookup-named b kind number place e .1
-
-  pub section-refused : {number place : ℕ} (r : ℕ) → lookupVerdict b kind ≡ Refused number place → r ≡ packed number place → r ≡ sectionAnswer b kind
-  unfolding sectionAnswer sectionFor packedVerdict reportOf
-  section-refused r e p = rw (e, p)
-
-  pub section-found :
-      (head size r : ℕ) →
-      lookupVerdict b kind ≡ Accepted →
-      head ≡ headOf b kind →
-      size ≡ twoAt b head →
-      r ≡ 256 * (head + 4) + 1099511627776 * size →
-      r ≡ sectionAnswer b kind
-  unfolding sectionAnswer sectionFor bodyAt bodyLength
-  section-found head size r found h s p = rw (p, found, s, h)

@@ -1,4 +1,4 @@
--- `willowera::willowera_step` meets its contract: a refused personality, bytes that are no state, a refused step and a step.
+-- `call_bytes::step` meets its contract: a refused personality, bytes that are no state, a refused step and a step.
 use mathlib.Core.Bool.{true}
 use mathlib.Core.Path.{_≡_, sym, _∙_}
 use borrow.Author.Needs.{needs}
@@ -6,9 +6,9 @@ use borrow.Author.Tests.{not-true, not-false}
 use Rattle.rules.specs.declared.answer.Verdict.the-variants.{Accepted}
 use Rattle.rules.specs.Personality.{verdictOf}
 use Rattle.state_bytes.specs.Layout.{isState}
-use Rattle.willowera.proofs.Answers.{refused-near, refuses, no-state, answer-near, steps-on, stays}
-use Rattle.willowera.proofs.willowera_step.Statement.{statement}
-use Rattle.willowera.proofs.willowera_step.Tie as tie
+use Rattle.call_bytes.proofs.Answers.{refused-near, refuses, no-state, answer-near, steps-on, stays}
+use Rattle.call_bytes.proofs.step.Statement.{statement}
+use Rattle.call_bytes.proofs.step.Tie as tie
 
 -- ── A refused personality ──
 
@@ -135,8 +135,8 @@ returns-4 c =
     (c .before .before .outcome2 .given .1)
     (c .refusal3 .ensures)
 
-pub willowera-step-spec : {M : Type 1} → statement M
-willowera-step-spec =
+pub step-spec : {M : Type 1} → statement M
+step-spec =
     tie.close
     (tie.spec
     read-with-layout-requires

@@ -1,9 +1,9 @@
--- `willowera::packed` meets its contract: the sum is the definition's.
+-- `call_bytes::packed` meets its contract: the sum is the definition's.
 use mathlib.Core.Path.{refl}
-use Rattle.willowera.specs.Board.{packed}
+use Rattle.call_bytes.specs.CallBytes.{packed}
 use borrow.Author.Needs.{needs}
-use Rattle.willowera.proofs.packed.Statement.{statement}
-use Rattle.willowera.proofs.packed.Tie as tie
+use Rattle.call_bytes.proofs.packed.Statement.{statement}
+use Rattle.call_bytes.proofs.packed.Tie as tie
 
 mul-result : tie.Need-mul-result
 mul-result c = search needs
