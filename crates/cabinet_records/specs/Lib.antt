@@ -1,0 +1,2 @@
+pub mod Cabinet
+pub mod Layout
