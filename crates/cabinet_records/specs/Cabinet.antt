@@ -125,19 +125,19 @@ takingVerdict row out k = heldVerdict row k orElse refuseIf (isShort out) 14 0
 
 -- ── The calls ──
 
--- the answer, and the row and the outputs as the call returns
-pub record Returned : Type 0 where
+-- The answer, and the row and the outputs as the call returns. The row is a list of records, or bytes that hold them.
+pub record Returned (Row : Type 0) : Type 0 where
   pub answer : ℕ
-  pub row : List Record
+  pub row : Row
   pub outputs : List ℕ
 
 -- a refusal leaves the row and the outputs
-unfoldable pub returnedFor : Verdict → Returned → List Record → List ℕ → Returned
+unfoldable pub returnedFor : Verdict → Returned (List Record) → List Record → List ℕ → Returned (List Record)
 returnedFor Accepted done row out = done
 returnedFor (Refused number place) done row out = record { answer = packedVerdict (Refused number place); row = row; outputs = out }
 
 -- a site begins fresh, with its outputs red
-unfoldable pub placing : List Record → List ℕ → List ℕ → ℕ → ℕ → Returned
+unfoldable pub placing : List Record → List ℕ → List ℕ → ℕ → ℕ → Returned (List Record)
 placing row out b k first =
     returnedFor (placingVerdict row out b k first)
     (record {
@@ -149,7 +149,7 @@ placing row out b k first =
     out
 
 -- the step call on the record's bytes, with a part of the outputs as its colour buffer: it may refuse with 13, 15 or 14
-unfoldable pub stepped : List Record → List ℕ → ℕ → ℕ → Record → List ℕ → Returned
+unfoldable pub stepped : List Record → List ℕ → ℕ → ℕ → Record → List ℕ → Returned (List Record)
 stepped row out k inputs r part =
     record {
       answer = stepAnswer (personalityOf r) (r .state) inputs (length part);
@@ -157,12 +157,12 @@ stepped row out k inputs r part =
       outputs = writtenAt out (r .first) (coloursAfter (personalityOf r) (r .state) inputs part);
     }
 
-unfoldable pub stepping : List Record → List ℕ → ℕ → ℕ → Returned
+unfoldable pub stepping : List Record → List ℕ → ℕ → ℕ → Returned (List Record)
 stepping row out k inputs =
     returnedFor (heldVerdict row k) (stepped row out k inputs (recordOf row k) (ownOutputs (recordOf row k) out)) row out
 
 -- the record is free, and its outputs are dark
-unfoldable pub takingOut : List Record → List ℕ → ℕ → Returned
+unfoldable pub takingOut : List Record → List ℕ → ℕ → Returned (List Record)
 takingOut row out k =
     returnedFor (takingVerdict row out k)
     (record {
@@ -180,7 +180,7 @@ pub data Act : Type 0 where
   stepSite : ℕ → ℕ → Act
   takeOut : ℕ → Act
 
-unfoldable pub doing : List Record → List ℕ → Act → Returned
+unfoldable pub doing : List Record → List ℕ → Act → Returned (List Record)
 doing row out (placeSite b k first) = placing row out b k first
 doing row out (stepSite k inputs) = stepping row out k inputs
 doing row out (takeOut k) = takingOut row out k

@@ -76,15 +76,9 @@ ProperRow = rowForm .fits
 
 -- ── The calls on a row of bytes ──
 
--- the answer, and the bytes of the row and the outputs as the call returns
-pub record ReturnedBytes : Type 0 where
-  pub answer : ℕ
-  pub row : List ℕ
-  pub outputs : List ℕ
-
-unfoldable pub inBytes : List ℕ → Returned → ReturnedBytes
+unfoldable pub inBytes : List ℕ → Returned (List Record) → Returned (List ℕ)
 inBytes b done = record { answer = done .answer; row = encodedRowOver (done .row) b; outputs = done .outputs }
 
 -- what the call does to the row that the bytes hold
-unfoldable pub doingBytes : List ℕ → List ℕ → Act → ReturnedBytes
+unfoldable pub doingBytes : List ℕ → List ℕ → Act → Returned (List ℕ)
 doingBytes b out act = inBytes b (doing (decodedRow b) out act)

@@ -1,2 +1,3 @@
 pub mod Cabinet
 pub mod Layout
+pub mod RowRoundTrips
