@@ -1,1 +1,4 @@
+pub mod Checks
+pub mod Outputs
+pub mod CabinetLaws
 pub mod RowRoundTrips

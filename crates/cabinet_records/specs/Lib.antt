@@ -1,3 +1,4 @@
 pub mod Cabinet
+pub mod CabinetLaws
 pub mod Layout
 pub mod RowRoundTrips
