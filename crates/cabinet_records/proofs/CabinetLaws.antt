@@ -1,12 +1,12 @@
 -- What a call leaves alone: it writes the record that it names and its own outputs, and a refused call nothing.
-use Prim.Native.Nat.{ℕ, zero, suc, _%_}
+use Prim.Native.Nat.{ℕ, _%_}
 use mathlib.Core.Bool.{Bool, true, false}
-use mathlib.Core.List.{List, [], _∷_}
+use mathlib.Core.List.{List}
 use mathlib.Core.Logic.{_⊎_, inl, inr, ⊎-elim}
 use mathlib.Core.Path.{_≡_, refl, ap, _∙_}
 use native.Mathlib.Omega.{arith}
-use lib.ListN.{length, getD, set, length-set}
-use lib.Seq.{getD-set-other}
+use lib.ListN.{length, set, length-set}
+use lib.Seq.{getD-set-other, set-getD}
 use Rattle.rules.specs.declared.answer.Verdict.{Verdict}
 use Rattle.rules.specs.declared.answer.Verdict.the-variants.{Accepted, Refused}
 use Rattle.laws.specs.Folds.{if_then_else_}
@@ -123,12 +123,6 @@ module _ (b s : List ℕ) (inputs : ℕ) (buffer : List ℕ) where
   unfolding stepAnswer stateAfter coloursAfter
   step-left = state-left (isState s)
 
--- writing the record that is there
-set-own : (row : List Record) (k : ℕ) → set row k (getD row k freeRecord) ≡ row
-set-own [] k = refl
-set-own (r ∷ row) zero = refl
-set-own (r ∷ row) (suc k) = ap (λ (l : List Record). r ∷ l) (set-own row k)
-
 abbrev Leaves : Returned (List Record) → List Record → List ℕ → Type 0
 Leaves done row out = (done .answer % 256 ≡ 0 → ⊥) → (done .row ≡ row) × (done .outputs ≡ out)
 
@@ -146,7 +140,7 @@ step-leaves row out k inputs e refused =
     let r = recordOf row k in
     let b = personalityOf r in
     let left = step-left b (r .state) inputs (outputsIn out (r .first) (outputsOf b)) refused in (
-      ap (λ (s : List ℕ). set row k (withState r s)) (left .0) ∙ set-own row k,
+      ap (λ (s : List ℕ). set row k (withState r s)) (left .0) ∙ set-getD row k freeRecord,
       ap (writtenAt out (r .first)) (left .1) ∙ written-own out (r .first) (outputsOf b) (held-within row k e),
     )
 

@@ -2,3 +2,4 @@ pub mod Checks
 pub mod Outputs
 pub mod CabinetLaws
 pub mod RowRoundTrips
+pub mod RowBytes

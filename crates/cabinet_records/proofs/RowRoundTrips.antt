@@ -44,7 +44,7 @@ unfolding encodedRow ProperRow
 encoded-row-is-bytes row proper = row-of-records .bytes row proper
 
 -- bytes of the length of a row
-decoded-long : (b : List ℕ) → length b ≡ rowBytes → decodedRow b ≡ rowForm .read b 0
+pub decoded-long : (b : List ℕ) → length b ≡ rowBytes → decodedRow b ≡ rowForm .read b 0
 unfolding decodedRow
 decoded-long b long = rw (eq-eqb (length b) rowBytes long)
 
