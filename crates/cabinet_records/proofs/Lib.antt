@@ -1,3 +1,4 @@
+pub mod CabinetCases
 pub mod Checks
 pub mod Outputs
 pub mod CabinetLaws
