@@ -1,2 +1,4 @@
 pub mod Placed
 pub mod Runs
+pub mod Apart
+pub mod Shows
