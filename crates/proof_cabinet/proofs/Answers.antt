@@ -1,13 +1,13 @@
 -- Every refusal has a written number, at a place of the personality or at 0; and stepping answers the first refusal in the order of its checks.
-use Prim.Native.Nat.{ℕ, _+_, _*_, _%_, _/_, _≤_, _<_}
+use Prim.Native.Nat.{ℕ, _+_, _*_, _%_, _/_, _<_}
 use mathlib.Core.Bool.{Bool, true, false, not, _&&_, _||_}
-use mathlib.Core.List.{List, []}
+use mathlib.Core.List.{List}
 use mathlib.Core.Logic.{_⊎_, inl, inr, ⊎-elim}
-use mathlib.Core.Path.{_≡_, refl, sym, subst, ap, _∙_}
+use mathlib.Core.Path.{_≡_, refl, sym, subst}
 use native.Mathlib.Nat.{add-zero}
 use native.Mathlib.Omega.{arith}
 use borrow.Author.Tests.{eqb-true, ltb-false, lt-ltb, le-ltb}
-use lib.Dec.{leb, ltb, eqb}
+use lib.Dec.{ltb, eqb}
 use lib.ListN.{length, take, drop, length-take, length-drop}
 use Rattle.rules.specs.declared.answer.Verdict.{Verdict}
 use Rattle.rules.specs.declared.answer.Verdict.the-variants.{Accepted, Refused}
@@ -18,7 +18,7 @@ use Rattle.rules.specs.Site.{siteOf}
 use Rattle.rules.specs.Kept.{freshKept, keptValid}
 use Rattle.rules.specs.WaitBound.{waitBound}
 use Rattle.rules.specs.Call.{strayInput, stepVerdict, boundFor, checksBy, callVerdict, answerOf}
-use Rattle.rules.specs.Laws.{readingNumber, stepNumber, PlaceIn, Written, RefusalIsWritten, Sound, AcceptedIsSound}
+use Rattle.rules.specs.Laws.{readingNumber, stepNumber, PlaceIn, Written, RefusalIsWritten, AcceptedIsSound}
 use Rattle.laws.proofs.Booleans.{or-cases}
 use Rattle.rules.proofs.Verdicts.{or-refused, refuse-failed}
 use Rattle.state_bytes.specs.Layout.{isState, decoded}
@@ -27,7 +27,7 @@ use Rattle.proof_acceptance.proofs.Acceptance.{accepted-is-sound}
 use Rattle.proof_acceptance.proofs.Refusals.{refusal-is-written}
 use Rattle.proof_acceptance.proofs.Places.{number-fits}
 use Rattle.cabinet_records.specs.declared.Record.{Record}
-use Rattle.cabinet_records.specs.Cabinet.{outputCount, personalityOf, recordOf, outputsOf, isShort, outputsIn, ownOutputs, placingVerdict, heldVerdict, takingVerdict, Returned, returnedFor, placing, stepped, stepping, takingOut, Act, placeSite, stepSite, takeOut, doing}
+use Rattle.cabinet_records.specs.Cabinet.{outputCount, personalityOf, recordOf, outputsOf, isShort, outputsIn, ownOutputs, placingVerdict, heldVerdict, takingVerdict, Returned, returnedFor, placing, stepped, stepping, takingOut, placeSite, stepSite, takeOut, doing}
 use Rattle.cabinet_records.specs.CabinetLaws.{personalityNamed}
 use Rattle.cabinet_records.proofs.Checks.{held-read, held-within}
 use Rattle.proof_cabinet.specs.CabinetAnswers.{cabinetNumber, CabinetWritten, AnswerIsWritten, steppingVerdict, SteppingAnswers}

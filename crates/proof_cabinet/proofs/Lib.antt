@@ -4,3 +4,4 @@ pub mod Apart
 pub mod Shows
 pub mod Answers
 pub mod Shapes
+pub mod Bytes

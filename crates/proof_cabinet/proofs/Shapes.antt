@@ -22,9 +22,11 @@ use Rattle.state_bytes.specs.Layout.{stateBytes, isState, encoded}
 use Rattle.state_bytes.proofs.RoundTrips.{encoded-has-39}
 use Rattle.call_bytes.specs.CallBytes.{stateFor, stateAfter}
 use Rattle.cabinet_records.specs.declared.Record.{Record}
-use Rattle.cabinet_records.specs.Cabinet.{personalityOf, freeRecord, holding, withState, recordOf, ownOutputs, placingVerdict, heldVerdict, takingVerdict, Returned, returnedFor, placing, stepped, stepping, takingOut, Act, placeSite, stepSite, takeOut, doing}
+use Rattle.cabinet_records.specs.Cabinet.{personalityOf, freeRecord, holding, withState, recordOf, ownOutputs, placingVerdict, heldVerdict, takingVerdict, Returned, returnedFor, placing, stepped, stepping, takingOut, placeSite, stepSite, takeOut, doing}
+use Rattle.cabinet_records.specs.Layout.{Shaped}
 use Rattle.cabinet_records.proofs.Checks.{placing-read}
-use Rattle.proof_cabinet.specs.CabinetAnswers.{Shaped, ShapeStays}
+use Rattle.cabinet_records.proofs.RowBytes.{free-shape}
+use Rattle.proof_cabinet.specs.CabinetAnswers.{ShapeStays}
 
 -- ── The bytes of a state ──
 
@@ -42,10 +44,6 @@ unfolding stateAfter
 after-length b old inputs room e = after-for (isState old) _ _ old e
 
 -- ── The records that calls store ──
-
-pub free-shape : Shaped freeRecord
-unfolding freeRecord
-free-shape = record { personality = length-replicate {A = ℕ} greatestLength 0; state = length-replicate {A = ℕ} stateBytes 0 }
 
 holding-shape : (b : List ℕ) (first : ℕ) → verdictOf b ≡ Accepted → Shaped (holding b first (encoded freshKept))
 unfolding holding AcceptedIsShort
