@@ -11,7 +11,6 @@ use lib.ListN.{length, getD, set, length-set, List·getD-eq-default}
 use lib.Seq.{getD-set-same, getD-set-other}
 use Rattle.rules.specs.declared.answer.Verdict.{Verdict}
 use Rattle.rules.specs.declared.answer.Verdict.the-variants.{Accepted, Refused}
-use Rattle.laws.specs.Folds.{anyOf}
 use Rattle.laws.proofs.Booleans.{decided, and-false-rest}
 use Rattle.laws.proofs.Indices.{below-or-past, same-or-apart}
 use Rattle.laws.proofs.Folds.{any-false}
@@ -19,7 +18,7 @@ use Rattle.rules.specs.Kept.{freshKept}
 use Rattle.state_bytes.specs.Layout.{encoded}
 use Rattle.call_bytes.specs.CallBytes.{stateAfter}
 use Rattle.cabinet_records.specs.declared.Record.{Record}
-use Rattle.cabinet_records.specs.Cabinet.{recordCount, isFree, personalityOf, freeRecord, holding, withState, recordOf, outputsOf, isAccepted, hasOutputs, meet, meetsRecord, overlaps, outputsIn, ownOutputs, placingVerdict, heldVerdict, takingVerdict, Returned, returnedFor, placing, stepped, stepping, takingOut, Act, placeSite, stepSite, takeOut, doing}
+use Rattle.cabinet_records.specs.Cabinet.{recordCount, isFree, personalityOf, freeRecord, holding, withState, recordOf, outputsOf, isAccepted, hasOutputs, meet, meetsRecord, overlaps, outputsIn, placingVerdict, heldVerdict, takingVerdict, Returned, returnedFor, placing, stepped, stepping, takingOut, Act, placeSite, stepSite, takeOut, doing}
 use Rattle.cabinet_records.proofs.Checks.{row-length, placing-there, placing-clear}
 use Rattle.proof_cabinet.specs.CabinetRuns.{onRecords, CabinetCall, stepsAt, inputsOf, takesOut, Clear, Apart, StaysIn, rowAfter, PlacedApart}
 use Rattle.proof_cabinet.proofs.Placed.{holding-personality, Placed, own-personality, own-first, not-free, own-act, again, other-act}

@@ -2,3 +2,6 @@ pub mod Placed
 pub mod Runs
 pub mod Apart
 pub mod Shows
+pub mod Answers
+pub mod Shapes
+pub mod Bytes

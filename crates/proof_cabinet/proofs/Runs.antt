@@ -9,7 +9,6 @@ use lib.ListN.{length, set, replicate, length-set}
 use lib.Seq.{getD-set-same}
 use Rattle.rules.specs.declared.answer.Verdict.{Verdict}
 use Rattle.rules.specs.declared.answer.Verdict.the-variants.{Accepted, Refused}
-use Rattle.laws.specs.Folds.{if_then_else_}
 use Rattle.rules.specs.Verdicts.{_orElse_, refuseIf, reportOf}
 use Rattle.rules.specs.Personality.{verdictOf}
 use Rattle.rules.specs.Site.{siteOf}
@@ -26,7 +25,7 @@ use Rattle.proof_acceptance.proofs.Places.{number-fits}
 use Rattle.proof_board.specs.BoardRuns.{outcomeIn, verdictIn, board, BoardDemandThree}
 use Rattle.proof_board.proofs.BoardRuns.{board-demand-three}
 use Rattle.cabinet_records.specs.declared.Record.{Record}
-use Rattle.cabinet_records.specs.Cabinet.{freeRecord, holding, recordOf, outputsOf, outputsIn, placingVerdict, Returned, returnedFor, placing, Act, doing}
+use Rattle.cabinet_records.specs.Cabinet.{freeRecord, holding, recordOf, outputsOf, outputsIn, placingVerdict, Returned, returnedFor, placing, doing}
 use Rattle.cabinet_records.proofs.Checks.{row-length, record-below, placing-read, placing-there, placing-within}
 use Rattle.cabinet_records.proofs.Outputs.{colours-length, shown-written}
 use Rattle.proof_cabinet.specs.CabinetRuns.{onRecords, CabinetCall, stepsAt, inputsOf, aloneAt, seenAt, StaysIn, CabinetRuns, CabinetDemandThree}

@@ -5,19 +5,19 @@ use mathlib.Core.List.{List}
 use mathlib.Core.Logic.{_⊎_}
 use mathlib.Core.Path.{_≡_}
 use lib.Dec.{eqb}
-use lib.ListN.{length}
 use Rattle.rules.specs.declared.answer.Verdict.{Verdict}
 use Rattle.rules.specs.Verdicts.{_orElse_, refuseIf}
 use Rattle.rules.specs.Site.{siteOf}
 use Rattle.rules.specs.Kept.{keptValid}
 use Rattle.rules.specs.WaitBound.{waitBound}
 use Rattle.rules.specs.Call.{strayInput, boundFor}
-use Rattle.rules.specs.Laws.{greatestLength, readingNumber, stepNumber, PlaceIn}
-use Rattle.state_bytes.specs.Layout.{stateBytes, isState, decoded}
+use Rattle.rules.specs.Laws.{readingNumber, stepNumber, PlaceIn}
+use Rattle.state_bytes.specs.Layout.{isState, decoded}
 use Rattle.call_bytes.specs.CallBytes.{packedOutcome}
 use Rattle.cabinet_records.specs.declared.Record.{Record}
 use Rattle.cabinet_records.specs.Cabinet.{personalityOf, recordOf, isShort, heldVerdict, stepping, Act, doing}
 use Rattle.cabinet_records.specs.CabinetLaws.{personalityNamed}
+use Rattle.cabinet_records.specs.Layout.{Shaped}
 
 -- ── Refusals ──
 
@@ -56,12 +56,7 @@ SteppingAnswers =
 
 -- ── Sizes ──
 
--- the arrays of a record have their lengths
-pub record Shaped (r : Record) : Type 0 where
-  pub personality : length (r .personality) ≡ greatestLength
-  pub state : length (r .state) ≡ stateBytes
-
--- a call keeps them
+-- a call keeps the lengths of the arrays in each record
 unfoldable pub ShapeStays : Type 0
 ShapeStays =
     (row : List Record) (out : List ℕ) (act : Act) →

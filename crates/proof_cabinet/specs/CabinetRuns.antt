@@ -31,6 +31,11 @@ onRecords = record { does = doing; records = λ row. row }
 unfoldable pub onBytes : Cabinet (List ℕ)
 onBytes = record { does = doingBytes; records = decodedRow }
 
+-- A call on bytes, whatever they are, does to the records that they hold what the call on records does. (Its answer and its outputs are the same by
+-- definition.)
+unfoldable pub BytesFollowRecords : Type 0
+BytesFollowRecords = (b out : List ℕ) (act : Act) → decodedRow (doingBytes b out act .row) ≡ doing (decodedRow b) out act .row
+
 -- ── Calls ──
 
 -- one call, with its output buffer
