@@ -17,10 +17,10 @@ use Rattle.laws.proofs.Bits.{bit-blank, same-bits}
 use Rattle.rules.specs.Colours.{red, green}
 use Rattle.road_streams.specs.declared.Traffic.{Traffic}
 use Rattle.road_streams.specs.Road.{streamCount, streamAt, noTraffic, queues, arrived, released, trafficOf, arrivals, isOccupied, inputsOf, releases}
-use Rattle.proof_road.proofs.Words.{wordOf, word-bit, word-small}
+use Rattle.laws.proofs.Words.{wordOf, word-bit, word-small}
 use Rattle.proof_road.proofs.Flow.{arrivals-at}
 use Rattle.road_step.specs.Cells.{trafficAt, putAt, trafficIn}
-use Rattle.road_step.specs.Passes.{ArrivedIn, Painted, ReleasedIn}
+use Rattle.road_step.specs.Passes.{ArrivedIn, ReleasedIn}
 use Rattle.road_step.specs.Greens.{WithBit}
 use Rattle.road_step.proofs.Cells.{Passed, passed-none, passed-more, passed-all}
 
@@ -112,10 +112,10 @@ module _ {streams old : List ℕ} where
 -- ── Releases ──
 
 -- a colour that is green as the set says
-abbrev coloured : ℕ → ℕ → ℕ
+abbrev pub coloured : ℕ → ℕ → ℕ
 coloured greens g = if bit g greens then green else red
 
-coloured-green : (greens g : ℕ) → eqb (coloured greens g) green ≡ bit g greens
+pub coloured-green : (greens g : ℕ) → eqb (coloured greens g) green ≡ bit g greens
 coloured-green greens g = by (bit g greens)
   where
     by : (t : Bool) → eqb (if t then green else red) green ≡ t
@@ -124,12 +124,6 @@ coloured-green greens g = by (bit g greens)
 
 abbrev pub releasing : List ℕ → ℕ → ℕ → Traffic → Traffic
 releasing streams greens i t = released (coloured greens (streamAt streams i .group)) t
-
-pub releasing-by :
-    (streams : List ℕ) (greens i : ℕ) (t : Traffic) {r : Traffic} →
-    ((colour : ℕ) → eqb colour green ≡ bit (streamAt streams i .group) greens → r ≡ released colour t) →
-    r ≡ releasing streams greens i t
-releasing-by streams greens i t made = made (coloured greens (streamAt streams i .group)) (coloured-green greens (streamAt streams i .group))
 
 same-release : (a b : ℕ) (t : Traffic) → eqb a green ≡ eqb b green → released a t ≡ released b t
 unfolding released

@@ -1,8 +1,11 @@
 // The steps of the simulated road. The traffic of the streams is in a row of cells, four numbers a stream, which is lent to each part of the step: an array
 // that goes in by value would be copied.
-ghost use Prim.Native.Nat.{_+_, _*_, _≤_, _<_};
+ghost use Prim.Native.Nat.{ℕ, _+_, _*_, _≤_, _<_};
 ghost use mathlib.Core.Path.{_≡_};
+ghost use lib.Dec.{eqb};
 ghost use lib.ListN.{length};
+ghost use Rattle.rules.specs.Colours.{green};
+ghost use Rattle.road_streams.specs.Road.{released};
 ghost use Rattle.road_step.specs.Cells.{trafficAt, putAt};
 ghost use Rattle.road_step.specs.OnRoad.{Ahead, Further, BeforeEnd, NextOnRoad};
 ghost use Rattle.road_step.specs.Passes.{Arriving, ArrivedIn, Releasing, ReleasedIn};
@@ -57,6 +60,20 @@ fn arrivals(streams: &[u8], cells: &mut [u16]) -> u64
     inputs
 }
 
+// The release of stream i, by whether its group shows green. In any other colour only the count's cell is written.
+fn release(cells: &mut [u16], i: usize, shows_green: bool)
+    requires { ⌜ (4 * i + 4 ≤ length (now cells)) × (trafficAt (now cells) i .gone < 65535) × (trafficAt (now cells) i .count < 20) ⌝ }
+    ensures { λ _. ⌜ ((colour : ℕ) → eqb colour green ≡ «shows_green» → now (cells .exit) ≡ putAt (now (cells .entry)) i (released colour (trafficAt (now (cells .entry)) i))) ⌝ }
+{
+    if shows_green {
+        let before = traffic_at(cells, i);
+        let traffic = road_streams::released(true, before);
+        put_at(cells, i, traffic);
+        return;
+    }
+    cells[4 * i + 3] = 0;
+}
+
 // Releases, by the groups that show green.
 fn releases(streams: &[u8], greens: u64, cells: &mut [u16])
     requires { ⌜ Releasing (now streams) (now cells) ⌝ }
@@ -67,9 +84,7 @@ fn releases(streams: &[u8], greens: u64, cells: &mut [u16])
     while i < count {
         let stream = road_streams::stream_at(streams, i);
         let shows_green = greens::is_green(greens, stream.group);
-        let before = traffic_at(cells, i);
-        let traffic = road_streams::released(shows_green, before);
-        put_at(cells, i, traffic);
+        release(cells, i, shows_green);
         i += 1;
     }
 }
@@ -92,11 +107,10 @@ pub fn road_steps(
     let mut n: u32 = 0;
     while n < steps {
         let inputs = arrivals(streams, cells);
-        let next = step_whole::kept_stepped(site, last, inputs);
-        let core = next.core;
+        last = step_whole::kept_stepped(site, last, inputs);
+        let core = last.core;
         greens = greens::greens_after(site, core, greens);
         releases(streams, greens, cells);
-        last = next;
         n += 1;
     }
     last

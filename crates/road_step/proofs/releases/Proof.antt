@@ -1,12 +1,12 @@
 -- `road_step::releases` meets its contract. The loop's invariant: the streams passed have their releases.
 use Prim.Native.Nat.{_+_, _*_, _-_, _≤_, _<_}
-use mathlib.Core.Path.{sym, _∙_}
+use mathlib.Core.Path.{refl, sym, _∙_}
 use lib.ListN.{length}
 use Rattle.road_streams.specs.Road.{streamCount, streamAt}
 use Rattle.road_step.specs.Cells.{trafficAt}
 use Rattle.road_step.specs.Passes.{MayRelease}
 use Rattle.road_step.proofs.Cells.{Passed, passed-none, passed-more}
-use Rattle.road_step.proofs.Passes.{releasing, releasing-by, released-all}
+use Rattle.road_step.proofs.Passes.{coloured, coloured-green, releasing, released-all}
 use borrow.Author.Needs.{needs}
 use native.Mathlib.Omega.{arith}
 use Rattle.road_step.proofs.releases.Statement.{statement}
@@ -46,16 +46,11 @@ stream-at-requires c κs = omega (arith, c .loop-test .taken)
 is-green-requires : tie.Need-is-green-requires Inv-loop μ-loop
 is-green-requires c κs = rw (c .stream-at .ensures) (omega (arith, fine (c .before) .group))
 
-traffic-at-requires : tie.Need-traffic-at-requires Inv-loop μ-loop
-traffic-at-requires c κs = inside (c .before .before .before)
-
-released-requires : tie.Need-released-requires Inv-loop μ-loop
-released-requires c κs =
-    let ok = fine (c .before .before .before .before) in
-    rw (c .traffic-at .ensures) (ok .fits, ok .counting)
-
-put-at-requires : tie.Need-put-at-requires Inv-loop μ-loop
-put-at-requires c κs = inside (c .before .before .before .before .before .before)
+release-requires : tie.Need-release-requires Inv-loop μ-loop
+release-requires c κs =
+    let turn = c .before .before .before in
+    let ok = fine turn in
+    (inside turn, ok .fits, ok .counting)
 
 add-i : tie.Need-add-i Inv-loop μ-loop
 add-i c = search needs
@@ -65,15 +60,19 @@ loop-less c = search needs
 
 loop-again : tie.Need-loop-again Inv-loop μ-loop
 loop-again c =
-    let put = c .before .before in
-    let made = put .before .before in
-    let read = made .before in
-    let shown = read .before .before in
+    let left = c .before .before in
+    let shown = left .before .before in
     let seen = shown .before in
-    let turn = seen .before in (
+    let turn = seen .before in
+    let i = turn .before .loop .i in
+    let cells = turn .before .loop .cells in
+    let streams = entry (turn .before) .args .streams .now in
+    let greens = entry (turn .before) .args .greens in (
       search needs,
-      passed-more (made .released .result) (turn .before .loop .inv .1) (inside turn) (put .put-at .ensures)
-          (releasing-by _ _ _ _ (λ colour e. made .released .ensures colour (e ∙ sym (shown .is-green .ensures ∙ cc)) ∙ cc)),
+      passed-more (releasing streams greens i (trafficAt cells i)) (turn .before .loop .inv .1) (inside turn)
+          (left .release .ensures (coloured greens (streamAt streams i .group))
+          (coloured-green greens (streamAt streams i .group) ∙ sym (shown .is-green .ensures ∙ cc)))
+          refl,
     )
 
 same-length : tie.Need-same-length Inv-loop μ-loop
@@ -92,9 +91,7 @@ releases-spec =
     loop-holds
     stream-at-requires
     is-green-requires
-    traffic-at-requires
-    released-requires
-    put-at-requires
+    release-requires
     add-i
     loop-less
     loop-again

@@ -1,5 +1,4 @@
 -- `road_step::greens::greens_after` meets its contract: while the position only ages, the set stays.
-use mathlib.Core.Path.{_≡_}
 use lib.Dec.{eqb}
 use borrow.Author.Tests.{eqb-false}
 use Rattle.laws.proofs.Booleans.{or-false-left, or-false-right}

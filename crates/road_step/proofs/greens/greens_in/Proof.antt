@@ -1,5 +1,4 @@
 -- `road_step::greens::greens_in` meets its contract: what a vehicle group shows of the position is its colour in the state.
-use native.Mathlib.Omega.{arith}
 use Rattle.road_step.proofs.GreenGroups.{green-in}
 use borrow.Author.Needs.{needs}
 use Rattle.road_step.proofs.greens.greens_in.Statement.{statement}

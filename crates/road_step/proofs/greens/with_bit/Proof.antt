@@ -1,6 +1,6 @@
 -- `road_step::greens::with_bit` meets its contract: a shifted one has bit k alone.
 use Prim.Native.Nat.{ℕ, suc, _*_, _^_, _<_}
-use mathlib.Core.Bool.{Bool, _&&_, _||_, or-false, and-true}
+use mathlib.Core.Bool.{Bool, _||_, or-false, and-true}
 use mathlib.Core.Path.{sym, ap, _∙_}
 use lib.Bits.{or-lt}
 use lib.Dec.{eqb}
