@@ -1,13 +1,12 @@
--- An array that starts blank and is filled from the front, entry by entry, ends as the row of its section: its entries, and blanks up
--- to the room.
+-- An array that starts blank and is filled from the front, entry by entry, ends as a row: its entries, and blanks up to the room.
 use Prim.Native.Nat.{ℕ, zero, suc, _+_, _-_, _≤_, _<_}
 use mathlib.Core.List.{List}
 use mathlib.Core.Path.{_≡_}
 use native.Mathlib.Nat.{sub-zero, zero-sub, suc-sub-suc}
 use native.Mathlib.Omega.{arith}
 use lib.ListN.{drop, set, replicate, length-replicate}
 use Rattle.laws.specs.Folds.{rowOf}
 use Rattle.laws.proofs.Arrays as fill
 
 -- the first k of n entries are in place, and blanks up to the room
 pub record Filled {A : Type 0} (f : ℕ → A) (n room : ℕ) (blank : A) (k : ℕ) (row : List A) : Type 0 where

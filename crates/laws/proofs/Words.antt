@@ -6,12 +6,13 @@ use mathlib.Core.Path.{_≡_, sym, ap, subst, _∙_}
 use native.Mathlib.Nat.{add-zero, add-div-right, div-eq-of-lt, pow-succ', not-suc-le-zero}
 use native.Mathlib.Omega.{arith}
 use lib.Pow.{pow-pos, low}
 use Rattle.laws.specs.Bytes.{bit}
 use Rattle.laws.specs.Folds.{if_then_else_, sumOf}
 use Rattle.laws.proofs.Indices.{last-or-below}
 use Rattle.laws.proofs.Bits.{bit-above, bit-lower}
 
 module _ (f : ℕ → Bool) where
+  -- the word of the indices below n that pass
   abbrev pub wordOf : ℕ → ℕ
   wordOf n = sumOf (λ i. if f i then 2 ^ i else 0) n
 
@@ -24,11 +25,13 @@ module _ (f : ℕ → Bool) where
       step true h = omega (arith, pow-succ' 2 n)
       step false h = omega (arith, pow-succ' 2 n)
 
+  -- the bit of the index that is added
   last-bit : (t : Bool) (n : ℕ) → bit n (wordOf n + (if t then 2 ^ n else 0)) ≡ t
   unfolding bit
   last-bit true n = rw (add-div-right (wordOf n) (pow-pos n), div-eq-of-lt (word-small n))
   last-bit false n = rw (add-zero (wordOf n), div-eq-of-lt (word-small n))
 
+  -- the bits below it
   lower-bit : (t : Bool) (n i : ℕ) → i < n → bit i (wordOf n + (if t then 2 ^ n else 0)) ≡ bit i (wordOf n)
   lower-bit true n i h =
       let cut : (wordOf n + 2 ^ n) % 2 ^ n ≡ wordOf n =
