@@ -93,7 +93,7 @@ module _ (row : List Record) (k : ℕ) (e : heldVerdict row k ≡ Accepted) wher
 module _ (row : List Record) (out : List ℕ) (k : ℕ) (e : takingVerdict row out k ≡ Accepted) where
   pub taking-held : heldVerdict row k ≡ Accepted
   unfolding takingVerdict
-  taking-held = or-first (heldVerdict row k) (refuseIf (isShort out) 14 0) e
+  taking-held = or-first (heldVerdict row k) _ e
 
   pub taking-long : outputCount ≤ length out
   unfolding takingVerdict isShort

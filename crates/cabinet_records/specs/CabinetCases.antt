@@ -1,6 +1,6 @@
 -- Worked cases of the cabinet's calls, in a single list with one statement: each of them holds. The site is the junction of two phases, which has two
 -- outputs and a wait bound of 270.
-use Prim.Native.Nat.{ℕ}
+use Prim.Native.Nat.{ℕ, _-_}
 use mathlib.Core.List.{List, [], _∷_, _++_}
 use mathlib.Core.Path.{_≡_}
 use lib.ListN.{length, set, take, replicate}
@@ -56,9 +56,9 @@ stateless = record { held = 255; first = 0; size = length junction; personality 
 unfoldable pub oldBytes : Record
 oldBytes = record { held = 0; first = 4; size = length junction; personality = junction; state = encoded freshKept }
 
--- its personality would be refused
+-- its personality would be refused: the last head, at 64, is cut
 unfoldable pub refusedSite : Record
-refusedSite = record { held = 1; first = 8; size = 0; personality = junction; state = encoded freshKept }
+refusedSite = record { held = 1; first = 8; size = length junction - 1; personality = junction; state = encoded freshKept }
 
 unfoldable pub oddRow : List Record
 oddRow = beyond ∷ stateless ∷ oldBytes ∷ refusedSite ∷ []
@@ -110,7 +110,7 @@ cases =
     ∷ stepSite 4 4
     ∷ takeOut 4
     ∷ [])
-    (25 ∷ 25 ∷ 13 ∷ 14 ∷ 24 ∷ 24 ∷ 1 ∷ 1 ∷ 24 ∷ 24 ∷ [])
+    (25 ∷ 25 ∷ 13 ∷ 14 ∷ 24 ∷ 24 ∷ packed 1 64 ∷ packed 1 64 ∷ 24 ∷ 24 ∷ [])
     -- placing without an output buffer: the personality; no such record; not free; past the 32nd output; overlapping one, two; short
     ∷ answering oddRow []
     (placeSite [] 4 99
