@@ -1,4 +1,4 @@
--- A placed site shares no output with another record whose personality would be accepted.
+-- A placed site keeps its record, and shares no output with another record whose personality would be accepted.
 use Prim.Native.Nat.{ℕ, _+_, _≤_, _<_}
 use mathlib.Core.Bool.{Bool, true, false, not, _&&_, true≢false}
 use mathlib.Core.List.{List, [], _∷_}
@@ -11,6 +11,7 @@ use lib.ListN.{length, getD, set, length-set, List·getD-eq-default}
 use lib.Seq.{getD-set-same, getD-set-other}
 use Rattle.rules.specs.declared.answer.Verdict.{Verdict}
 use Rattle.rules.specs.declared.answer.Verdict.the-variants.{Accepted, Refused}
+use Rattle.laws.specs.Folds.{if_then_else_}
 use Rattle.laws.proofs.Booleans.{decided, and-false-rest}
 use Rattle.laws.proofs.Indices.{below-or-past, same-or-apart}
 use Rattle.laws.proofs.Folds.{any-false}
@@ -20,8 +21,8 @@ use Rattle.call_bytes.specs.CallBytes.{stateAfter}
 use Rattle.cabinet_records.specs.declared.Record.{Record}
 use Rattle.cabinet_records.specs.Cabinet.{recordCount, isFree, personalityOf, freeRecord, holding, withState, recordOf, outputsOf, isAccepted, hasOutputs, meet, meetsRecord, overlaps, outputsIn, placingVerdict, heldVerdict, takingVerdict, Returned, returnedFor, placing, stepped, stepping, takingOut, Act, placeSite, stepSite, takeOut, doing}
 use Rattle.cabinet_records.proofs.Checks.{row-length, placing-there, placing-clear}
-use Rattle.proof_cabinet.specs.CabinetRuns.{onRecords, CabinetCall, stepsAt, inputsOf, takesOut, Clear, Apart, StaysIn, rowAfter, PlacedApart}
-use Rattle.proof_cabinet.proofs.Placed.{holding-personality, Placed, own-personality, own-first, not-free, own-act, again, other-act}
+use Rattle.proof_cabinet.specs.CabinetRuns.{onRecords, CabinetCall, stepsAt, inputsOf, takesOut, aloneAt, stateAlone, Clear, Apart, StaysIn, rowAfter, PlacedHolds, PlacedApart}
+use Rattle.proof_cabinet.proofs.Placed.{holding-personality, Placed, own-personality, own-first, own-state, not-free, own-act, again, other-act}
 use Rattle.proof_cabinet.proofs.Runs.{placing-accepted, placed-row, placed-fresh}
 
 -- ── Two ranges of outputs ──
@@ -110,24 +111,26 @@ module _ (b : List ℕ) (k first : ℕ) (row : List Record) (s : List ℕ) (plac
   unfolding Clear holding
   new-holding c out j g e other has = rw (holding-personality c g (encoded freshKept)) (new-clear c out j g e other)
 
+  -- the state after a call: a step on the record makes a new one
+  abbrev pub stateNext : Act → List ℕ → List ℕ
+  stateNext act out = if stepsAt k act then stateAfter b s (inputsOf act) (length (outputsIn out first (outputsOf b))) else s
+
   -- the call leaves the site in its place, if it does not take it out
   placed-for :
       (act : Act) (out : List ℕ) →
       (takesOut k act ≡ true → doing row out act .answer ≡ 0 → ⊥) →
       (t : Bool) → stepsAt k act ≡ t →
-      (s₁ : List ℕ) × Placed b k first (doing row out act .row) s₁
+      Placed b k first (doing row out act .row) (if t then stateAfter b s (inputsOf act) (length (outputsIn out first (outputsOf b))) else s)
   placed-for act out stays true e =
-      let s₁ = stateAfter b s (inputsOf act) (length (outputsIn out first (outputsOf b))) in (
-        s₁,
-        subst (λ (d : Returned (List Record)). Placed b k first (d .row) s₁) (sym (own-act b k first row s placed act out e))
-            (again b k first row s placed s₁),
-      )
-  placed-for act out stays false e = (s, other-act b k first row s placed act out e stays)
+      let s₁ = stateAfter b s (inputsOf act) (length (outputsIn out first (outputsOf b))) in
+      subst (λ (d : Returned (List Record)). Placed b k first (d .row) s₁) (sym (own-act b k first row s placed act out e))
+      (again b k first row s placed s₁)
+  placed-for act out stays false e = other-act b k first row s placed act out e stays
 
   pub placed-act :
       (act : Act) (out : List ℕ) →
       (takesOut k act ≡ true → doing row out act .answer ≡ 0 → ⊥) →
-      (s₁ : List ℕ) × Placed b k first (doing row out act .row) s₁
+      Placed b k first (doing row out act .row) (stateNext act out)
   placed-act act out stays = placed-for act out stays (stepsAt k act) refl
 
   pub apart-act : Apart k first (outputsOf b) row → (act : Act) (out : List ℕ) → Apart k first (outputsOf b) (doing row out act .row)
@@ -145,19 +148,34 @@ module _ (b : List ℕ) (k first : ℕ) (row : List Record) (s : List ℕ) (plac
 -- ── A list of calls ──
 
 module _ (b : List ℕ) (k first : ℕ) where
+  next-alone :
+      (s : List ℕ) (c : CabinetCall) (calls : List CabinetCall) (t : Bool) →
+      stateAlone b (if t then stateAfter b s (inputsOf (c .act)) (length (outputsIn (c .outputs) first (outputsOf b))) else s) (aloneAt k first (outputsOf b) calls)
+      ≡ stateAlone b s
+      (if t
+      then record { inputs = inputsOf (c .act); buffer = outputsIn (c .outputs) first (outputsOf b) } ∷ aloneAt k first (outputsOf b) calls
+      else aloneAt k first (outputsOf b) calls)
+  unfolding stateAlone
+  next-alone s c calls true = refl
+  next-alone s c calls false = refl
+
   still-placed :
       (calls : List CabinetCall) (row : List Record) (s : List ℕ) →
       Placed b k first row s →
       Apart k first (outputsOf b) row →
       StaysIn onRecords k row calls →
-      ((s₁ : List ℕ) × Placed b k first (rowAfter onRecords row calls) s₁) × Apart k first (outputsOf b) (rowAfter onRecords row calls)
-  unfolding rowAfter onRecords
-  still-placed [] row s placed apart stays = ((s, placed), apart)
+      Placed b k first (rowAfter onRecords row calls) (stateAlone b s (aloneAt k first (outputsOf b) calls))
+      × Apart k first (outputsOf b) (rowAfter onRecords row calls)
+  unfolding rowAfter onRecords stateAlone aloneAt
+  still-placed [] row s placed apart stays = (placed, apart)
   still-placed (c ∷ calls) row s placed apart stays =
-      let next = placed-act b k first row s placed (c .act) (c .outputs) (stays .0) in
-      still-placed calls (doing row (c .outputs) (c .act) .row) (next .0) (next .1)
+      let after = doing row (c .outputs) (c .act) .row in
+      let next = stateNext b k first row s placed (c .act) (c .outputs) in
+      let still =
+      still-placed calls after next (placed-act b k first row s placed (c .act) (c .outputs) (stays .0))
       (apart-act b k first row s placed apart (c .act) (c .outputs))
-      (stays .1)
+      (stays .1) in
+      (subst (Placed b k first (rowAfter onRecords after calls)) (next-alone s c calls (stepsAt k (c .act))) (still .0), still .1)
 
 module _ (row : List Record) (out b : List ℕ) (k first : ℕ) (e : placingVerdict row out b k first ≡ Accepted) where
   apart-before : Apart k first (outputsOf b) row
@@ -176,14 +194,24 @@ module _ (row : List Record) (out b : List ℕ) (k first : ℕ) (e : placingVerd
       subst (Apart k first (outputsOf b)) (sym (placed-row row out b k first e))
       (apart-set k first (outputsOf b) row apart-before k (holding b first (encoded freshKept)) (λ other. absurd (other refl)))
 
+  -- from the placing on
+  pub placed-still :
+      (calls : List CabinetCall) →
+      let begun = placing row out b k first .row in
+      StaysIn onRecords k begun calls →
+      Placed b k first (rowAfter onRecords begun calls) (stateAlone b (encoded freshKept) (aloneAt k first (outputsOf b) calls))
+      × Apart k first (outputsOf b) (rowAfter onRecords begun calls)
+  placed-still calls stays =
+      still-placed b k first calls (placing row out b k first .row) (encoded freshKept) (placed-fresh row out b k first e) apart-placed stays
+
+pub placed-holds : PlacedHolds onRecords
+unfolding PlacedHolds onRecords doing
+placed-holds row out b k first answer calls stays =
+    let last = rowAfter onRecords (placing row out b k first .row) calls in
+    let s = stateAlone b (encoded freshKept) (aloneAt k first (outputsOf b) calls) in
+    let placed = placed-still row out b k first (placing-accepted row out b k first answer) calls stays .0 in
+    (not-free b k first last s placed, own-first b k first last s placed, own-personality b k first last s placed, own-state b k first last s placed)
+
 pub placed-apart : PlacedApart onRecords
 unfolding PlacedApart onRecords doing
-placed-apart row out b k first answer calls stays =
-    let e = placing-accepted row out b k first answer in
-    let begun = placing row out b k first .row in
-    let still =
-    still-placed b k first calls begun (encoded freshKept) (placed-fresh row out b k first e) (apart-placed row out b k first e) stays in
-    let last = rowAfter onRecords begun calls in
-    let s = still .0 .0 in
-    let placed = still .0 .1 in
-    (not-free b k first last s placed, own-first b k first last s placed, own-personality b k first last s placed, still .1)
+placed-apart row out b k first answer calls stays = placed-still row out b k first (placing-accepted row out b k first answer) calls stays .1

@@ -11,8 +11,9 @@ use lib.ListN.{length, set, replicate}
 use Rattle.laws.specs.Folds.{if_then_else_}
 use Rattle.rules.specs.Site.{siteOf}
 use Rattle.rules.specs.DemandThree.{Taken, accepted, SafeRun}
+use Rattle.rules.specs.Kept.{freshKept}
 use Rattle.rules.specs.Colours.{red}
-use Rattle.state_bytes.specs.Layout.{decoded}
+use Rattle.state_bytes.specs.Layout.{encoded, decoded}
 use Rattle.proof_board.specs.BoardRuns.{outcomeIn}
 use Rattle.cabinet_records.specs.declared.Record.{Record}
 use Rattle.cabinet_records.specs.Cabinet.{isFree, personalityOf, recordOf, outputsOf, outputsIn, ownOutputs, Act, placeSite, doing}
@@ -22,10 +23,10 @@ use Rattle.cabinet_records.proofs.CabinetLaws.{Written, written, others-stay}
 use Rattle.cabinet_records.proofs.RowRoundTrips.{decoded-encoded-row}
 use Rattle.cabinet_records.proofs.RowBytes.{row-length, row-shape}
 use Rattle.proof_cabinet.specs.CabinetAnswers.{ShapeStays}
-use Rattle.proof_cabinet.specs.CabinetRuns.{onRecords, onBytes, BytesFollowRecords, CabinetCall, stepsAt, inputsOf, lastShown, Apart, seenAt, StaysIn, rowAfter, linked, outputsAfter, CabinetRuns, CabinetDemandThree, PlacedApart, PlacedShows}
+use Rattle.proof_cabinet.specs.CabinetRuns.{onRecords, onBytes, BytesFollowRecords, CabinetCall, stepsAt, inputsOf, aloneAt, stateAlone, lastShown, Apart, seenAt, StaysIn, rowAfter, linked, outputsAfter, CabinetRuns, CabinetDemandThree, PlacedHolds, PlacedApart, PlacedShows}
 use Rattle.proof_cabinet.proofs.Shapes.{shape-stays}
 use Rattle.proof_cabinet.proofs.Runs.{cabinet-runs, cabinet-demand-three}
-use Rattle.proof_cabinet.proofs.Apart.{placed-apart}
+use Rattle.proof_cabinet.proofs.Apart.{placed-holds, placed-apart}
 use Rattle.proof_cabinet.proofs.Shows.{placed-shows}
 
 -- ── One call ──
@@ -133,6 +134,9 @@ module _ (b out p : List ℕ) (k first : ℕ) where
   begun-seen : (calls : List CabinetCall) → seenAt onBytes k begun calls ≡ seenAt onRecords k begunRecords calls
   begun-seen calls = same-seen k calls begun ∙ ap (λ (l : List Record). seenAt onRecords k l calls) begun-same
 
+  begun-after : (calls : List CabinetCall) → decodedRow (rowAfter onBytes begun calls) ≡ rowAfter onRecords begunRecords calls
+  begun-after calls = same-after calls begun ∙ ap (λ (l : List Record). rowAfter onRecords l calls) begun-same
+
   begun-stays : (calls : List CabinetCall) → StaysIn onBytes k begun calls → StaysIn onRecords k begunRecords calls
   begun-stays calls stays = subst (λ (l : List Record). StaysIn onRecords k l calls) begun-same (same-stays k calls begun stays)
 
@@ -147,16 +151,22 @@ cabinet-demand-three-on-bytes b out p k first e calls stays =
     subst (SafeRun (siteOf p)) (sym (begun-seen b out p k first calls))
     (cabinet-demand-three (decodedRow b) out p k first e calls (begun-stays b out p k first calls stays))
 
+pub placed-holds-on-bytes : PlacedHolds onBytes
+unfolding PlacedHolds onBytes onRecords doingBytes inBytes
+placed-holds-on-bytes b out p k first e calls stays =
+    subst
+    (λ (l : List Record).
+    (isFree (recordOf l k) ≡ false)
+    × (recordOf l k .first ≡ first)
+    × (personalityOf (recordOf l k) ≡ p)
+    × (recordOf l k .state ≡ stateAlone p (encoded freshKept) (aloneAt k first (outputsOf p) calls)))
+    (sym (begun-after b out p k first calls))
+    (placed-holds (decodedRow b) out p k first e calls (begun-stays b out p k first calls stays))
+
 pub placed-apart-on-bytes : PlacedApart onBytes
 unfolding PlacedApart onBytes onRecords doingBytes inBytes
 placed-apart-on-bytes b out p k first e calls stays =
-    let last =
-    same-after calls (begun b out p k first)
-    ∙ ap (λ (l : List Record). rowAfter onRecords l calls) (begun-same b out p k first) in
-    subst
-    (λ (l : List Record).
-    (isFree (recordOf l k) ≡ false) × (recordOf l k .first ≡ first) × (personalityOf (recordOf l k) ≡ p) × Apart k first (outputsOf p) l)
-    (sym last)
+    subst (Apart k first (outputsOf p)) (sym (begun-after b out p k first calls))
     (placed-apart (decodedRow b) out p k first e calls (begun-stays b out p k first calls stays))
 
 pub placed-shows-on-bytes : PlacedShows onBytes

@@ -29,7 +29,7 @@ use Rattle.cabinet_records.proofs.CabinetLaws.{same-outside, refusal-leaves}
 use Rattle.proof_cabinet.specs.CabinetRuns.{onRecords, stepsAt, takesOut, lastShown, Clear, Apart, seenAt, StaysIn, linked, outputsAfter, PlacedShows}
 use Rattle.proof_cabinet.proofs.Placed.{Placed, not-free, own-outputs}
 use Rattle.proof_cabinet.proofs.Runs.{placing-accepted, placed-fresh}
-use Rattle.proof_cabinet.proofs.Apart.{meet-sides, new-clear, placed-act, apart-act, apart-placed}
+use Rattle.proof_cabinet.proofs.Apart.{meet-sides, new-clear, stateNext, placed-act, apart-act, apart-placed}
 
 -- ── Outputs that another call does not write ──
 
@@ -148,7 +148,7 @@ module _ (b : List ℕ) (k first : ℕ) where
           let next = placed-act b k first row s placed act out (stays .0) in
           let own = own-outputs b k first row s placed (done .outputs) in
           rw (e, o)
-          (later (done .row) (done .outputs) (ownOutputs (recordOf row k) (done .outputs)) (next .0) (next .1)
+          (later (done .row) (done .outputs) (ownOutputs (recordOf row k) (done .outputs)) (stateNext b k first row s placed act out) next
           (apart-act b k first row s placed apart act out)
           (sym own)
           (stays .1))
@@ -157,7 +157,7 @@ module _ (b : List ℕ) (k first : ℕ) where
           let next = placed-act b k first row s placed act out (stays .0) in
           let left = refusal-leaves row out act (refused-number (done .answer) number at o) in
           rw (e, o)
-          (later (done .row) (done .outputs) none (next .0) (next .1)
+          (later (done .row) (done .outputs) none (stateNext b k first row s placed act out) next
           (apart-act b k first row s placed apart act out)
           (ap (λ (l : List ℕ). outputsIn l first (outputsOf b)) (left .1) ∙ shown)
           (stays .1))
@@ -169,7 +169,7 @@ module _ (b : List ℕ) (k first : ℕ) where
           let done = doing row out act in
           let next = placed-act b k first row s placed act out (stays .0) in
           rw e
-          (later (done .row) (done .outputs) none (next .0) (next .1)
+          (later (done .row) (done .outputs) none (stateNext b k first row s placed act out) next
           (apart-act b k first row s placed apart act out)
           (other-outputs b k first row s placed apart act out e (stays .0) ∙ shown)
           (stays .1))

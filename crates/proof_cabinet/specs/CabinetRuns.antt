@@ -12,6 +12,7 @@ use Rattle.rules.specs.Kept.{freshKept}
 use Rattle.rules.specs.Colours.{red}
 use Rattle.rules.specs.DemandThree.{Call, Taken, takenFrom, accepted, SafeRun}
 use Rattle.state_bytes.specs.Layout.{stateBytes, encoded, decoded}
+use Rattle.call_bytes.specs.CallBytes.{stateAfter}
 use Rattle.proof_board.specs.BoardRuns.{outcomeIn, board}
 use Rattle.cabinet_records.specs.declared.Record.{Record}
 use Rattle.cabinet_records.specs.Cabinet.{isFree, personalityOf, recordOf, outputsOf, hasOutputs, meet, outputsIn, ownOutputs, Returned, Act, placeSite, stepSite, takeOut, doing}
@@ -67,6 +68,11 @@ aloneAt k first count (c ∷ calls) =
     if stepsAt k (c .act)
     then record { inputs = inputsOf (c .act); buffer = outputsIn (c .outputs) first count } ∷ aloneAt k first count calls
     else aloneAt k first count calls
+
+-- the bytes of the state that such calls leave
+unfoldable pub stateAlone : List ℕ → List ℕ → List Call → List ℕ
+stateAlone b s [] = s
+stateAlone b s (c ∷ calls) = stateAlone b (stateAfter b s (c .inputs) (length (c .buffer))) calls
 
 -- what the last of the steps shows; what is given if there is none
 unfoldable pub lastShown : List ℕ → List Taken → List ℕ
@@ -159,18 +165,27 @@ module _ {Row : Type 0} (cabinet : Cabinet Row) where
       StaysIn k (placed .row) calls →
       SafeRun (siteOf b) (seenAt k (placed .row) calls))
 
-  -- The record holds what was placed, and shares no output with another record whose personality would be accepted.
+  -- The record holds what was placed, with the bytes of the state that the step calls alone would have left.
+  unfoldable pub PlacedHolds : Type 0
+  PlacedHolds =
+      OfEveryPlacing
+      (λ b k first placed.
+      (calls : List CabinetCall) →
+      StaysIn k (placed .row) calls →
+      let r = recordIn (rowAfter (placed .row) calls) k in
+      (isFree r ≡ false)
+      × (r .first ≡ first)
+      × (personalityOf r ≡ b)
+      × (r .state ≡ stateAlone b (encoded freshKept) (aloneAt k first (outputsOf b) calls)))
+
+  -- It shares no output with another record whose personality would be accepted.
   unfoldable pub PlacedApart : Type 0
   PlacedApart =
       OfEveryPlacing
       (λ b k first placed.
       (calls : List CabinetCall) →
       StaysIn k (placed .row) calls →
-      let last = rowAfter (placed .row) calls in
-      (isFree (recordIn last k) ≡ false)
-      × (recordIn last k .first ≡ first)
-      × (personalityOf (recordIn last k) ≡ b)
-      × Apart k first (outputsOf b) (cabinet .records last))
+      Apart k first (outputsOf b) (cabinet .records (rowAfter (placed .row) calls)))
 
   -- If each call gets the outputs that the call before returned, the site's outputs are those of its last accepted step, or red if there was none.
   unfoldable pub PlacedShows : Type 0
