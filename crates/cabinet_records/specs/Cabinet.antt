@@ -175,6 +175,7 @@ takingOut row out k =
 
 -- ── Any of the three ──
 
+-- place a personality in a record, from a first output on; step a record with 64 input bits; take a record out
 pub data Act : Type 0 where
   placeSite : List ℕ → ℕ → ℕ → Act
   stepSite : ℕ → ℕ → Act
