@@ -10,7 +10,7 @@ use lib.Seq.{getD-set-other, set-getD}
 use Rattle.rules.specs.declared.answer.Verdict.{Verdict}
 use Rattle.rules.specs.declared.answer.Verdict.the-variants.{Accepted, Refused}
 use Rattle.laws.specs.Folds.{if_then_else_}
-use Rattle.rules.specs.Verdicts.{_orElse_, reportOf, stepReportOf, waitOf}
+use Rattle.rules.specs.Verdicts.{_orElse_, stepReportOf, waitOf}
 use Rattle.rules.specs.Personality.{verdictOf}
 use Rattle.rules.specs.Site.{siteOf}
 use Rattle.rules.specs.Kept.{keptStepped}

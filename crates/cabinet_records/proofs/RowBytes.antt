@@ -1,59 +1,32 @@
 -- A row of bytes, record by record: what each record reads and writes, and the bytes after one record is written.
-use Prim.Native.Nat.{ℕ, zero, suc, _+_, _*_, _-_, _/_, _%_, _≤_, _<_}
+use Prim.Native.Nat.{ℕ, suc, _+_, _*_, _-_, _≤_, _<_}
 use mathlib.Core.Bool.{Bool, true, false}
-use mathlib.Core.List.{List, [], _∷_, _++_, append-assoc, append-nil}
+use mathlib.Core.List.{List, [], _++_}
 use mathlib.Core.Logic.{⊎-elim}
 use mathlib.Core.Path.{_≡_, refl, sym, subst, ap, _∙_}
 use native.Mathlib.Nat.{zero-add}
 use native.Mathlib.Omega.{arith}
 use lib.Dec.{eqb}
-use lib.ListN.{length, getD, set, take, drop, length-take, length-drop}
-use lib.Seq.{getD-set-same, getD-set-other, getD-take, getD-drop, take-all, set-out}
-use borrow.Author.Tests.{eq-eqb, eqb-true}
+use lib.ListN.{length, getD, set, take, drop, length-drop, length-replicate, List·getD-eq-default}
+use lib.Seq.{getD-set-same, getD-set-other, take-all, set-out}
+use borrow.Author.Tests.{eqb-true}
 use Rattle.laws.specs.Bytes.{byteAt}
-use Rattle.laws.specs.Folds.{if_then_else_, allOf, listOf}
+use Rattle.laws.specs.Folds.{if_then_else_, allOf}
 use Rattle.laws.proofs.Bytes.{part, record-within}
 use Rattle.laws.proofs.Indices.{below-or-past}
-use Rattle.laws.proofs.Lists.{list-length, list-at, list-told, listed}
+use Rattle.laws.proofs.Lists.{list-length, list-at}
 use Rattle.rules.specs.Laws.{greatestLength}
-use Rattle.state_forms.specs.Forms.{byte, partsOf, row, AreBytes}
+use Rattle.state_forms.specs.Forms.{partsOf, AreBytes}
 use Rattle.state_forms.proofs.Parts.{parts-joined, parts-same}
 use Rattle.state_bytes.specs.Layout.{stateBytes}
 use Rattle.cabinet_records.specs.declared.Record.{Record}
-use Rattle.cabinet_records.specs.Cabinet.{recordCount, freeRecord, recordOf, writtenAt, Returned, Act, doing}
+use Rattle.cabinet_records.specs.Cabinet.{recordCount, freeRecord, recordOf, writtenAt, Act, doing}
 use Rattle.cabinet_records.specs.CabinetLaws.{recordNamed, RefusalLeaves, BytesStay, RefusalLeavesBytes}
-use Rattle.cabinet_records.specs.Layout.{recordForm, recordBytes, rowForm, rowBytes, decodedRow, encodedRow, encodedRowOver, inBytes, doingBytes}
+use Rattle.cabinet_records.specs.Layout.{personalityAt, stateAt, recordForm, recordBytes, Shaped, rowForm, rowBytes, decodedRow, encodedRow, encodedRowOver, inBytes, doingBytes}
 use Rattle.cabinet_records.proofs.CabinetLaws.{Written, written, refusal-leaves}
 use Rattle.cabinet_records.proofs.Outputs.{SameOutside, same-all, written-outside}
+use Rattle.cabinet_records.proofs.RecordBytes.{parts-split}
 use Rattle.cabinet_records.proofs.RowRoundTrips.{record-law, encoded-decoded-row, decoded-long}
-
--- ── A row of bytes in a record: as a part of the list ──
-
-pub room-read : (b : List ℕ) (at n : ℕ) → at + n ≤ length b → row n 0 byte .read b at ≡ part b at n
-unfolding byteAt
-room-read b at n room =
-    let long : length (part b at n) ≡ n = omega (arith, length-take n (drop at b), length-drop at b) in
-    sym (list-told (λ k. byteAt b (at + k * 1)) (part b at n) n 0 long
-    (λ k l. getD-take n (drop at b) k 0 l ∙ getD-drop at b k 0 ∙ ap (byteAt b) (omega arith)))
-
-parts-listed : (f : ℕ → ℕ) (n : ℕ) → partsOf (λ k. f k ∷ []) n ≡ listOf f n
-unfolding partsOf listOf
-parts-listed f zero = refl
-parts-listed f (suc n) = ap (λ (l : List ℕ). l ++ (f n ∷ [])) (parts-listed f n)
-
-pub room-written : (l : List ℕ) (n : ℕ) → length l ≡ n → row n 0 byte .written l ≡ l
-room-written l n long = parts-listed (λ k. getD l k 0) n ∙ listed l n 0 long
-
--- the bytes of a record
-pub record-written :
-    (r : Record) →
-    length (r .personality) ≡ greatestLength →
-    length (r .state) ≡ stateBytes →
-    recordForm .written r ≡ r .held ∷ r .first ∷ r .size % 256 ∷ r .size / 256 ∷ (r .personality ++ r .state)
-record-written r personality state =
-    let a = room-written (r .personality) greatestLength personality in
-    let b = room-written (r .state) stateBytes state in
-    λ i. r .held ∷ r .first ∷ r .size % 256 ∷ r .size / 256 ∷ (a i ++ b i)
 
 -- ── The records of a row ──
 
@@ -67,15 +40,37 @@ record-read b long k below =
     ∙ list-at (λ j. recordForm .read b (0 + j * recordBytes)) recordCount k freeRecord below
     ∙ ap (recordForm .read b) (zero-add (k * recordBytes))
 
--- ── One record written ──
+-- ── The lengths of the arrays ──
 
--- k parts, one more, and m behind it
-parts-split : (f : ℕ → List ℕ) (k m : ℕ) → partsOf f (k + suc m) ≡ partsOf f k ++ (f k ++ partsOf (λ j. f (k + suc j)) m)
-unfolding partsOf
-parts-split f k zero = let e : k + 1 ≡ suc k = omega arith in rw (e, append-nil (f k))
-parts-split f k (suc m) =
-    let e : k + suc (suc m) ≡ suc (k + suc m) = omega arith in
-    rw (e, parts-split f k m) (simp append-assoc)
+pub free-shape : Shaped freeRecord
+unfolding freeRecord
+free-shape = record { personality = length-replicate {A = ℕ} greatestLength 0; state = length-replicate {A = ℕ} stateBytes 0 }
+
+read-shape : (b : List ℕ) (at : ℕ) → Shaped (recordForm .read b at)
+read-shape b at =
+    record {
+      personality = list-length (λ k. byteAt b (at + personalityAt + k * 1)) greatestLength;
+      state = list-length (λ k. byteAt b (at + stateAt + k * 1)) stateBytes;
+    }
+
+shape-for : (b : List ℕ) (j : ℕ) (t : Bool) → Shaped (getD (if t then rowForm .read b 0 else []) j freeRecord)
+shape-for b j true =
+    ⊎-elim
+    (λ (below : j < recordCount).
+    subst Shaped (sym (list-at (λ k. recordForm .read b (0 + k * recordBytes)) recordCount j freeRecord below)) (read-shape b (0 + j * recordBytes)))
+    (λ (past : recordCount ≤ j).
+    subst Shaped
+    (sym (List·getD-eq-default (rowForm .read b 0) freeRecord (omega (arith, list-length (λ k. recordForm .read b (0 + k * recordBytes)) recordCount, past))))
+    free-shape)
+    (below-or-past j recordCount)
+shape-for b j false = free-shape
+
+-- whatever the bytes
+pub row-shape : (b : List ℕ) (j : ℕ) → Shaped (recordOf (decodedRow b) j)
+unfolding recordOf decodedRow
+row-shape b j = shape-for b j (eqb (length b) rowBytes)
+
+-- ── One record written ──
 
 module _ (b : List ℕ) (bytes : AreBytes b) (long : length b ≡ rowBytes) where
   -- the bytes of record j

@@ -1,23 +1,24 @@
 -- The round trips of a row, from the laws of the forms.
-use Prim.Native.Nat.{ℕ, _+_, _*_}
-use mathlib.Core.List.{List, [], append-nil}
-use mathlib.Core.Path.{_≡_, refl, sym, _∙_}
+use Prim.Native.Nat.{ℕ, suc, _+_, _*_, _-_, _<_}
+use mathlib.Core.List.{List}
+use mathlib.Core.Path.{_≡_, refl, sym, ap, _∙_}
 use native.Mathlib.Omega.{arith}
-use lib.Dec.{eqb}
-use lib.ListN.{length, replicate, length-replicate, getD-replicate}
+use lib.ListN.{length, getD, replicate, length-replicate, getD-replicate}
 use lib.Seq.{take-all}
 use borrow.Author.Tests.{eq-eqb}
 use Rattle.laws.specs.Folds.{allOf, listOf, rowOf}
 use Rattle.laws.specs.Bytes.{byteAt, twoAt}
 use Rattle.laws.proofs.Lists.{list-told, row-past}
 use Rattle.rules.specs.Laws.{greatestLength}
-use Rattle.state_forms.specs.Forms.{AreBytes, byte}
+use Rattle.state_forms.specs.Forms.{byte, partsOf}
 use Rattle.state_forms.proofs.Lawful.{Lawful, byte-law, two-law, row-law, placed-law, both-law, made-law}
+use Rattle.state_forms.proofs.Parts.{parts-length}
 use Rattle.state_bytes.specs.Layout.{stateBytes}
 use Rattle.cabinet_records.specs.declared.Record.{Record}
-use Rattle.cabinet_records.specs.Cabinet.{recordCount, freeRecord}
-use Rattle.cabinet_records.specs.Layout.{firstAt, sizeAt, personalityAt, stateAt, recordRows, recordFrom, recordForm, recordBytes, rowForm, rowBytes, decodedRow, encodedRow, ProperRow}
+use Rattle.cabinet_records.specs.Cabinet.{recordCount, freeRecord, recordOf}
+use Rattle.cabinet_records.specs.Layout.{firstAt, sizeAt, personalityAt, stateAt, recordRows, recordFrom, recordForm, recordBytes, Shaped, rowForm, rowBytes, decodedRow, encodedRow, ProperRow}
 use Rattle.cabinet_records.specs.RowRoundTrips.{RowSizes, EncodedRowIsLong, EncodedRowIsBytes, DecodedEncodedRow, DecodedRowIsProper, EncodedDecodedRow, ZerosAreFree}
+use Rattle.cabinet_records.proofs.RecordBytes.{parts-split, record-back}
 
 pub row-sizes : RowSizes
 row-sizes = (refl, refl, refl)
@@ -48,10 +49,24 @@ pub decoded-long : (b : List ℕ) → length b ≡ rowBytes → decodedRow b ≡
 unfolding decodedRow
 decoded-long b long = rw (eq-eqb (length b) rowBytes long)
 
+module _ (row : List Record) (shaped : (j : ℕ) → Shaped (recordOf row j)) where
+  abbrev written : ℕ → List ℕ
+  written k = recordForm .written (getD row k freeRecord)
+
+  -- record k, behind those before it
+  one-back : (k : ℕ) → k < recordCount → recordForm .read (encodedRow row) (0 + k * recordBytes) ≡ getD row k freeRecord
+  unfolding encodedRow recordOf
+  one-back k below =
+      let m = recordCount - suc k in
+      let count : k + suc m ≡ recordCount = omega arith in
+      let front : length (partsOf written k) ≡ 0 + k * recordBytes = parts-length written recordBytes k (λ j. record-law .sized (getD row j freeRecord)) ∙ omega arith in
+      ap (λ (l : List ℕ). recordForm .read l (0 + k * recordBytes)) (ap (partsOf written) (sym count) ∙ parts-split written k m)
+      ∙ record-back (getD row k freeRecord) (shaped k) (partsOf written k) (partsOf (λ j. written (k + suc j)) m) (0 + k * recordBytes) front
+
 pub decoded-encoded-row : DecodedEncodedRow
-unfolding encodedRow ProperRow
-decoded-encoded-row row proper =
-    decoded-long (encodedRow row) (encoded-row-is-long row) ∙ rw append-nil at (row-of-records .back row [] [] 0 proper refl)
+decoded-encoded-row row four shaped =
+    decoded-long (encodedRow row) (encoded-row-is-long row)
+    ∙ sym (list-told (λ k. recordForm .read (encodedRow row) (0 + k * recordBytes)) row recordCount freeRecord four (λ k below. sym (one-back row shaped k below)))
 
 -- ── From bytes to a row and back ──
 

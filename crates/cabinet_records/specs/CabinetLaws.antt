@@ -4,11 +4,11 @@ use Prim.Native.Nat.{ℕ, _+_, _*_, _%_, _≤_, _<_}
 use mathlib.Core.List.{List}
 use mathlib.Core.Logic.{_⊎_}
 use mathlib.Core.Path.{_≡_}
-use lib.ListN.{length, getD}
+use lib.ListN.{length}
 use Rattle.laws.specs.Bytes.{byteAt}
 use Rattle.state_forms.specs.Forms.{AreBytes}
 use Rattle.cabinet_records.specs.declared.Record.{Record}
-use Rattle.cabinet_records.specs.Cabinet.{personalityOf, recordOf, outputsOf, Returned, Act, placeSite, stepSite, takeOut, doing}
+use Rattle.cabinet_records.specs.Cabinet.{personalityOf, recordOf, outputsOf, Act, placeSite, stepSite, takeOut, doing}
 use Rattle.cabinet_records.specs.Layout.{recordBytes, doingBytes}
 
 -- the record that a call names

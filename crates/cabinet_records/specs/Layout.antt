@@ -2,6 +2,7 @@
 -- length of the personality in two bytes, room for the longest personality, and the bytes of the state.
 use Prim.Native.Nat.{ℕ, _+_}
 use mathlib.Core.List.{List, []}
+use mathlib.Core.Path.{_≡_}
 use lib.Dec.{eqb}
 use lib.ListN.{length}
 use Rattle.laws.specs.Folds.{if_then_else_}
@@ -50,6 +51,11 @@ recordForm = made recordRows recordFrom
 
 abbrev pub recordBytes : ℕ
 recordBytes = recordForm .width
+
+-- the arrays have their lengths
+pub record Shaped (r : Record) : Type 0 where
+  pub personality : length (r .personality) ≡ greatestLength
+  pub state : length (r .state) ≡ stateBytes
 
 -- ── The row: record k stands from byte 520 k on ──
 

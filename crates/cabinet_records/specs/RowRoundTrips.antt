@@ -1,13 +1,13 @@
--- The round trips of a row and its bytes, stated: writing and reading undo each other, on the rows that the machine's types have and on any bytes of the
--- length of a row.
+-- The round trips of a row and its bytes, stated: writing and reading undo each other, on any four records whose arrays have their lengths and on any
+-- bytes of the length of a row.
 use Prim.Native.Nat.{ℕ}
 use mathlib.Core.List.{List}
 use mathlib.Core.Path.{_≡_}
 use lib.ListN.{length, replicate}
 use Rattle.state_forms.specs.Forms.{AreBytes}
 use Rattle.cabinet_records.specs.declared.Record.{Record}
-use Rattle.cabinet_records.specs.Cabinet.{recordCount, freeRecord}
-use Rattle.cabinet_records.specs.Layout.{stateAt, recordBytes, rowBytes, decodedRow, encodedRow, ProperRow}
+use Rattle.cabinet_records.specs.Cabinet.{recordCount, freeRecord, recordOf}
+use Rattle.cabinet_records.specs.Layout.{stateAt, recordBytes, Shaped, rowBytes, decodedRow, encodedRow, ProperRow}
 
 -- the numbers that a caller in C writes down
 abbrev pub RowSizes : Type 0
@@ -22,7 +22,11 @@ abbrev pub EncodedRowIsBytes : Type 0
 EncodedRowIsBytes = (row : List Record) → ProperRow row → AreBytes (encodedRow row)
 
 abbrev pub DecodedEncodedRow : Type 0
-DecodedEncodedRow = (row : List Record) → ProperRow row → decodedRow (encodedRow row) ≡ row
+DecodedEncodedRow =
+    (row : List Record) →
+    length row ≡ recordCount →
+    ((j : ℕ) → Shaped (recordOf row j)) →
+    decodedRow (encodedRow row) ≡ row
 
 -- ── From bytes to a row and back ──
 
