@@ -74,7 +74,7 @@ row-shape b j = shape-for b j (eqb (length b) rowBytes)
 
 module _ (b : List ℕ) (bytes : AreBytes b) (long : length b ≡ rowBytes) where
   -- the bytes of record j
-  own-bytes : (j : ℕ) → j < recordCount → recordForm .written (recordOf (decodedRow b) j) ≡ part b (j * recordBytes) recordBytes
+  pub own-bytes : (j : ℕ) → j < recordCount → recordForm .written (recordOf (decodedRow b) j) ≡ part b (j * recordBytes) recordBytes
   unfolding allOf
   own-bytes j below =
       let inside = record-within recordBytes j recordCount below in

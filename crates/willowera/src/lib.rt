@@ -10,6 +10,7 @@ ghost use Rattle.state_bytes.specs.Layout.{encodedOver};
 ghost use Rattle.call_bytes.specs.CallBytes.{packedVerdict, packedOutcome, stepAnswer, stateAfter, coloursAfter};
 ghost use Rattle.willowera.specs.Board.{freshAnswer, sectionAnswer};
 
+pub mod cabinet;
 pub mod road;
 pub mod sheet;
 pub mod yellow;
