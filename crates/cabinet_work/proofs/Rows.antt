@@ -4,7 +4,7 @@ use mathlib.Core.Bool.{true, false}
 use mathlib.Core.List.{List}
 use mathlib.Core.Path.{_≡_, refl, sym, ap, _∙_}
 use lib.Dec.{ltb}
-use lib.ListN.{length, set}
+use lib.ListN.{length, getD, set}
 use lib.Seq.{set-getD}
 use Rattle.rules.specs.declared.answer.Verdict.{Verdict}
 use Rattle.rules.specs.declared.answer.Verdict.the-variants.{Accepted, Refused}
@@ -45,7 +45,7 @@ module _ (row : List Record) (out : List ℕ) (k : ℕ) where
   refused-for b Accepted e done = rw e
   refused-for b (Refused number place) e done = rw e
 
-  pub placing-in : (b : List ℕ) (first : ℕ) → inRow row k (placedRecord row out b k first) ≡ placing row out b k first
+  placing-in : (b : List ℕ) (first : ℕ) → inRow row k (placedRecord row out b k first) ≡ placing row out b k first
   unfolding placedRecord placing inRow
   placing-in b first = in-row row out k (placingVerdict row out b k first) _
 
@@ -63,13 +63,35 @@ module _ (row : List Record) (out : List ℕ) (k : ℕ) where
         let held = heldChecks (personalityOf (recordOf row k)) (recordOf row k .first) in
         rw held-checked (or-assoc free held (refuseIf (ltb (length out) outputCount) 14 0))
 
-    pub stepping-in : (inputs : ℕ) → inRow row k (steppedRecord (recordOf row k) out inputs) ≡ stepping row out k inputs
+    stepping-in : (inputs : ℕ) → inRow row k (steppedRecord (recordOf row k) out inputs) ≡ stepping row out k inputs
     unfolding steppedRecord stepping stepped inRow
     stepping-in inputs = rw held-checked (in-row row out k (refuseIf (isFree (recordOf row k)) 24 0 orElse heldChecks (personalityOf (recordOf row k)) (recordOf row k .first)) _)
 
-    pub taking-in : inRow row k (takenOutRecord (recordOf row k) out) ≡ takingOut row out k
+    taking-in : inRow row k (takenOutRecord (recordOf row k) out) ≡ takingOut row out k
     unfolding takenOutRecord takingOut inRow
     taking-in = rw (← taking-checked) (in-row row out k (refuseIf (isFree (recordOf row k)) 24 0 orElse takingChecks (personalityOf (recordOf row k)) (recordOf row k .first) (length out)) _)
+
+    -- what the work on the record gives is what the call on the row gives
+    pub stepping-done :
+        (inputs : ℕ) {answer : ℕ} {kept : Record} {after : List ℕ} →
+        record { answer = answer; kept = kept; outputs = after } ≡ steppedRecord (getD row k freeRecord) out inputs →
+        record { answer = answer; row = set row k kept; outputs = after } ≡ stepping row out k inputs
+    unfolding inRow recordOf
+    stepping-done inputs e = ap (inRow row k) e ∙ stepping-in inputs
+
+    pub taking-done :
+        {answer : ℕ} {kept : Record} {after : List ℕ} →
+        record { answer = answer; kept = kept; outputs = after } ≡ takenOutRecord (getD row k freeRecord) out →
+        record { answer = answer; row = set row k kept; outputs = after } ≡ takingOut row out k
+    unfolding inRow recordOf
+    taking-done e = ap (inRow row k) e ∙ taking-in
+
+  pub placing-done :
+      (b : List ℕ) (first : ℕ) {answer : ℕ} {kept : Record} {after : List ℕ} →
+      record { answer = answer; kept = kept; outputs = after } ≡ placedRecord row out b k first →
+      record { answer = answer; row = set row k kept; outputs = after } ≡ placing row out b k first
+  unfolding inRow
+  placing-done b first e = ap (inRow row k) e ∙ placing-in b first
 
   -- ── It is not ──
 
