@@ -1,5 +1,5 @@
 -- The calls on a row of bytes by cases: a refusal leaves the bytes, an accepted call writes those of its record.
-use Prim.Native.Nat.{ℕ, _+_, _*_, _≤_}
+use Prim.Native.Nat.{ℕ, _+_, _*_, _%_, _≤_}
 use mathlib.Core.Bool.{Bool, true, false, not, _&&_, _||_}
 use mathlib.Core.List.{List, _++_}
 use mathlib.Core.Path.{_≡_, refl, sym, ap, _∙_}
@@ -22,10 +22,11 @@ use Rattle.state_forms.specs.Forms.{AreBytes}
 use Rattle.state_bytes.specs.Layout.{stateBytes, encoded}
 use Rattle.call_bytes.specs.CallBytes.{packed, packedVerdict}
 use Rattle.cabinet_records.specs.declared.Record.{Record}
-use Rattle.cabinet_records.specs.Cabinet.{isFree, personalityOf, freeRecord, holding, withState, recordOf, hasRecord, outputsOf, pastLast, overlaps, isShort, writtenAt, ownOutputs, placingVerdict, heldVerdict, takingVerdict, returnedFor, placing, stepped, stepping, takingOut, Act, placeSite, stepSite, takeOut, doing}
+use Rattle.cabinet_records.specs.Cabinet.{isFree, personalityOf, freeRecord, holding, withState, recordOf, hasRecord, outputsOf, pastLast, overlaps, isShort, writtenAt, ownOutputs, placingVerdict, heldVerdict, takingVerdict, Returned, returnedFor, placing, stepped, stepping, takingOut, Act, placeSite, stepSite, takeOut, doing}
+use Rattle.cabinet_records.specs.CabinetLaws.{RefusalLeavesBytes}
 use Rattle.cabinet_records.specs.Layout.{stateAt, recordForm, recordBytes, rowBytes, decodedRow, encodedRow, encodedRowOver, inBytes, doingBytes}
 use Rattle.cabinet_records.proofs.Checks.{placing-read, placing-within, placing-long}
-use Rattle.cabinet_records.proofs.RowBytes.{one-written}
+use Rattle.cabinet_records.proofs.RowBytes.{one-written, refusal-leaves-bytes}
 use Rattle.cabinet_records.proofs.RowRoundTrips.{record-law, encoded-decoded-row}
 use Rattle.cabinet_held.proofs.Bytes.{part-back, sets-written}
 use Rattle.cabinet_held.specs.Held.{heldChecks, takingChecks, placingChecks, darkenedFor, darkened, HeldStep, heldStepFor, heldStepped, heldStep}
@@ -136,6 +137,21 @@ module _ {b : List ℕ} (out : List ℕ) {k : ℕ} (bytes : AreBytes b) (there :
     step-held {answer} {n} {old} {state} {after} copied count size e =
         ap (λ (l : List ℕ). record { answer = answer; row = l; outputs = after }) (part-back b (k * recordBytes + stateAt) n state (omega (arith, count, size)))
         ∙ step-for (heldChecks (personalityOf own) (own .first)) refl (record { answer = answer; state = state; outputs = after }) (rw copied at e) size
+
+    -- a refused step leaves the row
+    pub step-refused :
+        {answer : ℕ} {old state after : List ℕ} →
+        old ≡ own .state →
+        length state ≡ stateBytes →
+        record { answer = answer; state = state; outputs = after } ≡ heldStep (personalityOf own) (own .first) old inputs out →
+        (answer % 256 ≡ 0 → ⊥) →
+        record { answer = answer; row = b; outputs = after } ≡ doingBytes b out (stepSite k inputs)
+    unfolding RefusalLeavesBytes
+    step-refused {answer} {after = after} copied size e refused =
+        let same = step-held copied refl size e in
+        let said = ap (λ (d : Returned (List ℕ)). d .answer % 256) same in
+        let left = refusal-leaves-bytes b out (stepSite k inputs) bytes (λ z. refused (said ∙ z)) in
+        ap (λ (l : List ℕ). record { answer = answer; row = l; outputs = after }) (sym (left .0) ∙ sym (ap (λ (d : Returned (List ℕ)). d .row) same)) ∙ same
 
   module _ {v : Verdict} {after : List ℕ} (e : v ≡ takingChecks (personalityOf own) (own .first) (length out)) (shown : after ≡ darkened (personalityOf own) (own .first) out) where
     taking-verdict : takingVerdict (decodedRow b) out k ≡ v

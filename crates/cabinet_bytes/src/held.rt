@@ -37,7 +37,8 @@ fn step_copy(row: &[u8], k: usize, state: &mut [u8], inputs: u64, outputs: &mut 
     cabinet_held::held_step(personality_of(row, k), first, state, inputs, outputs)
 }
 
-// A step of record k, which is not free. The step has a copy of the state, because the personality beside it is lent at the same time.
+// A step of record k, which is not free. The step has a copy of the state, because the personality beside it is lent at the same time. A
+// refused step writes nothing to the row, not even the same bytes.
 pub fn step_held(row: &mut [u8], k: usize, inputs: u64, outputs: &mut [u8]) -> u64
     requires { ⌜ Named (now row) k × (isFree (recordOf (decodedRow (now row)) k) ≡ false) ⌝ }
     ensures { λ r. ⌜ record { answer = r; row = now (row .exit); outputs = now (outputs .exit) }
@@ -48,6 +49,9 @@ pub fn step_held(row: &mut [u8], k: usize, inputs: u64, outputs: &mut [u8]) -> u
     let mut state = [0u8; STATE_BYTES];
     fills::copy(&row[start..end], &mut state);
     let answer = step_copy(row, k, &mut state, inputs, outputs);
+    if answer % 256 != 0 {
+        return answer;
+    }
     fills::copy(&state, &mut row[start..end]);
     answer
 }

@@ -1,5 +1,5 @@
--- `cabinet_bytes::held::step_held` meets its contract: the state is copied, stepped, and stored back.
-use Prim.Native.Nat.{_+_, _*_, _-_}
+-- `cabinet_bytes::held::step_held` meets its contract: the state is copied, stepped, and stored back if the step is accepted.
+use Prim.Native.Nat.{ℕ, _+_, _*_, _-_}
 use mathlib.Core.Path.{_≡_, refl, sym, ap, _∙_}
 use native.Mathlib.Omega.{arith}
 use lib.ListN.{length, drop, length-take, length-drop}
@@ -10,7 +10,7 @@ use Rattle.state_bytes.specs.Layout.{stateBytes}
 use Rattle.cabinet_records.specs.Cabinet.{recordOf}
 use Rattle.cabinet_records.specs.Layout.{stateAt, recordBytes, decodedRow}
 use Rattle.cabinet_bytes.proofs.Parts.{inside, state-read, copied-all}
-use Rattle.cabinet_bytes.proofs.Calls.{step-held}
+use Rattle.cabinet_bytes.proofs.Calls.{step-refused, step-held}
 use borrow.Author.Needs.{needs}
 use Rattle.cabinet_bytes.proofs.held.step_held.Statement.{statement}
 use Rattle.cabinet_bytes.proofs.held.step_held.Tie as tie
@@ -45,6 +45,52 @@ slice-aggregate-step-copy c = search needs
 step-copy-requires : tie.Need-step-copy-requires
 step-copy-requires c κs = search needs
 
+same-length : tie.Need-same-length
+same-length c = search needs
+
+same-length-2 : tie.Need-same-length-2
+same-length-2 c = search needs
+
+-- ── What is known after the step, by its copy of the state ──
+
+abbrev entry : tie.After-state4 → tie.After-slice-known
+entry c = c .before .before .before .before .before .before .before .before .before .before .before
+
+bytes : (c : tie.After-slice-known) → AreBytes (c .before .args .row .now)
+unfolding byteAt
+bytes c = record { each = λ i. omega (arith, c .slice-known .given i) }
+
+-- the place of the state, and how many bytes are lent there
+abbrev at : tie.After-slice-known → ℕ
+at c = c .before .args .k * recordBytes + stateAt
+
+count : (c : tie.After-slice-known) → at c + stateBytes - at c ≡ stateBytes
+count c = omega arith
+
+lent : (c : tie.After-slice-known) → length (part (c .before .args .row .now) (at c) (at c + stateBytes - at c)) ≡ stateBytes
+lent c =
+    let b = c .before .args .row .now in
+    omega (arith, length-take (at c + stateBytes - at c) (drop (at c) b), length-drop (at c) b, inside (c .before .pre .0))
+
+size : (c : tie.After-state4) → length (c .before .step-copy .last .1 .1 .0) ≡ stateBytes
+size c = c .state4 .given
+
+copied :
+    (c : tie.After-state4) →
+    let a = entry c .before .args in
+    c .before .before .before .before .before .before .copy .last .1 .0 ≡ recordOf (decodedRow (a .row .now)) (a .k) .state
+copied c =
+    let known = entry c in
+    let copy = c .before .before .before .before .before .before .copy in
+    copy .ensures ∙ copied-all _ _ (lent known) refl ∙ ap (part (known .before .args .row .now) (at known)) (count known) ∙ sym (state-read (known .before .pre .0))
+
+returns : tie.Need-returns
+returns c =
+    let given = c .before .before .before in
+    let start = entry given .before in
+    step-refused (start .args .outputs .now) (bytes (entry given)) (start .pre .0) (start .pre .1) (start .args .inputs) (copied given) (size given) (given .before .step-copy .ensures)
+    (c .if1 .taken)
+
 slice-aggregate-copy-2 : tie.Need-slice-aggregate-copy-2
 slice-aggregate-copy-2 c = search needs
 
@@ -60,34 +106,22 @@ part-copy-end-2 c = search needs
 copy-requires-2 : tie.Need-copy-requires-2
 copy-requires-2 c κs = search needs
 
-same-length : tie.Need-same-length
-same-length c = search needs
+same-length-3 : tie.Need-same-length-3
+same-length-3 c = search needs
 
-same-length-2 : tie.Need-same-length-2
-same-length-2 c = search needs
+same-length-4 : tie.Need-same-length-4
+same-length-4 c = search needs
 
-returns : tie.Need-returns
-unfolding byteAt
-returns c =
+returns-2 : tie.Need-returns-2
+returns-2 c =
     let second = c .before .before in
-    let given = second .before .before .before .before .before in
+    let given = second .before .before .before .before .before .before in
     let called = given .before in
-    let back = called .before .before .before .before in
-    let first = back .before in
-    let known = first .before .before .before .before .before in
-    let a = known .before .args in
-    let there = known .before .pre .0 in
-    let b = a .row .now in
-    let at = a .k * recordBytes + stateAt in
-    let bytes : AreBytes b = record { each = λ i. omega (arith, known .slice-known .given i) } in
-    let count : at + stateBytes - at ≡ stateBytes = omega arith in
-    let lent : length (part b at (at + stateBytes - at)) ≡ stateBytes =
-    omega (arith, length-take (at + stateBytes - at) (drop at b), length-drop at b, inside there) in
-    let size : length (called .step-copy .last .1 .1 .0) ≡ stateBytes = given .state4 .given in
-    let copied : first .copy .last .1 .0 ≡ recordOf (decodedRow b) (a .k) .state =
-    first .copy .ensures ∙ copied-all _ _ lent refl ∙ ap (part b at) count ∙ sym (state-read there) in
-    let stored : second .copy2 .last .1 .0 ≡ called .step-copy .last .1 .1 .0 = second .copy2 .ensures ∙ copied-all _ _ size lent in
-    rw stored (step-held (a .outputs .now) bytes there (known .before .pre .1) (a .inputs) copied count size (called .step-copy .ensures))
+    let start = entry given .before in
+    let stored : second .copy2 .last .1 .0 ≡ called .step-copy .last .1 .1 .0 = second .copy2 .ensures ∙ copied-all _ _ (size given) (lent (entry given)) in
+    rw stored
+    (step-held (start .args .outputs .now) (bytes (entry given)) (start .pre .0) (start .pre .1) (start .args .inputs) (copied given) (count (entry given)) (size given)
+    (called .step-copy .ensures))
 
 pub step-held-spec : {M : Type 1} → statement M
 step-held-spec =
@@ -103,11 +137,14 @@ step-held-spec =
     copy-requires
     slice-aggregate-step-copy
     step-copy-requires
+    same-length
+    same-length-2
+    returns
     slice-aggregate-copy-2
     sub-copy-2
     part-copy-start-2
     part-copy-end-2
     copy-requires-2
-    same-length
-    same-length-2
-    returns)
+    same-length-3
+    same-length-4
+    returns-2)
