@@ -101,7 +101,7 @@ same_roads() { python3 vectors/make_roads.py "$log" && compare_with_model roads 
 check 'roads of vectors/make_roads.py' same_roads
 
 # The library from C: what it needs, the conditions that its header states, and the example program.
-for part in needs conditions steps settings road yellow; do
+for part in needs conditions steps settings road cabinet yellow; do
     check "examples/c/check.sh $part" examples/c/check.sh "$part"
 done
 
