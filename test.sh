@@ -107,7 +107,7 @@ check 'cabinets of vectors/make_cabinets.py' same_cabinets
 check 'lists of cabinet calls' python3 vectors/cabinet_lists.py ./target/bin/run_cabinet ./rust/target/release/cabinet
 
 # The library from C: what it needs, the conditions that its header states, and the example program.
-for part in needs conditions steps settings road yellow; do
+for part in needs conditions steps settings road cabinet yellow; do
     check "examples/c/check.sh $part" examples/c/check.sh "$part"
 done
 
