@@ -3,6 +3,7 @@ use Prim.Native.Nat.{_+_, _*_, _-_}
 use mathlib.Core.Path.{_≡_, ap, _∙_}
 use native.Mathlib.Omega.{arith}
 use Rattle.laws.proofs.Bytes.{part}
+use Rattle.cabinet_records.specs.Layout.{personalityAt, recordBytes}
 use Rattle.cabinet_bytes.proofs.Parts.{held-part}
 use borrow.Author.Needs.{needs}
 use Rattle.cabinet_bytes.proofs.layout.personality_of.Statement.{statement}
@@ -33,7 +34,7 @@ returns : tie.Need-returns
 returns c =
     let sized = c .before in
     let start = sized .before .before in
-    let at = start .args .k * 520 + 4 in
+    let at = start .args .k * recordBytes + personalityAt in
     let count : at + sized .size-of .result - at ≡ sized .size-of .result = omega arith in
     ap (part (start .args .row .now) at) count ∙ held-part (start .pre) (sized .size-of .ensures)
 
