@@ -1,4 +1,4 @@
-/* The C interface of the Willowera controller: one isolated junction, in steps of 0.1 s.
+/* The C interface of the Willowera controller: one isolated junction, or up to four in one cabinet, in steps of 0.1 s.
  *
  * Every function takes buffers of any content and length, and returns. A refused call leaves every buffer unchanged.
  * docs/RULES.md has the rules, docs/DATA-SHEET.md the bytes of a state, the defaults and the refusals in one table.
@@ -7,8 +7,9 @@
  *
  * - A pointer has as many bytes behind it as the length next to it says. All 64 bits of a length count: bytes after a whole
  *   personality are refused with 12, and a state of any length other than WILLOWERA_STATE_BYTES with 13.
- * - During a call nobody else writes a buffer of the call, or reads the state, the colours or the results.
+ * - During a call nobody else writes a buffer of the call, or reads the state, the colours, the results, the row or the outputs.
  * - State, colours and results do not overlap each other, the personality or the streams. They may be adjacent.
+ * - The row and the outputs of a cabinet do not overlap each other or the personality that is placed. They may be adjacent.
  * - willowera_settings is called in the default floating-point environment: round to nearest, subnormal numbers on.
  *
  * Not required (examples/c/conditions.c tries these points):
@@ -16,16 +17,18 @@
  * - A valid pointer for length 0. The pointer may be anything, also null; the buffer is empty and is not accessed.
  * - Alignment, of any buffer.
  * - A writable personality. It may be in read-only memory.
- * - Initial values in the colour buffer or in the buffer for a fresh state.
+ * - Initial values in the colour buffer, in the buffer for a fresh state or in the outputs of a cabinet.
  *
  * What a call does to memory:
  *
- * - It reads the personality, the state and the streams. An accepted step writes the state and one colour byte for each group, an
- *   accepted road the state and the results. A refused call writes nothing. Otherwise a call uses only its stack.
+ * - It reads the personality, the state, the streams and the row. An accepted step writes the state and one colour byte for each group,
+ *   an accepted road the state and the results. An accepted call of a cabinet writes its own record and its own outputs. A refused call
+ *   writes nothing. Otherwise a call uses only its stack.
  * - The library has no variables, no heap and no locks. Calls with their own state and colours may run at the same time, in several
- *   threads or in a signal handler that interrupts another call, and may share a personality.
- * - A state has no pointers in it: it may be copied, moved and stored. A step is not atomic: a call that never returns (a reset, a
- *   thread that was ended from outside) can leave state or colours half written. If that matters, keep a copy of the last state.
+ *   threads or in a signal handler that interrupts another call, and may share a personality. Calls on one row may not.
+ * - A state or a row has no pointers in it: it may be copied, moved and stored. A step is not atomic: a call that never returns (a reset,
+ *   a thread that was ended from outside) can leave state, colours, row or outputs half written. If that matters, keep a copy of the last
+ *   state or row.
  *
  * The archive is for x86-64 Linux, System V calling convention, C or C++. It can be linked into programs and shared objects, and needs
  * only memcpy and memset. It uses the SSE2 registers and the red zone, and does not change the floating-point environment. A byte is a
@@ -58,6 +61,23 @@ extern "C" {
 #define WILLOWERA_STREAM_BYTES 4
 #define WILLOWERA_RESULT_BYTES 4
 
+/* ── A cabinet: four records, one after the other, and 32 outputs. Record k begins at byte k * WILLOWERA_RECORD_BYTES of the row ── */
+
+#define WILLOWERA_RECORDS 4
+#define WILLOWERA_OUTPUTS 32
+#define WILLOWERA_MOST_PERSONALITY_BYTES 477
+
+/* The parts of a record, by the offset of their first byte: whether it holds a site (0: it is free); the first output, from 0; the length
+ * of the personality (2 bytes, the low one first; above 477 it counts as 477); room for the personality; the state. */
+#define WILLOWERA_RECORD_HELD 0
+#define WILLOWERA_RECORD_FIRST 1
+#define WILLOWERA_RECORD_LENGTH 2
+#define WILLOWERA_RECORD_PERSONALITY 4
+#define WILLOWERA_RECORD_STATE (WILLOWERA_RECORD_PERSONALITY + WILLOWERA_MOST_PERSONALITY_BYTES)
+
+#define WILLOWERA_RECORD_BYTES (WILLOWERA_RECORD_STATE + WILLOWERA_STATE_BYTES) /* 520 */
+#define WILLOWERA_ROW_BYTES (WILLOWERA_RECORDS * WILLOWERA_RECORD_BYTES)        /* 2080 */
+
 /* ── Inputs: bit d is detector d (d from 0 to 47 only), bit 48 + k is push button k (k from 0 to 7 only) ── */
 
 #define WILLOWERA_DETECTOR(d) (UINT64_C(1) << (d))
@@ -69,6 +89,7 @@ extern "C" {
 #define WILLOWERA_YELLOW 1
 #define WILLOWERA_GREEN 2
 #define WILLOWERA_FLASHING_RED 3
+#define WILLOWERA_DARK 4 /* in a cabinet: the outputs of a site that was taken out */
 
 /* ── Codes in the bytes of a state: intervals, then stages of a movement ── */
 
@@ -106,7 +127,7 @@ extern "C" {
 #define WILLOWERA_WRONG_DETECTOR 11     /* unknown phase or mode; place: the record */
 #define WILLOWERA_LEFT_OVER 12          /* bytes follow the last section; place: the first of them */
 #define WILLOWERA_STATE_NOT_VALID 13    /* state not valid, or not a state; place 0 */
-#define WILLOWERA_BUFFER_SHORT 14       /* colour or result buffer too short; place 0 */
+#define WILLOWERA_BUFFER_SHORT 14       /* colour, result or output buffer too short; place 0 */
 #define WILLOWERA_STRAY_INPUT 15        /* an input bit is set that has no detector and no button; place 0 */
 #define WILLOWERA_NO_EARLY_TIMES 17     /* a group stops early, but section 7 is missing; place: the first such record */
 #define WILLOWERA_WRONG_ORDER 18        /* section 9 does not list each phase once; place: its head */
@@ -121,6 +142,10 @@ extern "C" {
 
 /* Refusal of a yellow time. */
 #define WILLOWERA_YELLOW_OUT_OF_RANGE 23 /* speed not 40 to 110, or grade not -10 to 10; place 0 */
+
+/* Refusals of a cabinet. */
+#define WILLOWERA_WRONG_RECORD 24       /* no such record; placing: it is not free; stepping and taking out: it is free; place 0 */
+#define WILLOWERA_OUTPUTS_TAKEN 25      /* outputs past the 32nd; placing: also outputs of another site; place 0 */
 
 /* ── Answers: the number in bits 0 to 7, above it the place of a refusal, or the result of an accepted call ── */
 
@@ -175,6 +200,42 @@ uint64_t willowera_yellow(uint32_t speed, int32_t grade);
 
 /* Offset and length of the body of a section (WILLOWERA_OFFSET, WILLOWERA_LENGTH), or a refusal. */
 uint64_t willowera_section(const uint8_t *personality, size_t personality_length, uint16_t kind);
+
+/* ── A cabinet: up to four sites on 32 outputs ──
+ *
+ * The row has WILLOWERA_ROW_BYTES bytes. Zeroed memory is a row of four free records, and any bytes are a row. A row of another length has
+ * no records: every record is refused with 24. The caller keeps the row and hands the same bytes to each call. A call reads and writes
+ * nothing of another record, except that placing reads which outputs the others have.
+ *
+ * The outputs are one byte each, and the buffer has at least WILLOWERA_OUTPUTS of them. A site has one output for each of its groups, in
+ * group order, from its first output on. A call writes only the outputs of its own site. Bytes past the 32nd output stay.
+ *
+ * A record whose personality would be refused is neither stepped nor taken out, and it is not free. Calls never leave such a record. To
+ * clear one that came from elsewhere, write zeros over it. Its outputs are not kept for it: another site may be placed on them.
+ *
+ * A pointer to a part of a record may be handed to other calls, as a held personality to willowera_section. */
+
+/* Places a site in a free record: stores the personality, the fresh state and the first output, turns the site's outputs red, and answers
+ * 0; or a refusal.
+ *
+ * The checks: the personality; then 24 (no such record, or it is not free); then 25 (outputs past the 32nd, or an output of a site in
+ * another record); then 14 (outputs_length is less than 32). */
+uint64_t willowera_cabinet_place(uint8_t *row, size_t row_length, size_t record, const uint8_t *personality, size_t personality_length,
+                                 size_t first, uint8_t *outputs, size_t outputs_length);
+
+/* One step of 0.1 s of the site in a record, as willowera_step does it alone: replaces its state, writes its outputs, and answers its wait
+ * bound (WILLOWERA_WAIT); or a refusal.
+ *
+ * The checks: 24 (no such record, or it is free); then the held personality; then 25 (outputs past the 32nd); then 13, 15 and, if
+ * outputs_length is less than 32, 14. */
+uint64_t willowera_cabinet_step(uint8_t *row, size_t row_length, size_t record, uint64_t inputs, uint8_t *outputs, size_t outputs_length);
+
+/* Takes the site out of a record: the record is zeros and free, the site's outputs are dark, and the answer is 0; or a refusal. The state
+ * does not matter.
+ *
+ * The checks: 24 (no such record, or it is free); then the held personality; then 25 (outputs past the 32nd); then 14 (outputs_length is
+ * less than 32). */
+uint64_t willowera_cabinet_take_out(uint8_t *row, size_t row_length, size_t record, uint8_t *outputs, size_t outputs_length);
 
 /* The version of the interface of the archive. It equals WILLOWERA_VERSION if this header belongs to the archive. */
 #define WILLOWERA_VERSION 4

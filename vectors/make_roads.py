@@ -7,8 +7,9 @@ Usage: make_roads.py OUT. The same file comes out at every run."""
 import random
 import sys
 
+from controller import STATE_BYTES, Site
 from model import PEDESTRIAN, build, junction, largest, number, random_site, three_phases, turning_arrow
-from road import STATE_BYTES, Site, road
+from road import road
 
 WORKED = [
     (((0, 0, 1800), (1, 1, 1800)), 200, (0, 2, 11), ((8, 2), (8, 2))),

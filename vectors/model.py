@@ -225,10 +225,12 @@ def called(groups, detectors):
     return phases
 
 
-def random_site(rng):
-    """An accepted personality of any size, its settings drawn from the whole of each range."""
+def random_site(rng, most=32, ranges=None):
+    """An accepted personality of any size, with so many groups at most (3 or more), its settings drawn from the whole of each range, or
+    from these ranges."""
+    ranges = ranges or RANGES
     phases = rng.randint(2, 7)
-    count = rng.randint(max(1, phases // 2), 32)
+    count = rng.randint(max(1, phases // 2), most)
     closing_early = rng.random() < 0.6
     marks = (VEHICLE, LATE_START, EARLY_CUT_OFF) if closing_early else (VEHICLE, LATE_START)
     groups, pedestrians = [], 0
@@ -244,12 +246,12 @@ def random_site(rng):
     if missing:
         vehicle = next((g for g in range(count) if groups[g][1] != PEDESTRIAN), None)
         if vehicle is None:
-            return random_site(rng)
+            return random_site(rng, most, ranges)
         groups[vehicle] = (groups[vehicle][0] | missing, groups[vehicle][1])
     conflicts = {pair for pair in conflicts_of(groups) if rng.random() < 0.6}
     detectors = [(rng.randrange(phases), rng.choice((0, 1, 2, 4, 5, 6))) for _ in range(rng.randint(0, 41))]
     detectors += [(p, rng.choice((1, 2, 5, 6))) for p in range(phases) if not called(groups, detectors) >> p & 1]
-    draw = lambda name: rng.choice((RANGES[name][0], RANGES[name][1], rng.randint(*RANGES[name])))
+    draw = lambda name: rng.choice((*ranges[name], rng.randint(*ranges[name])))
     return build(draw("start"), [tuple(draw(n) for n in PHASE_FIELDS) for _ in range(phases)], groups, conflicts,
                  detectors,
                  [tuple(draw(n) for n in WALK_FIELDS) for _ in range(pedestrians)],

@@ -6,6 +6,7 @@
 #     check.sh steps         steps.c prints the colours of the trace of the junction of two phases
 #     check.sh settings      settings.c prints the answers that the data sheet's table of site sheets has
 #     check.sh road          road.c prints what the tables of the example roads have, but for the longest queue
+#     check.sh cabinet       cabinet.c prints what is kept in cabinet.txt, and every site in the cabinet does what it does alone
 #     check.sh yellow        yellow.c prints the answers that the data sheet's table of yellow times has
 #
 # The programs are built with gcc's address and undefined-behaviour sanitizers, which watch the caller's side.
@@ -52,12 +53,16 @@ road)
         run road "$road" | cmp - <(tail -n +2 "$table" | cut -d ' ' -f 1-6) || exit 1
     done
     ;;
+cabinet)
+    run cabinet examples/two_phases/personality.bin examples/t_junction/personality.bin examples/crossings/personality.bin |
+        diff - examples/c/cabinet.txt
+    ;;
 yellow)
     # shellcheck disable=SC2046 # two words of each row
     run yellow $(yellows '$2, $3') | diff - <(yellows '$4')
     ;;
 *)
-    sed -n '2,10s/^# \{0,1\}//p' "$0"
+    sed -n '2,11s/^# \{0,1\}//p' "$0"
     exit 2
     ;;
 esac

@@ -243,6 +243,117 @@ static void roads_between_fences(const struct site *site)
     }
 }
 
+/* ── Cabinets ── */
+
+/* Places a site in a record and steps it with the inputs of `run`, in this row and these outputs. */
+static uint64_t run_placed(const struct site *site, uint64_t seed, uint8_t *row, size_t record, uint8_t *outputs)
+{
+    const uint8_t *state = row + record * WILLOWERA_RECORD_BYTES + WILLOWERA_RECORD_STATE;
+    const size_t rows = WILLOWERA_ROW_BYTES, room = WILLOWERA_OUTPUTS, first = WILLOWERA_OUTPUTS - site->groups;
+    uint64_t random = seed * UINT64_C(0x9e3779b97f4a7c15) + 1, sum = 0;
+
+    need(willowera_cabinet_place(row, rows, record, site->personality, site->length, first, outputs, room) == 0, "a placed site");
+    for (int step = 0; step < STEPS; step++) {
+        uint64_t inputs = draw(&random) & draw(&random) & draw(&random) & site->known;
+        uint64_t answer = willowera_cabinet_step(row, rows, record, inputs, outputs, room);
+        need(WILLOWERA_NUMBER(answer) == WILLOWERA_ACCEPTED, "a step of a placed site");
+        sum = digest(sum ^ answer, state, WILLOWERA_STATE_BYTES);
+        sum = digest(sum, outputs + first, site->groups);
+    }
+    need(willowera_cabinet_take_out(row, rows, record, outputs, room) == 0, "a site that is taken out");
+    return sum;
+}
+
+static int all_are(const uint8_t *bytes, size_t length, uint8_t value)
+{
+    for (size_t i = 0; i < length; i++)
+        if (bytes[i] != value)
+            return 0;
+    return 1;
+}
+
+/* In every record a site runs as alone, reads and writes nothing beside its buffers, leaves the other records and outputs, and never writes the
+ * personality. Taking it out leaves zeros, and dark outputs. */
+static void cabinets_between_fences(const struct site *site)
+{
+    uint64_t expected = run_alone(site, 4);
+
+    for (size_t record = 0; record < WILLOWERA_RECORDS; record++) {
+        int at_end = record % 2 == 0;
+        uint8_t *pages[3] = {fenced_page(), fenced_page(), fenced_page()};
+        struct site fenced = fenced_site(site, pages[0], at_end);
+        uint8_t *row = place(pages[1], WILLOWERA_ROW_BYTES, at_end), *outputs = place(pages[2], WILLOWERA_OUTPUTS, at_end);
+        uint8_t *own = row + record * WILLOWERA_RECORD_BYTES;
+
+        memset(row, 0xc5, WILLOWERA_ROW_BYTES);
+        memset(own, 0, WILLOWERA_RECORD_BYTES);
+        memset(outputs, 0xc5, WILLOWERA_OUTPUTS);
+        need(run_placed(&fenced, 4, row, record, outputs) == expected, "a run in a cabinet");
+        need(all_are(own, WILLOWERA_RECORD_BYTES, 0), "zeros in a free record");
+        need(all_are(row, (size_t)(own - row), 0xc5), "the records before it stay");
+        need(all_are(own + WILLOWERA_RECORD_BYTES, (WILLOWERA_RECORDS - 1 - record) * WILLOWERA_RECORD_BYTES, 0xc5), "the records behind it stay");
+        need(all_are(outputs, WILLOWERA_OUTPUTS - site->groups, 0xc5), "the other outputs stay");
+        need(all_are(outputs + WILLOWERA_OUTPUTS - site->groups, site->groups, WILLOWERA_DARK), "dark outputs");
+        for (int i = 0; i < 3; i++)
+            free_page(pages[i]);
+    }
+}
+
+/* A refused call of a cabinet writes nothing: its row and its outputs cannot be written. A row of another length has no records. */
+static void cabinet_refusals_write_nothing(const struct site *site)
+{
+    uint8_t *pages[2] = {fenced_page(), fenced_page()};
+    uint8_t *row = place(pages[0], WILLOWERA_ROW_BYTES + 1, 1), *outputs = place(pages[1], WILLOWERA_OUTPUTS, 1);
+    const uint8_t *bytes = site->personality;
+    const size_t rows = WILLOWERA_ROW_BYTES, length = site->length, room = WILLOWERA_OUTPUTS, last = WILLOWERA_OUTPUTS - site->groups;
+    const size_t others[] = {0, 1, WILLOWERA_RECORD_BYTES, rows - 1, rows + 1};
+
+    need(willowera_cabinet_place(row, rows, 0, bytes, length, last, outputs, room) == 0, "a placed site");
+    only_read(pages[0]);
+    only_read(pages[1]);
+    need(willowera_cabinet_place(row, rows, 1, bytes, length - 1, 0, outputs, room) % 256 != 0, "a cut personality");
+    need(willowera_cabinet_place(row, rows, 0, bytes, length, 0, outputs, room) == WILLOWERA_WRONG_RECORD, "24 for a record that is not free");
+    need(willowera_cabinet_place(row, rows, 4, bytes, length, 0, outputs, room) == WILLOWERA_WRONG_RECORD, "24 for record 4");
+    need(willowera_cabinet_place(row, rows, SIZE_MAX, bytes, length, 0, outputs, room) == WILLOWERA_WRONG_RECORD, "24 for any number");
+    need(willowera_cabinet_place(row, rows, 1, bytes, length, last + 1, outputs, room) == WILLOWERA_OUTPUTS_TAKEN, "25 past the 32nd");
+    need(willowera_cabinet_place(row, rows, 1, bytes, length, SIZE_MAX, outputs, room) == WILLOWERA_OUTPUTS_TAKEN, "25 for any number");
+    need(willowera_cabinet_place(row, rows, 1, bytes, length, last, outputs, room) == WILLOWERA_OUTPUTS_TAKEN, "25 for taken outputs");
+    need(willowera_cabinet_step(row, rows, 0, ~site->known, outputs, room - 1) == WILLOWERA_STRAY_INPUT, "15 before 14");
+    need(willowera_cabinet_step(row, rows, 0, 0, outputs, room - 1) == WILLOWERA_BUFFER_SHORT, "14 when stepping");
+    need(willowera_cabinet_take_out(row, rows, 0, outputs, room - 1) == WILLOWERA_BUFFER_SHORT, "14 when taking out");
+    need(willowera_cabinet_step(row, rows, 1, 0, outputs, room) == WILLOWERA_WRONG_RECORD, "24 for a free record");
+    need(willowera_cabinet_take_out(row, rows, 1, outputs, room) == WILLOWERA_WRONG_RECORD, "24 for a free record that is taken out");
+    for (size_t i = 0; i < sizeof others / sizeof *others; i++) {
+        uint8_t *other = others[i] == 0 ? NULL : row;
+        need(willowera_cabinet_place(other, others[i], 1, bytes, length, 0, outputs, room) == WILLOWERA_WRONG_RECORD, "24 for another row");
+        need(willowera_cabinet_step(other, others[i], 0, 0, outputs, room) == WILLOWERA_WRONG_RECORD, "24 for a step in another row");
+        need(willowera_cabinet_take_out(other, others[i], 0, outputs, room) == WILLOWERA_WRONG_RECORD, "24 for taking out of another row");
+    }
+    need(willowera_cabinet_place(NULL, 0, 0, NULL, 0, 0, NULL, 0) == WILLOWERA_CUT_SHORT, "placing nothing");
+    need(willowera_cabinet_step(row, rows, 0, 0, NULL, 0) == WILLOWERA_BUFFER_SHORT, "no outputs");
+    need(willowera_cabinet_take_out(row, rows, 0, NULL, 0) == WILLOWERA_BUFFER_SHORT, "no outputs when taking out");
+    for (int i = 0; i < 2; i++)
+        free_page(pages[i]);
+}
+
+/* Any alignment; row, outputs and personality without a byte between. */
+static void cabinet_alignments(const struct site *site)
+{
+    static uint8_t room[PAGE];
+    uint64_t expected = run_alone(site, 5);
+
+    for (size_t shift = 0; shift < ALIGNMENTS; shift++) {
+        uint8_t *row = room + shift, *outputs = row + WILLOWERA_ROW_BYTES, *personality = outputs + WILLOWERA_OUTPUTS;
+        struct site touching = *site;
+
+        memset(room, 0, sizeof room);
+        memcpy(personality, site->personality, site->length);
+        touching.personality = personality;
+        need(run_placed(&touching, 5, row, shift % WILLOWERA_RECORDS, outputs) == expected, "a cabinet at any alignment");
+        need(memcmp(personality, site->personality, site->length) == 0, "the personality stays");
+    }
+}
+
 /* ── Where buffers may lie ── */
 
 /* Any alignment; state and colours right behind the personality, without a byte between. */
@@ -419,6 +530,9 @@ int main(int count, char **paths)
         cut_personalities(&site);
         refusals_write_nothing(&site);
         roads_between_fences(&site);
+        cabinets_between_fences(&site);
+        cabinet_refusals_write_nothing(&site);
+        cabinet_alignments(&site);
         alignments(&site);
         empty_buffers(&site);
         long_lengths(&site);

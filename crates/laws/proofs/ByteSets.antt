@@ -1,71 +1,35 @@
 -- A byte as the set of its bits: the members of a set, of a union, and of a set with one member more or less.
-use Prim.Native.Nat.{ℕ, zero, suc, _+_, _-_, _*_, _/_, _%_, _^_, _≤_, _<_}
+use Prim.Native.Nat.{ℕ, _-_, _*_, _/_, _%_, _^_, _≤_, _<_}
 use mathlib.Core.Bool.{Bool, true, false, not, _&&_, _||_}
 use mathlib.Core.Logic.{_⊎_, inl, inr, ⊎-elim}
-use mathlib.Core.Path.{_≡_, refl, sym, ap, subst, _∙_}
-use native.Mathlib.Nat.{add-zero, add-div-right, div-eq-of-lt, pow-succ', not-suc-le-zero, mod-lt, lt-of-le-of-lt}
+use mathlib.Core.Path.{_≡_, refl, sym, _∙_}
+use native.Mathlib.Nat.{mod-lt, lt-of-le-of-lt}
 use native.Mathlib.Omega.{arith}
 use lib.Bits.{bitAnd, bitOr, and-le-l, or-lt}
 use lib.Dec.{eqb, ltb}
-use lib.Pow.{pow-pos, low}
 use borrow.Author.Tests.{eqb-true, eqb-false, lt-ltb, le-ltb}
 use Rattle.laws.specs.Bytes.{bit}
-use Rattle.laws.specs.Folds.{if_then_else_, allOf, sumOf, setOf}
+use Rattle.laws.specs.Folds.{allOf, setOf}
 use Rattle.laws.proofs.Booleans.{decided, never-both, not-true-false}
-use Rattle.laws.proofs.Indices.{last-or-below, below-or-past, eqb-turned}
+use Rattle.laws.proofs.Indices.{below-or-past, eqb-turned}
 use Rattle.laws.proofs.Folds.{all-at, all-each}
 use Rattle.laws.proofs.Sums.{sum-same}
 use Rattle.laws.proofs.Tables.{grid-same}
-use Rattle.laws.proofs.Bits.{bit-lower, same-bits, bit-one}
+use Rattle.laws.proofs.Bits.{same-bits, bit-one}
 use Rattle.laws.proofs.BitRanges.{no-bits-from, bit-from, shifted}
 use Rattle.laws.proofs.JoinedBits.{bit-and, bit-or}
+use Rattle.laws.proofs.Words.{word-small, word-bit}
 
 -- ── The members of a set ──
 
 module _ (f : ℕ → Bool) where
-  -- the set of the indices below n that pass
-  abbrev below : ℕ → ℕ
-  below n = sumOf (λ i. if f i then 2 ^ i else 0) n
-
-  small : (n : ℕ) → below n < 2 ^ n
-  unfolding sumOf
-  small zero = omega arith
-  small (suc n) = step (f n) (small n)
-    where
-      step : (t : Bool) → below n < 2 ^ n → below n + (if t then 2 ^ n else 0) < 2 ^ suc n
-      step true h = omega (arith, pow-succ' 2 n)
-      step false h = omega (arith, pow-succ' 2 n)
-
-  -- the bit of the index that is added
-  last-bit : (t : Bool) (n : ℕ) → bit n (below n + (if t then 2 ^ n else 0)) ≡ t
-  unfolding bit
-  last-bit true n = rw (add-div-right (below n) (pow-pos n), div-eq-of-lt (small n))
-  last-bit false n = rw (add-zero (below n), div-eq-of-lt (small n))
-
-  -- the bits below it
-  lower-bit : (t : Bool) (n i : ℕ) → i < n → bit i (below n + (if t then 2 ^ n else 0)) ≡ bit i (below n)
-  lower-bit true n i h =
-      let cut : (below n + 2 ^ n) % 2 ^ n ≡ below n =
-      ap (λ (x : ℕ). x % 2 ^ n) (omega arith) ∙ low 1 n (small n) in
-      sym (bit-lower n i (below n + 2 ^ n) h) ∙ ap (bit i) cut
-  lower-bit false n i h = ap (bit i) (add-zero (below n))
-
-  bit-sum : (n i : ℕ) → i < n → bit i (below n) ≡ f i
-  unfolding sumOf
-  bit-sum zero i h = absurd (not-suc-le-zero h)
-  bit-sum (suc n) i h =
-      ⊎-elim
-      (λ (e : i ≡ n). subst (λ (j : ℕ). bit j (below (suc n)) ≡ f j) (sym e) (last-bit (f n) n))
-      (λ (l : i < n). lower-bit (f n) n i l ∙ bit-sum n i l)
-      (last-or-below h)
-
   pub set-small : setOf f < 256
   unfolding setOf
-  set-small = small 8
+  set-small = word-small f 8
 
   pub bit-set : (i : ℕ) → i < 8 → bit i (setOf f) ≡ f i
   unfolding setOf
-  bit-set i h = bit-sum 8 i h
+  bit-set i h = word-bit f 8 i h
 
 pub set-same : (f g : ℕ → Bool) → ((i : ℕ) → i < 8 → f i ≡ g i) → setOf f ≡ setOf g
 unfolding setOf

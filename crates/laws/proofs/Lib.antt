@@ -9,11 +9,13 @@
 --   Counting    countOf and indicesOf: count-before, count-apart, count-within, count-one, count-only, indices-at, listed-once
 --   Lists       listOf, rowOf and any list: list-at, list-same, list-told, listed, list-set, row-at, row-past; entry-same (the default)
 --   Arrays      an array that a loop fills: Filled, fill-set, fill-skip, fill-done, fill-kept; or writes part behind part: Stored
+--   Rows        a blank array that a loop fills from the front: Filled, filled-none, filled-more, filled-whole, blanks-left
 --   Entries     sums over the entries of a list: total, places, In, total-append
 --   Bits        bits of one number: bit-above, bit-below, bit-lower, bit-down, bit-up, half-bit, odd-bit, same-bits, no-bits, bit-one
 --   BitRanges   bits from a place on or below one: no-bits-from, bit-from, reaches, full-each, all-full, ones-counted, shifted, firsts
 --   JoinedBits  bits of two numbers: bit-and, bit-or, bit-xor, in-common, common-below, joined-below, first-row, next-row
 --   LowestBit   a pass that takes the lowest bit of what is left: lowest, others, taken, Left, next-within, left-more, counted, counted-same
+--   Words       a number as the set of the indices below n that pass: wordOf, word-small, word-bit, word-past
 --   ByteSets    a byte as a set: set-small, bit-set, set-same, set-told, self-told, union-told, with-told, without-told, below-told
 --   Bytes       numbers in lists of bytes: byte-past, first-byte, part, part-more, four-bit
 pub mod Booleans
@@ -24,10 +26,12 @@ pub mod Sums
 pub mod Counting
 pub mod Lists
 pub mod Arrays
+pub mod Rows
 pub mod Entries
 pub mod Bits
 pub mod BitRanges
 pub mod JoinedBits
 pub mod LowestBit
+pub mod Words
 pub mod ByteSets
 pub mod Bytes

@@ -1,4 +1,3 @@
-pub mod Words
 pub mod Streams
 pub mod Flow
 pub mod Steps

@@ -27,7 +27,7 @@ use Rattle.proof_guarantees.proofs.Accepted.{fresh-is-valid, step-keeps-valid}
 use Rattle.road_streams.specs.declared.Traffic.{Traffic}
 use Rattle.road_streams.specs.Road.{streamCount, streamAt, badStreams, queues, trafficOf, isOccupied, arrivals, inputsOf, blankColours, freshRoad, roadStepped, roadAfter}
 use Rattle.proof_road.specs.Roads.{inputsAt, NoStepRefused, RoadIsValid}
-use Rattle.proof_road.proofs.Words.{word-bit, word-past}
+use Rattle.laws.proofs.Words.{word-bit, word-past}
 use Rattle.proof_road.proofs.Streams.{KnownStreams, known-streams}
 
 -- ── Inputs ──

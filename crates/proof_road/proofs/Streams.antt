@@ -1,4 +1,4 @@
--- What is known of streams that are not refused with 22: the bytes are whole streams, and each has a rate, a detector and a group of the site.
+-- What is known of streams that are not refused with 22: the bytes are whole streams, and each has a rate, a detector and a vehicle group of the site.
 use Prim.Native.Nat.{ℕ, _*_, _%_, _≤_, _<_}
 use mathlib.Core.Bool.{Bool, false, not, _||_}
 use mathlib.Core.List.{List}
@@ -7,10 +7,11 @@ use lib.Dec.{ltb, eqb}
 use lib.ListN.{length}
 use native.Mathlib.Nat.{div-add-mod'}
 use native.Mathlib.Omega.{arith}
-use borrow.Author.Tests.{ltb-true, ltb-false, eqb-true, not-false}
+use borrow.Author.Tests.{ltb-true, ltb-false, eqb-true, not-true, not-false}
 use Rattle.rules.specs.declared.site.Site.{Site}
+use Rattle.rules.specs.Site.{isPedestrian}
 use Rattle.laws.specs.Folds.{anyOf}
-use Rattle.laws.proofs.Booleans.{or-false-left, or-false-right, and-left}
+use Rattle.laws.proofs.Booleans.{or-false-left, or-false-right, and-left, and-right}
 use Rattle.laws.proofs.Folds.{any-false}
 use Rattle.road_streams.specs.declared.Stream.{Stream}
 use Rattle.road_streams.specs.Road.{streamCount, streamAt, vehicleGroup, badStream, badStreams}
@@ -19,6 +20,7 @@ pub record Known (site : Site) (stream : Stream) : Type 0 where
   pub rate : stream .rate ≤ 1800
   pub detector : stream .detector < site .size .detectors
   pub group : stream .group < site .size .groups
+  pub vehicle : isPedestrian (site .groups) (stream .group) ≡ false
 
 known-stream : (site : Site) (stream : Stream) → badStream site stream ≡ false → Known site stream
 unfolding badStream vehicleGroup
@@ -32,6 +34,7 @@ known-stream site stream h =
       rate = ltb-false 1800 (stream .rate) (or-false-left fast unseen first);
       detector = ltb-true (stream .detector) (site .size .detectors) (not-false _ (or-false-right fast unseen first));
       group = ltb-true (stream .group) (site .size .groups) (and-left (ltb (stream .group) (site .size .groups)) _ group);
+      vehicle = not-true _ (and-right (ltb (stream .group) (site .size .groups)) _ group);
     }
 
 pub record KnownStreams (site : Site) (streams : List ℕ) (steps : ℕ) : Type 0 where

@@ -31,7 +31,7 @@ use Rattle.road_run.specs.Whole.{OfPersonality}
 
 -- ── The start ──
 
-abbrev blank : List ℕ
+abbrev pub blank : List ℕ
 blank = replicate 192 0
 
 blank-cell : (i : ℕ) → _≡_ {A = ℕ} (getD blank i 0) 0

@@ -21,11 +21,6 @@ pub record AtStart (site : Site) (streams : List ℕ) (steps : ℕ) (cells : Lis
   pub b : List ℕ
   pub road : OnRoad b streams steps site 0 freshKept cells
 
--- whatever road it was, it is that road after all steps
-pub record AtEnd (site : Site) (streams : List ℕ) (steps : ℕ) (cells : List ℕ) (last : KeptState) (after : List ℕ) : Type 0 where
-  pub same : length after ≡ length cells
-  pub road : (b : List ℕ) → OnRoad b streams steps site 0 freshKept cells → OnRoad b streams steps site steps last after
-
 -- ── In results ──
 
 -- a road of these streams may start at the site of the personality

@@ -8,7 +8,7 @@ ghost use Rattle.rules.specs.Kept.{freshKept};
 ghost use Rattle.state_forms.specs.Forms.{partsOf};
 ghost use Rattle.road_streams.specs.Road.{streamCount, resultOf, roadVerdict, roadState, roadResults};
 ghost use Rattle.road_step.specs.Cells.{trafficAt};
-ghost use Rattle.road_run.specs.Whole.{AtStart, AtEnd, Startable, RanTo};
+ghost use Rattle.road_run.specs.Whole.{Startable, RanTo};
 use road_streams::Traffic;
 use rules::answer::Verdict;
 use rules::site::Site;
@@ -18,20 +18,6 @@ use rules::state::KeptState;
 pub struct RoadAnswer {
     pub verdict: Verdict,
     pub state: KeptState,
-}
-
-// The last state, by the road's steps one after the other. The cells take the last traffic.
-fn road_after(site: Site, streams: &[u8], steps: u32, cells: &mut [u16]) -> KeptState
-    requires { ⌜ AtStart site (now streams) steps (now cells) ⌝ }
-    ensures { λ r. ⌜ AtEnd site (now (streams .entry)) steps (now (cells .entry)) r (now (cells .exit)) ⌝ }
-{
-    let mut state = call_fresh::fresh();
-    let mut n: u32 = 0;
-    while n < steps {
-        state = road_step::road_stepped(site, streams, state, cells);
-        n += 1;
-    }
-    state
 }
 
 // The result of one stream: its vehicles queued and gone.
@@ -61,7 +47,7 @@ fn run(site: Site, streams: &[u8], steps: u32, results: &mut [u8]) -> KeptState
     ensures { λ r. ⌜ RanTo site (now (streams .entry)) steps (now (results .entry)) r (now (results .exit)) ⌝ }
 {
     let mut cells = [0u16; 192];
-    let state = road_after(site, streams, steps, &mut cells);
+    let state = road_step::road_steps(site, streams, call_fresh::fresh(), steps, &mut cells);
     put_results(&cells, streams.len() / 4, results);
     state
 }

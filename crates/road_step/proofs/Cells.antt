@@ -5,7 +5,7 @@ use mathlib.Core.List.{List}
 use mathlib.Core.Logic.{⊎-elim}
 use mathlib.Core.Path.{_≡_, refl, ap, _∙_}
 use lib.ListN.{length, getD, set, length-set}
-use lib.Seq.{getD-set-same, getD-set-other}
+use lib.Seq.{getD-set-same, getD-set-other, set-getD}
 use native.Mathlib.Omega.{arith}
 use Rattle.laws.specs.Folds.{listOf}
 use Rattle.laws.proofs.Indices.{same-or-apart}
@@ -98,6 +98,14 @@ module _ (cells : List ℕ) (i : ℕ) (t : Traffic) where
   unfolding trafficAt
   put-other j apart =
       rw (first-other j apart, other-cell j 1 apart (omega arith), other-cell j 2 apart (omega arith), other-cell j 3 apart (omega arith))
+
+-- a count of 0 alone
+pub count-cleared :
+    (cells : List ℕ) (i : ℕ) →
+    let t = trafficAt cells i in
+    set cells (4 * i + 3) 0 ≡ putAt cells i (record { remainder = t .remainder; queued = t .queued; gone = t .gone; count = 0 })
+unfolding putAt trafficAt
+count-cleared cells i = rw (set-getD cells (4 * i) 0, set-getD cells (4 * i + 1) 0, set-getD cells (4 * i + 2) 0) refl
 
 -- ── A pass ──
 

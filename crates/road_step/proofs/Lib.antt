@@ -1,3 +1,4 @@
 pub mod Cells
+pub mod GreenGroups
 pub mod Passes
 pub mod Roads

@@ -1,25 +1,27 @@
 -- The two passes over the streams, turn by turn: after the last turn the cells hold the arrivals, or the releases, and the input bits are those of the
 -- occupied detectors.
 use Prim.Native.Nat.{ℕ, _+_, _*_, _/_, _^_, _≤_, _<_}
-use mathlib.Core.Bool.{Bool, _&&_, _||_}
+use mathlib.Core.Bool.{Bool, true, false, _&&_, _||_}
 use mathlib.Core.List.{List}
-use mathlib.Core.Path.{_≡_, sym, ap, _∙_}
+use mathlib.Core.Path.{_≡_, refl, sym, ap, _∙_}
 use lib.Dec.{ltb, eqb}
 use lib.ListN.{length}
 use lib.Pow.{pow-pos}
 use native.Mathlib.Numerals.{add-one}
 use native.Mathlib.Omega.{arith}
 use Rattle.laws.specs.Bytes.{bit, byteAt}
-use Rattle.laws.specs.Folds.{anyOf, listOf}
+use Rattle.laws.specs.Folds.{if_then_else_, anyOf, listOf}
 use Rattle.laws.proofs.Folds.{any-same}
 use Rattle.laws.proofs.Lists.{list-same, list-at}
 use Rattle.laws.proofs.Bits.{bit-blank, same-bits}
+use Rattle.rules.specs.Colours.{red, green}
 use Rattle.road_streams.specs.declared.Traffic.{Traffic}
 use Rattle.road_streams.specs.Road.{streamCount, streamAt, noTraffic, queues, arrived, released, trafficOf, arrivals, isOccupied, inputsOf, releases}
-use Rattle.proof_road.proofs.Words.{wordOf, word-bit, word-small}
+use Rattle.laws.proofs.Words.{wordOf, word-bit, word-small}
 use Rattle.proof_road.proofs.Flow.{arrivals-at}
 use Rattle.road_step.specs.Cells.{trafficAt, putAt, trafficIn}
-use Rattle.road_step.specs.Passes.{WithDetector, ArrivedIn, ReleasedIn}
+use Rattle.road_step.specs.Passes.{ArrivedIn, ReleasedIn}
+use Rattle.road_step.specs.Greens.{WithBit}
 use Rattle.road_step.proofs.Cells.{Passed, passed-none, passed-more, passed-all}
 
 -- the traffic in the cells, stream by stream
@@ -57,18 +59,18 @@ module _ {streams old : List ℕ} where
   arrived-none = record { within = omega arith; pass = passed-none; bits = λ d. bit-blank d; below = pow-pos 48 }
 
   pub arrived-more :
-      {new next : List ℕ} {inputs more i detector queued : ℕ} (t : Traffic) →
+      {new next : List ℕ} {inputs more i detector : ℕ} {queue : Bool} (t : Traffic) →
       ArrivedTo streams old new inputs i →
       i < length streams / 4 →
       4 * i + 4 ≤ length new →
       next ≡ putAt new i t →
       t ≡ arriving streams i (trafficAt new i) →
       detector ≡ streamAt streams i .detector →
-      queued ≡ t .queued →
-      WithDetector inputs detector queued more →
+      queue ≡ queues t →
+      WithBit inputs detector queue more →
       ArrivedTo streams old next more (i + 1)
   unfolding anyOf queues
-  arrived-more {new} {next} {inputs} {more} {i} {detector} {queued} t to l inside e made d-is q-is word =
+  arrived-more {new} {next} {inputs} {more} {i} {detector} {queue} t to l inside e made d-is q-is word =
       let old-made : t ≡ arriving streams i (trafficAt old i) = made ∙ ap (arriving streams i) (to .pass .left i (omega arith)) in
       record {
         within = omega arith;
@@ -109,20 +111,39 @@ module _ {streams old : List ℕ} where
 
 -- ── Releases ──
 
-abbrev pub releasing : List ℕ → List ℕ → ℕ → Traffic → Traffic
-releasing streams colours i t = released (byteAt colours (streamAt streams i .group)) t
+-- a colour that is green as the set says
+abbrev pub coloured : ℕ → ℕ → ℕ
+coloured greens g = if bit g greens then green else red
+
+pub coloured-green : (greens g : ℕ) → eqb (coloured greens g) green ≡ bit g greens
+coloured-green greens g = by (bit g greens)
+  where
+    by : (t : Bool) → eqb (if t then green else red) green ≡ t
+    by true = refl
+    by false = refl
+
+abbrev pub releasing : List ℕ → ℕ → ℕ → Traffic → Traffic
+releasing streams greens i t = released (coloured greens (streamAt streams i .group)) t
+
+same-release : (a b : ℕ) (t : Traffic) → eqb a green ≡ eqb b green → released a t ≡ released b t
+unfolding released
+same-release a b t e = rw e
 
 pub released-all :
-    {streams colours old new : List ℕ} {i : ℕ} →
-    Passed (releasing streams colours) old new i →
+    {streams : List ℕ} {greens : ℕ} {old new : List ℕ} {i : ℕ} →
+    Passed (releasing streams greens) old new i →
     streamCount streams ≤ i →
-    ReleasedIn streams colours old new
+    ReleasedIn streams greens old new
 unfolding releases
-released-all {streams} {colours} {old} {new} pass last =
+released-all {streams} {greens} {old} {new} pass last =
     record {
       same = pass .same;
       traffic =
+          λ colours painted.
           passed-all pass last
-          ∙ list-same (λ j. releasing streams colours j (trafficAt old j)) (λ i. released (byteAt colours (streamAt streams i .group)) (trafficOf (trafficIn old (streamCount streams)) i)) (streamCount streams)
-          (λ j l. ap (releasing streams colours j) (sym (held-at old (streamCount streams) j l)));
+          ∙ list-same (λ j. releasing streams greens j (trafficAt old j)) (λ i. released (byteAt colours (streamAt streams i .group)) (trafficOf (trafficIn old (streamCount streams)) i)) (streamCount streams)
+          (λ j l.
+          ap (releasing streams greens j) (sym (held-at old (streamCount streams) j l))
+          ∙ same-release (coloured greens (streamAt streams j .group)) (byteAt colours (streamAt streams j .group)) (trafficOf (trafficIn old (streamCount streams)) j)
+          (coloured-green greens (streamAt streams j .group) ∙ sym (painted j l)));
     }

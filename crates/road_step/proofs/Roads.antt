@@ -2,8 +2,8 @@
 use Prim.Native.Nat.{ℕ, suc, _+_, _≤_, _<_}
 use mathlib.Core.Bool.{true}
 use mathlib.Core.List.{List, _++_}
-use mathlib.Core.Path.{_≡_, sym, ap, subst⁻¹, _∙_}
-use lib.ListN.{length, drop, replicate, length-append, length-drop}
+use mathlib.Core.Path.{_≡_, sym, ap, subst, subst⁻¹, _∙_}
+use lib.ListN.{drop, List·getD-append}
 use native.Mathlib.Numerals.{add-one}
 use native.Mathlib.Omega.{arith}
 use Rattle.rules.specs.declared.site.Site.{Site}
@@ -13,7 +13,8 @@ use Rattle.rules.specs.Site.{siteOf}
 use Rattle.rules.specs.Kept.{keptValid, keptStepped}
 use Rattle.rules.specs.Colours.{shownIn, coloursOf}
 use Rattle.laws.specs.Folds.{listOf}
-use Rattle.laws.proofs.Lists.{list-length}
+use Rattle.laws.specs.Bytes.{byteAt}
+use Rattle.laws.proofs.Lists.{list-length, list-at}
 use Rattle.rules.specs.Call.{bufferOf}
 use Rattle.rules.specs.Laws.{Sound}
 use Rattle.road_streams.specs.declared.Traffic.{Traffic}
@@ -22,18 +23,21 @@ use Rattle.proof_road.proofs.Streams.{KnownStreams, known-streams}
 use Rattle.proof_road.proofs.Flow.{Flow, flow-arrived, flow-few, road-flow, arrivals-at}
 use Rattle.proof_road.proofs.Steps.{sound, road-valid, state-given, colours-given}
 use Rattle.road_step.specs.Cells.{trafficAt, trafficIn}
-use Rattle.road_step.specs.Passes.{Arriving, ArrivedIn, Releasing, ReleasedIn}
+use Rattle.road_step.specs.Passes.{Arriving, ArrivedIn, Releasing, Painted, ReleasedIn}
+use Rattle.road_step.specs.Greens.{GreenIn}
 use Rattle.road_step.specs.OnRoad.{OnRoad}
 use Rattle.road_step.proofs.Passes.{held-at}
 
--- the colours of a site's groups fill a part of the buffer
-pub shown-length : (site : Site) (core : State) → Sound site → length (coloursOf site core ++ drop (site .size .groups) blankColours) ≡ 32
-unfolding coloursOf blankColours
-shown-length site core sound =
+-- the byte of a group is its colour
+shown-at :
+    (site : Site) (core : State) (g : ℕ) →
+    g < site .size .groups →
+    byteAt (coloursOf site core ++ drop (site .size .groups) blankColours) g ≡ shownIn site core g
+unfolding byteAt coloursOf
+shown-at site core g l =
     let count = site .size .groups in
-    let blank : List ℕ = replicate 32 0 in
-    let shown = listOf (shownIn site core) count in
-    omega (arith, length-append shown (drop count blank), list-length (shownIn site core) count, length-drop count blank, sound .groups .1)
+    List·getD-append (listOf (shownIn site core) count) (drop count blankColours) 0 g (omega (arith, list-length (shownIn site core) count))
+    ∙ list-at (shownIn site core) count g 0 l
 
 module _ {b streams : List ℕ} {steps : ℕ} {site : Site} {n : ℕ} {state : KeptState} {cells : List ℕ} (road : OnRoad b streams steps site n state cells) where
   known : KnownStreams (siteOf b) streams steps
@@ -97,8 +101,8 @@ module _ {b streams : List ℕ} {steps : ℕ} {site : Site} {n : ℕ} {state : K
           ∙ ap (λ (t : List Traffic). trafficOf t i) came-traffic
           ∙ arrivals-at b streams i l (roadAfter b streams n .traffic)
 
-      pub may-release : (colours : List ℕ) → length colours ≡ 32 → Releasing streams colours more
-      may-release colours len =
+      pub may-release : Releasing streams more
+      may-release =
           record {
             room = omega (arith, road .room, came .same);
             each =
@@ -115,19 +119,30 @@ module _ {b streams : List ℕ} {steps : ℕ} {site : Site} {n : ℕ} {state : K
 
       -- ── The next state of the road ──
 
+      -- the colours of the streams' groups are green as the set says
+      painted :
+          (core : State) (greens : ℕ) →
+          GreenIn (siteOf b) core greens →
+          Painted streams (coloursOf (siteOf b) core ++ drop (siteOf b .size .groups) blankColours) greens
+      painted core greens shown i l =
+          let group = known .each i l .group in
+          rw (shown-at (siteOf b) core (streamAt streams i .group) group) (sym (shown (streamAt streams i .group) group (known .each i l .vehicle)))
+
       pub next-road :
-          {next : KeptState} {colours last : List ℕ} →
+          {next : KeptState} {greens : ℕ} {last : List ℕ} →
           next ≡ keptStepped site state inputs →
-          colours ≡ coloursOf site (next .core) ++ drop (site .size .groups) blankColours →
-          ReleasedIn streams colours more last →
+          GreenIn site (next .core) greens →
+          ReleasedIn streams greens more last →
           OnRoad b streams steps site (n + 1) next last
       unfolding roadAfter roadStepped
-      next-road {next} {colours} {last} stepped shown left =
+      next-road {next} {greens} {last} stepped shown left =
           let s = roadAfter b streams n .state in
           let valid = road-valid b streams steps (road .read) (road .known) n in
           let stepped-is : next ≡ keptStepped (siteOf b) s (inputsOf streams waiting) = stepped ∙ rw (road .place, road .held, came-inputs) in
+          let colours = coloursOf (siteOf b) (next .core) ++ drop (siteOf b .size .groups) blankColours in
           let shown-is : colours ≡ bufferOf b s (inputsOf streams waiting) blankColours =
-          shown ∙ rw (stepped-is, road .place) (sym (colours-given b streams steps (road .read) (road .known) s waiting valid)) in
+          rw stepped-is (sym (colours-given b streams steps (road .read) (road .known) s waiting valid)) in
+          let paint = painted (next .core) greens (subst (λ (place : Site). GreenIn place (next .core) greens) (road .place) shown) in
           record {
             read = road .read;
             place = road .place;
@@ -135,5 +150,5 @@ module _ {b streams : List ℕ} {steps : ℕ} {site : Site} {n : ℕ} {state : K
             within = omega arith;
             room = omega (arith, road .room, came .same, left .same);
             held = rw (add-one n) (stepped-is ∙ sym (state-given b streams steps (road .read) (road .known) s waiting valid));
-            traffic = rw (add-one n) (left .traffic ∙ rw (came-traffic, shown-is));
+            traffic = rw (add-one n) (left .traffic colours paint ∙ rw (came-traffic, shown-is));
           }

@@ -1,3 +1,4 @@
 pub mod Cells
+pub mod Greens
 pub mod Passes
 pub mod OnRoad

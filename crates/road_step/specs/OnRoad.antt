@@ -22,6 +22,23 @@ pub record OnRoad (b streams : List ℕ) (steps : ℕ) (site : Site) (n : ℕ) (
   pub held : state ≡ roadAfter b streams n .state
   pub traffic : trafficIn cells (streamCount streams) ≡ roadAfter b streams n .traffic
 
+-- some road, with so many steps ahead
+pub record Ahead (site : Site) (streams : List ℕ) (state : KeptState) (steps : ℕ) (cells : List ℕ) : Type 0 where
+  pub b : List ℕ
+  pub whole : ℕ
+  pub n : ℕ
+  pub enough : n + steps ≤ whole
+  pub road : OnRoad b streams whole site n state cells
+
+-- whatever road it was, it is that road so many steps later
+pub record Further (site : Site) (streams : List ℕ) (state : KeptState) (steps : ℕ) (cells : List ℕ) (last : KeptState) (after : List ℕ) : Type 0 where
+  pub same : length after ≡ length cells
+  pub road :
+      (b : List ℕ) (whole n : ℕ) →
+      n + steps ≤ whole →
+      OnRoad b streams whole site n state cells →
+      OnRoad b streams whole site (n + steps) last after
+
 -- some road, before its last step
 pub record BeforeEnd (site : Site) (streams : List ℕ) (state : KeptState) (cells : List ℕ) : Type 0 where
   pub b : List ℕ

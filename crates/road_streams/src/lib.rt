@@ -1,13 +1,14 @@
 // Streams of vehicles: what a stream is, which streams a call refuses, and what one step does to the traffic of one stream.
-ghost use Prim.Native.Nat.{_+_, _*_, _≤_, _<_};
-ghost use mathlib.Core.Bool.{true};
+ghost use Prim.Native.Nat.{ℕ, _+_, _*_, _≤_, _<_};
+ghost use mathlib.Core.Bool.{_&&_};
 ghost use mathlib.Core.Path.{_≡_};
+ghost use lib.Dec.{eqb};
 ghost use lib.ListN.{length};
-ghost use Rattle.laws.specs.Folds.{anyOf};
+ghost use Rattle.laws.specs.Folds.{if_then_else_, anyOf};
+ghost use Rattle.rules.specs.Colours.{green};
 ghost use Rattle.rules.specs.Laws.{Sound};
-ghost use Rattle.road_streams.specs.Road.{streamCount, streamAt, vehicleGroup, badStream, badStreams, queues, arrived, counted, released};
+ghost use Rattle.road_streams.specs.Road.{streamCount, streamAt, vehicleGroup, badStream, badStreams, queues, arrived, released};
 use rules::site::Site;
-use step_colours::Colour;
 
 // A stream: the detector that sees its queue, the group that lets it go, and its vehicles an hour.
 pub struct Stream {
@@ -59,12 +60,23 @@ pub fn arrived(rate: u16, traffic: Traffic) -> Traffic
     }
 }
 
-// Counts a green step with a queue. The 20th releases one vehicle, and the count is 0.
-fn counted(traffic: Traffic) -> Traffic
-    requires { ⌜ (queues traffic ≡ true) × (traffic .gone < 65535) × (traffic .count < 20) ⌝ }
-    ensures { λ r. ⌜ r ≡ counted traffic ⌝ }
+// The count after a step: green with a queue is counted; any other colour and an empty queue set the count to 0.
+fn count_after(shows_green: bool, traffic: Traffic) -> u16
+    requires { ⌜ traffic .count < 20 ⌝ }
+    ensures { λ r. ⌜ r ≡ (if «shows_green» && queues traffic then traffic .count + 1 else 0) ⌝ }
 {
-    let count = traffic.count + 1;
+    if shows_green & (0 < traffic.queued) {
+        return traffic.count + 1;
+    }
+    0
+}
+
+// What the stream's group does, by whether it shows green. The 20th step that is counted releases one vehicle, and the count is 0.
+pub fn released(shows_green: bool, traffic: Traffic) -> Traffic
+    requires { ⌜ (traffic .gone < 65535) × (traffic .count < 20) ⌝ }
+    ensures { λ r. ⌜ ((colour : ℕ) → eqb colour green ≡ «shows_green» → r ≡ released colour traffic) ⌝ }
+{
+    let count = count_after(shows_green, traffic);
     if count == 20 {
         return Traffic {
             remainder: traffic.remainder,
@@ -78,22 +90,6 @@ fn counted(traffic: Traffic) -> Traffic
         queued: traffic.queued,
         gone: traffic.gone,
         count,
-    }
-}
-
-// What a colour of the stream's group does: green with a queue is counted; any other colour and an empty queue set the count to 0.
-pub fn released(colour: u8, traffic: Traffic) -> Traffic
-    requires { ⌜ (traffic .gone < 65535) × (traffic .count < 20) ⌝ }
-    ensures { λ r. ⌜ r ≡ released colour traffic ⌝ }
-{
-    if (colour == Colour::GREEN.code) & (0 < traffic.queued) {
-        return counted(traffic);
-    }
-    Traffic {
-        remainder: traffic.remainder,
-        queued: traffic.queued,
-        gone: traffic.gone,
-        count: 0,
     }
 }
 

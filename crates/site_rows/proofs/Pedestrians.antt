@@ -14,7 +14,7 @@ use Rattle.rules.specs.Site.{crossingAt, siteOf}
 use Rattle.laws.proofs.Counting.{indices-length, count-passed, count-failed, count-before}
 use Rattle.laws.proofs.Lists.{list-length, list-at}
 use Rattle.laws.proofs.Arrays.{store-more}
-use Rattle.site_rows.proofs.Filling.{blanks-left}
+use Rattle.laws.proofs.Rows.{blanks-left}
 
 -- ── The entries that a list of indices picks ──
 

@@ -108,7 +108,7 @@ impl Colour {
 }
 
 // The colour of a vehicle group in a position. It is red if the phase is not in its set.
-fn vehicle_shown(closes: bool, position: Position, group: Group) -> u8
+pub fn vehicle_shown(closes: bool, position: Position, group: Group) -> u8
     ensures { λ r. ⌜ r ≡ vehicleShown closes position group ⌝ }
 {
     if base_bytes::bit8(position.phase, group.phases) {
@@ -143,7 +143,7 @@ fn closing(times: Times, position: Position) -> bool
 }
 
 // The same, but false without section 7: then no group stops early, and the answer does not matter.
-fn closing_there(early: bool, times: Times, position: Position) -> bool
+pub fn closing_there(early: bool, times: Times, position: Position) -> bool
     ensures { λ r. ⌜ r ≡ (early && closing times position) ⌝ }
 {
     if early {

@@ -1,2 +1,2 @@
-pub mod Answers
+pub mod SectionAnswers
 pub mod RoadAnswers

@@ -7,7 +7,7 @@ use Rattle.laws.specs.Folds.{if_then_else_}
 use Rattle.sheet_settings.specs.declared.Answer.{Answer}
 use Rattle.sheet_settings.specs.declared.Detector.the-variants.{Advance, StopLine}
 use Rattle.sheet_settings.specs.Sheet.{settingsReportOf, minimumOf, passageOf, answerOf}
-use Rattle.willowera.specs.Board.{packed}
+use Rattle.call_bytes.specs.CallBytes.{packed}
 
 unfoldable pub packedSettings : Answer → ℕ
 packedSettings a =

@@ -1,37 +1,25 @@
 // The library for C and Rust: units one to three, with states as bytes. A slice is passed as a pointer and a length. The lowest byte of an
 // answer is the number of the refusal, 0 if the call is accepted. The bytes above it are the place, or the result of an accepted call.
-ghost use Prim.Native.Nat.{_+_, _*_, _≤_, _<_};
+ghost use Prim.Native.Nat.{_+_, _*_, _<_};
 ghost use mathlib.Core.Path.{_≡_};
 ghost use lib.ListN.{length};
 ghost use Rattle.rules.specs.Call.{boundOf};
-ghost use Rattle.rules.specs.Laws.{greatestLength};
 ghost use Rattle.rules.specs.Personality.{verdictOf};
 ghost use Rattle.rules.specs.Kept.{freshKept};
 ghost use Rattle.state_bytes.specs.Layout.{encodedOver};
-ghost use Rattle.willowera.specs.Board.{packed, packedVerdict, packedOutcome, freshAnswer, stepAnswer, stateAfter, coloursAfter, sectionAnswer};
+ghost use Rattle.call_bytes.specs.CallBytes.{packedVerdict, packedOutcome, stepAnswer, stateAfter, coloursAfter};
+ghost use Rattle.willowera.specs.Board.{freshAnswer, sectionAnswer};
 
+pub mod cabinet;
 pub mod road;
 pub mod sheet;
 pub mod yellow;
 
 use base_bytes::two_at;
+use call_bytes::packed;
+use call_bytes::refusal;
 use rules::answer::Outcome;
 use rules::answer::Verdict;
-
-// The number in the lowest byte, and a place or a wait bound above it.
-fn packed(number: u8, value: u32) -> u64
-    ensures { λ r. ⌜ r ≡ packed number value ⌝ }
-{
-    (number as u64) + 256 * (value as u64)
-}
-
-// A refusal. No place is above the length of the longest personality.
-fn refusal(number: u8, place: usize) -> u64
-    requires { ⌜ place ≤ greatestLength ⌝ }
-    ensures { λ r. ⌜ r ≡ packed number place ⌝ }
-{
-    packed(number, place as u32)
-}
 
 // Accepts a personality (0) or refuses it.
 #[no_mangle]
@@ -70,8 +58,7 @@ pub extern "C" fn willowera_fresh(state: &mut [u8]) -> u64
 }
 
 // One step of 0.1 s: replaces the state by the next state, writes the colours of the groups, and answers the wait bound. A refused step
-// changes nothing. The personality is checked first, then whether the bytes are a state (13). The state is decoded after the reading, so
-// that it is not held during it.
+// changes nothing.
 #[no_mangle]
 pub extern "C" fn willowera_step(
     personality: &[u8],
@@ -83,25 +70,7 @@ pub extern "C" fn willowera_step(
         × (now (state .exit) ≡ stateAfter (now (personality .entry)) (now (state .entry)) inputs (length (now (colours .entry))))
         × (now (colours .exit) ≡ coloursAfter (now (personality .entry)) (now (state .entry)) inputs (now (colours .entry))) ⌝ }
 {
-    let reading = read_personality::read_with_layout(personality);
-    let verdict = reading.verdict;
-    if let Verdict::Refused { number, place } = verdict {
-        return refusal(number, place);
-    }
-    if !state_bytes::is_state(state) {
-        return refusal(13, 0);
-    }
-    let layout = reading.layout;
-    let before = state_bytes::decoded(state);
-    let answer = call_step::step_accepted(personality, layout, before, inputs, colours);
-    let outcome = answer.outcome;
-    match outcome {
-        Outcome::Stepped { wait } => {
-            state_bytes::encode(answer.state, state);
-            packed(0, wait)
-        }
-        Outcome::StepRefused { number, place } => refusal(number, place),
-    }
+    call_bytes::step(personality, state, inputs, colours)
 }
 
 // The answer for a part of the personality: 0 in the lowest byte, then the place in 32 bits and the length in 24.

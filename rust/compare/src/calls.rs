@@ -3,7 +3,7 @@
 
 use crate::difference::{Difference, Handed};
 use crate::tally::Tally;
-use generate::{Rng, RoadPlan};
+use generate::{CabinetCall, Rng, RoadPlan};
 use model::packed::{Board, Model};
 
 /// A board, the tally of its answers, and where randomness comes from.
@@ -139,6 +139,65 @@ impl Comparison<'_> {
         streams.untouched("road: the streams", &handed)?;
         self.tally.count_answer(expected);
         Ok(expected)
+    }
+
+    /// Makes a call on a row and outputs, which then are those of the model; gives
+    /// the answer.
+    pub fn cabinet(
+        &mut self,
+        row: &mut [u8],
+        call: &CabinetCall,
+        outputs: &mut [u8],
+    ) -> Result<u64, Box<Difference>> {
+        let handed = Handed {
+            row: row.to_vec(),
+            record: call.record(),
+            personality: call.personality().to_vec(),
+            first: match *call {
+                CabinetCall::Place { first, .. } => first,
+                _ => 0,
+            },
+            inputs: match *call {
+                CabinetCall::Step { inputs, .. } => inputs,
+                _ => 0,
+            },
+            outputs: outputs.to_vec(),
+            ..Handed::default()
+        };
+        let [answer_word, row_word, outputs_word] = words_of(call);
+        let personality = Guarded::new(&mut self.rng, call.personality());
+        let mut found_row = Guarded::new(&mut self.rng, row);
+        let mut found_outputs = Guarded::new(&mut self.rng, outputs);
+        let expected = call.make(&Model, row, call.personality(), outputs);
+        let found = call.make(
+            self.board,
+            found_row.inner_mut(),
+            personality.inner(),
+            found_outputs.inner_mut(),
+        );
+        same(answer_word, expected, found, &handed)?;
+        found_row.holds(row_word, row, &handed)?;
+        found_outputs.holds(outputs_word, outputs, &handed)?;
+        personality.untouched("place: the personality", &handed)?;
+        self.tally.count_answer(expected);
+        Ok(expected)
+    }
+}
+
+/// The answer, the row and the outputs of a call on a cabinet, in words.
+fn words_of(call: &CabinetCall) -> [&'static str; 3] {
+    match call {
+        CabinetCall::Place { .. } => ["place: the answer", "place: the row", "place: the outputs"],
+        CabinetCall::Step { .. } => [
+            "cabinet step: the answer",
+            "cabinet step: the row",
+            "cabinet step: the outputs",
+        ],
+        CabinetCall::TakeOut { .. } => [
+            "take out: the answer",
+            "take out: the row",
+            "take out: the outputs",
+        ],
     }
 }
 

@@ -4,12 +4,16 @@ use crate::calls::Comparison;
 use crate::difference::{Difference, Failure};
 use crate::tally::Tally;
 use generate::{
-    any_inputs, broken_state_bytes, damaged, invalid_state, known_inputs, scrambled, twice_damaged,
-    unknown_inputs, valid_state, Breakage, Plan, Rng, RoadDamage, RoadPlan,
+    any_inputs, any_records, broken_state_bytes, damaged, invalid_state, known_inputs, scrambled,
+    twice_damaged, unknown_inputs, valid_state, Breakage, CabinetCall, Plan, Rng, RoadDamage,
+    RoadPlan,
 };
 use model::packed::Board;
-use model::{fresh, Site, RESULT_LEN, STATE_LEN, STREAM_LEN};
-use monitor::{watch, Driver, Strategy};
+use model::{
+    fresh, records_of, row_of, Site, OUTPUTS, RECORDS, RECORD_LEN, RESULT_LEN, ROW_LEN, STATE_LEN,
+    STREAM_LEN,
+};
+use monitor::{watch, watch_cabinet, Driver, Strategy};
 use std::fmt;
 
 /// What a case is about.
@@ -33,10 +37,14 @@ pub enum Kind {
     DamagedRoad,
     RoadBuffers,
     RoadWrongs,
+    Cabinet,
+    CabinetRows,
+    CabinetBuffers,
+    WatchedCabinet,
 }
 
 /// The kinds take turns, those that matter most more often.
-const TURNS: [Kind; 34] = [
+const TURNS: [Kind; 39] = [
     Kind::Accepted,
     Kind::Damaged(1),
     Kind::Run,
@@ -71,6 +79,11 @@ const TURNS: [Kind; 34] = [
     Kind::Road,
     Kind::RoadBuffers,
     Kind::RoadWrongs,
+    Kind::Cabinet,
+    Kind::CabinetRows,
+    Kind::CabinetBuffers,
+    Kind::CabinetRows,
+    Kind::WatchedCabinet,
 ];
 
 impl Kind {
@@ -110,6 +123,10 @@ impl fmt::Display for Kind {
             Kind::DamagedRoad => "simulated roads refused with 22",
             Kind::RoadBuffers => "state and result buffers of a road short and long",
             Kind::RoadWrongs => "several wrongs in one road",
+            Kind::Cabinet => "lists of calls on a cabinet, refused ones among them",
+            Kind::CabinetRows => "calls on cabinets of any content",
+            Kind::CabinetBuffers => "rows of other lengths, output buffers short and long",
+            Kind::WatchedCabinet => "sites of a cabinet watched for demand 3",
         };
         f.write_str(words)
     }
@@ -170,6 +187,10 @@ impl Comparison<'_> {
             Kind::DamagedRoad => self.damaged_roads(),
             Kind::RoadBuffers => self.road_buffers(),
             Kind::RoadWrongs => self.road_wrongs(),
+            Kind::Cabinet => self.cabinet_lists(),
+            Kind::CabinetRows => self.cabinet_rows(),
+            Kind::CabinetBuffers => self.cabinet_buffers(),
+            Kind::WatchedCabinet => self.watched_cabinet(),
         }
     }
 
@@ -409,6 +430,74 @@ impl Comparison<'_> {
             let personality = if refused { &twice } else { personality };
             let state = rng.bytes(state_len);
             comparison.road(personality, &road, &state, length)
+        })
+    }
+
+    /// A list of calls on a cabinet whose records are free at first. A few get an
+    /// output buffer that is too short.
+    fn cabinet_lists(&mut self) -> Outcome {
+        let mut row = vec![0; ROW_LEN];
+        let spare = self.rng.pick(&[0, 0, 1, 20]);
+        let mut outputs = self.rng.bytes(OUTPUTS + spare);
+        for _ in 0..60 {
+            let records = records_of(&row).expect("a whole row");
+            let call = CabinetCall::random(&mut self.rng, &records);
+            let length = match self.rng.percent(3) {
+                true => self.rng.below(OUTPUTS),
+                false => outputs.len(),
+            };
+            self.cabinet(&mut row, &call, &mut outputs[..length])?;
+        }
+        Ok(())
+    }
+
+    /// Calls on rows of any content, each on the row as it was.
+    fn cabinet_rows(&mut self) -> Outcome {
+        for _ in 0..4 {
+            let records = any_records(&mut self.rng);
+            for _ in 0..10 {
+                let call = CabinetCall::random(&mut self.rng, &records);
+                let anywhere = self.rng.below(2 * OUTPUTS);
+                let length = self.rng.pick(&[OUTPUTS, OUTPUTS, OUTPUTS + 1, anywhere]);
+                let mut outputs = self.rng.bytes(length);
+                self.cabinet(&mut row_of(&records), &call, &mut outputs)?;
+            }
+        }
+        Ok(())
+    }
+
+    /// Calls on rows that may be too short or too long, with buffers that may be
+    /// too.
+    fn cabinet_buffers(&mut self) -> Outcome {
+        for _ in 0..20 {
+            let records = any_records(&mut self.rng);
+            let call = CabinetCall::random(&mut self.rng, &records);
+            let rng = &mut self.rng;
+            let row = row_of(&records);
+            let anywhere = rng.below(2 * ROW_LEN);
+            let whole = rng.below(7) * RECORD_LEN;
+            let length = rng.pick(&[ROW_LEN, ROW_LEN, ROW_LEN - 1, ROW_LEN + 1, whole, anywhere]);
+            let mut row: Vec<u8> = row.iter().copied().cycle().take(length).collect();
+            let anywhere = rng.below(80);
+            let length = rng.pick(&[0, OUTPUTS - 1, OUTPUTS, OUTPUTS + 1, anywhere]);
+            let mut outputs = rng.bytes(length);
+            self.cabinet(&mut row, &call, &mut outputs)?;
+        }
+        Ok(())
+    }
+
+    /// The board alone with several sites in a cabinet, under a monitor each.
+    fn watched_cabinet(&mut self) -> Outcome {
+        let most = self.rng.pick(&[4, 8, 8, 10]);
+        let count = self.rng.range(1, RECORDS.min(OUTPUTS / most));
+        let sites = (0..count).map(|_| Plan::small(&mut self.rng, most).bytes());
+        let sites: Vec<Vec<u8>> = sites.collect();
+        let watched = watch_cabinet(self.board, &sites, &mut self.rng, 1_000);
+        watched.map(|_| ()).map_err(|(site, breach)| {
+            Box::new(Difference::Breach {
+                personality: sites[site].clone(),
+                breach,
+            })
         })
     }
 

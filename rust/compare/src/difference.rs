@@ -34,6 +34,10 @@ pub struct Handed {
     pub streams: Vec<u8>,
     pub steps: u32,
     pub results: Vec<u8>,
+    pub row: Vec<u8>,
+    pub record: usize,
+    pub first: usize,
+    pub outputs: Vec<u8>,
 }
 
 /// A case that fails.
@@ -79,7 +83,11 @@ impl fmt::Display for Handed {
         writeln!(f, "  kind        {}", self.kind)?;
         writeln!(f, "  streams     {}", hex(&self.streams))?;
         writeln!(f, "  steps       {}", self.steps)?;
-        write!(f, "  results     {}", hex(&self.results))
+        writeln!(f, "  results     {}", hex(&self.results))?;
+        writeln!(f, "  row         {}", hex(&self.row))?;
+        writeln!(f, "  record      {}", self.record)?;
+        writeln!(f, "  first       {}", self.first)?;
+        write!(f, "  outputs     {}", hex(&self.outputs))
     }
 }
 

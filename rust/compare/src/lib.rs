@@ -3,21 +3,24 @@
 
 #![forbid(unsafe_code)]
 
+mod cabinet_vectors;
 mod calls;
 mod cases;
 mod difference;
 #[cfg(feature = "linked")]
 mod library;
+mod road_vectors;
 mod tally;
 mod vectors;
 mod watches;
 
+pub use cabinet_vectors::run_cabinet_vectors;
 pub use cases::{run_case, Kind};
 pub use difference::{Difference, Failure};
 #[cfg(feature = "linked")]
 pub use library::Library;
+pub use road_vectors::run_road_vectors;
 pub use tally::Tally;
-pub use vectors::run_vectors;
 pub use watches::{run_watches, Watched};
 
 /// The board that is compared: the library where it is linked.

@@ -3,8 +3,9 @@
 use model::packed::Board;
 use willowera::packed;
 
-// The model's states have the library's layout.
+// The model's states and rows have the library's layout.
 const _: () = assert!(model::STATE_LEN == willowera::STATE_LEN);
+const _: () = assert!(model::ROW_LEN == willowera::ROW_LEN);
 
 /// The linked library.
 #[derive(Clone, Copy, Debug, Default)]
@@ -40,5 +41,24 @@ impl Board for Library {
         results: &mut [u8],
     ) -> u64 {
         packed::road(personality, streams, steps, state, results)
+    }
+
+    fn cabinet_place(
+        &self,
+        row: &mut [u8],
+        record: usize,
+        personality: &[u8],
+        first: usize,
+        outputs: &mut [u8],
+    ) -> u64 {
+        packed::cabinet_place(row, record, personality, first, outputs)
+    }
+
+    fn cabinet_step(&self, row: &mut [u8], record: usize, inputs: u64, outputs: &mut [u8]) -> u64 {
+        packed::cabinet_step(row, record, inputs, outputs)
+    }
+
+    fn cabinet_take_out(&self, row: &mut [u8], record: usize, outputs: &mut [u8]) -> u64 {
+        packed::cabinet_take_out(row, record, outputs)
     }
 }

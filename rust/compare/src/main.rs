@@ -1,18 +1,20 @@
 //! `compare SEED CASES` compares the board library with the model on so many
 //! cases, `compare SEED case INDEX` runs one of them again, and `compare SEED
-//! watch STEPS` watches the library alone for demand 3. `compare roads FILE` runs
-//! the vectors of the Python road on the library and on the model.
+//! watch STEPS` watches the library alone for demand 3. `compare roads FILE` and
+//! `compare cabinets FILE` run the vectors of the Python road and cabinet on the
+//! library and on the model.
 
 #![forbid(unsafe_code)]
 
-use compare::{board_name, run_cases, run_vectors, run_watches, BOARD};
-use model::packed::Model;
+use compare::{board_name, run_cabinet_vectors, run_cases, run_road_vectors, run_watches, BOARD};
+use model::packed::{Board, Model};
 use std::process::ExitCode;
 
 const USAGE: &str = "usage: compare SEED CASES
        compare SEED case INDEX
        compare SEED watch STEPS
-       compare roads FILE";
+       compare roads FILE
+       compare cabinets FILE";
 
 /// What is to be done.
 enum Task {
@@ -24,8 +26,10 @@ enum Task {
 fn main() -> ExitCode {
     let words: Vec<String> = std::env::args().skip(1).collect();
     if let [word, file] = words.as_slice() {
-        if word == "roads" {
-            return exit_code(roads(file));
+        match word.as_str() {
+            "roads" => return exit_code(vectors(file, "simulated roads", run_road_vectors)),
+            "cabinets" => return exit_code(vectors(file, "cabinets", run_cabinet_vectors)),
+            _ => {}
         }
     }
     let Some((seed, task)) = parse(&words) else {
@@ -94,7 +98,10 @@ fn watches(seed: u64, steps: u64) -> bool {
     }
 }
 
-fn roads(file: &str) -> bool {
+/// Runs the vectors of a file on a board.
+type RunVectors = fn(&dyn Board, &[u8]) -> Result<usize, String>;
+
+fn vectors(file: &str, what: &str, run: RunVectors) -> bool {
     println!("{file}: {} and the model", board_name());
     let vectors = match std::fs::read(file) {
         Ok(vectors) => vectors,
@@ -103,10 +110,10 @@ fn roads(file: &str) -> bool {
             return false;
         }
     };
-    let by_model = run_vectors(&Model, &vectors).map_err(|what| format!("the model: {what}"));
-    match by_model.and_then(|_| run_vectors(&BOARD, &vectors)) {
+    let by_model = run(&Model, &vectors).map_err(|what| format!("the model: {what}"));
+    match by_model.and_then(|_| run(&BOARD, &vectors)) {
         Ok(count) => {
-            println!("{count:>9}  simulated roads\nno difference");
+            println!("{count:>9}  {what}\nno difference");
             true
         }
         Err(what) => {

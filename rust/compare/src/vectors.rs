@@ -1,162 +1,47 @@
-//! The vectors of the Python road, which `vectors/make_roads.py` writes, on a
-//! board.
+//! Reading files of vectors that the Python models write.
 
-use model::packed::Board;
-use model::STATE_LEN;
+/// What buffers hold before a call, if nothing else is said.
+pub const CANARY: u8 = 0xA5;
 
-/// One vector: what is handed to a road, and what it answers and writes.
-struct Vector<'a> {
-    personality: &'a [u8],
-    streams: &'a [u8],
-    steps: u32,
-    state_len: usize,
-    results_len: usize,
-    answer: u64,
-    /// The last state and the results; both empty if the road is refused.
-    state: &'a [u8],
-    results: &'a [u8],
-}
-
-/// What the buffers hold before a call.
-const CANARY: u8 = 0xA5;
-
-/// Runs every vector on a board. Gives their number, or the first that differs.
-pub fn run_vectors(board: &dyn Board, file: &[u8]) -> Result<usize, String> {
+/// Takes and runs every vector of a file. Gives their number, or the first that
+/// differs.
+pub fn run_each<'a, V>(
+    file: &'a [u8],
+    take: impl Fn(&mut &'a [u8]) -> Option<V>,
+    run: impl Fn(V) -> Result<(), String>,
+) -> Result<usize, String> {
     let mut rest = file;
     let mut count = 0;
     while !rest.is_empty() {
         let Some(vector) = take(&mut rest) else {
             return Err(format!("vector {count} is cut short"));
         };
-        vector
-            .run(board)
-            .map_err(|what| format!("vector {count} differs: {what}"))?;
+        run(vector).map_err(|what| format!("vector {count} differs: {what}"))?;
         count += 1;
     }
     Ok(count)
 }
 
-fn take<'a>(file: &mut &'a [u8]) -> Option<Vector<'a>> {
-    let personality = take_behind_length(file)?;
-    let streams = take_behind_length(file)?;
-    let steps = u32::from_le_bytes(take_array(file)?);
-    let state_len = usize::from(u16::from_le_bytes(take_array(file)?));
-    let results_len = usize::from(u16::from_le_bytes(take_array(file)?));
-    let [number] = take_array(file)?;
-    let place = u32::from_le_bytes(take_array(file)?);
-    let (state, results) = match number {
-        0 => (
-            take_bytes(file, STATE_LEN)?,
-            take_bytes(file, streams.len())?,
-        ),
-        _ => (&[][..], &[][..]),
-    };
-    Some(Vector {
-        personality,
-        streams,
-        steps,
-        state_len,
-        results_len,
-        answer: u64::from(place) << 8 | u64::from(number),
-        state,
-        results,
-    })
-}
-
-fn take_bytes<'a>(file: &mut &'a [u8], length: usize) -> Option<&'a [u8]> {
+pub fn take_bytes<'a>(file: &mut &'a [u8], length: usize) -> Option<&'a [u8]> {
     let (bytes, rest) = file.split_at_checked(length)?;
     *file = rest;
     Some(bytes)
 }
 
-fn take_array<const LENGTH: usize>(file: &mut &[u8]) -> Option<[u8; LENGTH]> {
+pub fn take_array<const LENGTH: usize>(file: &mut &[u8]) -> Option<[u8; LENGTH]> {
     take_bytes(file, LENGTH)?.try_into().ok()
 }
 
-fn take_behind_length<'a>(file: &mut &'a [u8]) -> Option<&'a [u8]> {
+pub fn take_behind_length<'a>(file: &mut &'a [u8]) -> Option<&'a [u8]> {
     let length = u16::from_le_bytes(take_array(file)?);
     take_bytes(file, length.into())
 }
 
-impl Vector<'_> {
-    fn run(&self, board: &dyn Board) -> Result<(), String> {
-        let mut state = vec![CANARY; self.state_len];
-        let mut results = vec![CANARY; self.results_len];
-        let answer = board.road(
-            self.personality,
-            self.streams,
-            self.steps,
-            &mut state,
-            &mut results,
-        );
-        if answer != self.answer {
-            return Err(format!("expected {:#x}, found {answer:#x}", self.answer));
-        }
-        same("the state", &written(self.state, self.state_len), &state)?;
-        same(
-            "the results",
-            &written(self.results, self.results_len),
-            &results,
-        )
-    }
-}
-
-/// A buffer after these bytes are written to its beginning.
-fn written(bytes: &[u8], length: usize) -> Vec<u8> {
-    let mut buffer = bytes.to_vec();
-    buffer.resize(length, CANARY);
-    buffer
-}
-
-fn same(what: &str, expected: &[u8], found: &[u8]) -> Result<(), String> {
+pub fn same(what: &str, expected: &[u8], found: &[u8]) -> Result<(), String> {
     if expected == found {
         return Ok(());
     }
     Err(format!(
         "{what}, expected {expected:02x?}, found {found:02x?}"
     ))
-}
-
-#[cfg(test)]
-mod tests {
-    use super::*;
-    use generate::Plan;
-    use model::packed::Model;
-
-    /// 200 steps of the junction, both streams full, with these results.
-    fn worked(queued: u8, gone: u8) -> Vec<u8> {
-        let personality = Plan::junction().bytes();
-        let streams = [0, 0, 8, 7, 1, 1, 8, 7];
-        let mut state = [0; STATE_LEN];
-        Model.road(&personality, &streams, 200, &mut state, &mut [0; 8]);
-        let mut file = vec![68, 0];
-        file.extend(personality);
-        file.extend([8, 0]);
-        file.extend(streams);
-        file.extend([200, 0, 0, 0, STATE_LEN as u8, 0, 9, 0]);
-        file.extend([0; 5]);
-        file.extend(state);
-        file.extend([queued, 0, gone, 0, 8, 0, 2, 0]);
-        file
-    }
-
-    #[test]
-    fn a_worked_case_agrees() {
-        assert_eq!(run_vectors(&Model, &worked(8, 2)), Ok(1));
-        assert_eq!(run_vectors(&Model, &worked(8, 2).repeat(3)), Ok(3));
-        assert_eq!(run_vectors(&Model, &[]), Ok(0));
-    }
-
-    #[test]
-    fn wrong_vectors_are_noticed() {
-        assert!(run_vectors(&Model, &worked(9, 2)).is_err());
-        assert!(run_vectors(&Model, &worked(8, 1)).is_err());
-        let mut file = worked(8, 2);
-        file.pop();
-        assert!(run_vectors(&Model, &file).is_err());
-        let mut file = worked(8, 2);
-        // The number.
-        file[2 + 68 + 2 + 8 + 8] = 22;
-        assert!(run_vectors(&Model, &file).is_err());
-    }
 }

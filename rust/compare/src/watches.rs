@@ -1,15 +1,15 @@
-//! Watched runs under every strategy, and what they show.
+//! Watched runs under every strategy and in cabinets, and what they show.
 
 use generate::{Plan, Rng};
 use model::packed::Board;
-use model::Site;
-use monitor::{watch, Breach, Driver, Report, Strategy};
+use model::{Site, OUTPUTS, RECORDS};
+use monitor::{watch, watch_cabinet, Breach, Driver, Report, Strategy};
 use std::fmt;
 
-/// What the runs of one strategy have shown together.
+/// What the runs of one strategy, or in cabinets, have shown together.
 #[derive(Clone, Debug)]
 pub struct Watched {
-    pub strategy: Strategy,
+    pub name: String,
     pub runs: u64,
     pub accepted: u64,
     pub refused: u64,
@@ -22,20 +22,38 @@ pub struct Watched {
 /// Steps of one run before the next site.
 const RUN: u64 = 4_000;
 
-/// Watches a board for about so many steps, shared among the strategies. The
-/// first runs are on the junction of two phases and the largest site.
+/// Watches a board for about so many steps, shared among the strategies and the
+/// cabinets. The first runs of a strategy are on the junction of two phases and
+/// the largest site.
 pub fn run_watches(
     board: &dyn Board,
     seed: u64,
     steps: u64,
 ) -> Result<Vec<Watched>, (Vec<u8>, Breach)> {
-    let share = (steps / Strategy::ALL.len() as u64).max(1);
+    let share = (steps / (Strategy::ALL.len() as u64 + 1)).max(1);
     let mut all = Vec::new();
     for (index, strategy) in Strategy::ALL.into_iter().enumerate() {
         let rng = Rng::of_case(seed, index as u64);
         all.push(run_strategy(board, strategy, rng, share)?);
     }
+    let rng = Rng::of_case(seed, Strategy::ALL.len() as u64);
+    all.push(run_cabinets(board, rng, share)?);
     Ok(all)
+}
+
+/// Runs of four sites in a cabinet, each under strategies of its own.
+fn run_cabinets(board: &dyn Board, mut rng: Rng, steps: u64) -> Result<Watched, (Vec<u8>, Breach)> {
+    let mut watched = Watched::new("Cabinet".to_string());
+    let mut left = steps;
+    while left > 0 {
+        let calls = left.min(RUN);
+        let sites = [(); RECORDS].map(|()| Plan::small(&mut rng, OUTPUTS / RECORDS).bytes());
+        let reports = watch_cabinet(board, &sites, &mut rng, calls);
+        let reports = reports.map_err(|(site, breach)| (sites[site].clone(), breach))?;
+        reports.iter().for_each(|report| watched.add(report));
+        left -= calls;
+    }
+    Ok(watched)
 }
 
 fn run_strategy(
@@ -44,7 +62,7 @@ fn run_strategy(
     mut rng: Rng,
     steps: u64,
 ) -> Result<Watched, (Vec<u8>, Breach)> {
-    let mut watched = Watched::new(strategy);
+    let mut watched = Watched::new(format!("{strategy:?}"));
     let mut left = steps;
     while left > 0 {
         let calls = left.min(RUN);
@@ -67,9 +85,9 @@ fn run_strategy(
 }
 
 impl Watched {
-    fn new(strategy: Strategy) -> Watched {
+    fn new(name: String) -> Watched {
         Watched {
-            strategy,
+            name,
             runs: 0,
             accepted: 0,
             refused: 0,
@@ -92,11 +110,11 @@ impl Watched {
 
 impl fmt::Display for Watched {
     fn fmt(&self, f: &mut fmt::Formatter<'_>) -> fmt::Result {
-        let strategy = format!("{:?}", self.strategy);
         write!(
             f,
-            "{strategy:8} {:>5} runs, {:>9} steps, {:>7} refused calls, {:>7} greens begun, \
+            "{:8} {:>5} runs, {:>9} steps, {:>7} refused calls, {:>7} greens begun, \
              {:>7} demands met, longest wait {:.2} of its bound",
+            self.name,
             self.runs,
             self.accepted,
             self.refused,

@@ -1,11 +1,15 @@
 //! The generators reach what they are meant to reach.
 
 use generate::{
-    broken_state_bytes, damaged, invalid_state, known_inputs, scrambled, twice_damaged,
-    unknown_inputs, valid_state, Breakage, Plan, Rng, RoadPlan, AIMED, MODES,
+    any_records, broken_state_bytes, damaged, held_record, invalid_state, known_inputs, scrambled,
+    twice_damaged, twist, unknown_inputs, valid_state, Breakage, CabinetCall, Plan, Rng, RoadPlan,
+    Twist, AIMED, MODES,
 };
-use model::packed::{self, number, rest};
-use model::{read, valid, Interval, Mark, Road, Site, Stage, State, Stream};
+use model::packed::{self, number, rest, Model};
+use model::{
+    read, records_of, row_of, valid, Interval, Mark, Record, Road, Site, Stage, State, Stream,
+    RECORDS, ROW_LEN,
+};
 use std::collections::{BTreeMap, BTreeSet};
 
 const SEED: u64 = 1_993;
@@ -342,10 +346,120 @@ fn roads_release_in_every_way() {
     }
 }
 
+/// The answer of a call on a copy of a row.
+fn called(records: &[Record; RECORDS], call: &CabinetCall) -> u8 {
+    let mut row = row_of(records);
+    number(call.make(&Model, &mut row, call.personality(), &mut [0; 32]))
+}
+
+#[test]
+fn held_records_can_be_stepped_and_taken_out() {
+    let mut rng = Rng::new(SEED);
+    for _ in 0..1_000 {
+        let records = [held_record(&mut rng); RECORDS];
+        assert_eq!(called(&records, &CabinetCall::TakeOut { record: 3 }), 0);
+        let step = CabinetCall::Step {
+            record: 0,
+            inputs: 0,
+        };
+        assert_eq!(called(&records, &step), 0);
+    }
+}
+
+#[test]
+fn every_twist_shows_in_a_step() {
+    let mut rng = Rng::new(SEED);
+    for chosen in Twist::ALL {
+        let mut answers: BTreeMap<u8, usize> = BTreeMap::new();
+        for _ in 0..400 {
+            let mut record = held_record(&mut rng);
+            let before = record;
+            if twist(&mut rng, &mut record, chosen).is_some() && record != before {
+                let step = CabinetCall::Step {
+                    record: 1,
+                    inputs: 0,
+                };
+                let answer = called(&[record; RECORDS], &step);
+                *answers.entry(answer).or_default() += 1;
+            }
+        }
+        let expected: &[u8] = match chosen {
+            Twist::Freed => &[24],
+            Twist::HeldByAny | Twist::BytesBehind => &[0],
+            Twist::Refused => &[2, 3, 5, 6, 9],
+            Twist::LengthAbove => &[0, 12, 25],
+            Twist::LengthBeside => &[1, 12],
+            Twist::PastTheLast => &[25],
+            Twist::FirstAnywhere => &[0, 25],
+            Twist::InvalidState | Twist::NoState => &[13],
+            Twist::Noise => &[2],
+        };
+        for number in expected {
+            let found = answers.get(number).copied().unwrap_or(0);
+            assert!(found >= 10, "{chosen:?}, {number}: {answers:?}");
+        }
+        let exact = !matches!(chosen, Twist::Refused | Twist::LengthBeside | Twist::Noise);
+        assert!(!exact || answers.len() == expected.len(), "{answers:?}");
+    }
+}
+
+#[test]
+fn calls_on_cabinets_reach_every_answer() {
+    let mut rng = Rng::new(SEED);
+    let mut answers: BTreeMap<(&str, u8), usize> = BTreeMap::new();
+    for _ in 0..6_000 {
+        let records = any_records(&mut rng);
+        for _ in 0..10 {
+            let call = CabinetCall::random(&mut rng, &records);
+            let name = match call {
+                CabinetCall::Place { .. } => "place",
+                CabinetCall::Step { .. } => "step",
+                CabinetCall::TakeOut { .. } => "take out",
+            };
+            *answers.entry((name, called(&records, &call))).or_default() += 1;
+        }
+    }
+    let reached = |name, numbers: &[u8]| {
+        for &number in numbers {
+            let found = answers.get(&(name, number)).copied().unwrap_or(0);
+            assert!(found >= 5, "{name}, {number}: {answers:?}");
+        }
+    };
+    reached(
+        "place",
+        &[0, 1, 2, 3, 5, 6, 7, 8, 9, 10, 11, 17, 18, 21, 24, 25],
+    );
+    reached("step", &[0, 1, 2, 3, 5, 9, 12, 13, 15, 21, 24, 25]);
+    reached("take out", &[0, 2, 12, 24, 25]);
+}
+
+#[test]
+fn lists_of_calls_fill_and_empty_a_cabinet() {
+    let mut rng = Rng::new(SEED);
+    let mut held: BTreeMap<usize, usize> = BTreeMap::new();
+    for _ in 0..300 {
+        let mut row = [0; ROW_LEN];
+        let outputs = &mut [0; 32];
+        for _ in 0..60 {
+            let records = records_of(&row).unwrap();
+            let count = records.iter().filter(|record| !record.is_free()).count();
+            *held.entry(count).or_default() += 1;
+            let call = CabinetCall::random(&mut rng, &records);
+            call.make(&Model, &mut row, call.personality(), outputs);
+        }
+    }
+    for count in 0..=RECORDS {
+        assert!(
+            held.get(&count).is_some_and(|&calls| calls >= 500),
+            "{held:?}"
+        );
+    }
+}
+
 #[test]
 fn every_refusal_number_occurs_in_the_cases() {
-    let tally = compare::run_cases(&model::packed::Model, SEED, 0..2_000).unwrap();
-    for number in (0..=15).chain([17, 18, 21, 22]) {
+    let tally = compare::run_cases(&Model, SEED, 0..2_000).unwrap();
+    for number in (0..=15).chain([17, 18, 21, 22, 24, 25]) {
         assert!(tally.answers(number) >= 20, "{number}\n{tally}");
     }
     for kind in compare::Kind::all() {

@@ -54,6 +54,25 @@ impl Board for Wrong {
     ) -> u64 {
         Model.road(personality, streams, steps, state, results)
     }
+
+    fn cabinet_place(
+        &self,
+        row: &mut [u8],
+        record: usize,
+        personality: &[u8],
+        first: usize,
+        outputs: &mut [u8],
+    ) -> u64 {
+        Model.cabinet_place(row, record, personality, first, outputs)
+    }
+
+    fn cabinet_step(&self, row: &mut [u8], record: usize, inputs: u64, outputs: &mut [u8]) -> u64 {
+        Model.cabinet_step(row, record, inputs, outputs)
+    }
+
+    fn cabinet_take_out(&self, row: &mut [u8], record: usize, outputs: &mut [u8]) -> u64 {
+        Model.cabinet_take_out(row, record, outputs)
+    }
 }
 
 /// The failure that the comparison must find.
@@ -253,6 +272,25 @@ impl Board for ScansAnew {
     ) -> u64 {
         Model.road(personality, streams, steps, state, results)
     }
+
+    fn cabinet_place(
+        &self,
+        row: &mut [u8],
+        record: usize,
+        personality: &[u8],
+        first: usize,
+        outputs: &mut [u8],
+    ) -> u64 {
+        Model.cabinet_place(row, record, personality, first, outputs)
+    }
+
+    fn cabinet_step(&self, row: &mut [u8], record: usize, inputs: u64, outputs: &mut [u8]) -> u64 {
+        Model.cabinet_step(row, record, inputs, outputs)
+    }
+
+    fn cabinet_take_out(&self, row: &mut [u8], record: usize, outputs: &mut [u8]) -> u64 {
+        Model.cabinet_take_out(row, record, outputs)
+    }
 }
 
 #[test]
@@ -298,6 +336,25 @@ impl Board for GoesByLetters {
         results: &mut [u8],
     ) -> u64 {
         Model.road(personality, streams, steps, state, results)
+    }
+
+    fn cabinet_place(
+        &self,
+        row: &mut [u8],
+        record: usize,
+        personality: &[u8],
+        first: usize,
+        outputs: &mut [u8],
+    ) -> u64 {
+        Model.cabinet_place(row, record, personality, first, outputs)
+    }
+
+    fn cabinet_step(&self, row: &mut [u8], record: usize, inputs: u64, outputs: &mut [u8]) -> u64 {
+        Model.cabinet_step(row, record, inputs, outputs)
+    }
+
+    fn cabinet_take_out(&self, row: &mut [u8], record: usize, outputs: &mut [u8]) -> u64 {
+        Model.cabinet_take_out(row, record, outputs)
     }
 }
 

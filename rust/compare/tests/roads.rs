@@ -308,6 +308,25 @@ impl Board for PlainRoad {
         }
         0
     }
+
+    fn cabinet_place(
+        &self,
+        row: &mut [u8],
+        record: usize,
+        personality: &[u8],
+        first: usize,
+        outputs: &mut [u8],
+    ) -> u64 {
+        Model.cabinet_place(row, record, personality, first, outputs)
+    }
+
+    fn cabinet_step(&self, row: &mut [u8], record: usize, inputs: u64, outputs: &mut [u8]) -> u64 {
+        Model.cabinet_step(row, record, inputs, outputs)
+    }
+
+    fn cabinet_take_out(&self, row: &mut [u8], record: usize, outputs: &mut [u8]) -> u64 {
+        Model.cabinet_take_out(row, record, outputs)
+    }
 }
 
 const SEED: u64 = 8;

@@ -1,8 +1,9 @@
-//! Random personalities of every shape, damaged ones, states, inputs and the
-//! streams of a road. All of it is decided by a seed.
+//! Random personalities of every shape, damaged ones, states, inputs, the streams
+//! of a road and the records of a cabinet. All of it is decided by a seed.
 
 #![forbid(unsafe_code)]
 
+mod cabinets;
 mod damage;
 mod inputs;
 mod plan;
@@ -10,6 +11,7 @@ mod rng;
 mod states;
 mod streams;
 
+pub use cabinets::{any_records, held_record, twist, CabinetCall, Twist};
 pub use damage::{damaged, scrambled, twice_damaged, AIMED};
 pub use inputs::{any_inputs, known_inputs, unknown_inputs};
 pub use plan::{Pace, Plan, Shape, MODES};

@@ -201,6 +201,17 @@ impl Plan {
         Plan::of_shape(rng, shape)
     }
 
+    /// A random plan that is accepted, with so many groups at most.
+    pub fn small(rng: &mut Rng, most: usize) -> Plan {
+        let groups = rng.range(1, most);
+        let shape = Shape {
+            groups,
+            pedestrians: edged(rng, 0, MAX_MOVEMENTS.min(groups)),
+            ..Shape::random(rng)
+        };
+        Plan::of_shape(rng, shape)
+    }
+
     /// A random accepted plan of a shape. Where pedestrian groups alone cannot
     /// serve every phase, one of them becomes a vehicle group.
     pub fn of_shape(rng: &mut Rng, shape: Shape) -> Plan {

@@ -5,7 +5,7 @@ use crate::site::Site;
 use crate::state::{Interval, Stage, State};
 use crate::MAX_GROUPS;
 
-/// The colour codes, one byte a group.
+/// The colour codes, one byte a group or output.
 #[derive(Clone, Copy, Debug, PartialEq, Eq)]
 #[repr(u8)]
 pub enum Colour {
@@ -13,6 +13,8 @@ pub enum Colour {
     Yellow = 1,
     Green = 2,
     FlashingRed = 3,
+    /// An output of a cabinet whose site was taken out; no group shows it.
+    Dark = 4,
 }
 
 /// Writes the colour of every group; the buffer is as long as the group count.

@@ -3,8 +3,9 @@
 //!
 //! One step is 0.1 s and every time is counted in steps. The model reads a
 //! personality, steps the controller, gives the colours of the signal groups,
-//! the wait bound and the sections of a personality, and runs a simulated road. It
-//! needs no heap and nothing of the standard library but its core.
+//! the wait bound and the sections of a personality, runs a simulated road, and
+//! keeps four sites in one cabinet. It needs no heap and nothing of the standard
+//! library but its core.
 //!
 //! [`packed`] holds the same functions in the shape of the board library: states
 //! as bytes, by [`layout`], and answers as one number.
@@ -16,12 +17,14 @@
 extern crate std;
 
 mod bits;
+mod cabinet;
 mod colours;
 pub mod layout;
 mod limits;
 mod lookup;
 pub mod packed;
 mod reader;
+mod record;
 mod refusal;
 mod road;
 mod site;
@@ -30,11 +33,13 @@ mod step;
 mod valid;
 mod wait;
 
+pub use cabinet::{place, step_held, take_out, OUTPUTS};
 pub use colours::Colour;
 pub use layout::STATE_LEN;
 pub use limits::{Limits, Setting};
 pub use lookup::{section, Part};
 pub use reader::read;
+pub use record::{records_of, row_of, Record, RECORDS, RECORD_LEN, ROOM, ROW_LEN};
 pub use refusal::{Number, Refusal, Verdict};
 pub use road::{Road, Stream, Vehicles, MAX_RATE, MAX_STEPS, MAX_STREAMS, RESULT_LEN, STREAM_LEN};
 pub use site::{Detector, Group, Mark, Movement, PhaseTimes, Site};

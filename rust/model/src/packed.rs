@@ -3,6 +3,8 @@
 //! accepted, else the number of the refusal; the rest is the wait bound or the
 //! place.
 
+use crate::cabinet;
+use crate::record::{records_of, row_of, Record};
 use crate::refusal::{Number, Refusal};
 use crate::road::{Road, RESULT_LEN};
 use crate::site::Site;
@@ -25,6 +27,16 @@ pub trait Board {
         state: &mut [u8],
         results: &mut [u8],
     ) -> u64;
+    fn cabinet_place(
+        &self,
+        row: &mut [u8],
+        record: usize,
+        personality: &[u8],
+        first: usize,
+        outputs: &mut [u8],
+    ) -> u64;
+    fn cabinet_step(&self, row: &mut [u8], record: usize, inputs: u64, outputs: &mut [u8]) -> u64;
+    fn cabinet_take_out(&self, row: &mut [u8], record: usize, outputs: &mut [u8]) -> u64;
 }
 
 /// The model as a board.
@@ -61,6 +73,25 @@ impl Board for Model {
         results: &mut [u8],
     ) -> u64 {
         road(personality, streams, steps, state, results)
+    }
+
+    fn cabinet_place(
+        &self,
+        row: &mut [u8],
+        record: usize,
+        personality: &[u8],
+        first: usize,
+        outputs: &mut [u8],
+    ) -> u64 {
+        cabinet_place(row, record, personality, first, outputs)
+    }
+
+    fn cabinet_step(&self, row: &mut [u8], record: usize, inputs: u64, outputs: &mut [u8]) -> u64 {
+        cabinet_step(row, record, inputs, outputs)
+    }
+
+    fn cabinet_take_out(&self, row: &mut [u8], record: usize, outputs: &mut [u8]) -> u64 {
+        cabinet_take_out(row, record, outputs)
     }
 }
 
@@ -145,6 +176,47 @@ pub fn road(
         *slot = vehicles.to_bytes();
     }
     0
+}
+
+/// Places a site in a record of a row.
+pub fn cabinet_place(
+    row: &mut [u8],
+    record: usize,
+    personality: &[u8],
+    first: usize,
+    outputs: &mut [u8],
+) -> u64 {
+    on_records(row, |records| {
+        cabinet::place(records, record, personality, first, outputs).map(|()| 0)
+    })
+}
+
+/// Steps the site of a record of a row.
+pub fn cabinet_step(row: &mut [u8], record: usize, inputs: u64, outputs: &mut [u8]) -> u64 {
+    on_records(row, |records| {
+        cabinet::step_held(records, record, inputs, outputs)
+    })
+}
+
+/// Takes the site out of a record of a row.
+pub fn cabinet_take_out(row: &mut [u8], record: usize, outputs: &mut [u8]) -> u64 {
+    on_records(row, |records| {
+        cabinet::take_out(records, record, outputs).map(|()| 0)
+    })
+}
+
+/// A call on the records of a row. Bytes that are not a whole row have no record.
+fn on_records(row: &mut [u8], call: impl FnOnce(&mut [Record]) -> Result<u32, Refusal>) -> u64 {
+    let Some(mut records) = records_of(row) else {
+        return call(&mut []).map_or_else(refuse, accept);
+    };
+    match call(&mut records) {
+        Ok(bound) => {
+            row.copy_from_slice(&row_of(&records));
+            accept(bound)
+        }
+        Err(refusal) => refuse(refusal),
+    }
 }
 
 const NO_STATE: Refusal = Refusal {

@@ -31,8 +31,8 @@ pub enum Number {
     LeftOver = 12,
     /// The state is not valid.
     InvalidState = 13,
-    /// The colour buffer is shorter than the group count, or the result buffer
-    /// shorter than the results.
+    /// The colour buffer is shorter than the group count, the result buffer
+    /// shorter than the results, or the output buffer shorter than the outputs.
     ShortBuffer = 14,
     /// An input bit is set without a detector or button there.
     UnknownInput = 15,
@@ -45,6 +45,11 @@ pub enum Number {
     /// Too many streams or steps for a road, a rate that is too high, or a
     /// detector or vehicle group that the site lacks.
     WrongRoad = 22,
+    /// A record that is not free for a site to be placed, is free where a site is
+    /// to be stepped or taken out, or that the cabinet lacks.
+    WrongRecord = 24,
+    /// Outputs past the last, or, in placing, outputs of another record.
+    WrongOutputs = 25,
 }
 
 /// A refusal: its number, and the byte of the personality it is about (0 where

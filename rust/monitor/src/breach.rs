@@ -40,8 +40,10 @@ pub enum Breach {
     WrongAnswer { step: u64, answer: u64 },
     /// A refused call changes the state or the colour buffer.
     RefusalWrites { step: u64 },
-    /// The bytes handed back are no state.
+    /// The bytes handed back are no state, or no longer the state of their site.
     NoState { step: u64 },
+    /// A call on one site of a cabinet changes another record or output.
+    WritesBeside { step: u64 },
 }
 
 impl fmt::Display for Breach {
@@ -91,6 +93,9 @@ impl fmt::Display for Breach {
             }
             Breach::RefusalWrites { step } => write!(f, "after step {step}: a refusal writes"),
             Breach::NoState { step } => write!(f, "step {step}: no state is handed back"),
+            Breach::WritesBeside { step } => {
+                write!(f, "after step {step}: a call writes beside its site")
+            }
         }
     }
 }

@@ -5,17 +5,19 @@
 //! are those that are.
 //!
 //! [`Monitor`] is told of accepted steps; [`watch`] drives a board with random
-//! or adversarial inputs and tells it.
+//! or adversarial inputs and tells it, [`watch_cabinet`] the sites of a cabinet.
 
 #![forbid(unsafe_code)]
 
 mod breach;
+mod cabinet;
 mod clearances;
 mod drivers;
 mod waits;
 mod watching;
 
 pub use breach::Breach;
+pub use cabinet::watch_cabinet;
 pub use drivers::{Driver, Strategy};
 pub use watching::{watch, Report};
 

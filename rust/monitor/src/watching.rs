@@ -16,6 +16,32 @@ pub struct Report {
     pub bound: u64,
 }
 
+impl Report {
+    /// What a monitor has seen, with so many refused calls.
+    pub(crate) fn of(monitor: &Monitor, refused: u64, site: &Site) -> Report {
+        Report {
+            accepted: monitor.accepted(),
+            refused,
+            green_starts: monitor.green_starts(),
+            demands_met: monitor.met(),
+            longest_wait: monitor.longest_wait(),
+            bound: site.wait_bound().into(),
+        }
+    }
+
+    /// Together with another run on the same site.
+    pub(crate) fn and(&self, other: &Report) -> Report {
+        Report {
+            accepted: self.accepted + other.accepted,
+            refused: self.refused + other.refused,
+            green_starts: self.green_starts + other.green_starts,
+            demands_met: self.demands_met + other.demands_met,
+            longest_wait: self.longest_wait.max(other.longest_wait),
+            bound: other.bound,
+        }
+    }
+}
+
 /// Of a hundred calls so many are wrong ones, to be refused.
 const WRONG_CALLS: usize = 3;
 
@@ -62,14 +88,7 @@ impl Run<'_> {
                 self.right_call(driver)?;
             }
         }
-        Ok(Report {
-            accepted: self.monitor.accepted(),
-            refused: self.refused,
-            green_starts: self.monitor.green_starts(),
-            demands_met: self.monitor.met(),
-            longest_wait: self.monitor.longest_wait(),
-            bound: self.site.wait_bound().into(),
-        })
+        Ok(Report::of(&self.monitor, self.refused, &self.site))
     }
 
     /// A call that is to be accepted.

@@ -8,6 +8,8 @@ mod answer;
 #[cfg(feature = "linked")]
 mod board;
 #[cfg(feature = "linked")]
+mod cabinet;
+#[cfg(feature = "linked")]
 pub mod packed;
 
 pub use answer::{part, sheet_settings, wait_bound_or_refusal, Part, Refusal, Settings};
@@ -16,9 +18,20 @@ pub use board::{
     read, road, section, settings, version, wait_bound, yellow, Controller, Detector, RoadEnd,
     Stream, Vehicles,
 };
+#[cfg(feature = "linked")]
+pub use cabinet::Cabinet;
 
 /// The version of the interface that these wrappers are for.
 pub const VERSION: u32 = 4;
 
 /// The length of a state in bytes.
 pub const STATE_LEN: usize = 39;
+
+/// The records of a cabinet.
+pub const RECORDS: usize = 4;
+
+/// The outputs of a cabinet, one byte each.
+pub const OUTPUTS: usize = 32;
+
+/// The length of a cabinet's row of records in bytes.
+pub const ROW_LEN: usize = 2_080;

@@ -28,6 +28,31 @@ mod ffi {
             results: *mut u8,
             results_len: usize,
         ) -> u64;
+        pub fn willowera_cabinet_place(
+            row: *mut u8,
+            row_len: usize,
+            record: usize,
+            personality: *const u8,
+            personality_len: usize,
+            first: usize,
+            outputs: *mut u8,
+            outputs_len: usize,
+        ) -> u64;
+        pub fn willowera_cabinet_step(
+            row: *mut u8,
+            row_len: usize,
+            record: usize,
+            inputs: u64,
+            outputs: *mut u8,
+            outputs_len: usize,
+        ) -> u64;
+        pub fn willowera_cabinet_take_out(
+            row: *mut u8,
+            row_len: usize,
+            record: usize,
+            outputs: *mut u8,
+            outputs_len: usize,
+        ) -> u64;
         pub fn willowera_settings(speed: u32, detector: u32, metres: f64) -> u64;
         pub fn willowera_yellow(speed: u32, grade: i32) -> u64;
         pub fn willowera_version() -> u32;
@@ -98,6 +123,63 @@ pub fn road(
             state.len(),
             results.as_mut_ptr(),
             results.len(),
+        )
+    }
+}
+
+/// Places a site in a record of a row of [`crate::ROW_LEN`] bytes, and writes its
+/// outputs, unless it is refused.
+pub fn cabinet_place(
+    row: &mut [u8],
+    record: usize,
+    personality: &[u8],
+    first: usize,
+    outputs: &mut [u8],
+) -> u64 {
+    // SAFETY: each pointer and length are those of one slice; the two lent for
+    // writing overlap neither each other nor the personality.
+    unsafe {
+        ffi::willowera_cabinet_place(
+            row.as_mut_ptr(),
+            row.len(),
+            record,
+            personality.as_ptr(),
+            personality.len(),
+            first,
+            outputs.as_mut_ptr(),
+            outputs.len(),
+        )
+    }
+}
+
+/// Steps the site of a record: replaces its state and writes its outputs, unless
+/// it is refused.
+pub fn cabinet_step(row: &mut [u8], record: usize, inputs: u64, outputs: &mut [u8]) -> u64 {
+    // SAFETY: each pointer and length are those of one slice, and the two do not
+    // overlap.
+    unsafe {
+        ffi::willowera_cabinet_step(
+            row.as_mut_ptr(),
+            row.len(),
+            record,
+            inputs,
+            outputs.as_mut_ptr(),
+            outputs.len(),
+        )
+    }
+}
+
+/// Takes the site out of a record, and writes its outputs, unless it is refused.
+pub fn cabinet_take_out(row: &mut [u8], record: usize, outputs: &mut [u8]) -> u64 {
+    // SAFETY: each pointer and length are those of one slice, and the two do not
+    // overlap.
+    unsafe {
+        ffi::willowera_cabinet_take_out(
+            row.as_mut_ptr(),
+            row.len(),
+            record,
+            outputs.as_mut_ptr(),
+            outputs.len(),
         )
     }
 }

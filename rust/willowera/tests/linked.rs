@@ -155,3 +155,38 @@ fn buffers_of_no_length() {
     assert_eq!(packed::step(&JUNCTION, &mut [], 0, &mut []), 13);
     assert_eq!(packed::step(&[], &mut [], 0, &mut []), 1);
 }
+
+#[test]
+fn four_sites_in_one_cabinet() {
+    use willowera::{Cabinet, OUTPUTS, ROW_LEN};
+    let refused = |number| Refusal { number, place: 0 };
+    let mut cabinet = Cabinet::new();
+    let mut outputs = [0; OUTPUTS + 1];
+    assert_eq!(cabinet.place(0, &JUNCTION, 0, &mut outputs), Ok(()));
+    let overlapping = cabinet.place(1, &JUNCTION, 1, &mut outputs);
+    assert_eq!(overlapping, Err(refused(25)));
+    assert_eq!(cabinet.place(1, &JUNCTION, 2, &mut outputs), Ok(()));
+    assert_eq!(cabinet.step(1, 0, &mut outputs), Ok(270));
+    assert_eq!(cabinet.step(0, 4, &mut outputs), Err(refused(15)));
+    assert_eq!(cabinet.take_out(2, &mut outputs), Err(refused(24)));
+    assert_eq!(cabinet.take_out(0, &mut outputs), Ok(()));
+    assert_eq!(cabinet.place(3, &JUNCTION, 30, &mut outputs), Ok(()));
+    let past = cabinet.place(2, &JUNCTION, 31, &mut outputs);
+    assert_eq!(past, Err(refused(25)));
+    assert_eq!(cabinet.step(4, 0, &mut outputs), Err(refused(24)));
+    assert_eq!(outputs[..3], [4, 4, 0]);
+    assert_eq!(outputs[2..], [0; 31]);
+    let row = cabinet.row();
+    assert!(row[..520].iter().all(|&byte| byte == 0));
+    assert_eq!(row[520..524], [1, 2, 68, 0]);
+    assert_eq!(row[524..592], JUNCTION);
+    assert_eq!(row[520 + 481..520 + 485], [0, 0, 2, 0]);
+    assert_eq!(Cabinet::of_row(*row), cabinet);
+    assert_eq!(cabinet.take_out(1, &mut outputs[..31]), Err(refused(14)));
+    assert_eq!(
+        packed::cabinet_step(&mut [0; ROW_LEN - 1], 0, 0, &mut []),
+        24
+    );
+    assert_eq!(packed::cabinet_place(&mut [], 0, &[], 40, &mut []), 1);
+    assert_eq!(packed::cabinet_take_out(&mut [], 0, &mut []), 24);
+}

@@ -1,23 +1,50 @@
 -- `road_run::run` meets its contract: blank cells are the road's start, and the results are those of its end.
-use Prim.Native.Nat.{ℕ}
+use Prim.Native.Nat.{ℕ, _+_}
 use mathlib.Core.List.{List}
-use mathlib.Core.Path.{ap, _∙_}
+use mathlib.Core.Path.{_≡_, ap, _∙_}
 use lib.Seq.{sets}
 use native.Mathlib.Omega.{arith}
 use Rattle.road_streams.specs.Road.{streamCount}
+use Rattle.road_step.specs.OnRoad.{OnRoad}
 use Rattle.proof_road.proofs.Streams.{known-streams}
-use Rattle.road_run.proofs.Whole.{start-road, end-results}
+use Rattle.road_run.specs.Whole.{OfPersonality}
+use Rattle.road_run.proofs.Whole.{blank, start-road, end-results}
 use borrow.Author.Needs.{needs}
 use Rattle.road_run.proofs.run.Statement.{statement}
 use Rattle.road_run.proofs.run.Tie as tie
 
-slice-aggregate-road-after : tie.Need-slice-aggregate-road-after
-slice-aggregate-road-after c = search needs
+fresh-requires : tie.Need-fresh-requires
+fresh-requires c κs = search needs
 
-road-after-requires : tie.Need-road-after-requires
-road-after-requires c κs =
-    let some = c .before .before .before .pre in
-    record { b = some .b; road = start-road (some .start) }
+slice-aggregate-road-steps : tie.Need-slice-aggregate-road-steps
+slice-aggregate-road-steps c = search needs
+
+abbrev entry : tie.After-road-steps → tie.Start
+entry c = c .before .before .before .before .before
+
+-- the state that the road begins with is the fresh state
+begun :
+    (c : tie.After-fresh) (b : List ℕ) →
+    let start = c .before .before .before in
+    OfPersonality b (start .args .site) (start .args .streams .now) (start .args .steps) →
+    OnRoad b (start .args .streams .now) (start .args .steps) (start .args .site) 0 (c .fresh .result) blank
+begun c b start = rw (c .fresh .ensures) (start-road start)
+
+road-steps-requires : tie.Need-road-steps-requires
+road-steps-requires c κs =
+    let start = c .before .before .before .before in
+    let some = start .pre in
+    record { b = some .b; whole = start .args .steps; n = 0; enough = omega arith; road = begun (c .before) (some .b) (some .start) }
+
+ended :
+    (c : tie.After-road-steps) (b : List ℕ) →
+    let a = entry c .args in
+    OfPersonality b (a .site) (a .streams .now) (a .steps) →
+    OnRoad b (a .streams .now) (a .steps) (a .site) (a .steps) (c .road-steps .result) (c .road-steps .last .1 .1 .1 .1 .0)
+ended c b start =
+    let steps = entry c .args .steps in
+    let whole : 0 + steps ≡ steps = omega arith in
+    rw whole at (c .road-steps .ensures .road b steps 0 (omega arith) (begun (c .before .before) b start))
 
 slice-aggregate-put-results : tie.Need-slice-aggregate-put-results
 slice-aggregate-put-results c = search needs
@@ -26,9 +53,8 @@ put-results-requires : tie.Need-put-results-requires
 unfolding streamCount
 put-results-requires c κs =
     let ran = c .before .before .before in
-    let some = ran .before .before .before .before .pre in
-    let end = ran .road-after .ensures .road (some .b) (start-road (some .start)) in
-    (end .room, omega (arith, known-streams _ _ _ (some .start .known) .whole, some .enough))
+    let some = entry ran .pre in
+    (ended ran (some .b) (some .start) .room, omega (arith, known-streams _ _ _ (some .start .known) .whole, some .enough))
 
 same-length : tie.Need-same-length
 same-length c = search needs
@@ -39,18 +65,17 @@ returns c =
     let put = c .before .before in
     let ran = put .before .before .before .before in
     record {
-      state = λ b start. ran .road-after .ensures .road b (start-road start) .held;
-      written =
-          λ b start.
-          put .put-results .ensures ∙ ap (λ (l : List ℕ). sets (ran .before .before .before .before .args .results .now) 0 l) (end-results start (ran .road-after .ensures .road b (start-road start)));
+      state = λ b start. ended ran b start .held;
+      written = λ b start. put .put-results .ensures ∙ ap (λ (l : List ℕ). sets (entry ran .args .results .now) 0 l) (end-results start (ended ran b start));
     }
 
 pub run-spec : {M : Type 1} → statement M
 run-spec =
     tie.close
     (tie.spec
-    slice-aggregate-road-after
-    road-after-requires
+    fresh-requires
+    slice-aggregate-road-steps
+    road-steps-requires
     slice-aggregate-put-results
     put-results-requires
     same-length

@@ -3,7 +3,7 @@ use Prim.Native.Nat.{_+_, _*_, _-_, _≤_, _<_}
 use mathlib.Core.Path.{refl, ap, _∙_}
 use lib.ListN.{length}
 use Rattle.road_streams.specs.declared.Stream.{Stream}
-use Rattle.road_streams.specs.Road.{streamCount, streamAt}
+use Rattle.road_streams.specs.Road.{streamCount, streamAt, queues}
 use Rattle.road_step.specs.Cells.{trafficAt}
 use Rattle.road_step.specs.Passes.{MayArrive}
 use Rattle.road_step.proofs.Passes.{ArrivedTo, arrived-none, arrived-more, arrived-all}
@@ -53,9 +53,9 @@ arrived-requires c κs =
 put-at-requires : tie.Need-put-at-requires Inv-loop μ-loop
 put-at-requires c κs = inside (c .before .before .before .before .before)
 
-with-detector-requires : tie.Need-with-detector-requires Inv-loop μ-loop
-with-detector-requires c κs =
-    let put = c .before .before in
+with-bit-requires : tie.Need-with-bit-requires Inv-loop μ-loop
+with-bit-requires c κs =
+    let put = c .before .before .before in
     let read = put .before .before .before in
     rw (read .before .before .stream-at .ensures) (fine (read .before .before .before) .detector)
 
@@ -66,15 +66,16 @@ loop-less : tie.Need-loop-less Inv-loop μ-loop
 loop-less c = search needs
 
 loop-again : tie.Need-loop-again Inv-loop μ-loop
+unfolding queues
 loop-again c =
-    let put = c .before .before .before in
+    let put = c .before .before .before .before in
     let made = put .before .before in
     let read = made .before in
     let seen = read .before .before in
     let turn = seen .before in
     arrived-more (made .arrived .result) (turn .before .loop .inv) (turn .loop-test .taken) (inside turn) (put .put-at .ensures)
     (made .arrived .ensures ∙ cc)
-    (ap (λ (s : Stream). s .detector) (seen .stream-at .ensures)) refl (c .with-detector .ensures)
+    (ap (λ (s : Stream). s .detector) (seen .stream-at .ensures)) refl (c .with-bit .ensures)
 
 same-length : tie.Need-same-length Inv-loop μ-loop
 same-length c = c .before .loop .inv .pass .same
@@ -94,7 +95,7 @@ arrivals-spec =
     traffic-at-requires
     arrived-requires
     put-at-requires
-    with-detector-requires
+    with-bit-requires
     add-i
     loop-less
     loop-again

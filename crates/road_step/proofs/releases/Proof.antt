@@ -1,22 +1,22 @@
 -- `road_step::releases` meets its contract. The loop's invariant: the streams passed have their releases.
 use Prim.Native.Nat.{_+_, _*_, _-_, _≤_, _<_}
-use mathlib.Core.Path.{_∙_}
+use mathlib.Core.Path.{refl, sym, _∙_}
 use lib.ListN.{length}
 use Rattle.road_streams.specs.Road.{streamCount, streamAt}
 use Rattle.road_step.specs.Cells.{trafficAt}
 use Rattle.road_step.specs.Passes.{MayRelease}
 use Rattle.road_step.proofs.Cells.{Passed, passed-none, passed-more}
-use Rattle.road_step.proofs.Passes.{releasing, released-all}
+use Rattle.road_step.proofs.Passes.{coloured, coloured-green, releasing, released-all}
 use borrow.Author.Needs.{needs}
 use native.Mathlib.Omega.{arith}
 use Rattle.road_step.proofs.releases.Statement.{statement}
 use Rattle.road_step.proofs.releases.Tie as tie
 
 abbrev Inv-loop : tie.InvT-loop
-Inv-loop streams colours cells₀ count i₀ cells i = (i ≤ count) × Passed (releasing streams colours) cells₀ cells i
+Inv-loop streams greens cells₀ count i₀ cells i = (i ≤ count) × Passed (releasing streams greens) cells₀ cells i
 
 abbrev μ-loop : tie.MeasureT-loop
-μ-loop streams colours cells₀ count i₀ cells i = count - i
+μ-loop streams greens cells₀ count i₀ cells i = count - i
 
 loop-holds : tie.Need-loop-holds Inv-loop μ-loop
 loop-holds c = (search needs, passed-none)
@@ -24,7 +24,7 @@ loop-holds c = (search needs, passed-none)
 -- ── A turn ──
 
 abbrev entry : tie.At-loop Inv-loop μ-loop → tie.Start Inv-loop μ-loop
-entry c = c .before .before .before .before
+entry c = c .before .before .before
 
 -- the stream is one of those, and its cells are in the row
 within : (c : tie.In-loop Inv-loop μ-loop) → c .before .loop .i < streamCount (entry (c .before) .args .streams .now)
@@ -37,28 +37,20 @@ inside c = omega (arith, within c, entry (c .before) .pre .room, c .before .loop
 -- its traffic is as handed in
 fine :
     (c : tie.In-loop Inv-loop μ-loop) →
-    MayRelease (length (entry (c .before) .args .colours .now)) (streamAt (entry (c .before) .args .streams .now) (c .before .loop .i)) (trafficAt (c .before .loop .cells) (c .before .loop .i))
+    MayRelease (streamAt (entry (c .before) .args .streams .now) (c .before .loop .i)) (trafficAt (c .before .loop .cells) (c .before .loop .i))
 fine c = rw (c .before .loop .inv .1 .left (c .before .loop .i) (omega arith)) (entry (c .before) .pre .each (c .before .loop .i) (within c))
 
 stream-at-requires : tie.Need-stream-at-requires Inv-loop μ-loop
 stream-at-requires c κs = omega (arith, c .loop-test .taken)
 
-cast-byte-in : tie.Need-cast-byte-in Inv-loop μ-loop
-cast-byte-in c = search needs
+is-green-requires : tie.Need-is-green-requires Inv-loop μ-loop
+is-green-requires c κs = rw (c .stream-at .ensures) (omega (arith, fine (c .before) .group))
 
-byte-in-requires : tie.Need-byte-in-requires Inv-loop μ-loop
-byte-in-requires c κs = rw (c .before .stream-at .ensures) (fine (c .before .before) .group)
-
-traffic-at-requires : tie.Need-traffic-at-requires Inv-loop μ-loop
-traffic-at-requires c κs = inside (c .before .before .before .before)
-
-released-requires : tie.Need-released-requires Inv-loop μ-loop
-released-requires c κs =
-    let ok = fine (c .before .before .before .before .before) in
-    rw (c .traffic-at .ensures) (ok .fits, ok .counting)
-
-put-at-requires : tie.Need-put-at-requires Inv-loop μ-loop
-put-at-requires c κs = inside (c .before .before .before .before .before .before .before)
+release-requires : tie.Need-release-requires Inv-loop μ-loop
+release-requires c κs =
+    let turn = c .before .before .before in
+    let ok = fine turn in
+    (inside turn, ok .fits, ok .counting)
 
 add-i : tie.Need-add-i Inv-loop μ-loop
 add-i c = search needs
@@ -68,14 +60,19 @@ loop-less c = search needs
 
 loop-again : tie.Need-loop-again Inv-loop μ-loop
 loop-again c =
-    let put = c .before .before in
-    let made = put .before .before in
-    let read = made .before in
-    let shown = read .before .before in
-    let seen = shown .before .before in
-    let turn = seen .before in (
+    let left = c .before .before in
+    let shown = left .before .before in
+    let seen = shown .before in
+    let turn = seen .before in
+    let i = turn .before .loop .i in
+    let cells = turn .before .loop .cells in
+    let streams = entry (turn .before) .args .streams .now in
+    let greens = entry (turn .before) .args .greens in (
       search needs,
-      passed-more (made .released .result) (turn .before .loop .inv .1) (inside turn) (put .put-at .ensures) (made .released .ensures ∙ cc),
+      passed-more (releasing streams greens i (trafficAt cells i)) (turn .before .loop .inv .1) (inside turn)
+          (left .release .ensures (coloured greens (streamAt streams i .group))
+          (coloured-green greens (streamAt streams i .group) ∙ sym (shown .is-green .ensures ∙ cc)))
+          refl,
     )
 
 same-length : tie.Need-same-length Inv-loop μ-loop
@@ -93,11 +90,8 @@ releases-spec =
     μ-loop
     loop-holds
     stream-at-requires
-    cast-byte-in
-    byte-in-requires
-    traffic-at-requires
-    released-requires
-    put-at-requires
+    is-green-requires
+    release-requires
     add-i
     loop-less
     loop-again

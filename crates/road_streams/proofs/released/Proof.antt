@@ -1,24 +1,31 @@
--- `road_streams::released` meets its contract: green with a queue is counted.
+-- `road_streams::released` meets its contract, by whether this is the 20th step that is counted.
 use borrow.Author.Needs.{needs}
-use mathlib.Core.Path.{refl}
-use lib.Dec.{eqb}
-use Rattle.rules.specs.Colours.{green}
-use Rattle.road_streams.specs.Road.{queues, released}
-use Rattle.laws.proofs.Booleans.{and-right}
+use Rattle.road_streams.proofs.One.{some-queue, one-leaves, nobody-leaves}
 use Rattle.road_streams.proofs.released.Statement.{statement}
 use Rattle.road_streams.proofs.released.Tie as tie
 
-counted-requires : tie.Need-counted-requires
-unfolding queues
-counted-requires c κs = (and-right (eqb (c .before .before .before .args .colour) green) (queues (c .before .before .before .args .traffic)) (c .if1 .taken), search needs, search needs)
+count-after-requires : tie.Need-count-after-requires
+count-after-requires c κs = search needs
+
+sub-t5 : tie.Need-sub-t5
+sub-t5 c =
+    let counted = c .before .before in
+    let a = counted .before .args in
+    some-queue (a .traffic) (a .shows-green) _ (counted .count-after .ensures) (c .before .if1 .taken)
+
+add-t6 : tie.Need-add-t6
+add-t6 c = search needs
 
 returns : tie.Need-returns
-unfolding released queues
-returns c = rw (c .before .if1 .taken) (c .counted .ensures)
+returns c =
+    let counted = c .before .before .before in
+    let a = counted .before .args in
+    λ colour e. one-leaves (a .traffic) (a .shows-green) _ (counted .count-after .ensures) colour e (c .before .before .if1 .taken)
 
 returns-2 : tie.Need-returns-2
-unfolding released queues
-returns-2 c = rw (c .if1 .left) refl
+returns-2 c =
+    let a = c .before .before .args in
+    λ colour e. nobody-leaves (a .traffic) (a .shows-green) _ (c .before .count-after .ensures) colour e (c .if1 .left)
 
 pub released-spec : {M : Type 1} → statement M
-released-spec = tie.close (tie.spec counted-requires returns returns-2)
+released-spec = tie.close (tie.spec count-after-requires sub-t5 add-t6 returns returns-2)

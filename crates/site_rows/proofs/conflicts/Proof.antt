@@ -4,7 +4,7 @@ use Rattle.rules.specs.Personality.{bodyAt, recordAt, groupCount, conflictSet}
 use Rattle.rules.specs.Site.{siteOf}
 use Rattle.proof_acceptance.proofs.Sections.{record-within}
 use Rattle.site_rows.proofs.Ends.{conflicts-end}
-use Rattle.site_rows.proofs.Filling.{Filled, filled-none, filled-more, filled-whole}
+use Rattle.laws.proofs.Rows.{Filled, filled-none, filled-more, filled-whole}
 use borrow.Author.Needs.{needs}
 use native.Mathlib.Omega.{arith}
 use Rattle.site_rows.proofs.conflicts.Statement.{statement}

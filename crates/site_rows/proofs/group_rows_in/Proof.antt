@@ -8,7 +8,7 @@ use Rattle.rules.specs.Site.{noGroup, siteOf}
 use Rattle.site_rows.specs.Fitting.{groupRowsIn}
 use Rattle.proof_acceptance.proofs.Sections.{record-within}
 use Rattle.site_rows.proofs.Ends.{groups-end}
-use Rattle.site_rows.proofs.Filling.{Filled, filled-none, filled-more, filled-whole}
+use Rattle.laws.proofs.Rows.{Filled, filled-none, filled-more, filled-whole}
 use Rattle.site_rows.proofs.Pedestrians.{Passed, passed-none, passed-vehicle, passed-pedestrian, room-left, passed-whole}
 use borrow.Author.Needs.{needs}
 use native.Mathlib.Omega.{arith}

@@ -2,7 +2,7 @@
 use Prim.Native.Nat.{_-_}
 use Rattle.rules.specs.Personality.{phaseCount}
 use Rattle.rules.specs.Site.{orderIn, siteOf}
-use Rattle.site_rows.proofs.Filling.{Filled, filled-none, filled-more, filled-whole}
+use Rattle.laws.proofs.Rows.{Filled, filled-none, filled-more, filled-whole}
 use borrow.Author.Needs.{needs}
 use native.Mathlib.Omega.{arith}
 use Rattle.site_rows.proofs.order.Statement.{statement}

@@ -4,7 +4,7 @@ use Rattle.rules.specs.Personality.{bodyAt, recordAt, phasesHead, phaseCount}
 use Rattle.rules.specs.Site.{noPhaseTimes, phaseTimesAt, timesIn}
 use Rattle.proof_acceptance.proofs.Sections.{record-within}
 use Rattle.site_rows.proofs.Ends.{phases-end}
-use Rattle.site_rows.proofs.Filling.{Filled, filled-none, filled-more, filled-whole}
+use Rattle.laws.proofs.Rows.{Filled, filled-none, filled-more, filled-whole}
 use borrow.Author.Needs.{needs}
 use native.Mathlib.Omega.{arith}
 use Rattle.site_times.proofs.phase_times.Statement.{statement}

@@ -3,7 +3,7 @@ use Prim.Native.Nat.{_-_}
 use Rattle.rules.specs.Personality.{bodyAt, recordAt, movementCount}
 use Rattle.rules.specs.Site.{noWalkTimes, walkTimesAt, timesIn}
 use Rattle.proof_acceptance.proofs.Sections.{record-within}
-use Rattle.site_rows.proofs.Filling.{Filled, filled-none, filled-more, filled-whole}
+use Rattle.laws.proofs.Rows.{Filled, filled-none, filled-more, filled-whole}
 use borrow.Author.Needs.{needs}
 use native.Mathlib.Omega.{arith}
 use Rattle.site_times.proofs.walk_times.Statement.{statement}

@@ -1,6 +1,6 @@
 -- `willowera::willowera_section` meets its contract, by the two cases of the lookup's verdict.
 use mathlib.Core.Path.{sym, _∙_}
-use Rattle.willowera.proofs.Answers.{section-near, section-refused, section-found}
+use Rattle.willowera.proofs.SectionAnswers.{section-near, section-refused, section-found}
 use borrow.Author.Needs.{needs}
 use Rattle.willowera.proofs.willowera_section.Statement.{statement}
 use Rattle.willowera.proofs.willowera_section.Tie as tie

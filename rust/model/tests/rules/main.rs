@@ -1,6 +1,7 @@
 //! The rules of document 01, and of the requests of document 02 that are built,
 //! case by case.
 
+mod cabinet;
 mod calls;
 mod demanded;
 mod early_cut_off;

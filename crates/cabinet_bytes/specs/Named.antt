@@ -1,0 +1,12 @@
+-- Internal: no promise cites this file. What the inner functions ask of a row and a record.
+use Prim.Native.Nat.{ℕ, _<_}
+use mathlib.Core.List.{List}
+use mathlib.Core.Path.{_≡_}
+use lib.ListN.{length}
+use Rattle.cabinet_records.specs.Cabinet.{recordCount}
+use Rattle.cabinet_records.specs.Layout.{rowBytes}
+
+-- the bytes are a row, and it has record k
+pub record Named (b : List ℕ) (k : ℕ) : Type 0 where
+  pub long : length b ≡ rowBytes
+  pub below : k < recordCount

@@ -1,0 +1,4 @@
+pub mod Bytes
+pub mod Checks
+pub mod Taking
+pub mod Steps

@@ -1,0 +1,57 @@
+-- `cabinet_held::held_taking` meets its contract, by the two cases of the verdict.
+use native.Mathlib.Omega.{arith}
+use mathlib.Core.Path.{_≡_, sym, _∙_}
+use Rattle.cabinet_held.proofs.Taking.{taking-within, taking-refused, taking-accepted}
+use borrow.Author.Needs.{needs}
+use Rattle.cabinet_held.proofs.held_taking.Statement.{statement}
+use Rattle.cabinet_held.proofs.held_taking.Tie as tie
+
+taking-checks-requires : tie.Need-taking-checks-requires
+taking-checks-requires c κs = search needs
+
+enum-told : tie.Need-enum-told
+enum-told c = search needs
+
+returns : tie.Need-returns
+returns c =
+    let asked = c .before .before .taking-checks in
+    (asked .ensures, taking-refused _ _ _ (asked .ensures) (c .enum-told .given .1))
+
+enum-told-2 : tie.Need-enum-told-2
+enum-told-2 c = search needs
+
+outputs-of-requires : tie.Need-outputs-of-requires
+outputs-of-requires c κs = search needs
+
+cast-fill : tie.Need-cast-fill
+cast-fill c = search needs
+
+fill-requires : tie.Need-fill-requires
+fill-requires c κs =
+    let asked = c .before .before .before .before .taking-checks in
+    let told = c .before .before .enum-told2 .given .1 in
+    omega (arith, taking-within _ _ (sym (asked .ensures) ∙ told), c .outputs-of .ensures)
+
+same-length : tie.Need-same-length
+same-length c = search needs
+
+returns-2 : tie.Need-returns-2
+returns-2 c =
+    let filled = c .before .before in
+    let told = filled .before .before .before in
+    let asked = told .before .before .taking-checks in
+    (asked .ensures, filled .fill .ensures ∙ taking-accepted _ _ _ (asked .ensures) (told .enum-told2 .given .1) (filled .before .outputs-of .ensures))
+
+pub held-taking-spec : {M : Type 1} → statement M
+held-taking-spec =
+    tie.close
+    (tie.spec
+    taking-checks-requires
+    enum-told
+    returns
+    enum-told-2
+    outputs-of-requires
+    cast-fill
+    fill-requires
+    same-length
+    returns-2)

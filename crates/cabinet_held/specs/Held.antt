@@ -1,0 +1,69 @@
+-- Internal: no promise cites this file. The calls of a cabinet by what a record holds: the parts of specs/Cabinet.antt of `cabinet_records` that do not look at the row.
+use Prim.Native.Nat.{ℕ, _≤_}
+use mathlib.Core.Bool.{Bool, not}
+use mathlib.Core.List.{List}
+use mathlib.Core.Path.{_≡_}
+use lib.Dec.{ltb}
+use lib.ListN.{length, replicate}
+use Rattle.rules.specs.declared.answer.Verdict.{Verdict}
+use Rattle.rules.specs.declared.answer.Verdict.the-variants.{Accepted, Refused}
+use Rattle.rules.specs.Laws.{greatestLength}
+use Rattle.rules.specs.Personality.{verdictOf}
+use Rattle.rules.specs.Verdicts.{_orElse_, refuseIf}
+use Rattle.call_bytes.specs.CallBytes.{packedVerdict, stepAnswer, stateAfter, coloursAfter}
+use Rattle.cabinet_records.specs.Cabinet.{dark, outputsOf, pastLast, outputsIn, writtenAt}
+
+-- no place is above the length of the longest personality
+abbrev pub Near : Verdict → Type 0
+Near v = (number place : ℕ) → v ≡ Refused number place → place ≤ greatestLength
+
+-- ── Checks ──
+
+-- stepping and taking out, once the record is held
+unfoldable pub heldChecks : List ℕ → ℕ → Verdict
+heldChecks b first = verdictOf b orElse refuseIf (pastLast first (outputsOf b)) 25 0
+
+unfoldable pub takingChecks : List ℕ → ℕ → ℕ → Verdict
+takingChecks b first room = heldChecks b first orElse refuseIf (ltb room 32) 14 0
+
+-- placing, by whether the record is free and whether its outputs are taken
+unfoldable pub placingChecks : List ℕ → Bool → Bool → ℕ → Verdict
+placingChecks b free taken room =
+    verdictOf b orElse refuseIf (not free) 24 0 orElse refuseIf taken 25 0 orElse refuseIf (ltb room 32) 14 0
+
+-- ── Taking out ──
+
+unfoldable pub darkenedFor : Verdict → List ℕ → List ℕ → List ℕ
+darkenedFor Accepted new old = new
+darkenedFor (Refused number place) new old = old
+
+-- the outputs after taking out
+unfoldable pub darkened : List ℕ → ℕ → List ℕ → List ℕ
+darkened b first out =
+    darkenedFor (takingChecks b first (length out)) (writtenAt out first (replicate (outputsOf b) dark)) out
+
+-- ── A step ──
+
+-- the answer, and the bytes of the state and the outputs as the call returns
+pub record HeldStep : Type 0 where
+  pub answer : ℕ
+  pub state : List ℕ
+  pub outputs : List ℕ
+
+unfoldable pub heldStepFor : Verdict → HeldStep → List ℕ → List ℕ → HeldStep
+heldStepFor Accepted done old out = done
+heldStepFor (Refused number place) done old out =
+    record { answer = packedVerdict (Refused number place); state = old; outputs = out }
+
+-- the step call on the held personality, lent its own outputs
+unfoldable pub heldStepped : List ℕ → ℕ → List ℕ → ℕ → List ℕ → List ℕ → HeldStep
+heldStepped b first old inputs out part =
+    record {
+      answer = stepAnswer b old inputs (length part);
+      state = stateAfter b old inputs (length part);
+      outputs = writtenAt out first (coloursAfter b old inputs part);
+    }
+
+unfoldable pub heldStep : List ℕ → ℕ → List ℕ → ℕ → List ℕ → HeldStep
+heldStep b first old inputs out =
+    heldStepFor (heldChecks b first) (heldStepped b first old inputs out (outputsIn out first (outputsOf b))) old out

@@ -1,0 +1,180 @@
+// The calls of a cabinet on the personality that a record holds: what they check, and what they write to the outputs. They take slices, so
+// that a row of structs and a row of bytes share them.
+ghost use Prim.Native.Nat.{_≤_};
+ghost use mathlib.Core.Bool.{_&&_};
+ghost use mathlib.Core.Path.{_≡_};
+ghost use lib.ListN.{length};
+ghost use Rattle.rules.specs.Personality.{verdictOf};
+ghost use Rattle.call_bytes.specs.CallBytes.{packedVerdict};
+ghost use Rattle.cabinet_records.specs.Cabinet.{outputsOf, isAccepted, meet, pastLast};
+ghost use Rattle.cabinet_held.specs.Held.{Near, heldChecks, takingChecks, placingChecks, darkened, heldStep};
+
+pub mod fills;
+
+use rules::answer::Verdict;
+
+// The colour of an output without a site.
+const DARK: u8 = 4;
+
+// How many outputs a personality has.
+pub fn outputs_of(personality: &[u8]) -> u8
+    ensures { λ r. ⌜ r ≡ outputsOf (now (personality .entry)) ⌝ }
+{
+    base_bytes::byte_at(personality, 5)
+}
+
+// Whether a personality would be accepted.
+fn is_accepted(personality: &[u8]) -> bool
+    ensures { λ r. ⌜ r ≡ isAccepted (verdictOf (now (personality .entry))) ⌝ }
+{
+    let verdict = read_personality::read(personality);
+    match verdict {
+        Verdict::Accepted => true,
+        Verdict::Refused { .. } => false,
+    }
+}
+
+// Whether outputs from `first` on go past the 32nd. The first output may be any number.
+pub fn past_last(first: usize, count: u8) -> bool
+    ensures { λ r. ⌜ r ≡ pastLast first count ⌝ }
+{
+    if 32 < first {
+        return true;
+    }
+    32 < first + count as usize
+}
+
+fn meet(first: usize, count: u8, own: u8, outputs: u8) -> bool
+    requires { ⌜ first ≤ 32 ⌝ }
+    ensures { λ r. ⌜ r ≡ meet first count own outputs ⌝ }
+{
+    (first < own as usize + outputs as usize) & ((own as usize) < first + count as usize)
+}
+
+// Whether a personality whose outputs begin at `own` would be accepted and has one of the `count` outputs from `first` on. The outputs are
+// compared first, because most of them do not meet and then nothing has to be read.
+pub fn meets(personality: &[u8], own: u8, first: usize, count: u8) -> bool
+    requires { ⌜ first ≤ 32 ⌝ }
+    ensures { λ r. ⌜ r ≡ (isAccepted (verdictOf (now (personality .entry))) && meet first count own (outputsOf (now (personality .entry)))) ⌝ }
+{
+    if meet(first, count, own, outputs_of(personality)) {
+        return is_accepted(personality);
+    }
+    false
+}
+
+// The number and place of a refusal as one number, 0 if there is none.
+pub fn packed_verdict(verdict: Verdict) -> u64
+    requires { ⌜ Near verdict ⌝ }
+    ensures { λ r. ⌜ r ≡ packedVerdict verdict ⌝ }
+{
+    match verdict {
+        Verdict::Accepted => 0,
+        Verdict::Refused { number, place } => call_bytes::refusal(number, place),
+    }
+}
+
+// The checks of placing: the personality's own, then 24, 25 and 14.
+pub fn placing_checks(personality: &[u8], free: bool, taken: bool, room: usize) -> Verdict
+    ensures { λ r. ⌜ r ≡ placingChecks (now (personality .entry)) free taken room ⌝ }
+{
+    let verdict = read_personality::read(personality);
+    if let Verdict::Refused { .. } = verdict {
+        return verdict;
+    }
+    if !free {
+        return Verdict::Refused {
+            number: 24,
+            place: 0,
+        };
+    }
+    if taken {
+        return Verdict::Refused {
+            number: 25,
+            place: 0,
+        };
+    }
+    if room < 32 {
+        return Verdict::Refused {
+            number: 14,
+            place: 0,
+        };
+    }
+    Verdict::Accepted
+}
+
+// The checks of a held personality: its own, then 25.
+fn held_checks(personality: &[u8], first: u8) -> Verdict
+    ensures { λ r. ⌜ r ≡ heldChecks (now (personality .entry)) first ⌝ }
+{
+    let verdict = read_personality::read(personality);
+    if let Verdict::Refused { .. } = verdict {
+        return verdict;
+    }
+    if past_last(first as usize, outputs_of(personality)) {
+        return Verdict::Refused {
+            number: 25,
+            place: 0,
+        };
+    }
+    Verdict::Accepted
+}
+
+// The checks of taking out: those of a held personality, then 14.
+fn taking_checks(personality: &[u8], first: u8, room: usize) -> Verdict
+    ensures { λ r. ⌜ r ≡ takingChecks (now (personality .entry)) first room ⌝ }
+{
+    let verdict = held_checks(personality, first);
+    if let Verdict::Refused { .. } = verdict {
+        return verdict;
+    }
+    if room < 32 {
+        return Verdict::Refused {
+            number: 14,
+            place: 0,
+        };
+    }
+    Verdict::Accepted
+}
+
+// Turns the outputs of a held personality dark, if it may be taken out.
+pub fn held_taking(personality: &[u8], first: u8, outputs: &mut [u8]) -> Verdict
+    ensures { λ r. ⌜ (r ≡ takingChecks (now (personality .entry)) first (length (now (outputs .entry))))
+        × (now (outputs .exit) ≡ darkened (now (personality .entry)) first (now (outputs .entry))) ⌝ }
+{
+    let verdict = taking_checks(personality, first, outputs.len());
+    if let Verdict::Refused { .. } = verdict {
+        return verdict;
+    }
+    fills::fill(
+        outputs,
+        first as usize,
+        outputs_of(personality) as usize,
+        DARK,
+    );
+    verdict
+}
+
+// A step call on a held personality, lent its own outputs. A buffer under 32 bytes lends none, so that the step itself answers 13, 15 or 14.
+// The personality is read once: if its outputs end in time, only the step reads it.
+pub fn held_step(
+    personality: &[u8],
+    first: u8,
+    state: &mut [u8],
+    inputs: u64,
+    outputs: &mut [u8],
+) -> u64
+    ensures { λ r. ⌜ record { answer = r; state = now (state .exit); outputs = now (outputs .exit) }
+        ≡ heldStep (now (personality .entry)) first (now (state .entry)) inputs (now (outputs .entry)) ⌝ }
+{
+    let start = first as usize;
+    let count = outputs_of(personality);
+    if past_last(start, count) {
+        return packed_verdict(held_checks(personality, first));
+    }
+    if outputs.len() < 32 {
+        return call_bytes::step(personality, state, inputs, &mut outputs[..0]);
+    }
+    let end = start + count as usize;
+    call_bytes::step(personality, state, inputs, &mut outputs[start..end])
+}

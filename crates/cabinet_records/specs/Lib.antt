@@ -1,0 +1,5 @@
+pub mod Cabinet
+pub mod CabinetCases
+pub mod CabinetLaws
+pub mod Layout
+pub mod RowRoundTrips

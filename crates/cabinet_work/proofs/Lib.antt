@@ -1,0 +1,4 @@
+pub mod Room
+pub mod Placed
+pub mod Held
+pub mod Rows

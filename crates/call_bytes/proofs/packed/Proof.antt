@@ -1,0 +1,19 @@
+-- `call_bytes::packed` meets its contract: the sum is the definition's.
+use mathlib.Core.Path.{refl}
+use Rattle.call_bytes.specs.CallBytes.{packed}
+use borrow.Author.Needs.{needs}
+use Rattle.call_bytes.proofs.packed.Statement.{statement}
+use Rattle.call_bytes.proofs.packed.Tie as tie
+
+mul-result : tie.Need-mul-result
+mul-result c = search needs
+
+add-result : tie.Need-add-result
+add-result c = search needs
+
+returns : tie.Need-returns
+unfolding packed
+returns c = refl
+
+pub packed-spec : {M : Type 1} → statement M
+packed-spec = tie.close (tie.spec mul-result add-result returns)

@@ -1,0 +1,163 @@
+-- `call_bytes::step` meets its contract: a refused personality, bytes that are no state, a refused step and a step.
+use mathlib.Core.Bool.{true}
+use mathlib.Core.Path.{_≡_, sym, _∙_}
+use borrow.Author.Needs.{needs}
+use borrow.Author.Tests.{not-true, not-false}
+use Rattle.rules.specs.declared.answer.Verdict.the-variants.{Accepted}
+use Rattle.rules.specs.Personality.{verdictOf}
+use Rattle.state_bytes.specs.Layout.{isState}
+use Rattle.call_bytes.proofs.Answers.{refused-near, refuses, no-state, answer-near, steps-on, stays}
+use Rattle.call_bytes.proofs.step.Statement.{statement}
+use Rattle.call_bytes.proofs.step.Tie as tie
+
+-- ── A refused personality ──
+
+read-with-layout-requires : tie.Need-read-with-layout-requires
+read-with-layout-requires c κs = search needs
+
+enum-known-verdict : tie.Need-enum-known-verdict
+enum-known-verdict c = search needs
+
+refusal-requires : tie.Need-refusal-requires
+refusal-requires c κs =
+    let read = c .before .before .before .read-with-layout in
+    refused-near _ (read .result .verdict) (read .ensures .0) (c .before .verdict .given .1)
+
+returns : tie.Need-returns
+returns c =
+    let asked = c .before .before .before .before in
+    let a = asked .before .before .before .before .args in
+    refuses (a .personality .now) (a .state .now) (a .colours .now) (a .inputs) (c .refusal .result) (asked .read-with-layout .result .verdict)
+    (asked .read-with-layout .ensures .0)
+    (c .before .before .verdict .given .1)
+    (c .refusal .ensures)
+
+-- ── An accepted one, and bytes that are no state ──
+
+enum-told : tie.Need-enum-told
+enum-told c = search needs
+
+abbrev start : tie.After-enum-told → tie.Start
+start c = c .before .before .before .before .before .before
+
+accepted : (c : tie.After-enum-told) → verdictOf (start c .args .personality .now) ≡ Accepted
+accepted c = sym (c .before .before .read-with-layout .ensures .0) ∙ c .enum-told .given .1
+
+is-state-requires : tie.Need-is-state-requires
+is-state-requires c κs = search needs
+
+refusal-requires-2 : tie.Need-refusal-requires-2
+refusal-requires-2 c κs = search needs
+
+same-length : tie.Need-same-length
+same-length c = search needs
+
+returns-2 : tie.Need-returns-2
+returns-2 c =
+    let tested = c .before .before in
+    let told = tested .before .before in
+    let a = start told .args in
+    no-state (a .personality .now) (a .state .now) (a .colours .now) (a .inputs) (c .refusal2 .result) (accepted told)
+    (sym (tested .is-state .ensures) ∙ not-true (tested .is-state .result) (c .before .if1 .taken))
+    (c .refusal2 .ensures)
+
+-- ── A state: the step, refused or not ──
+
+abbrev told : tie.Else1 → tie.After-enum-told
+told c = c .before .before .before
+
+known : (c : tie.Else1) → isState (start (told c) .args .state .now) ≡ true
+known c = sym (c .before .is-state .ensures) ∙ not-false (c .before .is-state .result) (c .if1 .left)
+
+decoded-requires : tie.Need-decoded-requires
+decoded-requires c κs = known (c .before .before)
+
+step-accepted-requires : tie.Need-step-accepted-requires
+step-accepted-requires c κs =
+    let read = told (c .before .before .before .before) in
+    (accepted read, read .before .before .read-with-layout .ensures .1)
+
+enum-known-outcome : tie.Need-enum-known-outcome
+enum-known-outcome c = search needs
+
+encode-requires : tie.Need-encode-requires
+encode-requires c κs = search needs
+
+packed-requires : tie.Need-packed-requires
+packed-requires c κs = search needs
+
+enum-known-outcome-2 : tie.Need-enum-known-outcome-2
+enum-known-outcome-2 c = search needs
+
+-- where the state's bytes are known, from the step on
+abbrev past : tie.After-step-accepted → tie.Else1
+past c = c .before .before .before .before .before
+
+refusal-requires-3 : tie.Need-refusal-requires-3
+refusal-requires-3 c κs =
+    let called = c .before .before .before .before .before in
+    let a = start (told (past called)) .args in
+    answer-near (a .personality .now) (called .before .before .decoded .result) (a .inputs) (a .colours .now) (called .step-accepted .result) _
+    (called .step-accepted .ensures)
+    (c .before .outcome2 .given .1)
+
+same-length-2 : tie.Need-same-length-2
+same-length-2 c = search needs
+
+same-length-3 : tie.Need-same-length-3
+same-length-3 c = search needs
+
+returns-3 : tie.Need-returns-3
+returns-3 c =
+    let moved = c .before .before .before .before .before .before in
+    let called = moved .before .before .before .before in
+    let a = start (told (past called)) .args in
+    steps-on (a .personality .now) (a .state .now) (a .colours .now) (a .inputs) (c .packed .result) (known (past called))
+    (called .before .before .decoded .ensures)
+    (called .step-accepted .ensures) _
+    (moved .outcome .given .1)
+    (c .before .before .before .encode .ensures .1)
+    (c .packed .ensures)
+
+same-length-4 : tie.Need-same-length-4
+same-length-4 c = search needs
+
+same-length-5 : tie.Need-same-length-5
+same-length-5 c = search needs
+
+returns-4 : tie.Need-returns-4
+returns-4 c =
+    let called = c .before .before .before .before .before .before in
+    let a = start (told (past called)) .args in
+    stays (a .personality .now) (a .state .now) (a .colours .now) (a .inputs) (c .refusal3 .result) (known (past called))
+    (called .before .before .decoded .ensures)
+    (called .step-accepted .ensures)
+    (c .before .before .outcome2 .given .1)
+    (c .refusal3 .ensures)
+
+pub step-spec : {M : Type 1} → statement M
+step-spec =
+    tie.close
+    (tie.spec
+    read-with-layout-requires
+    enum-known-verdict
+    refusal-requires
+    returns
+    enum-told
+    is-state-requires
+    refusal-requires-2
+    same-length
+    returns-2
+    decoded-requires
+    step-accepted-requires
+    enum-known-outcome
+    encode-requires
+    packed-requires
+    enum-known-outcome-2
+    refusal-requires-3
+    same-length-2
+    same-length-3
+    returns-3
+    same-length-4
+    same-length-5
+    returns-4)

@@ -1,0 +1,7 @@
+pub mod Placed
+pub mod Runs
+pub mod Apart
+pub mod Shows
+pub mod Answers
+pub mod Shapes
+pub mod Bytes

@@ -1,0 +1,96 @@
+-- Records keep the lengths of their arrays: room for the longest personality, and the bytes of a state.
+use Prim.Native.Nat.{ℕ, _-_, _≤_, _<_}
+use mathlib.Core.Bool.{Bool, true, false}
+use mathlib.Core.List.{List}
+use mathlib.Core.Logic.{⊎-elim}
+use mathlib.Core.Path.{_≡_, refl, sym, subst, ap, _∙_}
+use native.Mathlib.Omega.{arith}
+use lib.ListN.{length, getD, set, replicate, length-append, length-set, length-replicate, List·getD-eq-default}
+use lib.Seq.{getD-set-same, getD-set-other}
+use Rattle.rules.specs.declared.answer.Outcome.{Outcome}
+use Rattle.rules.specs.declared.answer.Outcome.the-variants.{Stepped, StepRefused}
+use Rattle.rules.specs.declared.answer.Verdict.{Verdict}
+use Rattle.rules.specs.declared.answer.Verdict.the-variants.{Accepted, Refused}
+use Rattle.rules.specs.declared.state.KeptState.{KeptState}
+use Rattle.laws.specs.Folds.{if_then_else_}
+use Rattle.laws.proofs.Indices.{below-or-past, same-or-apart}
+use Rattle.rules.specs.Personality.{verdictOf}
+use Rattle.rules.specs.Kept.{freshKept}
+use Rattle.rules.specs.Laws.{greatestLength, AcceptedIsShort}
+use Rattle.proof_acceptance.proofs.Refusals.{accepted-is-short}
+use Rattle.state_bytes.specs.Layout.{stateBytes, isState, encoded}
+use Rattle.state_bytes.proofs.RoundTrips.{encoded-has-39}
+use Rattle.call_bytes.specs.CallBytes.{stateFor, stateAfter}
+use Rattle.cabinet_records.specs.declared.Record.{Record}
+use Rattle.cabinet_records.specs.Cabinet.{personalityOf, freeRecord, holding, withState, recordOf, ownOutputs, placingVerdict, heldVerdict, takingVerdict, Returned, returnedFor, placing, stepped, stepping, takingOut, placeSite, stepSite, takeOut, doing}
+use Rattle.cabinet_records.specs.Layout.{Shaped}
+use Rattle.cabinet_records.proofs.Checks.{placing-read}
+use Rattle.cabinet_records.proofs.RowBytes.{free-shape}
+use Rattle.proof_cabinet.specs.CabinetAnswers.{ShapeStays}
+
+-- ── The bytes of a state ──
+
+state-for : (o : Outcome) (next : KeptState) (old : List ℕ) → length old ≡ stateBytes → length (stateFor o next old) ≡ stateBytes
+unfolding stateFor
+state-for (Stepped wait) next old e = encoded-has-39 next
+state-for (StepRefused number place) next old e = e
+
+after-for : (t : Bool) (o : Outcome) (next : KeptState) (old : List ℕ) → length old ≡ stateBytes → length (if t then stateFor o next old else old) ≡ stateBytes
+after-for true o next old e = state-for o next old e
+after-for false o next old e = e
+
+after-length : (b old : List ℕ) (inputs room : ℕ) → length old ≡ stateBytes → length (stateAfter b old inputs room) ≡ stateBytes
+unfolding stateAfter
+after-length b old inputs room e = after-for (isState old) _ _ old e
+
+-- ── The records that calls store ──
+
+holding-shape : (b : List ℕ) (first : ℕ) → verdictOf b ≡ Accepted → Shaped (holding b first (encoded freshKept))
+unfolding holding AcceptedIsShort
+holding-shape b first e =
+    let rest : List ℕ = replicate (greatestLength - length b) 0 in
+    record {
+      personality = omega (arith, accepted-is-short .1 b e, length-append b rest, length-replicate {A = ℕ} (greatestLength - length b) 0);
+      state = encoded-has-39 freshKept;
+    }
+
+stepped-shape : (r : Record) (inputs room : ℕ) → Shaped r → Shaped (withState r (stateAfter (personalityOf r) (r .state) inputs room))
+unfolding withState
+stepped-shape r inputs room shaped =
+    record { personality = shaped .personality; state = after-length (personalityOf r) (r .state) inputs room (shaped .state) }
+
+-- ── The row ──
+
+set-shape : (row : List Record) → ((j : ℕ) → Shaped (recordOf row j)) → (k : ℕ) (r : Record) → Shaped r → (j : ℕ) → Shaped (recordOf (set row k r) j)
+unfolding recordOf
+set-shape row shaped k r new j =
+    ⊎-elim
+    (λ (same : j ≡ k).
+    ⊎-elim
+    (λ (below : k < length row).
+    subst Shaped (sym (ap (λ (m : ℕ). getD (set row k r) m freeRecord) same ∙ getD-set-same row k r freeRecord below)) new)
+    (λ (past : length row ≤ k).
+    subst Shaped (sym (List·getD-eq-default (set row k r) freeRecord (omega (arith, same, length-set row k r, past)))) free-shape)
+    (below-or-past k (length row)))
+    (λ (other : j ≡ k → ⊥). subst Shaped (sym (getD-set-other row k j r freeRecord other)) (shaped j))
+    (same-or-apart j k)
+
+shape-for :
+    (v : Verdict) (done : Returned (List Record)) (row : List Record) (out : List ℕ) →
+    ((j : ℕ) → Shaped (recordOf row j)) →
+    (v ≡ Accepted → (j : ℕ) → Shaped (recordOf (done .row) j)) →
+    (j : ℕ) → Shaped (recordOf (returnedFor v done row out .row) j)
+unfolding returnedFor
+shape-for Accepted done row out shaped h = h refl
+shape-for (Refused number place) done row out shaped h = shaped
+
+pub shape-stays : ShapeStays
+unfolding ShapeStays doing placing stepping stepped takingOut
+shape-stays row out (placeSite b k first) shaped =
+    shape-for (placingVerdict row out b k first) _ row out shaped
+    (λ e. set-shape row shaped k _ (holding-shape b first (placing-read row out b k first e)))
+shape-stays row out (stepSite k inputs) shaped =
+    shape-for (heldVerdict row k) _ row out shaped
+    (λ e. set-shape row shaped k _ (stepped-shape (recordOf row k) inputs (length (ownOutputs (recordOf row k) out)) (shaped k)))
+shape-stays row out (takeOut k) shaped =
+    shape-for (takingVerdict row out k) _ row out shaped (λ e. set-shape row shaped k freeRecord free-shape)

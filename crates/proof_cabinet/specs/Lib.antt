@@ -1,0 +1,2 @@
+pub mod CabinetRuns
+pub mod CabinetAnswers

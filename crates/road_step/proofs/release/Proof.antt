@@ -1,0 +1,74 @@
+-- `road_step::release` meets its contract: green is released by `road_streams::released`, and any other colour sets the count to 0.
+use Prim.Native.Nat.{ℕ}
+use mathlib.Core.List.{List}
+use mathlib.Core.Path.{sym, ap, _∙_}
+use Rattle.road_streams.specs.declared.Traffic.{Traffic}
+use Rattle.road_streams.specs.Road.{released}
+use Rattle.road_step.specs.Cells.{putAt}
+use Rattle.road_step.proofs.Cells.{count-cleared}
+use borrow.Author.Needs.{needs}
+use Rattle.road_step.proofs.release.Statement.{statement}
+use Rattle.road_step.proofs.release.Tie as tie
+
+traffic-at-requires : tie.Need-traffic-at-requires
+traffic-at-requires c κs = search needs
+
+released-requires : tie.Need-released-requires
+released-requires c κs =
+    let pre = c .before .before .before .before .pre in
+    rw (c .traffic-at .ensures) (pre .1, pre .2)
+
+put-at-requires : tie.Need-put-at-requires
+put-at-requires c κs = search needs
+
+same-length : tie.Need-same-length
+same-length c = search needs
+
+returns : tie.Need-returns
+returns c =
+    let put = c .before .before in
+    let made = put .before .before in
+    let read = made .before in
+    let chosen = read .before .before in
+    let a = chosen .before .before .args in
+    λ colour e.
+    put .put-at .ensures
+    ∙ ap (putAt (a .cells .now) (a .i))
+    (made .released .ensures colour (e ∙ chosen .if1 .taken) ∙ ap (released colour) (read .traffic-at .ensures))
+
+mul-cells : tie.Need-mul-cells
+mul-cells c = search needs
+
+add-cells : tie.Need-add-cells
+add-cells c = search needs
+
+mul-cells-2 : tie.Need-mul-cells-2
+mul-cells-2 c = search needs
+
+slice-write-cells : tie.Need-slice-write-cells
+slice-write-cells c = search needs
+
+same-length-2 : tie.Need-same-length-2
+same-length-2 c = search needs
+
+returns-2 : tie.Need-returns-2
+unfolding released
+returns-2 c =
+    let a = c .before .before .args in
+    λ colour e. rw (e, c .if1 .left) (count-cleared (a .cells .now) (a .i))
+
+pub release-spec : {M : Type 1} → statement M
+release-spec =
+    tie.close
+    (tie.spec
+    traffic-at-requires
+    released-requires
+    put-at-requires
+    same-length
+    returns
+    mul-cells
+    add-cells
+    mul-cells-2
+    slice-write-cells
+    same-length-2
+    returns-2)

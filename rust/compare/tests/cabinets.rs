@@ -1,0 +1,502 @@
+//! A plain cabinet over read and step calls agrees with the model, and cabinets
+//! that are wrong in one small thing are noticed.
+
+use compare::{run_cases, Difference};
+use model::packed::{number, Board, Model};
+use model::{State, STATE_LEN};
+use std::ops::Range;
+
+/// The points in which a plain cabinet may go wrong.
+#[derive(Clone, Copy, Debug, PartialEq, Eq)]
+enum Fault {
+    None,
+    // The row and its records.
+    TakesLongerRows,
+    TakesShorterRows,
+    RecordInTwoBits,
+    HeldByOneOnly,
+    LengthAboveRefused,
+    LengthInNineBits,
+    // The outputs.
+    RefusesLastOutput,
+    TakesOneOutputMore,
+    FirstWraps,
+    FirstInOneByte,
+    NeighboursOverlap,
+    OverlapByFirstOnly,
+    OverlapWithOneRecordOnly,
+    FreeRecordsTakeOutputs,
+    RefusedRecordsTakeOutputs,
+    RecordsPastTheLastTakeNone,
+    BadStatesTakeNone,
+    BufferByGroups,
+    // The order of refusals.
+    RecordBeforePersonality,
+    OutputsBeforeRecord,
+    BufferBeforeOutputs,
+    PersonalityBeforeRecord,
+    StateBeforeOutputs,
+    BufferBeforeInputs,
+    InputsBeforeState,
+    TakingOutLooksAtState,
+    PlaceGiven,
+    // What is written.
+    PlacesInHeldRecords,
+    KeepsBytesBehind,
+    KeepsOldState,
+    HeldByItsNumber,
+    StaysDark,
+    PlacesAllRed,
+    PlacingAnswersWait,
+    StepsFreeRecords,
+    StepWritesFromZero,
+    StepWritesRestRed,
+    StepHoldsByOne,
+    StepClearsBehind,
+    StepCutsLength,
+    StepAnswersNothing,
+    TakesOutFreeRecords,
+    TakesOutRefused,
+    TakingOutKeepsBytes,
+    TakingOutLeavesRed,
+    TakesAllDark,
+    WritesWhenRefused,
+    WritesPastTheLast,
+}
+
+const FAULTS: [Fault; 48] = [
+    Fault::TakesLongerRows,
+    Fault::TakesShorterRows,
+    Fault::RecordInTwoBits,
+    Fault::HeldByOneOnly,
+    Fault::LengthAboveRefused,
+    Fault::LengthInNineBits,
+    Fault::RefusesLastOutput,
+    Fault::TakesOneOutputMore,
+    Fault::FirstWraps,
+    Fault::FirstInOneByte,
+    Fault::NeighboursOverlap,
+    Fault::OverlapByFirstOnly,
+    Fault::OverlapWithOneRecordOnly,
+    Fault::FreeRecordsTakeOutputs,
+    Fault::RefusedRecordsTakeOutputs,
+    Fault::RecordsPastTheLastTakeNone,
+    Fault::BadStatesTakeNone,
+    Fault::BufferByGroups,
+    Fault::RecordBeforePersonality,
+    Fault::OutputsBeforeRecord,
+    Fault::BufferBeforeOutputs,
+    Fault::PersonalityBeforeRecord,
+    Fault::StateBeforeOutputs,
+    Fault::BufferBeforeInputs,
+    Fault::InputsBeforeState,
+    Fault::TakingOutLooksAtState,
+    Fault::PlaceGiven,
+    Fault::PlacesInHeldRecords,
+    Fault::KeepsBytesBehind,
+    Fault::KeepsOldState,
+    Fault::HeldByItsNumber,
+    Fault::StaysDark,
+    Fault::PlacesAllRed,
+    Fault::PlacingAnswersWait,
+    Fault::StepsFreeRecords,
+    Fault::StepWritesFromZero,
+    Fault::StepWritesRestRed,
+    Fault::StepHoldsByOne,
+    Fault::StepClearsBehind,
+    Fault::StepCutsLength,
+    Fault::StepAnswersNothing,
+    Fault::TakesOutFreeRecords,
+    Fault::TakesOutRefused,
+    Fault::TakingOutKeepsBytes,
+    Fault::TakingOutLeavesRed,
+    Fault::TakesAllDark,
+    Fault::WritesWhenRefused,
+    Fault::WritesPastTheLast,
+];
+
+/// The fields of a record of 520 bytes.
+const LENGTH: Range<usize> = 2..4;
+const ROOM: Range<usize> = 4..481;
+const STATE: Range<usize> = 481..520;
+
+/// The model, but its cabinet is a plain one over read and step calls.
+struct PlainCabinet(Fault);
+
+/// The first answer that is a refusal, or 0.
+fn first_refusal<const CHECKS: usize>(answers: [u64; CHECKS]) -> u64 {
+    answers
+        .into_iter()
+        .find(|&answer| number(answer) != 0)
+        .unwrap_or(0)
+}
+
+/// A number where something is wrong, or 0.
+fn refuse_if(wrong: bool, number: u64) -> u64 {
+    if wrong {
+        number
+    } else {
+        0
+    }
+}
+
+impl PlainCabinet {
+    fn has(&self, fault: Fault) -> bool {
+        self.0 == fault
+    }
+
+    /// The bytes of a record in the row, if there is such a record.
+    fn bytes(&self, row: &[u8], record: usize) -> Option<Range<usize>> {
+        let record = match self.has(Fault::RecordInTwoBits) {
+            true => record & 3,
+            false => record,
+        };
+        let whole = match self.0 {
+            Fault::TakesLongerRows => row.len() >= 2_080,
+            Fault::TakesShorterRows => row.len() <= 2_080,
+            _ => row.len() == 2_080,
+        };
+        let bytes = 520 * record.min(4)..520 * (record.min(4) + 1);
+        (record < 4 && whole && bytes.end <= row.len()).then_some(bytes)
+    }
+
+    fn is_free(&self, record: &[u8]) -> bool {
+        match self.0 {
+            Fault::HeldByOneOnly => record[0] != 1,
+            _ => record[0] == 0,
+        }
+    }
+
+    fn personality<'a>(&self, record: &'a [u8]) -> &'a [u8] {
+        let length = usize::from(u16::from_le_bytes([record[2], record[3]]));
+        let length = match self.0 {
+            Fault::LengthAboveRefused if length > 477 => 0,
+            Fault::LengthInNineBits => length & 511,
+            _ => length,
+        };
+        &record[ROOM][..length.min(477)]
+    }
+
+    /// Whether some of the outputs are past the last.
+    fn past(&self, first: usize, groups: usize) -> bool {
+        let first = match self.0 {
+            Fault::FirstInOneByte => first & 255,
+            _ => first,
+        };
+        let end = match self.0 {
+            Fault::FirstWraps => first.wrapping_add(groups),
+            _ => first.saturating_add(groups),
+        };
+        match self.0 {
+            Fault::RefusesLastOutput => end > 31,
+            Fault::TakesOneOutputMore => end > 33,
+            _ => end > 32,
+        }
+    }
+
+    /// Whether a record takes some of the outputs.
+    fn takes(&self, record: &[u8], first: usize, groups: usize) -> bool {
+        let personality = self.personality(record);
+        let refused = number(Model.read(personality)) != 0;
+        if refused && !self.has(Fault::RefusedRecordsTakeOutputs) || personality.len() < 6 {
+            return false;
+        }
+        if self.is_free(record) && !self.has(Fault::FreeRecordsTakeOutputs) {
+            return false;
+        }
+        if self.has(Fault::BadStatesTakeNone) && State::from_bytes(&record[STATE]).is_none() {
+            return false;
+        }
+        let taken = usize::from(record[1])..usize::from(record[1]) + usize::from(personality[5]);
+        if self.has(Fault::RecordsPastTheLastTakeNone) && taken.end > 32 {
+            return false;
+        }
+        let last = match self.0 {
+            Fault::OverlapByFirstOnly => first,
+            Fault::NeighboursOverlap => first + groups,
+            _ => first + groups - 1,
+        };
+        (first..=last).any(|output| taken.contains(&output))
+    }
+
+    fn others_take(&self, row: &[u8], first: usize, groups: usize) -> bool {
+        let mut records: Vec<&[u8]> = row.chunks_exact(520).collect();
+        if self.has(Fault::OverlapWithOneRecordOnly) {
+            records.truncate(1);
+        }
+        !self.past(first, groups) && {
+            let first = first.min(64);
+            records
+                .iter()
+                .any(|record| self.takes(record, first, groups))
+        }
+    }
+
+    fn short(&self, outputs: &[u8], first: usize, groups: usize) -> u64 {
+        let needed = match self.0 {
+            Fault::BufferByGroups => first.min(32) + groups,
+            _ => 32,
+        };
+        refuse_if(outputs.len() < needed, 14)
+    }
+
+    fn placing(&self, row: &[u8], record: usize, personality: &[u8], first: usize) -> [u64; 3] {
+        let read = Model.read(personality);
+        let record = match self.bytes(row, record) {
+            Some(bytes) => {
+                let free = self.is_free(&row[bytes]);
+                refuse_if(!free && !self.has(Fault::PlacesInHeldRecords), 24)
+            }
+            None => 24,
+        };
+        let groups = match number(read) {
+            0 => usize::from(personality[5]),
+            _ => return [read, record, 0],
+        };
+        let wrong = self.past(first, groups) || self.others_take(row, first, groups);
+        let place = refuse_if(self.has(Fault::PlaceGiven), 5 << 8);
+        [read, record, refuse_if(wrong, 25 | place)]
+    }
+
+    /// The record of a step or a taking out: its bytes, or the refusal.
+    fn held(&self, row: &[u8], record: usize, frees: bool) -> Result<Range<usize>, u64> {
+        let bytes = self.bytes(row, record).ok_or(24_u64)?;
+        let held = &row[bytes.clone()];
+        let read = Model.read(self.personality(held));
+        if self.is_free(held) && !frees {
+            let first = self.has(Fault::PersonalityBeforeRecord) && number(read) > 1;
+            return Err(if first { read } else { 24 });
+        }
+        if number(read) != 0 {
+            return Err(read);
+        }
+        Ok(bytes)
+    }
+
+    /// First output and groups of a held record.
+    fn outputs_of(&self, record: &[u8]) -> (usize, usize) {
+        let groups = self.personality(record)[5];
+        (usize::from(record[1]), usize::from(groups))
+    }
+}
+
+/// The outputs of a buffer from a first one on, as far as there are any.
+fn outputs_from(outputs: &mut [u8], first: usize, groups: usize) -> &mut [u8] {
+    let end = first.saturating_add(groups).min(outputs.len());
+    &mut outputs[first.min(end)..end]
+}
+
+impl Board for PlainCabinet {
+    fn read(&self, personality: &[u8]) -> u64 {
+        Model.read(personality)
+    }
+
+    fn wait_bound(&self, personality: &[u8]) -> u64 {
+        Model.wait_bound(personality)
+    }
+
+    fn fresh(&self, state: &mut [u8]) -> u64 {
+        Model.fresh(state)
+    }
+
+    fn step(&self, personality: &[u8], state: &mut [u8], inputs: u64, colours: &mut [u8]) -> u64 {
+        Model.step(personality, state, inputs, colours)
+    }
+
+    fn section(&self, personality: &[u8], kind: u16) -> u64 {
+        Model.section(personality, kind)
+    }
+
+    fn road(
+        &self,
+        personality: &[u8],
+        streams: &[u8],
+        steps: u32,
+        state: &mut [u8],
+        results: &mut [u8],
+    ) -> u64 {
+        Model.road(personality, streams, steps, state, results)
+    }
+
+    fn cabinet_place(
+        &self,
+        row: &mut [u8],
+        record: usize,
+        personality: &[u8],
+        first: usize,
+        outputs: &mut [u8],
+    ) -> u64 {
+        let [read, wrong_record, wrong_outputs] = self.placing(row, record, personality, first);
+        let groups = usize::from(personality.get(5).copied().unwrap_or(0));
+        let short = self.short(outputs, first, groups);
+        let answer = first_refusal(match self.0 {
+            Fault::RecordBeforePersonality => [wrong_record, read, wrong_outputs, short],
+            Fault::OutputsBeforeRecord => [read, wrong_outputs, wrong_record, short],
+            Fault::BufferBeforeOutputs => [read, wrong_record, short, wrong_outputs],
+            _ => [read, wrong_record, wrong_outputs, short],
+        });
+        if answer != 0 {
+            if self.has(Fault::WritesWhenRefused) && answer == 14 {
+                row[520 * record + 1] = first as u8;
+            }
+            return answer;
+        }
+        let bytes = self.bytes(row, record).expect("there is such a record");
+        let placed = &mut row[bytes];
+        placed[0] = match self.0 {
+            Fault::HeldByItsNumber => record as u8 + 1,
+            _ => 1,
+        };
+        placed[1] = first as u8;
+        placed[LENGTH].copy_from_slice(&(personality.len() as u16).to_le_bytes());
+        if !self.has(Fault::KeepsBytesBehind) {
+            placed[ROOM].fill(0);
+        }
+        placed[ROOM][..personality.len()].copy_from_slice(personality);
+        if !self.has(Fault::KeepsOldState) {
+            Model.fresh(&mut placed[STATE]);
+        }
+        match self.0 {
+            Fault::StaysDark => {}
+            Fault::PlacesAllRed => outputs[..32].fill(0),
+            Fault::WritesPastTheLast => {
+                outputs_from(outputs, first, groups).fill(0);
+                outputs_from(outputs, 32, 1).fill(0);
+            }
+            _ => outputs_from(outputs, first, groups).fill(0),
+        }
+        match self.0 {
+            Fault::PlacingAnswersWait => Model.wait_bound(personality),
+            _ => 0,
+        }
+    }
+
+    fn cabinet_step(&self, row: &mut [u8], record: usize, inputs: u64, outputs: &mut [u8]) -> u64 {
+        let bytes = match self.held(row, record, self.has(Fault::StepsFreeRecords)) {
+            Ok(bytes) => bytes,
+            Err(answer) => return answer,
+        };
+        let held = &mut row[bytes];
+        let (first, groups) = self.outputs_of(held);
+        let personality = self.personality(held).to_vec();
+        let mut state: [u8; STATE_LEN] = held[STATE].try_into().expect("39 bytes");
+        let mut colours = [0; 32];
+        let alone = Model.step(&personality, &mut state, inputs, &mut colours);
+        let alone = match self.0 {
+            Fault::InputsBeforeState if alone == 13 => {
+                let mut fresh = [0; STATE_LEN];
+                Model.fresh(&mut fresh);
+                let other = Model.step(&personality, &mut fresh, inputs, &mut [0; 32]);
+                if other == 15 {
+                    15
+                } else {
+                    13
+                }
+            }
+            _ => alone,
+        };
+        let past = refuse_if(self.past(first, groups), 25);
+        let short = self.short(outputs, first, groups);
+        let answer = first_refusal(match self.0 {
+            Fault::StateBeforeOutputs => [alone, past, short],
+            Fault::BufferBeforeOutputs => [short, past, alone],
+            Fault::BufferBeforeInputs => [past, short, alone],
+            _ => [past, alone, short],
+        });
+        if answer != 0 {
+            return answer;
+        }
+        held[STATE].copy_from_slice(&state);
+        match self.0 {
+            Fault::StepHoldsByOne => held[0] = 1,
+            Fault::StepClearsBehind => held[ROOM][personality.len()..].fill(0),
+            Fault::StepCutsLength => {
+                held[LENGTH].copy_from_slice(&(personality.len() as u16).to_le_bytes());
+            }
+            Fault::StepWritesRestRed => outputs[..32].fill(0),
+            _ => {}
+        }
+        let from = match self.0 {
+            Fault::StepWritesFromZero => 0,
+            _ => first,
+        };
+        let own = outputs_from(outputs, from, groups);
+        own.copy_from_slice(&colours[..own.len()]);
+        match self.0 {
+            Fault::StepAnswersNothing => 0,
+            _ => alone,
+        }
+    }
+
+    fn cabinet_take_out(&self, row: &mut [u8], record: usize, outputs: &mut [u8]) -> u64 {
+        let bytes = match self.held(row, record, self.has(Fault::TakesOutFreeRecords)) {
+            Ok(bytes) => bytes,
+            Err(answer) => {
+                let refused = self.has(Fault::TakesOutRefused) && number(answer) != 24;
+                if let Some(bytes) = self.bytes(row, record).filter(|_| refused) {
+                    row[bytes].fill(0);
+                    return 0;
+                }
+                return answer;
+            }
+        };
+        let held = &mut row[bytes];
+        let (first, groups) = self.outputs_of(held);
+        let past = refuse_if(self.past(first, groups), 25);
+        let short = self.short(outputs, first, groups);
+        let state = match State::from_bytes(&held[STATE]) {
+            None if self.has(Fault::TakingOutLooksAtState) => 13,
+            _ => 0,
+        };
+        let answer = first_refusal(match self.0 {
+            Fault::BufferBeforeOutputs => [short, past, state],
+            _ => [past, state, short],
+        });
+        if answer != 0 {
+            return answer;
+        }
+        match self.0 {
+            Fault::TakingOutKeepsBytes => held[0] = 0,
+            _ => held.fill(0),
+        }
+        match self.0 {
+            Fault::TakesAllDark => outputs[..32].fill(4),
+            Fault::TakingOutLeavesRed => outputs_from(outputs, first, groups).fill(0),
+            _ => outputs_from(outputs, first, groups).fill(4),
+        }
+        0
+    }
+}
+
+const SEED: u64 = 10;
+
+#[test]
+fn a_plain_cabinet_agrees() {
+    if let Err(failure) = run_cases(&PlainCabinet(Fault::None), SEED, 0..3_900) {
+        panic!("{failure}");
+    }
+}
+
+#[test]
+fn wrong_cabinets_are_noticed() {
+    for fault in FAULTS {
+        match run_cases(&PlainCabinet(fault), SEED, 0..3_900) {
+            Ok(_) => panic!("{fault:?} is not noticed"),
+            Err(failure) => match failure.difference {
+                Difference::Call { what, .. } => {
+                    let calls = ["place: ", "cabinet step: ", "take out: "];
+                    let of_cabinet = calls.iter().any(|call| what.starts_with(call));
+                    assert!(of_cabinet, "{fault:?}: {what}");
+                }
+                Difference::Breach { breach, .. } => panic!("{fault:?}: {breach}"),
+            },
+        }
+    }
+}
+
+#[test]
+fn every_fault_is_tried() {
+    for (index, fault) in FAULTS.into_iter().enumerate() {
+        assert_eq!(fault as usize, index + 1, "{fault:?}");
+    }
+}

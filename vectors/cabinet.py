@@ -1,0 +1,113 @@
+"""Request ten's cabinet of four sites, written from the papers in Python and independent of the proved code."""
+from controller import RED, STATE_BYTES, Controller, Site
+from model import Refusal, number, verdict
+
+RECORDS, ROOM, OUTPUTS, DARK = 4, 477, 32, 4
+RECORD_BYTES = 4 + ROOM + STATE_BYTES
+ROW_BYTES = RECORDS * RECORD_BYTES
+
+
+class Record:
+    """A record of the row: 0 or another number for free or held, the first output, the length, the personality and the state."""
+
+    def __init__(self, data):
+        self.data, self.held, self.first = data, data[0] != 0, data[1]
+        self.personality = data[4:4 + min(number(data, 2, 2), ROOM)]
+        self.state = data[4 + ROOM:]
+
+    def taken(self):
+        """The outputs that no other site may have."""
+        if not self.held or verdict(self.personality)[0]:
+            return set()
+        return set(range(self.first, self.first + len(Site(self.personality).groups)))
+
+    def with_state(self, state):
+        return self.data[:4 + ROOM] + state
+
+
+def read(personality):
+    found, place = verdict(personality)
+    if found:
+        raise Refusal(found, place)
+    return Site(personality)
+
+
+def outputs_of(site, first):
+    if first + len(site.groups) > OUTPUTS:
+        raise Refusal(25, 0)
+    return range(first, first + len(site.groups))
+
+
+class Cabinet:
+    """A row and outputs, both of any length and content. Each call answers a number, and the place or the wait."""
+
+    def __init__(self, row=bytes(ROW_BYTES), outputs=bytes(OUTPUTS)):
+        self.row, self.outputs = row, outputs
+
+    def place(self, index, personality, first):
+        return self.answer(self.placed, index, personality, first)
+
+    def step(self, index, inputs):
+        return self.answer(self.stepped, index, inputs)
+
+    def take_out(self, index):
+        return self.answer(self.taken_out, index)
+
+    @staticmethod
+    def answer(call, *arguments):
+        try:
+            return 0, call(*arguments) or 0
+        except Refusal as refusal:
+            return refusal.number, refusal.place
+
+    def records(self):
+        if len(self.row) != ROW_BYTES:
+            return []
+        return [Record(self.row[at:at + RECORD_BYTES]) for at in range(0, ROW_BYTES, RECORD_BYTES)]
+
+    def record(self, index, held):
+        """A record that is held, or one that is free."""
+        found = self.records()[index:index + 1]
+        if not found or found[0].held != held:
+            raise Refusal(24, 0)
+        return found[0]
+
+    def placed(self, index, personality, first):
+        site = read(personality)
+        self.record(index, held=False)
+        own = outputs_of(site, first)
+        if any(record.taken() & set(own) for record in self.records()):
+            raise Refusal(25, 0)
+        self.show(own, bytes([RED] * len(own)))
+        head = bytes((1, first)) + len(personality).to_bytes(2, "little")
+        self.store(index, head + personality.ljust(ROOM, b"\0") + Controller(site).state())
+
+    def stepped(self, index, inputs):
+        record = self.record(index, held=True)
+        site = read(record.personality)
+        own = outputs_of(site, record.first)
+        controller = Controller.of(site, record.state)
+        if controller is None or not controller.valid():
+            raise Refusal(13, 0)
+        if inputs & ~site.wired():
+            raise Refusal(15, 0)
+        controller.step(inputs)
+        self.show(own, controller.colours())
+        self.store(index, record.with_state(controller.state()))
+        return site.wait()
+
+    def taken_out(self, index):
+        record = self.record(index, held=True)
+        own = outputs_of(read(record.personality), record.first)
+        self.show(own, bytes([DARK] * len(own)))
+        self.store(index, bytes(RECORD_BYTES))
+
+    def show(self, own, colours):
+        """The last check of each call, and its outputs."""
+        if len(self.outputs) < OUTPUTS:
+            raise Refusal(14, 0)
+        self.outputs = self.outputs[:own.start] + colours + self.outputs[own.stop:]
+
+    def store(self, index, data):
+        at = index * RECORD_BYTES
+        self.row = self.row[:at] + data + self.row[at + RECORD_BYTES:]
