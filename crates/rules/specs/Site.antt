@@ -12,7 +12,7 @@ use Rattle.rules.specs.declared.site.Times.{Times}
 use Rattle.rules.specs.declared.site.WalkTimes.{WalkTimes}
 use Rattle.laws.specs.Folds.{if_then_else_, listOf, rowOf, countOf, indicesOf}
 use Rattle.laws.specs.Bytes.{twoAt, bit}
-use Rattle.rules.specs.Personality.{phaseCount, groupCount, detectorCount, movementCount, groupSet, groupMark, conflictSet, detectorPhase, detectorMode, pedestrian, phasesHead, pedestriansHead, earlyHead, hasEarly, hasOrder, orderAt, recordAt}
+use Rattle.rules.specs.Personality.{phaseCount, groupCount, detectorCount, movementCount, groupSet, groupMark, conflictSet, detectorPhase, detectorMode, pedestrian, phasesHead, pedestriansHead, earlyHead, hasEarly, hasOrder, orderAt, recordAt, editionOf}
 
 abbrev pub noPhaseTimes : PhaseTimes
 noPhaseTimes = record { late = 0; minimum = 0; maximum = 0; gap = 0; yellow = 0; red = 0; early = 0 }
@@ -67,6 +67,7 @@ orderIn b i = if hasOrder b then orderAt b i else i
 unfoldable pub siteOf : List ℕ → Site
 siteOf b =
     record {
+      edition = editionOf b;
       size = record { phases = phaseCount b; groups = groupCount b; detectors = detectorCount b; movements = movementCount b };
       groups = rowOf (λ g. record { phases = groupSet b g; mark = groupMark b g }) (groupCount b) 32 noGroup;
       conflicts = rowOf (conflictSet b) (groupCount b) 32 0;

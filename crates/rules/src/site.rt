@@ -1,5 +1,11 @@
 // The site that an accepted personality describes. The arrays have room for the largest site; entries past the site's own count are zero.
 
+// The edition of the limits that a personality is held to. Its first section says which: kind 1 is edition one, kind 8 is edition two.
+pub enum Edition {
+    One,
+    Two,
+}
+
 // The lowest and highest value of a time setting.
 pub struct Range {
     pub low: u16,
@@ -53,6 +59,7 @@ pub struct Detector {
 }
 
 pub struct Site {
+    pub edition: Edition,
     pub size: Size,
     pub groups: [Group; 32],
     // bit j of entry i: group i conflicts with group j
