@@ -38,7 +38,7 @@ abbrev pub siteHead : ℕ
 siteHead = 0
 
 -- the kind of the site section
-unfoldable pub siteKind : Edition → ℕ
+abbrev pub siteKind : Edition → ℕ
 siteKind One = 1
 siteKind Two = 8
 
