@@ -17,7 +17,16 @@ pub fn early_section(s: &[u8], layout: Layout) -> Verdict
     if !layout.hasearly {
         return Verdict::Accepted;
     }
-    timed_section(s, layout.early, 7, 10, 1, layout.phasecount as usize)
+    let edition = layout.edition;
+    timed_section(
+        s,
+        edition,
+        layout.early,
+        7,
+        10,
+        1,
+        layout.phasecount as usize,
+    )
 }
 
 // 17: if kind 7 is missing, refuses at the first group that stops early. `some` says if there is one. Kind 3 is accepted before.

@@ -37,7 +37,9 @@ pub fn site_of(s: &[u8], layout: Layout) -> Site
     let size = size(s, layout, found.movements);
     let rows = found.groups;
     let sets = found.crossings;
+    let edition = layout.edition;
     Site {
+        edition,
         size,
         groups: rows,
         conflicts: conflicts(s, layout),

@@ -59,6 +59,7 @@ returns c =
       listed .conflicts .ensures,
       sized .size .ensures,
       sized .before .group-rows-in .ensures,
+      sized .before .before .before .pre .laid .edition,
       sized .before .before .before .pre .laid .hasearly,
     )
 
