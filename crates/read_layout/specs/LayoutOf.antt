@@ -2,12 +2,11 @@
 use Prim.Native.Nat.{ℕ, _≤_}
 use mathlib.Core.List.{List}
 use mathlib.Core.Path.{_≡_}
-use Rattle.rules.specs.Personality.{editionOf, phaseCount, groupCount, groupsHead, conflictsHead, detectorsHead, pedestriansHead, earlyHead, hasEarly, orderHead, hasOrder}
+use Rattle.rules.specs.Personality.{phaseCount, groupCount, groupsHead, conflictsHead, detectorsHead, pedestriansHead, earlyHead, hasEarly, orderHead, hasOrder}
 use Rattle.read_layout.specs.declared.Layout.{Layout}
 
--- the edition, the counts and the heads of the bytes b, and that none of the heads is far: counts are bytes, and body lengths two bytes
+-- the counts and the heads of the bytes b, and that none of the heads is far: counts are bytes, and body lengths two bytes
 pub record LayoutOf (b : List ℕ) (w : Layout) : Type 0 where
-  pub edition : w .edition ≡ editionOf b
   pub phasecount : w .phasecount ≡ phaseCount b
   pub groupcount : w .groupcount ≡ groupCount b
   pub groups : w .groups ≡ groupsHead b

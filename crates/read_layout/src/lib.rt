@@ -9,10 +9,9 @@ use base_bytes::two_at;
 use base_bytes::two_in;
 use rules::site::Edition;
 
-// The edition, the counts P and N, and the places of the heads of kinds 3 to 7 and 9. Kinds 7 and 9 are optional: `hasearly` and `hasorder`
-// say if they are present, and `early` and `order` are the places that their heads would have. The site section is at 0, kind 2 at 8.
+// The counts P and N, and the places of the heads of kinds 3 to 7 and 9. Kinds 7 and 9 are optional: `hasearly` and `hasorder` say if they
+// are present, and `early` and `order` are the places that their heads would have. The site section is at 0, kind 2 at 8.
 pub struct Layout {
-    pub edition: Edition,
     pub phasecount: u8,
     pub groupcount: u8,
     pub groups: usize,
@@ -57,8 +56,8 @@ pub fn site_kind(edition: Edition) -> u16
     }
 }
 
-// The edition that the first section names: two if it is of kind 8.
-fn edition_of(s: &[u8]) -> Edition
+// The edition that the first section names: two if it is of kind 8. It is no field of the layout: reading it again takes fewer instructions.
+pub fn edition_of(s: &[u8]) -> Edition
     ensures { λ r. ⌜ r ≡ editionOf (now (s .entry)) ⌝ }
 {
     if has_head(s, 0, 8) {
@@ -82,7 +81,6 @@ pub fn past_section(s: &[u8], head: usize, there: bool) -> usize
 pub fn layout_of(s: &[u8]) -> Layout
     ensures { λ r. ⌜ LayoutOf (now (s .entry)) r ⌝ }
 {
-    let edition = edition_of(s);
     let p = byte_at(s, 4);
     let n = byte_at(s, 5);
     let groups = 12 + (p as usize) * 12;
@@ -93,7 +91,6 @@ pub fn layout_of(s: &[u8]) -> Layout
     let hasearly = has_head(s, early, 7);
     let order = past_section(s, early, hasearly);
     Layout {
-        edition,
         phasecount: p,
         groupcount: n,
         groups,

@@ -8,6 +8,7 @@ ghost use Rattle.rules.specs.Lookup.{heldKind, headOf, lookupVerdict, lookupRep
 ghost use Rattle.read_layout.specs.LayoutOf.{LayoutOf};
 use base_bytes::two_at;
 use read_layout::Layout;
+use read_layout::edition_of;
 use read_layout::site_kind;
 use read_personality::read_with_layout;
 use rules::answer::Report;
@@ -18,8 +19,7 @@ fn held_kind(s: &[u8], layout: Layout, kind: u16) -> bool
     requires { ⌜ LayoutOf (now s) layout ⌝ }
     ensures { λ r. ⌜ r ≡ heldKind (now (s .entry)) kind ⌝ }
 {
-    let edition = layout.edition;
-    (kind == site_kind(edition))
+    (kind == site_kind(edition_of(s)))
         | ((2 <= kind) & (kind <= 6))
         | ((kind == 7) & layout.hasearly)
         | ((kind == 9) & layout.hasorder)

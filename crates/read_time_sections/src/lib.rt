@@ -4,6 +4,7 @@ ghost use mathlib.Core.Path.{_≡_};
 ghost use Rattle.rules.specs.Personality.{movementCount, siteSection, phasesSection, pedestriansSection};
 ghost use Rattle.read_layout.specs.LayoutOf.{LayoutOf};
 use read_layout::Layout;
+use read_layout::edition_of;
 use read_layout::site_kind;
 use read_sections::sized_section;
 use read_time_records::time_at;
@@ -15,7 +16,7 @@ pub fn site_section(s: &[u8], layout: Layout) -> Verdict
     requires { ⌜ LayoutOf (now s) layout ⌝ }
     ensures { λ r. ⌜ r ≡ siteSection (now (s .entry)) ⌝ }
 {
-    let edition = layout.edition;
+    let edition = edition_of(s);
     let head = sized_section(s, 0, site_kind(edition), 4);
     if let Verdict::Refused { .. } = head {
         return head;
@@ -42,7 +43,7 @@ pub fn phases_section(s: &[u8], layout: Layout) -> Verdict
     requires { ⌜ LayoutOf (now s) layout ⌝ }
     ensures { λ r. ⌜ r ≡ phasesSection (now (s .entry)) ⌝ }
 {
-    let edition = layout.edition;
+    let edition = edition_of(s);
     timed_section(s, edition, 8, 2, 1, 6, layout.phasecount as usize)
 }
 
@@ -51,6 +52,6 @@ pub fn pedestrians_section(s: &[u8], layout: Layout, movements: usize) -> Verdic
     requires { ⌜ LayoutOf (now s) layout × (movements ≡ movementCount (now s)) × (movements ≤ 8) ⌝ }
     ensures { λ r. ⌜ r ≡ pedestriansSection (now (s .entry)) ⌝ }
 {
-    let edition = layout.edition;
+    let edition = edition_of(s);
     timed_section(s, edition, layout.pedestrians, 6, 7, 3, movements)
 }

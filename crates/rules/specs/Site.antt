@@ -67,12 +67,12 @@ orderIn b i = if hasOrder b then orderAt b i else i
 unfoldable pub siteOf : List ℕ → Site
 siteOf b =
     record {
-      edition = editionOf b;
       size = record { phases = phaseCount b; groups = groupCount b; detectors = detectorCount b; movements = movementCount b };
       groups = rowOf (λ g. record { phases = groupSet b g; mark = groupMark b g }) (groupCount b) 32 noGroup;
       conflicts = rowOf (conflictSet b) (groupCount b) 32 0;
       detectors = rowOf (λ d. record { phase = detectorPhase b d; mode = detectorMode b d }) (detectorCount b) 48 noDetector;
       crossings = rowOf (crossingAt b) (movementCount b) 8 0;
+      edition = editionOf b;
       early = hasEarly b;
       order = rowOf (orderIn b) (phaseCount b) 7 0;
       times = timesIn b;

@@ -59,7 +59,6 @@ pub struct Detector {
 }
 
 pub struct Site {
-    pub edition: Edition,
     pub size: Size,
     pub groups: [Group; 32],
     // bit j of entry i: group i conflicts with group j
@@ -67,6 +66,8 @@ pub struct Site {
     pub detectors: [Detector; 48],
     // the phase set of each movement's signal group
     pub crossings: [u8; 8],
+    // the limits that the times are held to
+    pub edition: Edition,
     // the personality has a section of kind 7
     pub early: bool,
     // the phases in running order

@@ -1,9 +1,9 @@
--- `read_layout::layout_of` meets its contract: the edition is that of the first head, each head follows the body before it, and a body length is read at its own head.
+-- `read_layout::layout_of` meets its contract: each head follows the body before it, and a body length is read at its own head.
 use Prim.Native.Nat.{ℕ, _+_, _*_, _≤_}
 use mathlib.Core.List.{List}
 use mathlib.Core.Path.{_≡_, refl, _∙_}
 use native.Mathlib.Omega.{arith}
-use Rattle.rules.specs.Personality.{editionOf, bodyAt, phaseCount, groupCount, groupsHead, conflictsHead, detectorsHead, pedestriansHead, earlyHead, hasEarly, orderHead, hasOrder, pastSection, hasHead}
+use Rattle.rules.specs.Personality.{bodyAt, phaseCount, groupCount, groupsHead, conflictsHead, detectorsHead, pedestriansHead, earlyHead, hasEarly, orderHead, hasOrder, pastSection, hasHead}
 use Rattle.laws.specs.Folds.{if_then_else_}
 use Rattle.read_layout.specs.declared.Layout.{Layout}
 use Rattle.read_layout.specs.LayoutOf.{LayoutOf}
@@ -15,7 +15,6 @@ use Rattle.read_layout.proofs.layout_of.Tie as tie
 
 module _
     (b : List ℕ) (w : Layout)
-    (edition : w .edition ≡ editionOf b)
     (p : w .phasecount ≡ phaseCount b)
     (n : w .groupcount ≡ groupCount b)
     (g : w .groups ≡ 12 + w .phasecount * 12)
@@ -68,7 +67,6 @@ module _
         LayoutOf b w
     laid few some near nearer next =
         record {
-          edition = edition;
           phasecount = p;
           groupcount = n;
           groups = groups;
@@ -81,9 +79,6 @@ module _
           hasorder = has-order;
           near = (omega arith, omega arith, omega arith, omega arith, omega arith, omega arith);
         }
-
-edition-of-requires : tie.Need-edition-of-requires
-edition-of-requires c κs = search needs
 
 byte-at-requires : tie.Need-byte-at-requires
 byte-at-requires c κs = search needs
@@ -158,9 +153,7 @@ returns c =
     let seventh = ninth .before in
     let sixth = seventh .before in
     let fifth = sixth .before in
-    let named = fifth .before .before .before in
-    laid (named .before .before .args .s .now) _
-    (named .edition-of .ensures)
+    laid (fifth .before .before .before .before .args .s .now) _
     (fifth .before .before .byte-at .ensures) (fifth .before .byte-at2 .ensures)
     refl refl refl
     (rw (fifth .body-length .ensures .0)) (rw (sixth .body-length2 .ensures .0))
@@ -171,7 +164,6 @@ pub layout-of-spec : {M : Type 1} → statement M
 layout-of-spec =
     tie.close
     (tie.spec
-    edition-of-requires
     byte-at-requires
     byte-at-requires-2
     cast-groups

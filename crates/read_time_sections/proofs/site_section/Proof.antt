@@ -10,6 +10,9 @@ use Rattle.read_layout.specs.LayoutOf.{LayoutOf}
 use Rattle.read_time_sections.proofs.site_section.Statement.{statement}
 use Rattle.read_time_sections.proofs.site_section.Tie as tie
 
+edition-of-requires : tie.Need-edition-of-requires
+edition-of-requires c κs = search needs
+
 site-kind-requires : tie.Need-site-kind-requires
 site-kind-requires c κs = search needs
 
@@ -19,9 +22,9 @@ sized-section-requires c κs = search needs
 -- the kind asked for is that of the edition
 headed :
     (c : tie.After-sized-section) →
-    let b = c .before .before .before .args .s .now in
+    let b = c .before .before .before .before .args .s .now in
     c .sized-section .result ≡ sectionAt b siteHead (siteKind (editionOf b)) (eqb (bodyLength b siteHead) 4)
-headed c = rw (c .before .site-kind .ensures, c .before .before .before .pre .edition) at (c .sized-section .ensures)
+headed c = rw (c .before .site-kind .ensures, c .before .before .edition-of .ensures) at (c .sized-section .ensures)
 
 enum-told : tie.Need-enum-told
 enum-told c = search needs
@@ -36,9 +39,9 @@ enum-told-2 c = search needs
 -- what the layout holds
 laid :
     (c : tie.After-enum-told2) →
-    let start = c .before .before .before .before .before in
+    let start = c .before .before .before .before .before .before in
     LayoutOf (start .args .s .now) (start .args .layout)
-laid c = c .before .before .before .before .before .pre
+laid c = c .before .before .before .before .before .before .pre
 
 returns-2 : tie.Need-returns-2
 unfolding siteSection
@@ -60,7 +63,7 @@ unfolding bodyAt
 time-at-requires c κs =
     let passed = c .before .before in (
       omega (arith, records-held _ siteHead _ 1 4 (sym (headed (passed .before .before)) ∙ passed .enum-told2 .given .1)),
-      laid passed .edition,
+      passed .before .before .before .before .edition-of .ensures,
     )
 
 returns-4 : tie.Need-returns-4
@@ -76,6 +79,7 @@ pub site-section-spec : {M : Type 1} → statement M
 site-section-spec =
     tie.close
     (tie.spec
+    edition-of-requires
     site-kind-requires
     sized-section-requires
     enum-told
