@@ -19,7 +19,7 @@ use Rattle.laws.specs.Bytes.{twoAt, bit}
 use Rattle.rules.specs.Limits.{limits, phaseSettings, walkSettings, earlySetting}
 use Rattle.rules.specs.Personality.{editionOf, recordAt, phasesHead, pedestriansHead, phaseCount, groupCount, detectorCount, movementCount, groupSet, groupMark, conflictSet, detectorPhase, knownMode, pedestrian, pedestriansBefore, hasEarly, hasOrder, callsPhase, walksPhase}
 use Rattle.rules.specs.Site.{earlyTimeAt, phaseTimesAt, walkTimesAt, timesIn, crossingAt, orderIn, siteOf, groupOf, phaseTimes, inPhase, crosses, isPedestrian, movementOf, conflict}
-use Rattle.rules.specs.Laws.{InTable, PhaseTimesIn, WalkTimesIn, TimesIn, mayBeZero, OnePhase, Caller, Sound, AcceptedIsSound, AcceptedIsInTable}
+use Rattle.rules.specs.Laws.{InTable, PhaseTimesIn, WalkTimesIn, TimesIn, mayBeZero, OnePhase, Caller, Sound, AcceptedIsSound, EditionIsNamed, AcceptedIsInTable}
 use Rattle.laws.proofs.Booleans.{decided, never-both, and-left, and-right, or-cases}
 use Rattle.laws.proofs.Indices.{below-or-past, passes-below}
 use Rattle.laws.proofs.Folds.{any-found}
@@ -97,6 +97,10 @@ times-in b s =
       phase = λ p l. subst (PhaseTimesIn (table b)) (sym (phase-times-at b p l)) (phase-times-in b (s .phases) (s .early) p l);
       walk = λ k l. subst (WalkTimesIn (table b)) (sym (walk-times-at b k l)) (walk-times-in b (s .pedestrians) k l);
     }
+
+pub edition-is-named : EditionIsNamed
+unfolding EditionIsNamed siteOf
+edition-is-named b h = sections-accepted b h .site .kind
 
 pub accepted-is-in-table : AcceptedIsInTable
 unfolding AcceptedIsInTable siteOf

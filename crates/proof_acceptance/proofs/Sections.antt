@@ -14,7 +14,7 @@ use Rattle.laws.specs.Folds.{anyOf, countOf}
 use Rattle.laws.specs.Bytes.{twoAt, bit}
 use Rattle.rules.specs.Limits.{limits, within, startRedSetting, phaseSettings, walkSettings, earlySetting}
 use Rattle.rules.specs.Verdicts.{firstOf}
-use Rattle.rules.specs.Personality.{siteKind, editionOf, bodyLength, bodyAt, pastSection, recordAt, phaseCount, groupCount, siteHead, phasesHead, groupsHead, conflictsHead, detectorsHead, pedestriansHead, groupSet, groupMark, pedestrian, pedestriansBefore, movementCount, conflictSet, detectorCount, detectorPhase, sectionAt, timeAt, timesAt, siteSection, timeRecords, timedSection, phasesSection, badGroup, badGroupAt, ninthPedestrian, groupRecord, phaseWithoutGroup, groupsSection, badConflict, sharePhase, conflictInPhase, conflictsSection, badDetector, badDetectorAt, detectorRecord, detectorsSection, pedestriansSection, earlyHead, hasEarly, earlySection, orderHead, hasOrder, orderAt, phaseNotOnce, orderSection, callsPhase, walksPhase, phaseWithoutCaller, stopsEarly, earlyMissing, leftOver, afterPedestrians, endOf, verdictOf, detectorMode, knownMode}
+use Rattle.rules.specs.Personality.{kindAt, siteKind, editionOf, bodyLength, bodyAt, pastSection, recordAt, phaseCount, groupCount, siteHead, phasesHead, groupsHead, conflictsHead, detectorsHead, pedestriansHead, groupSet, groupMark, pedestrian, pedestriansBefore, movementCount, conflictSet, detectorCount, detectorPhase, sectionAt, timeAt, timesAt, siteSection, timeRecords, timedSection, phasesSection, badGroup, badGroupAt, ninthPedestrian, groupRecord, phaseWithoutGroup, groupsSection, badConflict, sharePhase, conflictInPhase, conflictsSection, badDetector, badDetectorAt, detectorRecord, detectorsSection, pedestriansSection, earlyHead, hasEarly, earlySection, orderHead, hasOrder, orderAt, phaseNotOnce, orderSection, callsPhase, walksPhase, phaseWithoutCaller, stopsEarly, earlyMissing, leftOver, afterPedestrians, endOf, verdictOf, detectorMode, knownMode}
 use Rattle.rules.specs.Laws.{InTable}
 use Rattle.laws.proofs.Booleans.{and-right, or-false-left, or-false-right, never-both, both-passed, or-false-three, and-false-rest}
 use Rattle.laws.proofs.Folds.{any-false, any-found}
@@ -35,7 +35,12 @@ body-held b head kind right h =
       ltb-false (length b) (bodyAt head + bodyLength b head) (refuse-passed _ _ _ (or-later _ _ fromLength)),
     )
 
--- so has one of n records
+-- it has the right kind
+kind-held : (b : List ℕ) (head kind : ℕ) (lengthRight : Bool) → sectionAt b head kind lengthRight ≡ Accepted → kindAt b head ≡ kind
+unfolding sectionAt
+kind-held b head kind right h = eqb-true _ _ (not-false _ (refuse-passed _ _ _ (or-first _ _ (or-later _ _ h))))
+
+-- and one of n records has them in its body
 pub records-held :
     (b : List ℕ) (head kind n width : ℕ) →
     sectionAt b head kind (eqb (bodyLength b head) (n * width)) ≡ Accepted →
@@ -76,6 +81,7 @@ times-passed b head width setting fields n h i l f m =
 -- ── What each section tells, with the next head within the bytes ──
 
 pub record SiteAccepted (b : List ℕ) : Type 0 where
+  pub kind : kindAt b siteHead ≡ siteKind (editionOf b)
   pub next : phasesHead ≤ length b
   pub phases : (2 ≤ phaseCount b) × (phaseCount b ≤ 7)
   pub groups : (1 ≤ groupCount b) × (groupCount b ≤ 32)
@@ -143,6 +149,7 @@ site-accepted b h =
     let phases = both-passed _ _ (refuse-passed _ _ _ (or-first _ _ counts)) in
     let groups = both-passed _ _ (refuse-passed _ _ _ (or-first _ _ (or-later _ _ counts))) in
     record {
+      kind = kind-held b siteHead (siteKind (editionOf b)) _ (or-first _ _ h);
       next = records-held b siteHead (siteKind (editionOf b)) 1 4 (or-first _ _ h);
       phases = (leb-true _ _ (phases .0), leb-true _ _ (phases .1));
       groups = (leb-true _ _ (groups .0), leb-true _ _ (groups .1));

@@ -21,7 +21,7 @@ use Rattle.rules.specs.declared.state.KeptState.{KeptState}
 use Rattle.rules.specs.declared.state.State.{State}
 use Rattle.laws.specs.Folds.{if_then_else_, allOf, countOf}
 use Rattle.rules.specs.Limits.{limits, limitOf, startRedSetting, phaseSettings, walkSettings, earlySetting, settingCount}
-use Rattle.rules.specs.Personality.{knownMode, verdictOf}
+use Rattle.rules.specs.Personality.{kindAt, siteHead, siteKind, knownMode, verdictOf}
 use Rattle.rules.specs.Site.{siteOf, groupOf, detectorOf, phaseTimes, walkTimes, inPhase, crosses, isPedestrian, movementOf, conflict}
 use Rattle.rules.specs.State.{highestAge}
 use Rattle.rules.specs.Demands.{demanded}
@@ -172,7 +172,11 @@ pub record Sound (site : Site) : Type 0 where
 unfoldable pub AcceptedIsSound : Type 0
 AcceptedIsSound = (b : List ℕ) → verdictOf b ≡ Accepted → Sound (siteOf b)
 
--- its times are in the table of the edition that was read
+-- its first section has the kind of its edition: 1 is edition one, 8 is edition two
+unfoldable pub EditionIsNamed : Type 0
+EditionIsNamed = (b : List ℕ) → verdictOf b ≡ Accepted → kindAt b siteHead ≡ siteKind (siteOf b .edition)
+
+-- its times are in the table of that edition
 unfoldable pub AcceptedIsInTable : Type 0
 AcceptedIsInTable = (b : List ℕ) → verdictOf b ≡ Accepted → TimesIn (limits (siteOf b .edition)) (siteOf b .size) (siteOf b .times)
 
