@@ -12,10 +12,8 @@ from typing import NamedTuple
 HERE = Path(__file__).resolve().parent
 sys.dont_write_bytecode = True
 sys.path.insert(0, str(HERE.parent / "vectors"))
-from model import PHASE_FIELDS, RANGES, WALK_FIELDS, verdict
+from model import EDITIONS, PHASE_FIELDS, WALK_FIELDS, verdict
 
-# The lowest values that edition two raises, by the name of the time.
-EDITION_TWO = {"start": 30, "R": 15}
 SITE_KIND = {1: 1, 2: 8}  # the kind of the site section, by edition
 SECTIONS = ("site", "phases", "groups", "conflicts", "detectors", "pedestrians", "early-cut-off", "order")
 NEEDED = 6  # the sections after these need not be there
@@ -78,9 +76,7 @@ def whole(line, word):
 
 def time(line, edition, name, word):
     value = whole(line, word)
-    low, high = RANGES[name]
-    if edition == 2:
-        low = EDITION_TWO.get(name, low)
+    low, high = EDITIONS[SITE_KIND[edition]][name]
     need(low <= value <= high, line.place, f"{name} is {value}, not {low} to {high}")
     return value
 
