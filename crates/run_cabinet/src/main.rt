@@ -2,6 +2,8 @@
 // the 32 outputs red. A call is a kind byte and a record; of kind 0, placing, also the first output and a personality behind its two-byte
 // length; of kind 1, a step, 8 bytes of inputs; kind 2 is taking out. A call that is cut, or of another kind, prints a refusal and ends the
 // program. A call that the cabinet refuses does not.
+ghost use mathlib.Core.Path.{_≡_};
+ghost use Rattle.cabinet_records.specs.Cabinet.{placing, stepping, takingOut};
 use cabinet_records::Record;
 use libc::STDIN_FILENO;
 use libc::STDOUT_FILENO;
@@ -21,62 +23,45 @@ struct Turn {
     row: [Record; 4],
 }
 
-// The three calls, on a row that goes in and comes back by value. A record past the fourth is no record.
+// The three calls, on a row that is lent to them.
 fn placed(
     row: [Record; 4],
     k: usize,
     personality: &[u8],
     first: usize,
     outputs: &mut [u8],
-) -> Called {
-    if 4 <= k {
-        return Called {
-            answer: cabinet_work::placed_nowhere(personality),
-            row: row,
-        };
-    }
+) -> Called
+    ensures { λ r. ⌜ record { answer = r .answer; row = r .row; outputs = now (outputs .exit) }
+        ≡ placing row (now (outputs .entry)) (now (personality .entry)) k first ⌝ }
+{
     let mut lent = row;
-    let done = cabinet_work::placed_record(row, k, personality, first, outputs);
-    let after = done.kept;
-    lent[k] = after;
+    let answer = cabinet_row::place(&mut lent, k, personality, first, outputs);
     Called {
-        answer: done.answer,
+        answer: answer,
         row: lent,
     }
 }
 
-fn stepped(row: [Record; 4], k: usize, inputs: u64, outputs: &mut [u8]) -> Called {
-    if 4 <= k {
-        return Called {
-            answer: 24,
-            row: row,
-        };
-    }
+fn stepped(row: [Record; 4], k: usize, inputs: u64, outputs: &mut [u8]) -> Called
+    ensures { λ r. ⌜ record { answer = r .answer; row = r .row; outputs = now (outputs .exit) }
+        ≡ stepping row (now (outputs .entry)) k inputs ⌝ }
+{
     let mut lent = row;
-    let own = row[k];
-    let done = cabinet_work::stepped_record(own, inputs, outputs);
-    let after = done.kept;
-    lent[k] = after;
+    let answer = cabinet_row::step(&mut lent, k, inputs, outputs);
     Called {
-        answer: done.answer,
+        answer: answer,
         row: lent,
     }
 }
 
-fn taken_out(row: [Record; 4], k: usize, outputs: &mut [u8]) -> Called {
-    if 4 <= k {
-        return Called {
-            answer: 24,
-            row: row,
-        };
-    }
+fn taken_out(row: [Record; 4], k: usize, outputs: &mut [u8]) -> Called
+    ensures { λ r. ⌜ record { answer = r .answer; row = r .row; outputs = now (outputs .exit) }
+        ≡ takingOut row (now (outputs .entry)) k ⌝ }
+{
     let mut lent = row;
-    let own = row[k];
-    let done = cabinet_work::taken_out_record(own, outputs);
-    let after = done.kept;
-    lent[k] = after;
+    let answer = cabinet_row::take_out(&mut lent, k, outputs);
     Called {
-        answer: done.answer,
+        answer: answer,
         row: lent,
     }
 }

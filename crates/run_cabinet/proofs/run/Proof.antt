@@ -1,5 +1,5 @@
 -- `run_cabinet::run` is safe and ends: its loop counts the turns down.
-use mathlib.Core.Path.{_≡_, refl, _∙_}
+use mathlib.Core.Path.{_≡_, refl}
 use lib.ListN.{length}
 use borrow.Author.Needs.{needs}
 use Rattle.run_cabinet.proofs.run.Statement.{statement}
