@@ -12,8 +12,9 @@ from typing import NamedTuple
 HERE = Path(__file__).resolve().parent
 sys.dont_write_bytecode = True
 sys.path.insert(0, str(HERE.parent / "vectors"))
-from model import PHASE_FIELDS, RANGES, WALK_FIELDS, verdict
+from model import EDITIONS, PHASE_FIELDS, WALK_FIELDS, verdict
 
+SITE_KIND = {1: 1, 2: 8}  # the kind of the site section, by edition
 SECTIONS = ("site", "phases", "groups", "conflicts", "detectors", "pedestrians", "early-cut-off", "order")
 NEEDED = 6  # the sections after these need not be there
 LETTERS = tuple("ABCDEFG")
@@ -40,6 +41,7 @@ class Group(NamedTuple):
 
 
 class Site(NamedTuple):
+    edition: int
     start_red: int
     phases: list
     groups: list
@@ -72,16 +74,16 @@ def whole(line, word):
     return int(word)
 
 
-def time(line, name, word):
+def time(line, edition, name, word):
     value = whole(line, word)
-    low, high = RANGES[name]
+    low, high = EDITIONS[SITE_KIND[edition]][name]
     need(low <= value <= high, line.place, f"{name} is {value}, not {low} to {high}")
     return value
 
 
-def times(line, names, words):
+def times(line, edition, names, words):
     need(len(words) == len(names), line.place, f"needs the times {' '.join(names)}")
-    return tuple(time(line, name, word) for name, word in zip(names, words))
+    return tuple(time(line, edition, name, word) for name, word in zip(names, words))
 
 
 # ── Reading a site ──
@@ -108,18 +110,20 @@ def sections_of(path):
 
 
 def site_settings(lines, place):
-    """Start red, and the wait bound that was worked out by hand."""
+    """The edition of the limits, which is 1 where no line names it, start red, and the wait bound that was worked out by hand."""
     found = {" ".join(line.words[:-1]): line for line in lines}
-    need(set(found) == {"start red", "wait bound"}, place, "section site needs `start red` and `wait bound`")
-    start, bound = found["start red"], found["wait bound"]
-    return time(start, "start", start.words[-1]), whole(bound, bound.words[-1])
+    need(set(found) - {"edition"} == {"start red", "wait bound"}, place, "section site needs `start red` and `wait bound`")
+    named, start, bound = found.get("edition"), found["start red"], found["wait bound"]
+    edition = whole(named, named.words[-1]) if named else 1
+    need(edition in SITE_KIND, place, f"there is no edition {edition}")
+    return edition, time(start, edition, "start", start.words[-1]), whole(bound, bound.words[-1])
 
 
-def phase_rows(lines, place):
+def phase_rows(lines, edition, place):
     need(2 <= len(lines) <= 7, place, f"{len(lines)} phases, not 2 to 7")
     for letter, line in zip(LETTERS, lines):
         need(line.words[0] == letter, line.place, f"phase {letter} belongs here")
-    return [times(line, PHASE_FIELDS, line.words[1:]) for line in lines]
+    return [times(line, edition, PHASE_FIELDS, line.words[1:]) for line in lines]
 
 
 def phase_set(line, letters, count):
@@ -208,20 +212,20 @@ def check_calls(detectors, groups, count, place):
         need(by_detector or by_button, place, f"nobody can call phase {LETTERS[p]}")
 
 
-def walk_rows(lines, groups, place):
+def walk_rows(lines, edition, groups, place):
     names = [group.name for group in pedestrians_of(groups)]
     need([line.words[0] for line in lines] == names, place, f"section pedestrians needs the rows {' '.join(names)}")
-    return [times(line, WALK_FIELDS, line.words[1:]) for line in lines]
+    return [times(line, edition, WALK_FIELDS, line.words[1:]) for line in lines]
 
 
-def early_rows(text, count, groups, place):
+def early_rows(text, edition, count, groups, place):
     """The time of each phase, in letter order; nothing where there is no such section, and then no group that stops early."""
     lines = text.get("early-cut-off", [])
     if "early-cut-off" not in text:
         need(all(group.mark != MARKS["early-cut-off"] for group in groups), place, "a group stops early without times")
         return []
     need([line.words[0] for line in lines] == list(LETTERS[:count]), place, "section early-cut-off needs a row for each phase")
-    return [times(line, ("E",), line.words[1:])[0] for line in lines]
+    return [times(line, edition, ("E",), line.words[1:])[0] for line in lines]
 
 
 def order_row(text, count, place):
@@ -235,16 +239,16 @@ def site_of(path):
     """The site, and the wait bound that its text states."""
     place = path.parent.name
     text = sections_of(path)
-    start_red, bound = site_settings(text["site"], place)
-    phases = phase_rows(text["phases"], place)
+    edition, start_red, bound = site_settings(text["site"], place)
+    phases = phase_rows(text["phases"], edition, place)
     groups = group_rows(text["groups"], len(phases), place)
     conflicts = conflict_rows(text["conflicts"], groups, place)
     detectors = detector_rows(text["detectors"], len(phases), place)
     check_calls(detectors, groups, len(phases), place)
-    walks = walk_rows(text["pedestrians"], groups, place)
-    early = early_rows(text, len(phases), groups, place)
+    walks = walk_rows(text["pedestrians"], edition, groups, place)
+    early = early_rows(text, edition, len(phases), groups, place)
     order = order_row(text, len(phases), place)
-    return Site(start_red, phases, groups, conflicts, detectors, walks, early, order), bound
+    return Site(edition, start_red, phases, groups, conflicts, detectors, walks, early, order), bound
 
 
 # ── The wait bound ──
@@ -289,7 +293,7 @@ def personality_of(site):
               packed([site.conflicts], 4),
               packed(site.detectors, 1),
               packed(site.walks, 2)]
-    sections = list(enumerate(bodies, 1))
+    sections = [(SITE_KIND[site.edition], bodies[0])] + list(enumerate(bodies[1:], 2))
     if site.early:
         sections.append((7, packed([site.early], 2)))
     if site.order:

@@ -78,6 +78,11 @@ extern "C" {
 #define WILLOWERA_RECORD_BYTES (WILLOWERA_RECORD_STATE + WILLOWERA_STATE_BYTES) /* 520 */
 #define WILLOWERA_ROW_BYTES (WILLOWERA_RECORDS * WILLOWERA_RECORD_BYTES)        /* 2080 */
 
+/* ── Editions of the limits: the kind of the first section of a personality. Another kind there is refused with 2 ── */
+
+#define WILLOWERA_EDITION_ONE 1
+#define WILLOWERA_EDITION_TWO 8
+
 /* ── Inputs: bit d is detector d (d from 0 to 47 only), bit 48 + k is push button k (k from 0 to 7 only) ── */
 
 #define WILLOWERA_DETECTOR(d) (UINT64_C(1) << (d))
@@ -118,7 +123,7 @@ extern "C" {
 #define WILLOWERA_WRONG_KIND 2          /* a section is of another kind; place: its head. Lookup: no such section; place 0 */
 #define WILLOWERA_WRONG_LENGTH 3        /* the length does not fit the counts; place: the head of the section */
 #define WILLOWERA_WRONG_COUNT 4         /* phases not 2 to 7, or groups not 1 to 32; place: that byte */
-#define WILLOWERA_TIME_OUTSIDE 5        /* a time is outside its limits; place: that time */
+#define WILLOWERA_TIME_OUTSIDE 5        /* a time is outside the limits of the edition; place: that time */
 #define WILLOWERA_WRONG_GROUP 6         /* unknown phase or mark, or pedestrian group without exactly one phase; place: the record */
 #define WILLOWERA_NINTH_PEDESTRIAN 7    /* more than eight pedestrian groups; place: the ninth record */
 #define WILLOWERA_PHASE_WITHOUT_GROUP 8 /* place: the head of section 3 */
@@ -198,7 +203,8 @@ uint64_t willowera_road(const uint8_t *personality, size_t personality_length, c
  * grade is in percent, -10 to 10; uphill is positive. */
 uint64_t willowera_yellow(uint32_t speed, int32_t grade);
 
-/* Offset and length of the body of a section (WILLOWERA_OFFSET, WILLOWERA_LENGTH), or a refusal. */
+/* Offset and length of the body of a section (WILLOWERA_OFFSET, WILLOWERA_LENGTH), or a refusal. The site section is of kind
+ * WILLOWERA_EDITION_ONE or WILLOWERA_EDITION_TWO. */
 uint64_t willowera_section(const uint8_t *personality, size_t personality_length, uint16_t kind);
 
 /* ── A cabinet: up to four sites on 32 outputs ──

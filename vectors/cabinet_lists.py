@@ -12,7 +12,7 @@ import sys
 
 from cabinet import OUTPUTS, RECORDS, Cabinet
 from controller import Site
-from model import RANGES, junction, largest, random_site, three_phases, turning_arrow
+from model import junction, junction_two, largest, quick_ranges, random_site, turning_arrow
 
 PLACE, STEP, TAKE_OUT = range(3)
 WORDS, LETTERS = ("place", "step", "take"), "RYGFD"
@@ -109,7 +109,7 @@ def edges():
     site = junction()
     yield b"".join(place(record, site, 0) + step(record) + take_out(record) for record in range(256))
     yield b"".join(place(0, site, first) + step(0) + take_out(0) for first in range(256))
-    yield b"".join(place(0, personality, first) for personality in (site[:-1], largest()) for first in (0, 1, 255))
+    yield b"".join(place(0, personality, first) for personality in (site[:-1], junction_two(29), largest()) for first in (0, 1, 255))
     yield b"".join(step(0, 1 << bit) for bit in range(64))
     yield place(0, largest(), 0) + b"".join(step(0, 1 << bit) for bit in range(64)) + take_out(0)
 
@@ -117,9 +117,8 @@ def edges():
 def runs():
     """Sites that take turns, with buttons pressed and detectors occupied, some placed anew."""
     rng = random.Random(10)
-    quick = {name: (low, min(high, low + 6)) for name, (low, high) in RANGES.items()}
     for turn in range(12):
-        sites = [turning_arrow((5, 0)), three_phases(), *[random_site(rng, 8, quick) for _ in range(4)]][turn % 3:]
+        sites = [turning_arrow((5, 0)), junction_two(), *[random_site(rng, 8, quick_ranges(kind), kind) for kind in (1, 8, 1, 8)]][turn % 3:]
         firsts, first = [], 0
         for personality in sites[:RECORDS]:
             firsts.append(first)

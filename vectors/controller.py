@@ -29,7 +29,7 @@ class Site:
             at = end
         records = lambda kind, size, fields: [dict(zip(fields, twos_of(body[kind][at:at + size])))
                                               for at in range(0, len(body[kind]), size)]
-        self.start = number(body[1], 2, 2)
+        self.start = number(body[8] if 8 in body else body[1], 2, 2)
         self.phases = records(2, 12, PHASE_FIELDS)
         self.groups = list(zip(body[3][::2], body[3][1::2]))
         self.detectors = list(zip(body[5][::2], body[5][1::2]))

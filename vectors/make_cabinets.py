@@ -12,7 +12,7 @@ import sys
 
 from cabinet import DARK, OUTPUTS, RECORD_BYTES, RECORDS, ROOM, ROW_BYTES, Cabinet
 from controller import E, MOVEMENTS, OLDEST, R, STATE_BYTES, Y, Controller, Site
-from model import RANGES, junction, largest, random_site, three_phases, turning_arrow, verdict
+from model import junction, junction_two, largest, quick_ranges, random_site, three_phases, turning_arrow, verdict
 
 PLACE, STEP, TAKE_OUT = range(3)
 FAR = (4, 5, 255, 256, 1 << 32, (1 << 64) - 1)
@@ -179,11 +179,15 @@ def spoilt(rng, data):
     return data[:at] + bytes((value,)) + data[at + 1:]
 
 
+def some_site(rng):
+    return random_site(rng, rng.choice((3, 8, 8, 16, 32)), kind=rng.choice((1, 8)))
+
+
 def any_record(rng):
     """A free record, a site as placed and stepped, or a record of any content."""
     if rng.random() < 0.25:
         return FREE
-    personality = rng.choice((junction(), turning_arrow(), *[random_site(rng, most) for most in (3, 8, 8, 16, 32)]))
+    personality = rng.choice((junction(), junction_two(), junction_two(29), turning_arrow(), some_site(rng), some_site(rng), some_site(rng)))
     site = Site(personality)
     free = OUTPUTS - len(site.groups)
     data = record_of(personality, rng.choice((0, free, rng.randint(0, free))), state=any_state(rng, site))
@@ -222,7 +226,7 @@ def any_call(rng, cabinet):
     fitting = free if kind == PLACE else held
     index = rng.choice(fitting) if fitting and rng.random() < 0.85 else rng.choice((0, 1, 2, 3, rng.choice(FAR)))
     if kind == PLACE:
-        personality = random_site(rng, rng.choice((3, 8, 8, 16, 32)))
+        personality = some_site(rng)
         taken = set().union(*(record.taken() for record in records))
         groups = len(Site(personality).groups)
         gaps = [at for at in range(OUTPUTS - groups + 1) if not taken & set(range(at, at + groups))]
@@ -260,11 +264,11 @@ def lists():
 def runs():
     """A long run of sites that take turns."""
     rng = random.Random(25)
-    quick = {name: (low, min(high, low + 6)) for name, (low, high) in RANGES.items()}
     for _ in range(3):
         vector, first, sites = Vector(), 0, []
         for record in range(RECORDS):
-            personality = random_site(rng, 8, quick)
+            kind = rng.choice((1, 8))
+            personality = random_site(rng, 8, quick_ranges(kind), kind)
             vector.call(PLACE, record, personality, first)
             sites.append(Site(personality))
             first += len(sites[-1].groups)

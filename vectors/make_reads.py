@@ -5,8 +5,8 @@ Usage: make_reads.py OUT. The same file comes out at every run. What is covered 
 import random
 import sys
 
-from model import (EARLY_CUT_OFF, PEDESTRIAN, PHASE_FIELDS, RANGES, VEHICLE, WALK_FIELDS, build, junction, largest, number, random_site,
-                   section, three_phases, turning_arrow, twos, verdict)
+from model import (EARLY_CUT_OFF, EDITIONS, PEDESTRIAN, PHASE_FIELDS, VEHICLE, WALK_FIELDS, build, junction, junction_two, largest, number,
+                   random_site, section, three_phases, turning_arrow, twos, verdict)
 
 
 def put(data, at, value, size=2):
@@ -22,8 +22,8 @@ def heads(data):
     return found
 
 
-def limits(data):
-    """Every time field of the bytes at its limits and one past each."""
+def limits(data, ranges=EDITIONS[1]):
+    """Every time field of the bytes that has a range, at its limits and one past each."""
     h = heads(data)
     fields = [(6, "start")]
     fields += [(h[1] + 4 + 12 * p + 2 * i, n) for p in range(data[4]) for i, n in enumerate(PHASE_FIELDS)]
@@ -32,7 +32,9 @@ def limits(data):
     early = next((head for head in h if number(data, head + 2, 2) == 7), None)
     fields += [(early + 4 + 2 * p, "E") for p in range(0 if early is None else data[4])]
     for at, name in fields:
-        low, high = RANGES[name]
+        if name not in ranges:
+            continue
+        low, high = ranges[name]
         for value in (low - 1, low, high, high + 1):
             if value >= 0:
                 yield put(data, at, value)
@@ -165,6 +167,36 @@ def uncalled():
         yield from (silenced(site, phase) for phase in range(site[4]))
 
 
+def editions():
+    """Both first kinds and others; start red and all-red of small and large sites at the limits of both editions; kind 8 in later
+    places; what is checked before and behind the times of the site section; sites of any size of edition two, as edition one, and
+    damaged."""
+    two, big = junction_two(), put(largest(), 2, 8)
+    for data in (two, big, junction_two(150, (150, 150)), junction_two(29), junction_two(30, (14, 15)), junction_two(30, (15, 14)),
+                 junction_two(29, (14, 14)), junction_two(29, (14, 14), kind=1), put(junction(), 2, 8)):
+        yield data
+    for data in (junction(), two, big):
+        yield from (put(data, 2, kind) for kind in (0, 1, 2, 3, 4, 5, 6, 7, 8, 9, 10, 256, 257, 264, 0x0800, 0x0801, 65535))
+    yield from limits(two, EDITIONS[8])
+    for data in (two, put(two, 2, 1), big, largest()):
+        for ranges in EDITIONS.values():
+            yield from limits(data, {name: ranges[name] for name in ("start", "R")})
+    for data in (junction(), two, three_phases(early=(1, 2, 3)), put(big, 2, 8)):
+        h = heads(data)
+        yield from (put(data, head + 2, 8) for head in h[1:])
+        yield from (data[:head] + two[:8] + data[head:] for head in h)
+        yield from (data + more for more in (two[:8], two[:4], two[:3], junction()[:8], section(8, b"")))
+    yield from (two[:size] for size in range(len(two)))
+    yield from each_byte(two, (0, 1, 8, 29))
+    yield from refusals(two)
+    rng = random.Random(11)
+    for _ in range(40):
+        site = random_site(rng, kind=rng.choice((1, 8, 8)))
+        yield from (site, put(site, 2, 9 - number(site, 2, 2)))
+        for _ in range(3):
+            yield damaged(rng, site)
+
+
 def damaged(rng, data):
     """A byte changed, cut, doubled or added."""
     at = rng.randrange(len(data))
@@ -197,6 +229,7 @@ def vectors():
         yield site
         for _ in range(6):
             yield damaged(rng, site)
+    yield from editions()
 
 
 def main():

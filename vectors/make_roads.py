@@ -8,7 +8,7 @@ import random
 import sys
 
 from controller import STATE_BYTES, Site
-from model import PEDESTRIAN, build, junction, largest, number, random_site, three_phases, turning_arrow
+from model import PEDESTRIAN, build, junction, junction_two, largest, number, random_site, three_phases, turning_arrow
 from road import road
 
 WORKED = [
@@ -73,6 +73,9 @@ def sites():
         streams = random_streams(rng, Site(personality))
         steps = rng.choice((rng.randint(0, 60), rng.randint(60, 900), rng.randint(60, 900), rng.randint(900, 4_000)))
         yield personality, streams, steps, STATE_BYTES, len(streams) + rng.choice((0, 0, 1, 5))
+    for personality in (junction_two(), junction_two(29), junction_two(29, kind=1), *[random_site(rng, kind=8) for _ in range(20)]):
+        streams = of((0, 0, 1800)) if personality[5] == 2 else random_streams(rng, Site(personality))
+        yield personality, streams, rng.randint(60, 900), STATE_BYTES, len(streams)
 
 
 def main():

@@ -7,6 +7,8 @@ RANGES = {
     "W": (10, 400), "C1": (1, 400), "C2": (1, 400),
     "E": (0, 200),
 }
+# The ranges of edition one, and of edition two, by the kind of the site section.
+EDITIONS = {1: RANGES, 8: {**RANGES, "start": (30, 150), "R": (15, 150)}}
 PHASE_FIELDS = ("L", "M", "X", "G", "Y", "R")
 WALK_FIELDS = ("W", "C1", "C2")
 VEHICLE, LATE_START, PEDESTRIAN, EARLY_CUT_OFF = range(4)
@@ -49,12 +51,14 @@ class Reader:
 
     def time(self, at, name):
         value = number(self.data, at, 2)
-        low, high = RANGES[name]
+        low, high = self.ranges[name]
         if not low <= value <= high:
             raise Refusal(5, at)
 
     def site(self):
-        head, _ = self.head(1, lambda n: n == 4)
+        kind = 8 if self.begins(8) else 1
+        self.ranges = EDITIONS[kind]
+        head, _ = self.head(kind, lambda n: n == 4)
         self.phases, self.groups = self.data[head + 4], self.data[head + 5]
         if not 2 <= self.phases <= 7:
             raise Refusal(4, head + 4)
@@ -166,14 +170,15 @@ def twos(values):
     return b"".join(v.to_bytes(2, "little") for v in values)
 
 
-def build(start, phases, groups, conflicts, detectors, walks, early=None, order=None):
+def build(start, phases, groups, conflicts, detectors, walks, early=None, order=None, kind=1):
     """phases: rows of six times; groups, detectors: pairs; conflicts: a set of pairs of groups; walks: rows of three times; early: a
-    time for each phase; order: the phases as they run. Of the last two, none where there is no such section."""
+    time for each phase; order: the phases as they run; of these two, none where there is no such section; kind: that of the site
+    section, 8 for edition two."""
     rows = [0] * len(groups)
     for g, j in conflicts:
         rows[g] |= 1 << j
         rows[j] |= 1 << g
-    return (section(1, bytes([len(phases), len(groups)]) + twos([start]))
+    return (section(kind, bytes([len(phases), len(groups)]) + twos([start]))
             + section(2, b"".join(twos(row) for row in phases))
             + section(3, bytes(v for pair in groups for v in pair))
             + section(4, b"".join(row.to_bytes(4, "little") for row in rows))
@@ -187,6 +192,11 @@ def junction():
     """The junction of two phases of document 01."""
     row = (0, 20, 30, 5, 30, 10)
     return build(10, [row, row], [(1, 0), (2, 0)], {(0, 1)}, [(0, 6), (1, 6)], [])
+
+
+def junction_two(start=30, reds=(15, 15), kind=8):
+    """The junction of two phases with the lowest start red and all-reds of edition two."""
+    return build(start, [(0, 20, 30, 5, 30, red) for red in reds], [(1, 0), (2, 0)], {(0, 1)}, [(0, 6), (1, 6)], [], kind=kind)
 
 
 def turning_arrow(early=(20, 0)):
@@ -225,10 +235,15 @@ def called(groups, detectors):
     return phases
 
 
-def random_site(rng, most=32, ranges=None):
-    """An accepted personality of any size, with so many groups at most (3 or more), its settings drawn from the whole of each range, or
-    from these ranges."""
-    ranges = ranges or RANGES
+def quick_ranges(kind):
+    """The lowest values of an edition and a few above them."""
+    return {name: (low, min(high, low + 6)) for name, (low, high) in EDITIONS[kind].items()}
+
+
+def random_site(rng, most=32, ranges=None, kind=1):
+    """An accepted personality of any size, with so many groups at most (3 or more), its settings drawn from the whole of each range of
+    its edition, or from these ranges."""
+    ranges = ranges or EDITIONS[kind]
     phases = rng.randint(2, 7)
     count = rng.randint(max(1, phases // 2), most)
     closing_early = rng.random() < 0.6
@@ -246,7 +261,7 @@ def random_site(rng, most=32, ranges=None):
     if missing:
         vehicle = next((g for g in range(count) if groups[g][1] != PEDESTRIAN), None)
         if vehicle is None:
-            return random_site(rng, most, ranges)
+            return random_site(rng, most, ranges, kind)
         groups[vehicle] = (groups[vehicle][0] | missing, groups[vehicle][1])
     conflicts = {pair for pair in conflicts_of(groups) if rng.random() < 0.6}
     detectors = [(rng.randrange(phases), rng.choice((0, 1, 2, 4, 5, 6))) for _ in range(rng.randint(0, 41))]
@@ -256,4 +271,4 @@ def random_site(rng, most=32, ranges=None):
                  detectors,
                  [tuple(draw(n) for n in WALK_FIELDS) for _ in range(pedestrians)],
                  [draw("E") for _ in range(phases)] if closing_early else None,
-                 rng.sample(range(phases), phases) if rng.random() < 0.5 else None)
+                 rng.sample(range(phases), phases) if rng.random() < 0.5 else None, kind)

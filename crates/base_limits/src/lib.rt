@@ -1,11 +1,12 @@
-// The one table of the lowest and highest values of the time settings, in steps of 0.1 s. The reader checks every time with it, and the
-// largest possible wait bound is computed from it.
+// The tables of the lowest and highest values of the time settings, in steps of 0.1 s, one for each edition of the limits. The reader checks
+// every time with the table of the personality's edition, and the largest possible wait bound is computed from it.
 ghost use mathlib.Core.Path.{_≡_};
 ghost use Rattle.rules.specs.Limits.{limits, within};
+use rules::site::Edition;
 use rules::site::Range;
 
-// By setting number: start red; L, M, X, G, Y, R of a phase; W, C1, C2 of a movement; early cut-off green of a phase.
-const TABLE: [Range; 11] = [
+// Edition one, by setting number: start red; L, M, X, G, Y, R of a phase; W, C1, C2 of a movement; early cut-off green of a phase.
+const ONE: [Range; 11] = [
     Range { low: 10, high: 150 },
     Range { low: 0, high: 200 },
     Range { low: 10, high: 400 },
@@ -22,18 +23,39 @@ const TABLE: [Range; 11] = [
     Range { low: 0, high: 200 },
 ];
 
-// The table. It is that of the rules, entry by entry.
-pub fn limits() -> [Range; 11]
-    ensures { λ r. ⌜ r ≡ limits ⌝ }
+// Edition two, in the same order. Start red is 30 at least, all-red 15.
+const TWO: [Range; 11] = [
+    Range { low: 30, high: 150 },
+    Range { low: 0, high: 200 },
+    Range { low: 10, high: 400 },
+    Range {
+        low: 10,
+        high: 1500,
+    },
+    Range { low: 0, high: 100 },
+    Range { low: 30, high: 100 },
+    Range { low: 15, high: 150 },
+    Range { low: 10, high: 400 },
+    Range { low: 1, high: 400 },
+    Range { low: 1, high: 400 },
+    Range { low: 0, high: 200 },
+];
+
+// The table of an edition. It is that of the rules, entry by entry.
+pub fn limits(edition: Edition) -> [Range; 11]
+    ensures { λ r. ⌜ r ≡ limits edition ⌝ }
 {
-    TABLE
+    match edition {
+        Edition::One => ONE,
+        Edition::Two => TWO,
+    }
 }
 
-// Whether the table allows the value for the setting. A setting outside the table allows only 0.
-pub fn within(setting: usize, value: u16) -> bool
-    ensures { λ r. ⌜ r ≡ within limits setting value ⌝ }
+// Whether the edition allows the value for the setting. A setting outside the table allows only 0.
+pub fn within(edition: Edition, setting: usize, value: u16) -> bool
+    ensures { λ r. ⌜ r ≡ within (limits edition) setting value ⌝ }
 {
-    let ranges = limits();
+    let ranges = limits(edition);
     if setting < ranges.len() {
         let range = ranges[setting];
         (range.low <= value) & (value <= range.high)

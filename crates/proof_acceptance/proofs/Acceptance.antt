@@ -13,25 +13,30 @@ use native.Mathlib.Omega.{arith}
 use Rattle.rules.specs.declared.site.Detector.{Detector}
 use Rattle.rules.specs.declared.site.Group.{Group}
 use Rattle.rules.specs.declared.site.PhaseTimes.{PhaseTimes}
+use Rattle.rules.specs.declared.site.Range.{Range}
 use Rattle.laws.specs.Folds.{anyOf, countOf, indicesOf}
 use Rattle.laws.specs.Bytes.{twoAt, bit}
-use Rattle.rules.specs.Limits.{limits, limitOf, phaseSettings, walkSettings, earlySetting}
-use Rattle.rules.specs.Personality.{recordAt, phasesHead, pedestriansHead, phaseCount, groupCount, detectorCount, movementCount, groupSet, groupMark, conflictSet, detectorPhase, knownMode, pedestrian, pedestriansBefore, hasEarly, hasOrder, callsPhase, walksPhase}
+use Rattle.rules.specs.Limits.{limits, phaseSettings, walkSettings, earlySetting}
+use Rattle.rules.specs.Personality.{editionOf, recordAt, phasesHead, pedestriansHead, phaseCount, groupCount, detectorCount, movementCount, groupSet, groupMark, conflictSet, detectorPhase, knownMode, pedestrian, pedestriansBefore, hasEarly, hasOrder, callsPhase, walksPhase}
 use Rattle.rules.specs.Site.{earlyTimeAt, phaseTimesAt, walkTimesAt, timesIn, crossingAt, orderIn, siteOf, groupOf, phaseTimes, inPhase, crosses, isPedestrian, movementOf, conflict}
-use Rattle.rules.specs.Laws.{InTable, PhaseTimesIn, WalkTimesIn, TimesIn, OnePhase, Caller, Sound, AcceptedIsSound, AcceptedIsInTable}
+use Rattle.rules.specs.Laws.{InTable, PhaseTimesIn, WalkTimesIn, TimesIn, mayBeZero, OnePhase, Caller, Sound, AcceptedIsSound, EditionIsNamed, AcceptedIsInTable}
 use Rattle.laws.proofs.Booleans.{decided, never-both, and-left, and-right, or-cases}
 use Rattle.laws.proofs.Indices.{below-or-past, passes-below}
 use Rattle.laws.proofs.Folds.{any-found}
 use Rattle.laws.proofs.Counting.{IthPassing, indices-at, count-before, count-apart, count-same, count-one, count-only}
 use Rattle.laws.proofs.Bits.{bit-below}
-use Rattle.rules.proofs.Settings.{table-is-usable}
+use Rattle.rules.proofs.Settings.{table-is-usable, zero-allowed}
 use Rattle.proof_acceptance.proofs.Sections.{PhasesAccepted, GroupsAccepted, ConflictsAccepted, PedestriansAccepted, EarlyAccepted, OrderAccepted, SectionsAccepted, sections-accepted}
 use Rattle.proof_acceptance.proofs.Entries.{phase-times-at, phase-times-past, walk-times-at, order-at, group-at, group-past, in-phase-at, in-phase-past, pedestrian-at, conflict-at, conflict-past, detector-at, crosses-at, crosses-past, movement-at}
 
 -- ── Times ──
 
+-- the table of the edition that was read
+abbrev table : List ℕ → List Range
+table b = limits (editionOf b)
+
 -- the first field of a record stands at the record's own place
-first-field : (b : List ℕ) (place setting : ℕ) → InTable limits setting (twoAt b (place + 0)) → InTable limits setting (twoAt b place)
+first-field : (b : List ℕ) (place setting : ℕ) → InTable (table b) setting (twoAt b (place + 0)) → InTable (table b) setting (twoAt b place)
 first-field b place setting h = rw add-zero at h
 
 -- the time of early cut-off green is in the table where kind 7 is there, and 0 where it is not
@@ -40,12 +45,12 @@ early-time-in :
     (hasEarly b ≡ true → EarlyAccepted b) →
     (p : ℕ) →
     p < phaseCount b →
-    InTable limits earlySetting (earlyTimeAt b p)
-unfolding earlyTimeAt limitOf limits
+    InTable (table b) earlySetting (earlyTimeAt b p)
+unfolding earlyTimeAt mayBeZero
 early-time-in b s p l =
     ⊎-elim
     (λ (there : hasEarly b ≡ true). rw there (s there .time p l))
-    (λ (missing : hasEarly b ≡ false). rw missing (omega arith, omega arith))
+    (λ (missing : hasEarly b ≡ false). rw missing (zero-allowed (table b) (table-is-usable (editionOf b)) earlySetting (omega arith) refl))
     (decided (hasEarly b))
 
 no-early-time : (b : List ℕ) (p : ℕ) → hasEarly b ≡ false → phaseTimes (siteOf b .times) p .early ≡ 0
@@ -62,7 +67,7 @@ phase-times-in :
     (hasEarly b ≡ true → EarlyAccepted b) →
     (p : ℕ) →
     p < phaseCount b →
-    PhaseTimesIn limits (phaseTimesAt b p)
+    PhaseTimesIn (table b) (phaseTimesAt b p)
 unfolding phaseTimesAt
 phase-times-in b s early p l =
     record {
@@ -75,7 +80,7 @@ phase-times-in b s early p l =
       early = early-time-in b early p l;
     }
 
-walk-times-in : (b : List ℕ) → PedestriansAccepted b → (k : ℕ) → k < movementCount b → WalkTimesIn limits (walkTimesAt b k)
+walk-times-in : (b : List ℕ) → PedestriansAccepted b → (k : ℕ) → k < movementCount b → WalkTimesIn (table b) (walkTimesAt b k)
 unfolding walkTimesAt
 walk-times-in b s k l =
     record {
@@ -84,17 +89,21 @@ walk-times-in b s k l =
       second = s .time k l 2 (omega arith);
     }
 
-times-in : (b : List ℕ) → SectionsAccepted b → TimesIn limits (siteOf b .size) (siteOf b .times)
+times-in : (b : List ℕ) → SectionsAccepted b → TimesIn (table b) (siteOf b .size) (siteOf b .times)
 unfolding siteOf timesIn
 times-in b s =
     record {
       start = s .site .start;
-      phase = λ p l. subst (PhaseTimesIn limits) (sym (phase-times-at b p l)) (phase-times-in b (s .phases) (s .early) p l);
-      walk = λ k l. subst (WalkTimesIn limits) (sym (walk-times-at b k l)) (walk-times-in b (s .pedestrians) k l);
+      phase = λ p l. subst (PhaseTimesIn (table b)) (sym (phase-times-at b p l)) (phase-times-in b (s .phases) (s .early) p l);
+      walk = λ k l. subst (WalkTimesIn (table b)) (sym (walk-times-at b k l)) (walk-times-in b (s .pedestrians) k l);
     }
 
+pub edition-is-named : EditionIsNamed
+unfolding EditionIsNamed siteOf
+edition-is-named b h = sections-accepted b h .site .kind
+
 pub accepted-is-in-table : AcceptedIsInTable
-unfolding AcceptedIsInTable
+unfolding AcceptedIsInTable siteOf
 accepted-is-in-table b h = times-in b (sections-accepted b h)
 
 -- ── The order of phases ──
@@ -273,7 +282,7 @@ sound b s =
       groups = s .site .groups;
       detectors = s .detectors .count;
       movements = s .groups .movements;
-      times = record { table = limits; tableUsable = table-is-usable; inTable = times-in b s };
+      times = record { table = table b; tableUsable = table-is-usable (editionOf b); inTable = times-in b s };
       noEarlyTime = no-early-time b;
       noEarlyGroup = no-early-group b s;
       orderOnce = order-once b (s .order);

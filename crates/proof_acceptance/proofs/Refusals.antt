@@ -15,7 +15,7 @@ use Rattle.rules.specs.declared.state.KeptState.{KeptState}
 use Rattle.rules.specs.Limits.{phaseSettings, walkSettings, earlySetting}
 use Rattle.laws.specs.Folds.{if_then_else_}
 use Rattle.rules.specs.Verdicts.{_orElse_, refuseIf, firstOf}
-use Rattle.rules.specs.Personality.{bodyAt, bodyLength, recordAt, phaseCount, groupCount, siteHead, phasesHead, groupsHead, conflictsHead, detectorsHead, pedestriansHead, movementCount, detectorCount, pastSection, earlyHead, hasEarly, orderHead, hasOrder, endOf, sectionAt, timeAt, timesAt, siteSection, timeRecords, timedSection, phasesSection, groupRecord, groupsSection, conflictsSection, detectorRecord, detectorsSection, pedestriansSection, earlySection, orderSection, phaseWithoutCaller, earlyMissing, leftOver, afterPedestrians, verdictOf}
+use Rattle.rules.specs.Personality.{siteKind, editionOf, bodyAt, bodyLength, recordAt, phaseCount, groupCount, siteHead, phasesHead, groupsHead, conflictsHead, detectorsHead, pedestriansHead, movementCount, detectorCount, pastSection, earlyHead, hasEarly, orderHead, hasOrder, endOf, sectionAt, timeAt, timesAt, siteSection, timeRecords, timedSection, phasesSection, groupRecord, groupsSection, conflictsSection, detectorRecord, detectorsSection, pedestriansSection, earlySection, orderSection, phaseWithoutCaller, earlyMissing, leftOver, afterPedestrians, verdictOf}
 use Rattle.rules.specs.Call.{stepVerdict, checksBy, callVerdict}
 use Rattle.rules.specs.Laws.{readingNumber, stepNumber, sectionLength, greatestLength, AcceptedIsShort, PlaceIn, Written, RefusalIsWritten}
 use Rattle.rules.proofs.Verdicts.{refused-not-accepted, or-refused, refuse-failed, first-refused}
@@ -135,7 +135,7 @@ module _
     site : Refusals Allowed (siteSection b)
     unfolding siteSection timeAt bodyAt
     site =
-        records siteHead 1 1 4 _ (omega arith) (omega arith)
+        records siteHead (siteKind (editionOf b)) 1 4 _ (omega arith) (omega arith)
         (λ l. or-refusals Allowed _ _ (check _ 4 4 refl (omega arith))
         (λ e. or-refusals Allowed _ _ (check _ 4 5 refl (omega arith)) (λ f. check _ 5 6 refl (omega arith))))
 

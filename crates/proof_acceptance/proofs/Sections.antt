@@ -14,7 +14,7 @@ use Rattle.laws.specs.Folds.{anyOf, countOf}
 use Rattle.laws.specs.Bytes.{twoAt, bit}
 use Rattle.rules.specs.Limits.{limits, within, startRedSetting, phaseSettings, walkSettings, earlySetting}
 use Rattle.rules.specs.Verdicts.{firstOf}
-use Rattle.rules.specs.Personality.{bodyLength, bodyAt, pastSection, recordAt, phaseCount, groupCount, siteHead, phasesHead, groupsHead, conflictsHead, detectorsHead, pedestriansHead, groupSet, groupMark, pedestrian, pedestriansBefore, movementCount, conflictSet, detectorCount, detectorPhase, sectionAt, timeAt, timesAt, siteSection, timeRecords, timedSection, phasesSection, badGroup, badGroupAt, ninthPedestrian, groupRecord, phaseWithoutGroup, groupsSection, badConflict, sharePhase, conflictInPhase, conflictsSection, badDetector, badDetectorAt, detectorRecord, detectorsSection, pedestriansSection, earlyHead, hasEarly, earlySection, orderHead, hasOrder, orderAt, phaseNotOnce, orderSection, callsPhase, walksPhase, phaseWithoutCaller, stopsEarly, earlyMissing, leftOver, afterPedestrians, endOf, verdictOf, detectorMode, knownMode}
+use Rattle.rules.specs.Personality.{kindAt, siteKind, editionOf, bodyLength, bodyAt, pastSection, recordAt, phaseCount, groupCount, siteHead, phasesHead, groupsHead, conflictsHead, detectorsHead, pedestriansHead, groupSet, groupMark, pedestrian, pedestriansBefore, movementCount, conflictSet, detectorCount, detectorPhase, sectionAt, timeAt, timesAt, siteSection, timeRecords, timedSection, phasesSection, badGroup, badGroupAt, ninthPedestrian, groupRecord, phaseWithoutGroup, groupsSection, badConflict, sharePhase, conflictInPhase, conflictsSection, badDetector, badDetectorAt, detectorRecord, detectorsSection, pedestriansSection, earlyHead, hasEarly, earlySection, orderHead, hasOrder, orderAt, phaseNotOnce, orderSection, callsPhase, walksPhase, phaseWithoutCaller, stopsEarly, earlyMissing, leftOver, afterPedestrians, endOf, verdictOf, detectorMode, knownMode}
 use Rattle.rules.specs.Laws.{InTable}
 use Rattle.laws.proofs.Booleans.{and-right, or-false-left, or-false-right, never-both, both-passed, or-false-three, and-false-rest}
 use Rattle.laws.proofs.Folds.{any-false, any-found}
@@ -35,7 +35,12 @@ body-held b head kind right h =
       ltb-false (length b) (bodyAt head + bodyLength b head) (refuse-passed _ _ _ (or-later _ _ fromLength)),
     )
 
--- so has one of n records
+-- it has the right kind
+kind-held : (b : List ℕ) (head kind : ℕ) (lengthRight : Bool) → sectionAt b head kind lengthRight ≡ Accepted → kindAt b head ≡ kind
+unfolding sectionAt
+kind-held b head kind right h = eqb-true _ _ (not-false _ (refuse-passed _ _ _ (or-first _ _ (or-later _ _ h))))
+
+-- and one of n records has them in its body
 pub records-held :
     (b : List ℕ) (head kind n width : ℕ) →
     sectionAt b head kind (eqb (bodyLength b head) (n * width)) ≡ Accepted →
@@ -51,7 +56,7 @@ record-within head width n i l = omega (arith, mul-le-mul-right width l, suc-mul
 
 -- ── Times ──
 
-time-passed : (b : List ℕ) (place setting : ℕ) → timeAt b place setting ≡ Accepted → InTable limits setting (twoAt b place)
+time-passed : (b : List ℕ) (place setting : ℕ) → timeAt b place setting ≡ Accepted → InTable (limits (editionOf b)) setting (twoAt b place)
 unfolding timeAt within
 time-passed b place setting h =
     let passed = both-passed _ _ (refuse-passed _ _ _ h) in
@@ -65,7 +70,7 @@ times-passed :
     i < n →
     (f : ℕ) →
     f < fields →
-    InTable limits (setting + f) (twoAt b (recordAt head width i + f * 2))
+    InTable (limits (editionOf b)) (setting + f) (twoAt b (recordAt head width i + f * 2))
 unfolding timesAt
 times-passed b head width setting fields n h i l f m =
     time-passed b (recordAt head width i + f * 2) (setting + f)
@@ -76,14 +81,15 @@ times-passed b head width setting fields n h i l f m =
 -- ── What each section tells, with the next head within the bytes ──
 
 pub record SiteAccepted (b : List ℕ) : Type 0 where
+  pub kind : kindAt b siteHead ≡ siteKind (editionOf b)
   pub next : phasesHead ≤ length b
   pub phases : (2 ≤ phaseCount b) × (phaseCount b ≤ 7)
   pub groups : (1 ≤ groupCount b) × (groupCount b ≤ 32)
-  pub start : InTable limits startRedSetting (twoAt b 6)
+  pub start : InTable (limits (editionOf b)) startRedSetting (twoAt b 6)
 
 pub record PhasesAccepted (b : List ℕ) : Type 0 where
   pub next : groupsHead b ≤ length b
-  pub time : (p : ℕ) → p < phaseCount b → (f : ℕ) → f < 6 → InTable limits (phaseSettings + f) (twoAt b (recordAt phasesHead 12 p + f * 2))
+  pub time : (p : ℕ) → p < phaseCount b → (f : ℕ) → f < 6 → InTable (limits (editionOf b)) (phaseSettings + f) (twoAt b (recordAt phasesHead 12 p + f * 2))
 
 pub record GroupsAccepted (b : List ℕ) : Type 0 where
   pub next : conflictsHead b ≤ length b
@@ -122,13 +128,13 @@ pub record PedestriansAccepted (b : List ℕ) : Type 0 where
       k < movementCount b →
       (f : ℕ) →
       f < 3 →
-      InTable limits (walkSettings + f) (twoAt b (recordAt (pedestriansHead b) 6 k + f * 2))
+      InTable (limits (editionOf b)) (walkSettings + f) (twoAt b (recordAt (pedestriansHead b) 6 k + f * 2))
 
 -- where kind 7 is there
 pub record EarlyAccepted (b : List ℕ) : Type 0 where
   pub body : bodyLength b (earlyHead b) ≡ phaseCount b * 2
   pub next : bodyAt (earlyHead b) + phaseCount b * 2 ≤ length b
-  pub time : (p : ℕ) → p < phaseCount b → InTable limits earlySetting (twoAt b (recordAt (earlyHead b) 2 p))
+  pub time : (p : ℕ) → p < phaseCount b → InTable (limits (editionOf b)) earlySetting (twoAt b (recordAt (earlyHead b) 2 p))
 
 -- where kind 9 is there
 pub record OrderAccepted (b : List ℕ) : Type 0 where
@@ -143,7 +149,8 @@ site-accepted b h =
     let phases = both-passed _ _ (refuse-passed _ _ _ (or-first _ _ counts)) in
     let groups = both-passed _ _ (refuse-passed _ _ _ (or-first _ _ (or-later _ _ counts))) in
     record {
-      next = records-held b siteHead 1 1 4 (or-first _ _ h);
+      kind = kind-held b siteHead (siteKind (editionOf b)) _ (or-first _ _ h);
+      next = records-held b siteHead (siteKind (editionOf b)) 1 4 (or-first _ _ h);
       phases = (leb-true _ _ (phases .0), leb-true _ _ (phases .1));
       groups = (leb-true _ _ (groups .0), leb-true _ _ (groups .1));
       start = time-passed b 6 startRedSetting (or-later _ _ (or-later _ _ counts));

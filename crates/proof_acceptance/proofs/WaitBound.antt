@@ -6,6 +6,8 @@ use mathlib.Core.List.{List}
 use mathlib.Core.Path.{_≡_, refl}
 use native.Mathlib.Nat.{mul-le-mul-right}
 use native.Mathlib.Omega.{arith}
+use Rattle.rules.specs.declared.site.Edition.{Edition}
+use Rattle.rules.specs.declared.site.Edition.the-variants.{One, Two}
 use Rattle.rules.specs.declared.site.Range.{Range}
 use Rattle.rules.specs.declared.site.Size.{Size}
 use Rattle.rules.specs.declared.site.Times.{Times}
@@ -13,13 +15,14 @@ use Rattle.laws.specs.Folds.{if_then_else_}
 use Rattle.rules.specs.Limits.{limits, limitOf}
 use Rattle.rules.specs.Site.{phaseTimes, walkTimes, crosses, siteOf}
 use Rattle.rules.specs.WaitBound.{phaseShare, longestWalk, longestClearance, waitBoundBy}
-use Rattle.rules.specs.Laws.{TimesIn, AcceptedIsSound, AcceptedIsInTable, highest, highestPhase, highestWalk, greatestShare, greatestWait, WaitIsInTable}
+use Rattle.rules.specs.Laws.{TimesIn, AcceptedIsSound, AcceptedIsInTable, highest, highestPhase, highestWalk, greatestShare, greatestWait, greatestBound, WaitIsInTable}
 use Rattle.laws.proofs.Sums.{greatest-most, sum-within}
 use Rattle.proof_acceptance.proofs.Acceptance.{accepted-is-sound, accepted-is-in-table}
 
-greatest-wait : greatestWait limits ≡ 37950
+greatest-wait : (edition : Edition) → greatestWait (limits edition) ≡ greatestBound
 unfolding greatestWait greatestShare phaseShare highestPhase highestWalk highest limitOf limits
-greatest-wait = refl
+greatest-wait One = refl
+greatest-wait Two = refl
 
 -- a choice between a number within m and 0 is within m
 chosen-within : (t : Bool) (n m : ℕ) → n ≤ m → (if t then n else 0) ≤ m
@@ -81,5 +84,7 @@ unfolding WaitIsInTable AcceptedIsSound AcceptedIsInTable
 wait-is-in-table = (
   greatest-wait,
   λ b h.
-      wait-within limits (siteOf b .size) (siteOf b .times) (siteOf b .crossings) (accepted-is-in-table b h) (accepted-is-sound b h .phases .1),
+      let edition = siteOf b .edition in
+      rw (greatest-wait edition) at
+      (wait-within (limits edition) (siteOf b .size) (siteOf b .times) (siteOf b .crossings) (accepted-is-in-table b h) (accepted-is-sound b h .phases .1)),
 )

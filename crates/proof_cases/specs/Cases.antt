@@ -1,5 +1,5 @@
 -- The worked cases: document 01's starred ones, and our own below them, in a single list with one statement: each of them holds. The cases of
--- one call that a must-fail edit of the rules needs stand in rules/specs/Cases.antt; two of the starred ones are among those and here too.
+-- one call that a must-fail edit of the rules needs stand in rules/specs/CallCases.antt; two of the starred ones are among those and here too.
 use Prim.Native.Nat.{ℕ, _+_, _^_}
 use mathlib.Core.Bool.{_&&_, _||_}
 use mathlib.Core.Path.{_≡_}
@@ -14,7 +14,7 @@ use Rattle.laws.specs.Folds.{if_then_else_}
 use Rattle.rules.specs.State.{idle}
 use Rattle.rules.specs.Kept.{freshKept}
 use Rattle.rules.specs.Colours.{red, yellow, green, flashing}
-use Rattle.rules.specs.Junctions.{junction, putTwo, crossing, threePhases, callingB, overlap, cutOffs, turning, turningBoth, ordered}
+use Rattle.rules.specs.Junctions.{junction, putTwo, crossing, threePhases, callingB, overlap, cutOffs, turning, turningBoth, ordered, editionTwo}
 use Rattle.rules.specs.CallCases.{CallCase, reading, waiting, answering, CallHolds, AllHold, at, gap_max_, locks_buttons_, state, stepping, declining}
 use Rattle.proof_cases.specs.Traces.{Line, line, changes}
 
@@ -321,10 +321,27 @@ callers =
     ∷ call (reading (set turning 69 4 ++ (1 ∷ [])) (Refused 21 62))
     ∷ []
 
+-- ── Request eleven: edition two of the limits ──
+
+unfoldable pub inEditionTwo : List Case
+inEditionTwo =
+    -- 30 + 2 × (20 + 30 + 2 × (30 + 15))
+    call (waiting editionTwo 310)
+    -- detector 1 in step 12: start red and all-red last as long as the personality says
+    ∷ running editionTwo onceB 97
+    (line 1 0 StartRed (red ∷ red ∷ [])
+    ∷ line 30 0 MinimumGreen (green ∷ red ∷ [])
+    ∷ line 50 0 Running (green ∷ red ∷ [])
+    ∷ line 51 0 Yellow (yellow ∷ red ∷ [])
+    ∷ line 81 0 AllRed (red ∷ red ∷ [])
+    ∷ line 96 1 MinimumGreen (red ∷ green ∷ [])
+    ∷ [])
+    ∷ []
+
 -- ── The list and its statement ──
 
 unfoldable pub cases : List Case
-cases = starred ++ ours ++ early ++ keeping ++ resting ++ inOrder ++ callers
+cases = starred ++ ours ++ early ++ keeping ++ resting ++ inOrder ++ callers ++ inEditionTwo
 
 unfoldable pub CasesHold : Type 0
 CasesHold = AllHold Holds cases

@@ -1,15 +1,16 @@
-// The places of the sections of a personality.
+// The edition of a personality, and the places of its sections.
 ghost use Prim.Native.Nat.{_+_, _≤_};
 ghost use mathlib.Core.Path.{_≡_};
 ghost use Rattle.laws.specs.Folds.{if_then_else_};
-ghost use Rattle.rules.specs.Personality.{bodyLength, pastSection, hasHead};
+ghost use Rattle.rules.specs.Personality.{siteKind, editionOf, bodyLength, pastSection, hasHead};
 ghost use Rattle.read_layout.specs.LayoutOf.{LayoutOf};
 use base_bytes::byte_at;
 use base_bytes::two_at;
 use base_bytes::two_in;
+use rules::site::Edition;
 
 // The counts P and N, and the places of the heads of kinds 3 to 7 and 9. Kinds 7 and 9 are optional: `hasearly` and `hasorder` say if they
-// are present, and `early` and `order` are the places that their heads would have. The heads of kinds 1 and 2 are at 0 and 8.
+// are present, and `early` and `order` are the places that their heads would have. The site section is at 0, kind 2 at 8.
 pub struct Layout {
     pub phasecount: u8,
     pub groupcount: u8,
@@ -43,6 +44,26 @@ fn has_head(s: &[u8], head: usize, kind: u16) -> bool
         return two_in(s, head + 2) == kind;
     }
     false
+}
+
+// The kind of the site section.
+pub fn site_kind(edition: Edition) -> u16
+    ensures { λ r. ⌜ r ≡ siteKind edition ⌝ }
+{
+    match edition {
+        Edition::One => 1,
+        Edition::Two => 8,
+    }
+}
+
+// The edition that the first section names: two if it is of kind 8. It is no field of the layout: reading it again takes fewer instructions.
+pub fn edition_of(s: &[u8]) -> Edition
+    ensures { λ r. ⌜ r ≡ editionOf (now (s .entry)) ⌝ }
+{
+    if has_head(s, 0, 8) {
+        return Edition::Two;
+    }
+    Edition::One
 }
 
 // The place after an optional section; if the section is not present, the place of its head.

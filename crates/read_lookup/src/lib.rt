@@ -8,19 +8,25 @@ ghost use Rattle.rules.specs.Lookup.{heldKind, headOf, lookupVerdict, lookupRep
 ghost use Rattle.read_layout.specs.LayoutOf.{LayoutOf};
 use base_bytes::two_at;
 use read_layout::Layout;
+use read_layout::edition_of;
+use read_layout::site_kind;
 use read_personality::read_with_layout;
 use rules::answer::Report;
 use rules::answer::Verdict;
 
-// Whether the personality holds the kind: 1 to 6, and 7 and 9 if they are present.
+// Whether the personality holds the kind: 1 or 8 by its edition, 2 to 6, and 7 and 9 if they are present.
 fn held_kind(s: &[u8], layout: Layout, kind: u16) -> bool
     requires { ⌜ LayoutOf (now s) layout ⌝ }
     ensures { λ r. ⌜ r ≡ heldKind (now (s .entry)) kind ⌝ }
 {
-    ((1 <= kind) & (kind <= 6)) | ((kind == 7) & layout.hasearly) | ((kind == 9) & layout.hasorder)
+    (kind == site_kind(edition_of(s)))
+        | ((2 <= kind) & (kind <= 6))
+        | ((kind == 7) & layout.hasearly)
+        | ((kind == 9) & layout.hasorder)
 }
 
-// The head of the section of a kind. For kinds 7 and 9 it is their place even if they are not present; for any other number it is 0.
+// The head of the section of a kind. For kinds 7 and 9 it is their place even if they are not present; kinds 1 and 8 have the same place. For any
+// other number it is 0.
 fn head_of(s: &[u8], layout: Layout, kind: u16) -> usize
     requires { ⌜ LayoutOf (now s) layout ⌝ }
     ensures { λ r. ⌜ (r ≡ headOf (now (s .entry)) kind) × (r ≤ 201227) ⌝ }

@@ -1,20 +1,23 @@
-// Kinds 1, 2 and 6: the counts and start red of the site, the times of the phases, the times of the pedestrian movements.
+// Kinds 1 or 8, 2 and 6: the counts and start red of the site, the times of the phases, the times of the pedestrian movements.
 ghost use Prim.Native.Nat.{_≤_};
 ghost use mathlib.Core.Path.{_≡_};
 ghost use Rattle.rules.specs.Personality.{movementCount, siteSection, phasesSection, pedestriansSection};
 ghost use Rattle.read_layout.specs.LayoutOf.{LayoutOf};
 use read_layout::Layout;
+use read_layout::edition_of;
+use read_layout::site_kind;
 use read_sections::sized_section;
 use read_time_records::time_at;
 use read_time_records::timed_section;
 use rules::answer::Verdict;
 
-// Kind 1. 4: P is not 2 to 7, or N is not 1 to 32. 5: start red is outside its limits.
+// Kind 1, or 8 for edition two. 4: P is not 2 to 7, or N is not 1 to 32. 5: start red is outside its limits.
 pub fn site_section(s: &[u8], layout: Layout) -> Verdict
     requires { ⌜ LayoutOf (now s) layout ⌝ }
     ensures { λ r. ⌜ r ≡ siteSection (now (s .entry)) ⌝ }
 {
-    let head = sized_section(s, 0, 1, 4);
+    let edition = edition_of(s);
+    let head = sized_section(s, 0, site_kind(edition), 4);
     if let Verdict::Refused { .. } = head {
         return head;
     }
@@ -32,7 +35,7 @@ pub fn site_section(s: &[u8], layout: Layout) -> Verdict
             place: 5,
         };
     }
-    time_at(s, 6, 0)
+    time_at(s, edition, 6, 0)
 }
 
 // Kind 2: a record of L, M, X, G, Y, R for each phase.
@@ -40,7 +43,8 @@ pub fn phases_section(s: &[u8], layout: Layout) -> Verdict
     requires { ⌜ LayoutOf (now s) layout ⌝ }
     ensures { λ r. ⌜ r ≡ phasesSection (now (s .entry)) ⌝ }
 {
-    timed_section(s, 8, 2, 1, 6, layout.phasecount as usize)
+    let edition = edition_of(s);
+    timed_section(s, edition, 8, 2, 1, 6, layout.phasecount as usize)
 }
 
 // Kind 6: a record of W, C1, C2 for each movement.
@@ -48,5 +52,6 @@ pub fn pedestrians_section(s: &[u8], layout: Layout, movements: usize) -> Verdic
     requires { ⌜ LayoutOf (now s) layout × (movements ≡ movementCount (now s)) × (movements ≤ 8) ⌝ }
     ensures { λ r. ⌜ r ≡ pedestriansSection (now (s .entry)) ⌝ }
 {
-    timed_section(s, layout.pedestrians, 6, 7, 3, movements)
+    let edition = edition_of(s);
+    timed_section(s, edition, layout.pedestrians, 6, 7, 3, movements)
 }

@@ -1,17 +1,19 @@
 -- What the times of a sound site give every proof: each is one that an age can reach, and all but late start, gap and early cut-off green
--- are one step at least. Shown for any table of limits by the one test that it is usable, read off at each setting; today's table passes it.
+-- are one step at least. Shown for any table of limits by the one test that it is usable, read off at each setting; the table of each edition
+-- passes it.
 use Prim.Native.Nat.{ℕ, _+_, _≤_, _<_}
-use mathlib.Core.Bool.{true, false, _||_}
+use mathlib.Core.Bool.{true, false}
 use mathlib.Core.List.{List}
 use mathlib.Core.Path.{_≡_, refl}
-use lib.Dec.{leb}
+use lib.Dec.{leb, eqb}
 use native.Mathlib.Omega.{arith}
-use borrow.Author.Tests.{leb-true}
+use borrow.Author.Tests.{leb-true, eqb-true}
+use Rattle.rules.specs.declared.site.Edition.the-variants.{One, Two}
 use Rattle.rules.specs.declared.site.PhaseTimes.{PhaseTimes}
 use Rattle.rules.specs.declared.site.Range.{Range}
 use Rattle.rules.specs.declared.site.Site.{Site}
 use Rattle.rules.specs.declared.site.WalkTimes.{WalkTimes}
-use Rattle.laws.specs.Folds.{allOf}
+use Rattle.laws.specs.Folds.{if_then_else_, allOf}
 use Rattle.rules.specs.Limits.{limits, limitOf, startRedSetting, phaseSettings, walkSettings, earlySetting, settingCount}
 use Rattle.rules.specs.Site.{phaseTimes, walkTimes}
 use Rattle.rules.specs.State.{highestAge}
@@ -22,7 +24,8 @@ use Rattle.laws.proofs.Folds.{all-at}
 
 pub table-is-usable : TableIsUsable
 unfolding usable timely allOf mayBeZero highest highestPhase highestWalk greatestShare greatestWait phaseShare limitOf limits
-table-is-usable = refl
+table-is-usable One = refl
+table-is-usable Two = refl
 
 -- a setting that is counted: one step at least, and an age can reach it
 abbrev pub Counted : ℕ → Type 0
@@ -52,7 +55,8 @@ module _ (table : List Range) (passed : usable table ≡ true) where
   told :
       (setting : ℕ) →
       setting < settingCount →
-      (leb (highest table setting) highestAge ≡ true) × ((mayBeZero setting || leb 1 (limitOf table setting .low)) ≡ true)
+      let lowest = limitOf table setting .low in
+      (leb (highest table setting) highestAge ≡ true) × ((if mayBeZero setting then eqb lowest 0 else leb 1 lowest) ≡ true)
   unfolding timely
   told setting l =
       let test = all-at (timely table) settingCount setting (tested .0) l in
@@ -64,6 +68,9 @@ module _ (table : List Range) (passed : usable table ≡ true) where
 
   counted : (setting : ℕ) {time : ℕ} → setting < settingCount → mayBeZero setting ≡ false → InTable table setting time → Counted time
   counted setting l some h = (omega (arith, leb-true 1 (limitOf table setting .low) (rw some at (told setting l .1))), reached setting l h)
+
+  pub zero-allowed : (setting : ℕ) → setting < settingCount → mayBeZero setting ≡ true → InTable table setting 0
+  zero-allowed setting l none = let e = eqb-true (limitOf table setting .low) 0 (rw none at (told setting l .1)) in (omega arith, omega arith)
 
   phase-told : {times : PhaseTimes} → PhaseTimesIn table times → Timed times
   unfolding mayBeZero

@@ -21,23 +21,26 @@ use Rattle.rules.specs.declared.state.Position.{Position}
 use Rattle.rules.specs.declared.state.Stage.{Stage}
 use Rattle.rules.specs.declared.state.Stage.the-variants.{Walk, ClearanceOne, ClearanceTwo}
 use Rattle.rules.specs.Personality.{groupCount, verdictOf}
+use Rattle.rules.specs.Lookup.{lookupVerdict}
 use Rattle.rules.specs.Site.{siteOf}
 use Rattle.rules.specs.State.{idle}
 use Rattle.rules.specs.Colours.{red, yellow, green, coloursOf}
 use Rattle.rules.specs.WaitBound.{waitBound}
 use Rattle.rules.specs.Call.{answerOf}
-use Rattle.rules.specs.Junctions.{junction, putTwo, crossing, threePhases, callingB, overlap, cutOffs, turning, turningBoth, ordered}
+use Rattle.rules.specs.Junctions.{section, junction, putTwo, putKind, crossing, threePhases, callingB, overlap, cutOffs, turning, turningBoth, ordered, longerReds, editionTwo}
 
--- What a case states about a personality: its verdict, its wait bound, the answer to a step call from a state with a buffer that is long
--- enough, or the colours in a state.
+-- What a case states about a personality: its verdict, the verdict of the lookup of a kind, its wait bound, the answer to a step call from a
+-- state with a buffer that is long enough, or the colours in a state.
 pub data CallCase : Type 0 where
   reading : List ℕ → Verdict → CallCase
+  lookingUp : List ℕ → ℕ → Verdict → CallCase
   waiting : List ℕ → ℕ → CallCase
   answering : List ℕ → KeptState → ℕ → Answer → CallCase
   showing : List ℕ → KeptState → List ℕ → CallCase
 
 abbrev pub CallHolds : CallCase → Type 0
 CallHolds (reading b verdict) = verdictOf b ≡ verdict
+CallHolds (lookingUp b kind verdict) = lookupVerdict b kind ≡ verdict
 CallHolds (waiting b wait) = waitBound (siteOf b) ≡ wait
 CallHolds (answering b s inputs answer) = answerOf b s inputs (groupCount b) ≡ answer
 CallHolds (showing b s colours) = coloursOf (siteOf b) (s .core) ≡ colours
@@ -112,6 +115,23 @@ callCases =
     ∷ reading (set turning 69 4) (Refused 21 62)
     -- 17 is checked before 12
     ∷ reading (turning ++ (1 ∷ [])) (Refused 17 42)
+    -- edition two: start red is 30 at least and all-red 15; less is accepted in edition one
+    ∷ reading editionTwo Accepted
+    ∷ reading (putTwo editionTwo 6 29) (Refused 5 6)
+    ∷ reading (putTwo editionTwo 22 14) (Refused 5 22)
+    ∷ reading (putTwo (putTwo longerReds 6 29) 22 14) Accepted
+    -- no kind but 1 and 8 may be first
+    ∷ reading (putKind junction 0 0) (Refused 2 0)
+    ∷ reading (putKind junction 0 2) (Refused 2 0)
+    ∷ reading (putKind junction 0 9) (Refused 2 0)
+    -- kind 8 may not be in a later place, nor after kind 6
+    ∷ reading (putKind editionTwo 8 8) (Refused 2 8)
+    ∷ reading (putKind editionTwo 64 8) (Refused 2 64)
+    ∷ reading (editionTwo ++ section 8 (2 ∷ 2 ∷ 30 ∷ 0 ∷ [])) (Refused 12 68)
+    -- the lookup finds the site section by the kind that it has
+    ∷ lookingUp editionTwo 8 Accepted
+    ∷ lookingUp editionTwo 1 (Refused 2 0)
+    ∷ lookingUp junction 8 (Refused 2 0)
     -- a movement's walk and clearances count twice in its phase's share: 10 + 2 × 50 + 2 × 2 × 40 + 2 × (20 + 50)
     ∷ waiting crossing 410
     -- early cut-off green is not valid without a section of kind 7; with one it is, even if the time is 0, and yellow follows

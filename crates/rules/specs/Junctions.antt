@@ -30,6 +30,10 @@ sections site phases groups conflicts detectors pedestrians =
 unfoldable pub putTwo : List ℕ → ℕ → ℕ → List ℕ
 putTwo b at n = set (set b at (n % 256)) (at + 1) (n / 256)
 
+-- the bytes with another kind in the head at a place
+unfoldable pub putKind : List ℕ → ℕ → ℕ → List ℕ
+putKind b head kind = putTwo b (head + 2) kind
+
 -- ── The junction of two phases of document 01 ──
 
 -- L 0, M 20, X 30, G 5, Y 30, R 10
@@ -118,3 +122,13 @@ turningBoth =
     (fours (4 ∷ 0 ∷ 1 ∷ []))
     (0 ∷ 6 ∷ 1 ∷ 6 ∷ [])
     []
+
+-- ── Sites of request eleven: edition two of the limits ──
+
+-- The junction of two phases with start red 30 and all-red 15 in both phases, in edition one
+unfoldable pub longerReds : List ℕ
+longerReds = putTwo (putTwo (putTwo junction 6 30) 22 15) 34 15
+
+-- and in edition two
+unfoldable pub editionTwo : List ℕ
+editionTwo = putKind longerReds 0 8

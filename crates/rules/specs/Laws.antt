@@ -1,4 +1,4 @@
--- Statements that show that the rules fit together: what a table of limits must provide, what is known of an accepted site, which refusals
+-- Statements that show that the rules fit together: what each table of limits must provide, what is known of an accepted site, which refusals
 -- there are, how long a personality and how large a wait bound can be, what the buffer holds at each point of the pass over the groups, that
 -- every phase can be called, and that a step from a valid state gives a valid state. What needs acceptance is stated over the bytes of an
 -- accepted personality.
@@ -10,6 +10,7 @@ use mathlib.Core.Path.{_≡_}
 use lib.Dec.{leb, eqb}
 use lib.ListN.{length, getD}
 use Rattle.rules.specs.declared.answer.Verdict.the-variants.{Accepted, Refused}
+use Rattle.rules.specs.declared.site.Edition.{Edition}
 use Rattle.rules.specs.declared.site.PhaseTimes.{PhaseTimes}
 use Rattle.rules.specs.declared.site.Range.{Range}
 use Rattle.rules.specs.declared.site.Site.{Site}
@@ -18,9 +19,9 @@ use Rattle.rules.specs.declared.site.Times.{Times}
 use Rattle.rules.specs.declared.site.WalkTimes.{WalkTimes}
 use Rattle.rules.specs.declared.state.KeptState.{KeptState}
 use Rattle.rules.specs.declared.state.State.{State}
-use Rattle.laws.specs.Folds.{allOf, countOf}
+use Rattle.laws.specs.Folds.{if_then_else_, allOf, countOf}
 use Rattle.rules.specs.Limits.{limits, limitOf, startRedSetting, phaseSettings, walkSettings, earlySetting, settingCount}
-use Rattle.rules.specs.Personality.{knownMode, verdictOf}
+use Rattle.rules.specs.Personality.{kindAt, siteHead, siteKind, knownMode, verdictOf}
 use Rattle.rules.specs.Site.{siteOf, groupOf, detectorOf, phaseTimes, walkTimes, inPhase, crosses, isPedestrian, movementOf, conflict}
 use Rattle.rules.specs.State.{highestAge}
 use Rattle.rules.specs.Demands.{demanded}
@@ -92,16 +93,19 @@ greatestWait table = highest table startRedSetting + 7 * greatestShare table
 unfoldable pub mayBeZero : ℕ → Bool
 mayBeZero setting = eqb setting phaseSettings || eqb setting (phaseSettings + 3) || eqb setting earlySetting
 
--- an age can reach the setting, and it is one step at least unless it may be 0
+-- an age can reach the setting; the lowest value is 0 if it may be 0, and one step at least if not
 unfoldable pub timely : List Range → ℕ → Bool
-timely table setting = leb (highest table setting) highestAge && (mayBeZero setting || leb 1 (limitOf table setting .low))
+timely table setting =
+    let lowest = limitOf table setting .low in
+    leb (highest table setting) highestAge && (if mayBeZero setting then eqb lowest 0 else leb 1 lowest)
 
 -- What the theorems and the code need of a table, as a test: each setting is timely, and the greatest wait fits in two bytes.
 unfoldable pub usable : List Range → Bool
 usable table = allOf (timely table) settingCount && leb (greatestWait table) 65535
 
+-- the table of each edition is
 abbrev pub TableIsUsable : Type 0
-TableIsUsable = usable limits ≡ true
+TableIsUsable = (edition : Edition) → usable (limits edition) ≡ true
 
 -- ── What is known of an accepted site ──
 
@@ -168,8 +172,13 @@ pub record Sound (site : Site) : Type 0 where
 unfoldable pub AcceptedIsSound : Type 0
 AcceptedIsSound = (b : List ℕ) → verdictOf b ≡ Accepted → Sound (siteOf b)
 
+-- its first section has the kind of its edition: 1 is edition one, 8 is edition two
+unfoldable pub EditionIsNamed : Type 0
+EditionIsNamed = (b : List ℕ) → verdictOf b ≡ Accepted → kindAt b siteHead ≡ siteKind (siteOf b .edition)
+
+-- its times are in the table of that edition
 unfoldable pub AcceptedIsInTable : Type 0
-AcceptedIsInTable = (b : List ℕ) → verdictOf b ≡ Accepted → TimesIn limits (siteOf b .size) (siteOf b .times)
+AcceptedIsInTable = (b : List ℕ) → verdictOf b ≡ Accepted → TimesIn (limits (siteOf b .edition)) (siteOf b .size) (siteOf b .times)
 
 -- ── Refusals ──
 
@@ -218,9 +227,15 @@ RefusalIsWritten =
 
 -- ── The wait bound ──
 
--- the table that the reader asks gives 37,950 steps, and no accepted personality has a greater wait bound
+-- the greatest wait bound, in steps
+abbrev pub greatestBound : ℕ
+greatestBound = 37950
+
+-- the table of each edition gives this one, and no accepted personality has a greater wait bound
 unfoldable pub WaitIsInTable : Type 0
-WaitIsInTable = (greatestWait limits ≡ 37950) × ((b : List ℕ) → verdictOf b ≡ Accepted → waitBound (siteOf b) ≤ greatestWait limits)
+WaitIsInTable =
+    ((edition : Edition) → greatestWait (limits edition) ≡ greatestBound)
+    × ((b : List ℕ) → verdictOf b ≡ Accepted → waitBound (siteOf b) ≤ greatestBound)
 
 -- ── The pass of the group list ──
 

@@ -1,14 +1,17 @@
--- The one table of the lowest and highest values of all time settings. The settings are numbered in this order:
--- start red; L, M, X, G, Y, R of a phase; W, C1, C2 of a movement; early cut-off green of a phase.
+-- The tables of the lowest and highest values of all time settings, one for each edition of the limits. The settings are numbered in this
+-- order: start red; L, M, X, G, Y, R of a phase; W, C1, C2 of a movement; early cut-off green of a phase.
 use Prim.Native.Nat.{ℕ, _+_}
 use mathlib.Core.Bool.{Bool, _&&_}
 use mathlib.Core.List.{List, [], _∷_}
 use lib.Dec.{leb}
 use lib.ListN.{getD}
+use Rattle.rules.specs.declared.site.Edition.{Edition}
+use Rattle.rules.specs.declared.site.Edition.the-variants.{One, Two}
 use Rattle.rules.specs.declared.site.Range.{Range}
 
-unfoldable pub limits : List Range
-limits =
+-- the lowest start red and the lowest all-red rise with edition two; nothing else differs
+unfoldable pub limits : Edition → List Range
+limits One =
     record { low = 10; high = 150 }
     ∷ record { low = 0; high = 200 }
     ∷ record { low = 10; high = 400 }
@@ -16,6 +19,19 @@ limits =
     ∷ record { low = 0; high = 100 }
     ∷ record { low = 30; high = 100 }
     ∷ record { low = 10; high = 150 }
+    ∷ record { low = 10; high = 400 }
+    ∷ record { low = 1; high = 400 }
+    ∷ record { low = 1; high = 400 }
+    ∷ record { low = 0; high = 200 }
+    ∷ []
+limits Two =
+    record { low = 30; high = 150 }
+    ∷ record { low = 0; high = 200 }
+    ∷ record { low = 10; high = 400 }
+    ∷ record { low = 10; high = 1500 }
+    ∷ record { low = 0; high = 100 }
+    ∷ record { low = 30; high = 100 }
+    ∷ record { low = 15; high = 150 }
     ∷ record { low = 10; high = 400 }
     ∷ record { low = 1; high = 400 }
     ∷ record { low = 1; high = 400 }

@@ -8,15 +8,29 @@ use Rattle.rules.specs.declared.answer.Verdict.{Verdict}
 use Rattle.rules.specs.declared.answer.Verdict.the-variants.{Accepted, Refused}
 use Rattle.rules.specs.declared.answer.Report.{Report}
 use Rattle.rules.specs.Verdicts.{_orElse_, refuseIf, reportOf}
-use Rattle.rules.specs.Personality.{verdictOf, bodyAt, bodyLength, siteHead, phasesHead, groupsHead, conflictsHead, detectorsHead, pedestriansHead, earlyHead, hasEarly, orderHead, hasOrder}
+use Rattle.rules.specs.Personality.{verdictOf, bodyAt, bodyLength, editionOf, siteKind, siteHead, phasesHead, groupsHead, conflictsHead, detectorsHead, pedestriansHead, earlyHead, hasEarly, orderHead, hasOrder}
 
--- kinds 1 to 6, and 7 and 9 if they are present
+-- the site section's kind, which is 1 or 8; kinds 2 to 6, and 7 and 9 if they are present
 unfoldable pub heldKind : List ℕ → ℕ → Bool
-heldKind b kind = (leb 1 kind && leb kind 6) || (eqb kind 7 && hasEarly b) || (eqb kind 9 && hasOrder b)
+heldKind b kind =
+    eqb kind (siteKind (editionOf b))
+    || (leb 2 kind && leb kind 6)
+    || (eqb kind 7 && hasEarly b)
+    || (eqb kind 9 && hasOrder b)
 
--- the heads in the order of the kinds; there is no kind 8
+-- the heads in the order of the kinds; kinds 1 and 8 have the same place
 abbrev pub heads : List ℕ → List ℕ
-heads b = siteHead ∷ phasesHead ∷ groupsHead b ∷ conflictsHead b ∷ detectorsHead b ∷ pedestriansHead b ∷ earlyHead b ∷ 0 ∷ orderHead b ∷ []
+heads b =
+    siteHead
+    ∷ phasesHead
+    ∷ groupsHead b
+    ∷ conflictsHead b
+    ∷ detectorsHead b
+    ∷ pedestriansHead b
+    ∷ earlyHead b
+    ∷ siteHead
+    ∷ orderHead b
+    ∷ []
 
 -- the head of the section of a kind that is held
 unfoldable pub headOf : List ℕ → ℕ → ℕ

@@ -6,6 +6,8 @@ use lib.Dec.{leb, ltb, eqb}
 use lib.ListN.{length}
 use Rattle.rules.specs.declared.answer.Verdict.{Verdict}
 use Rattle.rules.specs.declared.answer.Verdict.the-variants.{Accepted}
+use Rattle.rules.specs.declared.site.Edition.{Edition}
+use Rattle.rules.specs.declared.site.Edition.the-variants.{One, Two}
 use Rattle.laws.specs.Folds.{if_then_else_, anyOf, countOf}
 use Rattle.laws.specs.Bytes.{byteAt, twoAt, fourAt, bit}
 use Rattle.rules.specs.Limits.{limits, within, startRedSetting, phaseSettings, walkSettings, earlySetting}
@@ -26,6 +28,24 @@ bodyAt head = head + 4
 unfoldable pub recordAt : ℕ → ℕ → ℕ → ℕ
 recordAt head width i = bodyAt head + i * width
 
+-- a whole head of the kind is at the place; an optional section is present if its head is
+unfoldable pub hasHead : List ℕ → ℕ → ℕ → Bool
+hasHead b head kind = leb (head + 4) (length b) && eqb (kindAt b head) kind
+
+-- ── The edition of the limits ──
+
+abbrev pub siteHead : ℕ
+siteHead = 0
+
+-- the kind of the site section
+abbrev pub siteKind : Edition → ℕ
+siteKind One = 1
+siteKind Two = 8
+
+-- a site section of kind 8 means edition two; every other first section is held to edition one
+unfoldable pub editionOf : List ℕ → Edition
+editionOf b = if hasHead b siteHead 8 then Two else One
+
 -- ── Counts, and the places of the heads ──
 
 unfoldable pub phaseCount : List ℕ → ℕ
@@ -33,9 +53,6 @@ phaseCount b = byteAt b 4
 
 unfoldable pub groupCount : List ℕ → ℕ
 groupCount b = byteAt b 5
-
-abbrev pub siteHead : ℕ
-siteHead = 0
 
 abbrev pub phasesHead : ℕ
 phasesHead = 8
@@ -55,10 +72,6 @@ pedestriansHead b = bodyAt (detectorsHead b) + bodyLength b (detectorsHead b)
 -- the place after a section
 unfoldable pub pastSection : List ℕ → ℕ → ℕ
 pastSection b head = bodyAt head + bodyLength b head
-
--- an optional section is present: a whole head of its kind is at the place
-unfoldable pub hasHead : List ℕ → ℕ → ℕ → Bool
-hasHead b head kind = leb (head + 4) (length b) && eqb (kindAt b head) kind
 
 -- just past kind 6: the head of kind 7, if it is present
 unfoldable pub earlyHead : List ℕ → ℕ
@@ -122,9 +135,9 @@ sectionAt b head kind lengthRight =
     orElse refuseIf (not lengthRight) 3 head
     orElse refuseIf (ltb (length b) (bodyAt head + bodyLength b head)) 1 head
 
--- 5: a time outside its limits
+-- 5: a time outside its limits, which are those of the edition
 unfoldable pub timeAt : List ℕ → ℕ → ℕ → Verdict
-timeAt b place setting = refuseIf (not (within limits setting (twoAt b place))) 5 place
+timeAt b place setting = refuseIf (not (within (limits (editionOf b)) setting (twoAt b place))) 5 place
 
 -- A record of two-byte times, field by field. The first field has the setting number given.
 unfoldable pub timesAt : List ℕ → ℕ → ℕ → ℕ → Verdict
@@ -139,9 +152,10 @@ unfoldable pub timedSection : List ℕ → ℕ → ℕ → ℕ → ℕ → ℕ �
 timedSection b head kind setting fields count =
     sectionAt b head kind (eqb (bodyLength b head) (count * (fields * 2))) orElse timeRecords b head setting fields count
 
+-- kind 1, or kind 8: a first section of neither kind is number 2
 unfoldable pub siteSection : List ℕ → Verdict
 siteSection b =
-    sectionAt b siteHead 1 (eqb (bodyLength b siteHead) 4)
+    sectionAt b siteHead (siteKind (editionOf b)) (eqb (bodyLength b siteHead) 4)
     orElse refuseIf (not (leb 2 (phaseCount b) && leb (phaseCount b) 7)) 4 4
     orElse refuseIf (not (leb 1 (groupCount b) && leb (groupCount b) 32)) 4 5
     orElse timeAt b 6 startRedSetting

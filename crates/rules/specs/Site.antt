@@ -12,7 +12,7 @@ use Rattle.rules.specs.declared.site.Times.{Times}
 use Rattle.rules.specs.declared.site.WalkTimes.{WalkTimes}
 use Rattle.laws.specs.Folds.{if_then_else_, listOf, rowOf, countOf, indicesOf}
 use Rattle.laws.specs.Bytes.{twoAt, bit}
-use Rattle.rules.specs.Personality.{phaseCount, groupCount, detectorCount, movementCount, groupSet, groupMark, conflictSet, detectorPhase, detectorMode, pedestrian, phasesHead, pedestriansHead, earlyHead, hasEarly, hasOrder, orderAt, recordAt}
+use Rattle.rules.specs.Personality.{phaseCount, groupCount, detectorCount, movementCount, groupSet, groupMark, conflictSet, detectorPhase, detectorMode, pedestrian, phasesHead, pedestriansHead, earlyHead, hasEarly, hasOrder, orderAt, recordAt, editionOf}
 
 abbrev pub noPhaseTimes : PhaseTimes
 noPhaseTimes = record { late = 0; minimum = 0; maximum = 0; gap = 0; yellow = 0; red = 0; early = 0 }
@@ -72,6 +72,7 @@ siteOf b =
       conflicts = rowOf (conflictSet b) (groupCount b) 32 0;
       detectors = rowOf (λ d. record { phase = detectorPhase b d; mode = detectorMode b d }) (detectorCount b) 48 noDetector;
       crossings = rowOf (crossingAt b) (movementCount b) 8 0;
+      edition = editionOf b;
       early = hasEarly b;
       order = rowOf (orderIn b) (phaseCount b) 7 0;
       times = timesIn b;

@@ -1,5 +1,11 @@
 // The site that an accepted personality describes. The arrays have room for the largest site; entries past the site's own count are zero.
 
+// The edition of the limits that a personality is held to. Its first section says which: kind 1 is edition one, kind 8 is edition two.
+pub enum Edition {
+    One,
+    Two,
+}
+
 // The lowest and highest value of a time setting.
 pub struct Range {
     pub low: u16,
@@ -60,6 +66,8 @@ pub struct Site {
     pub detectors: [Detector; 48],
     // the phase set of each movement's signal group
     pub crossings: [u8; 8],
+    // the limits that the times are held to
+    pub edition: Edition,
     // the personality has a section of kind 7
     pub early: bool,
     // the phases in running order

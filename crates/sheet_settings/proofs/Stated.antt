@@ -1,7 +1,7 @@
 -- The computed answer is the one that document 02 states, and there is no other. More than 50 vehicles never stand in 300 m, so the search for n starts above
 -- every number that passes; 540 steps at 20 km/h or more always cover 300 m, so the search for t ends at one that passes.
 use Prim.Native.Nat.{ℕ, _+_, _*_, _≤_}
-use mathlib.Core.Bool.{Bool, true, false}
+use mathlib.Core.Bool.{Bool, true, false, _&&_}
 use mathlib.Core.Path.{_≡_, refl, sym, _∙_}
 use native.Mathlib.Nat.{zero-mul, mul-le-mul, mul-le-mul-right, le-of-mul-le-mul-right, le-trans}
 use native.Mathlib.Omega.{arith}
@@ -11,7 +11,9 @@ use lib.Ieee.{Float, fin, binary64, le, mul, ofInt}
 use lib.Ieee.Positive.{num, den, den-pos}
 use borrow.Author.Tests.{leb-true, le-leb}
 use Rattle.laws.specs.Folds.{if_then_else_}
-use Rattle.rules.specs.Limits.{limits, limitOf, within}
+use Rattle.rules.specs.declared.site.Edition.{Edition}
+use Rattle.rules.specs.declared.site.Edition.the-variants.{One, Two}
+use Rattle.rules.specs.Limits.{limits, limitOf, within, phaseSettings}
 use Rattle.laws.proofs.Booleans.{and-left, and-right, and-both, never-both, not-true-false}
 use Rattle.sheet_settings.specs.declared.Answer.{Answer}
 use Rattle.sheet_settings.specs.declared.Answer.the-variants.{Settings, Refused}
@@ -118,13 +120,31 @@ settings-for s r =
     time (Advance x) fraction speed = passage-smallest (s .speed) fraction speed
     time (StopLine x) fraction speed = refl
 
+-- the limits of M and G, in each edition
+green-limits : (edition : Edition) → (limitOf (limits edition) (phaseSettings + 1) .low ≡ 10) × (highestMinimum edition ≡ 400)
+unfolding highestMinimum limitOf limits
+green-limits One = (refl, refl)
+green-limits Two = (refl, refl)
+
+gap-limits : (edition : Edition) → (limitOf (limits edition) (phaseSettings + 3) .low ≡ 0) × (highestGap edition ≡ 100)
+unfolding highestGap limitOf limits
+gap-limits One = (refl, refl)
+gap-limits Two = (refl, refl)
+
+within-each : (edition : Edition) (m g : ℕ) → withinLimits edition m g ≡ (leb m 400 && leb g 100)
+unfolding withinLimits
+within-each edition m g = rw (green-limits edition .1, gap-limits edition .1)
+
+within-both : (edition : Edition) (m g : ℕ) → withinLimits edition m g ≡ withinLimits One m g
+within-both edition m g = within-each edition m g ∙ sym (within-each One m g)
+
 answer-stated : (s : Sheet) → AnswerFor s (answerOf s)
 unfolding answerOf answerFrom
 answer-stated s = first (inRange s) refl
   where
-    second : (m g : ℕ) → SettingsFor s m g → (t : Bool) → withinLimits m g ≡ t → AnswerFor s (if t then Settings m g else Refused 20 0)
-    second m g f true e = given m g f e
-    second m g f false e = aboveLimits m g f e
+    second : (m g : ℕ) → SettingsFor s m g → (t : Bool) → withinLimits One m g ≡ t → AnswerFor s (if t then Settings m g else Refused 20 0)
+    second m g f true e = given m g f (λ edition. within-both edition m g ∙ e)
+    second m g f false e = aboveLimits One m g f e
 
     first : (t : Bool) → inRange s ≡ t → AnswerFor s (if t then answerFrom (minimumGreen (metresOf (s .detector))) (passageTime (s .speed) (s .detector)) else Refused 19 0)
     first true e = second _ _ (settings-for s e) _ refl
@@ -148,8 +168,8 @@ settings-only s f =
 answer-only : (s : Sheet) (a : Answer) → AnswerFor s a → a ≡ answerOf s
 unfolding answerOf answerFrom
 answer-only s a (outOfRange e) = rw e
-answer-only s a (aboveLimits m g f e) = rw e at (settings-only s f)
-answer-only s a (given m g f e) = rw e at (settings-only s f)
+answer-only s a (aboveLimits edition m g f e) = rw (sym (within-both edition m g) ∙ e) at (settings-only s f)
+answer-only s a (given m g f e) = rw (e One) at (settings-only s f)
 
 pub as-stated : AsStated
 as-stated = record { stated = answer-stated; only = answer-only }
@@ -157,28 +177,31 @@ as-stated = record { stated = answer-stated; only = answer-only }
 -- ── What the answers are ──
 
 -- minimum green is at least 40
-settings-admitted : {s : Sheet} {m g : ℕ} → SettingsFor s m g → withinLimits m g ≡ true → MayHave m g
-unfolding withinLimits highestMinimum highestGap within limitOf limits
-settings-admitted {s} {m} {g} f e =
-    let least : 10 ≤ m = omega (arith, f .green .formula) in (
-      and-both (le-leb 10 m least) (and-left (leb m 400) (leb g 100) e),
-      and-both (le-leb 0 g (omega arith)) (and-right (leb m 400) (leb g 100) e),
+settings-admitted : {s : Sheet} {m g : ℕ} (edition : Edition) → SettingsFor s m g → withinLimits edition m g ≡ true → MayHave edition m g
+unfolding within highestMinimum highestGap
+settings-admitted {s} {m} {g} edition f e =
+    let least : 10 ≤ m = omega (arith, f .green .formula) in
+    let h = sym (within-each edition m g) ∙ e in
+    let green = green-limits edition in
+    let gap = gap-limits edition in (
+      rw (green .0, green .1) (and-both (le-leb 10 m least) (and-left (leb m 400) (leb g 100) h)),
+      rw (gap .0, gap .1) (and-both (le-leb 0 g (omega arith)) (and-right (leb m 400) (leb g 100) h)),
     )
 
 pub admitted : Admitted
 unfolding Admitted
-admitted s m g h = go (answer-stated s) h
+admitted edition s m g h = go (answer-stated s) h
   where
-    go : {a : Answer} → AnswerFor s a → a ≡ Settings m g → MayHave m g
+    go : {a : Answer} → AnswerFor s a → a ≡ Settings m g → MayHave edition m g
     go (outOfRange e) h = (cc, cc)
-    go (aboveLimits k t f e) h = (cc, cc)
+    go (aboveLimits other k t f e) h = (cc, cc)
     go (given k t f e) h =
         let p : k ≡ m = cc in
         let q : t ≡ g = cc in
-        rw (p, q) at (settings-admitted f e)
+        rw (p, q) at (settings-admitted edition f (e edition))
 
 -- both refusals have the place 0
 pub refused-place : {s : Sheet} {a : Answer} {number place : ℕ} → AnswerFor s a → a ≡ Refused number place → place ≡ 0
 refused-place (outOfRange e) h = cc
-refused-place (aboveLimits m g f e) h = cc
+refused-place (aboveLimits edition m g f e) h = cc
 refused-place (given m g f e) h = cc

@@ -7,6 +7,8 @@ use lib.Dec.{leb}
 use lib.IntN.{pos}
 use lib.Ieee.{Float, fin, binary64, le, mul}
 use Rattle.rules.specs.declared.answer.Report.{Report}
+use Rattle.rules.specs.declared.site.Edition.{Edition}
+use Rattle.rules.specs.declared.site.Edition.the-variants.{One}
 use Rattle.laws.specs.Folds.{if_then_else_}
 use Rattle.rules.specs.Limits.{limits, limitOf, within, phaseSettings}
 use Rattle.sheet_settings.specs.declared.Answer.{Answer}
@@ -59,15 +61,15 @@ PassageTime speed (StopLine metres) t = t ≡ 0
 
 -- ── The answer ──
 
--- the highest M and the highest G of the one table of limits
-unfoldable pub highestMinimum : ℕ
-highestMinimum = limitOf limits (phaseSettings + 1) .high
+-- the highest M and the highest G of an edition of the limits
+unfoldable pub highestMinimum : Edition → ℕ
+highestMinimum edition = limitOf (limits edition) (phaseSettings + 1) .high
 
-unfoldable pub highestGap : ℕ
-highestGap = limitOf limits (phaseSettings + 3) .high
+unfoldable pub highestGap : Edition → ℕ
+highestGap edition = limitOf (limits edition) (phaseSettings + 3) .high
 
-unfoldable pub withinLimits : ℕ → ℕ → Bool
-withinLimits minimum passage = leb minimum highestMinimum && leb passage highestGap
+unfoldable pub withinLimits : Edition → ℕ → ℕ → Bool
+withinLimits edition minimum passage = leb minimum (highestMinimum edition) && leb passage (highestGap edition)
 
 -- the settings of a sheet in range
 pub record SettingsFor (s : Sheet) (minimum passage : ℕ) : Type 0 where
@@ -75,11 +77,12 @@ pub record SettingsFor (s : Sheet) (minimum passage : ℕ) : Type 0 where
   pub green : MinimumGreen (metresOf (s .detector)) minimum
   pub time : PassageTime (s .speed) (s .detector) passage
 
--- the answer to a sheet; number 19 comes before number 20
+-- the answer to a sheet; number 19 comes before number 20. A sheet names no edition: 20 is for settings above the limits of an edition, and
+-- settings that are given are within those of each
 pub data AnswerFor (s : Sheet) : Answer → Type 0 where
   outOfRange : inRange s ≡ false → AnswerFor s (Refused 19 0)
-  aboveLimits : (m g : ℕ) → SettingsFor s m g → withinLimits m g ≡ false → AnswerFor s (Refused 20 0)
-  given : (m g : ℕ) → SettingsFor s m g → withinLimits m g ≡ true → AnswerFor s (Settings m g)
+  aboveLimits : (edition : Edition) (m g : ℕ) → SettingsFor s m g → withinLimits edition m g ≡ false → AnswerFor s (Refused 20 0)
+  given : (m g : ℕ) → SettingsFor s m g → ((edition : Edition) → withinLimits edition m g ≡ true) → AnswerFor s (Settings m g)
 
 -- The paper's number and place for each answer, and the settings that it gives.
 unfoldable pub settingsReportOf : Answer → Report
@@ -94,7 +97,8 @@ unfoldable pub passageOf : Answer → ℕ
 passageOf (Settings minimum passage) = passage
 passageOf (Refused number place) = 0
 
--- ── The answer, computed. No more than 50 vehicles stand in 300 m, and 300 m at 20 km/h take 540 steps ──
+-- ── The answer, computed. No more than 50 vehicles stand in 300 m, and 300 m at 20 km/h take 540 steps; the limits of M and G are the same in
+-- both editions, so one is asked ──
 
 unfoldable pub vehicles : Float → ℕ
 vehicles metres = largestTo 50 (stand metres)
@@ -110,7 +114,7 @@ passageTime speed (Advance metres) = passageOver speed metres
 passageTime speed (StopLine metres) = 0
 
 unfoldable pub answerFrom : ℕ → ℕ → Answer
-answerFrom minimum passage = if withinLimits minimum passage then Settings minimum passage else Refused 20 0
+answerFrom minimum passage = if withinLimits One minimum passage then Settings minimum passage else Refused 20 0
 
 unfoldable pub answerOf : Sheet → Answer
 answerOf s =
@@ -123,10 +127,10 @@ pub record AsStated : Type 0 where
   pub stated : (s : Sheet) → AnswerFor s (answerOf s)
   pub only : (s : Sheet) (a : Answer) → AnswerFor s a → a ≡ answerOf s
 
--- a personality may have m as M and g as G: neither is refused with 5
-abbrev pub MayHave : ℕ → ℕ → Type 0
-MayHave m g = (within limits (phaseSettings + 1) m ≡ true) × (within limits (phaseSettings + 3) g ≡ true)
+-- a personality of the edition may have m as M and g as G: neither is refused with 5
+abbrev pub MayHave : Edition → ℕ → ℕ → Type 0
+MayHave edition m g = (within (limits edition) (phaseSettings + 1) m ≡ true) × (within (limits edition) (phaseSettings + 3) g ≡ true)
 
--- the settings of every answer are such
+-- the settings of every answer are such, in each edition
 unfoldable pub Admitted : Type 0
-Admitted = (s : Sheet) (m g : ℕ) → answerOf s ≡ Settings m g → MayHave m g
+Admitted = (edition : Edition) (s : Sheet) (m g : ℕ) → answerOf s ≡ Settings m g → MayHave edition m g

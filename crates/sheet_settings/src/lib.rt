@@ -4,6 +4,7 @@ ghost use mathlib.Core.Bool.{true};
 ghost use mathlib.Core.Path.{_≡_};
 ghost use Rattle.sheet_settings.specs.Sheet.{metresOf, speedInRange, metresInRange, inRange, minimumGreen, passageOver, passageTime, answerFrom, answerOf, AnswerFor};
 use base_limits::limits;
+use rules::site::Edition;
 
 // The detector of an approach: at a distance before the stop line, or a zone of some length at the stop line. The number is in metres.
 pub enum Detector {
@@ -21,7 +22,7 @@ pub enum Answer {
     Refused { number: u8, place: usize },
 }
 
-// The places of M and G in the table of limits.
+// The places of M and G in a table of limits.
 const MINIMUM: usize = 2;
 
 const GAP: usize = 4;
@@ -81,11 +82,11 @@ fn passage_time(speed: u32, detector: Detector) -> u16
     }
 }
 
-// The settings, or 20 if one is above the limit of M or G.
+// The settings, or 20 if one is above the limit of M or G. These limits are the same in both editions.
 fn answer_from(minimum: u16, passage: u16) -> Answer
     ensures { λ r. ⌜ r ≡ answerFrom minimum passage ⌝ }
 {
-    let limits = limits();
+    let limits = limits(Edition::One);
     if (minimum <= limits[MINIMUM].high) & (passage <= limits[GAP].high) {
         Answer::Settings { minimum, passage }
     } else {

@@ -6,7 +6,9 @@ use native.Mathlib.Nat.{mul-le-mul-left, le-trans}
 use native.Mathlib.Omega.{arith}
 use borrow.Author.Tests.{le-leb}
 use lib.IntN.{ℤ}
-use Rattle.rules.specs.Limits.{limits, limitOf, within}
+use Rattle.rules.specs.declared.site.Edition.{Edition}
+use Rattle.rules.specs.declared.site.Edition.the-variants.{One, Two}
+use Rattle.rules.specs.Limits.{limits, limitOf, within, phaseSettings}
 use Rattle.laws.proofs.Booleans.{and-both, never-both}
 use Rattle.laws.proofs.Indices.{fails-to}
 use Rattle.sheet_yellow.specs.declared.Answer.{Answer}
@@ -66,10 +68,16 @@ never-rises-with-grade speed low high a b l p q =
     no-longer (y .time) (x .time)
     (λ t e. passes speed high t higher (le-trans (passed speed low t lower e) (mul-le-mul-left t divisors)))
 
+-- the limits of Y, in each edition
+yellow-limits : (edition : Edition) → let range = limitOf (limits edition) (phaseSettings + 4) in (range .low ≡ 30) × (range .high ≡ 100)
+unfolding limitOf limits
+yellow-limits One = (refl, refl)
+yellow-limits Two = (refl, refl)
+
 pub admitted : Admitted
-unfolding Admitted within limitOf limits
-admitted speed g a p =
+unfolding Admitted within
+admitted edition speed g a p =
     let x = told speed g a p in
     let most = fails-to (notBelow speed g) (x .time .smallest .none-smaller) (last-passes speed g (x .range)) in
     let e = x .time .formula in
-    and-both (le-leb 30 a (omega arith)) (le-leb a 100 (omega arith))
+    rw (yellow-limits edition .0, yellow-limits edition .1) (and-both (le-leb 30 a (omega arith)) (le-leb a 100 (omega arith)))

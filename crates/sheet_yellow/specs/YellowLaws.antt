@@ -4,6 +4,7 @@ use mathlib.Core.Bool.{true}
 use mathlib.Core.Path.{_≡_}
 use lib.IntN.{ℤ}
 use lib.Signed.{leZ}
+use Rattle.rules.specs.declared.site.Edition.{Edition}
 use Rattle.rules.specs.Limits.{limits, within, phaseSettings}
 use Rattle.sheet_yellow.specs.declared.Answer.the-variants.{Yellow}
 use Rattle.sheet_yellow.specs.Yellow.{answerOf}
@@ -26,6 +27,9 @@ NeverRisesWithGrade =
     answerOf speed high ≡ Yellow b →
     b ≤ a
 
--- a personality may have every yellow time as Y: it is not refused with 5
+-- a personality of each edition may have every yellow time as Y: it is not refused with 5
 unfoldable pub Admitted : Type 0
-Admitted = (speed : ℕ) (grade : ℤ) (a : ℕ) → answerOf speed grade ≡ Yellow a → within limits (phaseSettings + 4) a ≡ true
+Admitted =
+    (edition : Edition) (speed : ℕ) (grade : ℤ) (a : ℕ) →
+    answerOf speed grade ≡ Yellow a →
+    within (limits edition) (phaseSettings + 4) a ≡ true

@@ -5,6 +5,7 @@ ghost use Rattle.rules.specs.Site.{siteOf};
 ghost use Rattle.site_rows.specs.Fitting.{Fitting};
 ghost use Rattle.site_whole.specs.Decoding.{timingIn};
 use read_layout::Layout;
+use read_layout::edition_of;
 use rules::site::Site;
 use rules::site::Size;
 use rules::site::Times;
@@ -37,12 +38,14 @@ pub fn site_of(s: &[u8], layout: Layout) -> Site
     let size = size(s, layout, found.movements);
     let rows = found.groups;
     let sets = found.crossings;
+    let edition = edition_of(s);
     Site {
         size,
         groups: rows,
         conflicts: conflicts(s, layout),
         detectors: detectors(s, layout, size.detectors as usize),
         crossings: sets,
+        edition,
         early: layout.hasearly,
         order: order(s, layout),
         times: Times {

@@ -4,9 +4,9 @@ use crate::calls::Comparison;
 use crate::difference::{Difference, Failure};
 use crate::tally::Tally;
 use generate::{
-    any_inputs, any_records, broken_state_bytes, damaged, invalid_state, known_inputs, scrambled,
-    twice_damaged, unknown_inputs, valid_state, Breakage, CabinetCall, Plan, Rng, RoadDamage,
-    RoadPlan,
+    any_inputs, any_records, broken_state_bytes, damaged, invalid_state, known_inputs,
+    other_edition, scrambled, twice_damaged, unknown_inputs, valid_state, Breakage, CabinetCall,
+    Plan, Rng, RoadDamage, RoadPlan,
 };
 use model::packed::Board;
 use model::{
@@ -24,6 +24,7 @@ pub enum Kind {
     Damaged(u8),
     TwiceDamaged,
     Scrambled,
+    OtherEdition,
     Run,
     SingleSteps,
     InvalidState,
@@ -44,7 +45,7 @@ pub enum Kind {
 }
 
 /// The kinds take turns, those that matter most more often.
-const TURNS: [Kind; 39] = [
+const TURNS: [Kind; 40] = [
     Kind::Accepted,
     Kind::Damaged(1),
     Kind::Run,
@@ -68,6 +69,7 @@ const TURNS: [Kind; 39] = [
     Kind::TwiceDamaged,
     Kind::Damaged(11),
     Kind::Scrambled,
+    Kind::OtherEdition,
     Kind::Damaged(12),
     Kind::Run,
     Kind::Damaged(17),
@@ -110,6 +112,7 @@ impl fmt::Display for Kind {
             }
             Kind::TwiceDamaged => "personality damaged twice",
             Kind::Scrambled => "personality scrambled",
+            Kind::OtherEdition => "personality of the other edition",
             Kind::Run => "run of steps, refused calls among them",
             Kind::SingleSteps => "single steps from random valid states",
             Kind::InvalidState => "invalid states",
@@ -174,6 +177,10 @@ impl Comparison<'_> {
                 let personality = scrambled(&mut self.rng);
                 self.refused(&personality)
             }
+            Kind::OtherEdition => {
+                let personality = other_edition(&mut self.rng);
+                self.refused(&personality)
+            }
             Kind::Run => self.run(),
             Kind::SingleSteps => self.single_steps(),
             Kind::InvalidState => self.invalid_states(),
@@ -203,7 +210,7 @@ impl Comparison<'_> {
         Ok(())
     }
 
-    /// A personality most likely refused: read, stepped and run with anything.
+    /// A personality likely to be refused: read, stepped and run with anything.
     fn refused(&mut self, personality: &[u8]) -> Outcome {
         self.reading(personality)?;
         let mut state = fresh().to_bytes().to_vec();

@@ -1,14 +1,14 @@
 //! The generators reach what they are meant to reach.
 
 use generate::{
-    any_records, broken_state_bytes, damaged, held_record, invalid_state, known_inputs, scrambled,
-    twice_damaged, twist, unknown_inputs, valid_state, Breakage, CabinetCall, Plan, Rng, RoadPlan,
-    Twist, AIMED, MODES,
+    any_records, broken_state_bytes, damaged, held_record, invalid_state, known_inputs,
+    other_edition, scrambled, twice_damaged, twist, unknown_inputs, valid_state, Breakage,
+    CabinetCall, Plan, Rng, RoadPlan, Twist, AIMED, MODES,
 };
 use model::packed::{self, number, rest, Model};
 use model::{
-    read, records_of, row_of, valid, Interval, Mark, Record, Road, Site, Stage, State, Stream,
-    RECORDS, ROW_LEN,
+    read, records_of, row_of, valid, Edition, Interval, Mark, Record, Road, Site, Stage, State,
+    Stream, RECORDS, ROW_LEN,
 };
 use std::collections::{BTreeMap, BTreeSet};
 
@@ -63,6 +63,8 @@ fn accepted_plans_have_every_trait() {
         let pedestrian = Mark::Pedestrian as u8;
         let vehicles = || plan.groups.iter().filter(|group| group[1] != pedestrian);
         let mut count = |name, holds| *seen.entry(name).or_default() += usize::from(holds);
+        count("edition one", plan.edition == Edition::One);
+        count("edition two", plan.edition == Edition::Two);
         count("late start", plan.phases.iter().any(|times| times[0] > 0));
         count(
             "no late start",
@@ -111,44 +113,111 @@ fn accepted_plans_have_every_trait() {
 }
 
 #[test]
-fn every_time_reaches_both_limits() {
-    let mut phase_times = [const { BTreeSet::new() }; 6];
-    let mut movement_times = [const { BTreeSet::new() }; 3];
-    let mut start_reds = BTreeSet::new();
-    for plan in plans(3_000) {
-        start_reds.insert(plan.start_red);
-        for times in &plan.phases {
-            times
-                .iter()
-                .zip(&mut phase_times)
-                .for_each(|(&time, seen)| {
+fn every_time_reaches_both_limits_of_each_edition() {
+    for edition in Edition::ALL {
+        let plans = || plans(6_000).filter(move |plan| plan.edition == edition);
+        let mut phase_times = [const { BTreeSet::new() }; 6];
+        let mut movement_times = [const { BTreeSet::new() }; 3];
+        for plan in plans() {
+            for times in &plan.phases {
+                for (&time, seen) in times.iter().zip(&mut phase_times) {
                     seen.insert(time);
-                });
+                }
+            }
+            for times in &plan.movements {
+                for (&time, seen) in times.iter().zip(&mut movement_times) {
+                    seen.insert(time);
+                }
+            }
         }
-        for times in &plan.movements {
-            times
-                .iter()
-                .zip(&mut movement_times)
-                .for_each(|(&time, seen)| {
-                    seen.insert(time);
-                });
+        let (lowest_start, lowest_red) = match edition {
+            Edition::One => (10, 10),
+            Edition::Two => (30, 15),
+        };
+        let ends = |seen: &BTreeSet<u16>| (*seen.first().unwrap(), *seen.last().unwrap());
+        let phase_ends = [
+            (0, 200),
+            (10, 400),
+            (10, 1500),
+            (0, 100),
+            (30, 100),
+            (lowest_red, 150),
+        ];
+        assert_eq!(phase_times.each_ref().map(ends), phase_ends);
+        let movement_ends = [(10, 400), (1, 400), (1, 400)];
+        assert_eq!(movement_times.each_ref().map(ends), movement_ends);
+        let start_reds = plans().map(|plan| plan.start_red).collect();
+        assert_eq!(ends(&start_reds), (lowest_start, 150));
+        let early_cut_offs = plans().filter_map(|plan| plan.early_cut_offs);
+        assert_eq!(ends(&early_cut_offs.flatten().collect()), (0, 200));
+    }
+}
+
+#[test]
+fn edition_one_has_times_below_the_limits_of_edition_two() {
+    let mut start_reds = BTreeSet::new();
+    let mut all_reds = BTreeSet::new();
+    for plan in plans(3_000).filter(|plan| plan.edition == Edition::One) {
+        start_reds.insert(plan.start_red);
+        all_reds.extend(plan.phases.iter().map(|times| times[5]));
+    }
+    assert!([10, 11, 29, 30]
+        .iter()
+        .all(|time| start_reds.contains(time)));
+    assert!((10..=16).all(|time| all_reds.contains(&time)));
+}
+
+#[test]
+fn wrong_times_of_edition_two_are_those_of_edition_one_too() {
+    let mut rng = Rng::new(SEED);
+    let mut between = BTreeMap::new();
+    for _ in 0..3_000 {
+        let bytes = damaged(&mut rng, 5);
+        let place = rest(packed::read(&bytes)) as usize;
+        let mut as_one = bytes.clone();
+        as_one[2] = 1;
+        if bytes[2] == 8 && read(&as_one).is_ok() {
+            let time = u16::from_le_bytes([bytes[place], bytes[place + 1]]);
+            // Start red, or an all-red.
+            let setting = if place == 6 { "start red" } else { "all-red" };
+            between
+                .entry(setting)
+                .or_insert(BTreeSet::new())
+                .insert(time);
         }
     }
-    let ends = |seen: &BTreeSet<u16>| (*seen.first().unwrap(), *seen.last().unwrap());
-    let phase_ends = [
-        (0, 200),
-        (10, 400),
-        (10, 1500),
-        (0, 100),
-        (30, 100),
-        (10, 150),
-    ];
-    assert_eq!(phase_times.each_ref().map(ends), phase_ends);
-    let movement_ends = [(10, 400), (1, 400), (1, 400)];
-    assert_eq!(movement_times.each_ref().map(ends), movement_ends);
-    assert_eq!(ends(&start_reds), (10, 150));
-    let early_cut_offs = plans(3_000).filter_map(|plan| plan.early_cut_offs);
-    assert_eq!(ends(&early_cut_offs.flatten().collect()), (0, 200));
+    let start_reds = &between["start red"];
+    assert!(start_reds.contains(&29) && start_reds.iter().all(|time| (10..30).contains(time)));
+    assert!(between["all-red"].iter().copied().eq(10..15), "{between:?}");
+}
+
+#[test]
+fn damage_to_the_first_kind_is_of_neither_edition() {
+    let mut rng = Rng::new(SEED);
+    let mut kinds = BTreeSet::new();
+    for _ in 0..3_000 {
+        let bytes = damaged(&mut rng, 2);
+        if rest(packed::read(&bytes)) == 0 {
+            kinds.insert(u16::from_le_bytes([bytes[2], bytes[3]]));
+        }
+    }
+    for kind in [0, 2, 3, 4, 5, 6, 7, 9, 256, 257, 264, 2_048] {
+        assert!(kinds.contains(&kind), "{kind}");
+    }
+}
+
+#[test]
+fn personalities_of_the_other_edition_are_accepted_or_too_short() {
+    let mut rng = Rng::new(SEED);
+    let mut seen: BTreeMap<(u8, u8), usize> = BTreeMap::new();
+    for _ in 0..2_000 {
+        let bytes = other_edition(&mut rng);
+        let answer = number(packed::read(&bytes));
+        *seen.entry((bytes[2], answer)).or_default() += 1;
+    }
+    let pairs: Vec<(u8, u8)> = seen.keys().copied().collect();
+    assert_eq!(pairs, [(1, 0), (8, 0), (8, 5)], "{seen:?}");
+    assert!(seen.values().all(|&count| count >= 20), "{seen:?}");
 }
 
 #[test]

@@ -1,6 +1,6 @@
 //! Boards that are wrong in one small thing: the comparison notices.
 
-use compare::{run_case, run_cases, Difference, Failure};
+use compare::{run_case, run_cases, Difference, Failure, Kind};
 use model::packed::{number, Board, Model};
 use model::{layout, scan, section, MovementState, Site, Stage, State, STATE_LEN};
 
@@ -363,6 +363,158 @@ fn phases_in_letter_order_where_there_is_another() {
     assert_eq!(what(&GoesByLetters), "step: the state");
 }
 
+/// The model, but reading and lookups take an edition in another way.
+struct OtherEditions {
+    read: fn(&[u8]) -> u64,
+    section: fn(&[u8], u16) -> u64,
+}
+
+impl Board for OtherEditions {
+    fn read(&self, personality: &[u8]) -> u64 {
+        (self.read)(personality)
+    }
+
+    fn wait_bound(&self, personality: &[u8]) -> u64 {
+        Model.wait_bound(personality)
+    }
+
+    fn fresh(&self, state: &mut [u8]) -> u64 {
+        Model.fresh(state)
+    }
+
+    fn step(&self, personality: &[u8], state: &mut [u8], inputs: u64, colours: &mut [u8]) -> u64 {
+        Model.step(personality, state, inputs, colours)
+    }
+
+    fn section(&self, personality: &[u8], kind: u16) -> u64 {
+        (self.section)(personality, kind)
+    }
+
+    fn road(
+        &self,
+        personality: &[u8],
+        streams: &[u8],
+        steps: u32,
+        state: &mut [u8],
+        results: &mut [u8],
+    ) -> u64 {
+        Model.road(personality, streams, steps, state, results)
+    }
+
+    fn cabinet_place(
+        &self,
+        row: &mut [u8],
+        record: usize,
+        personality: &[u8],
+        first: usize,
+        outputs: &mut [u8],
+    ) -> u64 {
+        Model.cabinet_place(row, record, personality, first, outputs)
+    }
+
+    fn cabinet_step(&self, row: &mut [u8], record: usize, inputs: u64, outputs: &mut [u8]) -> u64 {
+        Model.cabinet_step(row, record, inputs, outputs)
+    }
+
+    fn cabinet_take_out(&self, row: &mut [u8], record: usize, outputs: &mut [u8]) -> u64 {
+        Model.cabinet_take_out(row, record, outputs)
+    }
+}
+
+/// Whether the first head has a kind below 256.
+fn first_kind(personality: &[u8], kind: u8) -> bool {
+    personality.get(2..4) == Some(&[kind, 0])
+}
+
+/// Reads the bytes with another first kind where they have this one.
+fn read_as(personality: &[u8], kind: u8, other: u8) -> u64 {
+    let mut bytes = personality.to_vec();
+    if first_kind(personality, kind) {
+        bytes[2] = other;
+    }
+    Model.read(&bytes)
+}
+
+#[test]
+fn edition_two_held_to_the_limits_of_edition_one() {
+    let board = OtherEditions {
+        read: |personality| read_as(personality, 8, 1),
+        section: |personality, kind| Model.section(personality, kind),
+    };
+    assert_eq!(what(&board), "read: the answer");
+}
+
+#[test]
+fn edition_one_held_to_the_limits_of_edition_two() {
+    let board = OtherEditions {
+        read: |personality| read_as(personality, 1, 8),
+        section: |personality, kind| Model.section(personality, kind),
+    };
+    assert_eq!(what(&board), "read: the answer");
+}
+
+#[test]
+fn edition_two_refused() {
+    let board = OtherEditions {
+        read: |personality| read_as(personality, 8, 0),
+        section: |personality, kind| Model.section(personality, kind),
+    };
+    assert_eq!(what(&board), "read: the answer");
+}
+
+#[test]
+fn another_first_kind_taken_for_edition_two() {
+    let reads: [fn(&[u8]) -> u64; 3] = [
+        |personality| read_as(personality, 0, 8),
+        |personality| read_as(personality, 2, 8),
+        |personality| read_as(personality, 9, 8),
+    ];
+    for read in reads {
+        let board = OtherEditions {
+            read,
+            section: |personality, kind| Model.section(personality, kind),
+        };
+        let failure = run_cases(&board, 5, 0..4_000).expect_err("nothing is noticed");
+        assert_eq!(failure.kind, Kind::Damaged(2));
+    }
+}
+
+#[test]
+fn kind_1_found_in_edition_two() {
+    let board = OtherEditions {
+        read: |personality| Model.read(personality),
+        section: |personality, kind| match kind {
+            1 if first_kind(personality, 8) => Model.section(personality, 8),
+            _ => Model.section(personality, kind),
+        },
+    };
+    assert_eq!(what(&board), "section: the answer");
+}
+
+#[test]
+fn kind_8_found_in_edition_one() {
+    let board = OtherEditions {
+        read: |personality| Model.read(personality),
+        section: |personality, kind| match kind {
+            8 if first_kind(personality, 1) => Model.section(personality, 1),
+            _ => Model.section(personality, kind),
+        },
+    };
+    assert_eq!(what(&board), "section: the answer");
+}
+
+#[test]
+fn kind_8_not_found() {
+    let board = OtherEditions {
+        read: |personality| Model.read(personality),
+        section: |personality, kind| match Model.section(personality, kind) {
+            answer if kind == 8 && number(answer) == 0 => 2,
+            answer => answer,
+        },
+    };
+    assert_eq!(what(&board), "section: the answer");
+}
+
 #[test]
 fn a_walk_that_does_not_rest() {
     let board = Wrong {
@@ -447,5 +599,6 @@ fn a_failing_case_fails_again_alone_and_says_how() {
         text.contains(&format!("compare 5 case {}", first.index)),
         "{text}"
     );
-    assert!(text.contains("personality 04000100"), "{text}");
+    let personality = ["personality 04000100", "personality 04000800"];
+    assert!(personality.iter().any(|one| text.contains(one)), "{text}");
 }

@@ -3,7 +3,7 @@
 
 use crate::plan::Plan;
 use crate::rng::Rng;
-use model::{Limits, Mark, Setting, MAX_GROUPS, MAX_MOVEMENTS};
+use model::{Edition, Mark, Setting, MAX_GROUPS, MAX_MOVEMENTS};
 
 /// The refusals that a personality can be aimed at.
 pub const AIMED: [u8; 15] = [1, 2, 3, 4, 5, 6, 7, 8, 9, 10, 11, 12, 17, 18, 21];
@@ -52,6 +52,17 @@ pub fn scrambled(rng: &mut Rng) -> Vec<u8> {
         scramble(rng, &mut bytes);
     }
     bytes
+}
+
+/// A personality whose site section names the other edition than the one that its
+/// times were chosen for. If that is edition two, some times may be too short.
+pub fn other_edition(rng: &mut Rng) -> Vec<u8> {
+    let mut plan = Plan::random(rng);
+    plan.edition = match plan.edition {
+        Edition::One => Edition::Two,
+        Edition::Two => Edition::One,
+    };
+    plan.bytes()
 }
 
 /// Damages a plan or its bytes; none where the plan has nothing to damage so.
@@ -175,7 +186,7 @@ fn leave_over(rng: &mut Rng, plan: &Plan, bytes: &mut Vec<u8>) {
     let head = [low, high, rng.pick(&[7, 9]), 0];
     let ordered = plan.order.is_some();
     let last = if ordered { rng.pick(&[7, 9]) } else { 8 };
-    let kinds = [0, 6, 8, last, 0x0107, 0x0700, 0x0109];
+    let kinds = [0, 1, 6, 8, last, 0x0107, 0x0700, 0x0109];
     let count = rng.range(1, 8);
     match rng.below(4) {
         0 => bytes.extend(rng.bytes(count)),
@@ -194,13 +205,24 @@ fn leave_over(rng: &mut Rng, plan: &Plan, bytes: &mut Vec<u8>) {
     }
 }
 
+/// A kind that is not expected there. In first place, which is chosen more often,
+/// that is neither edition's.
 fn change_kind(rng: &mut Rng, bytes: &mut [u8]) {
-    let section = rng.below(NEEDED);
-    let right = section as u16 + 1;
+    let section = rng.pick(&[0, 0, 0, 1, 2, 3, 4, 5]);
+    let expected = match section {
+        0 => Edition::ALL.map(Edition::site_kind),
+        _ => [section as u16 + 1; 2],
+    };
+    let right = rng.pick(&expected);
     let random = rng.draw() as u16;
     let near = rng.range(0, 9) as u16;
     let kind = rng.pick(&[near, near, random, right + 256, right.swap_bytes()]);
-    let kind = if kind == right { right + 1 } else { kind };
+    // Beside each expected kind are kinds that are not.
+    let kind = if expected.contains(&kind) {
+        kind + 1
+    } else {
+        kind
+    };
     put(bytes, heads(bytes)[section] + 2, kind);
 }
 
@@ -235,38 +257,43 @@ fn change_count(rng: &mut Rng, bytes: &mut [u8]) {
     }
 }
 
-/// A time just outside its limits, or far outside.
-fn wrong_time(rng: &mut Rng, limits: Limits) -> u16 {
+/// A time just outside its limits, or far outside. If the other edition allows
+/// less, half of those below are within its limits.
+fn wrong_time(rng: &mut Rng, setting: Setting, edition: Edition) -> u16 {
+    let limits = setting.limits(edition);
     let above = [limits.high + 1, limits.high | 0x8000, u16::MAX];
-    if limits.low > 0 && rng.percent(50) {
-        rng.pick(&[0, limits.low - 1])
-    } else {
-        rng.pick(&above)
+    if limits.low == 0 || rng.percent(50) {
+        return rng.pick(&above);
     }
+    let lowest = Edition::ALL.map(|edition| setting.limits(edition).low);
+    let lowest = lowest[0].min(lowest[1]);
+    let between = rng.time(lowest.min(limits.low - 1), limits.low - 1);
+    rng.pick(&[0, lowest - 1, limits.low - 1, between])
 }
 
 fn change_time(rng: &mut Rng, plan: &mut Plan) {
+    let edition = plan.edition;
     let phase_fields = 6 * plan.phases.len();
     let movement_fields = 3 * plan.movements.len();
     if let Some(times) = plan.early_cut_offs.as_mut().filter(|_| rng.percent(20)) {
         let phase = rng.below(times.len());
-        times[phase] = wrong_time(rng, Setting::EarlyCutOff.limits());
+        times[phase] = wrong_time(rng, Setting::EarlyCutOff, edition);
         return;
     }
     let mut field = rng.below(1 + phase_fields + movement_fields);
     if field == 0 {
-        plan.start_red = wrong_time(rng, Setting::StartRed.limits());
+        plan.start_red = wrong_time(rng, Setting::StartRed, edition);
         return;
     }
     field -= 1;
     if field < phase_fields {
-        let limits = Setting::OF_PHASE[field % 6].limits();
-        plan.phases[field / 6][field % 6] = wrong_time(rng, limits);
+        let setting = Setting::OF_PHASE[field % 6];
+        plan.phases[field / 6][field % 6] = wrong_time(rng, setting, edition);
         return;
     }
     field -= phase_fields;
-    let limits = Setting::OF_MOVEMENT[field % 3].limits();
-    plan.movements[field / 3][field % 3] = wrong_time(rng, limits);
+    let setting = Setting::OF_MOVEMENT[field % 3];
+    plan.movements[field / 3][field % 3] = wrong_time(rng, setting, edition);
 }
 
 /// A phase the site lacks, an unknown mark, or a pedestrian group without

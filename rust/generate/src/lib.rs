@@ -12,7 +12,7 @@ mod states;
 mod streams;
 
 pub use cabinets::{any_records, held_record, twist, CabinetCall, Twist};
-pub use damage::{damaged, scrambled, twice_damaged, AIMED};
+pub use damage::{damaged, other_edition, scrambled, twice_damaged, AIMED};
 pub use inputs::{any_inputs, known_inputs, unknown_inputs};
 pub use plan::{Pace, Plan, Shape, MODES};
 pub use rng::Rng;

@@ -2,7 +2,7 @@
 //! what no accepted personality may.
 
 use crate::rng::Rng;
-use model::{Limits, Mark, Setting, MAX_DETECTORS, MAX_GROUPS, MAX_MOVEMENTS, MAX_PHASES};
+use model::{Edition, Limits, Mark, Setting, MAX_DETECTORS, MAX_GROUPS, MAX_MOVEMENTS, MAX_PHASES};
 
 /// The modes a detector may have.
 pub const MODES: [u8; 6] = [0, 1, 2, 4, 5, 6];
@@ -17,6 +17,8 @@ const EARLY_CUT_OFF: u8 = Mark::EarlyCutOff as u8;
 /// The plan of a site.
 #[derive(Clone, Debug, PartialEq, Eq)]
 pub struct Plan {
+    /// The edition of the limits that its site section names.
+    pub edition: Edition,
     pub start_red: u16,
     /// Late start, minimum green, maximum green, gap, yellow, all-red.
     pub phases: Vec<[u16; 6]>,
@@ -47,6 +49,7 @@ pub enum Pace {
 /// The sizes of a random plan.
 #[derive(Clone, Copy, Debug, PartialEq, Eq)]
 pub struct Shape {
+    pub edition: Edition,
     pub phases: usize,
     pub groups: usize,
     pub pedestrians: usize,
@@ -61,6 +64,7 @@ impl Shape {
     pub fn random(rng: &mut Rng) -> Shape {
         let groups = edged(rng, 1, MAX_GROUPS);
         Shape {
+            edition: rng.pick(&Edition::ALL),
             phases: rng.range(2, MAX_PHASES),
             groups,
             pedestrians: edged(rng, 0, MAX_MOVEMENTS.min(groups)),
@@ -87,7 +91,7 @@ impl Plan {
         let mut bytes = Vec::new();
         let mut site = vec![self.phases.len() as u8, self.groups.len() as u8];
         site.extend(self.start_red.to_le_bytes());
-        section(&mut bytes, 1, site);
+        section(&mut bytes, self.edition.site_kind(), site);
         section(&mut bytes, 2, times(self.phases.as_flattened()));
         section(&mut bytes, 3, self.groups.concat());
         let conflicts = self.conflicts.iter().flat_map(|row| row.to_le_bytes());
@@ -111,6 +115,7 @@ impl Plan {
     /// The junction of two phases of document 01.
     pub fn junction() -> Plan {
         Plan {
+            edition: Edition::One,
             start_red: 10,
             phases: vec![[0, 20, 30, 5, 30, 10]; 2],
             groups: vec![[1, VEHICLE], [2, VEHICLE]],
@@ -119,6 +124,17 @@ impl Plan {
             movements: vec![],
             early_cut_offs: None,
             order: None,
+        }
+    }
+
+    /// The junction of two phases as a site of edition two, with the lowest start
+    /// red and all-red of that edition.
+    pub fn junction_two() -> Plan {
+        Plan {
+            edition: Edition::Two,
+            start_red: 30,
+            phases: vec![[0, 20, 30, 5, 30, 15]; 2],
+            ..Plan::junction()
         }
     }
 
@@ -150,6 +166,7 @@ impl Plan {
     /// a detector.
     pub fn smallest() -> Plan {
         Plan {
+            edition: Edition::One,
             start_red: 10,
             phases: vec![[0, 20, 30, 5, 30, 10]; 2],
             groups: vec![[3, VEHICLE]],
@@ -180,6 +197,7 @@ impl Plan {
         };
         let pedestrian = |movement: usize| [1 << (movement % 7), PEDESTRIAN];
         let mut plan = Plan {
+            edition: Edition::One,
             start_red: 60,
             phases: (0..7).map(|p| [5 * (p % 2), 50, 300, 25, 35, 20]).collect(),
             groups: (0..24).map(vehicle).chain((0..8).map(pedestrian)).collect(),
@@ -218,12 +236,13 @@ impl Plan {
         let groups = random_groups(rng, &shape);
         let pedestrians = groups.iter().filter(|group| group[1] == PEDESTRIAN);
         let movements = pedestrians
-            .map(|_| random_times(rng, Setting::OF_MOVEMENT, shape.pace))
+            .map(|_| random_times(rng, Setting::OF_MOVEMENT, &shape))
             .collect();
         let mut plan = Plan {
-            start_red: random_time(rng, Setting::StartRed.limits(), shape.pace),
+            edition: shape.edition,
+            start_red: random_time(rng, Setting::StartRed, &shape),
             phases: (0..shape.phases)
-                .map(|_| random_phase(rng, shape.pace))
+                .map(|_| random_phase(rng, &shape))
                 .collect(),
             conflicts: vec![0; groups.len()],
             groups,
@@ -294,11 +313,16 @@ fn times(times: &[u16]) -> Vec<u8> {
     times.iter().flat_map(|time| time.to_le_bytes()).collect()
 }
 
-fn random_time(rng: &mut Rng, limits: Limits, pace: Pace) -> u16 {
-    let Limits { low, high } = limits;
-    match pace {
+/// A time within its limits. The edges are those of both editions.
+fn random_time(rng: &mut Rng, setting: Setting, shape: &Shape) -> u16 {
+    let Limits { low, high } = setting.limits(shape.edition);
+    let raised = setting.limits(Edition::Two).low;
+    match shape.pace {
         Pace::Short => rng.time(low, high.min(low + 12)),
-        Pace::Edges => rng.pick(&[low, low, low + 1, high - 1, high]),
+        Pace::Edges => {
+            let below = raised.saturating_sub(1).max(low);
+            rng.pick(&[low, low, low + 1, below, raised, high - 1, high])
+        }
         Pace::Anywhere => rng.time(low, high),
     }
 }
@@ -306,14 +330,14 @@ fn random_time(rng: &mut Rng, limits: Limits, pace: Pace) -> u16 {
 fn random_times<const FIELDS: usize>(
     rng: &mut Rng,
     settings: [Setting; FIELDS],
-    pace: Pace,
+    shape: &Shape,
 ) -> [u16; FIELDS] {
-    settings.map(|setting| random_time(rng, setting.limits(), pace))
+    settings.map(|setting| random_time(rng, setting, shape))
 }
 
 /// The times of a phase; half of the phases have no late start.
-fn random_phase(rng: &mut Rng, pace: Pace) -> [u16; 6] {
-    let mut times = random_times(rng, Setting::OF_PHASE, pace);
+fn random_phase(rng: &mut Rng, shape: &Shape) -> [u16; 6] {
+    let mut times = random_times(rng, Setting::OF_PHASE, shape);
     if rng.percent(50) {
         times[0] = 0;
     }
@@ -323,13 +347,12 @@ fn random_phase(rng: &mut Rng, pace: Pace) -> [u16; 6] {
 /// The early cut-off times; some phases have none, some have one beside the
 /// lowest yellow.
 fn random_early_cut_offs(rng: &mut Rng, shape: &Shape) -> Vec<u16> {
-    let limits = Setting::EarlyCutOff.limits();
-    let yellow = Setting::Yellow.limits();
+    let yellow = Setting::Yellow.limits(shape.edition);
     (0..shape.phases)
         .map(|_| match rng.below(4) {
             0 => 0,
             1 => rng.time(yellow.low - 1, yellow.low + 13),
-            _ => random_time(rng, limits, shape.pace),
+            _ => random_time(rng, Setting::EarlyCutOff, shape),
         })
         .collect()
 }

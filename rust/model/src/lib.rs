@@ -36,7 +36,7 @@ mod wait;
 pub use cabinet::{place, step_held, take_out, OUTPUTS};
 pub use colours::Colour;
 pub use layout::STATE_LEN;
-pub use limits::{Limits, Setting};
+pub use limits::{Edition, Limits, Setting};
 pub use lookup::{section, Part};
 pub use reader::read;
 pub use record::{records_of, row_of, Record, RECORDS, RECORD_LEN, ROOM, ROW_LEN};

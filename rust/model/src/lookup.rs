@@ -16,7 +16,7 @@ pub fn section(personality: &[u8], kind: u16) -> Result<Part, Refusal> {
     let early_cut_offs = site.has_early_cut_offs().then(|| 2 * site.phase_count());
     let order = site.has_order().then(|| site.phase_count());
     let sections = [
-        (1, Some(4)),
+        (site.edition().site_kind(), Some(4)),
         (2, Some(12 * site.phase_count())),
         (3, Some(2 * site.group_count())),
         (4, Some(4 * site.group_count())),

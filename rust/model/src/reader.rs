@@ -1,7 +1,7 @@
 //! Reading a personality: every check, in the order of the paper.
 
 use crate::bits::{set_bits, transpose, transpose8};
-use crate::limits::{Limits, Setting};
+use crate::limits::{Edition, Limits, Setting};
 use crate::refusal::{Number, Refusal, Verdict};
 use crate::site::{Groups, Mark, Records, Site};
 use crate::{MAX_DETECTORS, MAX_GROUPS, MAX_MOVEMENTS};
@@ -21,11 +21,12 @@ impl<'a> Site<'a> {
             bytes: personality,
             at: 0,
         };
-        let site = sections.take(1, |length| length == 4)?;
-        let (phase_count, group_count, start_red) = read_counts(&site)?;
+        let edition = sections.edition();
+        let site = sections.take(edition.site_kind(), |length| length == 4)?;
+        let (phase_count, group_count, start_red) = read_counts(&site, edition)?;
 
         let phases = sections.take(2, |length| length == 12 * phase_count)?;
-        check_times(&phases, &PHASE_LIMITS)?;
+        check_times(&phases, &PHASE_LIMITS[edition as usize])?;
 
         let group_section = sections.take(3, |length| length == 2 * group_count)?;
         let groups = read_groups(&group_section, phase_count)?;
@@ -38,11 +39,11 @@ impl<'a> Site<'a> {
         check_detectors(&detectors, phase_count)?;
 
         let movements = sections.take(6, |length| length == 6 * groups.movement_count)?;
-        check_times(&movements, &MOVEMENT_LIMITS)?;
+        check_times(&movements, &MOVEMENT_LIMITS[edition as usize])?;
 
         let early_cut_offs = sections.take_optional(7, |length| length == 2 * phase_count)?;
         if let Some(section) = &early_cut_offs {
-            check_times(section, &EARLY_LIMITS)?;
+            check_times(section, &EARLY_LIMITS[edition as usize])?;
         }
 
         let order = sections.take_optional(9, |length| length == phase_count)?;
@@ -61,6 +62,7 @@ impl<'a> Site<'a> {
             return Err(Refusal::at(Number::LeftOver, sections.at));
         }
         let records = Records {
+            edition,
             start_red,
             phases: phases.records(),
             groups: group_section.records(),
@@ -111,6 +113,26 @@ impl<'a> Sections<'a> {
         Ok(Section { head, body })
     }
 
+    /// The edition that the first section names. A kind of neither edition is
+    /// refused where the section is taken.
+    #[inline]
+    fn edition(&self) -> Edition {
+        if self.begins(Edition::Two.site_kind()) {
+            Edition::Two
+        } else {
+            Edition::One
+        }
+    }
+
+    /// Whether what is left begins with a whole head of a kind.
+    #[inline]
+    fn begins(&self, kind: u16) -> bool {
+        match self.bytes[self.at..].first_chunk::<HEAD>() {
+            Some(&[_, _, low, high]) => u16::from_le_bytes([low, high]) == kind,
+            None => false,
+        }
+    }
+
     /// Takes the next section where what is left begins with a whole head of
     /// this kind.
     #[inline]
@@ -119,11 +141,7 @@ impl<'a> Sections<'a> {
         kind: u16,
         fits: impl FnOnce(usize) -> bool,
     ) -> Result<Option<Section<'a>>, Refusal> {
-        let held = match self.bytes[self.at..].first_chunk::<HEAD>() {
-            Some(&[_, _, low, high]) => u16::from_le_bytes([low, high]) == kind,
-            None => false,
-        };
-        if held {
+        if self.begins(kind) {
             self.take(kind, fits).map(Some)
         } else {
             Ok(None)
@@ -152,7 +170,7 @@ impl<'a> Section<'a> {
 
 /// The phase count, the group count and start red.
 #[inline]
-fn read_counts(site: &Section) -> Result<(usize, usize, u16), Refusal> {
+fn read_counts(site: &Section, edition: Edition) -> Result<(usize, usize, u16), Refusal> {
     let &[phase_count, group_count, red_low, red_high] = &site.records::<4>()[0];
     if !(2..=7).contains(&phase_count) {
         return Err(site.refuse(Number::WrongCount, 0));
@@ -161,7 +179,7 @@ fn read_counts(site: &Section) -> Result<(usize, usize, u16), Refusal> {
         return Err(site.refuse(Number::WrongCount, 1));
     }
     let start_red = u16::from_le_bytes([red_low, red_high]);
-    if !Setting::StartRed.limits().hold(start_red) {
+    if !Setting::StartRed.limits(edition).hold(start_red) {
         return Err(site.refuse(Number::WrongTime, 2));
     }
     Ok((
@@ -171,15 +189,26 @@ fn read_counts(site: &Section) -> Result<(usize, usize, u16), Refusal> {
     ))
 }
 
-const PHASE_LIMITS: [Limits; 6] = limits_of(Setting::OF_PHASE);
-const MOVEMENT_LIMITS: [Limits; 3] = limits_of(Setting::OF_MOVEMENT);
-const EARLY_LIMITS: [Limits; 1] = limits_of([Setting::EarlyCutOff]);
+/// The limits of the fields of a record, by edition.
+const PHASE_LIMITS: [[Limits; 6]; 2] = by_edition(Setting::OF_PHASE);
+const MOVEMENT_LIMITS: [[Limits; 3]; 2] = by_edition(Setting::OF_MOVEMENT);
+const EARLY_LIMITS: [[Limits; 1]; 2] = by_edition([Setting::EarlyCutOff]);
 
-const fn limits_of<const FIELDS: usize>(settings: [Setting; FIELDS]) -> [Limits; FIELDS] {
-    let mut limits = [Setting::StartRed.limits(); FIELDS];
+const fn by_edition<const FIELDS: usize>(settings: [Setting; FIELDS]) -> [[Limits; FIELDS]; 2] {
+    [
+        limits_of(settings, Edition::One),
+        limits_of(settings, Edition::Two),
+    ]
+}
+
+const fn limits_of<const FIELDS: usize>(
+    settings: [Setting; FIELDS],
+    edition: Edition,
+) -> [Limits; FIELDS] {
+    let mut limits = [Limits { low: 0, high: 0 }; FIELDS];
     let mut field = 0;
     while field < FIELDS {
-        limits[field] = settings[field].limits();
+        limits[field] = settings[field].limits(edition);
         field += 1;
     }
     limits

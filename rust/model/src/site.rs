@@ -1,5 +1,6 @@
 //! A site: an accepted personality, looked at without copying it.
 
+use crate::limits::Edition;
 use crate::{FIRST_BUTTON, MAX_MOVEMENTS};
 
 /// The time settings of a phase.
@@ -71,6 +72,7 @@ pub struct Movement {
 /// The bytes of the sections' records, each within its limits.
 #[derive(Clone, Copy, Debug)]
 pub(crate) struct Records<'a> {
+    pub edition: Edition,
     pub start_red: u16,
     pub phases: &'a [[u8; 12]],
     pub groups: &'a [[u8; 2]],
@@ -107,6 +109,11 @@ pub struct Site<'a> {
 }
 
 impl Site<'_> {
+    /// The edition of the limits that its times are within.
+    pub fn edition(&self) -> Edition {
+        self.records.edition
+    }
+
     pub fn start_red(&self) -> u16 {
         self.records.start_red
     }

@@ -38,6 +38,35 @@ fn sections_are_parts_of_the_personality() {
 }
 
 #[test]
+fn edition_two_of_the_limits() {
+    let mut two = JUNCTION;
+    // The kind of the site section, start red, and the all-reds of A and B.
+    two[2] = 8;
+    two[6] = 30;
+    two[22] = 15;
+    two[34] = 15;
+    let with = |at: usize, byte: u8| {
+        let mut bytes = two;
+        bytes[at] = byte;
+        read(&bytes)
+    };
+    let refused = |number, place| Err(Refusal { number, place });
+    assert_eq!(read(&two), Ok(()));
+    assert_eq!(wait_bound(&two), Ok(310));
+    assert_eq!(with(6, 29), refused(5, 6));
+    assert_eq!(with(22, 14), refused(5, 22));
+    assert_eq!(with(34, 14), refused(5, 34));
+    assert_eq!(with(2, 1), Ok(()));
+    for kind in [0, 2, 9] {
+        assert_eq!(with(2, kind), refused(2, 0));
+    }
+    assert_eq!(section(&two, 8), Ok([2, 2, 30, 0].as_slice()));
+    assert_eq!(section(&two, 1).unwrap_err().number, 2);
+    assert_eq!(section(&JUNCTION, 8).unwrap_err().number, 2);
+    assert!(Controller::new(&two).is_ok());
+}
+
+#[test]
 fn settings_of_a_sheet() {
     use willowera::{settings, Detector, Settings};
     let given = |minimum_green, passage_time| {

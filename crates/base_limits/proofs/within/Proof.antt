@@ -1,7 +1,7 @@
--- `base_limits::within` meets its contract: what the table is comes from `table` alone; inside it the entry decides, past it only 0 is admitted.
+-- `base_limits::within` meets its contract: what the table is comes from `limits` alone; inside it the entry decides, past it only 0 is admitted.
 use borrow.Author.Needs.{needs}
 use Rattle.rules.specs.Limits.{limits, limitOf, within}
-use Rattle.base_limits.proofs.Past.{past-the-table}
+use Rattle.base_limits.proofs.Past.{table-length, past-the-table}
 use Rattle.base_limits.proofs.within.Statement.{statement}
 use Rattle.base_limits.proofs.within.Tie as tie
 
@@ -19,8 +19,9 @@ unfolding within limitOf
 returns c = rw (c .before .before .before .before .limits .ensures)
 
 returns-2 : tie.Need-returns-2
-unfolding limits
-returns-2 c = past-the-table limits (c .before .before .args .setting) (c .before .before .args .value) (c .if1 .left)
+returns-2 c =
+    let a = c .before .before .args in
+    past-the-table (limits (a .edition)) (a .setting) (a .value) (rw (table-length (a .edition)) (c .if1 .left))
 
 pub within-spec : {M : Type 1} → statement M
 within-spec = tie.close (tie.spec limits-requires mul-range array-copy-out-range returns returns-2)

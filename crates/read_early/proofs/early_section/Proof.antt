@@ -9,18 +9,21 @@ use Rattle.read_early.proofs.early_section.Tie as tie
 returns : tie.Need-returns
 returns c = none-early _ (sym (c .before .before .before .pre .hasearly) ∙ not-true _ (c .if1 .taken))
 
-cast-timed-section : tie.Need-cast-timed-section
-cast-timed-section c = search needs
+edition-of-requires : tie.Need-edition-of-requires
+edition-of-requires c κs = search needs
+
+cast-phases : tie.Need-cast-phases
+cast-phases c = search needs
 
 timed-section-requires : tie.Need-timed-section-requires
 timed-section-requires c κs = search needs
 
 returns-2 : tie.Need-returns-2
 returns-2 c =
-    let tested = c .before .before in
+    let tested = c .before .before .before in
     let laid = tested .before .before .before .pre in
     (rw (laid .early, laid .phasecount) at (c .timed-section .ensures)) ∙ early-checked _ (sym (laid .hasearly) ∙ not-false _ (tested .if1 .left))
 
 pub early-section-spec : {M : Type 1} → statement M
 early-section-spec =
-    tie.close (tie.spec returns cast-timed-section timed-section-requires returns-2)
+    tie.close (tie.spec returns edition-of-requires cast-phases timed-section-requires returns-2)

@@ -13,11 +13,11 @@ within-requires c κs = search needs
 
 returns : tie.Need-returns
 unfolding timeAt refuseIf
-returns c = let e = c .if1 .taken in let f = c .before .within .ensures in let g = c .before .before .two-in .ensures in rw (← g, ← f, e)
+returns c = let e = c .if1 .taken in let f = c .before .within .ensures in let g = c .before .before .two-in .ensures in rw (← g, ← c .before .before .before .before .pre .1, ← f, e)
 
 returns-2 : tie.Need-returns-2
 unfolding timeAt refuseIf
-returns-2 c = let e = c .if1 .left in let f = c .before .within .ensures in let g = c .before .before .two-in .ensures in rw (← g, ← f, e)
+returns-2 c = let e = c .if1 .left in let f = c .before .within .ensures in let g = c .before .before .two-in .ensures in rw (← g, ← c .before .before .before .before .pre .1, ← f, e)
 
 pub time-at-spec : {M : Type 1} → statement M
 time-at-spec = tie.close (tie.spec two-in-requires within-requires returns returns-2)

@@ -13,11 +13,11 @@ use Rattle.read_time_records.proofs.time_records.Statement.{statement}
 use Rattle.read_time_records.proofs.time_records.Tie as tie
 
 abbrev Inv-loop : tie.InvT-loop
-Inv-loop s head setting fields count place₀ i₀ place i =
+Inv-loop s edition head setting fields count place₀ i₀ place i =
     (i ≤ count) × (place ≡ recordAt head (fields * 2) i) × (timeRecords s head setting fields i ≡ Accepted)
 
 abbrev μ-loop : tie.MeasureT-loop
-μ-loop s head setting fields count place₀ i₀ place i = count - i
+μ-loop s edition head setting fields count place₀ i₀ place i = count - i
 
 add-place : tie.Need-add-place Inv-loop μ-loop
 add-place c = search needs
@@ -32,8 +32,10 @@ times-at-requires c κs =
     let atStart = c .before .before .before in
     let head = atStart .args .head in
     let width = atStart .args .fields * 2 in
-    let i = c .before .loop .i in
-    omega (arith, record-near head width i (omega arith) (omega arith), record-within head width (atStart .args .count) i (c .loop-test .taken))
+    let i = c .before .loop .i in (
+      omega (arith, record-near head width i (omega arith) (omega arith), record-within head width (atStart .args .count) i (c .loop-test .taken)),
+      atStart .pre .1,
+    )
 
 enum-told : tie.Need-enum-told Inv-loop μ-loop
 enum-told c = search needs

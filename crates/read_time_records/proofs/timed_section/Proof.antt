@@ -16,7 +16,7 @@ mul-sized-section c = search needs
 mul-sized-section-2 : tie.Need-mul-sized-section-2
 mul-sized-section-2 c =
     let a = c .before .args in
-    let near : a .count * (a .fields * 2) ≤ 5100 = mul-le-mul {m₂ = 20} (c .before .pre .3) (omega arith) in
+    let near : a .count * (a .fields * 2) ≤ 5100 = mul-le-mul {m₂ = 20} (c .before .pre .0 .3) (omega arith) in
     search needs
 
 sized-section-requires : tie.Need-sized-section-requires
@@ -36,7 +36,7 @@ time-records-requires : tie.Need-time-records-requires
 unfolding bodyAt
 time-records-requires c κs =
     let atSection = c .before .before in
-    omega (arith, records-held _ _ _ _ _ (sym (atSection .sized-section .ensures) ∙ c .enum-told2 .given .1))
+    (omega (arith, records-held _ _ _ _ _ (sym (atSection .sized-section .ensures) ∙ c .enum-told2 .given .1)), atSection .before .before .pre .1)
 
 returns-2 : tie.Need-returns-2
 unfolding timedSection

@@ -16,6 +16,9 @@ unfolding groupRowsIn
 size-requires c κs =
     (c .before .before .pre, ap (λ (x : GroupRows). x .movements) (c .group-rows-in .ensures))
 
+edition-of-requires : tie.Need-edition-of-requires
+edition-of-requires c κs = search needs
+
 conflicts-requires : tie.Need-conflicts-requires
 conflicts-requires c κs = search needs
 
@@ -25,7 +28,7 @@ cast-detectors c = search needs
 detectors-requires : tie.Need-detectors-requires
 unfolding siteOf
 detectors-requires c κs =
-    let sized = c .before .before .before .before in
+    let sized = c .before .before .before .before .before in
     (sized .before .before .before .pre, ap (λ (x : Size). x .detectors) (sized .size .ensures))
 
 order-requires : tie.Need-order-requires
@@ -40,7 +43,7 @@ phase-times-requires c κs = search needs
 walk-times-requires : tie.Need-walk-times-requires
 unfolding groupRowsIn
 walk-times-requires c κs =
-    let found = c .before .before .before .before .before .before .before .before .before in
+    let found = c .before .before .before .before .before .before .before .before .before .before in
     (found .before .before .pre, ap (λ (x : GroupRows). x .movements) (found .group-rows-in .ensures))
 
 returns : tie.Need-returns
@@ -49,7 +52,8 @@ returns c =
     let timed = c .before .before in
     let detected = timed .before .before in
     let listed = detected .before .before in
-    let sized = listed .before .before .before in
+    let named = listed .before in
+    let sized = named .before .before .before in
     simp (
       c .walk-times .ensures,
       c .before .phase-times .ensures,
@@ -57,6 +61,7 @@ returns c =
       timed .before .order .ensures,
       detected .detectors .ensures,
       listed .conflicts .ensures,
+      named .edition-of .ensures,
       sized .size .ensures,
       sized .before .group-rows-in .ensures,
       sized .before .before .before .pre .laid .hasearly,
@@ -68,6 +73,7 @@ site-of-spec =
     (tie.spec
     group-rows-in-requires
     size-requires
+    edition-of-requires
     conflicts-requires
     cast-detectors
     detectors-requires

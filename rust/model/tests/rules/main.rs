@@ -5,6 +5,7 @@ mod cabinet;
 mod calls;
 mod demanded;
 mod early_cut_off;
+mod editions;
 mod junction;
 mod late_start;
 mod letter;

@@ -1,11 +1,12 @@
 //! The wait bound.
 
 use generate::Plan;
-use model::{wait_bound, Number};
+use model::{wait_bound, Edition, Number};
 
 #[test]
 fn the_greatest_bound_is_37950() {
     let mut plan = Plan {
+        edition: Edition::One,
         start_red: 150,
         phases: vec![[200, 400, 1500, 100, 100, 150]; 7],
         groups: (0..7).map(|phase| [1 << phase, 2]).collect(),
@@ -15,6 +16,8 @@ fn the_greatest_bound_is_37950() {
         early_cut_offs: Some(vec![200; 7]),
         order: None,
     };
+    assert_eq!(wait_bound(&plan.bytes()), Ok(37_950));
+    plan.edition = Edition::Two;
     assert_eq!(wait_bound(&plan.bytes()), Ok(37_950));
     plan.early_cut_offs = None;
     assert_eq!(wait_bound(&plan.bytes()), Ok(35_150));
