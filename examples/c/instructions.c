@@ -1,4 +1,5 @@
-/* Step calls of a site with random inputs at its detectors and buttons, to be counted by valgrind (examples/c/instructions.sh).
+/* Step calls of a site with random inputs at its detectors and buttons, to be counted by valgrind (examples/c/instructions.sh): the site
+ * alone, then the same site with the same inputs in a cabinet.
  *
  * The number of detectors and of movements is read by willowera_section: a record of section 5 has 2 bytes, one of section 6 has 6. Each
  * input bit is set in one step of eight, so that calls, extensions and rests all occur.
@@ -8,14 +9,25 @@
 
 #include "willowera.h"
 
-static uint64_t random_bits(void)
+static uint64_t random_bits(uint64_t *random)
 {
-    static uint64_t random = 88172645463325252u;
+    *random ^= *random << 13;
+    *random ^= *random >> 7;
+    *random ^= *random << 17;
+    return *random;
+}
 
-    random ^= random << 13;
-    random ^= random >> 7;
-    random ^= random << 17;
-    return random;
+static uint64_t random_inputs(uint64_t *random, uint64_t wired)
+{
+    return random_bits(random) & random_bits(random) & random_bits(random) & wired;
+}
+
+static void accepted(uint64_t answer)
+{
+    if (WILLOWERA_NUMBER(answer) != WILLOWERA_ACCEPTED) {
+        fprintf(stderr, "refused with %u\n", WILLOWERA_NUMBER(answer));
+        exit(1);
+    }
 }
 
 static unsigned records(const uint8_t *personality, size_t length, uint16_t kind, unsigned size)
@@ -23,11 +35,31 @@ static unsigned records(const uint8_t *personality, size_t length, uint16_t kind
     return (unsigned)(WILLOWERA_LENGTH(willowera_section(personality, length, kind)) / size);
 }
 
+static void step_alone(const uint8_t *personality, size_t length, uint64_t wired, long steps)
+{
+    uint8_t state[WILLOWERA_STATE_BYTES];
+    uint8_t colours[WILLOWERA_MOST_GROUPS];
+    uint64_t random = 88172645463325252u;
+
+    accepted(willowera_fresh(state, sizeof state));
+    for (long i = 0; i < steps; i++)
+        accepted(willowera_step(personality, length, state, sizeof state, random_inputs(&random, wired), colours, sizeof colours));
+}
+
+static void step_in_cabinet(const uint8_t *personality, size_t length, uint64_t wired, long steps)
+{
+    static uint8_t row[WILLOWERA_ROW_BYTES];
+    uint8_t outputs[WILLOWERA_OUTPUTS] = {0};
+    uint64_t random = 88172645463325252u;
+
+    accepted(willowera_cabinet_place(row, sizeof row, 0, personality, length, 0, outputs, sizeof outputs));
+    for (long i = 0; i < steps; i++)
+        accepted(willowera_cabinet_step(row, sizeof row, 0, random_inputs(&random, wired), outputs, sizeof outputs));
+}
+
 int main(int count, char **words)
 {
     static uint8_t personality[65536];
-    uint8_t state[WILLOWERA_STATE_BYTES];
-    uint8_t colours[WILLOWERA_MOST_GROUPS];
     FILE *file = count == 3 ? fopen(words[1], "rb") : NULL;
 
     if (file == NULL) {
@@ -36,22 +68,14 @@ int main(int count, char **words)
     }
     size_t length = fread(personality, 1, sizeof personality, file);
     fclose(file);
-    unsigned detectors = records(personality, length, 5, 2);
-    unsigned movements = records(personality, length, 6, 6);
     uint64_t wired = 0;
-    for (unsigned d = 0; d < detectors; d++)
-        wired |= WILLOWERA_DETECTOR(d);
-    for (unsigned k = 0; k < movements; k++)
-        wired |= WILLOWERA_BUTTON(k);
+    for (unsigned d = records(personality, length, 5, 2); d > 0; d--)
+        wired |= WILLOWERA_DETECTOR(d - 1);
+    for (unsigned k = records(personality, length, 6, 6); k > 0; k--)
+        wired |= WILLOWERA_BUTTON(k - 1);
 
-    willowera_fresh(state, sizeof state);
-    for (long i = strtol(words[2], NULL, 10); i > 0; i--) {
-        uint64_t inputs = random_bits() & random_bits() & random_bits() & wired;
-        uint64_t answer = willowera_step(personality, length, state, sizeof state, inputs, colours, sizeof colours);
-        if (WILLOWERA_NUMBER(answer) != WILLOWERA_ACCEPTED) {
-            fprintf(stderr, "refused with %u\n", WILLOWERA_NUMBER(answer));
-            return 1;
-        }
-    }
+    long steps = strtol(words[2], NULL, 10);
+    step_alone(personality, length, wired, steps);
+    step_in_cabinet(personality, length, wired, steps);
     return 0;
 }
