@@ -1,6 +1,7 @@
 """Request ten's cabinet of four sites, written from the papers in Python and independent of the proved code."""
-from controller import RED, STATE_BYTES, Controller, Site
-from model import Refusal, number, verdict
+from controller import RED
+from model import Refusal, number
+from retime import STATE_BYTES, fresh, retime, site_of, step, verdict_of
 
 RECORDS, ROOM, OUTPUTS, DARK = 4, 477, 32, 4
 RECORD_BYTES = 4 + ROOM + STATE_BYTES
@@ -17,19 +18,19 @@ class Record:
 
     def taken(self):
         """The outputs that no other site may have."""
-        if not self.held or verdict(self.personality)[0]:
+        if not self.held or verdict_of(self.personality)[0]:
             return set()
-        return set(range(self.first, self.first + len(Site(self.personality).groups)))
+        return set(range(self.first, self.first + len(site_of(self.personality).groups)))
 
     def with_state(self, state):
         return self.data[:4 + ROOM] + state
 
 
 def read(personality):
-    found, place = verdict(personality)
+    found, place = verdict_of(personality)
     if found:
         raise Refusal(found, place)
-    return Site(personality)
+    return site_of(personality)
 
 
 def outputs_of(site, first):
@@ -53,6 +54,11 @@ class Cabinet:
     def take_out(self, index):
         return self.answer(self.taken_out, index)
 
+    def retime(self, index, new):
+        """New times for the site of a record: the call of a site alone, on the personality and the state in the record. A record that the
+        row does not have is no call; 24 stands for it."""
+        return self.answer(self.retimed, index, new)
+
     @staticmethod
     def answer(call, *arguments):
         try:
@@ -65,10 +71,10 @@ class Cabinet:
             return []
         return [Record(self.row[at:at + RECORD_BYTES]) for at in range(0, ROW_BYTES, RECORD_BYTES)]
 
-    def record(self, index, held):
-        """A record that is held, or one that is free."""
+    def record(self, index, held=None):
+        """A record; with `held`, one that is held, or one that is free."""
         found = self.records()[index:index + 1]
-        if not found or found[0].held != held:
+        if not found or held not in (None, found[0].held):
             raise Refusal(24, 0)
         return found[0]
 
@@ -80,27 +86,33 @@ class Cabinet:
             raise Refusal(25, 0)
         self.show(own, bytes([RED] * len(own)))
         head = bytes((1, first)) + len(personality).to_bytes(2, "little")
-        self.store(index, head + personality.ljust(ROOM, b"\0") + Controller(site).state())
+        _, _, state = fresh(personality, bytes(STATE_BYTES))
+        self.store(index, head + personality.ljust(ROOM, b"\0") + state)
 
     def stepped(self, index, inputs):
         record = self.record(index, held=True)
-        site = read(record.personality)
-        own = outputs_of(site, record.first)
-        controller = Controller.of(site, record.state)
-        if controller is None or not controller.valid():
-            raise Refusal(13, 0)
-        if inputs & ~site.wired():
-            raise Refusal(15, 0)
-        controller.step(inputs)
-        self.show(own, controller.colours())
-        self.store(index, record.with_state(controller.state()))
-        return site.wait()
+        own = outputs_of(read(record.personality), record.first)
+        # The site alone, with a colour buffer for its outputs; a short one has none.
+        room = len(own) if len(self.outputs) >= OUTPUTS else 0
+        found, rest, state, colours = step(record.personality, record.state, inputs, room)
+        if found:
+            raise Refusal(found, rest)
+        self.show(own, colours)
+        self.store(index, record.with_state(state))
+        return rest
 
     def taken_out(self, index):
         record = self.record(index, held=True)
         own = outputs_of(read(record.personality), record.first)
         self.show(own, bytes([DARK] * len(own)))
         self.store(index, bytes(RECORD_BYTES))
+
+    def retimed(self, index, new):
+        record = self.record(index)
+        found, place, state = retime(record.personality, record.state, new)
+        if found:
+            raise Refusal(found, place)
+        self.store(index, record.with_state(state))
 
     def show(self, own, colours):
         """The last check of each call, and its outputs."""

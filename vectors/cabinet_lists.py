@@ -11,8 +11,8 @@ import subprocess
 import sys
 
 from cabinet import OUTPUTS, RECORDS, Cabinet
-from controller import Site
 from model import junction, junction_two, largest, quick_ranges, random_site, turning_arrow
+from retime import site_of
 
 PLACE, STEP, TAKE_OUT = range(3)
 WORDS, LETTERS = ("place", "step", "take"), "RYGFD"
@@ -122,11 +122,11 @@ def runs():
         firsts, first = [], 0
         for personality in sites[:RECORDS]:
             firsts.append(first)
-            first += len(Site(personality).groups)
+            first += len(site_of(personality).groups)
         calls = [place(record, sites[record], firsts[record]) for record in range(RECORDS)]
         for _ in range(500):
             record, luck = rng.randrange(RECORDS), rng.random()
-            wired = Site(sites[record]).wired()
+            wired = site_of(sites[record]).wired
             calls.append(step(record, wired & rng.getrandbits(64) & rng.getrandbits(64)))
             if luck < 0.02:
                 calls += [take_out(record), place(record, sites[record], firsts[record])]

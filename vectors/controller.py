@@ -1,11 +1,14 @@
-"""The controller of documents 01 and 02 at one accepted site, written from the papers in Python and independent of the proved code: a
-state as bytes, valid states, a step, the colours and the wait bound. It only makes vectors."""
+"""The controller of documents 01 and 02 at one accepted site, written from the papers in Python and independent of the proved code: valid
+states, a step, the colours and the wait bound. It only makes vectors. The times are those of the site; `retime` has states that keep
+theirs."""
+from functools import cached_property
+
 from model import EARLY_CUT_OFF, LATE_START, PEDESTRIAN, PHASE_FIELDS, WALK_FIELDS, number
 
 S, L, M, G, E, Y, R = range(7)
 IDLE, WALK, FIRST, SECOND = range(4)
 RED, YELLOW, GREEN, FLASHING_RED = range(4)
-STATE_BYTES, MOVEMENTS, FIRST_BUTTON, OLDEST = 39, 8, 48, 2_000
+PLAIN_BYTES, MOVEMENTS, FIRST_BUTTON, OLDEST = 39, 8, 48, 2_000
 # The two bytes of a phase or none.
 PHASE_OR_NONE = {(0, 0): None, **{(1, phase): phase for phase in range(256)}}
 
@@ -45,10 +48,12 @@ class Site:
         place = self.order.index(phase)
         return self.order[place + 1:] + self.order[:place]
 
+    @cached_property
     def wired(self):
         """The input bits that have a detector or a button."""
         return (1 << len(self.detectors)) - 1 | (1 << len(self.walks)) - 1 << FIRST_BUTTON
 
+    @cached_property
     def wait(self):
         """The wait bound."""
         total = self.start
@@ -75,7 +80,7 @@ class Controller:
 
     @classmethod
     def of(cls, site, data):
-        """The state in its bytes; none if they are no state."""
+        """The state in its 39 bytes, without its times; none if they are no state."""
         came, target = (data[4], data[5]), (data[6], data[7])
         stages = [(data[at], number(data, at + 1, 2)) for at in range(14, 38, 3)]
         if data[1] > R or any(stage > SECOND for stage, _ in stages) or not {came, target} <= PHASE_OR_NONE.keys():
@@ -88,7 +93,8 @@ class Controller:
         state.stages = stages
         return state
 
-    def state(self):
+    def plain(self):
+        """The 39 bytes of the state, without its times."""
         two = lambda value: value.to_bytes(2, "little")
         maybe = lambda phase: bytes((0, 0) if phase is None else (1, phase))
         bits = lambda members: bytes((sum(1 << member for member in members),))
@@ -136,7 +142,10 @@ class Controller:
         if interval == G:
             self.maximum = 0
 
-    def start(self):
+    def start(self, waiting):
+        """The phase starts. If times wait, the site by them rules from here on."""
+        if waiting is not None:
+            self.site, self.gap, self.maximum = waiting, 0, 0
         self.enter(L if self.site.phases[self.phase]["L"] else M)
 
     def any_in(self, *stages):
@@ -152,8 +161,9 @@ class Controller:
             return (stage + 1) % 4, 1
         return stage, min(age + 1, OLDEST)
 
-    def step(self, inputs):
-        """A step from a valid state, each input bit of which has a detector or a button."""
+    def step(self, inputs, waiting=None):
+        """A step from a valid state, each input bit of which has a detector or a button; if other times wait, with the site by them. Answers
+        whether a phase starts."""
         site, times, green = self.site, self.site.phases[self.phase], self.interval in (M, G)
         seen = [site.detectors[d] for d in members_of(inputs) if d < FIRST_BUTTON]
         # Demands.
@@ -181,13 +191,13 @@ class Controller:
         if not over:
             self.age, starts = min(self.age + 1, OLDEST), False
         elif self.interval == S:
-            self.start()
+            self.start(waiting)
         elif self.interval == G:
             self.target = others[0]
             self.enter(E if early else Y)
         elif self.interval == R:
             self.came, self.phase, self.target, self.gap, self.maximum = self.phase, self.target, None, 0, 0
-            self.start()
+            self.start(waiting)
         else:
             self.enter({L: M, M: G, E: Y, Y: R}[self.interval])
         # Walks.
@@ -197,6 +207,7 @@ class Controller:
                     self.stages[k] = (WALK, 1)
                     self.presses.discard(k)
         self.kept = self.standing()
+        return starts
 
     # ── Colours ──
 

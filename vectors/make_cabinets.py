@@ -2,19 +2,22 @@
 """Writes the vectors of the cabinet. Of each: the row and the outputs, both behind a two-byte length; the number of calls (2 bytes); the
 calls, one after the other on the same row and outputs.
 
-A call is its kind (1 byte: 0 place, 1 step, 2 take out) and the record (8 bytes); of a placing also the first output (8) and the
-personality behind a two-byte length, of a step the inputs (8). Then come the number (1) and the place or wait (4), and, if the call is
-accepted, the row and the outputs after it.
+A call is its kind (1 byte: 0 place, 1 step, 2 take out, 3 retime) and the record (8 bytes); of a placing also the first output (8) and the
+personality behind a two-byte length, of a step the inputs (8), of a retiming the new personality behind a two-byte length. Then come the
+number (1) and the place or wait (4), and, if the call is accepted, the row and the outputs after it. A retiming is the call of a site
+alone, on the personality and the state in the record.
 
 Usage: make_cabinets.py OUT. The same file comes out at every run."""
 import random
 import sys
+from collections import Counter
 
 from cabinet import DARK, OUTPUTS, RECORD_BYTES, RECORDS, ROOM, ROW_BYTES, Cabinet
-from controller import E, MOVEMENTS, OLDEST, R, STATE_BYTES, Y, Controller, Site
-from model import junction, junction_two, largest, quick_ranges, random_site, three_phases, turning_arrow, verdict
+from draws import damaged, put, random_data, second
+from model import build, junction, junction_two, largest, quick_ranges, random_site, three_phases, turning_arrow
+from retime import FLAG, RULING, STATE_BYTES, fresh, site_of, times_of, verdict_of
 
-PLACE, STEP, TAKE_OUT = range(3)
+PLACE, STEP, TAKE_OUT, RETIME = range(4)
 FAR = (4, 5, 255, 256, 1 << 32, (1 << 64) - 1)
 
 
@@ -28,32 +31,50 @@ def behind_length(data):
 
 class Vector:
     """A cabinet, and the calls made on it."""
+    seen = Counter()
 
     def __init__(self, row=bytes(ROW_BYTES), outputs=bytes(OUTPUTS)):
         self.cabinet, self.start = Cabinet(row, outputs), behind_length(row) + behind_length(outputs)
         self.calls = []
 
     def call(self, kind, record, *more):
-        """Makes a call: a placing with personality and first output, a step with inputs."""
-        made = {PLACE: self.cabinet.place, STEP: self.cabinet.step, TAKE_OUT: self.cabinet.take_out}[kind]
+        """Makes a call: a placing with personality and first output, a step with inputs, a retiming with the new personality."""
+        made = (self.cabinet.place, self.cabinet.step, self.cabinet.take_out, self.cabinet.retime)[kind]
+        before = self.cabinet.row
         found, rest = made(record, *more)
         handed = bytes((kind,)) + little(record, 8)
         if kind == PLACE:
             handed += little(more[1], 8) + behind_length(more[0])
         if kind == STEP:
             handed += little(more[0], 8)
+        if kind == RETIME:
+            handed += behind_length(more[0])
+        self.watch(kind, record, found, before)
         after = self.cabinet.row + self.cabinet.outputs if found == 0 else b""
         self.calls.append(handed + bytes((found,)) + little(rest, 4) + after)
         return found, rest
+
+    def watch(self, kind, record, found, before):
+        """Counts what a call shows."""
+        self.seen[("place", "step", "take out", "retime")[kind], found] += 1
+        if kind == STEP and not found:
+            at = record * RECORD_BYTES + 4 + ROOM
+            held, state = self.cabinet.records()[record], before[at:at + STATE_BYTES]
+            self.seen["step by other times than its own"] += state[RULING:FLAG] != times_of(held.personality)
+            self.seen["change of times"] += state[FLAG] and not held.state[FLAG]
 
     def data(self):
         return self.start + little(len(self.calls), 2) + b"".join(self.calls)
 
 
+def fresh_state(personality):
+    return fresh(personality, bytes(STATE_BYTES))[2]
+
+
 def record_of(personality, first=0, held=1, length=None, state=None):
-    """The bytes of a record. By default it is as a placing leaves it."""
+    """The bytes of a record. By default it is as a placing leaves it; if the personality is refused, with the state of the junction."""
     length = len(personality) if length is None else length
-    state = Controller(Site(junction())).state() if state is None else state
+    state = fresh_state(junction() if verdict_of(personality)[0] else personality) if state is None else state
     return bytes((held, first)) + little(length, 2) + personality[:ROOM].ljust(ROOM, b"\0") + state
 
 
@@ -71,6 +92,56 @@ def worked():
         assert vector.call(*call) == answer, call
     assert vector.cabinet.outputs == bytes([DARK] * 2 + [0] * 30)
     yield vector
+
+
+def longer():
+    """The junction with longer times, and a wait of 460."""
+    return build(20, [(0, 40, 60, 10, 40, 20)] * 2, [(1, 0), (2, 0)], {(0, 1)}, [(0, 6), (1, 6)], [])
+
+
+def worked_retimings():
+    """The junction twice, one of them with new times from the start of B on, in step 71."""
+    vector = Vector()
+    for record, first in ((0, 0), (3, 30)):
+        vector.call(PLACE, record, junction(), first)
+    for now in range(1, 113):
+        if now == 20:
+            assert vector.call(RETIME, 3, longer()) == (0, 0)
+        for record in (0, 3):
+            wait = 460 if record == 3 and now > 70 else 270
+            assert vector.call(STEP, record, 2 if now == 12 else 0) == (0, wait), (record, now)
+    one, other = (vector.cabinet.records()[record].state[:3] for record in (0, 3))
+    assert (one, other) == (bytes((1, 3, 22)), bytes((1, 3, 2)))
+    yield vector
+
+
+def refused_retimings():
+    """Retimings of a site, of a record whose personality is refused, of one whose state is not valid, of a free one, and of a site of edition
+    two. The last of each vector is accepted."""
+    wrong, site, two = put(junction(), 20, 29), junction(), junction_two()
+    other = longer()[:61] + b"\2" + longer()[62:]
+    bad_state = record_of(site, 4, state=b"\xff" * STATE_BYTES)
+    row = record_of(site) + record_of(wrong, 2) + bad_state + FREE
+    calls = ((0, other, (26, 0)), (0, wrong, (5, 20)), (0, b"", (1, 0)), (1, longer(), (5, 20)), (2, wrong, (13, 0)), (3, longer(), (1, 0)),
+             (0, two, (26, 0)), (0, longer(), (0, 0)))
+    of_two = ((0, junction_two(kind=1), (26, 0)), (0, junction_two(29), (5, 6)), (0, junction_two(reds=(15, 14)), (5, 34)),
+              (0, junction_two(29, kind=1), (26, 0)), (0, junction_two(40), (0, 0)))
+    for vector, made in ((Vector(row), calls), (Vector(record_of(two, 7) + FREE * 3), of_two)):
+        for record, new, answer in made:
+            assert vector.call(RETIME, record, new) == answer, (record, answer)
+        yield vector
+
+
+def editions():
+    """Times that edition one allows and edition two does not, in the state of a site of either."""
+    for kind, answers in ((1, ((0, 309), (0, 308))), (8, ((13, 0), (13, 0)))):
+        site = junction_two(kind=kind)
+        # A start red of 29, and an all-red of A of 14.
+        states = [put(fresh_state(site), RULING + at, time) for at, time in ((0, 29), (12, 14))]
+        vector = Vector(record_of(site, state=states[0]) + record_of(site, 2, state=states[1]) + FREE * 2)
+        for record, answer in enumerate(answers):
+            assert vector.call(STEP, record, 0) == answer, (kind, record)
+        yield vector
 
 
 def orders():
@@ -134,7 +205,7 @@ def lengths():
     site = junction()
     row = record_of(site) + record_of(site, 2) + FREE * 2
     calls = ((PLACE, 2, site, 4), (PLACE, 2, b"", 4), (STEP, 1, 0), (TAKE_OUT, 0))
-    for size in (0, 1, 519, 520, 1040, 1560, 2079, 2081, 2600, 4160):
+    for size in (0, 1, 816, 817, 1634, 2080, 2451, 3267, 3269, 4085, 6536):
         vector = Vector((row * 2)[:size], bytes([9] * 32))
         for call in calls:
             vector.call(*call)
@@ -148,35 +219,10 @@ def lengths():
 
 # ── Anything ──
 
-def any_state(rng, site):
-    """A state of any content, about half of them valid."""
-    state, phases, walks = Controller(site), len(site.phases), len(site.walks)
-    beside = lambda value: rng.choice((value, value, value, value + 1, max(value - 1, 0), 1, OLDEST))
-    state.phase, state.interval = rng.randrange(phases), rng.randrange(7)
-    times = site.phases[state.phase]
-    state.age = beside(rng.choice([site.start, site.early[state.phase], *times.values()]))
-    state.came = rng.choice([None, *range(phases)])
-    if state.interval in (E, Y, R):
-        state.target = rng.choice(site.after(state.phase))
-    state.gap = rng.choice((0, 0, 1, times["G"], times["G"], times["G"] - 1, rng.randint(0, times["G"])))
-    state.gap = max(state.gap, 0)
-    state.maximum = rng.choice((0, 0, 1, times["X"], times["X"], times["X"] - 1))
-    state.locks = {p for p in range(phases) if rng.random() < 0.3}
-    state.presses = {k for k in range(walks) if rng.random() < 0.3}
-    for k in range(walks):
-        if site.phase_of[k] == state.phase and state.interval and rng.random() < 0.6:
-            stage = 3 if state.interval in (E, Y, R) else rng.randint(1, 3)
-            setting = site.walks[k][("W", "C1", "C2")[stage - 1]]
-            state.stages[k] = (stage, beside(setting))
-    state.kept = state.standing()
-    return spoilt(rng, state.state()) if rng.random() < 0.3 else state.state()
-
-
-def spoilt(rng, data):
-    """A byte of a state changed, often to a small number."""
-    at = rng.choice((rng.randrange(STATE_BYTES), rng.randrange(8), 12, 13, 38, 14 + 3 * rng.randrange(MOVEMENTS)))
-    value = rng.choice((rng.randrange(8), rng.randrange(8), data[at] ^ 1 << rng.randrange(8), 255))
-    return data[:at] + bytes((value,)) + data[at + 1:]
+def any_state(rng, personality):
+    """A valid state by any times, or one with a thing wrong."""
+    data = random_data(rng, personality)
+    return damaged(rng, personality, data) if rng.random() < 0.3 else data
 
 
 def some_site(rng):
@@ -188,19 +234,19 @@ def any_record(rng):
     if rng.random() < 0.25:
         return FREE
     personality = rng.choice((junction(), junction_two(), junction_two(29), turning_arrow(), some_site(rng), some_site(rng), some_site(rng)))
-    site = Site(personality)
-    free = OUTPUTS - len(site.groups)
-    data = record_of(personality, rng.choice((0, free, rng.randint(0, free))), state=any_state(rng, site))
-    put = lambda at, value: data[:at] + bytes((value,)) + data[at + 1:]
+    free = OUTPUTS - personality[5]
+    state = None if verdict_of(personality)[0] else any_state(rng, personality)
+    data = record_of(personality, rng.choice((0, free, rng.randint(0, free))), state=state)
+    changed = lambda at, value: data[:at] + bytes((value,)) + data[at + 1:]
     twist = rng.randrange(16)
     if twist == 0:
-        data = put(0, rng.choice((0, 2, 255)))
+        data = changed(0, rng.choice((0, 2, 255)))
     elif twist == 1:
-        data = put(1, rng.choice((free + 1, 31, 32, rng.randrange(256))) & 255)
+        data = changed(1, rng.choice((free + 1, 31, 32, rng.randrange(256))) & 255)
     elif twist == 2:
         data = data[:2] + little(rng.choice((0, len(personality) - 1, len(personality) + 1, 478, 65535)), 2) + data[4:]
     elif twist == 3:
-        data = put(4 + rng.randrange(len(personality)), rng.randrange(256))
+        data = changed(4 + rng.randrange(len(personality)), rng.randrange(256))
     elif twist == 4:
         data = data[:4] + rng.randbytes(RECORD_BYTES - 4)
     elif twist == 5:
@@ -211,10 +257,21 @@ def any_record(rng):
 def any_inputs(rng, records, index):
     """Inputs of a step: most have detectors and buttons, if the record has a site."""
     wired = 0
-    if index < len(records) and records[index].held and not verdict(records[index].personality)[0]:
-        wired = Site(records[index].personality).wired()
+    if index < len(records) and has_site(records[index]):
+        wired = site_of(records[index].personality).wired
     inputs = wired & rng.getrandbits(64) & rng.getrandbits(64)
     return inputs if rng.random() < 0.9 else inputs | 1 << rng.randrange(64)
+
+
+def has_site(record):
+    return record.held and not verdict_of(record.personality)[0]
+
+
+def any_retiming(rng, records, index):
+    """A retiming of a record that the row has, most often of a site; many are accepted."""
+    index = index if index < len(records) else 0
+    personality = records[index].personality if has_site(records[index]) else some_site(rng)
+    return RETIME, index, second(rng, personality)
 
 
 def any_call(rng, cabinet):
@@ -222,20 +279,20 @@ def any_call(rng, cabinet):
     records = cabinet.records()
     held = [index for index, record in enumerate(records) if record.held]
     free = [index for index, record in enumerate(records) if not record.held]
-    kind = rng.choices((PLACE, STEP, TAKE_OUT), (3, 8, 1))[0]
+    kind = rng.choices((PLACE, STEP, TAKE_OUT, RETIME), (3, 8, 1, 3))[0]
     fitting = free if kind == PLACE else held
     index = rng.choice(fitting) if fitting and rng.random() < 0.85 else rng.choice((0, 1, 2, 3, rng.choice(FAR)))
     if kind == PLACE:
         personality = some_site(rng)
         taken = set().union(*(record.taken() for record in records))
-        groups = len(Site(personality).groups)
+        groups = len(site_of(personality).groups)
         gaps = [at for at in range(OUTPUTS - groups + 1) if not taken & set(range(at, at + groups))]
         anywhere = rng.choice((rng.randrange(34), OUTPUTS - groups, OUTPUTS - groups + 1, rng.choice(FAR)))
         first = rng.choice(gaps) if gaps and rng.random() < 0.7 else anywhere
         return PLACE, index, personality if rng.random() < 0.9 else personality[:rng.randrange(len(personality))], first
     if kind == STEP:
         return STEP, index, any_inputs(rng, records, index)
-    return TAKE_OUT, index
+    return (TAKE_OUT, index) if kind == TAKE_OUT else any_retiming(rng, records, index)
 
 
 def rows():
@@ -262,7 +319,7 @@ def lists():
 
 
 def runs():
-    """A long run of sites that take turns."""
+    """A long run of sites that take turns, with new times for some of them."""
     rng = random.Random(25)
     for _ in range(3):
         vector, first, sites = Vector(), 0, []
@@ -270,22 +327,34 @@ def runs():
             kind = rng.choice((1, 8))
             personality = random_site(rng, 8, quick_ranges(kind), kind)
             vector.call(PLACE, record, personality, first)
-            sites.append(Site(personality))
-            first += len(sites[-1].groups)
+            sites.append(personality)
+            first += len(site_of(personality).groups)
         lasting = [0] * RECORDS
         for _ in range(600):
             record = rng.randrange(RECORDS)
             if rng.random() < 0.2:
-                lasting[record] = sites[record].wired() & rng.getrandbits(64) & rng.getrandbits(64)
+                lasting[record] = site_of(sites[record]).wired & rng.getrandbits(64) & rng.getrandbits(64)
+            if record > 0 and rng.random() < 0.08:
+                vector.call(RETIME, record, second(rng, sites[record]))
             vector.call(STEP, record, lasting[record])
         yield vector
 
 
+# What the vectors must have, and how often at least.
+NEEDED = {
+    5: [("retime", found) for found in (0, 1, 2, 5, 13, 26)] + [("place", found) for found in (0, 1, 14, 24, 25)]
+    + [("step", found) for found in (0, 13, 14, 15, 24, 25)] + [("take out", found) for found in (0, 14, 24, 25)],
+    50: ["step by other times than its own", "change of times"],
+}
+
+
 def main():
     with open(sys.argv[1], "wb") as out:
-        for part in (worked, orders, firsts, heads, lengths, rows, lists, runs):
+        for part in (worked, worked_retimings, refused_retimings, editions, orders, firsts, heads, lengths, rows, lists, runs):
             for vector in part():
                 out.write(vector.data())
+    missing = {what: Vector.seen[what] for least, some in NEEDED.items() for what in some if Vector.seen[what] < least}
+    assert not missing, missing
 
 
 main()

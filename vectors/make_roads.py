@@ -7,8 +7,8 @@ Usage: make_roads.py OUT. The same file comes out at every run."""
 import random
 import sys
 
-from controller import STATE_BYTES, Site
 from model import PEDESTRIAN, build, junction, junction_two, largest, number, random_site, three_phases, turning_arrow
+from retime import STATE_BYTES, site_of
 from road import road
 
 WORKED = [
@@ -42,7 +42,7 @@ def wrongs():
     for steps in (0, 1, 180_001, 2**31, 2**32 - 1):
         yield site, of(good), steps, STATE_BYTES, 4
     yield from ((site, of(good, good)[:size], 30, STATE_BYTES, 8) for size in range(9))
-    yield from ((site, of(good, good), 30, state, 8) for state in (0, STATE_BYTES - 1, STATE_BYTES, STATE_BYTES + 1, 295))
+    yield from ((site, of(good, good), 30, STATE_BYTES + more, 8) for more in (-STATE_BYTES, -256, -1, 0, 1, 256))
     yield from ((site, of(good, good), 30, STATE_BYTES, size) for size in (0, 4, 7, 8, 9, 12, 300))
     for personality in (site, site[:-1], b""):
         for streams in (of(good), of((3, 0, 1801))):
@@ -70,11 +70,11 @@ def sites():
     rng = random.Random(8)
     known = [junction(), turning_arrow(), turning_arrow((35, 10)), three_phases(), three_phases(early=(1, 29, 31)), largest()]
     for personality in known * 4 + [random_site(rng) for _ in range(120)]:
-        streams = random_streams(rng, Site(personality))
+        streams = random_streams(rng, site_of(personality))
         steps = rng.choice((rng.randint(0, 60), rng.randint(60, 900), rng.randint(60, 900), rng.randint(900, 4_000)))
         yield personality, streams, steps, STATE_BYTES, len(streams) + rng.choice((0, 0, 1, 5))
     for personality in (junction_two(), junction_two(29), junction_two(29, kind=1), *[random_site(rng, kind=8) for _ in range(20)]):
-        streams = of((0, 0, 1800)) if personality[5] == 2 else random_streams(rng, Site(personality))
+        streams = of((0, 0, 1800)) if personality[5] == 2 else random_streams(rng, site_of(personality))
         yield personality, streams, rng.randint(60, 900), STATE_BYTES, len(streams)
 
 

@@ -1,6 +1,7 @@
 """Request eight's simulated road, written from the papers in Python and independent of the proved code."""
-from controller import GREEN, STATE_BYTES, Controller, Site
-from model import PEDESTRIAN, number, verdict
+from controller import GREEN, Controller
+from model import PEDESTRIAN, number
+from retime import STATE_BYTES, put_together, site_of, times_of, verdict_of
 
 
 class Stream:
@@ -32,10 +33,10 @@ def refused(site, streams, steps):
 
 def road(personality, streams, steps, state_length, results_length):
     """Number, place, and of an accepted road the last state and the results."""
-    found, place = verdict(personality)
+    found, place = verdict_of(personality)
     if found:
         return found, place, b"", b""
-    site = Site(personality)
+    site = site_of(personality)
     if refused(site, streams, steps):
         return 22, 0, b"", b""
     if state_length != STATE_BYTES:
@@ -52,4 +53,4 @@ def road(personality, streams, steps, state_length, results_length):
             lane.release(controller.colour(lane.group))
     assert all(lane.queued + lane.gone == lane.rate * steps // 36_000 for lane in lanes)
     results = b"".join(lane.queued.to_bytes(2, "little") + lane.gone.to_bytes(2, "little") for lane in lanes)
-    return 0, 0, controller.state(), results
+    return 0, 0, put_together(controller, times_of(personality)), results

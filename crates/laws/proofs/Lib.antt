@@ -7,7 +7,7 @@
 --   Tables      a rule shown by one computation: table-holds, table-same, table-equal, grid-holds, grid-same
 --   Sums        sumOf and greatestOf: sum-same, sum-at, sum-within, greatest-at, greatest-most, greatest-with
 --   Counting    countOf and indicesOf: count-before, count-apart, count-within, count-one, count-only, indices-at, listed-once
---   Lists       listOf, rowOf and any list: list-at, list-same, list-told, listed, list-set, row-at, row-past; entry-same (the default)
+--   Lists       listOf, rowOf and any list: list-at, list-same, list-told, listed, list-set, row-at, row-past, row-told; entry-same (the default)
 --   Arrays      an array that a loop fills: Filled, fill-set, fill-skip, fill-done, fill-kept; or writes part behind part: Stored
 --   Rows        a blank array that a loop fills from the front: Filled, filled-none, filled-more, filled-whole, blanks-left
 --   Entries     sums over the entries of a list: total, places, In, total-append

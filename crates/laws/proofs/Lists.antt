@@ -5,11 +5,11 @@ use mathlib.Core.Logic.{⊎-elim}
 use mathlib.Core.Path.{_≡_, refl, sym, subst, _∙_}
 use native.Mathlib.Nat.{le-of-suc-le-suc, not-suc-le-zero}
 use native.Mathlib.Omega.{arith}
-use lib.ListN.{length, getD, replicate, set, length-append, length-set, List·getD-append}
+use lib.ListN.{length, getD, replicate, set, length-append, length-replicate, length-set, List·getD-append}
 use lib.Seq.{getD-append-add, getD-at, ext-getD, getD-set-same, getD-set-other}
 use Rattle.laws.specs.Folds.{listOf, rowOf}
 use Rattle.laws.proofs.Folds.{fold-same}
-use Rattle.laws.proofs.Indices.{last-or-below, same-or-apart}
+use Rattle.laws.proofs.Indices.{last-or-below, below-or-past, same-or-apart}
 
 module _ {ℓ} {A : Type ℓ} where
   -- ── Any list ──
@@ -109,6 +109,28 @@ module _ {ℓ} {A : Type ℓ} where
   row-past f n room i blank h =
       subst (λ (j : ℕ). getD (listOf f n ++ replicate (room - n) blank) j blank ≡ blank) (omega (arith, list-length f n))
       (getD-append-add (listOf f n) (replicate (room - n) blank) (i - n) blank ∙ blanks (room - n) (i - n) blank)
+
+  row-length : (f : ℕ → A) (n room : ℕ) (blank : A) → n ≤ room → length (rowOf f n room blank) ≡ room
+  unfolding rowOf
+  row-length f n room blank h =
+      length-append (listOf f n) (replicate (room - n) blank)
+      ∙ omega (arith, list-length f n, length-replicate (room - n) blank)
+
+  -- a list with f at the first indices and blanks at the others is the row of f
+  pub row-told :
+      (f : ℕ → A) (l : List A) (n room : ℕ) (blank : A) →
+      n ≤ room →
+      length l ≡ room →
+      ((i : ℕ) → i < n → f i ≡ getD l i blank) →
+      ((i : ℕ) → n ≤ i → i < room → getD l i blank ≡ blank) →
+      rowOf f n room blank ≡ l
+  row-told f l n room blank h e own past =
+      ext-getD blank (rowOf f n room blank) l (row-length f n room blank h ∙ sym e)
+      (λ i m.
+      ⊎-elim
+      (λ (below : i < n). row-at f n room i blank below ∙ own i below)
+      (λ (from : n ≤ i). row-past f n room i blank from ∙ sym (past i from (omega (arith, row-length f n room blank h))))
+      (below-or-past i n))
 
 -- a mapped list with more behind it
 pub letter-at :

@@ -283,7 +283,7 @@ sound b s =
       detectors = s .detectors .count;
       movements = s .groups .movements;
       times = record { table = table b; tableUsable = table-is-usable (editionOf b); inTable = times-in b s };
-      noEarlyTime = no-early-time b;
+      noEarlyTime = λ p l. no-early-time b p;
       noEarlyGroup = no-early-group b s;
       orderOnce = order-once b (s .order);
       groupPhase = group-phase b (s .groups);

@@ -29,6 +29,10 @@ module _ (b : List ℕ) where
   unfolding walkTimes siteOf timesIn
   walk-times-at k l = row-at (walkTimesAt b) (movementCount b) 8 k noWalkTimes l
 
+  pub walk-times-past : (k : ℕ) → movementCount b ≤ k → walkTimes (siteOf b .times) k ≡ noWalkTimes
+  unfolding walkTimes siteOf timesIn
+  walk-times-past k l = row-past (walkTimesAt b) (movementCount b) 8 k noWalkTimes l
+
   -- ── The order of phases ──
 
   pub order-at : (i : ℕ) → i < phaseCount b → getD (siteOf b .order) i 0 ≡ orderIn b i

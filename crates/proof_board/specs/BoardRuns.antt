@@ -35,7 +35,7 @@ unfoldable pub board : List ℕ → Controller (List ℕ)
 board buffer =
     record {
       verdict = λ b. verdictIn (packedVerdict (verdictOf b));
-      fresh = encodedOver freshKept buffer;
+      fresh = λ b. encodedOver freshKept buffer;
       outcome = λ b state inputs room. outcomeIn (stepAnswer b state inputs room);
       next = stateAfter;
       buffer = coloursAfter;

@@ -1,2 +1,4 @@
 pub mod Traces
 pub mod Cases
+pub mod TimedTraces
+pub mod TimedCases

@@ -30,7 +30,7 @@ pub stepped-same :
     (s : KeptState) (inputs : ℕ) →
     keptValid site s ≡ true →
     keptStepped site s inputs .core ≡ stepped site (s .core) inputs
-unfolding keptStepped stepped
+unfolding keptStepped stepped steppedTo
 stepped-same site sound s inputs v = ap (λ (next : Held). steppedTo next site (s .core) inputs) (next-kept site sound s inputs v)
 
 -- ── A step keeps the set true ──
@@ -56,7 +56,7 @@ module _ (site : Site) (sound : Sound site) (s : KeptState) (inputs : ℕ) (v : 
       ∙ and-left (askedNow site (s .core) inputs k) (not (begun site (s .core) inputs k)) (sym (asked-of site (s .core) inputs k small) ∙ h)
 
   pub keeps-scan : keptStepped site s inputs .kept ≡ setOf (stands (site .crossings) (site .size .movements) (keptStepped site s inputs .core .demands))
-  unfolding keptStepped left stepped
+  unfolding keptStepped left stepped steppedTo
   keeps-scan =
       rw (next-kept site sound s inputs v)
       (set-same (keptLeft (site .crossings) (site .size .movements) (standingAfter site s inputs) left (keptAfter site s inputs)) (stands (site .crossings) (site .size .movements) left)

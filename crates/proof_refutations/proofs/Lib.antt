@@ -1,3 +1,4 @@
 pub mod Violations
+pub mod TimedViolations
 pub mod Witnesses
 pub mod Refutations

@@ -5,20 +5,21 @@ use lib.ListN.{set}
 use Rattle.rules.specs.Personality.{verdictOf}
 use Rattle.rules.specs.Step.{stepped}
 use Rattle.rules.specs.WaitBound.{waitBound}
-use Rattle.rules.specs.Junctions.{junction}
+use Rattle.rules.specs.Junctions.{junction, slower}
 use Rattle.rules.specs.DemandThree.{ruled, DemandThreeOf}
 use Rattle.rules.proofs.Opened.{opened}
-use Rattle.proof_refutations.specs.Faults.{faulty, passed, passesTen, moved, is, agesOnly, neverAlters, leavesTheSite, endsTimed, endsOnTimer, choosing, choosesAgain, choosesEarlyAgain, clearing, dropsPresses, inventedBound, smallBound}
-use Rattle.proof_refutations.specs.Refutations.{Refutations, SmallBoundFails}
+use Rattle.proof_refutations.specs.Faults.{faulty, passed, passesTen, moved, is, agesOnly, neverAlters, leavesTheSite, endsTimed, endsOnTimer, choosing, choosesAgain, choosesEarlyAgain, clearing, dropsPresses, inventedBound, smallBound, ruledNow, retiming}
+use Rattle.proof_refutations.specs.Refutations.{Refutations, SmallBoundFails, RulesAtOnceFails}
 use Rattle.proof_refutations.proofs.Violations.{together, starts, cut, skipped, met, answers, refuted-by-greens, refuted-by-clearance, refuted-by-yellow, unmet-by-lock, unmet-by-button, refuted-by-wait, refuted-by-refusal, refuted-by-bound}
-use Rattle.proof_refutations.proofs.Witnesses.{callsFrom, crossings, shared, sharedArrow, atOnce, walkThenB, laterB, pressedAgain, longestWait}
+use Rattle.proof_refutations.proofs.TimedViolations.{timedStarts, cutShort, refuted-by-cut}
+use Rattle.proof_refutations.proofs.Witnesses.{callsFrom, crossings, shared, sharedArrow, atOnce, walkThenB, laterB, pressedAgain, longestWait, stepsFrom, retimedInYellow}
 
 -- what the runs compute with
 unfoldable computing : Unit {0}
 unfolding
     opened passed passesTen moved agesOnly neverAlters leavesTheSite is endsTimed endsOnTimer choosing choosesAgain choosesEarlyAgain clearing
     dropsPresses inventedBound smallBound together starts cut skipped met answers callsFrom crossings shared sharedArrow atOnce walkThenB laterB
-    pressedAgain longestWait
+    pressedAgain longestWait ruledNow timedStarts cutShort stepsFrom retimedInYellow
 computing = tt
 
 -- Group 1 of the junction is made one of A too: both groups are green in step 10.
@@ -104,3 +105,9 @@ unfolding computing SmallBoundFails
 small-bound-fails holds =
     let calls = callsFrom longestWait 4 1 451 in
     unmet-by-button ruled (crossings 100) refl calls 420 30 0 refl refl (holds (crossings 100) refl calls)
+
+-- The group of A is green in step 60 for the last time, and Y is then 40. In step 80 the junction's times rule, whose Y is 30: the group is red from
+-- step 91 on, the 31st step since, and B starts its green in step 101.
+pub rules-at-once-fails : RulesAtOnceFails
+unfolding computing RulesAtOnceFails
+rules-at-once-fails = refuted-by-cut (retiming ruledNow) slower refl retimedInYellow 59 100 1 0 30 refl refl

@@ -26,7 +26,7 @@ use Rattle.laws.proofs.Booleans.{never-both, or-false-left, or-false-right}
 abbrev nowhere : Taken
 nowhere = record { before = fresh; inputs = 0; room = 0; outcome = StepRefused 0 0; after = fresh; shown = [] }
 
-never-green : (g : ℕ) (steps : List Taken) → someStep (λ step. eqb (shows step g) green) steps ≡ false → NeverGreen g steps
+pub never-green : (g : ℕ) (steps : List Taken) → someStep (λ step. eqb (shows step g) green) steps ≡ false → NeverGreen g steps
 unfolding someStep
 never-green g [] h = tt
 never-green g (step ∷ later) h =
@@ -46,7 +46,7 @@ stepped-same {wait} {other} h = let z : wait ≡ other = cc in z
 
 module _ {S : Type 0} (controller : Controller S) (b : List ℕ) (known : controller .verdict b ≡ Accepted) (calls : List Call) where
   abbrev made : List Taken
-  made = takenFrom controller b (controller .fresh) calls
+  made = takenFrom controller b (controller .fresh b) calls
 
   abbrev steps : List Taken
   steps = accepted made

@@ -1,12 +1,13 @@
 -- The personality and the list of calls by which each controller that must not pass is refuted. Steps are counted from 1.
 use Prim.Native.Nat.{ℕ, zero, suc, _+_, _^_}
 use mathlib.Core.Bool.{_||_}
-use mathlib.Core.List.{List, [], _∷_, _++_}
+use mathlib.Core.List.{List, [], _∷_, _++_, map}
 use lib.Dec.{leb, eqb}
 use lib.ListN.{replicate}
 use Rattle.laws.specs.Folds.{if_then_else_}
-use Rattle.rules.specs.Junctions.{two, twos, fours, sections, shortPhase, cutOffs}
+use Rattle.rules.specs.Junctions.{two, twos, fours, sections, shortPhase, junction, cutOffs}
 use Rattle.rules.specs.DemandThree.{Call}
+use Rattle.rules.specs.TimedDemandThree.{Given, stepCall, retimeCall}
 
 -- n calls from a step on, whose input bits are given by the step, with a buffer for so many groups
 unfoldable pub callsFrom : (ℕ → ℕ) → ℕ → ℕ → ℕ → List Call
@@ -67,3 +68,13 @@ pressedAgain step = if eqb step 1 || eqb step 31 then 2 ^ 48 else if eqb step 30
 -- the same; the second crossing in step 229, the last of the first one's clearances, so that it walks; B from then on
 unfoldable pub longestWait : ℕ → ℕ
 longestWait step = if eqb step 229 then 2 ^ 49 else if leb 230 step then 1 else pressedAgain step
+
+-- ── Calls with a retiming among them ──
+
+-- n step calls from a step on, as step calls of a list with retiming calls
+unfoldable pub stepsFrom : (ℕ → ℕ) → ℕ → ℕ → ℕ → List Given
+stepsFrom inputs groups step n = map stepCall (callsFrom inputs groups step n)
+
+-- 79 steps of the junction with longer times, with detector 1 in the first; then the times of the junction; then 22 steps
+unfoldable pub retimedInYellow : List Given
+retimedInYellow = stepsFrom atOnce 2 1 79 ++ retimeCall junction ∷ stepsFrom atOnce 2 80 22

@@ -1,5 +1,5 @@
 -- Controllers that must not pass: each is the controller of the scanning rules with its verdict, its step or its wait replaced. For the same
--- calls the scanning rules answer as the rules do (`RunForgets`).
+-- calls the scanning rules answer as the rules do (`RunForgets`). The last one is the controller of the timed rules with its retiming replaced.
 use Prim.Native.Nat.{ℕ, _+_, _-_, _^_}
 use mathlib.Core.Bool.{Bool, not, _&&_, _||_}
 use mathlib.Core.List.{List}
@@ -17,6 +17,7 @@ use Rattle.rules.specs.declared.state.Interval.the-variants.{StartRed, EarlyCut
 use Rattle.rules.specs.declared.state.Movement.{Movement}
 use Rattle.rules.specs.declared.state.Position.{Position}
 use Rattle.rules.specs.declared.state.State.{State}
+use Rattle.rules.specs.declared.state.TimedState.{TimedState}
 use Rattle.laws.specs.Folds.{if_then_else_, sumOf}
 use Rattle.rules.specs.Site.{phaseTimes}
 use Rattle.rules.specs.IntervalTable.{intervalRow, isIdle, isWalk, isStartRed}
@@ -28,6 +29,9 @@ use Rattle.rules.specs.Step.{steppedBy, stepped}
 use Rattle.rules.specs.WaitBound.{phaseShare, longestWalk, longestClearance}
 use Rattle.rules.specs.DemandThree.{Controller, controllerOf}
 use Rattle.rules.specs.Scanning.{withoutKept}
+use Rattle.rules.specs.Timed.{noneWaiting}
+use Rattle.rules.specs.TimedCall.{timedParts}
+use Rattle.rules.specs.TimedDemandThree.{TimedController, timedControllerOf}
 
 -- `scanning` is `faulty verdictOf stepped waitBound`
 abbrev pub faulty : (List ℕ → Verdict) → (Site → State → ℕ → State) → (Site → ℕ) → Controller State
@@ -75,7 +79,7 @@ endsTimed interval start times age another movements counts =
     if is AllRed interval then leb (times .red) age else ends interval start times age another movements counts
 
 unfoldable pub endsOnTimer : Site → State → ℕ → State
-endsOnTimer site s inputs = steppedBy endsTimed positionAfter (nextDemanded site s inputs) site s inputs
+endsOnTimer site s inputs = steppedBy endsTimed positionAfter (site .times) (nextDemanded site s inputs) site s inputs
 
 -- the target is chosen again when an interval ends, and the one that follows it is entered with that target
 unfoldable pub choosing : Interval → Interval → Bool → Times → Held → Position → Position
@@ -84,11 +88,11 @@ choosing last new ended times next position =
 
 -- the target is chosen again after yellow
 unfoldable pub choosesAgain : Site → State → ℕ → State
-choosesAgain site s inputs = steppedBy ends (choosing Yellow AllRed) (nextDemanded site s inputs) site s inputs
+choosesAgain site s inputs = steppedBy ends (choosing Yellow AllRed) (site .times) (nextDemanded site s inputs) site s inputs
 
 -- the target is chosen again after early cut-off green
 unfoldable pub choosesEarlyAgain : Site → State → ℕ → State
-choosesEarlyAgain site s inputs = steppedBy ends (choosing EarlyCutOff Yellow) (nextDemanded site s inputs) site s inputs
+choosesEarlyAgain site s inputs = steppedBy ends (choosing EarlyCutOff Yellow) (site .times) (nextDemanded site s inputs) site s inputs
 
 -- ── A step that is wrong: part 1 ──
 
@@ -112,3 +116,13 @@ smallBound site =
     let a = longestWalk (site .crossings) (site .times .walks) (site .size .movements) in
     let c = longestClearance (site .crossings) (site .times .walks) (site .size .movements) in
     site .times .start + sumOf (λ p. phaseShare (phaseTimes (site .times) p) (a p) (c p) - (a p + c p)) (site .size .phases)
+
+-- ── A retiming call that is wrong ──
+
+-- the new times rule at once, and none wait
+unfoldable pub ruledNow : TimedState → Times → TimedState
+ruledNow s times = record { core = s .core; kept = s .kept; ruling = times; waiting = noneWaiting }
+
+-- the controller of the rules with such a retiming; `timed` is `retiming retimed`
+abbrev pub retiming : (TimedState → Times → TimedState) → TimedController TimedState
+retiming retimed = timedControllerOf timedParts (λ s. s .waiting .present) retimed

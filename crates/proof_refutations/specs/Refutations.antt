@@ -9,7 +9,8 @@ use Rattle.rules.specs.Step.{stepped}
 use Rattle.rules.specs.Kept.{freshKept}
 use Rattle.rules.specs.WaitBound.{waitBound}
 use Rattle.rules.specs.DemandThree.{ruled, Call, takenFrom, accepted, DemandsMet, DemandThreeOf}
-use Rattle.proof_refutations.specs.Faults.{faulty, passesTen, agesOnly, neverAlters, leavesTheSite, endsOnTimer, choosesAgain, choosesEarlyAgain, dropsPresses, inventedBound, smallBound}
+use Rattle.rules.specs.TimedDemandThree.{TimedDemandThreeOf}
+use Rattle.proof_refutations.specs.Faults.{faulty, passesTen, agesOnly, neverAlters, leavesTheSite, endsOnTimer, choosesAgain, choosesEarlyAgain, dropsPresses, inventedBound, smallBound, ruledNow, retiming}
 
 -- Ten controllers. One that sets the maximum count back when a non-locking demand drops away is not among them: demand 3 does not see it,
 -- since it speaks of locked and button demands, which never drop away. Demand 2 shuts it out: the contract of a step gives the count.
@@ -37,3 +38,7 @@ SmallBoundFails =
     verdictOf b ≡ Accepted →
     (calls : List Call) →
     DemandsMet (siteOf b) (smallBound (siteOf b)) (accepted (takenFrom ruled b freshKept calls)))
+
+-- A controller under which new times rule at once breaks part b of the demand over step and retiming calls: a yellow that has begun is cut.
+unfoldable pub RulesAtOnceFails : Type 0
+RulesAtOnceFails = ¬ TimedDemandThreeOf (retiming ruledNow)

@@ -39,7 +39,7 @@ abbrev pub Chain : Site → State → List Taken → Type 0
 Chain site = Linked (Link site)
 
 -- the colours stand before the bytes that are left untouched
-front-shown :
+pub front-shown :
     (site : Site) (s : State) (rest : List ℕ) (g : ℕ) → g < site .size .groups → getD (coloursOf site s ++ rest) g 0 ≡ shownIn site s g
 unfolding coloursOf
 front-shown site s rest g h =

@@ -52,11 +52,11 @@ unfolding ageValid
 age-holds age h = and-both (le-leb 1 age (h .0)) (le-leb age highestAge (h .1))
 
 -- the tests of a list, one after the other
-every-head : (test : Bool) (tests : List Bool) → every (test ∷ tests) ≡ true → test ≡ true
+pub every-head : (test : Bool) (tests : List Bool) → every (test ∷ tests) ≡ true → test ≡ true
 unfolding every
 every-head test tests h = and-left test (every tests) h
 
-every-tail : (test : Bool) (tests : List Bool) → every (test ∷ tests) ≡ true → every tests ≡ true
+pub every-tail : (test : Bool) (tests : List Bool) → every (test ∷ tests) ≡ true → every tests ≡ true
 unfolding every
 every-tail test tests h = and-right test (every tests) h
 

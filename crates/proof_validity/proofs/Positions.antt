@@ -171,5 +171,5 @@ next-position site sound s inputs v =
     (λ over.
     following-valid (site .early) count (site .times) next (s .position) told (s .position .interval) refl
     (λ e. rw (running-ends site s inputs e over) at (next-valid site sound s inputs))
-    (λ some. not-false-true (site .early) (λ without. some (sound .noEarlyTime (s .position .phase) without))))
+    (λ some. not-false-true (site .early) (λ without. some (sound .noEarlyTime (s .position .phase) (v .phase) without))))
     (λ still. staying-valid (site .early) count (site .times) next (s .position) told)

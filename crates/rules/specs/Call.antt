@@ -10,6 +10,7 @@ use Rattle.rules.specs.declared.answer.Outcome.the-variants.{Stepped, St
 use Rattle.rules.specs.declared.answer.Verdict.{Verdict}
 use Rattle.rules.specs.declared.answer.Verdict.the-variants.{Accepted, Refused}
 use Rattle.rules.specs.declared.site.Site.{Site}
+use Rattle.rules.specs.declared.site.Times.{Times}
 use Rattle.rules.specs.declared.state.KeptState.{KeptState}
 use Rattle.rules.specs.declared.state.State.{State}
 use Rattle.laws.specs.Folds.{anyOf}
@@ -17,6 +18,7 @@ use Rattle.laws.specs.Bytes.{bit}
 use Rattle.rules.specs.Verdicts.{_orElse_, refuseIf}
 use Rattle.rules.specs.Personality.{verdictOf}
 use Rattle.rules.specs.Site.{siteOf}
+use Rattle.rules.specs.SiteTimes.{under}
 use Rattle.rules.specs.Kept.{freshKept, keptValid, keptStepped}
 use Rattle.rules.specs.Colours.{coloursOf}
 use Rattle.rules.specs.WaitBound.{waitBound}
@@ -53,31 +55,39 @@ bufferFor (Refused number place) site new buffer = buffer
 
 -- ── The call of a controller, by its parts ──
 
--- The parts of a controller: its verdict on a personality, its fresh state, its test of a valid state, its step, and the wait that an
--- accepted step reports. Its states may be of any type; `seen` gives the state of document 01 that one represents.
+-- The parts of a controller: its verdict on a personality, the fresh state of a site, its test of a valid state, its step, and the wait of a
+-- site. Its states may be of any type; `seen` gives the state of document 01 that one represents, and `ruling` the times that rule in it.
 pub record Parts (S : Type 0) : Type 0 where
   pub verdict : List ℕ → Verdict
-  pub fresh : S
+  pub fresh : Site → S
   pub valid : Site → S → Bool
   pub step : Site → S → ℕ → S
   pub wait : Site → ℕ
   pub seen : S → State
+  pub ruling : Site → S → Times
 
 module _ {S : Type 0} (parts : Parts S) where
   -- the checks: the personality first
   unfoldable pub checksBy : List ℕ → S → ℕ → ℕ → Verdict
   checksBy b s inputs room = parts .verdict b orElse stepVerdict (siteOf b) (parts .valid (siteOf b) s) inputs room
 
-  -- the outcome, the state handed back, and the buffer as the call returns
+  -- the site with the times that rule in a state
+  abbrev pub siteBy : Site → S → Site
+  siteBy site s = under site (parts .ruling site s)
+
+  -- The outcome, the state handed back, and the buffer as the call returns. The wait and the colours are those of the times that rule after
+  -- the step.
   abbrev pub outcomeBy : List ℕ → S → ℕ → ℕ → Outcome
-  outcomeBy b s inputs room = boundFor (checksBy b s inputs room) (parts .wait (siteOf b))
+  outcomeBy b s inputs room =
+      boundFor (checksBy b s inputs room) (parts .wait (siteBy (siteOf b) (parts .step (siteOf b) s inputs)))
 
   abbrev pub nextBy : List ℕ → S → ℕ → ℕ → S
   nextBy b s inputs room = handedBack (checksBy b s inputs room) (parts .step (siteOf b) s inputs) s
 
   abbrev pub bufferBy : List ℕ → S → ℕ → List ℕ → List ℕ
   bufferBy b s inputs buffer =
-      bufferFor (checksBy b s inputs (length buffer)) (siteOf b) (parts .seen (parts .step (siteOf b) s inputs)) buffer
+      let new = parts .step (siteOf b) s inputs in
+      bufferFor (checksBy b s inputs (length buffer)) (siteBy (siteOf b) new) (parts .seen new) buffer
 
 -- ── The call of the rules ──
 
@@ -85,11 +95,12 @@ abbrev pub ruledParts : Parts KeptState
 ruledParts =
     record {
       verdict = verdictOf;
-      fresh = freshKept;
+      fresh = λ site. freshKept;
       valid = keptValid;
       step = keptStepped;
       wait = waitBound;
       seen = λ s. s .core;
+      ruling = λ site s. site .times;
     }
 
 abbrev pub callVerdict : List ℕ → KeptState → ℕ → ℕ → Verdict

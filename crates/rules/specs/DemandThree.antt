@@ -24,12 +24,12 @@ use Rattle.rules.specs.Call.{strayInput, boundFor, Parts, outcomeBy, nex
 
 -- ── Controllers ──
 
--- What demand 3 is about: a reader of personalities, a fresh state, and a step call. The call takes bytes, a state, 64 input bits and a
+-- What demand 3 is about: a reader of personalities, the fresh state of one, and a step call. The call takes bytes, a state, 64 input bits and a
 -- colour buffer or its length; it gives the outcome, the state handed back, and the buffer afterwards. States may be of any type; `seen`
 -- gives the state of document 01 that one represents.
 pub record Controller (S : Type 0) : Type 0 where
   pub verdict : List ℕ → Verdict
-  pub fresh : S
+  pub fresh : List ℕ → S
   pub outcome : List ℕ → S → ℕ → ℕ → Outcome
   pub next : List ℕ → S → ℕ → ℕ → S
   pub buffer : List ℕ → S → ℕ → List ℕ → List ℕ
@@ -40,7 +40,7 @@ abbrev pub controllerOf : {S : Type 0} → Parts S → Controller S
 controllerOf parts =
     record {
       verdict = parts .verdict;
-      fresh = parts .fresh;
+      fresh = λ b. parts .fresh (siteOf b);
       outcome = outcomeBy parts;
       next = nextBy parts;
       buffer = bufferBy parts;
@@ -227,7 +227,7 @@ OfEveryRun controller Claim =
     (b : List ℕ) →
     controller .verdict b ≡ Accepted →
     (calls : List Call) →
-    Claim (siteOf b) (takenFrom controller b (controller .fresh) calls)
+    Claim (siteOf b) (takenFrom controller b (controller .fresh b) calls)
 
 unfoldable pub DemandThreeOf : {S : Type 0} → Controller S → Type 0
 DemandThreeOf controller = OfEveryRun controller SafeRun

@@ -34,6 +34,11 @@ putTwo b at n = set (set b at (n % 256)) (at + 1) (n / 256)
 unfoldable pub putKind : List ℕ → ℕ → ℕ → List ℕ
 putKind b head kind = putTwo b (head + 2) kind
 
+-- the bytes with two-byte numbers put one after the other, from a place on
+unfoldable pub putTwos : List ℕ → ℕ → List ℕ → List ℕ
+putTwos b at [] = b
+putTwos b at (n ∷ rest) = putTwos (putTwo b at n) (at + 2) rest
+
 -- ── The junction of two phases of document 01 ──
 
 -- L 0, M 20, X 30, G 5, Y 30, R 10
@@ -49,6 +54,10 @@ junction =
     (fours (2 ∷ 1 ∷ []))
     (0 ∷ 6 ∷ 1 ∷ 6 ∷ [])
     []
+
+-- the same with longer times: start red 20; L 0, M 40, X 60, G 10, Y 40, R 20. Its wait bound is 460.
+unfoldable pub slower : List ℕ
+slower = putTwos (putTwo junction 6 20) 12 (0 ∷ 40 ∷ 60 ∷ 10 ∷ 40 ∷ 20 ∷ 0 ∷ 40 ∷ 60 ∷ 10 ∷ 40 ∷ 20 ∷ [])
 
 -- ── Sites of our own worked cases ──
 

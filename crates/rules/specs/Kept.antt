@@ -5,6 +5,7 @@ use mathlib.Core.Bool.{Bool, not, _&&_, _||_}
 use mathlib.Core.List.{List}
 use lib.Dec.{eqb}
 use Rattle.rules.specs.declared.site.Site.{Site}
+use Rattle.rules.specs.declared.site.Times.{Times}
 use Rattle.rules.specs.declared.state.Demands.{Demands}
 use Rattle.rules.specs.declared.state.Held.{Held}
 use Rattle.rules.specs.declared.state.KeptState.{KeptState}
@@ -14,7 +15,7 @@ use Rattle.laws.specs.Folds.{anyOf, setOf}
 use Rattle.rules.specs.Site.{crosses, ring}
 use Rattle.rules.specs.State.{fresh, valid}
 use Rattle.rules.specs.Demands.{registersLock, registersButton, calls, demandsAfter, stands, nextAfter}
-use Rattle.rules.specs.Step.{steppedTo}
+use Rattle.rules.specs.Step.{steppedInto}
 
 -- the fresh state demands no phase
 unfoldable pub freshKept : KeptState
@@ -64,11 +65,16 @@ keptLeft crossings count old new kept p = kept p && (not (cleared crossings coun
 
 -- ── The step ──
 
-unfoldable pub keptStepped : Site → KeptState → ℕ → KeptState
-keptStepped site s inputs =
-    let core = steppedTo (nextKept site s inputs) site (s .core) inputs in
+-- by the times that rule from the end of the interval on
+abbrev pub keptSteppedInto : Times → Site → KeptState → ℕ → KeptState
+keptSteppedInto ruling site s inputs =
+    let core = steppedInto ruling (nextKept site s inputs) site (s .core) inputs in
     let standing = demandsAfter site (s .core) inputs in
     record {
       core = core;
       kept = setOf (keptLeft (site .crossings) (site .size .movements) standing (core .demands) (keptAfter site s inputs));
     }
+
+-- by the site's own times
+unfoldable pub keptStepped : Site → KeptState → ℕ → KeptState
+keptStepped site s inputs = keptSteppedInto (site .times) site s inputs

@@ -137,7 +137,7 @@ pub record Sound (site : Site) : Type 0 where
   -- 5: the times
   pub times : SoundTimes (site .size) (site .times)
   -- 17: without a section of kind 7 no phase has early cut-off green, and no group stops early
-  pub noEarlyTime : (p : ℕ) → site .early ≡ false → phaseTimes (site .times) p .early ≡ 0
+  pub noEarlyTime : (p : ℕ) → p < site .size .phases → site .early ≡ false → phaseTimes (site .times) p .early ≡ 0
   pub noEarlyGroup : (g : ℕ) → site .early ≡ false → groupOf (site .groups) g .mark ≡ 3 → ⊥
   -- 18: each phase is in the running order exactly once
   pub orderOnce : (p : ℕ) → p < site .size .phases → countOf (λ i. eqb (getD (site .order) i 0) p) (site .size .phases) ≡ 1

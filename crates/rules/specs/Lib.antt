@@ -5,6 +5,7 @@ pub mod Site
 pub mod Lookup
 pub mod IntervalTable
 pub mod State
+pub mod SiteTimes
 pub mod Demands
 pub mod Movements
 pub mod Counts
@@ -12,12 +13,18 @@ pub mod Interval
 pub mod Walks
 pub mod Step
 pub mod Kept
+pub mod Timed
 pub mod Colours
 pub mod WaitBound
 pub mod Call
+pub mod TimedCall
 pub mod DemandThree
+pub mod TimedDemandThree
 pub mod Laws
+pub mod TimedLaws
 pub mod Scanning
+pub mod TimedScanning
 pub mod TraceText
 pub mod Junctions
 pub mod CallCases
+pub mod TimedCases

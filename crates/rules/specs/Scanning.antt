@@ -22,7 +22,15 @@ use Rattle.rules.specs.DemandThree.{Controller, controllerOf, Call, rule
 -- the parts of a controller whose state has no kept set, by its verdict, its step and its wait
 abbrev pub withoutKept : (List ℕ → Verdict) → (Site → State → ℕ → State) → (Site → ℕ) → Parts State
 withoutKept verdict step wait =
-    record { verdict = verdict; fresh = fresh; valid = valid; step = step; wait = wait; seen = λ s. s }
+    record {
+      verdict = verdict;
+      fresh = λ site. fresh;
+      valid = valid;
+      step = step;
+      wait = wait;
+      seen = λ s. s;
+      ruling = λ site s. site .times;
+    }
 
 abbrev scanningParts : Parts State
 scanningParts = withoutKept verdictOf stepped waitBound

@@ -20,12 +20,13 @@ use Rattle.rules.specs.Interval.{ends, positionAfter, countsChanged, loc
 use Rattle.rules.specs.Walks.{begins, walksBegun, buttonsLeft}
 
 -- The two rules of part 4 are arguments: when an interval ends, and the position after it. So a step with a wrong rule in the place of one of
--- them has this definition too.
+-- them has this definition too. The times that rule from the end of the interval on are an argument; they are the site's own unless other
+-- times take over in this step.
 unfoldable pub steppedBy :
     (Interval → ℕ → PhaseTimes → ℕ → Bool → List Movement → Counts → Bool) →
     (Bool → Times → Held → Position → Position) →
-    Held → Site → State → ℕ → State
-steppedBy ends positionAfter next site s inputs =
+    Times → Held → Site → State → ℕ → State
+steppedBy ends positionAfter ruling next site s inputs =
     let old = s .position in
     let times = phaseTimes (site .times) (old .phase) in
     -- 1. demands
@@ -38,19 +39,23 @@ steppedBy ends positionAfter next site s inputs =
     let counts = countsAfter (old .interval) times extended another (s .counts) in
     -- 4. interval
     let ended = ends (old .interval) (site .times .start) times (old .age) another movements counts in
-    let now = positionAfter ended (site .times) next old in
+    let now = positionAfter ended ruling next old in
     -- 5. walks
     let begun = begins (site .crossings) (starts ended old) another now (demands .buttons) movements in
     record {
       position = now;
-      counts = countsChanged ended (site .times) old now counts;
+      counts = countsChanged ended ruling old now counts;
       demands = record { locks = locksLeft ended now (demands .locks); buttons = buttonsLeft begun (demands .buttons) };
       movements = walksBegun begun movements;
     }
 
--- the step of the rules
+-- the step of the rules, by the times that rule from the end of the interval on
+abbrev pub steppedInto : Times → Held → Site → State → ℕ → State
+steppedInto = steppedBy ends positionAfter
+
+-- the step by the site's own times
 unfoldable pub steppedTo : Held → Site → State → ℕ → State
-steppedTo = steppedBy ends positionAfter
+steppedTo next site s inputs = steppedInto (site .times) next site s inputs
 
 -- the phase demanded next is found by a scan of the locks and the demanded movements
 unfoldable pub stepped : Site → State → ℕ → State

@@ -1,5 +1,6 @@
 // The answers of reading a personality, of a section lookup and of a step call.
 use crate::state::KeptState;
+use crate::state::TimedState;
 
 // The outcome of reading a personality.
 pub enum Verdict {
@@ -25,4 +26,16 @@ pub enum Outcome {
 pub struct Answer {
     pub outcome: Outcome,
     pub state: KeptState,
+}
+
+// The same of a step call on a timed state.
+pub struct TimedAnswer {
+    pub outcome: Outcome,
+    pub state: TimedState,
+}
+
+// The answer of a retiming call: acceptance or the refusal, and the state handed back.
+pub struct RetimeAnswer {
+    pub verdict: Verdict,
+    pub state: TimedState,
 }

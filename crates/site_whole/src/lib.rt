@@ -18,7 +18,7 @@ use site_times::start_red;
 use site_times::walk_times;
 
 // The counts. Kind 5 has records of two bytes, and its body reaches to the next head.
-fn size(s: &[u8], layout: Layout, movements: usize) -> Size
+pub fn size(s: &[u8], layout: Layout, movements: usize) -> Size
     requires { ⌜ Fitting (now s) layout × (movements ≡ movementCount (now s)) ⌝ }
     ensures { λ r. ⌜ r ≡ siteOf (now (s .entry)) .size ⌝ }
 {

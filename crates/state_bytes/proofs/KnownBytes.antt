@@ -31,20 +31,23 @@ stage-told b at h = ltb-true (byteAt b (at + 0)) (length stages) (and-left (stag
 pub movements-tested : (b : List ℕ) (at n : ℕ) → row n idle movement .known b at ≡ allOf (λ k. stage .known b (at + k * movement .width + 0)) n
 movements-tested b at n = simp and-true
 
+-- of the 39 bytes at a place
+pub record KeptKnown (b : List ℕ) (at : ℕ) : Type 0 where
+  pub position-known : position .known b (at + 0) ≡ true
+  pub movements-known : movements .known b (at + movementsAt) ≡ true
+
+pub kept-told : (b : List ℕ) (at : ℕ) → state .known b at ≡ true → KeptKnown b at
+kept-told b at h =
+    let first = and-split (position .known b (at + 0)) _ h in
+    record { position-known = first .0; movements-known = and-left (movements .known b (at + movementsAt)) true (first .1) }
+
+-- of a whole buffer
 pub record StateKnown (b : List ℕ) : Type 0 where
   pub size : length b ≡ stateBytes
   pub known : state .known b 0 ≡ true
-  pub position-known : position .known b 0 ≡ true
-  pub movements-known : movements .known b movementsAt ≡ true
 
 pub state-told : (b : List ℕ) → isState b ≡ true → StateKnown b
 unfolding isState
 state-told b h =
-    let first = and-split (eqb (length b) stateBytes) _ h in
-    let second = and-split (position .known b 0) _ (first .1) in
-    record {
-      size = eqb-true (length b) stateBytes (first .0);
-      known = first .1;
-      position-known = second .0;
-      movements-known = and-left (movements .known b movementsAt) true (second .1);
-    }
+    let both = and-split (eqb (length b) stateBytes) _ h in
+    record { size = eqb-true (length b) stateBytes (both .0); known = both .1 }

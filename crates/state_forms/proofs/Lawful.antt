@@ -208,21 +208,30 @@ both-law {A} {B} {f} {g} {start} first second =
         let e : at + (start + f .width) ≡ at + start + f .width = omega arith in
         rw e (sym (part-more b (at + start) (f .width) (g .width)))
 
+-- the fields of a value that fits make it again, and fields that fit are those of the value that they make
+pub made-fitting :
+    {S : Type 0} (t : Table S) (make : t .Fields → S) →
+    ((s : S) → t .form .fits (t .fields s) → make (t .fields s) ≡ s) →
+    ((a : t .Fields) → t .form .fits a → t .fields (make a) ≡ a) →
+    Lawful (t .form) 0 →
+    Lawful (made t make) 0
+made-fitting t make whole fields law =
+    record {
+      sized = λ s. law .sized (t .fields s);
+      passes = λ s. law .passes (t .fields s);
+      back = λ s p q at fits e. rw (law .back (t .fields s) p q at fits e) (whole s fits);
+      same = λ b at bytes room known. ap (t .form .written) (fields (t .form .read b at) (law .proper b at bytes)) ∙ law .same b at bytes room known;
+      bytes = λ s. law .bytes (t .fields s);
+      proper = λ b at bytes. subst⁻¹ (t .form .fits) (fields (t .form .read b at) (law .proper b at bytes)) (law .proper b at bytes);
+    }
+
 pub made-law :
     {S : Type 0} (t : Table S) (make : t .Fields → S) →
     ((s : S) → make (t .fields s) ≡ s) →
     ((a : t .Fields) → t .fields (make a) ≡ a) →
     Lawful (t .form) 0 →
     Lawful (made t make) 0
-made-law t make whole fields law =
-    record {
-      sized = λ s. law .sized (t .fields s);
-      passes = λ s. law .passes (t .fields s);
-      back = λ s p q at fits e. rw (law .back (t .fields s) p q at fits e) (whole s);
-      same = λ b at bytes room known. ap (t .form .written) (fields (t .form .read b at)) ∙ law .same b at bytes room known;
-      bytes = λ s. law .bytes (t .fields s);
-      proper = λ b at bytes. subst⁻¹ (t .form .fits) (fields (t .form .read b at)) (law .proper b at bytes);
-    }
+made-law t make whole fields law = made-fitting t make (λ s fits. whole s) (λ a fits. fields a) law
 
 -- ── Several of a kind ──
 

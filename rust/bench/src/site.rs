@@ -2,7 +2,7 @@
 
 use crate::clock::{longest_ns, times_of, Longest, Time, Work};
 use generate::{known_inputs, Plan, Rng};
-use model::{packed, step_on, Site, MAX_GROUPS, STATE_LEN};
+use model::{packed, step_timed_on, Site, TimedState, MAX_GROUPS, STATE_LEN};
 use std::hint::black_box;
 
 /// Steps before the inputs repeat.
@@ -19,7 +19,7 @@ pub struct Bench {
 struct Calls {
     name: &'static str,
     read: fn(&[u8]) -> u64,
-    fresh: fn(&mut [u8]) -> u64,
+    fresh: fn(&[u8], &mut [u8]) -> u64,
     step: fn(&[u8], &mut [u8], u64, &mut [u8]) -> u64,
 }
 
@@ -139,7 +139,7 @@ impl Bench {
     fn stepper<'a>(&'a self, calls: &'a Calls) -> Work<'a> {
         let mut state = [0; STATE_LEN];
         let mut colours = [0; MAX_GROUPS];
-        (calls.fresh)(&mut state);
+        (calls.fresh)(&self.personality, &mut state);
         Box::new(move |call| {
             let inputs = self.inputs[call % INPUTS];
             let personality = black_box(self.personality.as_slice());
@@ -152,11 +152,11 @@ impl Bench {
     /// The same from a site already read.
     fn inner_stepper(&self) -> Work<'_> {
         let site = Site::read(&self.personality).expect("an accepted plan");
-        let mut state = model::fresh();
+        let mut state = TimedState::fresh(&site);
         let mut colours = [0; MAX_GROUPS];
         Box::new(move |call| {
             let inputs = self.inputs[call % INPUTS];
-            let stepped = step_on(black_box(&site), &state, inputs, &mut colours);
+            let stepped = step_timed_on(black_box(&site), &state, inputs, &mut colours);
             state = stepped.expect("an accepted step");
             black_box(&colours);
         })
@@ -193,7 +193,7 @@ fn shown(time: &Time) -> String {
 #[cfg(test)]
 mod tests {
     use super::*;
-    use model::{Interval, State};
+    use model::{step_on, Interval, State};
 
     /// Whether the timed steps go through such a state.
     fn reaches(bench: &Bench, wanted: impl Fn(&State) -> bool) -> bool {

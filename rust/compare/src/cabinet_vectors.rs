@@ -51,6 +51,10 @@ fn take_made<'a>(file: &mut &'a [u8], row_len: usize, outputs_len: usize) -> Opt
             inputs: u64::from_le_bytes(take_array(file)?),
         },
         2 => CabinetCall::TakeOut { record },
+        3 => CabinetCall::Retime {
+            record,
+            new_personality: take_behind_length(file)?.to_vec(),
+        },
         _ => return None,
     };
     let [number] = take_array(file)?;
@@ -105,70 +109,63 @@ mod tests {
     use super::*;
     use generate::Plan;
     use model::packed::Model;
-    use model::{RECORD_LEN, ROW_LEN};
+    use model::{Site, TimedState, RECORD_LEN, ROW_LEN};
 
-    /// The junction is placed in record 1 at output 3 and taken out again, and then
-    /// stepped, which is refused with 24.
-    fn worked() -> Vec<u8> {
+    /// The junction is placed in record 1 at output 3, retimed with itself, and taken out
+    /// again. A step is then refused with 24. In turn what is handed in, and what is
+    /// expected of it.
+    fn pieces() -> [Vec<u8>; 8] {
         let personality = Plan::junction().bytes();
-        let mut row = [0; ROW_LEN];
-        let mut outputs = [9; 33];
-        let mut file = vec![0x20, 0x08];
-        file.extend(row);
-        file.extend([33, 0]);
-        file.extend(outputs);
-        file.extend([3, 0]);
-        file.extend([0, 1, 0, 0, 0, 0, 0, 0, 0]);
-        file.extend([3, 0, 0, 0, 0, 0, 0, 0, 68, 0]);
-        file.extend(&personality);
-        file.extend([0; 5]);
+        let (before, place) = ([0; ROW_LEN], [0, 1, 0, 0, 0, 0, 0, 0, 0]);
+        let (mut row, mut outputs) = (before, [9; 33]);
+        let start = [&[0xC4, 0x0C][..], &before, &[33, 0], &outputs, &[4, 0]].concat();
+        let first = [3, 0, 0, 0, 0, 0, 0, 0, 68, 0];
+        let placing = [&start[..], &place, &first, &personality].concat();
         let record = &mut row[RECORD_LEN..2 * RECORD_LEN];
         record[..4].copy_from_slice(&[1, 3, 68, 0]);
         record[4..72].copy_from_slice(&personality);
-        record[481..].copy_from_slice(&model::fresh().to_bytes());
+        let mut state = TimedState::fresh(&Site::read(&personality).unwrap());
+        record[481..].copy_from_slice(&state.to_bytes());
         outputs[3..5].fill(0);
-        file.extend(row);
-        file.extend(outputs);
-        file.extend([2, 1, 0, 0, 0, 0, 0, 0, 0]);
-        file.extend([0; 5]);
-        file.extend([0; ROW_LEN]);
+        let placed = [&[0; 5][..], &row, &outputs].concat();
+        let retiming = [&[3, 1, 0, 0, 0, 0, 0, 0, 0, 68, 0][..], &personality].concat();
+        state.waiting = Some(state.ruling);
+        row[RECORD_LEN + 481..2 * RECORD_LEN].copy_from_slice(&state.to_bytes());
+        let retimed = [&[0; 5][..], &row, &outputs].concat();
+        let taking_out = vec![2, 1, 0, 0, 0, 0, 0, 0, 0];
         outputs[3..5].fill(4);
-        file.extend(outputs);
-        file.extend([1, 1, 0, 0, 0, 0, 0, 0, 0]);
-        file.extend([0; 8]);
-        file.extend([24, 0, 0, 0, 0]);
-        file
+        let taken_out = [&[0; 5][..], &before, &outputs].concat();
+        let step = [&[1, 1, 0, 0, 0, 0, 0, 0, 0][..], &[0; 8]].concat();
+        let refused = vec![24, 0, 0, 0, 0];
+        [
+            placing, placed, retiming, retimed, taking_out, taken_out, step, refused,
+        ]
     }
 
     #[test]
     fn a_worked_case_agrees() {
-        assert_eq!(run_cabinet_vectors(&Model, &worked()), Ok(1));
-        assert_eq!(run_cabinet_vectors(&Model, &worked().repeat(3)), Ok(3));
+        let worked = pieces().concat();
+        assert_eq!(run_cabinet_vectors(&Model, &worked), Ok(1));
+        assert_eq!(run_cabinet_vectors(&Model, &worked.repeat(3)), Ok(3));
         assert_eq!(run_cabinet_vectors(&Model, &[]), Ok(0));
     }
 
     #[test]
     fn wrong_vectors_are_noticed() {
-        let whole = worked();
+        let whole = pieces().concat();
         for size in 1..whole.len() {
             assert!(
                 run_cabinet_vectors(&Model, &whole[..size]).is_err(),
                 "{size}"
             );
         }
-        let answers = 2 + ROW_LEN + 2 + 33 + 2 + 9 + 10 + 68;
-        for at in answers..whole.len() {
-            // The kinds, records and inputs of the two calls behind are not looked
-            // at here.
-            let mut file = whole.clone();
-            file[at] ^= 1;
-            let after = answers + 5 + ROW_LEN + 33;
-            let last = after + 9 + 5 + ROW_LEN + 33;
-            let handed = (after..after + 9).contains(&at) || (last..last + 17).contains(&at);
-            assert!(
-                handed || run_cabinet_vectors(&Model, &file).is_err(),
-                "{at}"
-            );
+        for (index, piece) in pieces().iter().enumerate().skip(1).step_by(2) {
+            for at in 0..piece.len() {
+                let mut changed = pieces();
+                changed[index][at] ^= 1;
+                let agrees = run_cabinet_vectors(&Model, &changed.concat());
+                assert!(agrees.is_err(), "{index}, {at}");
+            }
         }
     }
 }

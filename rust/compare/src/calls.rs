@@ -45,18 +45,21 @@ impl Comparison<'_> {
         Ok(read)
     }
 
-    /// Makes a fresh state in a buffer of a length.
-    pub fn fresh(&mut self, length: usize) -> Result<(), Box<Difference>> {
+    /// Makes a fresh state of a personality in a buffer of a length.
+    pub fn fresh(&mut self, personality: &[u8], length: usize) -> Result<(), Box<Difference>> {
         let handed = Handed {
+            personality: personality.to_vec(),
             state: self.rng.bytes(length),
             ..Handed::default()
         };
+        let guarded = Guarded::new(&mut self.rng, personality);
         let mut expected_state = handed.state.clone();
         let mut state = Guarded::new(&mut self.rng, &handed.state);
-        let expected = Model.fresh(&mut expected_state);
-        let found = self.board.fresh(state.inner_mut());
+        let expected = Model.fresh(personality, &mut expected_state);
+        let found = self.board.fresh(guarded.inner(), state.inner_mut());
         same("fresh: the answer", expected, found, &handed)?;
         state.holds("fresh: the state", &expected_state, &handed)?;
+        guarded.untouched("fresh: the personality", &handed)?;
         self.tally.count_answer(expected);
         Ok(())
     }
@@ -91,6 +94,36 @@ impl Comparison<'_> {
         found_state.holds("step: the state", state, &handed)?;
         found_colours.holds("step: the colours", &colours, &handed)?;
         guarded.untouched("step: the personality", &handed)?;
+        self.tally.count_answer(expected);
+        Ok(expected)
+    }
+
+    /// Retimes once; gives the answer, and the state in the buffer handed in.
+    pub fn retime(
+        &mut self,
+        personality: &[u8],
+        state: &mut [u8],
+        new_personality: &[u8],
+    ) -> Result<u64, Box<Difference>> {
+        let handed = Handed {
+            personality: personality.to_vec(),
+            state: state.to_vec(),
+            new_personality: new_personality.to_vec(),
+            ..Handed::default()
+        };
+        let guarded = Guarded::new(&mut self.rng, personality);
+        let guarded_new = Guarded::new(&mut self.rng, new_personality);
+        let mut found_state = Guarded::new(&mut self.rng, state);
+        let expected = Model.retime(personality, state, new_personality);
+        let found = self.board.retime(
+            guarded.inner(),
+            found_state.inner_mut(),
+            guarded_new.inner(),
+        );
+        same("retime: the answer", expected, found, &handed)?;
+        found_state.holds("retime: the state", state, &handed)?;
+        guarded.untouched("retime: the personality", &handed)?;
+        guarded_new.untouched("retime: the new personality", &handed)?;
         self.tally.count_answer(expected);
         Ok(expected)
     }
@@ -149,21 +182,25 @@ impl Comparison<'_> {
         call: &CabinetCall,
         outputs: &mut [u8],
     ) -> Result<u64, Box<Difference>> {
-        let handed = Handed {
+        let mut handed = Handed {
             row: row.to_vec(),
             record: call.record(),
-            personality: call.personality().to_vec(),
-            first: match *call {
-                CabinetCall::Place { first, .. } => first,
-                _ => 0,
-            },
-            inputs: match *call {
-                CabinetCall::Step { inputs, .. } => inputs,
-                _ => 0,
-            },
             outputs: outputs.to_vec(),
             ..Handed::default()
         };
+        match call {
+            CabinetCall::Place {
+                personality, first, ..
+            } => {
+                handed.personality.clone_from(personality);
+                handed.first = *first;
+            }
+            CabinetCall::Step { inputs, .. } => handed.inputs = *inputs,
+            CabinetCall::TakeOut { .. } => {}
+            CabinetCall::Retime {
+                new_personality, ..
+            } => handed.new_personality.clone_from(new_personality),
+        }
         let [answer_word, row_word, outputs_word] = words_of(call);
         let personality = Guarded::new(&mut self.rng, call.personality());
         let mut found_row = Guarded::new(&mut self.rng, row);
@@ -178,7 +215,7 @@ impl Comparison<'_> {
         same(answer_word, expected, found, &handed)?;
         found_row.holds(row_word, row, &handed)?;
         found_outputs.holds(outputs_word, outputs, &handed)?;
-        personality.untouched("place: the personality", &handed)?;
+        personality.untouched("cabinet: the personality handed in", &handed)?;
         self.tally.count_answer(expected);
         Ok(expected)
     }
@@ -197,6 +234,11 @@ fn words_of(call: &CabinetCall) -> [&'static str; 3] {
             "take out: the answer",
             "take out: the row",
             "take out: the outputs",
+        ],
+        CabinetCall::Retime { .. } => [
+            "cabinet retime: the answer",
+            "cabinet retime: the row",
+            "cabinet retime: the outputs",
         ],
     }
 }
@@ -225,7 +267,7 @@ fn same_bytes(
         what,
         expected: expected.to_vec(),
         found: found.to_vec(),
-        handed: handed.clone(),
+        handed: Box::new(handed.clone()),
     }))
 }
 

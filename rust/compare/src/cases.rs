@@ -4,16 +4,16 @@ use crate::calls::Comparison;
 use crate::difference::{Difference, Failure};
 use crate::tally::Tally;
 use generate::{
-    any_inputs, any_records, broken_state_bytes, damaged, invalid_state, known_inputs,
-    other_edition, scrambled, twice_damaged, unknown_inputs, valid_state, Breakage, CabinetCall,
-    Plan, Rng, RoadDamage, RoadPlan,
+    any_inputs, any_records, broken_state_bytes, damaged, invalid_timed_state, known_inputs,
+    other_edition, scrambled, twice_damaged, unknown_inputs, valid_timed_state, Breakage,
+    CabinetCall, Plan, Rng, RoadDamage, RoadPlan,
 };
 use model::packed::Board;
 use model::{
-    fresh, records_of, row_of, Site, OUTPUTS, RECORDS, RECORD_LEN, RESULT_LEN, ROW_LEN, STATE_LEN,
-    STREAM_LEN,
+    records_of, row_of, Site, TimedState, OUTPUTS, PLAIN_LEN, RECORDS, RECORD_LEN, RESULT_LEN,
+    ROW_LEN, STATE_LEN, STREAM_LEN,
 };
-use monitor::{watch, watch_cabinet, Driver, Strategy};
+use monitor::{watch, watch_cabinet, watch_retimed, Driver, Strategy};
 use std::fmt;
 
 /// What a case is about.
@@ -42,10 +42,17 @@ pub enum Kind {
     CabinetRows,
     CabinetBuffers,
     WatchedCabinet,
+    RetimedRun,
+    Retimings,
+    RetimedElsewhere,
+    RefusedSecond,
+    BrokenTimes,
+    RetimingWrongs,
+    RetimedWatched,
 }
 
 /// The kinds take turns, those that matter most more often.
-const TURNS: [Kind; 40] = [
+const TURNS: [Kind; 48] = [
     Kind::Accepted,
     Kind::Damaged(1),
     Kind::Run,
@@ -86,6 +93,14 @@ const TURNS: [Kind; 40] = [
     Kind::CabinetBuffers,
     Kind::CabinetRows,
     Kind::WatchedCabinet,
+    Kind::RetimedRun,
+    Kind::Retimings,
+    Kind::RetimedElsewhere,
+    Kind::RefusedSecond,
+    Kind::RetimedRun,
+    Kind::BrokenTimes,
+    Kind::RetimingWrongs,
+    Kind::RetimedWatched,
 ];
 
 impl Kind {
@@ -126,10 +141,17 @@ impl fmt::Display for Kind {
             Kind::DamagedRoad => "simulated roads refused with 22",
             Kind::RoadBuffers => "state and result buffers of a road short and long",
             Kind::RoadWrongs => "several wrongs in one road",
-            Kind::Cabinet => "lists of calls on a cabinet, refused ones among them",
+            Kind::Cabinet => "lists of calls on a cabinet, retimings and refused calls among them",
             Kind::CabinetRows => "calls on cabinets of any content",
             Kind::CabinetBuffers => "rows of other lengths, output buffers short and long",
             Kind::WatchedCabinet => "sites of a cabinet watched for demand 3",
+            Kind::RetimedRun => "run of steps with retimings among them",
+            Kind::Retimings => "retimings from random valid states",
+            Kind::RetimedElsewhere => "retimings with more changed than times",
+            Kind::RefusedSecond => "retimings with a personality that is refused",
+            Kind::BrokenTimes => "states with wrong times",
+            Kind::RetimingWrongs => "several wrongs in one retiming",
+            Kind::RetimedWatched => "retimed run watched for demand 3",
         };
         f.write_str(words)
     }
@@ -159,7 +181,7 @@ pub fn run_case(
     })
 }
 
-type Outcome = Result<(), Box<Difference>>;
+pub(crate) type Outcome = Result<(), Box<Difference>>;
 
 impl Comparison<'_> {
     fn case(&mut self, kind: Kind) -> Outcome {
@@ -189,7 +211,7 @@ impl Comparison<'_> {
             Kind::UnknownInputs => self.unknown_inputs(),
             Kind::BufferLength => self.buffer_lengths(),
             Kind::ManyWrongs => self.many_wrongs(),
-            Kind::Watched => self.watched(),
+            Kind::Watched => self.watched(false),
             Kind::Road => self.roads(),
             Kind::DamagedRoad => self.damaged_roads(),
             Kind::RoadBuffers => self.road_buffers(),
@@ -198,14 +220,21 @@ impl Comparison<'_> {
             Kind::CabinetRows => self.cabinet_rows(),
             Kind::CabinetBuffers => self.cabinet_buffers(),
             Kind::WatchedCabinet => self.watched_cabinet(),
+            Kind::RetimedRun => self.retimed_run(),
+            Kind::Retimings => self.retimings(),
+            Kind::RetimedElsewhere => self.retimings_elsewhere(),
+            Kind::RefusedSecond => self.refused_seconds(),
+            Kind::BrokenTimes => self.broken_times(),
+            Kind::RetimingWrongs => self.retiming_wrongs(),
+            Kind::RetimedWatched => self.watched(true),
         }
     }
 
     fn accepted(&mut self) -> Outcome {
         let personality = Plan::random(&mut self.rng).bytes();
         self.reading(&personality)?;
-        self.fresh(STATE_LEN)?;
-        let mut state = fresh().to_bytes().to_vec();
+        self.fresh(&personality, STATE_LEN)?;
+        let mut state = fresh_bytes(&site_whole(&personality));
         self.step(&personality, &mut state, 0, 32)?;
         Ok(())
     }
@@ -213,19 +242,25 @@ impl Comparison<'_> {
     /// A personality likely to be refused: read, stepped and run with anything.
     fn refused(&mut self, personality: &[u8]) -> Outcome {
         self.reading(personality)?;
-        let mut state = fresh().to_bytes().to_vec();
+        self.fresh(personality, STATE_LEN)?;
+        let other = Plan::random(&mut self.rng).bytes();
+        let mut state = fresh_bytes(&site_whole(&other));
         let inputs = self.rng.draw();
         self.step(personality, &mut state, inputs, 32)?;
-        let length = self.rng.below(60);
+        self.retime(personality, &mut state, &other)?;
+        let length = self.rng.below(400);
         let mut state = self.rng.bytes(length);
         let colours_len = self.rng.below(40);
+        self.fresh(personality, length)?;
         self.step(personality, &mut state, inputs, colours_len)?;
+        self.retime(personality, &mut state, personality)?;
         let length = self.rng.below(20);
         let road = RoadPlan {
             streams: self.rng.bytes(length),
             steps: inputs as u32,
         };
-        self.road(personality, &road, &fresh().to_bytes(), length)?;
+        let state = self.rng.bytes(STATE_LEN);
+        self.road(personality, &road, &state, length)?;
         Ok(())
     }
 
@@ -235,13 +270,13 @@ impl Comparison<'_> {
         let site = site_whole(&personality);
         let strategy = self.rng.pick(&Strategy::ALL);
         let mut driver = Driver::new(strategy, &site, self.rng.clone());
-        let mut state = fresh().to_bytes().to_vec();
+        let mut state = fresh_bytes(&site);
         for _ in 0..400 {
-            let before = model::State::from_bytes(&state).expect("states of the model");
+            let before = TimedState::from_bytes(&state).expect("states of the model");
             let (inputs, length) = match self.rng.below(50) {
                 0 => (any_inputs(&mut self.rng, &site), 32),
                 1 => (0, self.rng.below(site.group_count())),
-                _ => (driver.inputs(&site, &before), site.group_count()),
+                _ => (driver.inputs(&site, &before.state), site.group_count()),
             };
             self.step(&personality, &mut state, inputs, length)?;
         }
@@ -250,7 +285,7 @@ impl Comparison<'_> {
 
     fn single_steps(&mut self) -> Outcome {
         self.on_site(30, |comparison, personality, site| {
-            let mut state = valid_state(&mut comparison.rng, site).to_bytes().to_vec();
+            let mut state = valid_bytes(&mut comparison.rng, personality, site);
             let inputs = known_inputs(&mut comparison.rng, site);
             comparison.step(personality, &mut state, inputs, site.group_count())
         })
@@ -259,11 +294,11 @@ impl Comparison<'_> {
     fn invalid_states(&mut self) -> Outcome {
         self.on_site(30, |comparison, personality, site| {
             let breakage = comparison.rng.pick(&Breakage::ALL);
-            let Some(state) = invalid_state(&mut comparison.rng, site, breakage) else {
+            let Some(mut state) = invalid_bytes(&mut comparison.rng, personality, site, breakage)
+            else {
                 return Ok(0);
             };
             let inputs = known_inputs(&mut comparison.rng, site);
-            let mut state = state.to_bytes().to_vec();
             comparison.step(personality, &mut state, inputs, site.group_count())
         })
     }
@@ -275,7 +310,7 @@ impl Comparison<'_> {
                 0 => broken_state_bytes(&mut comparison.rng, site),
                 1 => comparison.rng.bytes(STATE_LEN),
                 _ => {
-                    let mut bytes = valid_state(&mut comparison.rng, site).to_bytes().to_vec();
+                    let mut bytes = valid_bytes(&mut comparison.rng, personality, site);
                     bytes[comparison.rng.below(STATE_LEN)] =
                         comparison.rng.byte() & comparison.rng.byte();
                     bytes
@@ -287,15 +322,15 @@ impl Comparison<'_> {
     }
 
     fn state_lengths(&mut self) -> Outcome {
-        for _ in 0..10 {
-            let length = self.rng.below(120);
-            self.fresh(length)?;
-        }
         self.on_site(10, |comparison, personality, site| {
-            let mut state = valid_state(&mut comparison.rng, site).to_bytes().to_vec();
+            let length = comparison.rng.below(700);
+            comparison.fresh(personality, length)?;
+            let mut state = valid_bytes(&mut comparison.rng, personality, site);
             let length = match comparison.rng.below(3) {
-                0 => comparison.rng.pick(&[0, STATE_LEN - 1, STATE_LEN + 1]),
-                _ => comparison.rng.below(120),
+                0 => comparison
+                    .rng
+                    .pick(&[0, PLAIN_LEN, STATE_LEN - 1, STATE_LEN + 1]),
+                _ => comparison.rng.below(700),
             };
             state.resize(length, 0);
             comparison.step(personality, &mut state, 0, 32)
@@ -304,7 +339,7 @@ impl Comparison<'_> {
 
     fn unknown_inputs(&mut self) -> Outcome {
         self.on_site(30, |comparison, personality, site| {
-            let mut state = valid_state(&mut comparison.rng, site).to_bytes().to_vec();
+            let mut state = valid_bytes(&mut comparison.rng, personality, site);
             let inputs = unknown_inputs(&mut comparison.rng, site);
             comparison.step(personality, &mut state, inputs, site.group_count())
         })
@@ -312,7 +347,7 @@ impl Comparison<'_> {
 
     fn buffer_lengths(&mut self) -> Outcome {
         self.on_site(30, |comparison, personality, site| {
-            let mut state = valid_state(&mut comparison.rng, site).to_bytes().to_vec();
+            let mut state = valid_bytes(&mut comparison.rng, personality, site);
             let inputs = known_inputs(&mut comparison.rng, site);
             let groups = site.group_count();
             let anywhere = comparison.rng.below(80);
@@ -330,11 +365,10 @@ impl Comparison<'_> {
         self.on_site(30, |comparison, personality, site| {
             let rng = &mut comparison.rng;
             let breakage = rng.pick(&Breakage::ALL);
-            let state = match invalid_state(rng, site, breakage) {
+            let mut state = match invalid_bytes(rng, personality, site, breakage) {
                 Some(state) if rng.percent(40) => state,
-                _ => valid_state(rng, site),
+                _ => valid_bytes(rng, personality, site),
             };
-            let mut state = state.to_bytes().to_vec();
             if rng.percent(10) {
                 state.pop();
             }
@@ -347,11 +381,12 @@ impl Comparison<'_> {
     }
 
     /// The board alone under the monitor.
-    fn watched(&mut self) -> Outcome {
+    fn watched(&mut self, retimed: bool) -> Outcome {
         let personality = Plan::random(&mut self.rng).bytes();
         let site = site_whole(&personality);
         let strategy = self.rng.pick(&Strategy::ALL);
         let mut driver = Driver::new(strategy, &site, self.rng.clone());
+        let watch = if retimed { watch_retimed } else { watch };
         let watched = watch(self.board, &personality, &mut driver, &mut self.rng, 1_000);
         match watched.expect("an accepted plan") {
             Ok(_) => Ok(()),
@@ -370,7 +405,7 @@ impl Comparison<'_> {
             let spare = comparison.rng.pick(&[0, 0, 1, 3, 4, 50]);
             let length = results_len(&road) + spare;
             let state = if comparison.rng.percent(50) {
-                valid_state(&mut comparison.rng, site).to_bytes().to_vec()
+                valid_bytes(&mut comparison.rng, personality, site)
             } else {
                 comparison.rng.bytes(STATE_LEN)
             };
@@ -401,7 +436,7 @@ impl Comparison<'_> {
             let mut road = RoadPlan::random(rng, site);
             road.steps %= 100;
             let needed = results_len(&road);
-            let anywhere = rng.below(120);
+            let anywhere = rng.below(700);
             let state_len = match rng.below(3) {
                 0 => rng.pick(&[0, STATE_LEN - 1, STATE_LEN + 1, anywhere]),
                 _ => STATE_LEN,
@@ -440,8 +475,8 @@ impl Comparison<'_> {
         })
     }
 
-    /// A list of calls on a cabinet whose records are free at first. A few get an
-    /// output buffer that is too short.
+    /// A list of calls on a cabinet whose records are free at first, with retimings of
+    /// its sites among them. A few get an output buffer that is too short.
     fn cabinet_lists(&mut self) -> Outcome {
         let mut row = vec![0; ROW_LEN];
         let spare = self.rng.pick(&[0, 0, 1, 20]);
@@ -478,7 +513,7 @@ impl Comparison<'_> {
     fn cabinet_buffers(&mut self) -> Outcome {
         for _ in 0..20 {
             let records = any_records(&mut self.rng);
-            let call = CabinetCall::random(&mut self.rng, &records);
+            let call = CabinetCall::random_of_cabinet(&mut self.rng, &records);
             let rng = &mut self.rng;
             let row = row_of(&records);
             let anywhere = rng.below(2 * ROW_LEN);
@@ -509,7 +544,7 @@ impl Comparison<'_> {
     }
 
     /// Some calls on one random accepted site.
-    fn on_site(
+    pub(crate) fn on_site(
         &mut self,
         calls: usize,
         call: impl Fn(&mut Self, &[u8], &Site) -> Result<u64, Box<Difference>>,
@@ -528,7 +563,31 @@ fn results_len(road: &RoadPlan) -> usize {
     road.streams.len() / STREAM_LEN * RESULT_LEN
 }
 
-fn site_whole(personality: &[u8]) -> Site<'_> {
+/// The bytes of the fresh state.
+pub(crate) fn fresh_bytes(site: &Site) -> Vec<u8> {
+    TimedState::fresh(site).to_bytes().to_vec()
+}
+
+/// The bytes of a random valid state.
+pub(crate) fn valid_bytes(rng: &mut Rng, personality: &[u8], site: &Site) -> Vec<u8> {
+    valid_timed_state(rng, personality, site)
+        .to_bytes()
+        .to_vec()
+}
+
+/// The bytes of a random state that breaks a rule by the times that rule; none where
+/// the site has nothing to break so.
+pub(crate) fn invalid_bytes(
+    rng: &mut Rng,
+    personality: &[u8],
+    site: &Site,
+    breakage: Breakage,
+) -> Option<Vec<u8>> {
+    let timed = invalid_timed_state(rng, personality, site, breakage)?;
+    Some(timed.to_bytes().to_vec())
+}
+
+pub(crate) fn site_whole(personality: &[u8]) -> Site<'_> {
     Site::read(personality).expect("an accepted plan")
 }
 

@@ -14,7 +14,7 @@ pub enum Difference {
         expected: Vec<u8>,
         found: Vec<u8>,
         /// What went into the call.
-        handed: Handed,
+        handed: Box<Handed>,
     },
     /// A watched run breaks demand 3.
     Breach {
@@ -34,6 +34,7 @@ pub struct Handed {
     pub streams: Vec<u8>,
     pub steps: u32,
     pub results: Vec<u8>,
+    pub new_personality: Vec<u8>,
     pub row: Vec<u8>,
     pub record: usize,
     pub first: usize,
@@ -84,6 +85,7 @@ impl fmt::Display for Handed {
         writeln!(f, "  streams     {}", hex(&self.streams))?;
         writeln!(f, "  steps       {}", self.steps)?;
         writeln!(f, "  results     {}", hex(&self.results))?;
+        writeln!(f, "  new         {}", hex(&self.new_personality))?;
         writeln!(f, "  row         {}", hex(&self.row))?;
         writeln!(f, "  record      {}", self.record)?;
         writeln!(f, "  first       {}", self.first)?;

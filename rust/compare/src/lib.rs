@@ -9,6 +9,8 @@ mod cases;
 mod difference;
 #[cfg(feature = "linked")]
 mod library;
+mod lists;
+mod retimings;
 mod road_vectors;
 mod tally;
 mod vectors;
@@ -19,6 +21,7 @@ pub use cases::{run_case, Kind};
 pub use difference::{Difference, Failure};
 #[cfg(feature = "linked")]
 pub use library::Library;
+pub use lists::{run_lists, Lists};
 pub use road_vectors::run_road_vectors;
 pub use tally::Tally;
 pub use watches::{run_watches, Watched};

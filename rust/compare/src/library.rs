@@ -20,12 +20,16 @@ impl Board for Library {
         packed::wait_bound(personality)
     }
 
-    fn fresh(&self, state: &mut [u8]) -> u64 {
-        packed::fresh(state)
+    fn fresh(&self, personality: &[u8], state: &mut [u8]) -> u64 {
+        packed::fresh(personality, state)
     }
 
     fn step(&self, personality: &[u8], state: &mut [u8], inputs: u64, colours: &mut [u8]) -> u64 {
         packed::step(personality, state, inputs, colours)
+    }
+
+    fn retime(&self, personality: &[u8], state: &mut [u8], new_personality: &[u8]) -> u64 {
+        packed::retime(personality, state, new_personality)
     }
 
     fn section(&self, personality: &[u8], kind: u16) -> u64 {

@@ -2,11 +2,15 @@
 //! cases, `compare SEED case INDEX` runs one of them again, and `compare SEED
 //! watch STEPS` watches the library alone for demand 3. `compare roads FILE` and
 //! `compare cabinets FILE` run the vectors of the Python road and cabinet on the
-//! library and on the model.
+//! library and on the model, `compare retimes FILE` the lists of calls of the Python
+//! controller.
 
 #![forbid(unsafe_code)]
 
-use compare::{board_name, run_cabinet_vectors, run_cases, run_road_vectors, run_watches, BOARD};
+use compare::{
+    board_name, run_cabinet_vectors, run_cases, run_lists, run_road_vectors, run_watches, Lists,
+    BOARD,
+};
 use model::packed::{Board, Model};
 use std::process::ExitCode;
 
@@ -14,7 +18,8 @@ const USAGE: &str = "usage: compare SEED CASES
        compare SEED case INDEX
        compare SEED watch STEPS
        compare roads FILE
-       compare cabinets FILE";
+       compare cabinets FILE
+       compare retimes FILE";
 
 /// What is to be done.
 enum Task {
@@ -27,8 +32,9 @@ fn main() -> ExitCode {
     let words: Vec<String> = std::env::args().skip(1).collect();
     if let [word, file] = words.as_slice() {
         match word.as_str() {
-            "roads" => return exit_code(vectors(file, "simulated roads", run_road_vectors)),
-            "cabinets" => return exit_code(vectors(file, "cabinets", run_cabinet_vectors)),
+            "roads" => return exit_code(vectors(file, roads)),
+            "cabinets" => return exit_code(vectors(file, cabinets)),
+            "retimes" => return exit_code(vectors(file, retimes)),
             _ => {}
         }
     }
@@ -98,22 +104,34 @@ fn watches(seed: u64, steps: u64) -> bool {
     }
 }
 
-/// Runs the vectors of a file on a board.
-type RunVectors = fn(&dyn Board, &[u8]) -> Result<usize, String>;
+/// Runs the vectors of a file on a board, and says how many.
+type RunVectors = fn(&dyn Board, &[u8]) -> Result<String, String>;
 
-fn vectors(file: &str, what: &str, run: RunVectors) -> bool {
+fn roads(board: &dyn Board, file: &[u8]) -> Result<String, String> {
+    run_road_vectors(board, file).map(|count| format!("{count:>9}  simulated roads"))
+}
+
+fn cabinets(board: &dyn Board, file: &[u8]) -> Result<String, String> {
+    run_cabinet_vectors(board, file).map(|count| format!("{count:>9}  cabinets"))
+}
+
+fn retimes(board: &dyn Board, file: &[u8]) -> Result<String, String> {
+    let Lists { lists, calls } = run_lists(board, file)?;
+    Ok(format!("{lists:>9}  lists of calls, {calls} calls"))
+}
+
+/// Runs the vectors of a file on the model and on the board.
+fn vectors(file: &str, run: RunVectors) -> bool {
     println!("{file}: {} and the model", board_name());
-    let vectors = match std::fs::read(file) {
-        Ok(vectors) => vectors,
-        Err(error) => {
-            println!("{file}: {error}");
-            return false;
-        }
-    };
-    let by_model = run(&Model, &vectors).map_err(|what| format!("the model: {what}"));
-    match by_model.and_then(|_| run(&BOARD, &vectors)) {
+    let ran = std::fs::read(file)
+        .map_err(|error| format!("{file}: {error}"))
+        .and_then(|vectors| {
+            run(&Model, &vectors).map_err(|what| format!("the model: {what}"))?;
+            run(&BOARD, &vectors)
+        });
+    match ran {
         Ok(count) => {
-            println!("{count:>9}  {what}\nno difference");
+            println!("{count}\nno difference");
             true
         }
         Err(what) => {

@@ -96,7 +96,9 @@ mod tests {
         file.extend(personality);
         file.extend([8, 0]);
         file.extend(streams);
-        file.extend([200, 0, 0, 0, STATE_LEN as u8, 0, 9, 0]);
+        file.extend([200, 0, 0, 0]);
+        file.extend((STATE_LEN as u16).to_le_bytes());
+        file.extend([9, 0]);
         file.extend([0; 5]);
         file.extend(state);
         file.extend([queued, 0, gone, 0, 8, 0, 2, 0]);

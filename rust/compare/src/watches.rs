@@ -3,7 +3,7 @@
 use generate::{Plan, Rng};
 use model::packed::Board;
 use model::{Site, OUTPUTS, RECORDS};
-use monitor::{watch, watch_cabinet, Breach, Driver, Report, Strategy};
+use monitor::{watch, watch_cabinet, watch_retimed, Breach, Driver, Report, Strategy};
 use std::fmt;
 
 /// What the runs of one strategy, or in cabinets, have shown together.
@@ -15,7 +15,9 @@ pub struct Watched {
     pub refused: u64,
     pub green_starts: u64,
     pub demands_met: u64,
-    /// The longest wait as a part of its site's bound.
+    pub retimings: u64,
+    pub changes: u64,
+    /// The longest wait as a part of what it was allowed.
     pub nearest: f64,
 }
 
@@ -24,7 +26,8 @@ const RUN: u64 = 4_000;
 
 /// Watches a board for about so many steps, shared among the strategies and the
 /// cabinets. The first runs of a strategy are on the junction of two phases and
-/// the largest site.
+/// the largest site. Every other run of a strategy has retimings in it, and some sites
+/// of a cabinet are retimed.
 pub fn run_watches(
     board: &dyn Board,
     seed: u64,
@@ -67,10 +70,12 @@ fn run_strategy(
     while left > 0 {
         let calls = left.min(RUN);
         let plan = match watched.runs {
-            0 => Plan::junction(),
-            1 => Plan::largest(),
+            0 | 3 => Plan::junction(),
+            1 | 2 => Plan::largest(),
             _ => Plan::random(&mut rng),
         };
+        let retimed = watched.runs % 2 == 1;
+        let watch = if retimed { watch_retimed } else { watch };
         let personality = plan.bytes();
         let site = Site::read(&personality).expect("an accepted plan");
         let mut driver = Driver::new(strategy, &site, rng.clone());
@@ -93,6 +98,8 @@ impl Watched {
             refused: 0,
             green_starts: 0,
             demands_met: 0,
+            retimings: 0,
+            changes: 0,
             nearest: 0.0,
         }
     }
@@ -103,8 +110,10 @@ impl Watched {
         self.refused += report.refused;
         self.green_starts += report.green_starts;
         self.demands_met += report.demands_met;
-        let part = report.longest_wait as f64 / report.bound as f64;
-        self.nearest = self.nearest.max(part);
+        self.retimings += report.retimings;
+        self.changes += report.changes;
+        let (waited, allowed) = report.nearest_wait;
+        self.nearest = self.nearest.max(waited as f64 / allowed as f64);
     }
 }
 
@@ -113,13 +122,15 @@ impl fmt::Display for Watched {
         write!(
             f,
             "{:8} {:>5} runs, {:>9} steps, {:>7} refused calls, {:>7} greens begun, \
-             {:>7} demands met, longest wait {:.2} of its bound",
+             {:>7} demands met, {:>6} retimings, {:>5} changes, longest wait {:.2} of its bound",
             self.name,
             self.runs,
             self.accepted,
             self.refused,
             self.green_starts,
             self.demands_met,
+            self.retimings,
+            self.changes,
             self.nearest
         )
     }

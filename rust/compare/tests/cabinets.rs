@@ -1,9 +1,9 @@
 //! A plain cabinet over read and step calls agrees with the model, and cabinets
 //! that are wrong in one small thing are noticed.
 
-use compare::{run_cases, Difference};
+use compare::{run_cases, Difference, Kind};
 use model::packed::{number, Board, Model};
-use model::{State, STATE_LEN};
+use model::{layout, Site, TimedState, Times, PLAIN_LEN, STATE_LEN};
 use std::ops::Range;
 
 /// The points in which a plain cabinet may go wrong.
@@ -62,9 +62,22 @@ enum Fault {
     TakesAllDark,
     WritesWhenRefused,
     WritesPastTheLast,
+    // The times of a site.
+    PlacesWithoutTimes,
+    PlacesWithTimesWaiting,
+    PlacingKeepsOldTimes,
+    StepWritesPlainStateOnly,
+    StepForgetsWaitingTimes,
+    StepGoesByOwnTimes,
+    StepAnswersOwnWait,
+    StepLooksAtPlainStateOnly,
+    RefusesRetimedSites,
+    RetimingRefused,
+    RetimingLeavesState,
+    RetimingWritesWhenRefused,
 }
 
-const FAULTS: [Fault; 48] = [
+const FAULTS: [Fault; 60] = [
     Fault::TakesLongerRows,
     Fault::TakesShorterRows,
     Fault::RecordInTwoBits,
@@ -113,12 +126,25 @@ const FAULTS: [Fault; 48] = [
     Fault::TakesAllDark,
     Fault::WritesWhenRefused,
     Fault::WritesPastTheLast,
+    Fault::PlacesWithoutTimes,
+    Fault::PlacesWithTimesWaiting,
+    Fault::PlacingKeepsOldTimes,
+    Fault::StepWritesPlainStateOnly,
+    Fault::StepForgetsWaitingTimes,
+    Fault::StepGoesByOwnTimes,
+    Fault::StepAnswersOwnWait,
+    Fault::StepLooksAtPlainStateOnly,
+    Fault::RefusesRetimedSites,
+    Fault::RetimingRefused,
+    Fault::RetimingLeavesState,
+    Fault::RetimingWritesWhenRefused,
 ];
 
-/// The fields of a record of 520 bytes.
+/// The fields of a record of 817 bytes.
+const RECORD: usize = 817;
 const LENGTH: Range<usize> = 2..4;
 const ROOM: Range<usize> = 4..481;
-const STATE: Range<usize> = 481..520;
+const STATE: Range<usize> = 481..RECORD;
 
 /// The model, but its cabinet is a plain one over read and step calls.
 struct PlainCabinet(Fault);
@@ -152,11 +178,11 @@ impl PlainCabinet {
             false => record,
         };
         let whole = match self.0 {
-            Fault::TakesLongerRows => row.len() >= 2_080,
-            Fault::TakesShorterRows => row.len() <= 2_080,
-            _ => row.len() == 2_080,
+            Fault::TakesLongerRows => row.len() >= 4 * RECORD,
+            Fault::TakesShorterRows => row.len() <= 4 * RECORD,
+            _ => row.len() == 4 * RECORD,
         };
-        let bytes = 520 * record.min(4)..520 * (record.min(4) + 1);
+        let bytes = RECORD * record.min(4)..RECORD * (record.min(4) + 1);
         (record < 4 && whole && bytes.end <= row.len()).then_some(bytes)
     }
 
@@ -204,7 +230,7 @@ impl PlainCabinet {
         if self.is_free(record) && !self.has(Fault::FreeRecordsTakeOutputs) {
             return false;
         }
-        if self.has(Fault::BadStatesTakeNone) && State::from_bytes(&record[STATE]).is_none() {
+        if self.has(Fault::BadStatesTakeNone) && TimedState::from_bytes(&record[STATE]).is_none() {
             return false;
         }
         let taken = usize::from(record[1])..usize::from(record[1]) + usize::from(personality[5]);
@@ -220,7 +246,7 @@ impl PlainCabinet {
     }
 
     fn others_take(&self, row: &[u8], first: usize, groups: usize) -> bool {
-        let mut records: Vec<&[u8]> = row.chunks_exact(520).collect();
+        let mut records: Vec<&[u8]> = row.chunks_exact(RECORD).collect();
         if self.has(Fault::OverlapWithOneRecordOnly) {
             records.truncate(1);
         }
@@ -273,6 +299,42 @@ impl PlainCabinet {
         Ok(bytes)
     }
 
+    /// Writes the state of a site just placed over the old one.
+    fn begin(&self, personality: &[u8], state: &mut [u8]) {
+        let old = state.to_vec();
+        Model.fresh(personality, state);
+        match self.0 {
+            Fault::PlacesWithoutTimes => state[PLAIN_LEN..].fill(0),
+            Fault::PlacingKeepsOldTimes => state[PLAIN_LEN..].copy_from_slice(&old[PLAIN_LEN..]),
+            Fault::PlacesWithTimesWaiting => {
+                Model.retime(personality, state, personality);
+            }
+            _ => {}
+        }
+    }
+
+    /// The state that a step goes by.
+    fn state_of(&self, personality: &[u8], held: &[u8]) -> [u8; STATE_LEN] {
+        let mut state: [u8; STATE_LEN] = held.try_into().expect("336 bytes");
+        let site = Site::read(personality).expect("an accepted personality");
+        let own = Times::of(&site).to_bytes();
+        let ruling = layout::RULING..layout::FLAG;
+        match self.0 {
+            Fault::StepForgetsWaitingTimes => state[layout::FLAG..].fill(0),
+            Fault::StepGoesByOwnTimes => state[ruling].copy_from_slice(&own),
+            Fault::StepLooksAtPlainStateOnly => {
+                let valid = Model.retime(personality, &mut state.clone(), personality) == 0;
+                if !valid {
+                    state[ruling].copy_from_slice(&own);
+                    state[layout::FLAG..].fill(0);
+                }
+            }
+            Fault::RefusesRetimedSites if state[ruling] != own => state.fill(u8::MAX),
+            _ => {}
+        }
+        state
+    }
+
     /// First output and groups of a held record.
     fn outputs_of(&self, record: &[u8]) -> (usize, usize) {
         let groups = self.personality(record)[5];
@@ -295,12 +357,27 @@ impl Board for PlainCabinet {
         Model.wait_bound(personality)
     }
 
-    fn fresh(&self, state: &mut [u8]) -> u64 {
-        Model.fresh(state)
+    fn fresh(&self, personality: &[u8], state: &mut [u8]) -> u64 {
+        Model.fresh(personality, state)
     }
 
     fn step(&self, personality: &[u8], state: &mut [u8], inputs: u64, colours: &mut [u8]) -> u64 {
         Model.step(personality, state, inputs, colours)
+    }
+
+    fn retime(&self, personality: &[u8], state: &mut [u8], new_personality: &[u8]) -> u64 {
+        match self.0 {
+            Fault::RetimingRefused => 24,
+            Fault::RetimingLeavesState => {
+                Model.retime(personality, &mut state.to_vec(), new_personality)
+            }
+            Fault::RetimingWritesWhenRefused => {
+                let answer = Model.retime(personality, state, new_personality);
+                state[0] ^= u8::from(answer == 26);
+                answer
+            }
+            _ => Model.retime(personality, state, new_personality),
+        }
     }
 
     fn section(&self, personality: &[u8], kind: u16) -> u64 {
@@ -337,7 +414,7 @@ impl Board for PlainCabinet {
         });
         if answer != 0 {
             if self.has(Fault::WritesWhenRefused) && answer == 14 {
-                row[520 * record + 1] = first as u8;
+                row[RECORD * record + 1] = first as u8;
             }
             return answer;
         }
@@ -354,7 +431,7 @@ impl Board for PlainCabinet {
         }
         placed[ROOM][..personality.len()].copy_from_slice(personality);
         if !self.has(Fault::KeepsOldState) {
-            Model.fresh(&mut placed[STATE]);
+            self.begin(personality, &mut placed[STATE]);
         }
         match self.0 {
             Fault::StaysDark => {}
@@ -379,13 +456,13 @@ impl Board for PlainCabinet {
         let held = &mut row[bytes];
         let (first, groups) = self.outputs_of(held);
         let personality = self.personality(held).to_vec();
-        let mut state: [u8; STATE_LEN] = held[STATE].try_into().expect("39 bytes");
+        let mut state = self.state_of(&personality, &held[STATE]);
         let mut colours = [0; 32];
         let alone = Model.step(&personality, &mut state, inputs, &mut colours);
         let alone = match self.0 {
             Fault::InputsBeforeState if alone == 13 => {
                 let mut fresh = [0; STATE_LEN];
-                Model.fresh(&mut fresh);
+                Model.fresh(&personality, &mut fresh);
                 let other = Model.step(&personality, &mut fresh, inputs, &mut [0; 32]);
                 if other == 15 {
                     15
@@ -406,7 +483,12 @@ impl Board for PlainCabinet {
         if answer != 0 {
             return answer;
         }
-        held[STATE].copy_from_slice(&state);
+        match self.0 {
+            Fault::StepWritesPlainStateOnly => {
+                held[STATE][..PLAIN_LEN].copy_from_slice(&state[..PLAIN_LEN]);
+            }
+            _ => held[STATE].copy_from_slice(&state),
+        }
         match self.0 {
             Fault::StepHoldsByOne => held[0] = 1,
             Fault::StepClearsBehind => held[ROOM][personality.len()..].fill(0),
@@ -424,6 +506,7 @@ impl Board for PlainCabinet {
         own.copy_from_slice(&colours[..own.len()]);
         match self.0 {
             Fault::StepAnswersNothing => 0,
+            Fault::StepAnswersOwnWait => Model.wait_bound(&personality),
             _ => alone,
         }
     }
@@ -444,7 +527,7 @@ impl Board for PlainCabinet {
         let (first, groups) = self.outputs_of(held);
         let past = refuse_if(self.past(first, groups), 25);
         let short = self.short(outputs, first, groups);
-        let state = match State::from_bytes(&held[STATE]) {
+        let state = match TimedState::from_bytes(&held[STATE]) {
             None if self.has(Fault::TakingOutLooksAtState) => 13,
             _ => 0,
         };
@@ -470,9 +553,15 @@ impl Board for PlainCabinet {
 
 const SEED: u64 = 10;
 
+/// The cases of cabinets, but for those that are watched.
+fn cases() -> impl Iterator<Item = u64> {
+    let kinds = [Kind::Cabinet, Kind::CabinetRows, Kind::CabinetBuffers];
+    (0..5_000).filter(move |&index| kinds.contains(&Kind::of(index)))
+}
+
 #[test]
 fn a_plain_cabinet_agrees() {
-    if let Err(failure) = run_cases(&PlainCabinet(Fault::None), SEED, 0..3_900) {
+    if let Err(failure) = run_cases(&PlainCabinet(Fault::None), SEED, cases()) {
         panic!("{failure}");
     }
 }
@@ -480,11 +569,16 @@ fn a_plain_cabinet_agrees() {
 #[test]
 fn wrong_cabinets_are_noticed() {
     for fault in FAULTS {
-        match run_cases(&PlainCabinet(fault), SEED, 0..3_900) {
+        match run_cases(&PlainCabinet(fault), SEED, cases()) {
             Ok(_) => panic!("{fault:?} is not noticed"),
             Err(failure) => match failure.difference {
                 Difference::Call { what, .. } => {
-                    let calls = ["place: ", "cabinet step: ", "take out: "];
+                    let calls = [
+                        "place: ",
+                        "cabinet step: ",
+                        "take out: ",
+                        "cabinet retime: ",
+                    ];
                     let of_cabinet = calls.iter().any(|call| what.starts_with(call));
                     assert!(of_cabinet, "{fault:?}: {what}");
                 }

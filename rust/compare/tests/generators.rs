@@ -1,14 +1,15 @@
 //! The generators reach what they are meant to reach.
 
 use generate::{
-    any_records, broken_state_bytes, damaged, held_record, invalid_state, known_inputs,
-    other_edition, scrambled, twice_damaged, twist, unknown_inputs, valid_state, Breakage,
-    CabinetCall, Plan, Rng, RoadPlan, Twist, AIMED, MODES,
+    any_records, broken_state_bytes, broken_times, changed_beyond_times, damaged, held_record,
+    invalid_state, known_inputs, other_edition, refused_second, retimed, scrambled, time_fields,
+    twice_damaged, twist, unknown_inputs, valid_state, valid_timed_state, Breakage, CabinetCall,
+    Plan, Rng, RoadPlan, TimesBreakage, Twist, AIMED, MODES,
 };
 use model::packed::{self, number, rest, Model};
 use model::{
-    read, records_of, row_of, valid, Edition, Interval, Mark, Record, Road, Site, Stage, State,
-    Stream, RECORDS, ROW_LEN,
+    read, records_of, row_of, times_alone_differ, valid, valid_timed, Edition, Interval, Mark,
+    Record, Road, Setting, Site, Stage, State, Stream, TimedState, Times, RECORDS, ROW_LEN,
 };
 use std::collections::{BTreeMap, BTreeSet};
 
@@ -306,7 +307,7 @@ fn broken_state_bytes_are_no_state() {
     let site = Site::read(&bytes).unwrap();
     for _ in 0..2_000 {
         let broken = broken_state_bytes(&mut rng, &site);
-        assert_eq!(State::from_bytes(&broken), None, "{broken:?}");
+        assert_eq!(TimedState::from_bytes(&broken), None, "{broken:?}");
     }
 }
 
@@ -320,6 +321,160 @@ fn inputs_known_and_unknown() {
             assert_eq!(known_inputs(&mut rng, &site) & !site.known_inputs(), 0);
             assert_ne!(unknown_inputs(&mut rng, &site) & !site.known_inputs(), 0);
         }
+    }
+}
+
+#[test]
+fn retimed_personalities_differ_in_times_alone() {
+    let mut rng = Rng::new(SEED);
+    let mut seen: BTreeMap<&str, usize> = BTreeMap::new();
+    for plan in plans(2_000) {
+        let first = plan.bytes();
+        let second = retimed(&mut rng, &first);
+        assert_eq!(read(&second), Ok(()));
+        assert!(times_alone_differ(&first, &second));
+        let time = |bytes: &[u8], at: usize| u16::from_le_bytes([bytes[at], bytes[at + 1]]);
+        let fields = time_fields(&first);
+        let changed = fields
+            .iter()
+            .filter(|field| time(&first, field.0) != time(&second, field.0));
+        let mut count = |name, holds| *seen.entry(name).or_default() += usize::from(holds);
+        count("equal", first == second);
+        count("one time", changed.clone().count() == 1);
+        count("most times", 2 * changed.count() > fields.len());
+        let late = |from: u16, to: u16| {
+            let mut late = fields.iter().filter(|field| field.1 == Setting::LateStart);
+            late.any(|field| time(&first, field.0) == from && time(&second, field.0) == to)
+        };
+        count("a late start of 20 for none", late(0, 20));
+        let gone = |field: &(usize, Setting)| {
+            let late = field.1 == Setting::LateStart;
+            late && time(&first, field.0) > 0 && time(&second, field.0) == 0
+        };
+        count("a late start gone", fields.iter().any(gone));
+    }
+    for (name, count) in seen {
+        assert!(count >= 100, "{name}: {count}");
+    }
+}
+
+#[test]
+fn second_personalities_that_are_not_to_be_accepted() {
+    let mut rng = Rng::new(SEED);
+    let (mut one_byte, mut other_length, mut numbers) = (0, 0, BTreeSet::new());
+    // Other editions by their first kind: accepted, and refused for too short a time.
+    let mut editions: BTreeMap<(u8, u8), usize> = BTreeMap::new();
+    for plan in plans(1_000) {
+        let first = plan.bytes();
+        let second = changed_beyond_times(&mut rng, &first);
+        assert_eq!(read(&second), Ok(()));
+        assert!(!times_alone_differ(&first, &second));
+        if second.len() == first.len() {
+            let differing = first
+                .iter()
+                .zip(&second)
+                .filter(|(one, other)| one != other);
+            one_byte += usize::from(differing.count() == 1);
+        } else {
+            other_length += 1;
+        }
+        let refused = refused_second(&mut rng, &first);
+        let answer = number(packed::read(&refused));
+        numbers.insert(answer);
+        for (other, answer) in [(&second, 0), (&refused, answer)] {
+            let same_site = other.len() == first.len() && other[4..6] == first[4..6];
+            if same_site && other[2] != first[2] && [0, 5].contains(&answer) {
+                *editions.entry((other[2], answer)).or_default() += 1;
+            }
+        }
+    }
+    for pair in [(1, 0), (8, 0), (8, 5)] {
+        let found = editions.get(&pair).copied().unwrap_or(0);
+        assert!(found >= 20, "{pair:?}: {editions:?}");
+    }
+    assert!(
+        one_byte >= 100 && other_length >= 100,
+        "{one_byte}, {other_length}"
+    );
+    assert!(!numbers.contains(&0) && numbers.len() >= 12, "{numbers:?}");
+}
+
+#[test]
+fn valid_timed_states_are_valid_and_of_every_kind() {
+    let mut rng = Rng::new(SEED);
+    let mut seen: BTreeMap<&str, usize> = BTreeMap::new();
+    for plan in plans(300) {
+        let bytes = plan.bytes();
+        let site = Site::read(&bytes).unwrap();
+        let own = Times::of(&site);
+        for _ in 0..20 {
+            let timed = valid_timed_state(&mut rng, &bytes, &site);
+            assert!(valid_timed(&site, &timed), "{timed:?}");
+            assert_eq!(TimedState::from_bytes(&timed.to_bytes()), Some(timed));
+            let mut count = |name, holds| *seen.entry(name).or_default() += usize::from(holds);
+            count("own times", timed.ruling == own);
+            count("other times", timed.ruling != own);
+            count("none waiting", timed.waiting.is_none());
+            count("equal waiting", timed.waiting == Some(timed.ruling));
+            count("own waiting", timed.waiting == Some(own));
+            let others = timed.waiting.is_some_and(|waiting| waiting != timed.ruling);
+            count("others waiting", others);
+            let red = timed.state.interval == Interval::StartRed;
+            let counts = timed.state.gap_count > 0 && timed.state.maximum_count > 0;
+            let waits = timed.waiting.is_some();
+            count(
+                "counts in start red before a change",
+                red && counts && waits,
+            );
+            // By the personality's own times the state is not valid.
+            count(
+                "valid by the ruling times alone",
+                !valid(&site, &timed.state),
+            );
+        }
+    }
+    for (name, count) in seen {
+        assert!(count >= 100, "{name}: {count}");
+    }
+}
+
+#[test]
+fn wrong_times_of_a_state_are_those_of_edition_one_too() {
+    let mut rng = Rng::new(SEED);
+    for breakage in [TimesBreakage::RulingOutside, TimesBreakage::WaitingOutside] {
+        let mut found = 0;
+        for plan in plans(2_000).filter(|plan| plan.edition == Edition::Two) {
+            let bytes = plan.bytes();
+            let site = Site::read(&bytes).unwrap();
+            let broken = broken_times(&mut rng, &bytes, &site, breakage).unwrap();
+            let timed = TimedState::from_bytes(&broken).unwrap();
+            assert!(!valid_timed(&site, &timed));
+            let mut as_one = bytes.clone();
+            as_one[2] = 1;
+            found += usize::from(valid_timed(&Site::read(&as_one).unwrap(), &timed));
+        }
+        assert!(found >= 20, "{breakage:?}: {found}");
+    }
+}
+
+#[test]
+fn every_breakage_of_the_times_makes_a_state_invalid() {
+    let mut rng = Rng::new(SEED);
+    for breakage in TimesBreakage::ALL {
+        let mut found = 0;
+        for plan in plans(60) {
+            let bytes = plan.bytes();
+            let site = Site::read(&bytes).unwrap();
+            if let Some(broken) = broken_times(&mut rng, &bytes, &site, breakage) {
+                let timed = TimedState::from_bytes(&broken);
+                assert!(
+                    timed.is_none_or(|timed| !valid_timed(&site, &timed)),
+                    "{breakage:?}: {broken:?}"
+                );
+                found += 1;
+            }
+        }
+        assert!(found >= 10, "{breakage:?}: {found}");
     }
 }
 
@@ -460,7 +615,7 @@ fn every_twist_shows_in_a_step() {
             Twist::LengthBeside => &[1, 12],
             Twist::PastTheLast => &[25],
             Twist::FirstAnywhere => &[0, 25],
-            Twist::InvalidState | Twist::NoState => &[13],
+            Twist::InvalidState | Twist::InvalidTimes | Twist::NoState => &[13],
             Twist::Noise => &[2],
         };
         for number in expected {
@@ -484,6 +639,7 @@ fn calls_on_cabinets_reach_every_answer() {
                 CabinetCall::Place { .. } => "place",
                 CabinetCall::Step { .. } => "step",
                 CabinetCall::TakeOut { .. } => "take out",
+                CabinetCall::Retime { .. } => "retime",
             };
             *answers.entry((name, called(&records, &call))).or_default() += 1;
         }
@@ -500,6 +656,7 @@ fn calls_on_cabinets_reach_every_answer() {
     );
     reached("step", &[0, 1, 2, 3, 5, 9, 12, 13, 15, 21, 24, 25]);
     reached("take out", &[0, 2, 12, 24, 25]);
+    reached("retime", &[0, 1, 2, 3, 5, 6, 9, 12, 13, 26]);
 }
 
 #[test]
@@ -528,7 +685,7 @@ fn lists_of_calls_fill_and_empty_a_cabinet() {
 #[test]
 fn every_refusal_number_occurs_in_the_cases() {
     let tally = compare::run_cases(&Model, SEED, 0..2_000).unwrap();
-    for number in (0..=15).chain([17, 18, 21, 22, 24, 25]) {
+    for number in (0..=15).chain([17, 18, 21, 22, 24, 25, 26]) {
         assert!(tally.answers(number) >= 20, "{number}\n{tally}");
     }
     for kind in compare::Kind::all() {

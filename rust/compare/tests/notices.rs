@@ -2,7 +2,7 @@
 
 use compare::{run_case, run_cases, Difference, Failure, Kind};
 use model::packed::{number, Board, Model};
-use model::{layout, scan, section, MovementState, Site, Stage, State, STATE_LEN};
+use model::{layout, scan, section, MovementState, Site, Stage, TimedState, STATE_LEN};
 
 /// Spoils an answer, and the state and colours that go with it.
 type SpoilStep = fn(u64, &mut [u8], &mut [u8]) -> u64;
@@ -28,8 +28,8 @@ impl Board for Wrong {
         self.wait_bound.map_or(answer, |spoil| spoil(answer))
     }
 
-    fn fresh(&self, state: &mut [u8]) -> u64 {
-        let answer = Model.fresh(state);
+    fn fresh(&self, personality: &[u8], state: &mut [u8]) -> u64 {
+        let answer = Model.fresh(personality, state);
         self.fresh.map_or(answer, |spoil| spoil(answer, state))
     }
 
@@ -37,6 +37,10 @@ impl Board for Wrong {
         let answer = Model.step(personality, state, inputs, colours);
         self.step
             .map_or(answer, |spoil| spoil(answer, state, colours))
+    }
+
+    fn retime(&self, personality: &[u8], state: &mut [u8], new_personality: &[u8]) -> u64 {
+        Model.retime(personality, state, new_personality)
     }
 
     fn section(&self, personality: &[u8], kind: u16) -> u64 {
@@ -240,14 +244,14 @@ impl Board for ScansAnew {
         Model.wait_bound(personality)
     }
 
-    fn fresh(&self, state: &mut [u8]) -> u64 {
-        Model.fresh(state)
+    fn fresh(&self, personality: &[u8], state: &mut [u8]) -> u64 {
+        Model.fresh(personality, state)
     }
 
     fn step(&self, personality: &[u8], state: &mut [u8], inputs: u64, colours: &mut [u8]) -> u64 {
         let site = Site::read(personality);
-        if let (Ok(site), Some(mut handed)) = (site, State::from_bytes(state)) {
-            handed.demanded = scan(&site, &handed);
+        if let (Ok(site), Some(mut handed)) = (site, TimedState::from_bytes(state)) {
+            handed.state.demanded = scan(&site, &handed.state);
             let mut bytes = handed.to_bytes();
             let answer = Model.step(personality, &mut bytes, inputs, colours);
             if number(answer) == 0 {
@@ -256,6 +260,10 @@ impl Board for ScansAnew {
             return answer;
         }
         Model.step(personality, state, inputs, colours)
+    }
+
+    fn retime(&self, personality: &[u8], state: &mut [u8], new_personality: &[u8]) -> u64 {
+        Model.retime(personality, state, new_personality)
     }
 
     fn section(&self, personality: &[u8], kind: u16) -> u64 {
@@ -310,8 +318,8 @@ impl Board for GoesByLetters {
         Model.wait_bound(personality)
     }
 
-    fn fresh(&self, state: &mut [u8]) -> u64 {
-        Model.fresh(state)
+    fn fresh(&self, personality: &[u8], state: &mut [u8]) -> u64 {
+        Model.fresh(personality, state)
     }
 
     fn step(&self, personality: &[u8], state: &mut [u8], inputs: u64, colours: &mut [u8]) -> u64 {
@@ -321,6 +329,10 @@ impl Board for GoesByLetters {
             Err(_) => personality,
         };
         Model.step(unordered, state, inputs, colours)
+    }
+
+    fn retime(&self, personality: &[u8], state: &mut [u8], new_personality: &[u8]) -> u64 {
+        Model.retime(personality, state, new_personality)
     }
 
     fn section(&self, personality: &[u8], kind: u16) -> u64 {
@@ -378,12 +390,16 @@ impl Board for OtherEditions {
         Model.wait_bound(personality)
     }
 
-    fn fresh(&self, state: &mut [u8]) -> u64 {
-        Model.fresh(state)
+    fn fresh(&self, personality: &[u8], state: &mut [u8]) -> u64 {
+        Model.fresh(personality, state)
     }
 
     fn step(&self, personality: &[u8], state: &mut [u8], inputs: u64, colours: &mut [u8]) -> u64 {
         Model.step(personality, state, inputs, colours)
+    }
+
+    fn retime(&self, personality: &[u8], state: &mut [u8], new_personality: &[u8]) -> u64 {
+        Model.retime(personality, state, new_personality)
     }
 
     fn section(&self, personality: &[u8], kind: u16) -> u64 {
@@ -520,8 +536,8 @@ fn a_walk_that_does_not_rest() {
     let board = Wrong {
         step: Some(|answer, state, _| {
             if number(answer) == 0 {
-                let mut next = State::from_bytes(state).unwrap();
-                let walks = next.movements.iter_mut();
+                let mut next = TimedState::from_bytes(state).unwrap();
+                let walks = next.state.movements.iter_mut();
                 // No walk of a fixed time lasts longer.
                 let too_long = walks.filter(|m| m.stage == Stage::Walk && m.age > 400);
                 too_long.for_each(|m| *m = MovementState::begin(Stage::ClearanceOne));

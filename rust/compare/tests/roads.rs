@@ -3,7 +3,7 @@
 
 use compare::{run_cases, Difference};
 use model::packed::{Board, Model};
-use model::{fresh, step_on, valid, Mark, Site, State, STATE_LEN};
+use model::{fresh, step_on, valid, Mark, Site, TimedState, STATE_LEN};
 
 /// The points in which a plain road may go wrong.
 #[derive(Clone, Copy, Debug, PartialEq, Eq)]
@@ -178,7 +178,8 @@ impl PlainRoad {
         let mut state = fresh();
         let mut colours = [0; 32];
         if self.has(Fault::GoesOnFromTheStateHanded) {
-            let handed = State::from_bytes(handed).filter(|handed| valid(&site, handed));
+            let handed = TimedState::from_bytes(handed).map(|handed| handed.state);
+            let handed = handed.filter(|handed| valid(&site, handed));
             state = handed.unwrap_or(state);
         }
         let streams: Vec<&[u8]> = streams.chunks_exact(4).collect();
@@ -257,7 +258,8 @@ impl PlainRoad {
             true => [gone[index], queued[index]],
             false => [queued[index], gone[index]],
         };
-        (state.to_bytes(), (0..count).map(result).collect())
+        let last = TimedState::by_own_times(&site, state);
+        (last.to_bytes(), (0..count).map(result).collect())
     }
 }
 
@@ -270,12 +272,16 @@ impl Board for PlainRoad {
         Model.wait_bound(personality)
     }
 
-    fn fresh(&self, state: &mut [u8]) -> u64 {
-        Model.fresh(state)
+    fn fresh(&self, personality: &[u8], state: &mut [u8]) -> u64 {
+        Model.fresh(personality, state)
     }
 
     fn step(&self, personality: &[u8], state: &mut [u8], inputs: u64, colours: &mut [u8]) -> u64 {
         Model.step(personality, state, inputs, colours)
+    }
+
+    fn retime(&self, personality: &[u8], state: &mut [u8], new_personality: &[u8]) -> u64 {
+        Model.retime(personality, state, new_personality)
     }
 
     fn section(&self, personality: &[u8], kind: u16) -> u64 {
@@ -293,7 +299,7 @@ impl Board for PlainRoad {
         let answer = self.verdict(personality, streams, steps, state.len(), results.len());
         if answer != 0 {
             if self.has(Fault::WritesWhenRefused) && answer == 14 {
-                Model.fresh(state);
+                Model.fresh(personality, state);
             }
             return answer;
         }
@@ -333,7 +339,7 @@ const SEED: u64 = 8;
 
 #[test]
 fn a_plain_road_agrees() {
-    if let Err(failure) = run_cases(&PlainRoad(Fault::None), SEED, 0..3_000) {
+    if let Err(failure) = run_cases(&PlainRoad(Fault::None), SEED, 0..5_000) {
         panic!("{failure}");
     }
 }
@@ -341,7 +347,7 @@ fn a_plain_road_agrees() {
 #[test]
 fn wrong_roads_are_noticed() {
     for fault in FAULTS {
-        match run_cases(&PlainRoad(fault), SEED, 0..3_000) {
+        match run_cases(&PlainRoad(fault), SEED, 0..5_000) {
             Ok(_) => panic!("{fault:?} is not noticed"),
             Err(failure) => match failure.difference {
                 Difference::Call { what, .. } => {

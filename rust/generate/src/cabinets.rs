@@ -3,10 +3,12 @@
 use crate::damage::{scrambled, twice_damaged};
 use crate::inputs::{any_inputs, known_inputs};
 use crate::plan::Plan;
+use crate::retimes::any_second;
 use crate::rng::Rng;
-use crate::states::{broken_state_bytes, invalid_state, valid_state, Breakage};
+use crate::states::{broken_state_bytes, Breakage};
+use crate::timed::{broken_times, invalid_timed_state, valid_timed_state, TimesBreakage};
 use model::packed::Board;
-use model::{fresh, Record, Site, OUTPUTS, RECORDS, ROOM, STATE_LEN};
+use model::{parts_in, Number, Record, Site, TimedState, OUTPUTS, RECORDS, ROOM, STATE_LEN};
 
 /// A call on a cabinet.
 #[derive(Clone, Debug, PartialEq, Eq)]
@@ -22,6 +24,12 @@ pub enum CabinetCall {
     },
     TakeOut {
         record: usize,
+    },
+    /// A retiming of the site of a record: the call of a site alone, on the
+    /// personality and the state where they lie in the row.
+    Retime {
+        record: usize,
+        new_personality: Vec<u8>,
     },
 }
 
@@ -46,6 +54,8 @@ pub enum Twist {
     FirstAnywhere,
     /// A state that is not valid.
     InvalidState,
+    /// A state whose times do not fit the site.
+    InvalidTimes,
     /// Bytes that are no state.
     NoState,
     /// Any bytes at all.
@@ -53,7 +63,7 @@ pub enum Twist {
 }
 
 impl Twist {
-    pub const ALL: [Twist; 11] = [
+    pub const ALL: [Twist; 12] = [
         Twist::Freed,
         Twist::HeldByAny,
         Twist::Refused,
@@ -63,6 +73,7 @@ impl Twist {
         Twist::PastTheLast,
         Twist::FirstAnywhere,
         Twist::InvalidState,
+        Twist::InvalidTimes,
         Twist::NoState,
         Twist::Noise,
     ];
@@ -90,7 +101,7 @@ pub fn held_record(rng: &mut Rng) -> Record {
     let mut record = Record {
         held: 1,
         first: rng.pick(&[0, free, anywhere, anywhere]) as u8,
-        state: valid_state(rng, &site).to_bytes(),
+        state: valid_timed_state(rng, &personality, &site).to_bytes(),
         ..Record::FREE
     };
     hold(&mut record, &personality);
@@ -123,9 +134,11 @@ pub fn twist(rng: &mut Rng, record: &mut Record, twist: Twist) -> Option<()> {
         }
         Twist::LengthAbove => {
             if rng.percent(50) {
-                hold(record, &Plan::largest().bytes());
+                let personality = Plan::largest().bytes();
+                let site = Site::read(&personality).expect("an accepted plan");
+                hold(record, &personality);
                 record.first = rng.pick(&[0, 0, 1]);
-                record.state = fresh().to_bytes();
+                record.state = TimedState::fresh(&site).to_bytes();
             }
             let far = rng.range(ROOM + 1, usize::from(u16::MAX)) as u16;
             let wrapped = record.length.saturating_add(1 << 9);
@@ -151,7 +164,14 @@ pub fn twist(rng: &mut Rng, record: &mut Record, twist: Twist) -> Option<()> {
         Twist::InvalidState => {
             let site = site_of(record)?;
             let breakage = rng.pick(&Breakage::ALL);
-            record.state = invalid_state(rng, &site, breakage)?.to_bytes();
+            let invalid = invalid_timed_state(rng, record.personality(), &site, breakage)?;
+            record.state = invalid.to_bytes();
+        }
+        Twist::InvalidTimes => {
+            let site = site_of(record)?;
+            let breakage = rng.pick(&TimesBreakage::ALL);
+            let broken = broken_times(rng, record.personality(), &site, breakage)?;
+            record.state.copy_from_slice(&broken);
         }
         Twist::NoState => {
             let broken = match site_of(record) {
@@ -193,20 +213,26 @@ impl CabinetCall {
         match *self {
             CabinetCall::Place { record, .. }
             | CabinetCall::Step { record, .. }
-            | CabinetCall::TakeOut { record } => record,
+            | CabinetCall::TakeOut { record }
+            | CabinetCall::Retime { record, .. } => record,
         }
     }
 
-    /// The personality of a placing; other calls have none.
+    /// The personality of a placing, the new one of a retiming; other calls have
+    /// none.
     pub fn personality(&self) -> &[u8] {
         match self {
             CabinetCall::Place { personality, .. } => personality,
+            CabinetCall::Retime {
+                new_personality, ..
+            } => new_personality,
             _ => &[],
         }
     }
 
     /// Makes the call on a board. The personality is that of the call, where it
-    /// lies in memory.
+    /// lies in memory. A retiming of a record that the row does not have is no call;
+    /// 24 stands for it.
     pub fn make(
         &self,
         board: &dyn Board,
@@ -222,11 +248,24 @@ impl CabinetCall {
                 board.cabinet_step(row, record, inputs, outputs)
             }
             CabinetCall::TakeOut { record } => board.cabinet_take_out(row, record, outputs),
+            CabinetCall::Retime { record, .. } => match parts_in(row, record) {
+                Some((own, state)) => board.retime(own, state, personality),
+                None => Number::WrongRecord as u64,
+            },
         }
     }
 
-    /// A call that most often finds what it is about in the row.
-    pub fn random(rng: &mut Rng, records: &[Record]) -> CabinetCall {
+    /// A call that most often finds what it is about in the row, a retiming among
+    /// others.
+    pub fn random(rng: &mut Rng, records: &[Record; RECORDS]) -> CabinetCall {
+        match rng.percent(15) {
+            true => CabinetCall::random_retiming(rng, records),
+            false => CabinetCall::random_of_cabinet(rng, records),
+        }
+    }
+
+    /// The same without retimings.
+    pub fn random_of_cabinet(rng: &mut Rng, records: &[Record; RECORDS]) -> CabinetCall {
         match rng.below(20) {
             0..=4 => CabinetCall::random_place(rng, records),
             5..=17 => {
@@ -241,6 +280,21 @@ impl CabinetCall {
             _ => CabinetCall::TakeOut {
                 record: random_record(rng, records, |record| !record.is_free()),
             },
+        }
+    }
+
+    /// A retiming of a record, most often of one that holds a site. Some are refused.
+    fn random_retiming(rng: &mut Rng, records: &[Record; RECORDS]) -> CabinetCall {
+        let record = random_record(rng, records, |record| site_of(record).is_some());
+        // A record that the cabinet lacks has nothing to retime.
+        let record = record.min(RECORDS - 1);
+        let own = match site_of(&records[record]) {
+            Some(_) => records[record].personality().to_vec(),
+            None => any_site(rng),
+        };
+        CabinetCall::Retime {
+            record,
+            new_personality: any_second(rng, &own),
         }
     }
 

@@ -58,11 +58,15 @@ pub fn scrambled(rng: &mut Rng) -> Vec<u8> {
 /// times were chosen for. If that is edition two, some times may be too short.
 pub fn other_edition(rng: &mut Rng) -> Vec<u8> {
     let mut plan = Plan::random(rng);
-    plan.edition = match plan.edition {
+    plan.edition = other_than(plan.edition);
+    plan.bytes()
+}
+
+pub(crate) fn other_than(edition: Edition) -> Edition {
+    match edition {
         Edition::One => Edition::Two,
         Edition::Two => Edition::One,
-    };
-    plan.bytes()
+    }
 }
 
 /// Damages a plan or its bytes; none where the plan has nothing to damage so.
@@ -259,7 +263,7 @@ fn change_count(rng: &mut Rng, bytes: &mut [u8]) {
 
 /// A time just outside its limits, or far outside. If the other edition allows
 /// less, half of those below are within its limits.
-fn wrong_time(rng: &mut Rng, setting: Setting, edition: Edition) -> u16 {
+pub(crate) fn wrong_time(rng: &mut Rng, setting: Setting, edition: Edition) -> u16 {
     let limits = setting.limits(edition);
     let above = [limits.high + 1, limits.high | 0x8000, u16::MAX];
     if limits.low == 0 || rng.percent(50) {

@@ -1,5 +1,6 @@
-//! Random personalities of every shape, damaged ones, states, inputs, the streams
-//! of a road and the records of a cabinet. All of it is decided by a seed.
+//! Random personalities of every shape, damaged ones, second ones with other times,
+//! states, inputs, the streams of a road and the records of a cabinet. All of it is
+//! decided by a seed.
 
 #![forbid(unsafe_code)]
 
@@ -7,14 +8,18 @@ mod cabinets;
 mod damage;
 mod inputs;
 mod plan;
+mod retimes;
 mod rng;
 mod states;
 mod streams;
+mod timed;
 
 pub use cabinets::{any_records, held_record, twist, CabinetCall, Twist};
 pub use damage::{damaged, other_edition, scrambled, twice_damaged, AIMED};
 pub use inputs::{any_inputs, known_inputs, unknown_inputs};
 pub use plan::{Pace, Plan, Shape, MODES};
+pub use retimes::{any_second, changed_beyond_times, refused_second, retimed, time_fields};
 pub use rng::Rng;
 pub use states::{broken_state_bytes, invalid_state, valid_state, Breakage};
 pub use streams::{RoadDamage, RoadPlan};
+pub use timed::{broken_times, invalid_timed_state, valid_timed_state, TimesBreakage};

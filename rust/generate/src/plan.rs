@@ -74,6 +74,10 @@ impl Shape {
             pace: rng.pick(&[Pace::Short, Pace::Short, Pace::Edges, Pace::Anywhere]),
         }
     }
+
+    fn time(&self, rng: &mut Rng, setting: Setting) -> u16 {
+        random_time(rng, setting, self.edition, self.pace)
+    }
 }
 
 /// A size: often the lowest or the highest.
@@ -240,7 +244,7 @@ impl Plan {
             .collect();
         let mut plan = Plan {
             edition: shape.edition,
-            start_red: random_time(rng, Setting::StartRed, &shape),
+            start_red: shape.time(rng, Setting::StartRed),
             phases: (0..shape.phases)
                 .map(|_| random_phase(rng, &shape))
                 .collect(),
@@ -314,10 +318,10 @@ fn times(times: &[u16]) -> Vec<u8> {
 }
 
 /// A time within its limits. The edges are those of both editions.
-fn random_time(rng: &mut Rng, setting: Setting, shape: &Shape) -> u16 {
-    let Limits { low, high } = setting.limits(shape.edition);
+pub(crate) fn random_time(rng: &mut Rng, setting: Setting, edition: Edition, pace: Pace) -> u16 {
+    let Limits { low, high } = setting.limits(edition);
     let raised = setting.limits(Edition::Two).low;
-    match shape.pace {
+    match pace {
         Pace::Short => rng.time(low, high.min(low + 12)),
         Pace::Edges => {
             let below = raised.saturating_sub(1).max(low);
@@ -332,7 +336,7 @@ fn random_times<const FIELDS: usize>(
     settings: [Setting; FIELDS],
     shape: &Shape,
 ) -> [u16; FIELDS] {
-    settings.map(|setting| random_time(rng, setting, shape))
+    settings.map(|setting| shape.time(rng, setting))
 }
 
 /// The times of a phase; half of the phases have no late start.
@@ -352,7 +356,7 @@ fn random_early_cut_offs(rng: &mut Rng, shape: &Shape) -> Vec<u16> {
         .map(|_| match rng.below(4) {
             0 => 0,
             1 => rng.time(yellow.low - 1, yellow.low + 13),
-            _ => random_time(rng, Setting::EarlyCutOff, shape),
+            _ => shape.time(rng, Setting::EarlyCutOff),
         })
         .collect()
 }

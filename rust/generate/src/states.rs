@@ -4,7 +4,8 @@
 use crate::rng::Rng;
 use model::layout;
 use model::{
-    fresh, scan, Interval, MovementState, Site, Stage, State, MAX_AGE, MAX_MOVEMENTS, MAX_PHASES,
+    fresh, scan, Interval, MovementState, Site, Stage, State, TimedState, MAX_AGE, MAX_MOVEMENTS,
+    MAX_PHASES,
 };
 
 /// A random valid state, reachable or not.
@@ -256,9 +257,11 @@ fn break_movement(rng: &mut Rng, site: &Site, state: &mut State, breakage: Break
     Some(())
 }
 
-/// The bytes of a valid state, one of them changed so that they are no state.
+/// The bytes of a valid state, one of the plain ones changed so that they are no
+/// state.
 pub fn broken_state_bytes(rng: &mut Rng, site: &Site) -> Vec<u8> {
-    let mut bytes = valid_state(rng, site).to_bytes().to_vec();
+    let state = TimedState::by_own_times(site, valid_state(rng, site));
+    let mut bytes = state.to_bytes().to_vec();
     if rng.percent(10) {
         // A phase where there is none.
         let at = rng.pick(&[layout::CAME_FROM, layout::TARGET]);

@@ -6,8 +6,7 @@ use crate::colours::Colour;
 use crate::record::{Record, ROOM};
 use crate::refusal::{Number, Refusal, Verdict};
 use crate::site::Site;
-use crate::state::{fresh, State};
-use crate::step::step_on;
+use crate::timed::{step_timed_on, TimedState};
 use core::ops::Range;
 
 /// The outputs of a cabinet.
@@ -35,12 +34,12 @@ pub fn place(
         return Err(Refusal::without_place(Number::WrongOutputs));
     }
     whole(outputs)?[own].fill(Colour::Red as u8);
-    records[record] = begun(personality, first);
+    records[record] = begun(&site, personality, first);
     Ok(())
 }
 
 /// Steps the site of a record as if it were alone: its outputs are its colours.
-/// Answers the wait bound.
+/// Answers the wait bound of the times that rule after it.
 pub fn step_held(
     records: &mut [Record],
     record: usize,
@@ -50,13 +49,13 @@ pub fn step_held(
     let held = held_record(records, record)?;
     let site = Site::read(held.personality())?;
     let own = outputs_of(&site, held.first.into())?;
-    let Some(state) = State::from_bytes(&held.state) else {
+    let Some(before) = TimedState::from_bytes(&held.state) else {
         return Err(Refusal::without_place(Number::InvalidState));
     };
     // A short buffer has none of the outputs, and is refused in its turn.
     let colours = whole(outputs).map_or(&mut [][..], |all| &mut all[own]);
-    let next = step_on(&site, &state, inputs, colours)?;
-    let bound = site.wait_bound();
+    let next = step_timed_on(&site, &before, inputs, colours)?;
+    let bound = next.wait_bound(&site);
     held.state = next.to_bytes();
     Ok(bound)
 }
@@ -82,7 +81,7 @@ fn held_record(records: &mut [Record], record: usize) -> Result<&mut Record, Ref
 
 /// The record of a site just placed. An accepted personality is not longer than
 /// the room, and a first output is below their number.
-fn begun(personality: &[u8], first: usize) -> Record {
+fn begun(site: &Site, personality: &[u8], first: usize) -> Record {
     let mut room = [0; ROOM];
     room[..personality.len()].copy_from_slice(personality);
     Record {
@@ -90,7 +89,7 @@ fn begun(personality: &[u8], first: usize) -> Record {
         first: first as u8,
         length: personality.len() as u16,
         room,
-        state: fresh().to_bytes(),
+        state: TimedState::fresh(site).to_bytes(),
     }
 }
 

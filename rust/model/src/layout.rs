@@ -1,7 +1,10 @@
-//! The state as bytes. This file alone knows where each field lies and which
-//! code an interval and a stage have.
+//! The state as bytes: the plain state, then the times that rule and those that
+//! wait. This file alone knows where each field lies and which code an interval and
+//! a stage have.
 
 use crate::state::{Interval, MovementState, Stage, State};
+use crate::timed::TimedState;
+use crate::times::{Times, TIMES_LEN};
 use crate::MAX_MOVEMENTS;
 
 /// Where each field begins.
@@ -21,8 +24,17 @@ pub const MOVEMENT_LEN: usize = 3;
 /// A set of phases.
 pub const DEMANDED: usize = MOVEMENTS + MOVEMENT_LEN * MAX_MOVEMENTS;
 
+/// The length of a plain state in bytes.
+pub const PLAIN_LEN: usize = DEMANDED + 1;
+
+/// The times that rule, a flag (1 where times wait, else 0), and the times that
+/// wait; without any, zeros.
+pub const RULING: usize = PLAIN_LEN;
+pub const FLAG: usize = RULING + TIMES_LEN;
+pub const WAITING: usize = FLAG + 1;
+
 /// The length of a state in bytes.
-pub const STATE_LEN: usize = DEMANDED + 1;
+pub const STATE_LEN: usize = WAITING + TIMES_LEN;
 
 /// The intervals and stages, each at the place of its code.
 const INTERVALS: [Interval; 7] = [
@@ -65,10 +77,10 @@ fn stage_code(stage: Stage) -> u8 {
 }
 
 impl State {
-    /// The state in its bytes, or none where they are no state.
+    /// The plain state in its bytes, or none where they are no state.
     #[inline]
     pub fn from_bytes(bytes: &[u8]) -> Option<State> {
-        let bytes: &[u8; STATE_LEN] = bytes.try_into().ok()?;
+        let bytes: &[u8; PLAIN_LEN] = bytes.try_into().ok()?;
         let number = |at: usize| u16::from_le_bytes([bytes[at], bytes[at + 1]]);
         let optional = |at: usize| optional_phase(bytes[at], bytes[at + 1]);
         let mut movements = [MovementState::IDLE; MAX_MOVEMENTS];
@@ -92,10 +104,10 @@ impl State {
         })
     }
 
-    /// The bytes of the state.
+    /// The bytes of the plain state.
     #[inline]
-    pub fn to_bytes(&self) -> [u8; STATE_LEN] {
-        let mut bytes = [0; STATE_LEN];
+    pub fn to_bytes(&self) -> [u8; PLAIN_LEN] {
+        let mut bytes = [0; PLAIN_LEN];
         bytes[PHASE] = self.phase;
         bytes[INTERVAL] = interval_code(self.interval);
         let mut put = |at: usize, two: [u8; 2]| bytes[at..at + 2].copy_from_slice(&two);
@@ -111,6 +123,40 @@ impl State {
             let at = MOVEMENTS + MOVEMENT_LEN * index;
             let [low, high] = movement.age.to_le_bytes();
             bytes[at..at + MOVEMENT_LEN].copy_from_slice(&[stage_code(movement.stage), low, high]);
+        }
+        bytes
+    }
+}
+
+impl TimedState {
+    /// The state in its bytes, or none where they are no state.
+    #[inline]
+    pub fn from_bytes(bytes: &[u8]) -> Option<TimedState> {
+        let bytes: &[u8; STATE_LEN] = bytes.try_into().ok()?;
+        let (plain, times) = bytes.split_at(PLAIN_LEN);
+        let (ruling, times) = times.split_first_chunk()?;
+        let (&flag, waiting) = times.split_first()?;
+        let waiting = Times::from_bytes(waiting.try_into().ok()?);
+        Some(TimedState {
+            state: State::from_bytes(plain)?,
+            ruling: Times::from_bytes(ruling),
+            waiting: match flag {
+                0 if waiting == Times::NONE => None,
+                1 => Some(waiting),
+                _ => return None,
+            },
+        })
+    }
+
+    /// The bytes of the state.
+    #[inline]
+    pub fn to_bytes(&self) -> [u8; STATE_LEN] {
+        let mut bytes = [0; STATE_LEN];
+        bytes[..PLAIN_LEN].copy_from_slice(&self.state.to_bytes());
+        bytes[RULING..FLAG].copy_from_slice(&self.ruling.to_bytes());
+        if let Some(waiting) = &self.waiting {
+            bytes[FLAG] = 1;
+            bytes[WAITING..].copy_from_slice(&waiting.to_bytes());
         }
         bytes
     }
@@ -149,7 +195,7 @@ mod tests {
 
     #[test]
     fn the_fresh_state_has_the_bytes_of_the_data_sheet() {
-        let mut bytes = [0; STATE_LEN];
+        let mut bytes = [0; PLAIN_LEN];
         bytes[2] = 1;
         for movement in 0..MAX_MOVEMENTS {
             bytes[MOVEMENTS + 3 * movement + 1] = 1;
@@ -196,7 +242,7 @@ mod tests {
             bytes[MOVEMENTS + 3 * movement] = 4;
             assert_eq!(State::from_bytes(&bytes), None, "movement {movement}");
         }
-        assert_eq!(State::from_bytes(&good[..STATE_LEN - 1]), None);
+        assert_eq!(State::from_bytes(&good[..PLAIN_LEN - 1]), None);
         let longer = [good.as_slice(), &[0]].concat();
         assert_eq!(State::from_bytes(&longer), None);
     }

@@ -3,9 +3,12 @@
 //!
 //! One step is 0.1 s and every time is counted in steps. The model reads a
 //! personality, steps the controller, gives the colours of the signal groups,
-//! the wait bound and the sections of a personality, runs a simulated road, and
-//! keeps four sites in one cabinet. It needs no heap and nothing of the standard
-//! library but its core.
+//! the wait bound and the sections of a personality, takes new times while it runs,
+//! runs a simulated road, and keeps four sites in one cabinet. It needs no heap and
+//! nothing of the standard library but its core.
+//!
+//! A [`State`] is what the rules of a step are about. A [`TimedState`] has the times
+//! in it too, those that rule and those that wait: it is what a call hands back.
 //!
 //! [`packed`] holds the same functions in the shape of the board library: states
 //! as bytes, by [`layout`], and answers as one number.
@@ -26,25 +29,31 @@ pub mod packed;
 mod reader;
 mod record;
 mod refusal;
+mod retime;
 mod road;
 mod site;
 mod state;
 mod step;
+mod timed;
+mod times;
 mod valid;
 mod wait;
 
 pub use cabinet::{place, step_held, take_out, OUTPUTS};
 pub use colours::Colour;
-pub use layout::STATE_LEN;
+pub use layout::{PLAIN_LEN, STATE_LEN};
 pub use limits::{Edition, Limits, Setting};
 pub use lookup::{section, Part};
 pub use reader::read;
-pub use record::{records_of, row_of, Record, RECORDS, RECORD_LEN, ROOM, ROW_LEN};
+pub use record::{parts_in, records_of, row_of, Record, RECORDS, RECORD_LEN, ROOM, ROW_LEN};
 pub use refusal::{Number, Refusal, Verdict};
+pub use retime::{retime, retime_on, times_alone_differ};
 pub use road::{Road, Stream, Vehicles, MAX_RATE, MAX_STEPS, MAX_STREAMS, RESULT_LEN, STREAM_LEN};
 pub use site::{Detector, Group, Mark, Movement, PhaseTimes, Site};
 pub use state::{fresh, Interval, MovementState, Stage, State, MAX_AGE};
 pub use step::{scan, step, step_on, Answer};
+pub use timed::{step_timed, step_timed_on, valid_timed, TimedAnswer, TimedState};
+pub use times::{Times, TIMES_LEN};
 pub use valid::valid;
 pub use wait::wait_bound;
 

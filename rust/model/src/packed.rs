@@ -8,16 +8,16 @@ use crate::record::{records_of, row_of, Record};
 use crate::refusal::{Number, Refusal};
 use crate::road::{Road, RESULT_LEN};
 use crate::site::Site;
-use crate::state::State;
-use crate::step::step_on;
+use crate::timed::{step_timed_on, TimedState};
 use crate::STATE_LEN;
 
 /// A board: the calls of the library, over buffers of any content and length.
 pub trait Board {
     fn read(&self, personality: &[u8]) -> u64;
     fn wait_bound(&self, personality: &[u8]) -> u64;
-    fn fresh(&self, state: &mut [u8]) -> u64;
+    fn fresh(&self, personality: &[u8], state: &mut [u8]) -> u64;
     fn step(&self, personality: &[u8], state: &mut [u8], inputs: u64, colours: &mut [u8]) -> u64;
+    fn retime(&self, personality: &[u8], state: &mut [u8], new_personality: &[u8]) -> u64;
     fn section(&self, personality: &[u8], kind: u16) -> u64;
     fn road(
         &self,
@@ -52,12 +52,16 @@ impl Board for Model {
         wait_bound(personality)
     }
 
-    fn fresh(&self, state: &mut [u8]) -> u64 {
-        fresh(state)
+    fn fresh(&self, personality: &[u8], state: &mut [u8]) -> u64 {
+        fresh(personality, state)
     }
 
     fn step(&self, personality: &[u8], state: &mut [u8], inputs: u64, colours: &mut [u8]) -> u64 {
         step(personality, state, inputs, colours)
+    }
+
+    fn retime(&self, personality: &[u8], state: &mut [u8], new_personality: &[u8]) -> u64 {
+        retime(personality, state, new_personality)
     }
 
     fn section(&self, personality: &[u8], kind: u16) -> u64 {
@@ -116,26 +120,49 @@ pub fn wait_bound(personality: &[u8]) -> u64 {
 }
 
 /// Writes the fresh state: 13 where the buffer is not as long as a state.
-pub fn fresh(state: &mut [u8]) -> u64 {
-    let bytes = crate::fresh().to_bytes();
-    if state.len() != bytes.len() {
+pub fn fresh(personality: &[u8], state: &mut [u8]) -> u64 {
+    let site = match Site::read(personality) {
+        Ok(site) => site,
+        Err(refusal) => return refuse(refusal),
+    };
+    if state.len() != STATE_LEN {
         return Number::InvalidState as u64;
     }
-    state.copy_from_slice(&bytes);
+    state.copy_from_slice(&TimedState::fresh(&site).to_bytes());
     0
 }
 
 /// A full step call.
 pub fn step(personality: &[u8], state: &mut [u8], inputs: u64, colours: &mut [u8]) -> u64 {
-    let stepped = Site::read(personality).and_then(|site| {
-        let before = State::from_bytes(state).ok_or(NO_STATE)?;
-        let next = step_on(&site, &before, inputs, colours)?;
-        Ok((next, site.wait_bound()))
-    });
-    match stepped {
-        Ok((next, bound)) => {
+    let site = match Site::read(personality) {
+        Ok(site) => site,
+        Err(refusal) => return refuse(refusal),
+    };
+    let Some(before) = TimedState::from_bytes(state) else {
+        return Number::InvalidState as u64;
+    };
+    match step_timed_on(&site, &before, inputs, colours) {
+        Ok(next) => {
             state.copy_from_slice(&next.to_bytes());
-            accept(bound)
+            accept(next.wait_bound(&site))
+        }
+        Err(refusal) => refuse(refusal),
+    }
+}
+
+/// A full retiming call: the new times wait in the state.
+pub fn retime(personality: &[u8], state: &mut [u8], new_personality: &[u8]) -> u64 {
+    let site = match Site::read(personality) {
+        Ok(site) => site,
+        Err(refusal) => return refuse(refusal),
+    };
+    let Some(before) = TimedState::from_bytes(state) else {
+        return Number::InvalidState as u64;
+    };
+    match crate::retime_on(&site, personality, &before, new_personality) {
+        Ok(next) => {
+            state.copy_from_slice(&next.to_bytes());
+            0
         }
         Err(refusal) => refuse(refusal),
     }
@@ -158,9 +185,10 @@ pub fn road(
     state: &mut [u8],
     results: &mut [u8],
 ) -> u64 {
-    let opened = Site::read(personality).and_then(|site| Road::new(site, streams, steps));
-    let mut road = match opened {
-        Ok(road) => road,
+    let opened = Site::read(personality)
+        .and_then(|site| Road::new(site, streams, steps).map(|road| (site, road)));
+    let (site, mut road) = match opened {
+        Ok(opened) => opened,
         Err(refusal) => return refuse(refusal),
     };
     if state.len() != STATE_LEN {
@@ -171,7 +199,7 @@ pub fn road(
         return Number::ShortBuffer as u64;
     };
     road.run();
-    state.copy_from_slice(&road.state().to_bytes());
+    state.copy_from_slice(&TimedState::by_own_times(&site, *road.state()).to_bytes());
     for (slot, vehicles) in slots.iter_mut().zip(road.vehicles()) {
         *slot = vehicles.to_bytes();
     }
@@ -218,11 +246,6 @@ fn on_records(row: &mut [u8], call: impl FnOnce(&mut [Record]) -> Result<u32, Re
         Err(refusal) => refuse(refusal),
     }
 }
-
-const NO_STATE: Refusal = Refusal {
-    number: Number::InvalidState,
-    place: 0,
-};
 
 fn accept(bound: u32) -> u64 {
     u64::from(bound) << 8

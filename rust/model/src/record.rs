@@ -91,6 +91,17 @@ pub fn records_of(row: &[u8]) -> Option<[Record; RECORDS]> {
     Some(records)
 }
 
+/// The personality and the state of a record, where they lie in a row: what a call on
+/// its site alone takes. None if the row has no such record.
+pub fn parts_in(row: &mut [u8], record: usize) -> Option<(&[u8], &mut [u8])> {
+    let row: &mut [u8; ROW_LEN] = row.try_into().ok()?;
+    let bytes: &mut [u8; RECORD_LEN] = row.as_chunks_mut().0.get_mut(record)?;
+    let (head, state) = bytes.split_at_mut(STATE);
+    let length = u16::from_le_bytes([head[LENGTH], head[LENGTH + 1]]);
+    let room = &head[PERSONALITY..];
+    Some((&room[..usize::from(length).min(ROOM)], state))
+}
+
 /// The row of these records.
 pub fn row_of(records: &[Record; RECORDS]) -> [u8; ROW_LEN] {
     let mut row = [0; ROW_LEN];
@@ -114,10 +125,10 @@ mod tests {
             state: [6; STATE_LEN],
         };
         let bytes = record.to_bytes();
-        assert_eq!(bytes.len(), 520);
+        assert_eq!(bytes.len(), 817);
         assert_eq!(bytes[..4], [1, 2, 4, 3]);
         assert_eq!(bytes[4..481], [5; 477]);
-        assert_eq!(bytes[481..], [6; 39]);
+        assert_eq!(bytes[481..], [6; 336]);
         assert_eq!(Record::from_bytes(&bytes), record);
     }
 
@@ -136,7 +147,7 @@ mod tests {
     fn a_row_is_four_whole_records() {
         let bytes = [0; ROW_LEN + RECORD_LEN];
         for length in 0..bytes.len() {
-            let whole = length == 2_080;
+            let whole = length == 3_268;
             assert_eq!(records_of(&bytes[..length]).is_some(), whole, "{length}");
         }
     }
@@ -149,6 +160,29 @@ mod tests {
                 ..Record::FREE
             };
             assert_eq!(record.personality().len(), counts, "{length}");
+            let mut row = row_of(&[record; RECORDS]);
+            let (personality, _) = parts_in(&mut row, 3).unwrap();
+            assert_eq!(personality.len(), counts, "{length}");
         }
+    }
+
+    #[test]
+    fn the_parts_of_a_record_lie_in_the_row() {
+        let mut row = [0; ROW_LEN];
+        for (at, byte) in row.iter_mut().enumerate() {
+            *byte = (at * at / 7) as u8;
+        }
+        for record in 0..RECORDS {
+            let mut changed = records_of(&row).unwrap();
+            let (personality, state) = parts_in(&mut row, record).unwrap();
+            assert_eq!(personality, changed[record].personality());
+            assert_eq!(state, changed[record].state);
+            state.fill(record as u8);
+            changed[record].state = [record as u8; STATE_LEN];
+            assert_eq!(records_of(&row), Some(changed));
+        }
+        assert_eq!(parts_in(&mut row, RECORDS), None);
+        assert_eq!(parts_in(&mut row, usize::MAX), None);
+        assert_eq!(parts_in(&mut row[1..], 0), None);
     }
 }

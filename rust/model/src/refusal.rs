@@ -50,6 +50,8 @@ pub enum Number {
     WrongRecord = 24,
     /// Outputs past the last, or, in placing, outputs of another record.
     WrongOutputs = 25,
+    /// A second personality that differs in more than time settings.
+    NotTimesAlone = 26,
 }
 
 /// A refusal: its number, and the byte of the personality it is about (0 where

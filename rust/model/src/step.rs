@@ -60,16 +60,29 @@ pub fn step_on(
 /// The state after a valid one.
 #[inline]
 pub(crate) fn advance(site: &Site, before: &State, inputs: u64) -> State {
+    advance_with(site, None, before, inputs).0
+}
+
+/// The state after a valid one, and whether a phase starts. Where other times wait,
+/// the site by them is given: a start goes by it, everything before the start by
+/// the site as it is.
+#[inline]
+pub(crate) fn advance_with(
+    site: &Site,
+    waiting: Option<&Site>,
+    before: &State,
+    inputs: u64,
+) -> (State, bool) {
     let mut state = *before;
     let occupied = Occupied::by(site, inputs);
     let demanded = register_demands(site, &mut state, &occupied, inputs);
     let others = demanded & !(1 << state.phase);
     run_movements(site, &mut state, others != 0);
     run_counts(site, &mut state, &occupied, others != 0);
-    let phase_starts = run_interval(site, &mut state, others);
+    let phase_starts = run_interval(site, waiting, &mut state, others);
     begin_walks(site, &mut state, phase_starts, others != 0);
     state.demanded = scan(site, &state);
-    state
+    (state, phase_starts)
 }
 
 /// The phases demanded by lock or movement, found in the locks and demands.
@@ -164,11 +177,11 @@ fn run_counts(site: &Site, state: &mut State, occupied: &Occupied, other_demande
 
 /// Part 4: the interval; tells whether a phase starts.
 #[inline]
-fn run_interval(site: &Site, state: &mut State, others: u8) -> bool {
+fn run_interval(site: &Site, waiting: Option<&Site>, state: &mut State, others: u8) -> bool {
     let times = site.phase(state.phase);
     match state.interval {
         Interval::StartRed if state.age >= site.start_red() => {
-            start_phase(site, state);
+            start_phase(site, waiting, state);
             return true;
         }
         Interval::LateStart if state.age >= times.late_start => {
@@ -193,7 +206,7 @@ fn run_interval(site: &Site, state: &mut State, others: u8) -> bool {
         }
         Interval::Yellow if state.age >= times.yellow => enter(state, Interval::AllRed),
         Interval::AllRed if state.age >= times.all_red && !any_in(state, Stage::ClearanceTwo) => {
-            start_target(site, state);
+            start_target(site, waiting, state);
             return true;
         }
         _ => state.age = older(state.age),
@@ -226,20 +239,25 @@ fn any_in(state: &State, stage: Stage) -> bool {
 
 /// Ends all-red: the target starts.
 #[inline]
-fn start_target(site: &Site, state: &mut State) {
+fn start_target(site: &Site, waiting: Option<&Site>, state: &mut State) {
     state.came_from = Some(state.phase);
     state.gap_count = 0;
     state.maximum_count = 0;
     if let Some(target) = state.target.take() {
         state.phase = target;
     }
-    start_phase(site, state);
+    start_phase(site, waiting, state);
 }
 
-/// A phase starts with late start, or minimum green if it has none.
+/// A phase starts with late start, or minimum green if it has none. Times that wait
+/// rule from here on, and both counts begin at 0.
 #[inline]
-fn start_phase(site: &Site, state: &mut State) {
-    let times = site.phase(state.phase);
+fn start_phase(site: &Site, waiting: Option<&Site>, state: &mut State) {
+    if waiting.is_some() {
+        state.gap_count = 0;
+        state.maximum_count = 0;
+    }
+    let times = waiting.unwrap_or(site).phase(state.phase);
     if times.late_start == 0 {
         enter_minimum_green(state, times.gap);
     } else {

@@ -24,13 +24,21 @@ pub enum Breach {
     StaysOpen { step: u64, group: usize },
     /// The phases kept as demanded are not those that a scan finds.
     DemandedDiffers { step: u64, kept: u8, found: u8 },
-    /// The locked demand of a phase is not met within the wait bound.
+    /// The times that rule or those that wait are not what they should be.
+    WrongTimes { step: u64 },
+    /// A step does not report the wait of the times that rule after it.
+    WrongWait {
+        step: u64,
+        reported: u64,
+        expected: u64,
+    },
+    /// The locked demand of a phase is not met within the wait that it has.
     LockUnmet {
         step: u64,
         phase: usize,
         registered: u64,
     },
-    /// The button demand of a movement is not met within the wait bound.
+    /// The button demand of a movement is not met within the wait that it has.
     PressUnmet {
         step: u64,
         movement: usize,
@@ -71,6 +79,17 @@ impl fmt::Display for Breach {
             Breach::DemandedDiffers { step, kept, found } => write!(
                 f,
                 "step {step}: demanded phases {kept:#b} are kept, and {found:#b} are demanded"
+            ),
+            Breach::WrongTimes { step } => {
+                write!(f, "step {step}: the times that rule or wait are wrong")
+            }
+            Breach::WrongWait {
+                step,
+                reported,
+                expected,
+            } => write!(
+                f,
+                "step {step}: a wait of {reported} is reported, the times that rule give {expected}"
             ),
             Breach::LockUnmet {
                 step,

@@ -1,10 +1,14 @@
 //! Driving several sites of one cabinet, each under the eyes of a monitor of its
-//! own: to each, its steps are a run alone.
+//! own: to each, its steps and retimings are a run alone.
 
+use crate::watching::{retiming_answer, TWO_IN_A_ROW};
 use crate::{Breach, Driver, Monitor, Report, Seen, Strategy};
-use generate::{unknown_inputs, Rng};
-use model::packed::Board;
-use model::{records_of, Number, Record, Site, State, OUTPUTS, RECORDS, RECORD_LEN, ROW_LEN};
+use generate::{any_second, unknown_inputs, Rng};
+use model::packed::{number, rest, Board};
+use model::{
+    parts_in, records_of, Number, Record, Site, TimedState, Times, OUTPUTS, RECORDS, RECORD_LEN,
+    ROW_LEN,
+};
 use std::ops::Range;
 
 /// Of a thousand calls so many are wrong ones, to be refused.
@@ -14,7 +18,8 @@ const PLACINGS: usize = 2;
 
 /// Runs a board with accepted personalities, as many as a cabinet has records and
 /// outputs for, for so many calls. The sites take turns at random, with wrong
-/// calls among them. An error is the site that a breach is about, and the breach.
+/// calls among them; some sites are retimed. An error is the site that a breach is
+/// about, and the breach.
 pub fn watch_cabinet(
     board: &dyn Board,
     personalities: &[Vec<u8>],
@@ -38,6 +43,11 @@ pub fn watch_cabinet(
             run.wrong_call(tenant, rng)
         } else if call < WRONG_CALLS + PLACINGS {
             run.take_out(tenant).and_then(|()| run.place(tenant))
+        } else if tenant
+            .calls_a_retiming
+            .is_some_and(|calls| rng.below(calls) == 0)
+        {
+            run.retimings(tenant, rng)
         } else {
             run.right_call(tenant)
         };
@@ -58,6 +68,9 @@ struct Tenant<'a> {
     /// What the runs before it have shown.
     before: Report,
     refused: u64,
+    retimings: u64,
+    /// One call of about so many is a retiming, if any is.
+    calls_a_retiming: Option<usize>,
 }
 
 /// The sites one after the other, with some outputs left free between them.
@@ -84,6 +97,8 @@ fn tenants<'a>(personalities: &'a [Vec<u8>], rng: &mut Rng) -> Vec<Tenant<'a>> {
             monitor: Monitor::new(&site),
             before: Report::default(),
             refused: 0,
+            retimings: 0,
+            calls_a_retiming: rng.pick(&[None, Some(10), Some(60), Some(300)]),
             site,
         });
     }
@@ -93,8 +108,16 @@ fn tenants<'a>(personalities: &'a [Vec<u8>], rng: &mut Rng) -> Vec<Tenant<'a>> {
 impl Tenant<'_> {
     /// What all its runs have shown together.
     fn report(self) -> Report {
-        let last = Report::of(&self.monitor, self.refused, &self.site);
+        let last = Report::of(&self.monitor, self.refused, self.retimings, &self.site);
         self.before.and(&last)
+    }
+
+    /// Its run ends, and another one begins.
+    fn begin(&mut self) {
+        let last = Report::of(&self.monitor, self.refused, self.retimings, &self.site);
+        self.before = self.before.and(&last);
+        (self.refused, self.retimings) = (0, 0);
+        self.monitor = Monitor::new(&self.site);
     }
 
     /// The bytes of its record.
@@ -113,18 +136,18 @@ impl Run<'_> {
     /// Places a site, whose run begins.
     fn place(&mut self, tenant: &mut Tenant) -> Result<(), Breach> {
         let first = tenant.own.start;
-        self.accepted_call(tenant, 0, |board, tenant, row, outputs| {
+        self.silent_call(tenant, |board, tenant, row, outputs| {
             board.cabinet_place(row, tenant.record, tenant.personality, first, outputs)
         })?;
-        let last = Report::of(&tenant.monitor, tenant.refused, &tenant.site);
-        tenant.before = tenant.before.and(&last);
-        tenant.refused = 0;
-        tenant.monitor = Monitor::new(&tenant.site);
+        tenant.begin();
+        if self.state(tenant)? != TimedState::fresh(&tenant.site) {
+            return Err(Breach::WrongTimes { step: 0 });
+        }
         Ok(())
     }
 
     fn take_out(&mut self, tenant: &mut Tenant) -> Result<(), Breach> {
-        self.accepted_call(tenant, 0, |board, tenant, row, outputs| {
+        self.silent_call(tenant, |board, tenant, row, outputs| {
             board.cabinet_take_out(row, tenant.record, outputs)
         })
     }
@@ -132,9 +155,8 @@ impl Run<'_> {
     /// A step that is to be accepted.
     fn right_call(&mut self, tenant: &mut Tenant) -> Result<(), Breach> {
         let before = self.state(tenant)?;
-        let inputs = tenant.driver.inputs(&tenant.site, &before);
-        let bound = u64::from(tenant.site.wait_bound()) << 8;
-        self.accepted_call(tenant, bound, |board, tenant, row, outputs| {
+        let inputs = tenant.driver.inputs(&tenant.site, &before.state);
+        let wait = self.accepted_call(tenant, |board, tenant, row, outputs| {
             board.cabinet_step(row, tenant.record, inputs, outputs)
         })?;
         let after = self.state(tenant)?;
@@ -143,30 +165,92 @@ impl Run<'_> {
             inputs,
             after: &after,
             colours: &self.outputs[tenant.own.clone()],
+            wait,
         };
         tenant.monitor.accepted_step(&tenant.site, &seen)
     }
 
-    /// A call with this answer, which may write the record and the outputs of its
-    /// site only.
-    fn accepted_call(
+    /// A retiming of a site, or several in a row.
+    fn retimings(&mut self, tenant: &mut Tenant, rng: &mut Rng) -> Result<(), Breach> {
+        loop {
+            let new = any_second(rng, tenant.personality);
+            match retiming_answer(tenant.personality, &new) {
+                0 => self.right_retiming(tenant, &new)?,
+                refusal => self.refused_retiming(tenant, &new, refusal)?,
+            }
+            if !rng.percent(TWO_IN_A_ROW) {
+                return Ok(());
+            }
+        }
+    }
+
+    fn right_retiming(&mut self, tenant: &mut Tenant, new: &[u8]) -> Result<(), Breach> {
+        let before = self.state(tenant)?;
+        self.silent_call(tenant, |board, tenant, row, _| {
+            retime_held(board, row, tenant.record, new)
+        })?;
+        let after = self.state(tenant)?;
+        let new = Site::read(new).expect("times within their limits");
+        tenant.retimings += 1;
+        tenant
+            .monitor
+            .accepted_retiming(&before, &after, Times::of(&new))
+    }
+
+    fn refused_retiming(
         &mut self,
-        tenant: &Tenant,
+        tenant: &mut Tenant,
+        new: &[u8],
         expected: u64,
-        call: impl FnOnce(&dyn Board, &Tenant, &mut [u8], &mut [u8]) -> u64,
     ) -> Result<(), Breach> {
         let step = tenant.monitor.accepted();
-        let (row, outputs) = (self.row, self.outputs);
-        let answer = call(self.board, tenant, &mut self.row, &mut self.outputs);
+        let row = self.row;
+        let answer = retime_held(self.board, &mut self.row, tenant.record, new);
         if answer != expected {
             return Err(Breach::WrongAnswer { step, answer });
         }
-        let mut rest = (self.row, self.outputs);
+        if self.row != row {
+            return Err(Breach::RefusalWrites { step });
+        }
+        tenant.refused += 1;
+        Ok(())
+    }
+
+    /// An accepted call that answers nothing more.
+    fn silent_call(
+        &mut self,
+        tenant: &Tenant,
+        call: impl FnOnce(&dyn Board, &Tenant, &mut [u8], &mut [u8]) -> u64,
+    ) -> Result<(), Breach> {
+        let step = tenant.monitor.accepted();
+        match self.accepted_call(tenant, call)? {
+            0 => Ok(()),
+            more => Err(Breach::WrongAnswer {
+                step,
+                answer: more << 8,
+            }),
+        }
+    }
+
+    /// An accepted call, which may write the record and the outputs of its site only.
+    /// Gives the wait in its answer.
+    fn accepted_call(
+        &mut self,
+        tenant: &Tenant,
+        call: impl FnOnce(&dyn Board, &Tenant, &mut [u8], &mut [u8]) -> u64,
+    ) -> Result<u64, Breach> {
+        let step = tenant.monitor.accepted();
+        let (row, outputs) = (self.row, self.outputs);
+        let answer = call(self.board, tenant, &mut self.row, &mut self.outputs);
+        if number(answer) != 0 {
+            return Err(Breach::WrongAnswer { step, answer });
+        }
+        let mut others = (self.row, self.outputs);
         let (bytes, own) = (tenant.bytes(), tenant.own.clone());
-        rest.0[bytes.clone()].copy_from_slice(&row[bytes]);
-        rest.1[own.clone()].copy_from_slice(&outputs[own]);
-        if rest == (row, outputs) {
-            Ok(())
+        others.0[bytes.clone()].copy_from_slice(&row[bytes]);
+        others.1[own.clone()].copy_from_slice(&outputs[own]);
+        if others == (row, outputs) {
+            Ok(rest(answer))
         } else {
             Err(Breach::WritesBeside { step })
         }
@@ -229,14 +313,21 @@ impl Run<'_> {
     }
 
     /// The state in the record of a site.
-    fn state(&self, tenant: &Tenant) -> Result<State, Breach> {
+    fn state(&self, tenant: &Tenant) -> Result<TimedState, Breach> {
         let step = tenant.monitor.accepted();
         let records = records_of(&self.row).expect("a whole row");
         let record = &records[tenant.record];
         let same_site = record.personality() == tenant.personality
             && usize::from(record.first) == tenant.own.start
             && !record.is_free();
-        let state = State::from_bytes(&record.state);
+        let state = TimedState::from_bytes(&record.state);
         state.filter(|_| same_site).ok_or(Breach::NoState { step })
     }
+}
+
+/// A retiming of the site of a record: the call of a site alone, on the personality
+/// and the state where they lie in the row.
+fn retime_held(board: &dyn Board, row: &mut [u8], record: usize, new: &[u8]) -> u64 {
+    let (personality, state) = parts_in(row, record).expect("a whole row");
+    board.retime(personality, state, new)
 }

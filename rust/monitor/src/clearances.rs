@@ -27,10 +27,17 @@ struct Shown {
 /// The colours of a group since its last green.
 #[derive(Clone, Debug)]
 struct SinceGreen {
-    /// The phase in the state after the last green step.
-    phase: u8,
+    due: Due,
     /// Colours, each with the number of steps it was shown in a row.
     runs: Vec<(u8, u64)>,
+}
+
+/// The clearance that a group owes, by the state after its last green step: its
+/// phase, and the times ruling then.
+#[derive(Clone, Copy, Debug)]
+enum Due {
+    Vehicle { yellow: u64, all_red: u64 },
+    Pedestrian { flashing: u64 },
 }
 
 impl Clearances {
@@ -52,8 +59,11 @@ impl Clearances {
             }
         }
         early_groups_close(site, seen, step)?;
-        for (shown, &colour) in self.groups.iter_mut().zip(seen.colours) {
-            shown.take(colour, seen.after.phase);
+        let ruled = site.with_times(&seen.after.ruling);
+        for (group, shown) in self.groups.iter_mut().enumerate() {
+            shown.take(seen.colours[group], || {
+                Due::by(&ruled, group, seen.after.state.phase)
+            });
         }
         Ok(())
     }
@@ -62,7 +72,7 @@ impl Clearances {
     fn all_cleared(&self, site: &Site, step: u64, starting: usize) -> Result<(), Breach> {
         for conflicting in conflicting_groups(site, starting) {
             match &self.groups[conflicting].since_green {
-                Some(since) if !since.is_cleared(site, conflicting) => {
+                Some(since) if !since.is_cleared() => {
                     return Err(Breach::Uncleared {
                         step,
                         starting,
@@ -93,13 +103,14 @@ fn no_green_beside(site: &Site, seen: &Seen, step: u64, group: usize) -> Result<
 /// that stop early and are not of the target.
 fn early_groups_close(site: &Site, seen: &Seen, step: u64) -> Result<(), Breach> {
     let early = Interval::EarlyCutOff;
-    if seen.after.interval != early || seen.before.interval == early {
+    let after = &seen.after.state;
+    if after.interval != early || seen.before.state.interval == early {
         return Ok(());
     }
     let has = |set: u8, phase: Option<u8>| phase.is_some_and(|phase| set >> phase & 1 != 0);
     let stays_open = |group: &usize| {
         let model::Group { set, mark } = site.group(*group);
-        let closing = has(set, Some(seen.after.phase)) && !has(set, seen.after.target);
+        let closing = has(set, Some(after.phase)) && !has(set, after.target);
         mark == Mark::EarlyCutOff && closing && seen.colours[*group] != YELLOW
     };
     match (0..site.group_count()).find(stays_open) {
@@ -109,11 +120,11 @@ fn early_groups_close(site: &Site, seen: &Seen, step: u64) -> Result<(), Breach>
 }
 
 impl Shown {
-    fn take(&mut self, colour: u8, phase: u8) {
+    fn take(&mut self, colour: u8, due: impl FnOnce() -> Due) {
         self.colour = Some(colour);
         if colour == GREEN {
             self.since_green = Some(SinceGreen {
-                phase,
+                due: due(),
                 runs: Vec::new(),
             });
         } else if let Some(since) = &mut self.since_green {
@@ -128,18 +139,31 @@ impl Shown {
 impl SinceGreen {
     /// A vehicle group: yellow for Y steps, then red for at least R. A
     /// pedestrian group: flashing red for C1 + C2 steps, then at most red.
-    fn is_cleared(&self, site: &Site, group: usize) -> bool {
-        let times = site.phase(self.phase);
-        match (site.group(group).mark, self.runs.as_slice()) {
-            (Mark::Pedestrian, [(FLASHING_RED, flashing), rest @ ..]) => {
+    fn is_cleared(&self) -> bool {
+        match (self.due, self.runs.as_slice()) {
+            (Due::Pedestrian { flashing }, [(FLASHING_RED, shown), rest @ ..]) => {
                 let red_after = matches!(rest, [] | [(RED, _)]);
-                *flashing == pedestrian_clearance(site, group) && red_after
+                *shown == flashing && red_after
             }
-            (
-                Mark::Vehicle | Mark::LateStart | Mark::EarlyCutOff,
-                [(YELLOW, yellow), (RED, red)],
-            ) => *yellow == u64::from(times.yellow) && *red >= u64::from(times.all_red),
+            (Due::Vehicle { yellow, all_red }, [(YELLOW, shown_yellow), (RED, shown_red)]) => {
+                *shown_yellow == yellow && *shown_red >= all_red
+            }
             _ => false,
+        }
+    }
+}
+
+impl Due {
+    /// What a group of a site owes that is green in a phase.
+    fn by(site: &Site, group: usize, phase: u8) -> Due {
+        if site.group(group).mark == Mark::Pedestrian {
+            let flashing = pedestrian_clearance(site, group);
+            return Due::Pedestrian { flashing };
+        }
+        let times = site.phase(phase);
+        Due::Vehicle {
+            yellow: times.yellow.into(),
+            all_red: times.all_red.into(),
         }
     }
 }

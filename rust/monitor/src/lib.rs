@@ -1,11 +1,13 @@
-//! Watches a run of step calls from outside, for the three parts of demand 3:
-//! no conflicting greens together, full clearances before a conflicting green,
-//! and every registered demand met within the wait bound. A group that stops
-//! early begins its clearance with early cut-off, and the phases kept as demanded
-//! are those that are.
+//! Watches a run of step and retiming calls from outside, for the parts of demand 3:
+//! no conflicting greens together, full clearances before a conflicting green, and
+//! every registered demand met within the wait of the times then ruling and of those
+//! that take over while it stands. A group that stops early begins its clearance with
+//! early cut-off, the phases kept as demanded are those that are, and times rule from
+//! the start on that they waited for.
 //!
-//! [`Monitor`] is told of accepted steps; [`watch`] drives a board with random
-//! or adversarial inputs and tells it, [`watch_cabinet`] the sites of a cabinet.
+//! [`Monitor`] is told of accepted calls; [`watch`] and [`watch_retimed`] drive a
+//! board with random or adversarial inputs and tell it, [`watch_cabinet`] the sites of
+//! a cabinet.
 
 #![forbid(unsafe_code)]
 
@@ -13,26 +15,29 @@ mod breach;
 mod cabinet;
 mod clearances;
 mod drivers;
+mod times;
 mod waits;
 mod watching;
 
 pub use breach::Breach;
 pub use cabinet::watch_cabinet;
 pub use drivers::{Driver, Strategy};
-pub use watching::{watch, Report};
+pub use watching::{watch, watch_retimed, Report};
 
 use clearances::Clearances;
-use model::{Site, State};
+use model::{Site, State, TimedState, Times};
 use waits::Waits;
 
 /// An accepted step as seen from outside.
 #[derive(Clone, Copy, Debug)]
 pub struct Seen<'a> {
-    pub before: &'a State,
+    pub before: &'a TimedState,
     pub inputs: u64,
-    pub after: &'a State,
+    pub after: &'a TimedState,
     /// One byte a group.
     pub colours: &'a [u8],
+    /// The wait that the step reports.
+    pub wait: u64,
 }
 
 /// The phases kept as demanded are those of the locks and of the demanded
@@ -71,9 +76,20 @@ impl Monitor {
     /// Takes in an accepted step; a breach of demand 3 is an error.
     pub fn accepted_step(&mut self, site: &Site, seen: &Seen) -> Result<(), Breach> {
         self.accepted += 1;
-        demanded_kept(site, seen.after, self.accepted)?;
+        times::step(site, seen, self.accepted)?;
+        demanded_kept(site, &seen.after.state, self.accepted)?;
         self.clearances.step(site, seen, self.accepted)?;
         self.waits.step(site, seen, self.accepted)
+    }
+
+    /// Takes in an accepted retiming with these times.
+    pub fn accepted_retiming(
+        &mut self,
+        before: &TimedState,
+        after: &TimedState,
+        new: Times,
+    ) -> Result<(), Breach> {
+        times::retiming(before, after, new, self.accepted)
     }
 
     /// The accepted steps so far.
@@ -89,6 +105,17 @@ impl Monitor {
     /// The longest wait of a demand met so far, in steps.
     pub fn longest_wait(&self) -> u64 {
         self.waits.longest
+    }
+
+    /// Of the demands met so far, the wait that came nearest to what it was allowed,
+    /// and that.
+    pub fn nearest_wait(&self) -> (u64, u64) {
+        self.waits.nearest
+    }
+
+    /// The changes to other times so far.
+    pub fn changes(&self) -> u64 {
+        self.waits.changes
     }
 
     /// The greens begun so far.

@@ -1,65 +1,101 @@
 //! Demands, and how long they wait.
 
+use crate::times::changes;
 use crate::{Breach, Seen};
 use model::{Interval, Site, Stage, State, FIRST_BUTTON};
 
-/// The demands that wait, each by the step that registered the earliest one not
-/// yet met.
+/// The demands that wait.
 #[derive(Clone, Debug)]
 pub struct Waits {
-    bound: u64,
-    phases: Vec<Option<u64>>,
-    movements: Vec<Option<u64>>,
+    phases: Vec<Option<Waiting>>,
+    movements: Vec<Option<Waiting>>,
     pub met: u64,
     pub longest: u64,
+    /// Of the demands met, the wait that came nearest to what it was allowed, and
+    /// that.
+    pub nearest: (u64, u64),
+    pub changes: u64,
+}
+
+/// A demand not yet met, by the step that registered it. Where several steps did,
+/// the one whose time is up first: every change gives all of them the same more.
+#[derive(Clone, Copy, Debug, PartialEq, Eq)]
+struct Waiting {
+    registered: u64,
+    /// The wait of the times ruling after that step, and that of every change since.
+    allowed: u64,
+}
+
+impl Waiting {
+    fn ends(self) -> u64 {
+        self.registered + self.allowed
+    }
 }
 
 impl Waits {
     pub fn new(site: &Site) -> Waits {
         Waits {
-            bound: site.wait_bound().into(),
             phases: vec![None; site.phase_count()],
             movements: vec![None; site.movement_count()],
             met: 0,
             longest: 0,
+            nearest: (0, 1),
+            changes: 0,
         }
     }
 
     pub fn step(&mut self, site: &Site, seen: &Seen, step: u64) -> Result<(), Breach> {
+        let wait = seen.after.wait_bound(site).into();
+        if changes(seen) {
+            self.changes += 1;
+            let waiting = self.phases.iter_mut().chain(&mut self.movements);
+            waiting.flatten().for_each(|one| one.allowed += wait);
+        }
+        let now = Waiting {
+            registered: step,
+            allowed: wait,
+        };
         for phase in registered_phases(site, seen) {
-            self.phases[phase].get_or_insert(step);
+            register(&mut self.phases[phase], now);
         }
         for movement in registered_movements(site, seen) {
-            self.movements[movement].get_or_insert(step);
+            register(&mut self.movements[movement], now);
         }
         for phase in 0..self.phases.len() {
             if minimum_green_begins(seen, phase) {
-                let since = self.phases[phase].take();
-                self.count_met(since, step);
+                let waiting = self.phases[phase].take();
+                self.count_met(waiting, step);
             }
         }
         for movement in 0..self.movements.len() {
             if walk_begins(seen, movement) {
-                let since = self.movements[movement].take();
-                self.count_met(since, step);
+                let waiting = self.movements[movement].take();
+                self.count_met(waiting, step);
             }
         }
         self.none_too_long(step)
     }
 
-    fn count_met(&mut self, since: Option<u64>, step: u64) {
-        if let Some(registered) = since {
+    fn count_met(&mut self, waiting: Option<Waiting>, step: u64) {
+        if let Some(Waiting {
+            registered,
+            allowed,
+        }) = waiting
+        {
+            let waited = step - registered;
             self.met += 1;
-            self.longest = self.longest.max(step - registered);
+            self.longest = self.longest.max(waited);
+            if waited * self.nearest.1 > self.nearest.0 * allowed {
+                self.nearest = (waited, allowed);
+            }
         }
     }
 
     /// A demand still waiting has further steps left.
     fn none_too_long(&self, step: u64) -> Result<(), Breach> {
-        let overdue =
-            |since: &Option<u64>| since.filter(|registered| step - registered >= self.bound);
-        for (phase, since) in self.phases.iter().enumerate() {
-            if let Some(registered) = overdue(since) {
+        let overdue = |waiting: &Option<Waiting>| waiting.filter(|one| step >= one.ends());
+        for (phase, waiting) in self.phases.iter().enumerate() {
+            if let Some(Waiting { registered, .. }) = overdue(waiting) {
                 return Err(Breach::LockUnmet {
                     step,
                     phase,
@@ -67,8 +103,8 @@ impl Waits {
                 });
             }
         }
-        for (movement, since) in self.movements.iter().enumerate() {
-            if let Some(registered) = overdue(since) {
+        for (movement, waiting) in self.movements.iter().enumerate() {
+            if let Some(Waiting { registered, .. }) = overdue(waiting) {
                 return Err(Breach::PressUnmet {
                     step,
                     movement,
@@ -80,12 +116,19 @@ impl Waits {
     }
 }
 
+fn register(waiting: &mut Option<Waiting>, now: Waiting) {
+    match waiting {
+        Some(earlier) if earlier.ends() <= now.ends() => {}
+        _ => *waiting = Some(now),
+    }
+}
+
 /// The phases of occupied locking detectors, unless in minimum green or running.
 fn registered_phases<'a>(site: &'a Site, seen: &'a Seen) -> impl Iterator<Item = usize> + 'a {
     (0..site.detector_count())
         .filter(|detector| seen.inputs >> detector & 1 != 0)
         .map(|detector| site.detector(detector))
-        .filter(|detector| detector.locks() && !seen.before.is_green(detector.phase))
+        .filter(|detector| detector.locks() && !seen.before.state.is_green(detector.phase))
         .map(|detector| detector.phase.into())
 }
 
@@ -93,17 +136,17 @@ fn registered_phases<'a>(site: &'a Site, seen: &'a Seen) -> impl Iterator<Item =
 fn registered_movements<'a>(site: &'a Site, seen: &'a Seen) -> impl Iterator<Item = usize> + 'a {
     (0..site.movement_count())
         .filter(|movement| seen.inputs >> FIRST_BUTTON >> movement & 1 != 0)
-        .filter(|&movement| seen.before.movements[movement].stage != Stage::Walk)
+        .filter(|&movement| seen.before.state.movements[movement].stage != Stage::Walk)
 }
 
 fn minimum_green_begins(seen: &Seen, phase: usize) -> bool {
     let in_minimum_green = |state: &State| {
         usize::from(state.phase) == phase && state.interval == Interval::MinimumGreen
     };
-    in_minimum_green(seen.after) && !in_minimum_green(seen.before)
+    in_minimum_green(&seen.after.state) && !in_minimum_green(&seen.before.state)
 }
 
 fn walk_begins(seen: &Seen, movement: usize) -> bool {
     let in_walk = |state: &State| state.movements[movement].stage == Stage::Walk;
-    in_walk(seen.after) && !in_walk(seen.before)
+    in_walk(&seen.after.state) && !in_walk(&seen.before.state)
 }

@@ -2,7 +2,9 @@
 
 use generate::{Pace, Plan, Rng, Shape};
 use model::packed::{self, number, Board, Model};
-use model::{layout, Edition, Interval, Mark, MovementState, Site, Stage, State, MAX_AGE};
+use model::{
+    layout, Edition, Interval, Mark, MovementState, Site, Stage, State, TimedState, MAX_AGE,
+};
 use monitor::{watch, Breach, Driver, Strategy};
 
 /// The model with its accepted steps spoilt.
@@ -24,23 +26,29 @@ impl<F: Fn(&mut Outcome)> Board for Broken<F> {
         packed::wait_bound(personality)
     }
 
-    fn fresh(&self, state: &mut [u8]) -> u64 {
-        packed::fresh(state)
+    fn fresh(&self, personality: &[u8], state: &mut [u8]) -> u64 {
+        packed::fresh(personality, state)
     }
 
     fn step(&self, personality: &[u8], state: &mut [u8], inputs: u64, colours: &mut [u8]) -> u64 {
         let answer = packed::step(personality, state, inputs, colours);
         if number(answer) == 0 {
+            let mut timed = TimedState::from_bytes(state).unwrap();
             let mut outcome = Outcome {
                 site: Site::read(personality).unwrap(),
-                state: State::from_bytes(state).unwrap(),
+                state: timed.state,
                 colours,
             };
             (self.0)(&mut outcome);
             outcome.state.demanded = demanded_phases(&outcome.site, &outcome.state);
-            state.copy_from_slice(&outcome.state.to_bytes());
+            timed.state = outcome.state;
+            state.copy_from_slice(&timed.to_bytes());
         }
         answer
+    }
+
+    fn retime(&self, personality: &[u8], state: &mut [u8], new_personality: &[u8]) -> u64 {
+        packed::retime(personality, state, new_personality)
     }
 
     fn section(&self, personality: &[u8], kind: u16) -> u64 {
@@ -455,12 +463,16 @@ impl Board for Odd {
         packed::wait_bound(personality)
     }
 
-    fn fresh(&self, state: &mut [u8]) -> u64 {
-        packed::fresh(state)
+    fn fresh(&self, personality: &[u8], state: &mut [u8]) -> u64 {
+        packed::fresh(personality, state)
     }
 
     fn step(&self, personality: &[u8], state: &mut [u8], inputs: u64, colours: &mut [u8]) -> u64 {
         (self.0)(personality, state, inputs, colours)
+    }
+
+    fn retime(&self, personality: &[u8], state: &mut [u8], new_personality: &[u8]) -> u64 {
+        packed::retime(personality, state, new_personality)
     }
 
     fn section(&self, personality: &[u8], kind: u16) -> u64 {

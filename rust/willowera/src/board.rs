@@ -107,17 +107,36 @@ pub struct Controller<'a> {
 impl<'a> Controller<'a> {
     /// A controller in the fresh state, on a personality that is accepted.
     pub fn new(personality: &'a [u8]) -> Result<Controller<'a>, Refusal> {
-        read(personality)?;
         let mut state = [0; STATE_LEN];
-        wait_bound_or_refusal(packed::fresh(&mut state))?;
+        wait_bound_or_refusal(packed::fresh(personality, &mut state))?;
+        Ok(Controller { personality, state })
+    }
+
+    /// A controller that goes on from the bytes of a state, on the personality that
+    /// it ran on. Bytes that are no valid state there are refused with 13.
+    pub fn from_bytes(personality: &'a [u8], state: &[u8]) -> Result<Controller<'a>, Refusal> {
+        // A personality may be retimed with itself from every valid state. The copy
+        // that then waits is not kept.
+        let mut checked = state.to_vec();
+        wait_bound_or_refusal(packed::retime(personality, &mut checked, personality))?;
+        let state = state.try_into().expect("a valid state has this length");
         Ok(Controller { personality, state })
     }
 
     /// One step of 0.1 s: the colours of the groups are written, and the wait
-    /// bound is the answer. A refused step changes nothing.
+    /// bound of the times that rule after it is the answer. A refused step changes
+    /// nothing.
     pub fn step(&mut self, inputs: u64, colours: &mut [u8]) -> Result<u64, Refusal> {
         let answer = packed::step(self.personality, &mut self.state, inputs, colours);
         wait_bound_or_refusal(answer)
+    }
+
+    /// New times: a personality that differs from the controller's own in time
+    /// settings alone. They wait until a phase starts, in place of any that wait, and
+    /// rule from that start on. A refused retiming changes nothing.
+    pub fn retime(&mut self, new_personality: &[u8]) -> Result<(), Refusal> {
+        let answer = packed::retime(self.personality, &mut self.state, new_personality);
+        wait_bound_or_refusal(answer).map(|_| ())
     }
 
     /// The bytes of the state.

@@ -1,7 +1,7 @@
 //! Four sites in one cabinet.
 
 use crate::answer::{wait_bound_or_refusal, Refusal};
-use crate::{packed, ROW_LEN};
+use crate::{packed, RECORD_LEN, ROW_LEN, STATE_LEN};
 
 /// A cabinet of [`crate::RECORDS`] records, each free or with a site. The outputs
 /// belong to the caller: [`crate::OUTPUTS`] bytes or more, which go on from call
@@ -35,11 +35,21 @@ impl Cabinet {
         wait_bound_or_refusal(answer).map(|_| ())
     }
 
-    /// One step of 0.1 s of the site of a record: its outputs are written, and its
-    /// wait bound is the answer.
+    /// One step of 0.1 s of the site of a record: its outputs are written, and the wait
+    /// bound of the times that rule after it is the answer.
     pub fn step(&mut self, record: usize, inputs: u64, outputs: &mut [u8]) -> Result<u64, Refusal> {
         let answer = packed::cabinet_step(&mut self.row, record, inputs, outputs);
         wait_bound_or_refusal(answer)
+    }
+
+    /// New times for the site of a record: a personality that differs from its own in
+    /// time settings alone. They wait until a phase starts, in place of any that wait,
+    /// and rule from that start on. A record that is free, or that the cabinet lacks, is
+    /// refused with 24 as in a step.
+    pub fn retime(&mut self, record: usize, new_personality: &[u8]) -> Result<(), Refusal> {
+        let (personality, state) = parts_in(&mut self.row, record).ok_or(NO_SITE)?;
+        let answer = packed::retime(personality, state, new_personality);
+        wait_bound_or_refusal(answer).map(|_| ())
     }
 
     /// Takes the site out of a record, which is then free; its outputs turn dark.
@@ -52,6 +62,22 @@ impl Cabinet {
     pub fn row(&self) -> &[u8; ROW_LEN] {
         &self.row
     }
+}
+
+const NO_SITE: Refusal = Refusal {
+    number: 24,
+    place: 0,
+};
+
+/// The personality and the state of a record, where they lie in the row. None if the
+/// record is free, or the row has no such record.
+fn parts_in(row: &mut [u8; ROW_LEN], record: usize) -> Option<(&[u8], &mut [u8])> {
+    let record: &mut [u8; RECORD_LEN] = row.as_chunks_mut().0.get_mut(record)?;
+    let (head, state) = record.split_at_mut(RECORD_LEN - STATE_LEN);
+    let (&mut [held, _, low, high], room) = head.split_first_chunk_mut()?;
+    // A length above the room counts as the room.
+    let length = usize::from(u16::from_le_bytes([low, high])).min(room.len());
+    (held != 0).then_some((&room[..length], state))
 }
 
 impl Default for Cabinet {

@@ -22,10 +22,10 @@ pub use board::{
 pub use cabinet::Cabinet;
 
 /// The version of the interface that these wrappers are for.
-pub const VERSION: u32 = 4;
+pub const VERSION: u32 = 5;
 
 /// The length of a state in bytes.
-pub const STATE_LEN: usize = 39;
+pub const STATE_LEN: usize = 336;
 
 /// The records of a cabinet.
 pub const RECORDS: usize = 4;
@@ -33,5 +33,9 @@ pub const RECORDS: usize = 4;
 /// The outputs of a cabinet, one byte each.
 pub const OUTPUTS: usize = 32;
 
+/// The length of a record in bytes: whether it is held (1), its first output (1), the
+/// length of its personality (2), room for that (477), and its state.
+pub const RECORD_LEN: usize = 4 + 477 + STATE_LEN;
+
 /// The length of a cabinet's row of records in bytes.
-pub const ROW_LEN: usize = 2_080;
+pub const ROW_LEN: usize = RECORDS * RECORD_LEN;

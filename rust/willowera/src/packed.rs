@@ -6,7 +6,12 @@ mod ffi {
     unsafe extern "C" {
         pub fn willowera_read(personality: *const u8, personality_len: usize) -> u64;
         pub fn willowera_wait_bound(personality: *const u8, personality_len: usize) -> u64;
-        pub fn willowera_fresh(state: *mut u8, state_len: usize) -> u64;
+        pub fn willowera_fresh(
+            personality: *const u8,
+            personality_len: usize,
+            state: *mut u8,
+            state_len: usize,
+        ) -> u64;
         pub fn willowera_step(
             personality: *const u8,
             personality_len: usize,
@@ -15,6 +20,14 @@ mod ffi {
             inputs: u64,
             colours: *mut u8,
             colours_len: usize,
+        ) -> u64;
+        pub fn willowera_retime(
+            personality: *const u8,
+            personality_len: usize,
+            state: *mut u8,
+            state_len: usize,
+            new_personality: *const u8,
+            new_personality_len: usize,
         ) -> u64;
         pub fn willowera_section(personality: *const u8, personality_len: usize, kind: u16) -> u64;
         pub fn willowera_road(
@@ -71,10 +84,19 @@ pub fn wait_bound(personality: &[u8]) -> u64 {
     unsafe { ffi::willowera_wait_bound(personality.as_ptr(), personality.len()) }
 }
 
-/// Writes the fresh state into a buffer of [`crate::STATE_LEN`] bytes.
-pub fn fresh(state: &mut [u8]) -> u64 {
-    // SAFETY: the pointer and the length are those of one slice, lent for writing.
-    unsafe { ffi::willowera_fresh(state.as_mut_ptr(), state.len()) }
+/// Writes the fresh state of a personality into a buffer of [`crate::STATE_LEN`]
+/// bytes.
+pub fn fresh(personality: &[u8], state: &mut [u8]) -> u64 {
+    // SAFETY: each pointer and length are those of one slice; the one lent for
+    // writing does not overlap the personality.
+    unsafe {
+        ffi::willowera_fresh(
+            personality.as_ptr(),
+            personality.len(),
+            state.as_mut_ptr(),
+            state.len(),
+        )
+    }
 }
 
 /// One step: replaces the state and writes the colours, unless it is refused.
@@ -90,6 +112,23 @@ pub fn step(personality: &[u8], state: &mut [u8], inputs: u64, colours: &mut [u8
             inputs,
             colours.as_mut_ptr(),
             colours.len(),
+        )
+    }
+}
+
+/// A retiming: the times of the new personality wait in the state, unless it is
+/// refused.
+pub fn retime(personality: &[u8], state: &mut [u8], new_personality: &[u8]) -> u64 {
+    // SAFETY: each pointer and length are those of one slice; the one lent for
+    // writing overlaps neither of the two that are only read.
+    unsafe {
+        ffi::willowera_retime(
+            personality.as_ptr(),
+            personality.len(),
+            state.as_mut_ptr(),
+            state.len(),
+            new_personality.as_ptr(),
+            new_personality.len(),
         )
     }
 }

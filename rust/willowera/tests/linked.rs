@@ -170,6 +170,79 @@ fn steps_to_the_first_green() {
     );
 }
 
+/// The junction with start red 20 and both phases M 40, X 60, G 10, Y 40, R 20.
+fn longer() -> [u8; 68] {
+    let mut bytes = JUNCTION;
+    bytes[6] = 20;
+    for phase in [12, 24] {
+        bytes[phase..phase + 12].copy_from_slice(&[0, 0, 40, 0, 60, 0, 10, 0, 40, 0, 20, 0]);
+    }
+    bytes
+}
+
+#[test]
+fn new_times_from_the_next_start_on() {
+    let mut controller = Controller::new(&JUNCTION).unwrap();
+    let mut colours = [9; 2];
+    let mut shown = Vec::new();
+    for step in 1..=111 {
+        if step == 20 {
+            assert_eq!(controller.retime(&longer()), Ok(()));
+        }
+        let detector = if step == 12 { 2 } else { 0 };
+        let wait = controller.step(detector, &mut colours).unwrap();
+        if [61, 70, 71, 111].contains(&step) {
+            let [phase, interval, ..] = *controller.state();
+            shown.push((step, phase, interval, colours, wait));
+        }
+    }
+    assert_eq!(
+        shown,
+        [
+            (61, 0, 6, [0, 0], 270),
+            (70, 0, 6, [0, 0], 270),
+            (71, 1, 2, [0, 2], 460),
+            (111, 1, 3, [0, 2], 460),
+        ]
+    );
+}
+
+#[test]
+fn retimings_refused() {
+    let mut controller = Controller::new(&JUNCTION).unwrap();
+    let before = *controller.state();
+    let refused = |number, place| Err(Refusal { number, place });
+    let mut other = longer();
+    other[61] = 2;
+    assert_eq!(controller.retime(&other), refused(26, 0));
+    other[20] = 29;
+    assert_eq!(controller.retime(&other), refused(5, 20));
+    assert_eq!(controller.retime(&[]), refused(1, 0));
+    assert_eq!(controller.state(), &before);
+}
+
+#[test]
+fn a_controller_from_the_bytes_of_a_state() {
+    let mut controller = Controller::new(&JUNCTION).unwrap();
+    controller.retime(&longer()).unwrap();
+    let mut stored = *controller.state();
+    let mut again = Controller::from_bytes(&JUNCTION, &stored).unwrap();
+    assert_eq!(again.state(), controller.state());
+    for _ in 0..30 {
+        let (mut one, mut other) = ([9; 2], [9; 2]);
+        assert_eq!(again.step(0, &mut one), controller.step(0, &mut other));
+        assert_eq!((again.state(), one), (controller.state(), other));
+    }
+    let number = |personality: &[u8], state: &[u8]| {
+        let refused = Controller::from_bytes(personality, state);
+        refused.unwrap_err().number
+    };
+    assert_eq!(number(&JUNCTION, &stored[1..]), 13);
+    assert_eq!(number(&[], &stored), 1);
+    stored[187] = 2;
+    assert_eq!(number(&JUNCTION, &stored), 13);
+}
+
 #[test]
 fn buffers_of_no_length() {
     assert_eq!(
@@ -179,8 +252,11 @@ fn buffers_of_no_length() {
             place: 0
         }
     );
-    assert_eq!(packed::fresh(&mut []), 13);
-    assert_eq!(packed::fresh(&mut [0; STATE_LEN + 1]), 13);
+    assert_eq!(packed::fresh(&JUNCTION, &mut []), 13);
+    assert_eq!(packed::fresh(&JUNCTION, &mut [0; STATE_LEN + 1]), 13);
+    assert_eq!(packed::fresh(&[], &mut []), 1);
+    assert_eq!(packed::retime(&JUNCTION, &mut [], &[]), 13);
+    assert_eq!(packed::retime(&[], &mut [], &[]), 1);
     assert_eq!(packed::step(&JUNCTION, &mut [], 0, &mut []), 13);
     assert_eq!(packed::step(&[], &mut [], 0, &mut []), 1);
 }
@@ -206,10 +282,11 @@ fn four_sites_in_one_cabinet() {
     assert_eq!(outputs[..3], [4, 4, 0]);
     assert_eq!(outputs[2..], [0; 31]);
     let row = cabinet.row();
-    assert!(row[..520].iter().all(|&byte| byte == 0));
-    assert_eq!(row[520..524], [1, 2, 68, 0]);
-    assert_eq!(row[524..592], JUNCTION);
-    assert_eq!(row[520 + 481..520 + 485], [0, 0, 2, 0]);
+    assert_eq!(row.len(), 3_268);
+    assert!(row[..817].iter().all(|&byte| byte == 0));
+    assert_eq!(row[817..821], [1, 2, 68, 0]);
+    assert_eq!(row[821..889], JUNCTION);
+    assert_eq!(row[817 + 481..817 + 485], [0, 0, 2, 0]);
     assert_eq!(Cabinet::of_row(*row), cabinet);
     assert_eq!(cabinet.take_out(1, &mut outputs[..31]), Err(refused(14)));
     assert_eq!(
@@ -218,4 +295,40 @@ fn four_sites_in_one_cabinet() {
     );
     assert_eq!(packed::cabinet_place(&mut [], 0, &[], 40, &mut []), 1);
     assert_eq!(packed::cabinet_take_out(&mut [], 0, &mut []), 24);
+}
+
+#[test]
+fn new_times_for_a_site_of_a_cabinet() {
+    use willowera::{Cabinet, OUTPUTS};
+    let refused = |number, place| Err(Refusal { number, place });
+    let mut cabinet = Cabinet::new();
+    let mut outputs = [0; OUTPUTS];
+    assert_eq!(cabinet.place(1, &JUNCTION, 4, &mut outputs), Ok(()));
+    assert_eq!(cabinet.place(2, &JUNCTION, 6, &mut outputs), Ok(()));
+    let before = cabinet.clone();
+    let mut other = longer();
+    other[61] = 2;
+    assert_eq!(cabinet.retime(1, &other), refused(26, 0));
+    other[20] = 29;
+    assert_eq!(cabinet.retime(1, &other), refused(5, 20));
+    for record in [0, 3, 4, usize::MAX] {
+        assert_eq!(cabinet.retime(record, &longer()), refused(24, 0));
+    }
+    assert_eq!(cabinet, before);
+    assert_eq!(cabinet.retime(1, &longer()), Ok(()));
+    // The times wait in the state of that record, and nothing else has changed.
+    let state = 817 + 481;
+    let differs = |at: &usize| cabinet.row()[*at] != before.row()[*at];
+    let changed: Vec<usize> = (0..cabinet.row().len()).filter(differs).collect();
+    assert!(changed
+        .iter()
+        .all(|&at| (state + 187..state + 336).contains(&at)));
+    assert_eq!(cabinet.row()[state + 187..state + 190], [1, 20, 0]);
+    // Start red ends by the old setting; the new times rule from there on.
+    for step in 1..=10 {
+        let wait = if step < 10 { 270 } else { 460 };
+        assert_eq!(cabinet.step(1, 0, &mut outputs), Ok(wait));
+        assert_eq!(cabinet.step(2, 0, &mut outputs), Ok(270));
+    }
+    assert_eq!(outputs[4..8], [2, 0, 2, 0]);
 }

@@ -1,5 +1,4 @@
--- `state_bytes::is_state` meets its contract: bytes of another length are none, and the tests after that are the layout's.
-use mathlib.Core.Bool.{and-true}
+-- `state_bytes::is_state` meets its contract: bytes of another length are none, and the test after that is the layout's.
 use lib.ListN.{length}
 use borrow.Author.Tests.{eq-eqb, ne-eqb}
 use Rattle.state_bytes.specs.Layout.{stateBytes, isState}
@@ -14,21 +13,12 @@ returns c = rw (ne-eqb (length (c .before .before .args .bytes .now)) stateBytes
 known-requires : tie.Need-known-requires
 known-requires c κs = search needs
 
-known-requires-2 : tie.Need-known-requires-2
-known-requires-2 c κs = search needs
-
 returns-2 : tie.Need-returns-2
 unfolding isState
 returns-2 c =
-    let tested = c .before .before in
+    let tested = c .before in
     let b = tested .before .before .args .bytes .now in
-    rw (
-      c .known2 .ensures,
-      c .before .known .ensures,
-      eq-eqb (length b) stateBytes (tested .if1 .left),
-    )
-    (simp and-true)
+    rw (c .known .ensures, eq-eqb (length b) stateBytes (tested .if1 .left))
 
 pub is-state-spec : {M : Type 1} → statement M
-is-state-spec =
-    tie.close (tie.spec returns known-requires known-requires-2 returns-2)
+is-state-spec = tie.close (tie.spec returns known-requires returns-2)

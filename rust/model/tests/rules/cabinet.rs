@@ -1,9 +1,15 @@
 //! Four sites in one cabinet: worked cases, the order of refusals, and what is
 //! left as it was.
 
-use generate::{known_inputs, twice_damaged, valid_state, Plan, Rng};
+use generate::{
+    any_second, broken_times, known_inputs, twice_damaged, valid_timed_state, Plan, Rng,
+    TimesBreakage,
+};
 use model::packed::{self, number};
-use model::{fresh, records_of, row_of, Record, Site, RECORDS, ROOM, ROW_LEN, STATE_LEN};
+use model::{
+    layout, parts_in, records_of, row_of, Record, Site, TimedState, RECORDS, RECORD_LEN, ROOM,
+    ROW_LEN, STATE_LEN,
+};
 
 const SEED: u64 = 24;
 const CANARY: u8 = 0xA5;
@@ -57,6 +63,14 @@ impl Cabinet {
     fn take_out(&mut self, record: usize) -> u64 {
         self.call(|row, outputs| packed::cabinet_take_out(row, record, outputs))
     }
+
+    /// A retiming of the site of a record, on its parts in the row.
+    fn retime(&mut self, record: usize, new_personality: &[u8]) -> u64 {
+        self.call(|row, _| {
+            let (personality, state) = parts_in(row, record).unwrap();
+            packed::retime(personality, state, new_personality)
+        })
+    }
 }
 
 fn junction() -> Vec<u8> {
@@ -68,13 +82,18 @@ fn one_group() -> Vec<u8> {
     Plan::smallest().bytes()
 }
 
+/// The bytes of the fresh state of a personality.
+fn fresh(personality: &[u8]) -> [u8; STATE_LEN] {
+    TimedState::fresh(&Site::read(personality).unwrap()).to_bytes()
+}
+
 /// A record that holds the junction of two phases at a first output.
 fn held(first: u8) -> Record {
     let mut record = Record {
         held: 1,
         first,
         length: 68,
-        state: fresh().to_bytes(),
+        state: fresh(&junction()),
         ..Record::FREE
     };
     record.room[..68].copy_from_slice(&junction());
@@ -115,12 +134,15 @@ fn the_worked_case() {
 fn a_placed_site_begins_fresh_with_its_outputs_red() {
     let mut cabinet = Cabinet::with([Record::FREE; RECORDS]);
     assert_eq!(cabinet.place(2, &junction(), 5), 0);
-    let record = &cabinet.row[1_040..1_560];
+    let record = &cabinet.row[1_634..2_451];
     assert_eq!(record[..4], [1, 5, 68, 0]);
     assert_eq!(record[4..72], junction());
     assert!(record[72..481].iter().all(|&byte| byte == 0));
-    assert_eq!(record[481..], fresh().to_bytes());
-    let others = cabinet.row[..1_040].iter().chain(&cabinet.row[1_560..]);
+    assert_eq!(record[481..], fresh(&junction()));
+    // Start red and the first times of A rule; none wait.
+    assert_eq!(record[481 + 39..481 + 45], [10, 0, 0, 0, 20, 0]);
+    assert!(record[481 + 187..].iter().all(|&byte| byte == 0));
+    let others = cabinet.row[..1_634].iter().chain(&cabinet.row[2_451..]);
     assert!(others.copied().all(|byte| byte == 0));
     assert_eq!(cabinet.outputs[5..7], [RED; 2]);
     let others = cabinet.outputs[..5].iter().chain(&cabinet.outputs[7..]);
@@ -175,8 +197,7 @@ fn a_step_writes_the_state_and_the_outputs_of_its_site_only() {
     assert_eq!(cabinet.outputs[2..4], [2, 0]);
     assert_eq!(cabinet.outputs[..2], [CANARY; 2]);
     assert_eq!(cabinet.outputs[4..], [CANARY; 36]);
-    let mut state = [0; STATE_LEN];
-    packed::fresh(&mut state);
+    let mut state = fresh(&junction());
     for _ in 0..10 {
         packed::step(&junction(), &mut state, 0, &mut [0; 2]);
     }
@@ -196,12 +217,19 @@ fn sites_run_as_if_each_were_alone() {
             let personality = plan.bytes();
             assert_eq!(cabinet.place(record, &personality, first), 0);
             let groups = plan.groups.len();
-            alone.push((personality, fresh().to_bytes(), vec![RED; groups], first));
+            let state = fresh(&personality);
+            alone.push((personality, state, vec![RED; groups], first));
             first += groups;
         }
         for _ in 0..2_000 {
             let record = rng.below(RECORDS);
             let (personality, state, colours, first) = &mut alone[record];
+            if rng.percent(3) {
+                let new = any_second(&mut rng, personality);
+                let answer = packed::retime(personality, state, &new);
+                assert_eq!(cabinet.retime(record, &new), answer);
+                continue;
+            }
             let site = Site::read(personality).unwrap();
             let inputs = known_inputs(&mut rng, &site);
             let answer = packed::step(personality, state, inputs, colours);
@@ -236,15 +264,15 @@ fn placing_refuses_personality_then_record_then_outputs_then_buffer() {
 #[test]
 fn stepping_refuses_record_then_personality_then_outputs_then_the_step_then_buffer() {
     let mut cabinet = Cabinet::with([refused(31), held(31), held(4), Record::FREE]);
-    cabinet.row[520 + 481] = 9;
-    cabinet.row[2 * 520 + 481] = 9;
+    cabinet.row[RECORD_LEN + 481] = 9;
+    cabinet.row[2 * RECORD_LEN + 481] = 9;
     cabinet.outputs.truncate(31);
     assert_eq!(cabinet.step(3, 4), 24);
     assert_eq!(cabinet.step(4, 4), 24);
     assert_eq!(cabinet.step(0, 4), REFUSED);
     assert_eq!(cabinet.step(1, 4), 25);
     assert_eq!(cabinet.step(2, 4), 13);
-    cabinet.row[2 * 520 + 481] = 0;
+    cabinet.row[2 * RECORD_LEN + 481] = 0;
     assert_eq!(cabinet.step(2, 4), 15);
     assert_eq!(cabinet.step(2, 3), 14);
     cabinet.outputs.push(CANARY);
@@ -299,7 +327,7 @@ fn every_number_but_0_holds_a_record() {
 fn a_length_above_the_room_counts_as_the_room() {
     let mut largest = Record {
         held: 1,
-        state: fresh().to_bytes(),
+        state: fresh(&Plan::largest().bytes()),
         ..Record::FREE
     };
     largest.room.copy_from_slice(&Plan::largest().bytes());
@@ -309,6 +337,7 @@ fn a_length_above_the_room_counts_as_the_room() {
         let mut cabinet = Cabinet::with([largest, Record::FREE, Record::FREE, Record::FREE]);
         assert_eq!(cabinet.place(1, &one_group(), 31), 25);
         assert_eq!(cabinet.step(0, 0), bound);
+        assert_eq!(cabinet.retime(0, &Plan::largest().bytes()), 0);
         assert_eq!(cabinet.record(0).length, length);
         assert_eq!(cabinet.take_out(0), 0);
     }
@@ -427,7 +456,9 @@ fn records_of_any_number() {
 #[test]
 fn a_row_of_another_length_has_no_record() {
     let row = row_of(&[held(0), held(2), held(4), Record::FREE]);
-    for length in [0, 1, 519, 520, 1_040, 1_560, 2_079, 2_081, 2_600, 4_160] {
+    for length in [
+        0, 1, 816, 817, 1_634, 2_451, 3_267, 3_269, 4_085, 6_536, 2_080,
+    ] {
         let mut cabinet = Cabinet {
             row: row.iter().copied().cycle().take(length).collect(),
             outputs: vec![CANARY; 31],
@@ -491,7 +522,7 @@ fn a_step_from_any_valid_state_is_that_of_the_site_alone() {
         let site = Site::read(&personality).unwrap();
         let groups = plan.groups.len();
         let first = rng.range(0, 32 - groups);
-        let mut state = valid_state(&mut rng, &site).to_bytes();
+        let mut state = valid_timed_state(&mut rng, &personality, &site).to_bytes();
         let mut record = Record {
             held: 1,
             first: first as u8,
@@ -513,4 +544,123 @@ fn a_step_from_any_valid_state_is_that_of_the_site_alone() {
         let records = [record, record, stepped, record];
         assert_eq!(records_of(&cabinet.row), Some(records));
     }
+}
+
+/// The junction of two phases with longer times, and a wait of 460.
+fn longer() -> Vec<u8> {
+    let plan = Plan {
+        start_red: 20,
+        phases: vec![[0, 40, 60, 10, 40, 20]; 2],
+        ..Plan::junction()
+    };
+    plan.bytes()
+}
+
+#[test]
+fn a_retiming_leaves_the_other_records_and_the_outputs() {
+    let records = [held(0), held(2), refused(9), held(4)];
+    let mut cabinet = Cabinet::with(records);
+    let outputs = cabinet.outputs.clone();
+    assert_eq!(cabinet.retime(1, &longer()), 0);
+    let mut waits = TimedState::from_bytes(&records[1].state).unwrap();
+    let new = longer();
+    waits.waiting = Some(model::Times::of(&Site::read(&new).unwrap()));
+    let retimed = Record {
+        state: waits.to_bytes(),
+        ..records[1]
+    };
+    let expected = [records[0], retimed, records[2], records[3]];
+    assert_eq!(records_of(&cabinet.row), Some(expected));
+    assert_eq!(cabinet.outputs, outputs);
+}
+
+#[test]
+fn new_times_rule_at_one_site_only() {
+    let mut cabinet = Cabinet::empty();
+    assert_eq!(cabinet.place(0, &junction(), 0), 0);
+    assert_eq!(cabinet.place(3, &junction(), 30), 0);
+    let mut waits = Vec::new();
+    for step in 1..=111 {
+        if step == 20 {
+            assert_eq!(cabinet.retime(3, &longer()), 0);
+        }
+        let inputs = if step == 12 { 2 } else { 0 };
+        let answers = [0, 3].map(|record| cabinet.step(record, inputs));
+        assert_eq!(answers[0], 270 << 8);
+        waits.push(packed::rest(answers[1]));
+    }
+    assert!(waits[..70].iter().all(|&wait| wait == 270));
+    assert!(waits[70..].iter().all(|&wait| wait == 460));
+    // B runs at both, and minimum green has lasted 20 steps at one and 40 at the other.
+    let running = |record: usize| cabinet.record(record).state[..4].to_vec();
+    assert_eq!(running(0), [1, 3, 21, 0]);
+    assert_eq!(running(3), [1, 3, 1, 0]);
+    // The personality in the record stays, and so does everything behind it.
+    assert_eq!(cabinet.record(3).personality(), junction());
+    let again = {
+        assert_eq!(cabinet.take_out(3), 0);
+        assert_eq!(cabinet.place(3, &junction(), 30), 0);
+        cabinet.record(3)
+    };
+    assert_eq!(again, held(30));
+}
+
+#[test]
+fn retimings_refused_in_a_cabinet() {
+    let mut cabinet = Cabinet::with([held(0), refused(2), held(4), Record::FREE]);
+    cabinet.row[2 * RECORD_LEN + 481] = 9;
+    let mut other = longer();
+    other[61] = 2;
+    let mut wrong = longer();
+    wrong[20] = 29;
+    assert_eq!(cabinet.retime(0, &other), 26);
+    assert_eq!(cabinet.retime(0, &wrong), REFUSED);
+    assert_eq!(cabinet.retime(1, &longer()), REFUSED);
+    assert_eq!(cabinet.retime(2, &wrong), 13);
+    // A free record of zeros has no personality.
+    assert_eq!(cabinet.retime(3, &longer()), 1);
+    assert_eq!(cabinet.retime(0, &longer()), 0);
+}
+
+#[test]
+fn times_that_do_not_fit_are_13_for_their_own_step_only() {
+    let mut rng = Rng::new(SEED);
+    let personality = junction();
+    let site = Site::read(&personality).unwrap();
+    for breakage in TimesBreakage::ALL {
+        let mut record = held(2);
+        let broken = broken_times(&mut rng, &personality, &site, breakage).unwrap();
+        record.state.copy_from_slice(&broken);
+        let mut cabinet = Cabinet::with([held(0), record, Record::FREE, Record::FREE]);
+        assert_eq!(cabinet.step(1, 0), 13, "{breakage:?}");
+        assert_eq!(cabinet.retime(1, &personality), 13, "{breakage:?}");
+        assert_eq!(cabinet.step(0, 0), 270 << 8);
+        assert_eq!(cabinet.place(2, &personality, 3), 25);
+        assert_eq!(cabinet.take_out(1), 0);
+    }
+}
+
+#[test]
+fn a_site_of_edition_two_keeps_it_in_a_cabinet() {
+    let two = Plan::junction_two().bytes();
+    let mut cabinet = Cabinet::empty();
+    assert_eq!(cabinet.place(0, &two, 0), 0);
+    assert_eq!(cabinet.step(0, 0), 310 << 8);
+    let mut one = two.clone();
+    one[2] = 1;
+    assert_eq!(packed::read(&one), 0);
+    assert_eq!(cabinet.retime(0, &one), 26);
+    let mut short = two.clone();
+    short[22] = 14;
+    assert_eq!(cabinet.retime(0, &short), 22 << 8 | 5);
+    short[2] = 1;
+    assert_eq!(cabinet.retime(0, &short), 26);
+    // An all-red of A that edition one allows.
+    let all_red = 481 + layout::RULING + 2 + 10;
+    assert_eq!(cabinet.row[all_red], 15);
+    cabinet.row[all_red] = 14;
+    assert_eq!(cabinet.step(0, 0), 13);
+    cabinet.row[all_red] = 15;
+    assert_eq!(cabinet.step(0, 0), 310 << 8);
+    assert_eq!(cabinet.retime(0, &two), 0);
 }

@@ -2,7 +2,7 @@
 
 use generate::Plan;
 use model::packed;
-use model::{fresh, step, Number, State, STATE_LEN};
+use model::{fresh, step, Number, Site, State, TimedState, STATE_LEN};
 
 const CANARY: u8 = 0xA5;
 
@@ -92,26 +92,40 @@ fn the_packed_calls_of_the_junction() {
 fn packed_steps() {
     let bytes = Plan::junction().bytes();
     let mut state = [0; STATE_LEN];
-    assert_eq!(packed::fresh(&mut state), 0);
-    assert_eq!(state, fresh().to_bytes());
+    assert_eq!(packed::fresh(&bytes, &mut state), 0);
+    let site = Site::read(&bytes).unwrap();
+    assert_eq!(state, TimedState::fresh(&site).to_bytes());
     let mut colours = [CANARY; 3];
     assert_eq!(packed::step(&bytes, &mut state, 0, &mut colours), 270 << 8);
     assert_eq!(colours, [0, 0, CANARY]);
-    assert_eq!(State::from_bytes(&state).unwrap().age, 2);
+    assert_eq!(TimedState::from_bytes(&state).unwrap().state.age, 2);
     assert_eq!(packed::step(&bytes, &mut state, 4, &mut colours), 15);
     assert_eq!(packed::step(&bytes, &mut state, 0, &mut colours[..1]), 14);
     assert_eq!(packed::step(&bytes[1..], &mut state, 0, &mut colours), 2);
-    assert_eq!(State::from_bytes(&state).unwrap().age, 2);
+    assert_eq!(TimedState::from_bytes(&state).unwrap().state.age, 2);
+}
+
+#[test]
+fn a_fresh_state_that_is_refused_is_not_written() {
+    let mut bad_plan = Plan::junction();
+    bad_plan.phases[0][4] = 29;
+    let mut state = [CANARY; STATE_LEN];
+    assert_eq!(packed::fresh(&bad_plan.bytes(), &mut state), 20 << 8 | 5);
+    assert_eq!(packed::fresh(&[], &mut state), 1);
+    assert_eq!(state, [CANARY; STATE_LEN]);
 }
 
 #[test]
 fn states_of_another_length() {
     let bytes = Plan::junction().bytes();
-    for length in (0..80).filter(|&length| length != STATE_LEN) {
+    for length in (0..700).filter(|&length| length != STATE_LEN) {
         let mut state = vec![CANARY; length];
-        assert_eq!(packed::fresh(&mut state), 13);
+        assert_eq!(packed::fresh(&bytes, &mut state), 13);
+        assert_eq!(packed::fresh(&bytes[..1], &mut state), 1);
         assert_eq!(packed::step(&bytes, &mut state, 4, &mut []), 13);
         assert_eq!(packed::step(&bytes[..1], &mut state, 4, &mut []), 1);
+        assert_eq!(packed::retime(&bytes, &mut state, &[]), 13);
+        assert_eq!(packed::retime(&bytes[..1], &mut state, &[]), 1);
         assert!(state.iter().all(|&byte| byte == CANARY));
     }
 }

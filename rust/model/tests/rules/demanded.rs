@@ -3,7 +3,7 @@
 use crate::trace::{button, detector, Run};
 use generate::{valid_state, Plan, Rng};
 use model::packed::{self, number};
-use model::{fresh, layout, step, valid, Interval, Number, Site, Stage, State};
+use model::{fresh, layout, step, valid, Interval, Number, Site, Stage, State, TimedState};
 
 /// Three phases with a vehicle group and a locking detector each, two movements
 /// of B; a non-locking detector of C.
@@ -106,7 +106,8 @@ fn any_one_bit_turned_over_is_13_and_writes_nothing() {
     for _ in 0..200 {
         let bytes = Plan::random(&mut rng).bytes();
         let site = Site::read(&bytes).unwrap();
-        let state = valid_state(&mut rng, &site).to_bytes();
+        let state = valid_state(&mut rng, &site);
+        let state = TimedState::by_own_times(&site, state).to_bytes();
         let answer = |state: &mut [u8]| packed::step(&bytes, state, 0, &mut [0; 32]);
         assert_eq!(number(answer(&mut state.clone())), 0);
         for phase in 0..8 {

@@ -2,7 +2,9 @@
 
 use generate::{known_inputs, Plan, Rng};
 use model::packed;
-use model::{fresh, read, section, step, Edition, Number, Part, Refusal, Setting, Site};
+use model::{
+    fresh, layout, read, section, step, Edition, Number, Part, Refusal, Setting, Site, TimedState,
+};
 
 const SEED: u64 = 8;
 
@@ -222,4 +224,62 @@ fn every_call_but_the_lookup_does_the_same_for_both_editions() {
         }
     }
     assert!(found >= 100, "{found}");
+}
+
+/// The junction of an edition with this start red, and all-reds of 20.
+fn junction_of(edition: Edition, start_red: u16) -> Vec<u8> {
+    let plan = Plan {
+        edition,
+        start_red,
+        phases: vec![[0, 20, 30, 5, 30, 20]; 2],
+        ..Plan::junction()
+    };
+    plan.bytes()
+}
+
+#[test]
+fn a_retiming_does_not_change_the_edition() {
+    let answer = |first: &[u8], second: &[u8]| {
+        let site = Site::read(first).unwrap();
+        let mut state = TimedState::fresh(&site).to_bytes();
+        packed::retime(first, &mut state, second)
+    };
+    for edition in Edition::ALL {
+        let first = junction_of(edition, 40);
+        assert_eq!(answer(&first, &junction_of(edition, 50)), 0);
+        for other in Edition::ALL.into_iter().filter(|&other| other != edition) {
+            // Both are accepted; the kinds differ, with and without other times.
+            assert_eq!(answer(&first, &junction_of(other, 40)), 26);
+            assert_eq!(answer(&first, &junction_of(other, 50)), 26);
+        }
+    }
+    // The new personality is read by its own edition first.
+    let (one, two) = (junction_of(Edition::One, 40), junction_of(Edition::Two, 40));
+    assert_eq!(answer(&one, &junction_of(Edition::Two, 29)), 6 << 8 | 5);
+    assert_eq!(answer(&two, &junction_of(Edition::Two, 29)), 6 << 8 | 5);
+    assert_eq!(answer(&two, &junction_of(Edition::One, 29)), 26);
+    assert_eq!(answer(&one, &junction_of(Edition::One, 29)), 0);
+}
+
+#[test]
+fn the_times_of_a_state_are_held_to_the_edition_of_the_site() {
+    // Start red, the all-red of A and that of B, in a set of times.
+    for (at, low) in [(0, [10, 30]), (12, [10, 15]), (24, [10, 15])] {
+        for (edition, low) in Edition::ALL.into_iter().zip(low) {
+            let personality = junction_of(edition, 40);
+            let site = Site::read(&personality).unwrap();
+            let mut timed = TimedState::fresh(&site);
+            timed.waiting = Some(timed.ruling);
+            for times in [layout::RULING, layout::WAITING] {
+                let with = |time: u16| {
+                    let mut state = timed.to_bytes();
+                    let place = times + at;
+                    state[place..place + 2].copy_from_slice(&time.to_le_bytes());
+                    packed::number(packed::step(&personality, &mut state, 0, &mut [0; 2]))
+                };
+                assert_eq!((with(low - 1), with(low)), (13, 0), "{edition:?}, {at}");
+                assert_eq!((with(150), with(151)), (0, 13), "{edition:?}, {at}");
+            }
+        }
+    }
 }

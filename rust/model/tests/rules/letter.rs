@@ -4,8 +4,8 @@
 use generate::{invalid_state, known_inputs, valid_state, Breakage, Plan, Rng, RoadPlan};
 use model::packed;
 use model::{
-    fresh, step, valid, wait_bound, Interval, MovementState, Number, Site, Stage, State, MAX_AGE,
-    STATE_LEN,
+    fresh, step, valid, wait_bound, Interval, MovementState, Number, Site, Stage, State,
+    TimedState, MAX_AGE, PLAIN_LEN, STATE_LEN,
 };
 
 const SEED: u64 = 5_493;
@@ -473,6 +473,7 @@ fn roads() {
             .map(|four| [0, 2].map(|at| u64::from(four[at]) + 256 * u64::from(four[at + 1])))
             .collect();
         assert_eq!(found, vehicles, "{plan:?}, {streams:?}, {steps} steps");
+        let last = TimedState::by_own_times(&site, last);
         assert_eq!(state, last.to_bytes());
     }
 }
@@ -494,7 +495,7 @@ fn valid_and_invalid_states() {
         }
         for _ in 0..100 {
             let mut bytes = valid_state(&mut rng, &site).to_bytes();
-            bytes[rng.below(STATE_LEN)] = rng.byte() & rng.byte();
+            bytes[rng.below(PLAIN_LEN)] = rng.byte() & rng.byte();
             if let Some(state) = State::from_bytes(&bytes) {
                 assert_eq!(valid(&site, &state), letter.valid(&state), "{state:?}");
             }
@@ -566,7 +567,7 @@ fn the_packed_step_is_the_step() {
             let inputs = generate::any_inputs(&mut rng, &site);
             let mut colours = [9; 20];
             let mut packed_colours = [9; 20];
-            let mut bytes = state.to_bytes();
+            let mut bytes = TimedState::by_own_times(&site, state).to_bytes();
             let answer = step(&personality, &state, inputs, &mut colours);
             let packed = packed::step(&personality, &mut bytes, inputs, &mut packed_colours);
             let expected = match answer.wait_bound {
@@ -574,7 +575,8 @@ fn the_packed_step_is_the_step() {
                 Err(refusal) => u64::from(refusal.place) << 8 | refusal.number as u64,
             };
             assert_eq!(packed, expected);
-            assert_eq!((bytes, packed_colours), (answer.state.to_bytes(), colours));
+            let after = TimedState::by_own_times(&site, answer.state);
+            assert_eq!((bytes, packed_colours), (after.to_bytes(), colours));
         }
     }
 }

@@ -15,6 +15,7 @@ mod overlaps;
 mod pedestrians;
 mod refusals;
 mod resting_walk;
+mod retime;
 mod road;
 mod running;
 mod states;

@@ -3,7 +3,7 @@
 
 use generate::{Plan, Rng, RoadDamage, RoadPlan};
 use model::packed;
-use model::{fresh, Interval, Refusal, Road, Site, State, Stream, Vehicles, STATE_LEN};
+use model::{fresh, Interval, Refusal, Road, Site, State, Stream, TimedState, Vehicles, STATE_LEN};
 
 const SEED: u64 = 22;
 const CANARY: u8 = 0xA5;
@@ -193,7 +193,7 @@ fn answer(personality: &[u8], road: &[u8], steps: u32, state: usize, results: us
     let kept = if answer == 0 { road.len() } else { 0 };
     assert!(results[kept..].iter().all(|&byte| byte == CANARY));
     assert!(answer == 0 || state.iter().all(|&byte| byte == CANARY));
-    assert!(answer != 0 || State::from_bytes(&state).is_some());
+    assert!(answer != 0 || TimedState::from_bytes(&state).is_some());
     answer
 }
 

@@ -1,0 +1,5 @@
+pub mod Change
+pub mod Starts
+pub mod Admitted
+pub mod KeptValid
+pub mod Timed

@@ -1,0 +1,65 @@
+-- What holds of timed states of every sound site, said of accepted personalities.
+use mathlib.Core.List.{List}
+use mathlib.Core.Bool.{Bool, true, false, not}
+use mathlib.Core.Path.{_≡_, refl, ap, sym, _∙_}
+use Rattle.rules.specs.declared.site.Times.{Times}
+use Rattle.rules.specs.declared.state.TimedState.{TimedState}
+use Rattle.rules.specs.declared.answer.Verdict.the-variants.{Accepted}
+use Rattle.laws.specs.Folds.{if_then_else_}
+use Rattle.rules.specs.Verdicts.{_orElse_, refuseIf}
+use Rattle.rules.specs.Personality.{verdictOf}
+use Rattle.rules.specs.Site.{siteOf, timesIn}
+use Rattle.rules.specs.SiteTimes.{under, admitted}
+use Rattle.rules.specs.Kept.{keptStepped}
+use Rattle.rules.specs.Timed.{keptOf, waitingValid, timedValid, takesOver, rulingNext, timedStepped}
+use Rattle.rules.specs.TimedCall.{differsElsewhere, retimeChecksBy, retimed}
+use Rattle.rules.specs.Laws.{Sound, AcceptedIsSound}
+use Rattle.rules.specs.TimedLaws.{ChangeIsStep, ReadyIsValid, OtherwisePlain, TakesOverAtStart, FreshTimedIsValid, TimedStepKeepsValid, RetimeKeepsValid, TimedStepForgets, AcceptedIsAdmitted, RetimedIsAdmitted}
+use Rattle.rules.proofs.Verdicts.{or-first, or-later, refuse-passed}
+use Rattle.proof_acceptance.proofs.Acceptance.{accepted-is-sound}
+use Rattle.proof_change.proofs.Timed.{ValidTimed, timed-told, timed-holds, plainState, fresh-timed-valid, change-step, ready-timed, timed-is-plain, timed-stepped-valid, timed-forgets, over-at-start}
+use Rattle.proof_time_bytes.proofs.Elsewhere.{accepted-is-admitted, retimed-is-admitted}
+
+-- ── A change is a step under the new times ──
+
+pub change-is-step : ChangeIsStep
+unfolding ChangeIsStep AcceptedIsSound timedStepped rulingNext
+change-is-step b known s v over inputs = rw over (change-step (siteOf b) (accepted-is-sound b known) s v over inputs)
+
+pub ready-is-valid : ReadyIsValid
+unfolding ReadyIsValid AcceptedIsSound
+ready-is-valid b known s v = ready-timed (siteOf b) (accepted-is-sound b known) s v
+
+pub otherwise-plain : OtherwisePlain
+unfolding OtherwisePlain timedStepped rulingNext keptStepped
+otherwise-plain b known s v still inputs = rw still
+
+pub takes-over-at-start : TakesOverAtStart
+unfolding TakesOverAtStart AcceptedIsSound
+takes-over-at-start b known s v = over-at-start (siteOf b) (accepted-is-sound b known) s v
+
+-- ── Valid states ──
+
+pub fresh-timed-is-valid : FreshTimedIsValid
+unfolding FreshTimedIsValid AcceptedIsSound AcceptedIsAdmitted
+fresh-timed-is-valid b known = fresh-timed-valid (siteOf b) (accepted-is-sound b known) (accepted-is-admitted b known)
+
+pub timed-step-keeps-valid : TimedStepKeepsValid
+unfolding TimedStepKeepsValid AcceptedIsSound
+timed-step-keeps-valid b known s v = timed-stepped-valid (siteOf b) (accepted-is-sound b known) s v
+
+pub retime-keeps-valid : RetimeKeepsValid
+unfolding RetimeKeepsValid RetimedIsAdmitted retimeChecksBy retimed waitingValid
+retime-keeps-valid b known s v new e =
+    let valid = refuseIf (not (timedValid (siteOf b) s)) 13 0 in
+    let last = refuseIf (differsElsewhere b new) 26 0 in
+    let later = or-later valid (verdictOf new orElse last) (or-later (verdictOf b) (valid orElse verdictOf new orElse last) e) in
+    let fine = retimed-is-admitted b new (or-first (verdictOf new) last later) (refuse-passed (differsElsewhere b new) 26 0 (or-later (verdictOf new) last later)) in
+    let told = timed-told (siteOf b) s v in
+    timed-holds (siteOf b) (retimed s (timesIn new)) (record { ruling = told .ruling; waiting = fine .0; rest = told .rest })
+
+-- ── Forgetting the kept set ──
+
+pub timed-step-forgets : TimedStepForgets
+unfolding TimedStepForgets AcceptedIsSound
+timed-step-forgets b known s v = timed-forgets (siteOf b) (accepted-is-sound b known) s v

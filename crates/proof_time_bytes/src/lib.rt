@@ -1,0 +1,1 @@
+// Proof only: personalities that differ in time settings alone. See proofs/.

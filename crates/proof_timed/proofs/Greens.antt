@@ -1,0 +1,36 @@
+-- Part a with changes of times: each step is a plain link under the times that rule after it, and whether groups conflict and share a phase does not
+-- depend on times.
+use Prim.Native.Nat.{ℕ}
+use mathlib.Core.Bool.{true}
+use mathlib.Core.List.{List, [], _∷_}
+use mathlib.Core.Path.{_≡_}
+use Rattle.rules.specs.declared.site.Site.{Site}
+use Rattle.rules.specs.declared.site.Times.{Times}
+use Rattle.rules.specs.declared.state.State.{State}
+use Rattle.rules.specs.Site.{conflict}
+use Rattle.rules.specs.SiteTimes.{under}
+use Rattle.rules.specs.Colours.{green}
+use Rattle.rules.specs.DemandThree.{Taken, shows, NoConflictingGreens}
+use Rattle.rules.specs.TimedDemandThree.{TimedStep, takens}
+use Rattle.proof_runs.proofs.Linked.{Linked, reached}
+use Rattle.proof_clearance.proofs.Greens.{never-both-green}
+use Rattle.proof_timed.proofs.Induction.{viewed, plainFrom, TimedRun}
+
+-- no two conflicting groups show green after the step
+abbrev Apart : Site → State → Taken → Type 0
+Apart site s step = (g j : ℕ) → conflict site g j ≡ true → shows step g ≡ green → shows step j ≡ green → ⊥
+
+all-apart : (site : Site) (s : State) (ruling : Times) (steps : List TimedStep) → TimedRun site s ruling steps → Linked (Apart site) s (takens steps)
+unfolding conflict shows
+all-apart site s ruling [] run = tt
+all-apart site s ruling (step ∷ later) run =
+    let from = plainFrom (step .changed) s in (
+      never-both-green (under site (step .ruling)) from (viewed from (step .taken)) (run .0 .plain),
+      all-apart site (step .taken .after) (step .ruling) later (run .1),
+    )
+
+pub timed-greens :
+    (site : Site) (s : State) (ruling : Times) (steps : List TimedStep) → TimedRun site s ruling steps → NoConflictingGreens site (takens steps)
+unfolding NoConflictingGreens
+timed-greens site s ruling steps run earlier later step split =
+    reached (Apart site) (takens steps) earlier (step ∷ later) s split (all-apart site s ruling steps run) .1 .0

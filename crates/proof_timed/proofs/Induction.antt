@@ -1,0 +1,187 @@
+-- Accepted steps with changes of times among them, and induction over them: a plain link under the times that rule, or, where others take over,
+-- a plain link under those from the ready state. At a change the bound is set anew.
+use Prim.Native.Nat.{ℕ, zero, suc, _+_, _≤_, _<_}
+use mathlib.Core.Bool.{Bool, true, false, _||_}
+use mathlib.Core.List.{List, [], _∷_, _++_}
+use mathlib.Core.Logic.{_⊎_, inl, inr, ⊎-elim}
+use mathlib.Core.Path.{_≡_, refl, sym, ap, subst, _∙_}
+use native.Mathlib.Omega.{arith}
+use lib.ListN.{length}
+use Rattle.rules.specs.declared.site.Site.{Site}
+use Rattle.rules.specs.declared.site.Times.{Times}
+use Rattle.rules.specs.declared.state.Held.{Held}
+use Rattle.rules.specs.declared.state.State.{State}
+use Rattle.laws.specs.Folds.{if_then_else_}
+use Rattle.rules.specs.Interval.{following}
+use Rattle.rules.specs.WaitBound.{waitBound}
+use Rattle.rules.specs.SiteTimes.{under}
+use Rattle.rules.specs.Timed.{startsNext}
+use Rattle.rules.specs.TimedLaws.{readyCore}
+use Rattle.rules.specs.Laws.{Sound}
+use Rattle.rules.specs.DemandThree.{Taken, inWalk, someStep}
+use Rattle.rules.specs.TimedDemandThree.{TimedStep, takens, changedWaits, MetInTime}
+use Rattle.laws.proofs.Booleans.{or-false-left, or-false-right, never-both, not-true-false}
+use Rattle.proof_runs.proofs.ValidStates.{ValidState}
+use Rattle.proof_runs.proofs.Runs.{ValidLink}
+use Rattle.proof_waits.proofs.Demand.{Waits}
+
+-- the step, seen as one from such a state
+abbrev pub viewed : State → Taken → Taken
+viewed s step =
+    record { before = s; inputs = step .inputs; room = step .room; outcome = step .outcome; after = step .after; shown = step .shown }
+
+-- the state that a step is plain from
+abbrev pub plainFrom : Bool → State → State
+plainFrom changed s = if changed then readyCore s else s
+
+pub record TimedLink (site : Site) (s : State) (ruling : Times) (step : TimedStep) : Type 0 where
+  pub before : step .taken .before ≡ s
+  pub kept : step .changed ≡ false → step .ruling ≡ ruling
+  pub plain : ValidLink (under site (step .ruling)) (plainFrom (step .changed) s) (viewed (plainFrom (step .changed) s) (step .taken))
+  pub still : step .changed ≡ true → (k : ℕ) → k < 8 → inWalk s k ≡ false
+  pub ruledBy : Sound (under site ruling)
+  pub sane : ValidState (under site ruling) s
+  pub over : step .changed ≡ true → startsNext (under site ruling) s ≡ true
+  pub begun : step .changed ≡ true → (next : Held) × (step .taken .after .position ≡ following (s .position .interval) (step .ruling) next (s .position))
+
+abbrev pub TimedRun : Site → State → Times → List TimedStep → Type 0
+TimedRun site s ruling [] = Unit {0}
+TimedRun site s ruling (step ∷ later) = TimedLink site s ruling step × TimedRun site (step .taken .after) (step .ruling) later
+
+-- the later steps of a run are linked from the state and the times that the earlier ones lead to
+pub past :
+    (site : Site) (earlier later : List TimedStep) (s : State) (ruling : Times) →
+    TimedRun site s ruling (earlier ++ later) →
+    (t : State) × (r : Times) × TimedRun site t r later
+past site [] later s ruling run = (s, ruling, run)
+past site (step ∷ earlier) later s ruling run = past site earlier later (step .taken .after) (step .ruling) (run .1)
+
+-- the earlier steps of a run are a run
+pub front :
+    (site : Site) (earlier later : List TimedStep) (s : State) (ruling : Times) →
+    TimedRun site s ruling (earlier ++ later) →
+    TimedRun site s ruling earlier
+front site [] later s ruling run = tt
+front site (step ∷ earlier) later s ruling run = (run .0, front site earlier later (step .taken .after) (step .ruling) (run .1))
+
+-- ── A demand of either kind ──
+
+-- the event comes neither in the first step nor later
+none-first : (first later : Bool) → (first || later) ≡ false → (first ≡ false) × (later ≡ false)
+none-first first later h = (or-false-left first later h, or-false-right first later h)
+
+module _
+    (site : Site) (met : Taken → Bool) (Stands : State → Type 0) (Left : Times → ℕ → State → Type 0)
+    (goes :
+    (ruling : Times) (s : State) (step : Taken) →
+    ValidLink (under site ruling) s step →
+    Stands s →
+    (met step ≡ true) ⊎ Waits Stands (Left ruling) s step)
+    (within :
+    (ruling : Times) →
+    Sound (under site ruling) →
+    (s : State) →
+    ValidState (under site ruling) s →
+    Stands s →
+    Left ruling (waitBound (under site ruling)) s)
+    (never : (ruling : Times) (s : State) → Left ruling zero s → ⊥)
+    (again : (s : State) → Stands s → Stands (readyCore s))
+    (seen : (step : Taken) → ((k : ℕ) → k < 8 → inWalk (step .before) k ≡ false) → met (viewed (readyCore (step .before)) step) ≡ true → met step ≡ true) where
+  -- the demand stands, and so many steps are left at most
+  abbrev Holds : State → Times → ℕ → Type 0
+  Holds s ruling n = Stands s × Left ruling n s
+
+  plain-step :
+      (s : State) (ruling : Times) (step : TimedStep) (n : ℕ) →
+      ValidLink (under site ruling) s (viewed s (step .taken)) →
+      met (viewed s (step .taken)) ≡ false →
+      Holds s ruling (suc n) →
+      Holds (step .taken .after) ruling n
+  plain-step s ruling step n link none w =
+      ⊎-elim
+      (λ (e : met (viewed s (step .taken)) ≡ true). absurd (never-both e none))
+      (λ (waits : Waits Stands (Left ruling) s (viewed s (step .taken))). (waits .stands, waits .falls n (w .1)))
+      (goes ruling s (viewed s (step .taken)) link (w .0))
+
+  -- some step is left
+  some-left : (s : State) (ruling : Times) (n : ℕ) → Left ruling n s → (m : ℕ) × (n ≡ suc m)
+  some-left s ruling zero h = absurd (never ruling s h)
+  some-left s ruling (suc n) h = (n, refl)
+
+  -- what is left after a step that is plain, or a change
+  one-step :
+      (s : State) (ruling : Times) (step : TimedStep) (n : ℕ) →
+      TimedLink site s ruling step →
+      met (step .taken) ≡ false →
+      Holds s ruling n →
+      (m : ℕ) × (suc m ≤ n + (if step .changed then waitBound (under site (step .ruling)) else 0)) × Holds (step .taken .after) (step .ruling) m
+  one-step s ruling step n link none w = decide (step .changed) refl (link .plain)
+    where
+      back : met (viewed s (step .taken)) ≡ false
+      back = ap (λ (b : State). met (viewed b (step .taken))) (sym (link .before)) ∙ none
+
+      decide :
+          (changed : Bool) →
+          step .changed ≡ changed →
+          ValidLink (under site (step .ruling)) (plainFrom changed s) (viewed (plainFrom changed s) (step .taken)) →
+          (m : ℕ) × (suc m ≤ n + (if changed then waitBound (under site (step .ruling)) else 0)) × Holds (step .taken .after) (step .ruling) m
+      decide false e plain =
+          let left = some-left s ruling n (w .1) in
+          let same = link .kept e in (
+            left .0,
+            omega (arith, left .1),
+            plain-step s (step .ruling) step (left .0) plain back (w .0, subst (λ (r : Times). Left r (suc (left .0)) s) (sym same) (subst (λ (k : ℕ). Left ruling k s) (left .1) (w .1))),
+          )
+      decide true e plain =
+          let stands = again s (w .0) in
+          let anew = within (step .ruling) (plain .sound) (readyCore s) (plain .here) stands in
+          let left = some-left (readyCore s) (step .ruling) (waitBound (under site (step .ruling))) anew in (
+            left .0,
+            omega (arith, left .1),
+            plain-step (readyCore s) (step .ruling) step (left .0) plain
+                (not-true-false (met (viewed (readyCore s) (step .taken)))
+                (λ h.
+                never-both
+                (seen (step .taken) (λ k l. ap (λ (b : State). inWalk b k) (link .before) ∙ link .still e k l)
+                (ap (λ (b : State). met (viewed (readyCore b) (step .taken))) (link .before) ∙ h))
+                none))
+                (stands, subst (λ (k : ℕ). Left (step .ruling) k (readyCore s)) (left .1) anew),
+          )
+
+  pub lasts :
+      (between : List TimedStep) (s : State) (ruling : Times) (n : ℕ) →
+      TimedRun site s ruling between →
+      Holds s ruling n →
+      someStep met (takens between) ≡ false →
+      length between < n + changedWaits site between
+  unfolding changedWaits someStep
+  lasts [] s ruling n run w none = omega (arith, some-left s ruling n (w .1) .1)
+  lasts (step ∷ later) s ruling n run w none =
+      let parts = none-first (met (step .taken)) (someStep met (takens later)) none in
+      let one = one-step s ruling step n (run .0) (parts .0) w in
+      omega (arith, one .1, lasts later (step .taken .after) (step .ruling) (one .0) (run .1) (one .2) (parts .1))
+
+  -- from the step that registers it on
+  pub met-in-time :
+      (s : State) (ruling : Times) (step : TimedStep) (between : List TimedStep) →
+      TimedRun site s ruling (step ∷ between) →
+      (met (viewed (plainFrom (step .changed) s) (step .taken)) ≡ true)
+      ⊎ Waits Stands (Left (step .ruling)) (plainFrom (step .changed) s) (viewed (plainFrom (step .changed) s) (step .taken)) →
+      MetInTime site met step between
+  unfolding MetInTime someStep
+  met-in-time s ruling step between run first none =
+      let parts = none-first (met (step .taken)) (someStep met (takens between)) none in
+      ⊎-elim
+      (λ (e : met (viewed (plainFrom (step .changed) s) (step .taken)) ≡ true).
+      absurd (never-both (truly (step .changed) refl e) (parts .0)))
+      (λ (waits : Waits Stands (Left (step .ruling)) (plainFrom (step .changed) s) (viewed (plainFrom (step .changed) s) (step .taken))).
+      lasts between (step .taken .after) (step .ruling) (waitBound (under site (step .ruling))) (run .1)
+      (waits .stands, within (step .ruling) (run .0 .plain .sound) (step .taken .after) (run .0 .plain .there) (waits .stands))
+      (parts .1))
+      first
+    where
+      truly : (c : Bool) → step .changed ≡ c → met (viewed (plainFrom c s) (step .taken)) ≡ true → met (step .taken) ≡ true
+      truly false e h = ap (λ (b : State). met (viewed b (step .taken))) (run .0 .before) ∙ h
+      truly true e h =
+          seen (step .taken) (λ k l. ap (λ (b : State). inWalk b k) (run .0 .before) ∙ run .0 .still e k l)
+          (ap (λ (b : State). met (viewed (readyCore b) (step .taken))) (run .0 .before) ∙ h)

@@ -1,0 +1,5 @@
+pub mod Induction
+pub mod Runs
+pub mod Greens
+pub mod Clearances
+pub mod Demands

@@ -1,0 +1,82 @@
+-- The times of a site as a value that may be replaced: the site with other times, and the times that a site may have.
+use Prim.Native.Nat.{ℕ, _+_}
+use mathlib.Core.Bool.{Bool, _||_}
+use mathlib.Core.List.{List, [], _∷_}
+use lib.Dec.{ltb, eqb}
+use lib.ListN.{replicate}
+use Rattle.rules.specs.declared.site.PhaseTimes.{PhaseTimes}
+use Rattle.rules.specs.declared.site.Range.{Range}
+use Rattle.rules.specs.declared.site.Site.{Site}
+use Rattle.rules.specs.declared.site.Times.{Times}
+use Rattle.rules.specs.declared.site.WalkTimes.{WalkTimes}
+use Rattle.laws.specs.Folds.{if_then_else_, allOf}
+use Rattle.rules.specs.Limits.{limits, within, startRedSetting, phaseSettings, walkSettings, earlySetting}
+use Rattle.rules.specs.Site.{noPhaseTimes, noWalkTimes, phaseTimes, walkTimes}
+use Rattle.rules.specs.State.{every}
+
+-- the site with other times
+abbrev pub under : Site → Times → Site
+under site times =
+    record {
+      size = site .size;
+      groups = site .groups;
+      conflicts = site .conflicts;
+      detectors = site .detectors;
+      crossings = site .crossings;
+      edition = site .edition;
+      early = site .early;
+      order = site .order;
+      times = times;
+    }
+
+-- every setting is 0
+unfoldable pub noTimes : Times
+noTimes = record { start = 0; phases = replicate 7 noPhaseTimes; walks = replicate 8 noWalkTimes }
+
+-- ── The times that a site may have ──
+
+-- the table that holds for the site
+abbrev pub siteLimits : Site → List Range
+siteLimits site = limits (site .edition)
+
+-- the limits of record i, if the site has n of them; for a record that it does not have the table is empty, which allows only 0
+abbrev pub recordLimits : List Range → ℕ → ℕ → List Range
+recordLimits table n i = if ltb i n then table else []
+
+-- without a section of kind 7 the time of early cut-off green is 0
+unfoldable pub phaseWithin : List Range → Bool → PhaseTimes → Bool
+phaseWithin table early times =
+    every
+    (within table phaseSettings (times .late)
+    ∷ within table (phaseSettings + 1) (times .minimum)
+    ∷ within table (phaseSettings + 2) (times .maximum)
+    ∷ within table (phaseSettings + 3) (times .gap)
+    ∷ within table (phaseSettings + 4) (times .yellow)
+    ∷ within table (phaseSettings + 5) (times .red)
+    ∷ within table earlySetting (times .early)
+    ∷ (early || eqb (times .early) 0)
+    ∷ [])
+
+unfoldable pub walkWithin : List Range → WalkTimes → Bool
+walkWithin table times =
+    every
+    (within table walkSettings (times .walk)
+    ∷ within table (walkSettings + 1) (times .first)
+    ∷ within table (walkSettings + 2) (times .second)
+    ∷ [])
+
+-- each setting that the site has is in the table, and each that it does not have is 0
+unfoldable pub timesWithin : List Range → Site → Times → Bool
+timesWithin table site times =
+    every
+    (within table startRedSetting (times .start)
+    ∷ allOf (λ p. phaseWithin (recordLimits table (site .size .phases) p) (site .early) (phaseTimes times p)) 7
+    ∷ allOf (λ k. walkWithin (recordLimits table (site .size .movements) k) (walkTimes times k)) 8
+    ∷ [])
+
+unfoldable pub admitted : Site → Times → Bool
+admitted site times = timesWithin (siteLimits site) site times
+
+-- every setting is 0
+unfoldable pub blank : Site → Times → Bool
+blank site times = timesWithin [] site times

@@ -1,0 +1,3 @@
+pub mod TimedLaws
+pub mod TimedRoundTrips
+pub mod TimedWritten

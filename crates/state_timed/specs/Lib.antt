@@ -1,0 +1,2 @@
+pub mod TimedLayout
+pub mod TimedRoundTrips

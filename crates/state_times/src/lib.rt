@@ -1,0 +1,44 @@
+// Times as 148 bytes. The layout is in specs/TimesLayout.antt. Any bytes are times, so there is no test.
+mod phases;
+mod walks;
+
+ghost use Prim.Native.Nat.{_+_, _≤_};
+ghost use mathlib.Core.Path.{_≡_};
+ghost use lib.ListN.{length};
+ghost use lib.Seq.{sets};
+ghost use Rattle.state_times.specs.TimesLayout.{times as timesForm};
+use rules::site::Times;
+
+const START: usize = 0;
+
+const PHASES: usize = 2;
+
+const WALKS: usize = 86;
+
+const EARLIES: usize = 134;
+
+// How many bytes times have.
+pub const TIMES_BYTES: usize = 148;
+
+pub fn read(bytes: &[u8], at: usize) -> Times
+    requires { ⌜ at + timesForm .width ≤ length (now bytes) ⌝ }
+    ensures { λ r. ⌜ r ≡ timesForm .read (now (bytes .entry)) at ⌝ }
+{
+    Times {
+        start: base_bytes::two_in(bytes, at + START),
+        phases: phases::read(bytes, at + PHASES, at + EARLIES),
+        walks: walks::read(bytes, at + WALKS),
+    }
+}
+
+pub fn put(bytes: &mut [u8], at: usize, times: Times)
+    requires { ⌜ at + timesForm .width ≤ length (now bytes) ⌝ }
+    ensures { λ _. ⌜ now (bytes .exit) ≡ sets (now (bytes .entry)) at (timesForm .written times) ⌝ }
+{
+    let phases = times.phases;
+    let walks = times.walks;
+    state_forms::put_two(bytes, at + START, times.start);
+    phases::put(bytes, at + PHASES, phases);
+    walks::put(bytes, at + WALKS, walks);
+    phases::put_early(bytes, at + EARLIES, phases);
+}

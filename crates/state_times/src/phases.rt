@@ -1,0 +1,93 @@
+// The times of the seven phases: L, M, X, G, Y, R in 12 bytes each, and in another place the kind 7 times in 2 bytes each.
+ghost use Prim.Native.Nat.{_+_, _*_, _≤_};
+ghost use mathlib.Core.List.{map};
+ghost use mathlib.Core.Path.{_≡_};
+ghost use lib.ListN.{length};
+ghost use lib.Seq.{sets};
+ghost use Rattle.laws.specs.Folds.{listOf};
+ghost use Rattle.laws.specs.Bytes.{twoAt};
+ghost use Rattle.state_times.specs.TimesLayout.{phaseRows, phaseOf, phases as phasesForm, earlies};
+use rules::site::PhaseTimes;
+
+const RECORD: usize = 12;
+
+const EARLY: usize = 2;
+
+fn read_one(bytes: &[u8], at: usize, early: u16) -> PhaseTimes
+    requires { ⌜ at + phaseRows .form .width ≤ length (now bytes) ⌝ }
+    ensures { λ r. ⌜ r ≡ phaseOf (phaseRows .form .read (now (bytes .entry)) at) early ⌝ }
+{
+    PhaseTimes {
+        late: base_bytes::two_in(bytes, at),
+        minimum: base_bytes::two_in(bytes, at + 2),
+        maximum: base_bytes::two_in(bytes, at + 4),
+        gap: base_bytes::two_in(bytes, at + 6),
+        yellow: base_bytes::two_in(bytes, at + 8),
+        red: base_bytes::two_in(bytes, at + 10),
+        early,
+    }
+}
+
+// The records are at one place, and the kind 7 times at another.
+pub fn read(bytes: &[u8], at: usize, early: usize) -> [PhaseTimes; 7]
+    requires { ⌜ (at + phasesForm .width ≤ length (now bytes)) × (early + earlies .width ≤ length (now bytes)) ⌝ }
+    ensures { λ r. ⌜ r ≡ listOf (λ p. phaseOf (phaseRows .form .read (now (bytes .entry)) (at + p * 12)) (twoAt (now (bytes .entry)) (early + p * 2))) 7 ⌝ }
+{
+    let blank = PhaseTimes {
+        late: 0,
+        minimum: 0,
+        maximum: 0,
+        gap: 0,
+        yellow: 0,
+        red: 0,
+        early: 0,
+    };
+    let mut records = [blank; 7];
+    let mut p: usize = 0;
+    while p < 7 {
+        records[p] = read_one(
+            bytes,
+            at + p * RECORD,
+            base_bytes::two_in(bytes, early + p * EARLY),
+        );
+        p += 1;
+    }
+    records
+}
+
+fn put_one(bytes: &mut [u8], at: usize, own: PhaseTimes)
+    requires { ⌜ at + phaseRows .form .width ≤ length (now bytes) ⌝ }
+    ensures { λ _. ⌜ now (bytes .exit) ≡ sets (now (bytes .entry)) at (phaseRows .form .written (phaseRows .fields own)) ⌝ }
+{
+    state_forms::put_two(bytes, at, own.late);
+    state_forms::put_two(bytes, at + 2, own.minimum);
+    state_forms::put_two(bytes, at + 4, own.maximum);
+    state_forms::put_two(bytes, at + 6, own.gap);
+    state_forms::put_two(bytes, at + 8, own.yellow);
+    state_forms::put_two(bytes, at + 10, own.red);
+}
+
+pub fn put(bytes: &mut [u8], at: usize, records: [PhaseTimes; 7])
+    requires { ⌜ at + phasesForm .width ≤ length (now bytes) ⌝ }
+    ensures { λ _. ⌜ now (bytes .exit) ≡ sets (now (bytes .entry)) at (phasesForm .written (map (phaseRows .fields) records)) ⌝ }
+{
+    let mut p: usize = 0;
+    while p < 7 {
+        let own = records[p];
+        put_one(bytes, at + p * RECORD, own);
+        p += 1;
+    }
+}
+
+// The kind 7 times.
+pub fn put_early(bytes: &mut [u8], at: usize, records: [PhaseTimes; 7])
+    requires { ⌜ at + earlies .width ≤ length (now bytes) ⌝ }
+    ensures { λ _. ⌜ now (bytes .exit) ≡ sets (now (bytes .entry)) at (earlies .written (map (λ p. p .early) records)) ⌝ }
+{
+    let mut p: usize = 0;
+    while p < 7 {
+        let own = records[p];
+        state_forms::put_two(bytes, at + p * EARLY, own.early);
+        p += 1;
+    }
+}

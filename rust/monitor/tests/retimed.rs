@@ -1,0 +1,511 @@
+//! Runs with retimings among the calls: the model without a breach, controllers that
+//! handle new times wrongly, and the waits that changes allow.
+
+use generate::{Pace, Plan, Rng, Shape};
+use model::packed::{self, number, Board, Model};
+use model::{Interval, Number, Site, State, TimedState, Times};
+use monitor::{watch_retimed, Breach, Driver, Monitor, Report, Seen, Strategy};
+
+/// A retimed run of a board.
+fn watched(
+    board: &dyn Board,
+    plan: &Plan,
+    strategy: Strategy,
+    seed: u64,
+    calls: u64,
+) -> Result<Report, Breach> {
+    let personality = plan.bytes();
+    let site = Site::read(&personality).unwrap();
+    let mut driver = Driver::new(strategy, &site, Rng::new(seed));
+    let mut rng = Rng::new(!seed);
+    watch_retimed(board, &personality, &mut driver, &mut rng, calls).unwrap()
+}
+
+/// A site with short times, so that a run sees many changes.
+fn quick_site(rng: &mut Rng) -> Plan {
+    let shape = Shape {
+        pace: Pace::Short,
+        ..Shape::random(rng)
+    };
+    Plan::of_shape(rng, shape)
+}
+
+#[test]
+fn the_model_breaks_nothing() {
+    let mut rng = Rng::new(12);
+    let mut retimings = 0;
+    let mut changes = 0;
+    let mut met = 0;
+    for seed in 0..150 {
+        let plan = match seed {
+            0 => Plan::junction(),
+            1 => Plan::largest(),
+            _ if seed % 2 == 0 => quick_site(&mut rng),
+            _ => Plan::random(&mut rng),
+        };
+        for strategy in Strategy::ALL {
+            let report = watched(&Model, &plan, strategy, seed, 1_000)
+                .unwrap_or_else(|breach| panic!("{strategy:?}, seed {seed}: {breach}\n{plan:?}"));
+            retimings += report.retimings;
+            changes += report.changes;
+            met += report.demands_met;
+        }
+    }
+    let counts = [retimings, changes, met];
+    let least = [5_000, 2_000, 5_000];
+    assert!(
+        counts
+            .iter()
+            .zip(least)
+            .all(|(&count, least)| count > least),
+        "{counts:?}"
+    );
+}
+
+/// A board that handles steps or retimings in its own way.
+struct Odd {
+    step: fn(&[u8], &mut [u8], u64, &mut [u8]) -> u64,
+    retime: fn(&[u8], &mut [u8], &[u8]) -> u64,
+}
+
+const RIGHT: Odd = Odd {
+    step: packed::step,
+    retime: packed::retime,
+};
+
+impl Board for Odd {
+    fn read(&self, personality: &[u8]) -> u64 {
+        packed::read(personality)
+    }
+
+    fn wait_bound(&self, personality: &[u8]) -> u64 {
+        packed::wait_bound(personality)
+    }
+
+    fn fresh(&self, personality: &[u8], state: &mut [u8]) -> u64 {
+        packed::fresh(personality, state)
+    }
+
+    fn step(&self, personality: &[u8], state: &mut [u8], inputs: u64, colours: &mut [u8]) -> u64 {
+        (self.step)(personality, state, inputs, colours)
+    }
+
+    fn retime(&self, personality: &[u8], state: &mut [u8], new_personality: &[u8]) -> u64 {
+        (self.retime)(personality, state, new_personality)
+    }
+
+    fn section(&self, personality: &[u8], kind: u16) -> u64 {
+        packed::section(personality, kind)
+    }
+
+    fn road(
+        &self,
+        personality: &[u8],
+        streams: &[u8],
+        steps: u32,
+        state: &mut [u8],
+        results: &mut [u8],
+    ) -> u64 {
+        packed::road(personality, streams, steps, state, results)
+    }
+
+    fn cabinet_place(
+        &self,
+        row: &mut [u8],
+        record: usize,
+        personality: &[u8],
+        first: usize,
+        outputs: &mut [u8],
+    ) -> u64 {
+        packed::cabinet_place(row, record, personality, first, outputs)
+    }
+
+    fn cabinet_step(&self, row: &mut [u8], record: usize, inputs: u64, outputs: &mut [u8]) -> u64 {
+        packed::cabinet_step(row, record, inputs, outputs)
+    }
+
+    fn cabinet_take_out(&self, row: &mut [u8], record: usize, outputs: &mut [u8]) -> u64 {
+        packed::cabinet_take_out(row, record, outputs)
+    }
+}
+
+/// The first breach on some site under some strategy.
+fn first_breach(board: &Odd) -> Breach {
+    let mut rng = Rng::new(7);
+    for seed in 0..30 {
+        let plan = quick_site(&mut rng);
+        for strategy in Strategy::ALL {
+            if let Err(breach) = watched(board, &plan, strategy, seed, 3_000) {
+                return breach;
+            }
+        }
+    }
+    panic!("the monitor notices nothing");
+}
+
+macro_rules! assert_breach {
+    ($board:expr, $breach:pat) => {
+        let breach = first_breach(&$board);
+        assert!(matches!(breach, $breach), "{breach}");
+    };
+}
+
+fn decode(state: &[u8]) -> TimedState {
+    TimedState::from_bytes(state).expect("a state")
+}
+
+/// Changes the state that an accepted call hands back.
+fn then(answer: u64, state: &mut [u8], change: impl FnOnce(&mut TimedState)) -> u64 {
+    if number(answer) == 0 {
+        let mut timed = decode(state);
+        change(&mut timed);
+        state.copy_from_slice(&timed.to_bytes());
+    }
+    answer
+}
+
+#[test]
+fn new_times_that_rule_at_once() {
+    let board = Odd {
+        retime: |personality, state, new| {
+            let answer = packed::retime(personality, state, new);
+            then(answer, state, |timed| {
+                timed.ruling = timed.waiting.take().unwrap();
+                timed.state.gap_count = 0;
+                timed.state.maximum_count = 0;
+            })
+        },
+        ..RIGHT
+    };
+    assert_breach!(board, Breach::WrongTimes { .. });
+}
+
+#[test]
+fn new_times_that_never_rule() {
+    let board = Odd {
+        step: |personality, state, inputs, colours| {
+            let before = decode(state);
+            let mut without = before;
+            without.waiting = None;
+            let mut bytes = without.to_bytes();
+            let answer = packed::step(personality, &mut bytes, inputs, colours);
+            then(answer, &mut bytes, |timed| timed.waiting = before.waiting);
+            if number(answer) == 0 {
+                state.copy_from_slice(&bytes);
+            }
+            answer
+        },
+        ..RIGHT
+    };
+    assert_breach!(board, Breach::WrongTimes { .. });
+}
+
+#[test]
+fn new_times_that_wait_on_after_their_start() {
+    let board = Odd {
+        step: |personality, state, inputs, colours| {
+            let waited = decode(state).waiting;
+            let answer = packed::step(personality, state, inputs, colours);
+            then(answer, state, |timed| timed.waiting = waited)
+        },
+        ..RIGHT
+    };
+    assert_breach!(board, Breach::WrongTimes { .. });
+}
+
+#[test]
+fn new_times_that_rule_in_the_minimum_green_they_come_in() {
+    let board = Odd {
+        step: |personality, state, inputs, colours| {
+            let before = decode(state);
+            let answer = packed::step(personality, state, inputs, colours);
+            then(answer, state, |timed| {
+                let in_minimum_green = timed.state.interval == Interval::MinimumGreen;
+                if let Some(waiting) = before.waiting.filter(|_| in_minimum_green) {
+                    timed.ruling = waiting;
+                    timed.waiting = None;
+                    timed.state.gap_count = 0;
+                    timed.state.maximum_count = 0;
+                }
+            })
+        },
+        ..RIGHT
+    };
+    assert_breach!(board, Breach::WrongTimes { .. });
+}
+
+#[test]
+fn a_later_retiming_that_does_not_replace() {
+    let board = Odd {
+        retime: |personality, state, new| {
+            let waited = decode(state).waiting;
+            let answer = packed::retime(personality, state, new);
+            then(answer, state, |timed| {
+                timed.waiting = waited.or(timed.waiting)
+            })
+        },
+        ..RIGHT
+    };
+    assert_breach!(board, Breach::WrongTimes { .. });
+}
+
+#[test]
+fn a_retiming_that_drops_the_demands() {
+    let board = Odd {
+        retime: |personality, state, new| {
+            let answer = packed::retime(personality, state, new);
+            then(answer, state, |timed| {
+                (timed.state.locks, timed.state.demands) = (0, 0);
+                timed.state.demanded = 0;
+            })
+        },
+        ..RIGHT
+    };
+    assert_breach!(board, Breach::WrongTimes { .. });
+}
+
+#[test]
+fn a_change_that_drops_the_demands() {
+    let board = Odd {
+        step: |personality, state, inputs, colours| {
+            let waited = decode(state).waiting.is_some();
+            let answer = packed::step(personality, state, inputs, colours);
+            then(answer, state, |timed| {
+                if waited && timed.waiting.is_none() {
+                    (timed.state.locks, timed.state.demands) = (0, 0);
+                    timed.state.demanded = 0;
+                }
+            })
+        },
+        ..RIGHT
+    };
+    assert_breach!(board, Breach::LockUnmet { .. } | Breach::PressUnmet { .. });
+}
+
+/// Steps an interval by the times that wait, as if they ruled in it.
+fn stepped_by_waiting(
+    personality: &[u8],
+    state: &mut [u8],
+    inputs: u64,
+    colours: &mut [u8],
+    early: fn(&State) -> bool,
+) -> u64 {
+    let before = decode(state);
+    match before.waiting {
+        Some(waiting) if early(&before.state) => {
+            let mut other = before;
+            other.ruling = waiting;
+            other.state.gap_count = 0;
+            other.state.maximum_count = 0;
+            let mut bytes = other.to_bytes();
+            let answer = packed::step(personality, &mut bytes, inputs, colours);
+            if number(answer) != 0 {
+                return packed::step(personality, state, inputs, colours);
+            }
+            then(answer, &mut bytes, |timed| {
+                if timed.waiting.is_some() {
+                    timed.ruling = before.ruling;
+                }
+            });
+            state.copy_from_slice(&bytes);
+            let site = Site::read(personality).unwrap();
+            u64::from(decode(state).wait_bound(&site)) << 8
+        }
+        _ => packed::step(personality, state, inputs, colours),
+    }
+}
+
+#[test]
+fn yellow_by_the_times_that_wait() {
+    let board = Odd {
+        step: |personality, state, inputs, colours| {
+            stepped_by_waiting(personality, state, inputs, colours, |state| {
+                state.interval == Interval::Yellow
+            })
+        },
+        ..RIGHT
+    };
+    assert_breach!(board, Breach::Uncleared { .. });
+}
+
+#[test]
+fn all_red_by_the_times_that_wait() {
+    let board = Odd {
+        step: |personality, state, inputs, colours| {
+            stepped_by_waiting(personality, state, inputs, colours, |state| {
+                state.interval == Interval::AllRed
+            })
+        },
+        ..RIGHT
+    };
+    assert_breach!(board, Breach::Uncleared { .. });
+}
+
+#[test]
+fn second_clearances_by_the_times_that_wait() {
+    let board = Odd {
+        step: |personality, state, inputs, colours| {
+            stepped_by_waiting(personality, state, inputs, colours, |state| {
+                let mut movements = state.movements.iter();
+                state.interval == Interval::AllRed
+                    && movements.any(|one| one.stage == model::Stage::ClearanceTwo)
+            })
+        },
+        ..RIGHT
+    };
+    assert_breach!(board, Breach::Uncleared { .. });
+}
+
+#[test]
+fn the_wait_of_the_first_personality() {
+    let board = Odd {
+        step: |personality, state, inputs, colours| {
+            let answer = packed::step(personality, state, inputs, colours);
+            match number(answer) {
+                0 => packed::wait_bound(personality),
+                _ => answer,
+            }
+        },
+        ..RIGHT
+    };
+    assert_breach!(board, Breach::WrongWait { .. });
+}
+
+#[test]
+fn the_wait_of_the_times_before_the_step() {
+    let board = Odd {
+        step: |personality, state, inputs, colours| {
+            let before = decode(state);
+            let answer = packed::step(personality, state, inputs, colours);
+            let site = Site::read(personality).unwrap();
+            match number(answer) {
+                0 => u64::from(before.wait_bound(&site)) << 8,
+                _ => answer,
+            }
+        },
+        ..RIGHT
+    };
+    assert_breach!(board, Breach::WrongWait { .. });
+}
+
+#[test]
+fn a_retiming_refused_in_start_red() {
+    let board = Odd {
+        retime: |personality, state, new| match decode(state).state.interval {
+            Interval::StartRed => Number::InvalidState as u64,
+            _ => packed::retime(personality, state, new),
+        },
+        ..RIGHT
+    };
+    assert_breach!(board, Breach::WrongAnswer { .. });
+}
+
+#[test]
+fn equal_times_refused() {
+    let board = Odd {
+        retime: |personality, state, new| match personality == new {
+            true => Number::NotTimesAlone as u64,
+            false => packed::retime(personality, state, new),
+        },
+        ..RIGHT
+    };
+    assert_breach!(board, Breach::WrongAnswer { .. });
+}
+
+#[test]
+fn another_site_accepted() {
+    let board = Odd {
+        retime: |personality, state, new| match packed::retime(personality, state, new) {
+            26 => 0,
+            answer => answer,
+        },
+        ..RIGHT
+    };
+    assert_breach!(board, Breach::WrongAnswer { .. });
+}
+
+#[test]
+fn a_refused_retiming_that_writes() {
+    let board = Odd {
+        retime: |personality, state, new| {
+            let answer = packed::retime(personality, state, new);
+            if answer == 26 {
+                let own = Times::of(&Site::read(personality).unwrap());
+                then(0, state, |timed| timed.waiting = Some(own));
+            }
+            answer
+        },
+        ..RIGHT
+    };
+    assert_breach!(board, Breach::RefusalWrites { .. });
+}
+
+/// The junction of two phases with a wait of 460 steps.
+fn longer() -> Times {
+    let plan = Plan {
+        start_red: 20,
+        phases: vec![[0, 40, 60, 10, 40, 20]; 2],
+        ..Plan::junction()
+    };
+    Times::of(&Site::read(&plan.bytes()).unwrap())
+}
+
+/// A demand of B that is never met. It is registered in these steps, and the times
+/// change in one step, if in any: start red lasts until then. Gives the first step
+/// in which the monitor finds that it waits too long, and the registering step.
+fn overdue(registered: &[u64], change: Option<u64>) -> (u64, u64) {
+    let personality = Plan::junction().bytes();
+    let site = Site::read(&personality).unwrap();
+    let mut monitor = Monitor::new(&site);
+    let mut before = TimedState::fresh(&site);
+    before.waiting = change.map(|_| longer());
+    for step in 1.. {
+        let mut after = before;
+        let registers = registered.contains(&step);
+        if registers {
+            (after.state.locks, after.state.demanded) = (0b10, 0b10);
+        }
+        if change == Some(step) {
+            after.state.interval = Interval::LateStart;
+            after.ruling = longer();
+            after.waiting = None;
+        }
+        let seen = Seen {
+            before: &before,
+            inputs: u64::from(registers) << 1,
+            after: &after,
+            colours: &[0, 0],
+            wait: after.wait_bound(&site).into(),
+        };
+        match monitor.accepted_step(&site, &seen) {
+            Ok(()) => before = after,
+            Err(Breach::LockUnmet {
+                step,
+                phase: 1,
+                registered,
+            }) => return (step, registered),
+            Err(breach) => panic!("{breach}"),
+        }
+    }
+    unreachable!("a demand waits for ever");
+}
+
+#[test]
+fn how_long_a_demand_may_wait() {
+    // Not met in step s and n further steps: n is below the sum.
+    assert_eq!(overdue(&[1], None), (1 + 270, 1));
+    assert_eq!(overdue(&[1, 200], None), (1 + 270, 1));
+    // Through a change the old wait and the new one.
+    assert_eq!(overdue(&[1], Some(2)), (1 + 270 + 460, 1));
+    assert_eq!(overdue(&[1], Some(270)), (1 + 270 + 460, 1));
+    // A change in the step in which the old wait ends still counts.
+    assert_eq!(overdue(&[1], Some(271)), (1 + 270 + 460, 1));
+    assert_eq!(overdue(&[1], Some(272)), (1 + 270, 1));
+    // Registered in the change: the new wait alone.
+    assert_eq!(overdue(&[100], Some(100)), (100 + 460, 100));
+    assert_eq!(overdue(&[100], Some(50)), (100 + 460, 100));
+    // Registered again after the change: that one has less time.
+    assert_eq!(overdue(&[1, 100], Some(50)), (100 + 460, 100));
+    assert_eq!(overdue(&[1, 100], Some(100)), (100 + 460, 100));
+    assert_eq!(overdue(&[1, 280], Some(50)), (1 + 270 + 460, 1));
+}
