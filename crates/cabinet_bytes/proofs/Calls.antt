@@ -20,7 +20,7 @@ use Rattle.rules.specs.Verdicts.{_orElse_, refuseIf, reportOf}
 use Rattle.proof_acceptance.proofs.Refusals.{accepted-is-short}
 use Rattle.state_forms.specs.Forms.{AreBytes}
 use Rattle.state_bytes.specs.Layout.{stateBytes, encoded}
-use Rattle.call_bytes.specs.CallBytes.{packed, packedVerdict}
+use Rattle.board_answers.specs.Answers.{packed, packedVerdict}
 use Rattle.cabinet_records.specs.declared.Record.{Record}
 use Rattle.cabinet_records.specs.Cabinet.{isFree, personalityOf, freeRecord, holding, withState, recordOf, hasRecord, outputsOf, pastLast, overlaps, isShort, writtenAt, ownOutputs, placingVerdict, heldVerdict, takingVerdict, Returned, returnedFor, placing, stepped, stepping, takingOut, Act, placeSite, stepSite, takeOut, doing}
 use Rattle.cabinet_records.specs.CabinetLaws.{RefusalLeavesBytes}

@@ -32,7 +32,7 @@ pub fn place(row: &mut [u8], k: usize, personality: &[u8], first: usize, outputs
     }
     let verdict = checks(row, k, personality, first, outputs.len());
     if let Verdict::Refused { number, place } = verdict {
-        return call_bytes::refusal(number, place);
+        return board_answers::refusal(number, place);
     }
     let count = cabinet_held::outputs_of(personality);
     fills::fill(outputs, first, count as usize, RED);
@@ -48,7 +48,7 @@ pub fn step(row: &mut [u8], k: usize, inputs: u64, outputs: &mut [u8]) -> u64
         ≡ doingBytes (now (row .entry)) (now (outputs .entry)) (stepSite k inputs) ⌝ }
 {
     if !is_held(row, k) {
-        return call_bytes::refusal(24, 0);
+        return board_answers::refusal(24, 0);
     }
     step_held(row, k, inputs, outputs)
 }
@@ -59,11 +59,11 @@ pub fn take_out(row: &mut [u8], k: usize, outputs: &mut [u8]) -> u64
         ≡ doingBytes (now (row .entry)) (now (outputs .entry)) (takeOut k) ⌝ }
 {
     if !is_held(row, k) {
-        return call_bytes::refusal(24, 0);
+        return board_answers::refusal(24, 0);
     }
     let verdict = taking(row, k, outputs);
     if let Verdict::Refused { number, place } = verdict {
-        return call_bytes::refusal(number, place);
+        return board_answers::refusal(number, place);
     }
     fills::fill(row, k * RECORD_BYTES, RECORD_BYTES, 0);
     0

@@ -7,7 +7,7 @@ ghost use lib.ListN.{length, drop};
 ghost use Rattle.rules.specs.Kept.{freshKept};
 ghost use Rattle.rules.specs.Laws.{greatestLength};
 ghost use Rattle.state_bytes.specs.Layout.{encoded};
-ghost use Rattle.call_bytes.specs.CallBytes.{packedVerdict};
+ghost use Rattle.board_answers.specs.Answers.{packedVerdict};
 ghost use Rattle.cabinet_records.specs.Cabinet.{outputsOf, pastLast, overlaps, holding};
 ghost use Rattle.cabinet_records.specs.Layout.{recordForm, recordBytes, rowBytes, decodedRow};
 ghost use Rattle.cabinet_held.specs.Held.{placingChecks};

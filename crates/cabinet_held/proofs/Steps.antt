@@ -10,8 +10,8 @@ use Rattle.rules.specs.declared.answer.Verdict.{Verdict}
 use Rattle.rules.specs.declared.answer.Verdict.the-variants.{Accepted, Refused}
 use Rattle.rules.specs.Personality.{verdictOf}
 use Rattle.rules.specs.Verdicts.{_orElse_, refuseIf, reportOf}
-use Rattle.call_bytes.specs.CallBytes.{packedVerdict}
-use Rattle.call_bytes.proofs.Answers.{Steps, refuses}
+use Rattle.board_answers.specs.Answers.{packedVerdict}
+use Rattle.board_step.proofs.Steps.{Steps, refuses}
 use Rattle.cabinet_records.specs.Cabinet.{outputsOf, pastLast, isShort, outputsIn, writtenAt}
 use Rattle.cabinet_records.proofs.Outputs.{written-none}
 use Rattle.cabinet_held.specs.Held.{heldChecks, HeldStep, heldStepFor, heldStepped, heldStep}

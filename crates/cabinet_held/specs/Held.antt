@@ -10,7 +10,8 @@ use Rattle.rules.specs.declared.answer.Verdict.the-variants.{Accepted, Refused}
 use Rattle.rules.specs.Laws.{greatestLength}
 use Rattle.rules.specs.Personality.{verdictOf}
 use Rattle.rules.specs.Verdicts.{_orElse_, refuseIf}
-use Rattle.call_bytes.specs.CallBytes.{packedVerdict, stepAnswer, stateAfter, coloursAfter}
+use Rattle.board_answers.specs.Answers.{packedVerdict}
+use Rattle.board_step.specs.StepCall.{stepAnswer, stateAfter, coloursAfter}
 use Rattle.cabinet_records.specs.Cabinet.{dark, outputsOf, pastLast, outputsIn, writtenAt}
 
 -- no place is above the length of the longest personality

@@ -5,7 +5,7 @@ ghost use mathlib.Core.Bool.{_&&_};
 ghost use mathlib.Core.Path.{_≡_};
 ghost use lib.ListN.{length};
 ghost use Rattle.rules.specs.Personality.{verdictOf};
-ghost use Rattle.call_bytes.specs.CallBytes.{packedVerdict};
+ghost use Rattle.board_answers.specs.Answers.{packedVerdict};
 ghost use Rattle.cabinet_records.specs.Cabinet.{outputsOf, isAccepted, meet, pastLast};
 ghost use Rattle.cabinet_held.specs.Held.{Near, heldChecks, takingChecks, placingChecks, darkened, heldStep};
 
@@ -70,7 +70,7 @@ pub fn packed_verdict(verdict: Verdict) -> u64
 {
     match verdict {
         Verdict::Accepted => 0,
-        Verdict::Refused { number, place } => call_bytes::refusal(number, place),
+        Verdict::Refused { number, place } => board_answers::refusal(number, place),
     }
 }
 
@@ -173,8 +173,8 @@ pub fn held_step(
         return packed_verdict(held_checks(personality, first));
     }
     if outputs.len() < 32 {
-        return call_bytes::step(personality, state, inputs, &mut outputs[..0]);
+        return board_step::step(personality, state, inputs, &mut outputs[..0]);
     }
     let end = start + count as usize;
-    call_bytes::step(personality, state, inputs, &mut outputs[start..end])
+    board_step::step(personality, state, inputs, &mut outputs[start..end])
 }

@@ -4,7 +4,8 @@ use Rattle.rules.specs.Verdicts.{reportOf, stepReportOf, waitOf}
 use Rattle.rules.proofs.Opened.{opened}
 use Rattle.state_forms.specs.Forms.{partsOf}
 use Rattle.state_bytes.specs.Layout.{encoded, decoded, isState}
-use Rattle.call_bytes.specs.CallBytes.{packed, packedVerdict, packedOutcome, stepAnswer, stateFor, stateAfter, coloursAfter}
+use Rattle.board_answers.specs.Answers.{packed, packedVerdict, packedOutcome}
+use Rattle.board_step.specs.StepCall.{stepAnswer, stateFor, stateAfter, coloursAfter}
 use Rattle.cabinet_records.specs.Cabinet.{isFree, personalityOf, freeRecord, holding, withState, recordOf, hasRecord, outputsOf, pastLast, isAccepted, hasOutputs, meet, meetsRecord, overlaps, isShort, writtenAt, outputsIn, ownOutputs, placingVerdict, heldVerdict, takingVerdict, returnedFor, placing, stepped, stepping, takingOut, doing}
 use Rattle.cabinet_records.specs.CabinetCases.{answersOf, outputsAfter, answersEach, fourFree, redOutputs, beyond, stateless, oldBytes, refusedSite, oddRow, placedRow, cases, CabinetCasesHold}
 

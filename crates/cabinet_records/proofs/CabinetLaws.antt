@@ -18,7 +18,8 @@ use Rattle.rules.specs.Colours.{red}
 use Rattle.rules.specs.WaitBound.{waitBound}
 use Rattle.rules.specs.Call.{boundFor, handedBack, bufferFor, callVerdict, answerOf, bufferOf}
 use Rattle.state_bytes.specs.Layout.{isState, decoded}
-use Rattle.call_bytes.specs.CallBytes.{packed, packedVerdict, packedOutcome, stepAnswer, stateFor, stateAfter, coloursAfter}
+use Rattle.board_answers.specs.Answers.{packed, packedVerdict, packedOutcome}
+use Rattle.board_step.specs.StepCall.{stepAnswer, stateFor, stateAfter, coloursAfter}
 use Rattle.cabinet_records.specs.declared.Record.{Record}
 use Rattle.cabinet_records.specs.Cabinet.{dark, personalityOf, freeRecord, withState, recordOf, outputsOf, outputsIn, writtenAt, ownOutputs, placingVerdict, heldVerdict, takingVerdict, Returned, returnedFor, placing, stepped, stepping, takingOut, Act, placeSite, stepSite, takeOut, doing}
 use Rattle.cabinet_records.specs.CabinetLaws.{recordNamed, personalityNamed, firstNamed, OthersStay, OutputsStay, RefusalLeaves}

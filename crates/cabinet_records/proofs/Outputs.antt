@@ -24,7 +24,7 @@ use Rattle.rules.specs.Call.{strayInput, stepVerdict, checksBy, callVerdict, bu
 use Rattle.laws.proofs.Lists.{list-length}
 use Rattle.rules.proofs.Verdicts.{or-later, refuse-passed}
 use Rattle.state_bytes.specs.Layout.{isState, decoded}
-use Rattle.call_bytes.specs.CallBytes.{coloursAfter}
+use Rattle.board_step.specs.StepCall.{coloursAfter}
 use Rattle.cabinet_records.specs.Cabinet.{outputCount, isShort, outputsIn, writtenAt}
 
 -- ── A step keeps the length of its buffer ──

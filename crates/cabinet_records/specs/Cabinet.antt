@@ -15,7 +15,8 @@ use Rattle.rules.specs.Kept.{freshKept}
 use Rattle.rules.specs.Colours.{red}
 use Rattle.rules.specs.Laws.{greatestLength}
 use Rattle.state_bytes.specs.Layout.{stateBytes, encoded}
-use Rattle.call_bytes.specs.CallBytes.{packedVerdict, stepAnswer, stateAfter, coloursAfter}
+use Rattle.board_answers.specs.Answers.{packedVerdict}
+use Rattle.board_step.specs.StepCall.{stepAnswer, stateAfter, coloursAfter}
 use Rattle.cabinet_records.specs.declared.Record.{Record}
 
 abbrev pub recordCount : ℕ

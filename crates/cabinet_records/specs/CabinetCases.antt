@@ -7,7 +7,7 @@ use lib.ListN.{length, set, take, replicate}
 use Rattle.rules.specs.Junctions.{junction}
 use Rattle.rules.specs.Kept.{freshKept}
 use Rattle.state_bytes.specs.Layout.{encoded}
-use Rattle.call_bytes.specs.CallBytes.{packed}
+use Rattle.board_answers.specs.Answers.{packed}
 use Rattle.cabinet_records.specs.declared.Record.{Record}
 use Rattle.cabinet_records.specs.Cabinet.{freeRecord, holding, Returned, Act, placeSite, stepSite, takeOut, doing}
 

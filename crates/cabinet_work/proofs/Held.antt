@@ -8,7 +8,7 @@ use borrow.Author.Tests.{eq-eqb, ne-eqb}
 use Rattle.rules.specs.declared.answer.Verdict.{Verdict}
 use Rattle.rules.specs.declared.answer.Verdict.the-variants.{Accepted, Refused}
 use Rattle.rules.specs.Verdicts.{_orElse_, refuseIf, reportOf}
-use Rattle.call_bytes.specs.CallBytes.{packed, packedVerdict}
+use Rattle.board_answers.specs.Answers.{packed, packedVerdict}
 use Rattle.cabinet_records.specs.declared.Record.{Record}
 use Rattle.cabinet_records.specs.Cabinet.{isFree, personalityOf, freeRecord, withState, outputsOf, ownOutputs}
 use Rattle.cabinet_held.specs.Held.{heldChecks, takingChecks, darkenedFor, darkened, HeldStep, heldStepFor, heldStepped, heldStep}

@@ -16,7 +16,7 @@ use Rattle.rules.specs.Laws.{greatestLength, AcceptedIsShort}
 use Rattle.laws.proofs.Booleans.{and-both}
 use Rattle.proof_acceptance.proofs.Refusals.{accepted-is-short}
 use Rattle.state_bytes.specs.Layout.{encoded}
-use Rattle.call_bytes.specs.CallBytes.{packed, packedVerdict}
+use Rattle.board_answers.specs.Answers.{packed, packedVerdict}
 use Rattle.cabinet_records.specs.declared.Record.{Record}
 use Rattle.cabinet_records.specs.Cabinet.{recordCount, isFree, holding, recordOf, hasRecord, outputsOf, pastLast, overlaps, isShort, placingVerdict}
 use Rattle.cabinet_records.proofs.Checks.{placing-read, placing-within, placing-long}

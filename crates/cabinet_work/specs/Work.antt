@@ -8,7 +8,8 @@ use Rattle.rules.specs.Verdicts.{_orElse_, refuseIf}
 use Rattle.rules.specs.Kept.{freshKept}
 use Rattle.rules.specs.Colours.{red}
 use Rattle.state_bytes.specs.Layout.{encoded}
-use Rattle.call_bytes.specs.CallBytes.{packedVerdict, stepAnswer, stateAfter, coloursAfter}
+use Rattle.board_answers.specs.Answers.{packedVerdict}
+use Rattle.board_step.specs.StepCall.{stepAnswer, stateAfter, coloursAfter}
 use Rattle.cabinet_records.specs.declared.Record.{Record}
 use Rattle.cabinet_records.specs.Cabinet.{dark, isFree, personalityOf, freeRecord, holding, withState, recordOf, outputsOf, writtenAt, ownOutputs, placingVerdict, Returned}
 use Rattle.cabinet_held.specs.Held.{heldChecks, takingChecks}

@@ -7,7 +7,7 @@ ghost use lib.ListN.{length};
 ghost use Rattle.rules.specs.Kept.{freshKept};
 ghost use Rattle.rules.specs.Laws.{greatestLength};
 ghost use Rattle.state_bytes.specs.Layout.{encoded};
-ghost use Rattle.call_bytes.specs.CallBytes.{packedVerdict};
+ghost use Rattle.board_answers.specs.Answers.{packedVerdict};
 ghost use Rattle.cabinet_records.specs.Cabinet.{recordCount, holding, pastLast, meetsRecord, overlaps};
 ghost use Rattle.cabinet_held.specs.Held.{placingChecks};
 ghost use Rattle.cabinet_work.specs.Work.{placedRecord, steppedRecord, takenOutRecord};
@@ -119,7 +119,7 @@ pub fn placed_record(
     let verdict = cabinet_held::placing_checks(personality, own.held == 0, busy, outputs.len());
     if let Verdict::Refused { number, place } = verdict {
         return Done {
-            answer: call_bytes::refusal(number, place),
+            answer: board_answers::refusal(number, place),
             kept: own,
         };
     }
@@ -137,7 +137,7 @@ pub fn stepped_record(own: Record, inputs: u64, outputs: &mut [u8]) -> Done
 {
     if own.held == 0 {
         return Done {
-            answer: call_bytes::refusal(24, 0),
+            answer: board_answers::refusal(24, 0),
             kept: own,
         };
     }
@@ -157,7 +157,7 @@ pub fn taken_out_record(own: Record, outputs: &mut [u8]) -> Done
 {
     if own.held == 0 {
         return Done {
-            answer: call_bytes::refusal(24, 0),
+            answer: board_answers::refusal(24, 0),
             kept: own,
         };
     }
@@ -170,7 +170,7 @@ pub fn taken_out_record(own: Record, outputs: &mut [u8]) -> Done
             kept: cabinet_records::free_record(),
         },
         Verdict::Refused { number, place } => Done {
-            answer: call_bytes::refusal(number, place),
+            answer: board_answers::refusal(number, place),
             kept: own,
         },
     }

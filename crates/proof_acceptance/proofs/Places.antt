@@ -9,14 +9,18 @@ use lib.Dec.{leb, eqb}
 use native.Mathlib.Omega.{arith}
 use borrow.Author.Tests.{eqb-true}
 use Rattle.rules.specs.declared.answer.Verdict.{Verdict}
-use Rattle.rules.specs.declared.state.KeptState.{KeptState}
+use Rattle.rules.specs.declared.state.TimedState.{TimedState}
 use Rattle.rules.specs.Personality.{verdictOf}
-use Rattle.rules.specs.Call.{callVerdict}
+use Rattle.rules.specs.Site.{siteOf}
+use Rattle.rules.specs.Timed.{timedValid}
+use Rattle.rules.specs.Call.{checksBy}
+use Rattle.rules.specs.TimedCall.{timedVerdict, retimeVerdict}
 use Rattle.rules.specs.Lookup.{lookupVerdict}
 use Rattle.rules.specs.Laws.{readingNumber, stepNumber, greatestLength, PlaceIn, Written}
+use Rattle.rules.specs.TimedLaws.{retimeNumber}
 use Rattle.laws.proofs.Booleans.{or-cases}
 use Rattle.laws.proofs.Indices.{in-range}
-use Rattle.proof_acceptance.proofs.Refusals.{Refusals, if-refusals, or-refusals, personality-refusals, call-refusals}
+use Rattle.proof_acceptance.proofs.Refusals.{Refusals, if-refusals, or-refusals, personality-refusals, call-refusals, retime-refusals}
 
 -- ── Numbers ──
 
@@ -39,6 +43,10 @@ reading-fits number =
 
 step-fits : (number : ℕ) → stepNumber number ≡ true → (1 ≤ number) × (number < 256)
 step-fits number known = omega (arith, in-range 13 15 number known)
+
+retime-fits : (number : ℕ) → retimeNumber number ≡ true → 1 ≤ number
+retime-fits number known =
+    ⊎-elim (λ e. omega (arith, eqb-true number 13 e)) (λ e. omega (arith, eqb-true number 26 e)) (or-cases (eqb number 13) (eqb number 26) known)
 
 pub number-fits : (b : List ℕ) (number place : ℕ) → Written b number place → (1 ≤ number) × (number < 256)
 number-fits b number place =
@@ -64,8 +72,16 @@ module _ (b : List ℕ) where
   pub personality-named : Named (verdictOf b)
   personality-named = personality-refusals b Near near
 
-  pub call-named : (s : KeptState) (inputs room : ℕ) → Named (callVerdict b s inputs room)
-  call-named s inputs room = call-refusals b Near near s inputs room (λ number known. (step-fits number known .0, omega arith))
+  pub call-named : (s : TimedState) (inputs room : ℕ) → Named (timedVerdict b s inputs room)
+  unfolding checksBy
+  call-named s inputs room =
+      call-refusals b Near near (timedValid (siteOf b) s) inputs room (λ number known. (step-fits number known .0, omega arith))
+
+  pub retime-named : (s : TimedState) (new : List ℕ) → Named (retimeVerdict b s new)
+  retime-named s new =
+      retime-refusals b new Near near (λ number place known l. (reading-fits number known .0, l .1))
+      (λ number known. (retime-fits number known, omega arith))
+      s
 
   pub lookup-named : (kind : ℕ) → Named (lookupVerdict b kind)
   unfolding lookupVerdict

@@ -11,13 +11,18 @@ use lib.ListN.{length}
 use native.Mathlib.Omega.{arith}
 use Rattle.rules.specs.declared.answer.Verdict.{Verdict}
 use Rattle.rules.specs.declared.answer.Verdict.the-variants.{Accepted, Refused}
-use Rattle.rules.specs.declared.state.KeptState.{KeptState}
+use Rattle.rules.specs.declared.state.TimedState.{TimedState}
 use Rattle.rules.specs.Limits.{phaseSettings, walkSettings, earlySetting}
 use Rattle.laws.specs.Folds.{if_then_else_}
 use Rattle.rules.specs.Verdicts.{_orElse_, refuseIf, firstOf}
 use Rattle.rules.specs.Personality.{siteKind, editionOf, bodyAt, bodyLength, recordAt, phaseCount, groupCount, siteHead, phasesHead, groupsHead, conflictsHead, detectorsHead, pedestriansHead, movementCount, detectorCount, pastSection, earlyHead, hasEarly, orderHead, hasOrder, endOf, sectionAt, timeAt, timesAt, siteSection, timeRecords, timedSection, phasesSection, groupRecord, groupsSection, conflictsSection, detectorRecord, detectorsSection, pedestriansSection, earlySection, orderSection, phaseWithoutCaller, earlyMissing, leftOver, afterPedestrians, verdictOf}
-use Rattle.rules.specs.Call.{stepVerdict, checksBy, callVerdict}
+use Rattle.rules.specs.Site.{siteOf}
+use Rattle.rules.specs.Kept.{keptValid}
+use Rattle.rules.specs.Timed.{timedValid}
+use Rattle.rules.specs.Call.{stepVerdict, checksBy}
+use Rattle.rules.specs.TimedCall.{retimeChecksBy, retimeVerdict}
 use Rattle.rules.specs.Laws.{readingNumber, stepNumber, sectionLength, greatestLength, AcceptedIsShort, PlaceIn, Written, RefusalIsWritten}
+use Rattle.rules.specs.TimedLaws.{retimeNumber, TimedRefusalIsWritten, RetimeRefusalIsWritten}
 use Rattle.rules.proofs.Verdicts.{refused-not-accepted, or-refused, refuse-failed, first-refused}
 use Rattle.proof_acceptance.proofs.Sections.{SiteAccepted, GroupsAccepted, DetectorsAccepted, PedestriansAccepted, EarlyAccepted, OrderAccepted, records-held, record-within, detectors-held, site-accepted, phases-accepted, groups-accepted, conflicts-accepted, detectors-accepted, pedestrians-accepted, early-accepted, order-accepted, sections-accepted}
 
@@ -246,19 +251,48 @@ module _
 
     -- a step's checks after them, at 0
     pub call-refusals :
-        (s : KeptState) (inputs room : ℕ) →
+        (isValid : Bool) (inputs room : ℕ) →
         ((number : ℕ) → stepNumber number ≡ true → Allowed number 0) →
-        Refusals Allowed (callVerdict b s inputs room)
-    unfolding checksBy stepVerdict
-    call-refusals s inputs room step =
+        Refusals Allowed (verdictOf b orElse stepVerdict (siteOf b) isValid inputs room)
+    unfolding stepVerdict
+    call-refusals isValid inputs room step =
         or-refusals Allowed _ _ personality-refusals
         (λ e. or-refusals Allowed _ _ (if-refusals Allowed _ 13 0 (step 13 refl))
         (λ f. or-refusals Allowed _ _ (if-refusals Allowed _ 15 0 (step 15 refl)) (λ g. if-refusals Allowed _ 14 0 (step 14 refl))))
 
+call-written : (b : List ℕ) (isValid : Bool) (inputs room : ℕ) → Refusals (Written b) (verdictOf b orElse stepVerdict (siteOf b) isValid inputs room)
+call-written b isValid inputs room =
+    call-refusals b (Written b) (λ number place known l. inl (known, l)) isValid inputs room (λ number known. inr (known, refl))
+
 pub refusal-is-written : RefusalIsWritten
-unfolding RefusalIsWritten
-refusal-is-written b s inputs room =
-    call-refusals b (Written b) (λ number place known l. inl (known, l)) s inputs room (λ number known. inr (known, refl))
+unfolding RefusalIsWritten checksBy
+refusal-is-written b s inputs room = call-written b (keptValid (siteOf b) s) inputs room
+
+pub timed-refusal-is-written : TimedRefusalIsWritten
+unfolding TimedRefusalIsWritten checksBy
+timed-refusal-is-written b s inputs room = call-written b (timedValid (siteOf b) s) inputs room
+
+-- ── A retiming call: both personalities, 13 and 26 ──
+
+pub retime-refusals :
+    (b new : List ℕ) (Allowed : ℕ → ℕ → Type 0) →
+    ((number place : ℕ) → readingNumber number ≡ true → PlaceIn b place → Allowed number place) →
+    ((number place : ℕ) → readingNumber number ≡ true → PlaceIn new place → Allowed number place) →
+    ((number : ℕ) → retimeNumber number ≡ true → Allowed number 0) →
+    (s : TimedState) →
+    Refusals Allowed (retimeVerdict b s new)
+unfolding retimeChecksBy
+retime-refusals b new Allowed first second own s =
+    or-refusals Allowed _ _ (personality-refusals b Allowed first)
+    (λ e. or-refusals Allowed _ _ (if-refusals Allowed _ 13 0 (own 13 refl))
+    (λ f. or-refusals Allowed _ _ (personality-refusals new Allowed second) (λ g. if-refusals Allowed _ 26 0 (own 26 refl))))
+
+pub retime-refusal-is-written : RetimeRefusalIsWritten
+unfolding RetimeRefusalIsWritten
+retime-refusal-is-written b new s =
+    retime-refusals b new _ (λ number place known l. inl (known, inl l)) (λ number place known l. inl (known, inr l))
+    (λ number known. inr (known, refl))
+    s
 
 -- ── An accepted personality ──
 

@@ -24,7 +24,8 @@ use Rattle.rules.specs.Laws.{RefusalIsWritten, FreshIsValid, StepKeepsValid}
 use Rattle.rules.specs.DemandThree.{ruled, Call, takenFrom, SafeRun, DemandThreeOf, DemandThree}
 use Rattle.state_bytes.specs.Layout.{stateBytes, decoded, encoded, encodedOver, Proper}
 use Rattle.state_bytes.proofs.RoundTrips.{encoded-is-state, decoded-encoded}
-use Rattle.call_bytes.specs.CallBytes.{packed, packedVerdict, packedOutcome, stepAnswer, stateFor, stateAfter, coloursAfter}
+use Rattle.board_answers.specs.Answers.{packed, packedVerdict, packedOutcome}
+use Rattle.board_step.specs.StepCall.{stepAnswer, stateFor, stateAfter, coloursAfter}
 use Rattle.willowera.specs.Board.{freshAnswer}
 use Rattle.proof_runs.proofs.Chains.{checks-told}
 use Rattle.proof_acceptance.proofs.Refusals.{refusal-is-written}

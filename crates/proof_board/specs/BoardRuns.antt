@@ -17,7 +17,8 @@ use Rattle.rules.specs.Kept.{freshKept, keptValid, keptStepped}
 use Rattle.rules.specs.Call.{strayInput}
 use Rattle.rules.specs.DemandThree.{Controller, DemandThreeOf}
 use Rattle.state_bytes.specs.Layout.{decoded, encodedOver, Proper}
-use Rattle.call_bytes.specs.CallBytes.{packedVerdict, stepAnswer, stateAfter, coloursAfter}
+use Rattle.board_answers.specs.Answers.{packedVerdict}
+use Rattle.board_step.specs.StepCall.{stepAnswer, stateAfter, coloursAfter}
 use Rattle.willowera.specs.Board.{freshAnswer}
 
 -- An answer as a caller reads it: the lowest byte is the number of the refusal, 0 where the call is accepted, and the rest is the

@@ -22,7 +22,8 @@ use Rattle.rules.specs.Laws.{readingNumber, stepNumber, PlaceIn, Written, Refus
 use Rattle.laws.proofs.Booleans.{or-cases}
 use Rattle.rules.proofs.Verdicts.{or-refused, refuse-failed}
 use Rattle.state_bytes.specs.Layout.{isState, decoded}
-use Rattle.call_bytes.specs.CallBytes.{packed, packedVerdict, packedOutcome, stepAnswer}
+use Rattle.board_answers.specs.Answers.{packed, packedVerdict, packedOutcome}
+use Rattle.board_step.specs.StepCall.{stepAnswer}
 use Rattle.proof_acceptance.proofs.Acceptance.{accepted-is-sound}
 use Rattle.proof_acceptance.proofs.Refusals.{refusal-is-written}
 use Rattle.proof_acceptance.proofs.Places.{number-fits}

@@ -17,7 +17,7 @@ use Rattle.laws.proofs.Indices.{below-or-past, same-or-apart}
 use Rattle.laws.proofs.Folds.{any-false}
 use Rattle.rules.specs.Kept.{freshKept}
 use Rattle.state_bytes.specs.Layout.{encoded}
-use Rattle.call_bytes.specs.CallBytes.{stateAfter}
+use Rattle.board_step.specs.StepCall.{stateAfter}
 use Rattle.cabinet_records.specs.declared.Record.{Record}
 use Rattle.cabinet_records.specs.Cabinet.{recordCount, isFree, personalityOf, freeRecord, holding, withState, recordOf, outputsOf, isAccepted, hasOutputs, meet, meetsRecord, overlaps, outputsIn, placingVerdict, heldVerdict, takingVerdict, Returned, returnedFor, placing, stepped, stepping, takingOut, Act, placeSite, stepSite, takeOut, doing}
 use Rattle.cabinet_records.proofs.Checks.{row-length, placing-there, placing-clear}

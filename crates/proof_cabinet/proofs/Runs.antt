@@ -18,7 +18,8 @@ use Rattle.rules.specs.Laws.{RefusalIsWritten}
 use Rattle.rules.specs.DemandThree.{takenFrom, SafeRun, DemandThreeOf}
 use Rattle.rules.proofs.Verdicts.{or-refused, refuse-failed}
 use Rattle.state_bytes.specs.Layout.{stateBytes, encoded, decoded, encodedOver}
-use Rattle.call_bytes.specs.CallBytes.{packed, packedVerdict, stateAfter, coloursAfter}
+use Rattle.board_answers.specs.Answers.{packed, packedVerdict}
+use Rattle.board_step.specs.StepCall.{stateAfter, coloursAfter}
 use Rattle.willowera.specs.Board.{freshAnswer}
 use Rattle.proof_acceptance.proofs.Refusals.{refusal-is-written}
 use Rattle.proof_acceptance.proofs.Places.{number-fits}

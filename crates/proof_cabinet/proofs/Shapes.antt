@@ -20,7 +20,7 @@ use Rattle.rules.specs.Laws.{greatestLength, AcceptedIsShort}
 use Rattle.proof_acceptance.proofs.Refusals.{accepted-is-short}
 use Rattle.state_bytes.specs.Layout.{stateBytes, isState, encoded}
 use Rattle.state_bytes.proofs.RoundTrips.{encoded-has-39}
-use Rattle.call_bytes.specs.CallBytes.{stateFor, stateAfter}
+use Rattle.board_step.specs.StepCall.{stateFor, stateAfter}
 use Rattle.cabinet_records.specs.declared.Record.{Record}
 use Rattle.cabinet_records.specs.Cabinet.{personalityOf, freeRecord, holding, withState, recordOf, ownOutputs, placingVerdict, heldVerdict, takingVerdict, Returned, returnedFor, placing, stepped, stepping, takingOut, placeSite, stepSite, takeOut, doing}
 use Rattle.cabinet_records.specs.Layout.{Shaped}

@@ -13,7 +13,7 @@ use Rattle.rules.specs.WaitBound.{waitBound}
 use Rattle.rules.specs.Call.{strayInput, boundFor}
 use Rattle.rules.specs.Laws.{readingNumber, stepNumber, PlaceIn}
 use Rattle.state_bytes.specs.Layout.{isState, decoded}
-use Rattle.call_bytes.specs.CallBytes.{packedOutcome}
+use Rattle.board_answers.specs.Answers.{packedOutcome}
 use Rattle.cabinet_records.specs.declared.Record.{Record}
 use Rattle.cabinet_records.specs.Cabinet.{personalityOf, recordOf, isShort, heldVerdict, stepping, Act, doing}
 use Rattle.cabinet_records.specs.CabinetLaws.{personalityNamed}

@@ -12,7 +12,7 @@ use Rattle.rules.specs.Kept.{freshKept}
 use Rattle.rules.specs.Colours.{red}
 use Rattle.rules.specs.DemandThree.{Call, Taken, takenFrom, accepted, SafeRun}
 use Rattle.state_bytes.specs.Layout.{stateBytes, encoded, decoded}
-use Rattle.call_bytes.specs.CallBytes.{stateAfter}
+use Rattle.board_step.specs.StepCall.{stateAfter}
 use Rattle.proof_board.specs.BoardRuns.{outcomeIn, board}
 use Rattle.cabinet_records.specs.declared.Record.{Record}
 use Rattle.cabinet_records.specs.Cabinet.{isFree, personalityOf, recordOf, outputsOf, hasOutputs, meet, outputsIn, ownOutputs, Returned, Act, placeSite, stepSite, takeOut, doing}

@@ -29,9 +29,12 @@ ruledSite site s = under site (s .ruling)
 unfoldable pub noneWaiting : Waiting
 noneWaiting = record { present = false; times = noTimes }
 
--- the personality's own times rule in the fresh state, and none wait
+-- a state in which the personality's own times rule and none wait
+abbrev pub withOwnTimes : Site → KeptState → TimedState
+withOwnTimes site s = record { core = s .core; kept = s .kept; ruling = site .times; waiting = noneWaiting }
+
 unfoldable pub freshTimed : Site → TimedState
-freshTimed site = record { core = freshKept .core; kept = freshKept .kept; ruling = site .times; waiting = noneWaiting }
+freshTimed site = withOwnTimes site freshKept
 
 -- ── The valid state ──
 

@@ -32,6 +32,9 @@ timedParts =
       ruling = λ site s. s .ruling;
     }
 
+abbrev pub timedVerdict : List ℕ → TimedState → ℕ → ℕ → Verdict
+timedVerdict = checksBy timedParts
+
 unfoldable pub timedAnswerOf : List ℕ → TimedState → ℕ → ℕ → TimedAnswer
 timedAnswerOf b s inputs room = record { outcome = outcomeBy timedParts b s inputs room; state = nextBy timedParts b s inputs room }
 

@@ -1,12 +1,13 @@
 -- Statements about timed states: what a step with waiting times does, that valid states stay valid, that the kept set changes nothing else, and
 -- which times are admitted and which personalities may hand them over. All are over the bytes of an accepted personality.
 use Prim.Native.Nat.{ℕ, _-_, _/_, _%_, _<_}
-use mathlib.Core.Bool.{Bool, true, false, not, _&&_}
+use mathlib.Core.Bool.{Bool, true, false, not, _&&_, _||_}
 use mathlib.Core.List.{List, [], _∷_}
+use mathlib.Core.Logic.{_⊎_}
 use mathlib.Core.Path.{_≡_}
 use lib.Dec.{eqb}
 use lib.ListN.{length, getD, replicate}
-use Rattle.rules.specs.declared.answer.Verdict.the-variants.{Accepted}
+use Rattle.rules.specs.declared.answer.Verdict.the-variants.{Accepted, Refused}
 use Rattle.rules.specs.declared.site.PhaseTimes.{PhaseTimes}
 use Rattle.rules.specs.declared.site.Times.{Times}
 use Rattle.rules.specs.declared.site.WalkTimes.{WalkTimes}
@@ -25,7 +26,8 @@ use Rattle.rules.specs.Step.{steppedInto}
 use Rattle.rules.specs.Kept.{keptValid, keptStepped}
 use Rattle.rules.specs.Timed.{keptOf, ruledSite, freshTimed, timedValid, takesOver, rulingNext, withoutCounts, timedStepped}
 use Rattle.rules.specs.Call.{strayInput}
-use Rattle.rules.specs.TimedCall.{between, differsElsewhere, retimeVerdict, retimed}
+use Rattle.rules.specs.Laws.{readingNumber, PlaceIn, Written}
+use Rattle.rules.specs.TimedCall.{timedVerdict, between, differsElsewhere, retimeVerdict, retimed}
 
 -- a claim about every valid timed state of every accepted personality
 abbrev OfValid : (List ℕ → TimedState → Type 0) → Type 0
@@ -173,3 +175,22 @@ RetimedIsAdmitted =
     verdictOf new ≡ Accepted →
     differsElsewhere b new ≡ false →
     (admitted (siteOf b) (timesIn new) ≡ true) × (siteOf new ≡ under (siteOf b) (timesIn new))
+
+-- ── Refusals ──
+
+-- each refusal of a step call on a timed state has a written number and place
+unfoldable pub TimedRefusalIsWritten : Type 0
+TimedRefusalIsWritten =
+    (b : List ℕ) (s : TimedState) (inputs room number place : ℕ) →
+    timedVerdict b s inputs room ≡ Refused number place →
+    Written b number place
+
+abbrev pub retimeNumber : ℕ → Bool
+retimeNumber number = eqb number 13 || eqb number 26
+
+-- each refusal of a retiming call: a number of the checks of a personality with a place in one of the two, or 13 or 26 at 0
+unfoldable pub RetimeRefusalIsWritten : Type 0
+RetimeRefusalIsWritten =
+    (b new : List ℕ) (s : TimedState) (number place : ℕ) →
+    retimeVerdict b s new ≡ Refused number place →
+    ((readingNumber number ≡ true) × (PlaceIn b place ⊎ PlaceIn new place)) ⊎ ((retimeNumber number ≡ true) × (place ≡ 0))

@@ -18,9 +18,9 @@ use Rattle.road_streams.specs.Road.{roadAfter, streamsVerdict, roadVerdict, roa
 use Rattle.proof_road.specs.Roads.{roadNumber, RoadRefusalIsWritten}
 use Rattle.proof_road.proofs.Refusals.{road-refusal-is-written}
 use Rattle.road_run.specs.declared.RoadAnswer.{RoadAnswer}
-use Rattle.call_bytes.specs.CallBytes.{packed}
+use Rattle.board_answers.specs.Answers.{packed}
 use Rattle.willowera.specs.RoadCall.{boardVerdict, roadAnswer, lastStateFor, lastState, resultsAfter}
-use Rattle.call_bytes.proofs.Answers.{read-accepted, read-refused}
+use Rattle.board_answers.proofs.Answers.{read-accepted, read-refused}
 
 -- an accepted road has a state buffer of the right length
 fits-told : (b streams : List ℕ) (steps : ℕ) (fits : Bool) (room : ℕ) → roadVerdict b streams steps fits room ≡ Accepted → fits ≡ true

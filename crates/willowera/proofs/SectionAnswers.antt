@@ -7,7 +7,7 @@ use Rattle.laws.specs.Bytes.{twoAt}
 use Rattle.rules.specs.Verdicts.{reportOf}
 use Rattle.rules.specs.Personality.{bodyAt, bodyLength}
 use Rattle.rules.specs.Lookup.{lookupVerdict, headOf}
-use Rattle.call_bytes.specs.CallBytes.{packed, packedVerdict}
+use Rattle.board_answers.specs.Answers.{packed, packedVerdict}
 use Rattle.willowera.specs.Board.{sectionFor, sectionAnswer}
 use Rattle.proof_acceptance.proofs.Places.{lastPlace, lookup-named}
 

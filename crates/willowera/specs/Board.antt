@@ -10,7 +10,7 @@ use Rattle.rules.specs.Verdicts.{refuseIf}
 use Rattle.rules.specs.Personality.{bodyAt, bodyLength}
 use Rattle.rules.specs.Lookup.{lookupVerdict, headOf}
 use Rattle.state_bytes.specs.Layout.{stateBytes}
-use Rattle.call_bytes.specs.CallBytes.{packedVerdict}
+use Rattle.board_answers.specs.Answers.{packedVerdict}
 
 -- ── The fresh state ──
 

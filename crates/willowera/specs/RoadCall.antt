@@ -8,7 +8,7 @@ use Rattle.rules.specs.declared.answer.Verdict.the-variants.{Accepted, Refused}
 use Rattle.rules.specs.declared.state.KeptState.{KeptState}
 use Rattle.state_bytes.specs.Layout.{stateBytes, encoded}
 use Rattle.road_streams.specs.Road.{roadAfter, roadVerdict, roadResults}
-use Rattle.call_bytes.specs.CallBytes.{packedVerdict}
+use Rattle.board_answers.specs.Answers.{packedVerdict}
 
 -- a state buffer of another length than a state is refused with 13
 unfoldable pub boardVerdict : List ℕ → List ℕ → ℕ → List ℕ → ℕ → Verdict

@@ -4,7 +4,7 @@ use Prim.Native.Nat.{ℕ, _+_}
 use lib.IntN.{ℤ}
 use Rattle.sheet_yellow.specs.declared.Answer.{Answer}
 use Rattle.sheet_yellow.specs.Yellow.{yellowReportOf, stepsOf, answerOf}
-use Rattle.call_bytes.specs.CallBytes.{packed}
+use Rattle.board_answers.specs.Answers.{packed}
 
 unfoldable pub packedYellow : Answer → ℕ
 packedYellow a = packed (yellowReportOf a .number) (yellowReportOf a .place + stepsOf a)

@@ -7,7 +7,8 @@ ghost use Rattle.rules.specs.Call.{boundOf};
 ghost use Rattle.rules.specs.Personality.{verdictOf};
 ghost use Rattle.rules.specs.Kept.{freshKept};
 ghost use Rattle.state_bytes.specs.Layout.{encodedOver};
-ghost use Rattle.call_bytes.specs.CallBytes.{packedVerdict, packedOutcome, stepAnswer, stateAfter, coloursAfter};
+ghost use Rattle.board_answers.specs.Answers.{packedVerdict, packedOutcome};
+ghost use Rattle.board_step.specs.StepCall.{stepAnswer, stateAfter, coloursAfter};
 ghost use Rattle.willowera.specs.Board.{freshAnswer, sectionAnswer};
 
 pub mod cabinet;
@@ -16,8 +17,8 @@ pub mod sheet;
 pub mod yellow;
 
 use base_bytes::two_at;
-use call_bytes::packed;
-use call_bytes::refusal;
+use board_answers::packed;
+use board_answers::refusal;
 use rules::answer::Outcome;
 use rules::answer::Verdict;
 
@@ -70,7 +71,7 @@ pub extern "C" fn willowera_step(
         × (now (state .exit) ≡ stateAfter (now (personality .entry)) (now (state .entry)) inputs (length (now (colours .entry))))
         × (now (colours .exit) ≡ coloursAfter (now (personality .entry)) (now (state .entry)) inputs (now (colours .entry))) ⌝ }
 {
-    call_bytes::step(personality, state, inputs, colours)
+    board_step::step(personality, state, inputs, colours)
 }
 
 // The answer for a part of the personality: 0 in the lowest byte, then the place in 32 bits and the length in 24.

@@ -2,7 +2,7 @@
 ghost use mathlib.Core.Path.{_≡_};
 ghost use lib.ListN.{length};
 ghost use Rattle.willowera.specs.RoadCall.{roadAnswer, lastState, resultsAfter};
-use call_bytes::refusal;
+use board_answers::refusal;
 use rules::answer::Verdict;
 
 // Runs the streams from the fresh state: the bytes of the last state and the results of the streams are written, and the answer is 0. A refused road writes

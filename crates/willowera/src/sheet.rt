@@ -2,8 +2,8 @@
 ghost use mathlib.Core.Path.{_≡_};
 ghost use Rattle.sheet_settings.specs.Sheet.{answerOf};
 ghost use Rattle.willowera.specs.SheetCall.{packedSettings, settingsAnswer};
-use call_bytes::packed;
-use call_bytes::refusal;
+use board_answers::packed;
+use board_answers::refusal;
 use sheet_settings::Answer;
 use sheet_settings::Detector;
 use sheet_settings::Sheet;

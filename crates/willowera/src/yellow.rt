@@ -1,8 +1,8 @@
 // The yellow time by speed and grade for C.
 ghost use mathlib.Core.Path.{_≡_};
 ghost use Rattle.willowera.specs.YellowCall.{yellowAnswer};
-use call_bytes::packed;
-use call_bytes::refusal;
+use board_answers::packed;
+use board_answers::refusal;
 use sheet_yellow::Answer;
 
 // The yellow time in steps, or a refusal.

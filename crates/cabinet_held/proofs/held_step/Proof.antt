@@ -2,7 +2,7 @@
 use Prim.Native.Nat.{_+_, _-_}
 use borrow.Author.Tests.{ltb-false}
 use Rattle.cabinet_records.specs.Cabinet.{pastLast, outputsOf}
-use Rattle.call_bytes.specs.CallBytes.{packedVerdict}
+use Rattle.board_answers.specs.Answers.{packedVerdict}
 use Rattle.cabinet_held.specs.Held.{Near}
 use mathlib.Core.Path.{_≡_, sym, ap, subst⁻¹, _∙_}
 use native.Mathlib.Omega.{arith}

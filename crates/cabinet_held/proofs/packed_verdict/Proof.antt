@@ -1,5 +1,5 @@
 -- `cabinet_held::packed_verdict` meets its contract, by the two cases of the verdict.
-use Rattle.call_bytes.proofs.Answers.{read-accepted, read-refused}
+use Rattle.board_answers.proofs.Answers.{read-accepted, read-refused}
 use mathlib.Core.Path.{refl}
 use borrow.Author.Needs.{needs}
 use Rattle.cabinet_held.proofs.packed_verdict.Statement.{statement}

@@ -1,7 +1,7 @@
 -- `willowera::willowera_fresh` meets its contract, by the test of the length.
 use mathlib.Core.Path.{sym, _∙_}
 use Rattle.rules.specs.Verdicts.{refuseIf, reportOf}
-use Rattle.call_bytes.specs.CallBytes.{packed, packedVerdict}
+use Rattle.board_answers.specs.Answers.{packed, packedVerdict}
 use Rattle.willowera.specs.Board.{freshAnswer}
 use borrow.Author.Needs.{needs}
 use Rattle.willowera.proofs.willowera_fresh.Statement.{statement}

@@ -1,5 +1,5 @@
 -- `willowera::willowera_read` meets its contract, by the two cases of the verdict.
-use Rattle.call_bytes.proofs.Answers.{refused-near, read-accepted, read-refused}
+use Rattle.board_answers.proofs.Answers.{refused-near, read-accepted, read-refused}
 use borrow.Author.Needs.{needs}
 use Rattle.willowera.proofs.willowera_read.Statement.{statement}
 use Rattle.willowera.proofs.willowera_read.Tie as tie

@@ -1,5 +1,5 @@
 -- `willowera::willowera_wait_bound` meets its contract, by the two cases of the outcome.
-use Rattle.call_bytes.proofs.Answers.{bound-near, outcome-stepped, outcome-declined}
+use Rattle.board_answers.proofs.Answers.{bound-near, outcome-stepped, outcome-declined}
 use borrow.Author.Needs.{needs}
 use Rattle.willowera.proofs.willowera_wait_bound.Statement.{statement}
 use Rattle.willowera.proofs.willowera_wait_bound.Tie as tie

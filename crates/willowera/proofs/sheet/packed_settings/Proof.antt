@@ -8,7 +8,7 @@ use Rattle.sheet_settings.specs.declared.Answer.{Answer}
 use Rattle.sheet_settings.specs.declared.Answer.the-variants.{Settings, Refused}
 use Rattle.sheet_settings.specs.Sheet.{settingsReportOf, minimumOf, passageOf}
 use Rattle.sheet_settings.proofs.Stated.{refused-place}
-use Rattle.call_bytes.specs.CallBytes.{packed}
+use Rattle.board_answers.specs.Answers.{packed}
 use Rattle.willowera.specs.SheetCall.{packedSettings}
 use Rattle.willowera.proofs.sheet.packed_settings.Statement.{statement}
 use Rattle.willowera.proofs.sheet.packed_settings.Tie as tie

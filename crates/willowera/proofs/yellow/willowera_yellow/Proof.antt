@@ -10,7 +10,7 @@ use Rattle.sheet_yellow.specs.declared.Answer.{Answer}
 use Rattle.sheet_yellow.specs.declared.Answer.the-variants.{Yellow, Refused}
 use Rattle.sheet_yellow.specs.Yellow.{yellowReportOf, stepsOf, answerOf}
 use Rattle.sheet_yellow.proofs.Stated.{refused-place}
-use Rattle.call_bytes.specs.CallBytes.{packed}
+use Rattle.board_answers.specs.Answers.{packed}
 use Rattle.willowera.specs.YellowCall.{packedYellow, yellowAnswer}
 use Rattle.willowera.proofs.yellow.willowera_yellow.Statement.{statement}
 use Rattle.willowera.proofs.yellow.willowera_yellow.Tie as tie

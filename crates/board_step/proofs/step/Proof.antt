@@ -1,14 +1,15 @@
--- `call_bytes::step` meets its contract: a refused personality, bytes that are no state, a refused step and a step.
+-- `board_step::step` meets its contract: a refused personality, bytes that are no state, a refused step and a step.
 use mathlib.Core.Bool.{true}
 use mathlib.Core.Path.{_≡_, sym, _∙_}
 use borrow.Author.Needs.{needs}
 use borrow.Author.Tests.{not-true, not-false}
 use Rattle.rules.specs.declared.answer.Verdict.the-variants.{Accepted}
 use Rattle.rules.specs.Personality.{verdictOf}
-use Rattle.state_bytes.specs.Layout.{isState}
-use Rattle.call_bytes.proofs.Answers.{refused-near, refuses, no-state, answer-near, steps-on, stays}
-use Rattle.call_bytes.proofs.step.Statement.{statement}
-use Rattle.call_bytes.proofs.step.Tie as tie
+use Rattle.state_timed.specs.TimedLayout.{isTimed}
+use Rattle.board_answers.proofs.Answers.{refused-near}
+use Rattle.board_step.proofs.Steps.{refuses, no-state, answer-near, steps-on, stays}
+use Rattle.board_step.proofs.step.Statement.{statement}
+use Rattle.board_step.proofs.step.Tie as tie
 
 -- ── A refused personality ──
 
@@ -43,8 +44,8 @@ start c = c .before .before .before .before .before .before
 accepted : (c : tie.After-enum-told) → verdictOf (start c .args .personality .now) ≡ Accepted
 accepted c = sym (c .before .before .read-with-layout .ensures .0) ∙ c .enum-told .given .1
 
-is-state-requires : tie.Need-is-state-requires
-is-state-requires c κs = search needs
+is-timed-requires : tie.Need-is-timed-requires
+is-timed-requires c κs = search needs
 
 refusal-requires-2 : tie.Need-refusal-requires-2
 refusal-requires-2 c κs = search needs
@@ -58,7 +59,7 @@ returns-2 c =
     let told = tested .before .before in
     let a = start told .args in
     no-state (a .personality .now) (a .state .now) (a .colours .now) (a .inputs) (c .refusal2 .result) (accepted told)
-    (sym (tested .is-state .ensures) ∙ not-true (tested .is-state .result) (c .before .if1 .taken))
+    (sym (tested .is-timed .ensures) ∙ not-true (tested .is-timed .result) (c .before .if1 .taken))
     (c .refusal2 .ensures)
 
 -- ── A state: the step, refused or not ──
@@ -66,11 +67,11 @@ returns-2 c =
 abbrev told : tie.Else1 → tie.After-enum-told
 told c = c .before .before .before
 
-known : (c : tie.Else1) → isState (start (told c) .args .state .now) ≡ true
-known c = sym (c .before .is-state .ensures) ∙ not-false (c .before .is-state .result) (c .if1 .left)
+known : (c : tie.Else1) → isTimed (start (told c) .args .state .now) ≡ true
+known c = sym (c .before .is-timed .ensures) ∙ not-false (c .before .is-timed .result) (c .if1 .left)
 
-decoded-requires : tie.Need-decoded-requires
-decoded-requires c κs = known (c .before .before)
+timed-decoded-requires : tie.Need-timed-decoded-requires
+timed-decoded-requires c κs = known (c .before .before)
 
 step-accepted-requires : tie.Need-step-accepted-requires
 step-accepted-requires c κs =
@@ -80,8 +81,8 @@ step-accepted-requires c κs =
 enum-known-outcome : tie.Need-enum-known-outcome
 enum-known-outcome c = search needs
 
-encode-requires : tie.Need-encode-requires
-encode-requires c κs = search needs
+timed-encode-requires : tie.Need-timed-encode-requires
+timed-encode-requires c κs = search needs
 
 packed-requires : tie.Need-packed-requires
 packed-requires c κs = search needs
@@ -97,7 +98,7 @@ refusal-requires-3 : tie.Need-refusal-requires-3
 refusal-requires-3 c κs =
     let called = c .before .before .before .before .before in
     let a = start (told (past called)) .args in
-    answer-near (a .personality .now) (called .before .before .decoded .result) (a .inputs) (a .colours .now) (called .step-accepted .result) _
+    answer-near (a .personality .now) (called .before .before .timed-decoded .result) (a .inputs) (a .colours .now) (called .step-accepted .result) _
     (called .step-accepted .ensures)
     (c .before .outcome2 .given .1)
 
@@ -113,10 +114,10 @@ returns-3 c =
     let called = moved .before .before .before .before in
     let a = start (told (past called)) .args in
     steps-on (a .personality .now) (a .state .now) (a .colours .now) (a .inputs) (c .packed .result) (known (past called))
-    (called .before .before .decoded .ensures)
+    (called .before .before .timed-decoded .ensures)
     (called .step-accepted .ensures) _
     (moved .outcome .given .1)
-    (c .before .before .before .encode .ensures .1)
+    (c .before .before .before .timed-encode .ensures .1)
     (c .packed .ensures)
 
 same-length-4 : tie.Need-same-length-4
@@ -130,7 +131,7 @@ returns-4 c =
     let called = c .before .before .before .before .before .before in
     let a = start (told (past called)) .args in
     stays (a .personality .now) (a .state .now) (a .colours .now) (a .inputs) (c .refusal3 .result) (known (past called))
-    (called .before .before .decoded .ensures)
+    (called .before .before .timed-decoded .ensures)
     (called .step-accepted .ensures)
     (c .before .before .outcome2 .given .1)
     (c .refusal3 .ensures)
@@ -144,14 +145,14 @@ step-spec =
     refusal-requires
     returns
     enum-told
-    is-state-requires
+    is-timed-requires
     refusal-requires-2
     same-length
     returns-2
-    decoded-requires
+    timed-decoded-requires
     step-accepted-requires
     enum-known-outcome
-    encode-requires
+    timed-encode-requires
     packed-requires
     enum-known-outcome-2
     refusal-requires-3

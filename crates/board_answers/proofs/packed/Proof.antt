@@ -1,9 +1,9 @@
--- `call_bytes::packed` meets its contract: the sum is the definition's.
+-- `board_answers::packed` meets its contract: the sum is the definition's.
 use mathlib.Core.Path.{refl}
-use Rattle.call_bytes.specs.CallBytes.{packed}
+use Rattle.board_answers.specs.Answers.{packed}
 use borrow.Author.Needs.{needs}
-use Rattle.call_bytes.proofs.packed.Statement.{statement}
-use Rattle.call_bytes.proofs.packed.Tie as tie
+use Rattle.board_answers.proofs.packed.Statement.{statement}
+use Rattle.board_answers.proofs.packed.Tie as tie
 
 mul-result : tie.Need-mul-result
 mul-result c = search needs
