@@ -1,0 +1,1 @@
+// The fresh state of a personality, as bytes.

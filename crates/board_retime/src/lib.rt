@@ -1,0 +1,1 @@
+// The retiming call, with the state as bytes.
