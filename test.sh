@@ -1,7 +1,7 @@
 #!/usr/bin/env bash
 # Passes everything: layout; the names in the documents; every crate proved from nothing, every must-fail edit refused and every program
 # run; the edits of the rules that a theorem must refuse; the example sites, their traces and the ways a trace ends; the lines of the table
-# of yellow times; the vectors; the tests of rust/ and the library against the model; cabinets; the library from C.
+# of yellow times; the vectors; the tests of rust/ and the library against the model; cabinets; retimings; the library from C.
 # The last line is `N passed, M failed`; the exit status is 0 only where M is 0.
 set -u
 cd "$(dirname "$0")" || exit 2
@@ -106,8 +106,12 @@ same_cabinets() { python3 vectors/make_cabinets.py "$log" && compare_with_model 
 check 'cabinets of vectors/make_cabinets.py' same_cabinets
 check 'lists of cabinet calls' python3 vectors/cabinet_lists.py ./target/bin/run_cabinet ./rust/target/release/cabinet
 
+# Lists of calls with new times among them, of the model in Python, for the library and for the model in rust/.
+same_retimes() { python3 vectors/make_retimes.py "$log" && compare_with_model retimes "$log"; }
+check 'retimings of vectors/make_retimes.py' same_retimes
+
 # The library from C: what it needs, the conditions that its header states, and the example program.
-for part in needs conditions steps settings road cabinet yellow; do
+for part in needs conditions steps settings road cabinet retime yellow; do
     check "examples/c/check.sh $part" examples/c/check.sh "$part"
 done
 

@@ -1,7 +1,7 @@
 #!/usr/bin/env python3
 """Builds the example sites.
 
-    build.py NAME ..    reads NAME/site.txt and its input scripts and writes the .bin files beside them
+    build.py NAME ..    reads NAME/site.txt, its other plans of times and its input scripts, and writes the .bin files beside them
     build.py --check    builds every site in memory and compares it with the files that are kept
 
 README.md describes both text forms. A mistake is told with its file and line, and that site is not written."""
@@ -375,16 +375,31 @@ def road_of(path, site, personality):
 
 # ── Commands ──
 
+def accepted_site(path):
+    """The site of a text, its personality and its wait bound."""
+    site, stated = site_of(path)
+    place = f"{path.parent.name}/{path.name}"
+    personality = personality_of(site)
+    need(verdict(personality) == (0, 0), place, f"the model refuses it with {verdict(personality)}")
+    need(wait_bound(site) == stated, place, f"the wait bound is {wait_bound(site)}, not {stated}")
+    return site, personality, stated
+
+
+def without_times(site):
+    return site._replace(start_red=0, phases=len(site.phases), walks=len(site.walks), early=len(site.early))
+
+
 def built(name):
     """The .bin files of a site, by file name, and a line about it."""
     folder = HERE / name
     need((folder / "site.txt").is_file(), name, "there is no such site")
-    site, stated = site_of(folder / "site.txt")
-    personality = personality_of(site)
-    need(verdict(personality) == (0, 0), name, f"the model refuses it with {verdict(personality)}")
-    need(wait_bound(site) == stated, name, f"the wait bound is {wait_bound(site)}, not {stated}")
+    site, personality, stated = accepted_site(folder / "site.txt")
     files = {"personality.bin": personality}
     told = [f"{name}: {len(personality)} bytes, wait bound {stated}"]
+    for path in sorted(folder.glob("site_*.txt")):
+        plan, files[path.stem.replace("site", "personality") + ".bin"], stated = accepted_site(path)
+        need(without_times(plan) == without_times(site), f"{name}/{path.name}", "it differs from site.txt in more than times")
+        told.append(f"{path.name} wait bound {stated}")
     for path in sorted(folder.glob("inputs*.txt")):
         inputs = inputs_of(path, site)
         files[path.stem.replace("inputs", "stdin") + ".bin"] = stdin_of(personality, inputs)

@@ -8,7 +8,8 @@
  * - A pointer has as many bytes behind it as the length next to it says. All 64 bits of a length count: bytes after a whole
  *   personality are refused with 12, and a state of any length other than WILLOWERA_STATE_BYTES with 13.
  * - During a call nobody else writes a buffer of the call, or reads the state, the colours, the results, the row or the outputs.
- * - State, colours and results do not overlap each other, the personality or the streams. They may be adjacent.
+ * - State, colours and results do not overlap each other, a personality or the streams. They may be adjacent. The two personalities of
+ *   willowera_retime may be the same buffer.
  * - The row and the outputs of a cabinet do not overlap each other or the personality that is placed. They may be adjacent.
  * - willowera_settings is called in the default floating-point environment: round to nearest, subnormal numbers on.
  *
@@ -21,9 +22,9 @@
  *
  * What a call does to memory:
  *
- * - It reads the personality, the state, the streams and the row. An accepted step writes the state and one colour byte for each group,
- *   an accepted road the state and the results. An accepted call of a cabinet writes its own record and its own outputs. A refused call
- *   writes nothing. Otherwise a call uses only its stack.
+ * - It reads the personalities, the state, the streams and the row. An accepted step writes the state and one colour byte for each group,
+ *   an accepted retiming the state, an accepted road the state and the results. An accepted call of a cabinet writes its own record and
+ *   its own outputs. A refused call writes nothing. Otherwise a call uses only its stack.
  * - The library has no variables, no heap and no locks. Calls with their own state and colours may run at the same time, in several
  *   threads or in a signal handler that interrupts another call, and may share a personality. Calls on one row may not.
  * - A state or a row has no pointers in it: it may be copied, moved and stored. A step is not atomic: a call that never returns (a reset,
@@ -49,7 +50,7 @@ extern "C" {
 
 /* ── Sizes ── */
 
-#define WILLOWERA_STATE_BYTES 39
+#define WILLOWERA_STATE_BYTES 336
 #define WILLOWERA_MOST_PHASES 7
 #define WILLOWERA_MOST_GROUPS 32
 #define WILLOWERA_MOST_DETECTORS 48
@@ -75,8 +76,8 @@ extern "C" {
 #define WILLOWERA_RECORD_PERSONALITY 4
 #define WILLOWERA_RECORD_STATE (WILLOWERA_RECORD_PERSONALITY + WILLOWERA_MOST_PERSONALITY_BYTES)
 
-#define WILLOWERA_RECORD_BYTES (WILLOWERA_RECORD_STATE + WILLOWERA_STATE_BYTES) /* 520 */
-#define WILLOWERA_ROW_BYTES (WILLOWERA_RECORDS * WILLOWERA_RECORD_BYTES)        /* 2080 */
+#define WILLOWERA_RECORD_BYTES (WILLOWERA_RECORD_STATE + WILLOWERA_STATE_BYTES) /* 817 */
+#define WILLOWERA_ROW_BYTES (WILLOWERA_RECORDS * WILLOWERA_RECORD_BYTES)        /* 3268 */
 
 /* ── Editions of the limits: the kind of the first section of a personality. Another kind there is refused with 2 ── */
 
@@ -110,6 +111,9 @@ extern "C" {
 #define WILLOWERA_WALK 1
 #define WILLOWERA_CLEARANCE_ONE 2
 #define WILLOWERA_CLEARANCE_TWO 3
+
+/* Whether times wait in a state: 1, or 0. They wait until a phase next starts. */
+#define WILLOWERA_TIMES_WAIT(state) ((state)[187])
 
 /* ── Detectors of a site sheet: at a distance before the stop line, or a zone at the stop line ── */
 
@@ -152,6 +156,9 @@ extern "C" {
 #define WILLOWERA_WRONG_RECORD 24       /* no such record; placing: it is not free; stepping and taking out: it is free; place 0 */
 #define WILLOWERA_OUTPUTS_TAKEN 25      /* outputs past the 32nd; placing: also outputs of another site; place 0 */
 
+/* Refusal of a retiming. */
+#define WILLOWERA_NOT_ONLY_TIMES 26     /* the new personality differs from the first in more than times; place 0 */
+
 /* ── Answers: the number in bits 0 to 7, above it the place of a refusal, or the result of an accepted call ── */
 
 #define WILLOWERA_NUMBER(answer) ((unsigned)((answer) & 0xff))
@@ -171,13 +178,26 @@ uint64_t willowera_read(const uint8_t *personality, size_t personality_length);
 /* The wait bound of a personality in steps (WILLOWERA_WAIT), or its refusal. */
 uint64_t willowera_wait_bound(const uint8_t *personality, size_t personality_length);
 
-/* Writes the fresh state. If the buffer does not have WILLOWERA_STATE_BYTES bytes: 13. */
-uint64_t willowera_fresh(uint8_t *state, size_t state_length);
+/* Writes the fresh state of a personality, in which its own times rule: 0, or a refusal.
+ *
+ * The checks: the personality; then 13 (state_length is not WILLOWERA_STATE_BYTES). */
+uint64_t willowera_fresh(const uint8_t *personality, size_t personality_length, uint8_t *state, size_t state_length);
 
-/* One step of 0.1 s. Replaces the state by the next state, writes the colours, and answers the wait bound (WILLOWERA_WAIT); or a
- * refusal. */
+/* One step of 0.1 s. Replaces the state by the next state, writes the colours, and answers the wait bound of the times that rule after
+ * the step (WILLOWERA_WAIT); or a refusal. */
 uint64_t willowera_step(const uint8_t *personality, size_t personality_length, uint8_t *state, size_t state_length,
                         uint64_t inputs, uint8_t *colours, size_t colours_length);
+
+/* Gives a running site the times of a new personality: 0, or a refusal. They wait in the state until a phase next starts, and rule from
+ * that start on. Times that waited before are replaced. Every call on the site, this one too, still gets the first personality; of its
+ * bytes only the times no longer count.
+ *
+ * The new personality must be accepted, and may differ from the first in times only: start red, L, M, X, G, Y, R, walk, C1, C2 and the
+ * times of kind 7. To take waiting times back, retime to the times that rule.
+ *
+ * The checks: the first personality; then 13; then the new personality (a place is then an offset in the new one); then 26. */
+uint64_t willowera_retime(const uint8_t *personality, size_t personality_length, uint8_t *state, size_t state_length,
+                          const uint8_t *new_personality, size_t new_length);
 
 /* Minimum green and passage time of an approach, in steps (WILLOWERA_MINIMUM_GREEN_SETTING, WILLOWERA_PASSAGE_TIME), or a refusal.
  * The speed is in km/h. The metres are the distance of an advance detector, or the length of a stop-line zone. A NaN, an infinity,
@@ -219,7 +239,8 @@ uint64_t willowera_section(const uint8_t *personality, size_t personality_length
  * A record whose personality would be refused is neither stepped nor taken out, and it is not free. Calls never leave such a record. To
  * clear one that came from elsewhere, write zeros over it. Its outputs are not kept for it: another site may be placed on them.
  *
- * A pointer to a part of a record may be handed to other calls, as a held personality to willowera_section. */
+ * A pointer to a part of a record may be handed to other calls: a held personality to willowera_section, or a held personality and its
+ * state to willowera_retime. */
 
 /* Places a site in a free record: stores the personality, the fresh state and the first output, turns the site's outputs red, and answers
  * 0; or a refusal.
@@ -244,7 +265,7 @@ uint64_t willowera_cabinet_step(uint8_t *row, size_t row_length, size_t record, 
 uint64_t willowera_cabinet_take_out(uint8_t *row, size_t row_length, size_t record, uint8_t *outputs, size_t outputs_length);
 
 /* The version of the interface of the archive. It equals WILLOWERA_VERSION if this header belongs to the archive. */
-#define WILLOWERA_VERSION 4
+#define WILLOWERA_VERSION 5
 uint32_t willowera_version(void);
 
 #ifdef __cplusplus

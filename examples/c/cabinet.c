@@ -66,7 +66,7 @@ static void place(struct site *site, size_t record, size_t first)
            WILLOWERA_WAIT(willowera_wait_bound(site->personality, site->length)));
     site->first = first;
     site->placed = 1;
-    need(willowera_fresh(site->state, sizeof site->state) == 0, "a fresh state");
+    need(willowera_fresh(site->personality, site->length, site->state, sizeof site->state) == 0, "a fresh state");
 }
 
 static void take_out(struct site *site, size_t record)

@@ -7,6 +7,7 @@
 #     check.sh settings      settings.c prints the answers that the data sheet's table of site sheets has
 #     check.sh road          road.c prints what the tables of the example roads have, but for the longest queue
 #     check.sh cabinet       cabinet.c prints what is kept in cabinet.txt, and every site in the cabinet does what it does alone
+#     check.sh retime        retime.c prints what is kept in retime.txt
 #     check.sh yellow        yellow.c prints the answers that the data sheet's table of yellow times has
 #
 # The programs are built with gcc's address and undefined-behaviour sanitizers, which watch the caller's side.
@@ -37,7 +38,7 @@ needs)
     [ -z "$(undefined_names | tr ' ' '\n' | grep -vxE 'memcpy|memset')" ] && [ -z "$(writable_sections)" ]
     ;;
 conditions)
-    run conditions examples/*/personality.bin
+    run conditions examples/*/personality*.bin
     ;;
 steps)
     run steps examples/two_phases/personality.bin 80 12-12:1 |
@@ -57,12 +58,16 @@ cabinet)
     run cabinet examples/two_phases/personality.bin examples/t_junction/personality.bin examples/crossings/personality.bin |
         diff - examples/c/cabinet.txt
     ;;
+retime)
+    run retime examples/two_phases/personality.bin examples/two_phases/personality_night.bin examples/t_junction/personality.bin |
+        diff - examples/c/retime.txt
+    ;;
 yellow)
     # shellcheck disable=SC2046 # two words of each row
     run yellow $(yellows '$2, $3') | diff - <(yellows '$4')
     ;;
 *)
-    sed -n '2,11s/^# \{0,1\}//p' "$0"
+    sed -n '2,12s/^# \{0,1\}//p' "$0"
     exit 2
     ;;
 esac

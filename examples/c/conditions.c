@@ -59,7 +59,7 @@ static uint64_t run(const struct site *site, uint64_t seed, uint8_t *state, uint
 {
     uint64_t random = seed * UINT64_C(0x9e3779b97f4a7c15) + 1, sum = 0;
 
-    need(willowera_fresh(state, WILLOWERA_STATE_BYTES) == 0, "a fresh state");
+    need(willowera_fresh(site->personality, site->length, state, WILLOWERA_STATE_BYTES) == 0, "a fresh state");
     for (int step = 0; step < STEPS; step++) {
         uint64_t inputs = draw(&random) & draw(&random) & draw(&random) & site->known;
         uint64_t answer = willowera_step(site->personality, site->length, state, WILLOWERA_STATE_BYTES, inputs, colours,
@@ -165,13 +165,50 @@ static void cut_personalities(const struct site *site)
         for (unsigned kind = 0; kind <= MOST_KINDS; kind++)
             need(willowera_section(cut, length, (uint16_t)kind) == answer, "a section of a cut personality");
         need(willowera_step(cut, length, NULL, 0, 0, NULL, 0) == answer, "a step on a cut personality");
+        need(willowera_fresh(cut, length, NULL, 0) == answer, "a fresh state of a cut personality");
+        need(willowera_retime(cut, length, NULL, 0, NULL, 0) == answer, "new times on a cut personality");
     }
     free_page(page);
+}
+
+/* An accepted retiming reads and writes nothing beside its buffers, and writes no personality: both are one buffer that cannot be written.
+ * With its own times a site does what it does without the call. */
+static void retimes_between_fences(const struct site *site)
+{
+    const size_t length = site->length, groups = site->groups, states = WILLOWERA_STATE_BYTES;
+    uint8_t plain[WILLOWERA_STATE_BYTES], colours[WILLOWERA_MOST_GROUPS], expected[WILLOWERA_MOST_GROUPS];
+
+    for (int at_end = 0; at_end < 2; at_end++) {
+        uint8_t *pages[2] = {fenced_page(), fenced_page()}, *state = place(pages[1], states, at_end);
+        const uint8_t *bytes = fenced_site(site, pages[0], at_end).personality;
+        uint64_t random = 1;
+
+        need(willowera_fresh(bytes, length, state, states) == 0, "a fresh state");
+        memcpy(plain, state, states);
+        for (int step = 0; step < STEPS; step++) {
+            uint64_t inputs = draw(&random) & draw(&random) & draw(&random) & site->known;
+            if (step % 7 == 0)
+                need(willowera_retime(bytes, length, state, states, bytes, length) == 0 && WILLOWERA_TIMES_WAIT(state), "its own times");
+            need(willowera_step(bytes, length, state, states, inputs, colours, groups)
+                     == willowera_step(bytes, length, plain, states, inputs, expected, groups), "a step with its own times");
+            need(memcmp(colours, expected, groups) == 0, "colours with its own times");
+        }
+        for (int i = 0; i < 2; i++)
+            free_page(pages[i]);
+    }
+}
+
+/* Another site that differs in one byte: its first detector extends if it did not, and the other way round. */
+static void put_another(const struct site *site, uint8_t *other)
+{
+    memcpy(other, site->personality, site->length);
+    other[WILLOWERA_OFFSET(willowera_section(other, site->length, 5)) + 1] ^= 4;
 }
 
 /* A refused call writes nothing, not even the bytes that were there: its buffers cannot be written. */
 static void refusals_write_nothing(const struct site *site)
 {
+    uint8_t other[WILLOWERA_MOST_PERSONALITY_BYTES];
     uint8_t *pages[3] = {fenced_page(), fenced_page(), fenced_page()};
     struct site fenced = fenced_site(site, pages[0], 1);
     uint8_t *state = place(pages[1], WILLOWERA_STATE_BYTES, 1), *colours = place(pages[2], site->groups, 1);
@@ -179,14 +216,20 @@ static void refusals_write_nothing(const struct site *site)
     const size_t length = site->length, groups = site->groups, states = WILLOWERA_STATE_BYTES;
     const uint64_t stray = ~site->known;
 
-    need(willowera_fresh(state, states) == 0, "a fresh state");
+    put_another(site, other);
+    need(willowera_fresh(bytes, length, state, states) == 0, "a fresh state");
     only_read(pages[1]);
     only_read(pages[2]);
     need(willowera_step(bytes, length - 1, state, states, 0, colours, groups) % 256 == WILLOWERA_CUT_SHORT, "1");
     need(willowera_step(bytes, length, state + 1, states - 1, 0, colours, groups) == WILLOWERA_STATE_NOT_VALID, "13");
     need(willowera_step(bytes, length, state, states, stray, colours, groups) == WILLOWERA_STRAY_INPUT, "15");
     need(willowera_step(bytes, length, state, states, 0, colours + 1, groups - 1) == WILLOWERA_BUFFER_SHORT, "14");
-    need(willowera_fresh(state + 1, states - 1) == WILLOWERA_STATE_NOT_VALID, "a fresh state in a shorter buffer");
+    need(willowera_fresh(bytes, length - 1, state, states) % 256 == WILLOWERA_CUT_SHORT, "1 for a fresh state");
+    need(willowera_fresh(bytes, length, state + 1, states - 1) == WILLOWERA_STATE_NOT_VALID, "a fresh state in a shorter buffer");
+    need(willowera_retime(bytes, length - 1, state, states, bytes, length) % 256 == WILLOWERA_CUT_SHORT, "1 of the first personality");
+    need(willowera_retime(bytes, length, state + 1, states - 1, bytes, length) == WILLOWERA_STATE_NOT_VALID, "13 for new times");
+    need(willowera_retime(bytes, length, state, states, bytes, length - 1) % 256 == WILLOWERA_CUT_SHORT, "1 of the new personality");
+    need(willowera_retime(bytes, length, state, states, other, length) == WILLOWERA_NOT_ONLY_TIMES, "26");
 
     writable(pages[1]);
     memset(state, 255, states);
@@ -237,7 +280,7 @@ static void roads_between_fences(const struct site *site)
         need(willowera_road(bytes, site->length, streams, size, STEPS, state, states, results, size - 1) == WILLOWERA_BUFFER_SHORT, "14");
         writable(pages[2]);
         need(willowera_road(bytes, site->length, NULL, 0, 0, state, states, NULL, 0) == 0, "no streams and no steps");
-        need(willowera_fresh(fresh, states) == 0 && memcmp(fresh, state, states) == 0, "no steps give the fresh state");
+        need(willowera_fresh(bytes, site->length, fresh, states) == 0 && memcmp(fresh, state, states) == 0, "no steps give the fresh state");
         for (int i = 0; i < 4; i++)
             free_page(pages[i]);
     }
@@ -384,13 +427,16 @@ static void empty_buffers(const struct site *site)
     uint8_t state[WILLOWERA_STATE_BYTES], colours[WILLOWERA_MOST_GROUPS];
     const uint8_t *bytes = site->personality;
 
-    need(willowera_fresh(state, sizeof state) == 0, "a fresh state");
+    need(willowera_fresh(bytes, site->length, state, sizeof state) == 0, "a fresh state");
     for (int i = 0; i < 2; i++) {
         uint8_t *none = nowhere[i];
         need(willowera_read(none, 0) == WILLOWERA_CUT_SHORT, "an empty personality");
         need(willowera_wait_bound(none, 0) == WILLOWERA_CUT_SHORT, "the wait bound of an empty personality");
         need(willowera_section(none, 0, 1) == WILLOWERA_CUT_SHORT, "a section of an empty personality");
-        need(willowera_fresh(none, 0) == WILLOWERA_STATE_NOT_VALID, "a fresh state in an empty buffer");
+        need(willowera_fresh(none, 0, state, sizeof state) == WILLOWERA_CUT_SHORT, "the fresh state of an empty personality");
+        need(willowera_fresh(bytes, site->length, none, 0) == WILLOWERA_STATE_NOT_VALID, "a fresh state in an empty buffer");
+        need(willowera_retime(bytes, site->length, none, 0, none, 0) == WILLOWERA_STATE_NOT_VALID, "new times for an empty state");
+        need(willowera_retime(bytes, site->length, state, sizeof state, none, 0) == WILLOWERA_CUT_SHORT, "an empty new personality");
         need(willowera_step(none, 0, none, 0, 0, none, 0) == WILLOWERA_CUT_SHORT, "a step with nothing");
         need(willowera_step(bytes, site->length, none, 0, 0, colours, sizeof colours) == WILLOWERA_STATE_NOT_VALID, "an empty state");
         need(willowera_step(bytes, site->length, state, sizeof state, 0, none, 0) == WILLOWERA_BUFFER_SHORT, "no colours");
@@ -409,8 +455,9 @@ static void long_lengths(const struct site *site)
     writable(room);
     memcpy(room, site->personality, site->length);
     need(willowera_read(room, over + site->length) == (site->length << 8 | WILLOWERA_LEFT_OVER), "a long personality");
-    need(willowera_fresh(room, over + sizeof state) == WILLOWERA_STATE_NOT_VALID, "a fresh state in a long buffer");
-    need(willowera_fresh(state, sizeof state) == 0, "a fresh state");
+    need(willowera_fresh(site->personality, site->length, room, over + sizeof state) == WILLOWERA_STATE_NOT_VALID,
+         "a fresh state in a long buffer");
+    need(willowera_fresh(site->personality, site->length, state, sizeof state) == 0, "a fresh state");
     memcpy(room, state, sizeof state);
     need(willowera_step(site->personality, site->length, room, over + sizeof state, 0, room, 0) == WILLOWERA_STATE_NOT_VALID,
          "a long state");
@@ -485,13 +532,13 @@ static void handlers(const struct site *site)
 
     handled.site = site;
     handled.steps = 0;
-    need(willowera_fresh(handled.state, sizeof handled.state) == 0, "a fresh state");
+    need(willowera_fresh(site->personality, site->length, handled.state, sizeof handled.state) == 0, "a fresh state");
     need(signal(SIGALRM, step_handled) != SIG_ERR && setitimer(ITIMER_REAL, &often, NULL) == 0, "a timer");
     while (handled.steps < HANDLED)
         need(run_alone(site, 3) == expected, "a run with a handler that steps");
     need(setitimer(ITIMER_REAL, &never, NULL) == 0 && signal(SIGALRM, SIG_IGN) != SIG_ERR, "the timer's end");
 
-    need(willowera_fresh(state, sizeof state) == 0, "a fresh state");
+    need(willowera_fresh(site->personality, site->length, state, sizeof state) == 0, "a fresh state");
     for (int step = 0; step < handled.steps; step++)
         willowera_step(site->personality, site->length, state, sizeof state, 0, colours, sizeof colours);
     need(memcmp(state, handled.state, sizeof state) == 0, "the handler's own state");
@@ -528,6 +575,7 @@ int main(int count, char **paths)
         struct site site = site_of(paths[i], room, sizeof room);
         steps_between_fences(&site);
         cut_personalities(&site);
+        retimes_between_fences(&site);
         refusals_write_nothing(&site);
         roads_between_fences(&site);
         cabinets_between_fences(&site);

@@ -41,7 +41,7 @@ static void step_alone(const uint8_t *personality, size_t length, uint64_t wired
     uint8_t colours[WILLOWERA_MOST_GROUPS];
     uint64_t random = 88172645463325252u;
 
-    accepted(willowera_fresh(state, sizeof state));
+    accepted(willowera_fresh(personality, length, state, sizeof state));
     for (long i = 0; i < steps; i++)
         accepted(willowera_step(personality, length, state, sizeof state, random_inputs(&random, wired), colours, sizeof colours));
 }

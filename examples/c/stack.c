@@ -28,7 +28,7 @@ static void *step(void *argument)
     uint64_t random = 88172645463325252u;
 
     run->caller = state;
-    willowera_fresh(state, sizeof state);
+    willowera_fresh(run->personality, run->length, state, sizeof state);
     for (long i = 0; i < run->steps; i++) {
         random ^= random << 13;
         random ^= random >> 7;

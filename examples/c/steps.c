@@ -67,7 +67,7 @@ int main(int count, char **words)
 
     size_t groups = personality[5];
     memset(shown, 255, sizeof shown);
-    stop_if_refused(willowera_fresh(state, sizeof state));
+    stop_if_refused(willowera_fresh(personality, length, state, sizeof state));
     for (unsigned step = 1; step <= (unsigned)atoi(words[2]); step++) {
         stop_if_refused(willowera_step(personality, length, state, sizeof state, inputs_of(step, count - 3, words + 3), colours,
                                        sizeof colours));

@@ -14,8 +14,6 @@ use Rattle.rules.specs.declared.answer.Verdict.the-variants.{Accepted, Refused}
 use Rattle.rules.specs.declared.state.TimedState.{TimedState}
 use Rattle.rules.specs.Verdicts.{_orElse_, reportOf, stepReportOf, waitOf}
 use Rattle.rules.specs.Personality.{verdictOf}
-use Rattle.rules.specs.Site.{siteOf}
-use Rattle.rules.specs.WaitBound.{waitBound}
 use Rattle.rules.specs.Call.{boundFor, handedBack, bufferFor, checksBy}
 use Rattle.rules.specs.TimedCall.{timedVerdict, timedAnswerOf, timedBufferOf}
 use Rattle.state_timed.specs.TimedLayout.{timedBytes, isTimed, timedDecoded, timedEncodedOver}
@@ -37,7 +35,7 @@ pub answer-near :
 unfolding timedAnswerOf
 answer-near b s inputs buffer a out {number} {place} called f =
     call-named b s inputs (length buffer) number place
-    (bound-declined (timedVerdict b s inputs (length buffer)) (waitBound (siteOf b)) (sym (ap (λ (x : TimedAnswer). x .outcome) (called .0)) ∙ f)) .1
+    (bound-declined (timedVerdict b s inputs (length buffer)) _ (sym (ap (λ (x : TimedAnswer). x .outcome) (called .0)) ∙ f)) .1
 
 -- ── A step over bytes ──
 
