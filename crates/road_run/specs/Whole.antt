@@ -4,14 +4,13 @@ use mathlib.Core.Bool.{false}
 use mathlib.Core.List.{List}
 use mathlib.Core.Path.{_≡_}
 use lib.ListN.{length}
-use lib.Seq.{sets}
 use Rattle.rules.specs.declared.answer.Verdict.the-variants.{Accepted}
 use Rattle.rules.specs.declared.site.Site.{Site}
 use Rattle.rules.specs.declared.state.KeptState.{KeptState}
 use Rattle.rules.specs.Personality.{verdictOf}
 use Rattle.rules.specs.Site.{siteOf}
 use Rattle.rules.specs.Kept.{freshKept}
-use Rattle.road_streams.specs.Road.{badStreams, resultsOf, roadAfter}
+use Rattle.road_streams.specs.Road.{badStreams, resultsOf, resultsFor, roadAfter}
 use Rattle.road_step.specs.OnRoad.{OnRoad}
 
 -- ── In cells ──
@@ -36,4 +35,5 @@ pub record Startable (site : Site) (streams : List ℕ) (steps room : ℕ) : Typ
 
 pub record RanTo (site : Site) (streams : List ℕ) (steps : ℕ) (results : List ℕ) (last : KeptState) (after : List ℕ) : Type 0 where
   pub state : (b : List ℕ) → OfPersonality b site streams steps → last ≡ roadAfter b streams steps .state
-  pub written : (b : List ℕ) → OfPersonality b site streams steps → after ≡ sets results 0 (resultsOf streams (roadAfter b streams steps .traffic))
+  pub written : (b : List ℕ) → OfPersonality b site streams steps →
+      after ≡ resultsFor Accepted (resultsOf streams (roadAfter b streams steps .traffic)) results

@@ -16,7 +16,7 @@ use Rattle.rules.specs.Personality.{verdictOf}
 use Rattle.rules.specs.Site.{siteOf, isPedestrian}
 use Rattle.rules.specs.Kept.{freshKept}
 use Rattle.rules.specs.Colours.{green}
-use Rattle.rules.specs.Call.{handedBack, answerOf, bufferOf}
+use Rattle.rules.specs.Call.{answerOf, bufferOf}
 use Rattle.state_forms.specs.Forms.{two, partsOf}
 use Rattle.road_streams.specs.declared.Stream.{Stream}
 use Rattle.road_streams.specs.declared.Traffic.{Traffic}
@@ -150,10 +150,6 @@ resultOf t = two .written (t .queued) ++ two .written (t .gone)
 -- those of all streams, in the order handed in
 unfoldable pub resultsOf : List ℕ → List Traffic → List ℕ
 resultsOf streams traffic = partsOf (λ i. resultOf (trafficOf traffic i)) (streamCount streams)
-
--- the last state; the fresh state if the call is refused
-unfoldable pub roadState : List ℕ → List ℕ → ℕ → Bool → ℕ → KeptState
-roadState b streams steps stateFits room = handedBack (roadVerdict b streams steps stateFits room) (roadAfter b streams steps .state) freshKept
 
 -- the result buffer: the results from its start on, and the bytes past them untouched; all of it untouched on a refusal
 unfoldable pub resultsFor : Verdict → List ℕ → List ℕ → List ℕ

@@ -1,4 +1,1 @@
 pub mod Board
-pub mod SheetCall
-pub mod RoadCall
-pub mod YellowCall

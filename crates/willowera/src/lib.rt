@@ -1,6 +1,6 @@
-// The library for C and Rust: units one to three, with states as bytes. A slice is passed as a pointer and a length. The lowest byte of an
-// answer is the number of the refusal, 0 if the call is accepted. The bytes above it are the place, or the result of an accepted call.
-ghost use Prim.Native.Nat.{_+_, _*_, _<_};
+// The library for C and Rust: the exported calls of the board interface, each one call of its crate. A slice is passed as a pointer and a
+// length. The lowest byte of an answer is the number of the refusal, 0 if the call is accepted. The bytes above it are the place, or the
+// result of an accepted call.
 ghost use mathlib.Core.Path.{_≡_};
 ghost use lib.ListN.{length};
 ghost use Rattle.rules.specs.Call.{boundOf};
@@ -8,30 +8,33 @@ ghost use Rattle.rules.specs.Personality.{verdictOf};
 ghost use Rattle.rules.specs.Kept.{freshKept};
 ghost use Rattle.state_bytes.specs.Layout.{encodedOver};
 ghost use Rattle.board_answers.specs.Answers.{packedVerdict, packedOutcome};
+ghost use Rattle.board_read.specs.SectionCall.{sectionAnswer};
 ghost use Rattle.board_step.specs.StepCall.{stepAnswer, stateAfter, coloursAfter};
-ghost use Rattle.willowera.specs.Board.{freshAnswer, sectionAnswer};
+ghost use Rattle.board_settings.specs.SettingsCall.{settingsAnswer};
+ghost use Rattle.board_yellow.specs.YellowCall.{yellowAnswer};
+ghost use Rattle.board_road.specs.RoadCall.{roadAnswer, lastState, resultsAfter};
+ghost use Rattle.willowera.specs.Board.{freshAnswer};
 
 pub mod cabinet;
-pub mod road;
-pub mod sheet;
-pub mod yellow;
 
-use base_bytes::two_at;
 use board_answers::packed;
-use board_answers::refusal;
-use rules::answer::Outcome;
-use rules::answer::Verdict;
+
+// The version of the interface.
+#[no_mangle]
+pub extern "C" fn willowera_version() -> u32
+    ensures { λ r. ⌜ r ≡ 5 ⌝ }
+{
+    5
+}
+
+// ---- A personality ----
 
 // Accepts a personality (0) or refuses it.
 #[no_mangle]
 pub extern "C" fn willowera_read(personality: &[u8]) -> u64
     ensures { λ r. ⌜ r ≡ packedVerdict (verdictOf (now (personality .entry))) ⌝ }
 {
-    let verdict = read_personality::read(personality);
-    match verdict {
-        Verdict::Accepted => 0,
-        Verdict::Refused { number, place } => refusal(number, place),
-    }
+    board_read::read(personality)
 }
 
 // The wait bound of a personality in steps, or its refusal.
@@ -39,12 +42,18 @@ pub extern "C" fn willowera_read(personality: &[u8]) -> u64
 pub extern "C" fn willowera_wait_bound(personality: &[u8]) -> u64
     ensures { λ r. ⌜ r ≡ packedOutcome (boundOf (now (personality .entry))) ⌝ }
 {
-    let outcome = call_wait_bound::wait_bound(personality);
-    match outcome {
-        Outcome::Stepped { wait } => packed(0, wait),
-        Outcome::StepRefused { number, place } => refusal(number, place),
-    }
+    board_read::wait_bound(personality)
 }
+
+// Offset and length of the body of a section, or a refusal.
+#[no_mangle]
+pub extern "C" fn willowera_section(personality: &[u8], kind: u16) -> u64
+    ensures { λ r. ⌜ r ≡ sectionAnswer (now (personality .entry)) kind ⌝ }
+{
+    board_read::section(personality, kind)
+}
+
+// ---- A running site ----
 
 // Writes the fresh state into a buffer of 39 bytes. If the buffer has another length, it stays as it is, and the answer is 13.
 #[no_mangle]
@@ -74,31 +83,37 @@ pub extern "C" fn willowera_step(
     board_step::step(personality, state, inputs, colours)
 }
 
-// The answer for a part of the personality: 0 in the lowest byte, then the place in 32 bits and the length in 24.
-fn part(start: usize, size: u16) -> u64
-    requires { ⌜ start < 4294967296 ⌝ }
-    ensures { λ r. ⌜ r ≡ 256 * start + 1099511627776 * size ⌝ }
+// ---- Settings of a site ----
+
+// Minimum green and passage time of an approach, or a refusal. The detector is 0 for an advance detector and 1 for a stop-line zone.
+#[no_mangle]
+pub extern "C" fn willowera_settings(speed: u32, detector: u32, metres: f64) -> u64
+    ensures { λ r. ⌜ r ≡ settingsAnswer speed detector metres ⌝ }
 {
-    256 * (start as u64) + 1099511627776 * (size as u64)
+    board_settings::settings(speed, detector, metres)
 }
 
-// Offset and length of the body of a section, or a refusal.
+// The yellow time in steps, or a refusal.
 #[no_mangle]
-pub extern "C" fn willowera_section(personality: &[u8], kind: u16) -> u64
-    ensures { λ r. ⌜ r ≡ sectionAnswer (now (personality .entry)) kind ⌝ }
+pub extern "C" fn willowera_yellow(speed: u32, grade: i32) -> u64
+    ensures { λ r. ⌜ r ≡ yellowAnswer speed grade ⌝ }
 {
-    let found = read_lookup::find(personality, kind);
-    let verdict = found.verdict;
-    match verdict {
-        Verdict::Accepted => part(found.head + 4, two_at(personality, found.head)),
-        Verdict::Refused { number, place } => refusal(number, place),
-    }
+    board_yellow::yellow(speed, grade)
 }
 
-// The version of the interface.
+// Tries the settings of a personality on streams of vehicles, from the fresh state: writes the last state and the results of the streams, and
+// answers 0. A refused road writes nothing.
 #[no_mangle]
-pub extern "C" fn willowera_version() -> u32
-    ensures { λ r. ⌜ r ≡ 4 ⌝ }
+pub extern "C" fn willowera_road(
+    personality: &[u8],
+    streams: &[u8],
+    steps: u32,
+    state: &mut [u8],
+    results: &mut [u8],
+) -> u64
+    ensures { λ r. ⌜ (r ≡ roadAnswer (now (personality .entry)) (now (streams .entry)) steps (now (state .entry)) (length (now (results .entry))))
+        × (now (state .exit) ≡ lastState (now (personality .entry)) (now (streams .entry)) steps (now (state .entry)) (length (now (results .entry))))
+        × (now (results .exit) ≡ resultsAfter (now (personality .entry)) (now (streams .entry)) steps (now (state .entry)) (now (results .entry))) ⌝ }
 {
-    4
+    board_road::road(personality, streams, steps, state, results)
 }

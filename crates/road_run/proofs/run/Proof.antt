@@ -1,4 +1,4 @@
--- `road_run::run` meets its contract: blank cells are the road's start, and the results are those of its end.
+-- `road_run::run` meets its contract: blank cells are the road's start, and the results are those of its end, written from the buffer's start on.
 use Prim.Native.Nat.{ℕ, _+_}
 use mathlib.Core.List.{List}
 use mathlib.Core.Path.{_≡_, ap, _∙_}
@@ -8,7 +8,7 @@ use Rattle.road_streams.specs.Road.{streamCount}
 use Rattle.road_step.specs.OnRoad.{OnRoad}
 use Rattle.proof_road.proofs.Streams.{known-streams}
 use Rattle.road_run.specs.Whole.{OfPersonality}
-use Rattle.road_run.proofs.Whole.{blank, start-road, end-results}
+use Rattle.road_run.proofs.Whole.{blank, start-road, end-results, results-placed}
 use borrow.Author.Needs.{needs}
 use Rattle.road_run.proofs.run.Statement.{statement}
 use Rattle.road_run.proofs.run.Tie as tie
@@ -66,7 +66,11 @@ returns c =
     let ran = put .before .before .before .before in
     record {
       state = λ b start. ended ran b start .held;
-      written = λ b start. put .put-results .ensures ∙ ap (λ (l : List ℕ). sets (entry ran .args .results .now) 0 l) (end-results start (ended ran b start));
+      written =
+          λ b start.
+          put .put-results .ensures
+          ∙ ap (λ (l : List ℕ). sets (entry ran .args .results .now) 0 l) (end-results start (ended ran b start))
+          ∙ results-placed start (entry ran .args .results .now) (entry ran .pre .enough);
     }
 
 pub run-spec : {M : Type 1} → statement M

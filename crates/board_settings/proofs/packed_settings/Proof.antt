@@ -1,0 +1,76 @@
+-- `board_settings::packed_settings` meets its contract, by the two cases of the answer; the place of a refusal is 0.
+use Prim.Native.Nat.{ℕ, _+_, _*_}
+use mathlib.Core.Path.{_≡_, sym, _∙_}
+use native.Mathlib.Nat.{zero-add, add-zero}
+use native.Mathlib.Omega.{arith}
+use borrow.Author.Needs.{needs}
+use Rattle.sheet_settings.specs.declared.Answer.{Answer}
+use Rattle.sheet_settings.specs.declared.Answer.the-variants.{Settings, Refused}
+use Rattle.sheet_settings.specs.Sheet.{settingsReportOf, minimumOf, passageOf}
+use Rattle.sheet_settings.proofs.Stated.{refused-place}
+use Rattle.board_answers.specs.Answers.{packed}
+use Rattle.board_settings.specs.SettingsCall.{packedSettings}
+use Rattle.board_settings.proofs.packed_settings.Statement.{statement}
+use Rattle.board_settings.proofs.packed_settings.Tie as tie
+
+packed-given : (a b : Answer) (r : ℕ) {m g : ℕ} → a ≡ b → a ≡ Settings m g → r ≡ packed 0 (m + 65536 * g) → r ≡ packedSettings b
+unfolding packedSettings settingsReportOf minimumOf passageOf
+packed-given a b r e f p = rw (sym e ∙ f, zero-add, p)
+
+packed-refused : (a b : Answer) (r : ℕ) {number place : ℕ} → a ≡ b → a ≡ Refused number place → r ≡ packed number place → r ≡ packedSettings b
+unfolding packedSettings settingsReportOf minimumOf passageOf
+packed-refused a b r e f p = rw (sym e ∙ f, p) (simp add-zero)
+
+settings-requires : tie.Need-settings-requires
+settings-requires c κs = search needs
+
+enum-known-answer : tie.Need-enum-known-answer
+enum-known-answer c = search needs
+
+cast-packed : tie.Need-cast-packed
+cast-packed c = search needs
+
+cast-packed-2 : tie.Need-cast-packed-2
+cast-packed-2 c = search needs
+
+mul-packed : tie.Need-mul-packed
+mul-packed c = search needs
+
+add-packed : tie.Need-add-packed
+add-packed c = search needs
+
+packed-requires : tie.Need-packed-requires
+packed-requires c κs = search needs
+
+enum-known-answer-2 : tie.Need-enum-known-answer-2
+enum-known-answer-2 c = search needs
+
+refusal-requires : tie.Need-refusal-requires
+refusal-requires c κs =
+    let z = refused-place (c .before .before .before .settings .ensures .1) (c .before .answer2 .given .1) in omega arith
+
+returns : tie.Need-returns
+returns c =
+    let made = c .before .before .before .before .settings in
+    packed-given (made .result) _ _ (made .ensures .0) (c .before .before .answer .given .1) (c .packed .ensures)
+
+returns-2 : tie.Need-returns-2
+returns-2 c =
+    let made = c .before .before .before .before .settings in
+    packed-refused (made .result) _ _ (made .ensures .0) (c .before .before .answer2 .given .1) (c .refusal .ensures)
+
+pub packed-settings-spec : {M : Type 1} → statement M
+packed-settings-spec =
+    tie.close
+    (tie.spec
+    settings-requires
+    enum-known-answer
+    cast-packed
+    cast-packed-2
+    mul-packed
+    add-packed
+    packed-requires
+    enum-known-answer-2
+    refusal-requires
+    returns
+    returns-2)

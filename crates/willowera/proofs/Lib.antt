@@ -1,2 +1,0 @@
-pub mod SectionAnswers
-pub mod RoadAnswers
