@@ -1,5 +1,5 @@
 -- Times that a site may have: what the test of them tells and what it needs. A sound site with such times is sound.
-use Prim.Native.Nat.{ℕ, _+_, _≤_, _<_}
+use Prim.Native.Nat.{ℕ, _≤_, _<_}
 use mathlib.Core.Bool.{Bool, true, false, _||_}
 use mathlib.Core.List.{List, []}
 use mathlib.Core.Logic.{⊎-elim}
@@ -12,13 +12,12 @@ use Rattle.rules.specs.declared.site.Range.{Range}
 use Rattle.rules.specs.declared.site.Site.{Site}
 use Rattle.rules.specs.declared.site.Times.{Times}
 use Rattle.rules.specs.declared.site.WalkTimes.{WalkTimes}
-use Rattle.laws.specs.Folds.{allOf}
 use Rattle.rules.specs.Limits.{limitOf, within}
 use Rattle.rules.specs.Site.{noPhaseTimes, noWalkTimes, phaseTimes, walkTimes, conflict}
 use Rattle.rules.specs.State.{every}
 use Rattle.rules.specs.SiteTimes.{under, siteLimits, recordLimits, phaseWithin, walkWithin, timesWithin, admitted}
 use Rattle.rules.specs.Laws.{InTable, PhaseTimesIn, WalkTimesIn, TimesIn, Sound}
-use Rattle.laws.proofs.Booleans.{and-left, and-right, and-both, else-holds}
+use Rattle.laws.proofs.Booleans.{and-left, and-right, and-both}
 use Rattle.laws.proofs.Folds.{all-at, all-each}
 use Rattle.laws.proofs.Indices.{below-or-past}
 use Rattle.rules.proofs.Settings.{table-is-usable}

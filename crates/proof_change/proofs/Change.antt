@@ -2,9 +2,9 @@
 use Prim.Native.Nat.{ℕ, _≤_, _<_}
 use mathlib.Core.Bool.{Bool, true, false, not, _&&_, _||_, false≢true}
 use mathlib.Core.List.{List}
-use mathlib.Core.Path.{_≡_, refl, sym, ap, subst, _∙_, fun-ext}
+use mathlib.Core.Path.{_≡_, refl, sym, ap, subst, fun-ext}
 use native.Mathlib.Omega.{arith}
-use lib.Dec.{leb, eqb}
+use lib.Dec.{leb}
 use borrow.Author.Tests.{le-leb, not-true}
 use lib.ListN.{getD, replicate, getD-replicate}
 use Rattle.rules.specs.declared.site.Site.{Site}
@@ -21,15 +21,14 @@ use Rattle.rules.specs.declared.state.Position.{Position}
 use Rattle.rules.specs.declared.state.Stage.{Stage}
 use Rattle.rules.specs.declared.state.Stage.the-variants.{Idle, Walk, ClearanceOne, ClearanceTwo}
 use Rattle.rules.specs.declared.state.State.{State}
-use Rattle.laws.specs.Bytes.{bit}
-use Rattle.laws.specs.Folds.{if_then_else_, anyOf, setOf}
+use Rattle.laws.specs.Folds.{if_then_else_, setOf}
 use Rattle.rules.specs.Site.{phaseTimes, walkTimes, crosses, ring}
-use Rattle.rules.specs.IntervalTable.{isHeld, isIdle, isWalk, isWalkOrFirst, isSecond, isStartRed, isLeaving, isBeforeStart, isGreen, isRunning}
+use Rattle.rules.specs.IntervalTable.{isHeld, isIdle, isWalk, isWalkOrFirst, isSecond, isBeforeStart}
 use Rattle.rules.specs.State.{highestAge, idle, locked, asked, movement, valid}
 use Rattle.rules.specs.Demands.{pressed, detected, inGreen, registersLock, registersButton, calls, locksAfter, buttonsAfter, demandsAfter, movementDemands, stands, nextAfter}
 use Rattle.rules.specs.Movements.{older, lasting, advanced, movementsAfter, walkMayEnd}
 use Rattle.rules.specs.Counts.{gapAfter, maximumAfter, countsAfter}
-use Rattle.rules.specs.Interval.{someMovement, ends, following, starting, positionAfter, countsLeaving, countsEntering, countsChanged, locksLeft, starts}
+use Rattle.rules.specs.Interval.{someMovement, ends, following, positionAfter, countsChanged, locksLeft, starts}
 use Rattle.rules.specs.Walks.{begins, walksBegun, buttonsLeft}
 use Rattle.rules.specs.Step.{steppedBy}
 use Rattle.rules.specs.Kept.{isKept, keptValid, pressKeeps, keptAfter, nextKept, cleared, keptLeft, keptSteppedInto, keptStepped}

@@ -15,7 +15,7 @@ use Rattle.rules.specs.IntervalTable.{isSecond, isBeforeStart, phaseHeld}
 use Rattle.rules.specs.Movements.{walkMayEnd, movementsAfter}
 use Rattle.rules.specs.Site.{phaseTimes}
 use Rattle.rules.specs.declared.state.Movement.{Movement}
-use Rattle.rules.specs.Interval.{someMovement, ends, starting, following, staying, starts}
+use Rattle.rules.specs.Interval.{someMovement, ends, starting, following, staying}
 use Rattle.rules.specs.Timed.{startsNext}
 use Rattle.rules.specs.TimedLaws.{startsPhase}
 use Rattle.rules.specs.Step.{stepped}

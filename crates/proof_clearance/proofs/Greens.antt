@@ -3,19 +3,17 @@
 use Prim.Native.Nat.{ℕ, _<_}
 use native.Mathlib.Omega.{arith}
 use mathlib.Core.Bool.{Bool, true, false}
-use mathlib.Core.List.{List, _∷_}
 use mathlib.Core.Path.{_≡_, refl, sym, _∙_}
 use Rattle.rules.specs.declared.site.Site.{Site}
 use Rattle.rules.specs.declared.state.State.{State}
 use Rattle.rules.specs.Site.{inPhase, isPedestrian, movementOf, conflict}
 use Rattle.rules.specs.IntervalTable.{isIdle}
-use Rattle.rules.specs.State.{fresh, movement}
+use Rattle.rules.specs.State.{movement}
 use Rattle.rules.specs.Colours.{green, shownIn}
-use Rattle.rules.specs.DemandThree.{Taken, shows, NoConflictingGreens}
+use Rattle.rules.specs.DemandThree.{Taken, shows}
 use Rattle.rules.specs.Laws.{Sound}
 use Rattle.proof_runs.proofs.ValidStates.{ValidState}
-use Rattle.proof_runs.proofs.Linked.{reached}
-use Rattle.proof_runs.proofs.Runs.{ValidLink, Run}
+use Rattle.proof_runs.proofs.Chains.{ValidLink}
 use Rattle.proof_clearance.proofs.Shown.{vehicle-colour, pedestrian-colour, green-of-phase, green-walks}
 
 -- ── Valid states ──
@@ -55,11 +53,3 @@ module _ (site : Site) (s : State) (step : Taken) (link : ValidLink site s step)
       link .sound .conflictPhase g j apart (step .after .position .phase)
       (shown-has-phase g (within .0) greenG)
       (shown-has-phase j (within .1) greenJ)
-
--- ── Runs ──
-
-pub no-conflicting-greens : (site : Site) (steps : List Taken) → Run site fresh steps → NoConflictingGreens site steps
-unfolding NoConflictingGreens
-no-conflicting-greens site steps run earlier later step split =
-    let cut = reached (ValidLink site) steps earlier (step ∷ later) fresh split run in
-    never-both-green site (cut .0) step (cut .1 .0)

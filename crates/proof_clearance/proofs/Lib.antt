@@ -4,5 +4,3 @@ pub mod VehicleColours
 pub mod Stopped
 pub mod Vehicles
 pub mod Pedestrians
-pub mod Countdowns
-pub mod Clearances

@@ -1,1 +1,1 @@
-// Proof only: parts a and b of demand 3, about a chain of accepted steps. See proofs/.
+// Proof only: what an accepted step shows and what it leaves of a clearance, for parts a and b of demand 3. See proofs/.

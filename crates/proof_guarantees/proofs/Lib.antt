@@ -1,11 +1,10 @@
 pub mod Accepted
 pub mod ScanningRuns
-pub mod DeadEnds
-pub mod DemandThree
 pub mod TimedAccepted
 pub mod TimedScanningRuns
 pub mod TimedDeadEnds
 pub mod TimedDemandThree
-pub mod WithoutRetimings
 pub mod AsBefore
+pub mod WithoutRetimings
+pub mod DemandThree
 pub mod Junction

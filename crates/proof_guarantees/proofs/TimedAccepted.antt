@@ -1,23 +1,16 @@
 -- What holds of timed states of every sound site, said of accepted personalities.
-use mathlib.Core.List.{List}
-use mathlib.Core.Bool.{Bool, true, false, not}
-use mathlib.Core.Path.{_≡_, refl, ap, sym, _∙_}
-use Rattle.rules.specs.declared.site.Times.{Times}
-use Rattle.rules.specs.declared.state.TimedState.{TimedState}
-use Rattle.rules.specs.declared.answer.Verdict.the-variants.{Accepted}
-use Rattle.laws.specs.Folds.{if_then_else_}
+use mathlib.Core.Bool.{not}
 use Rattle.rules.specs.Verdicts.{_orElse_, refuseIf}
 use Rattle.rules.specs.Personality.{verdictOf}
 use Rattle.rules.specs.Site.{siteOf, timesIn}
-use Rattle.rules.specs.SiteTimes.{under, admitted}
 use Rattle.rules.specs.Kept.{keptStepped}
-use Rattle.rules.specs.Timed.{keptOf, waitingValid, timedValid, takesOver, rulingNext, timedStepped}
+use Rattle.rules.specs.Timed.{waitingValid, timedValid, rulingNext, timedStepped}
 use Rattle.rules.specs.TimedCall.{differsElsewhere, retimeChecksBy, retimed}
-use Rattle.rules.specs.Laws.{Sound, AcceptedIsSound}
+use Rattle.rules.specs.Laws.{AcceptedIsSound}
 use Rattle.rules.specs.TimedLaws.{ChangeIsStep, ReadyIsValid, OtherwisePlain, TakesOverAtStart, FreshTimedIsValid, TimedStepKeepsValid, RetimeKeepsValid, TimedStepForgets, AcceptedIsAdmitted, RetimedIsAdmitted}
 use Rattle.rules.proofs.Verdicts.{or-first, or-later, refuse-passed}
 use Rattle.proof_acceptance.proofs.Acceptance.{accepted-is-sound}
-use Rattle.proof_change.proofs.Timed.{ValidTimed, timed-told, timed-holds, plainState, fresh-timed-valid, change-step, ready-timed, timed-is-plain, timed-stepped-valid, timed-forgets, over-at-start}
+use Rattle.proof_change.proofs.Timed.{timed-told, timed-holds, fresh-timed-valid, change-step, ready-timed, timed-stepped-valid, timed-forgets, over-at-start}
 use Rattle.proof_time_bytes.proofs.Elsewhere.{accepted-is-admitted, retimed-is-admitted}
 
 -- ── A change is a step under the new times ──

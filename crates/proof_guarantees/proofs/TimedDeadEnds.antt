@@ -1,14 +1,13 @@
 -- No call of a list of step and retiming calls is refused for the state that the calls before it left: the fresh state is valid, and every call
 -- leads from a valid state to a valid state.
 use Prim.Native.Nat.{ℕ}
-use mathlib.Core.Bool.{Bool, true, not, _&&_}
-use mathlib.Core.List.{List, [], _∷_, _++_}
-use mathlib.Core.Path.{_≡_, refl, subst, ap, _∙_}
+use mathlib.Core.Bool.{true}
+use mathlib.Core.List.{List, [], _∷_}
+use mathlib.Core.Path.{_≡_, refl, ap}
 use lib.Dec.{ltb}
 use lib.ListN.{length}
 use Rattle.rules.specs.declared.answer.Verdict.{Verdict}
 use Rattle.rules.specs.declared.answer.Verdict.the-variants.{Accepted, Refused}
-use Rattle.rules.specs.declared.site.Times.{Times}
 use Rattle.rules.specs.declared.state.TimedState.{TimedState}
 use Rattle.rules.specs.Verdicts.{refuseIf, _orElse_}
 use Rattle.rules.specs.Personality.{verdictOf}
@@ -19,8 +18,8 @@ use Rattle.rules.specs.WaitBound.{waitBound}
 use Rattle.rules.specs.Call.{strayInput, stepVerdict, boundFor, handedBack, checksBy}
 use Rattle.rules.specs.TimedCall.{timedParts, differsElsewhere, retimeChecksBy, retimed, retimeVerdict}
 use Rattle.rules.specs.TimedLaws.{TimedStepKeepsValid, RetimeKeepsValid}
-use Rattle.rules.specs.DemandThree.{Call}
-use Rattle.rules.specs.TimedDemandThree.{timed, Given, stepCall, retimeCall, Made, madeFrom, AnswersOwn, TimedNoDeadEnd}
+use Rattle.rules.specs.TimedDemandThree.{timed, Given, stepCall, retimeCall, madeFrom, AnswersOwn, TimedNoDeadEnd}
+use Rattle.proof_runs.proofs.Each.{Each, each-at}
 use Rattle.proof_runs.proofs.Chains.{checks-told}
 use Rattle.proof_guarantees.proofs.TimedAccepted.{timed-step-keeps-valid, retime-keeps-valid}
 
@@ -69,11 +68,7 @@ module _ (b : List ℕ) (known : verdictOf b ≡ Accepted) where
 
   -- ── Lists of calls ──
 
-  abbrev EachOwn : List Made → Type 0
-  EachOwn [] = Unit {0}
-  EachOwn (call ∷ later) = AnswersOwn b call × EachOwn later
-
-  own-from : (calls : List Given) (s : TimedState) → timedValid (siteOf b) s ≡ true → EachOwn (madeFrom timed b s calls)
+  own-from : (calls : List Given) (s : TimedState) → timedValid (siteOf b) s ≡ true → Each (AnswersOwn b) (madeFrom timed b s calls)
   unfolding madeFrom timed AnswersOwn
   own-from [] s valid = tt
   own-from (stepCall c ∷ calls) s valid =
@@ -86,11 +81,7 @@ module _ (b : List ℕ) (known : verdictOf b ≡ Accepted) where
       let v = retimeVerdict b s new in
       (retime-own s valid new, own-from calls (handedBack v (retimed s (timesIn new)) s) (retime-valid s valid new v refl))
 
-  own-at : (earlier later : List Made) (call : Made) → EachOwn (earlier ++ call ∷ later) → AnswersOwn b call
-  own-at [] later call each = each .0
-  own-at (first ∷ earlier) later call each = own-at earlier later call (each .1)
-
   pub timed-no-dead-end : (calls : List Given) (s : TimedState) → timedValid (siteOf b) s ≡ true → TimedNoDeadEnd b (madeFrom timed b s calls)
   unfolding TimedNoDeadEnd
   timed-no-dead-end calls s valid earlier later call split =
-      own-at earlier later call (subst (λ (made : List Made). EachOwn made) split (own-from calls s valid))
+      each-at (AnswersOwn b) (madeFrom timed b s calls) earlier later call split (own-from calls s valid)

@@ -1,8 +1,5 @@
 -- Demand 3 over lists of step and retiming calls. An accepted personality gives a sound site, and the accepted steps of every such list from the
 -- fresh state are linked; parts a, b and c hold of them. Part d is about the calls themselves.
-use mathlib.Core.List.{List}
-use mathlib.Core.Path.{_≡_}
-use Rattle.rules.specs.declared.state.TimedState.{TimedState}
 use Rattle.rules.specs.Site.{siteOf}
 use Rattle.rules.specs.Timed.{freshTimed}
 use Rattle.rules.specs.Laws.{AcceptedIsSound}

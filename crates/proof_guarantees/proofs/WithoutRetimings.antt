@@ -1,10 +1,9 @@
--- Lists of step calls alone: the personality's own times rule throughout and none wait. So the demand over step and retiming calls gives the
--- demand of before, and the calls are taken as on states without times.
-use Prim.Native.Nat.{ℕ, _+_, _≤_, _<_}
-use mathlib.Core.Bool.{Bool, true, false, not, _&&_, _||_}
-use mathlib.Core.List.{List, [], _∷_, _++_, map}
-use mathlib.Core.Path.{_≡_, refl, sym, subst, ap, ap₂, _∙_}
-use native.Mathlib.Nat.{add-zero}
+-- Lists of step calls alone: the personality's own times rule throughout, and no step is a change. So the demand over step and retiming calls
+-- gives the demand of before.
+use Prim.Native.Nat.{ℕ, _+_, _≤_}
+use mathlib.Core.Bool.{Bool, true, false, not, _&&_}
+use mathlib.Core.List.{List, [], _∷_, _++_, map, map-append}
+use mathlib.Core.Path.{_≡_, refl, sym, subst, ap, _∙_}
 use native.Mathlib.Omega.{arith}
 use lib.ListN.{length, take, drop, length-map, take-append-drop}
 use lib.Seq.{length-take-le}
@@ -13,21 +12,18 @@ use Rattle.rules.specs.declared.answer.Outcome.the-variants.{Stepped, StepRefus
 use Rattle.rules.specs.declared.answer.Verdict.{Verdict}
 use Rattle.rules.specs.declared.answer.Verdict.the-variants.{Accepted, Refused}
 use Rattle.rules.specs.declared.site.Site.{Site}
-use Rattle.rules.specs.declared.site.Times.{Times}
 use Rattle.rules.specs.declared.state.KeptState.{KeptState}
 use Rattle.rules.specs.declared.state.TimedState.{TimedState}
-use Rattle.laws.specs.Folds.{if_then_else_}
-use Rattle.rules.specs.Personality.{verdictOf}
-use Rattle.rules.specs.Site.{siteOf, conflict}
-use Rattle.rules.specs.SiteTimes.{under}
-use Rattle.rules.specs.Timed.{keptOf, noneWaiting, freshTimed, takesOver, rulingNext, timedStepped}
+use Rattle.rules.specs.Site.{siteOf}
+use Rattle.rules.specs.Kept.{freshKept, keptStepped}
+use Rattle.rules.specs.Timed.{noneWaiting, freshTimed, timedStepped}
 use Rattle.rules.specs.WaitBound.{waitBound}
 use Rattle.rules.specs.Call.{handedBack, checksBy}
 use Rattle.rules.specs.TimedCall.{timedParts}
-use Rattle.rules.specs.DemandThree.{Call, Taken, takenFrom, ifStepped, accepted, shows, NeverGreen, lastGreen, StartsGreen, NoConflictingGreens, Cleared, FullClearances, minimumGreenBegins, walkBegins, someStep, comesWithin, DemandsMet, NoDeadEnd, DemandThreeOf}
-use Rattle.rules.specs.TimedDemandThree.{timed, Given, stepCall, TimedStep, Made, stepMade, nextOf, stepOf, madeFrom, ifAccepted, acceptedSteps, takens, changedWaits, MetInTime, TimedClearances, TimedDemandsMet, AnswersOwn, TimedNoDeadEnd, TimedDemandThreeOf, TimedDemandThree, BeforeFollows}
+use Rattle.rules.specs.DemandThree.{Call, Taken, takenFrom, ifStepped, accepted, NeverGreen, lastGreen, StartsGreen, NoConflictingGreens, Cleared, FullClearances, minimumGreenBegins, walkBegins, someStep, comesWithin, DemandsMet, NoDeadEnd, DemandThreeOf}
+use Rattle.rules.specs.TimedDemandThree.{timed, stepCall, TimedStep, Made, stepMade, stepOf, madeFrom, ifAccepted, acceptedSteps, takens, changedWaits, MetInTime, TimedClearances, TimedDemandsMet, AnswersOwn, TimedNoDeadEnd, TimedDemandThreeOf, TimedDemandThree, BeforeFollows}
 use Rattle.laws.proofs.Booleans.{not-false-true}
-use Rattle.proof_guarantees.proofs.TimedDemandThree.{timed-demand-three}
+use Rattle.proof_guarantees.proofs.AsBefore.{Own, own-stepped}
 
 module _ (b : List ℕ) where
   abbrev site : Site
@@ -37,45 +33,40 @@ module _ (b : List ℕ) where
   abbrev own : Taken → TimedStep
   own step = record { taken = step; ruling = site .times; changed = false }
 
-  -- the personality's own times rule, and none wait
-  pub record Own (s : TimedState) : Type 0 where
-    pub ruling : s .ruling ≡ site .times
-    pub none : s .waiting .present ≡ false
-
-  fresh-own : Own (freshTimed site)
-  unfolding freshTimed noneWaiting
-  fresh-own = record { ruling = refl; none = refl }
-
-  over-none : (s : TimedState) → Own s → takesOver site s ≡ false
-  unfolding takesOver
-  over-none s o = rw (o .none)
-
-  stepped-own : (s : TimedState) (inputs : ℕ) → Own s → Own (timedStepped site s inputs)
-  unfolding timedStepped rulingNext
-  stepped-own s inputs o = rw (over-none s o) (record { ruling = o .ruling; none = o .none })
-
-  next-own : (s : TimedState) (inputs : ℕ) (v : Verdict) → Own s → Own (handedBack v (timedStepped site s inputs) s)
-  unfolding handedBack
-  next-own s inputs Accepted o = stepped-own s inputs o
-  next-own s inputs (Refused number place) o = o
+  abbrev ownMade : Taken → Made
+  ownMade step = stepMade (own step)
 
   -- ── The calls as they are made ──
 
-  made-same :
-      (calls : List Call) (s : TimedState) →
-      Own s →
-      madeFrom timed b s (map stepCall calls) ≡ map (λ (step : Taken). stepMade (own step)) (takenFrom (timed .stepping) b s calls)
-  unfolding madeFrom takenFrom timed
-  made-same [] s o = refl
-  made-same (c ∷ calls) s o =
-      let v = checksBy timedParts b s (c .inputs) (length (c .buffer)) in
-      let o′ = next-own s (c .inputs) v o in
-      ap₂ _∷_
-      (ap₂ (λ (r : Times) (t : Bool). stepMade (record { taken = stepOf timed b s c .taken; ruling = r; changed = t })) (o′ .ruling)
-      (ap (λ (t : Bool). t && not (nextOf timed b s c .waiting .present)) (o .none)))
-      (made-same calls (handedBack v (timedStepped site s (c .inputs)) s) o′)
+  next-own :
+      (v : Verdict) (s : TimedState) (k : KeptState) (inputs : ℕ) →
+      Own b s k →
+      Own b (handedBack v (timedStepped site s inputs) s) (handedBack v (keptStepped site k inputs) k)
+  unfolding handedBack
+  next-own Accepted s k inputs o = own-stepped b s k inputs o
+  next-own (Refused number place) s k inputs o = o
 
-  accepted-same : (calls : List Taken) → acceptedSteps (map (λ (step : Taken). stepMade (own step)) calls) ≡ map own (accepted calls)
+  made-same :
+      (calls : List Call) (s : TimedState) (k : KeptState) →
+      Own b s k →
+      madeFrom timed b s (map stepCall calls) ≡ map ownMade (takenFrom (timed .stepping) b s calls)
+  unfolding madeFrom takenFrom timed noneWaiting
+  made-same [] s k o = refl
+  made-same (c ∷ calls) s k o =
+      let v = checksBy timedParts b s (c .inputs) (length (c .buffer)) in
+      let next = handedBack v (timedStepped site s (c .inputs)) s in
+      let o′ = next-own v s k (c .inputs) o in
+      let later = made-same calls next (handedBack v (keptStepped site k (c .inputs)) k) o′ in
+      λ i.
+      stepMade
+      (record {
+        taken = stepOf timed b s c .taken;
+        ruling = o′ i .ruling;
+        changed = o i .waiting .present && not (next .waiting .present);
+      })
+      ∷ later i
+
+  accepted-same : (calls : List Taken) → acceptedSteps (map ownMade calls) ≡ map own (accepted calls)
   unfolding acceptedSteps accepted ifAccepted ifStepped
   accepted-same [] = refl
   accepted-same (call ∷ later) = ap (ifAccepted (call .outcome) (own call)) (accepted-same later) ∙ by (call .outcome)
@@ -87,17 +78,6 @@ module _ (b : List ℕ) where
   takens-own : (steps : List Taken) → takens (map own steps) ≡ steps
   takens-own [] = refl
   takens-own (step ∷ later) = ap (λ (l : List Taken). step ∷ l) (takens-own later)
-
-  map-own : (earlier later : List Taken) → map own (earlier ++ later) ≡ map own earlier ++ map own later
-  map-own [] later = refl
-  map-own (step ∷ earlier) later = ap (λ (l : List TimedStep). own step ∷ l) (map-own earlier later)
-
-  made-append :
-      (earlier later : List Taken) →
-      map (λ (step : Taken). stepMade (own step)) (earlier ++ later)
-      ≡ map (λ (step : Taken). stepMade (own step)) earlier ++ map (λ (step : Taken). stepMade (own step)) later
-  made-append [] later = refl
-  made-append (step ∷ earlier) later = ap (λ (l : List Made). stepMade (own step) ∷ l) (made-append earlier later)
 
   no-changes : (steps : List Taken) → changedWaits site (map own steps) ≡ 0
   unfolding changedWaits
@@ -121,11 +101,10 @@ module _ (b : List ℕ) where
       let few = met (subst (λ (l : List Taken). someStep event (step ∷ l) ≡ false) (sym (takens-own rest)) none) in
       omega (arith, few, length-map rest own, length-take-le (waitBound site) later long, no-changes rest))
 
-  dead-ends-before : (calls : List Taken) → TimedNoDeadEnd b (map (λ (step : Taken). stepMade (own step)) calls) → NoDeadEnd site calls
+  dead-ends-before : (calls : List Taken) → TimedNoDeadEnd b (map ownMade calls) → NoDeadEnd site calls
   unfolding TimedNoDeadEnd AnswersOwn NoDeadEnd
   dead-ends-before calls holds earlier later call split =
-      holds (map (λ (step : Taken). stepMade (own step)) earlier) (map (λ (step : Taken). stepMade (own step)) later) (stepMade (own call))
-      (ap (map (λ (step : Taken). stepMade (own step))) split ∙ made-append earlier (call ∷ later))
+      holds (map ownMade earlier) (map ownMade later) (ownMade call) (ap (map ownMade) split ∙ map-append ownMade earlier (call ∷ later))
 
   module _ (steps : List Taken) where
     greens-before : NoConflictingGreens site (takens (map own steps)) → NoConflictingGreens site steps
@@ -136,9 +115,9 @@ module _ (b : List ℕ) where
     clearances-before holds earlier since later last start split g j apart starts greenJ never =
         let split′ =
         ap (map own) split
-        ∙ map-own (earlier ++ last ∷ since) (start ∷ later)
-        ∙ ap (λ (l : List TimedStep). l ++ own start ∷ map own later) (map-own earlier (last ∷ since)) in
-        let back = sym (ap takens (map-own earlier (last ∷ since))) ∙ takens-own (earlier ++ last ∷ since) in
+        ∙ map-append own (earlier ++ last ∷ since) (start ∷ later)
+        ∙ ap (λ (l : List TimedStep). l ++ own start ∷ map own later) (map-append own earlier (last ∷ since)) in
+        let back = sym (ap takens (map-append own earlier (last ∷ since))) ∙ takens-own (earlier ++ last ∷ since) in
         subst (λ (l : List Taken). Cleared site j last l) (takens-own since)
         (holds (map own earlier) (map own since) (map own later) (own last) (own start) split′ g j apart
         (starts .0, subst (λ (l : List Taken). lastGreen false g l ≡ false) (sym back) (starts .1))
@@ -152,9 +131,9 @@ module _ (b : List ℕ) where
         let rest = take n later in
         let split′ =
         ap (map own) split
-        ∙ map-own earlier (step ∷ later)
+        ∙ map-append own earlier (step ∷ later)
         ∙ ap (λ (l : List Taken). map own earlier ++ own step ∷ map own l) (sym (take-append-drop n later))
-        ∙ ap (λ (l : List TimedStep). map own earlier ++ own step ∷ l) (map-own rest (drop n later)) in
+        ∙ ap (λ (l : List TimedStep). map own earlier ++ own step ∷ l) (map-append own rest (drop n later)) in
         let met = holds (map own earlier) (map own rest) (map own (drop n later)) (own step) split′ in (
           λ p r. in-time step later long (minimumGreenBegins p) (met .0 p r),
           λ k l r. in-time step later long (walkBegins k) (met .1 k l r),
@@ -163,12 +142,12 @@ module _ (b : List ℕ) where
 -- ── The demand of before ──
 
 pub before-follows : BeforeFollows
-unfolding BeforeFollows TimedDemandThree TimedDemandThreeOf DemandThreeOf timed
+unfolding BeforeFollows TimedDemandThree TimedDemandThreeOf DemandThreeOf timed freshTimed
 before-follows holds b known calls =
     let s = freshTimed (siteOf b) in
     let taken = takenFrom (timed .stepping) b s calls in
     let run = holds b known (map stepCall calls) in
-    let made = made-same b calls s (fresh-own b) in
+    let made = made-same b calls s freshKept refl in
     let steps = ap acceptedSteps made ∙ accepted-same b taken in
     record {
       noConflictingGreens = greens-before b (accepted taken) (subst (λ (l : List TimedStep). NoConflictingGreens (siteOf b) (takens l)) steps (run .noConflictingGreens));
@@ -176,7 +155,3 @@ before-follows holds b known calls =
       demandsMet = demands-before b (accepted taken) (subst (λ (l : List TimedStep). TimedDemandsMet (siteOf b) l) steps (run .demandsMet));
       noDeadEnd = dead-ends-before b taken (subst (λ (l : List Made). TimedNoDeadEnd b l) made (run .noDeadEnd));
     }
-
-pub demand-three-before : DemandThreeOf (timed .stepping)
-unfolding BeforeFollows
-demand-three-before = before-follows timed-demand-three

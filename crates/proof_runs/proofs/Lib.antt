@@ -3,6 +3,7 @@ pub mod Steps
 pub mod Lasting
 pub mod Demanded
 pub mod Ends
-pub mod Linked
 pub mod Chains
-pub mod Runs
+pub mod Each
+pub mod Alike
+pub mod AlikeParts

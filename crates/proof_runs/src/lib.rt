@@ -1,1 +1,1 @@
-// Proof only: what a valid state tells, and a run of step calls as a chain of accepted steps. See proofs/.
+// Proof only: what a valid state tells, what is known of an accepted step, and when two controllers take every list of calls alike. See proofs/.

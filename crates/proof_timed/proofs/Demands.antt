@@ -1,24 +1,21 @@
 -- Locked and button demands wait as they must through changes of times.
-use Prim.Native.Nat.{ℕ, zero, _<_}
-use mathlib.Core.Bool.{Bool, true, false, not, _&&_}
-use mathlib.Core.List.{List, [], _∷_, _++_}
-use mathlib.Core.Logic.{_⊎_}
+use Prim.Native.Nat.{ℕ, _<_}
+use mathlib.Core.Bool.{Bool, true, false, not}
+use mathlib.Core.List.{List, _∷_, _++_}
 use mathlib.Core.Path.{_≡_, refl, sym, ap, subst, _∙_}
 use native.Mathlib.Omega.{arith}
 use lib.ListN.{getD-replicate}
 use Rattle.rules.specs.declared.site.Site.{Site}
 use Rattle.rules.specs.declared.site.Times.{Times}
 use Rattle.rules.specs.declared.state.State.{State}
-use Rattle.rules.specs.Site.{crosses}
-use Rattle.rules.specs.IntervalTable.{isWalk}
 use Rattle.rules.specs.State.{idle, locked, asked, movement}
-use Rattle.rules.specs.Demands.{locking, detected, detectedAmong, inGreen, pressed, registersLock, registersButton}
+use Rattle.rules.specs.Demands.{locking, detected, inGreen, pressed, registersLock, registersButton}
 use Rattle.rules.specs.SiteTimes.{under}
 use Rattle.rules.specs.TimedLaws.{readyCore}
 use Rattle.rules.specs.Laws.{Sound}
-use Rattle.rules.specs.DemandThree.{Taken, inMinimumGreen, inWalk, registersLocked, registersPressed, minimumGreenBegins, walkBegins}
+use Rattle.rules.specs.DemandThree.{inMinimumGreen, inWalk, registersLocked, registersPressed, minimumGreenBegins, walkBegins}
 use Rattle.rules.specs.TimedDemandThree.{TimedStep, MetInTime, TimedDemandsMet}
-use Rattle.laws.proofs.Booleans.{and-left, and-right, and-both}
+use Rattle.laws.proofs.Booleans.{and-left, and-both}
 use Rattle.proof_runs.proofs.Demanded.{detected-below}
 use Rattle.proof_waits.proofs.Registers.{lock-same, button-same}
 use Rattle.proof_waits.proofs.Locks.{LockStands, LockLeft, lock-registers, lock-goes, lock-within, lock-never}

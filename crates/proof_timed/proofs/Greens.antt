@@ -12,15 +12,15 @@ use Rattle.rules.specs.SiteTimes.{under}
 use Rattle.rules.specs.Colours.{green}
 use Rattle.rules.specs.DemandThree.{Taken, shows, NoConflictingGreens}
 use Rattle.rules.specs.TimedDemandThree.{TimedStep, takens}
-use Rattle.proof_runs.proofs.Linked.{Linked, reached}
+use Rattle.proof_runs.proofs.Each.{Each, each-at}
 use Rattle.proof_clearance.proofs.Greens.{never-both-green}
 use Rattle.proof_timed.proofs.Induction.{viewed, plainFrom, TimedRun}
 
 -- no two conflicting groups show green after the step
-abbrev Apart : Site → State → Taken → Type 0
-Apart site s step = (g j : ℕ) → conflict site g j ≡ true → shows step g ≡ green → shows step j ≡ green → ⊥
+abbrev Apart : Site → Taken → Type 0
+Apart site step = (g j : ℕ) → conflict site g j ≡ true → shows step g ≡ green → shows step j ≡ green → ⊥
 
-all-apart : (site : Site) (s : State) (ruling : Times) (steps : List TimedStep) → TimedRun site s ruling steps → Linked (Apart site) s (takens steps)
+all-apart : (site : Site) (s : State) (ruling : Times) (steps : List TimedStep) → TimedRun site s ruling steps → Each (Apart site) (takens steps)
 unfolding conflict shows
 all-apart site s ruling [] run = tt
 all-apart site s ruling (step ∷ later) run =
@@ -33,4 +33,4 @@ pub timed-greens :
     (site : Site) (s : State) (ruling : Times) (steps : List TimedStep) → TimedRun site s ruling steps → NoConflictingGreens site (takens steps)
 unfolding NoConflictingGreens
 timed-greens site s ruling steps run earlier later step split =
-    reached (Apart site) (takens steps) earlier (step ∷ later) s split (all-apart site s ruling steps run) .1 .0
+    each-at (Apart site) (takens steps) earlier later step split (all-apart site s ruling steps run)

@@ -3,7 +3,7 @@
 use Prim.Native.Nat.{ℕ, zero, suc, _+_, _≤_, _<_}
 use mathlib.Core.Bool.{Bool, true, false, _||_}
 use mathlib.Core.List.{List, [], _∷_, _++_}
-use mathlib.Core.Logic.{_⊎_, inl, inr, ⊎-elim}
+use mathlib.Core.Logic.{_⊎_, ⊎-elim}
 use mathlib.Core.Path.{_≡_, refl, sym, ap, subst, _∙_}
 use native.Mathlib.Omega.{arith}
 use lib.ListN.{length}
@@ -22,7 +22,7 @@ use Rattle.rules.specs.DemandThree.{Taken, inWalk, someStep}
 use Rattle.rules.specs.TimedDemandThree.{TimedStep, takens, changedWaits, MetInTime}
 use Rattle.laws.proofs.Booleans.{or-false-left, or-false-right, never-both, not-true-false}
 use Rattle.proof_runs.proofs.ValidStates.{ValidState}
-use Rattle.proof_runs.proofs.Runs.{ValidLink}
+use Rattle.proof_runs.proofs.Chains.{ValidLink}
 use Rattle.proof_waits.proofs.Demand.{Waits}
 
 -- the step, seen as one from such a state
@@ -39,7 +39,6 @@ pub record TimedLink (site : Site) (s : State) (ruling : Times) (step : TimedSte
   pub kept : step .changed ≡ false → step .ruling ≡ ruling
   pub plain : ValidLink (under site (step .ruling)) (plainFrom (step .changed) s) (viewed (plainFrom (step .changed) s) (step .taken))
   pub still : step .changed ≡ true → (k : ℕ) → k < 8 → inWalk s k ≡ false
-  pub ruledBy : Sound (under site ruling)
   pub sane : ValidState (under site ruling) s
   pub over : step .changed ≡ true → startsNext (under site ruling) s ≡ true
   pub begun : step .changed ≡ true → (next : Held) × (step .taken .after .position ≡ following (s .position .interval) (step .ruling) next (s .position))
@@ -148,7 +147,7 @@ module _
                 (stands, subst (λ (k : ℕ). Left (step .ruling) k (readyCore s)) (left .1) anew),
           )
 
-  pub lasts :
+  lasts :
       (between : List TimedStep) (s : State) (ruling : Times) (n : ℕ) →
       TimedRun site s ruling between →
       Holds s ruling n →

@@ -1,5 +1,8 @@
 pub mod Induction
 pub mod Runs
 pub mod Greens
+pub mod Countdowns
+pub mod VehicleClearances
+pub mod PedestrianClearances
 pub mod Clearances
 pub mod Demands

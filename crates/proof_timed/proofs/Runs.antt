@@ -1,5 +1,5 @@
 -- The accepted steps of every list of step and retiming calls are linked: each is a plain link under the times that rule after it.
-use Prim.Native.Nat.{ℕ, _<_}
+use Prim.Native.Nat.{ℕ}
 use mathlib.Core.Bool.{Bool, true, false, not, _&&_}
 use mathlib.Core.List.{List, [], _∷_}
 use mathlib.Core.Path.{_≡_, refl, sym, subst, _∙_}
@@ -25,12 +25,11 @@ use Rattle.rules.specs.Call.{wired, strayInput, boundFor, handedBack, bufferFor
 use Rattle.rules.specs.TimedCall.{timedParts, retimed, retimeVerdict}
 use Rattle.rules.specs.Laws.{Sound}
 use Rattle.rules.specs.TimedLaws.{ready}
-use Rattle.rules.specs.DemandThree.{Call, Taken, shows, inWalk}
+use Rattle.rules.specs.DemandThree.{Call, shows, inWalk}
 use Rattle.rules.specs.TimedDemandThree.{timed, Given, stepCall, retimeCall, TimedStep, madeFrom, ifAccepted, acceptedSteps}
 use Rattle.laws.proofs.Booleans.{and-left, never-both}
 use Rattle.proof_runs.proofs.ValidStates.{ValidState, state-told}
-use Rattle.proof_runs.proofs.Chains.{front-shown, checks-told}
-use Rattle.proof_runs.proofs.Runs.{ValidLink}
+use Rattle.proof_runs.proofs.Chains.{ValidLink, front-shown, checks-told}
 use Rattle.proof_change.proofs.Change.{starts-clear, change-position}
 use Rattle.proof_change.proofs.Timed.{timed-told, plainState, over-starts, old-sound, next-sound, plain-valid, timed-stepped-valid, timed-is-scanned}
 use Rattle.proof_timed.proofs.Induction.{viewed, plainFrom, TimedLink, TimedRun}
@@ -95,19 +94,16 @@ module _ (b : List ℕ) (s : TimedState) (c : Call) where
     plain-of : ValidLink now from (viewed from (entry .taken))
     unfolding stepFor handedBack bufferFor strayInput wired shows timedStepped
     plain-of =
-        let here = rest-valid now (plainState site s) (plain-valid site sound s v) in
         let there = timed-told site next (timed-stepped-valid site sound s v (c .inputs) stray) in
         record {
           sound = next-sound site sound s v;
           taken =
               record {
                 before = refl;
-                valid = here;
-                wired = stray;
                 after = timed-is-scanned site sound s v (c .inputs);
                 shown = front-shown now (next .core) (drop (site .size .groups) (c .buffer));
               };
-          here = state-told now from here;
+          here = state-told now from (rest-valid now (plainState site s) (plain-valid site sound s v));
           there = state-told now (next .core) (rest-valid now (keptOf next) (there .rest));
         }
 
@@ -128,7 +124,6 @@ module _ (b : List ℕ) (s : TimedState) (c : Call) where
           kept = λ e. same (takesOver site s) (sym changed-is ∙ e);
           plain = subst (λ (f : State). ValidLink now f (viewed f (entry .taken))) from-is plain-of;
           still = λ e k l. starts-clear (ruledSite site s) (old-sound site sound s v) (s .core) was (over-starts site sound s v (is-over e)) k l .still;
-          ruledBy = old-sound site sound s v;
           sane = was;
           over = λ e. over-starts site sound s v (is-over e);
           begun = λ e. began (takesOver site s) (is-over e) (over-starts site sound s v (is-over e));

@@ -5,6 +5,5 @@ pub mod Stages
 pub mod Movements
 pub mod Walks
 pub mod Validity
-pub mod ValidRuns
 pub mod Fresh
 pub mod Callers

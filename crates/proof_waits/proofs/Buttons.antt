@@ -27,7 +27,7 @@ use Rattle.proof_runs.proofs.ValidStates.{ValidState}
 use Rattle.proof_runs.proofs.Steps.{another, mayEnd, ended, now, started, moved, askedNow, begun, position-of, asked-of, movement-of}
 use Rattle.proof_runs.proofs.Demanded.{button-demands}
 use Rattle.proof_runs.proofs.Ends.{ended-in, now-in}
-use Rattle.proof_runs.proofs.Runs.{ValidLink}
+use Rattle.proof_runs.proofs.Chains.{ValidLink}
 use Rattle.proof_waits.proofs.Stages.{idles, walk-kept-out, idle-told, idle-none, idle-kept, idle-most}
 use Rattle.proof_waits.proofs.Left.{Left, never-none}
 use Rattle.proof_waits.proofs.Moves.{moved-on, idles-fall}

@@ -10,4 +10,3 @@ pub mod Demand
 pub mod Away
 pub mod Locks
 pub mod Buttons
-pub mod Waits

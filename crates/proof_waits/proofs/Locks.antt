@@ -28,7 +28,7 @@ use Rattle.proof_runs.proofs.ValidStates.{ValidState}
 use Rattle.proof_runs.proofs.Steps.{ended, now, lockedNow, position-of, locked-of}
 use Rattle.proof_runs.proofs.Demanded.{lock-demands}
 use Rattle.proof_runs.proofs.Ends.{by-end, ended-in, next-in}
-use Rattle.proof_runs.proofs.Runs.{ValidLink}
+use Rattle.proof_runs.proofs.Chains.{ValidLink}
 use Rattle.rules.proofs.Settings.{phase-timed, start-timed}
 use Rattle.proof_waits.proofs.Left.{visit, Left, never-none}
 use Rattle.proof_waits.proofs.Falls.{timer-falls}

@@ -1,1 +1,1 @@
-// Proof only: every demand that a step registers is met within the wait bound. See proofs/.
+// Proof only: a step meets a demand or leaves one step less of its wait, and never more than the wait bound is left. See proofs/.
