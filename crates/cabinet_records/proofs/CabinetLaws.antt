@@ -13,11 +13,12 @@ use Rattle.laws.specs.Folds.{if_then_else_}
 use Rattle.rules.specs.Verdicts.{_orElse_, stepReportOf, waitOf}
 use Rattle.rules.specs.Personality.{verdictOf}
 use Rattle.rules.specs.Site.{siteOf}
-use Rattle.rules.specs.Kept.{keptStepped}
+use Rattle.rules.specs.Timed.{ruledSite, timedStepped}
 use Rattle.rules.specs.Colours.{red}
 use Rattle.rules.specs.WaitBound.{waitBound}
-use Rattle.rules.specs.Call.{boundFor, handedBack, bufferFor, callVerdict, answerOf, bufferOf}
-use Rattle.state_bytes.specs.Layout.{isState, decoded}
+use Rattle.rules.specs.Call.{boundFor, handedBack, bufferFor}
+use Rattle.rules.specs.TimedCall.{timedVerdict, timedAnswerOf, timedBufferOf}
+use Rattle.state_timed.specs.TimedLayout.{isTimed, timedDecoded}
 use Rattle.board_answers.specs.Answers.{packed, packedVerdict, packedOutcome}
 use Rattle.board_step.specs.StepCall.{stepAnswer, stateFor, stateAfter, coloursAfter}
 use Rattle.cabinet_records.specs.declared.Record.{Record}
@@ -103,26 +104,27 @@ module _ (b s : List ℕ) (inputs : ℕ) (buffer : List ℕ) where
   left-for :
       (v : Verdict) →
       let site = siteOf b in
-      let next = keptStepped site (decoded s) inputs in
-      let outcome = boundFor v (waitBound site) in
-      Left (packedOutcome outcome) (stateFor outcome (handedBack v next (decoded s)) s) (bufferFor v site (next .core) buffer)
+      let next = timedStepped site (timedDecoded s) inputs in
+      let ruled = ruledSite site next in
+      let outcome = boundFor v (waitBound ruled) in
+      Left (packedOutcome outcome) (stateFor outcome (handedBack v next (timedDecoded s)) s) (bufferFor v ruled (next .core) buffer)
   unfolding boundFor handedBack bufferFor stateFor packedOutcome packed stepReportOf waitOf
   left-for Accepted refused = absurd (refused (omega arith))
   left-for (Refused number at) refused = (refl, refl)
 
   state-left :
       (t : Bool) →
-      let answer = answerOf b (decoded s) inputs (length buffer) in
+      let answer = timedAnswerOf b (timedDecoded s) inputs (length buffer) in
       Left (if t then packedOutcome (answer .outcome) else packedVerdict (verdictOf b orElse Refused 13 0))
       (if t then stateFor (answer .outcome) (answer .state) s else s)
-      (if t then bufferOf b (decoded s) inputs buffer else buffer)
-  unfolding answerOf bufferOf
-  state-left true = left-for (callVerdict b (decoded s) inputs (length buffer))
+      (if t then timedBufferOf b (timedDecoded s) inputs buffer else buffer)
+  unfolding timedAnswerOf timedBufferOf
+  state-left true = left-for (timedVerdict b (timedDecoded s) inputs (length buffer))
   state-left false = λ refused. (refl, refl)
 
   step-left : Left (stepAnswer b s inputs (length buffer)) (stateAfter b s inputs (length buffer)) (coloursAfter b s inputs buffer)
   unfolding stepAnswer stateAfter coloursAfter
-  step-left = state-left (isState s)
+  step-left = state-left (isTimed s)
 
 abbrev Leaves : Returned (List Record) → List Record → List ℕ → Type 0
 Leaves done row out = (done .answer % 256 ≡ 0 → ⊥) → (done .row ≡ row) × (done .outputs ≡ out)

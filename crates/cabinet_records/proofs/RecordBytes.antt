@@ -11,7 +11,7 @@ use Rattle.laws.proofs.Bytes.{part, first-byte, second-byte}
 use Rattle.laws.proofs.Lists.{list-told, listed}
 use Rattle.rules.specs.Laws.{greatestLength}
 use Rattle.state_forms.specs.Forms.{byte, partsOf, row}
-use Rattle.state_bytes.specs.Layout.{stateBytes}
+use Rattle.state_timed.specs.TimedLayout.{timedBytes}
 use Rattle.cabinet_records.specs.declared.Record.{Record}
 use Rattle.cabinet_records.specs.Layout.{firstAt, sizeAt, personalityAt, stateAt, recordForm, Shaped}
 
@@ -57,7 +57,7 @@ pub record-written :
     recordForm .written r ≡ r .held ∷ r .first ∷ r .size % 256 ∷ r .size / 256 ∷ (r .personality ++ r .state)
 record-written r shaped =
     let a = room-written (r .personality) greatestLength (shaped .personality) in
-    let b = room-written (r .state) stateBytes (shaped .state) in
+    let b = room-written (r .state) timedBytes (shaped .state) in
     λ i. r .held ∷ r .first ∷ r .size % 256 ∷ r .size / 256 ∷ (a i ++ b i)
 
 -- behind p the bytes of a record stand, and read back
@@ -106,11 +106,11 @@ module _ (r : Record) (shaped : Shaped r) (p q : List ℕ) (at : ℕ) (e : lengt
       let long : length (p ++ (mark ++ size)) ≡ at + personalityAt = length-append p (mark ++ size) ∙ omega arith in
       rw behind-size (room-back (p ++ (mark ++ size)) (r .personality) (r .state ++ q) (at + personalityAt) greatestLength long (shaped .personality))
 
-  state-back : row stateBytes 0 byte .read whole (at + stateAt) ≡ r .state
+  state-back : row timedBytes 0 byte .read whole (at + stateAt) ≡ r .state
   state-back =
       let front = mark ++ (size ++ r .personality) in
       let long : length (p ++ front) ≡ at + stateAt = length-append p front ∙ omega (arith, shaped .personality) in
-      rw behind-personality (room-back (p ++ front) (r .state) q (at + stateAt) stateBytes long (shaped .state))
+      rw behind-personality (room-back (p ++ front) (r .state) q (at + stateAt) timedBytes long (shaped .state))
 
   pub record-back : recordForm .read (p ++ (recordForm .written r ++ q)) at ≡ r
   unfolding whole

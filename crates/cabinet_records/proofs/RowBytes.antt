@@ -18,7 +18,7 @@ use Rattle.laws.proofs.Lists.{list-length, list-at}
 use Rattle.rules.specs.Laws.{greatestLength}
 use Rattle.state_forms.specs.Forms.{partsOf, AreBytes}
 use Rattle.state_forms.proofs.Parts.{parts-joined, parts-same}
-use Rattle.state_bytes.specs.Layout.{stateBytes}
+use Rattle.state_timed.specs.TimedLayout.{timedBytes}
 use Rattle.cabinet_records.specs.declared.Record.{Record}
 use Rattle.cabinet_records.specs.Cabinet.{recordCount, freeRecord, recordOf, writtenAt, Act, doing}
 use Rattle.cabinet_records.specs.CabinetLaws.{recordNamed, RefusalLeaves, BytesStay, RefusalLeavesBytes}
@@ -44,13 +44,13 @@ record-read b long k below =
 
 pub free-shape : Shaped freeRecord
 unfolding freeRecord
-free-shape = record { personality = length-replicate {A = ℕ} greatestLength 0; state = length-replicate {A = ℕ} stateBytes 0 }
+free-shape = record { personality = length-replicate {A = ℕ} greatestLength 0; state = length-replicate {A = ℕ} timedBytes 0 }
 
 read-shape : (b : List ℕ) (at : ℕ) → Shaped (recordForm .read b at)
 read-shape b at =
     record {
       personality = list-length (λ k. byteAt b (at + personalityAt + k * 1)) greatestLength;
-      state = list-length (λ k. byteAt b (at + stateAt + k * 1)) stateBytes;
+      state = list-length (λ k. byteAt b (at + stateAt + k * 1)) timedBytes;
     }
 
 shape-for : (b : List ℕ) (j : ℕ) (t : Bool) → Shaped (getD (if t then rowForm .read b 0 else []) j freeRecord)

@@ -13,7 +13,7 @@ use Rattle.rules.specs.Laws.{greatestLength}
 use Rattle.state_forms.specs.Forms.{byte, partsOf}
 use Rattle.state_forms.proofs.Lawful.{Lawful, byte-law, two-law, row-law, placed-law, both-law, made-law}
 use Rattle.state_forms.proofs.Parts.{parts-length}
-use Rattle.state_bytes.specs.Layout.{stateBytes}
+use Rattle.state_timed.specs.TimedLayout.{timedBytes}
 use Rattle.cabinet_records.specs.declared.Record.{Record}
 use Rattle.cabinet_records.specs.Cabinet.{recordCount, freeRecord, recordOf}
 use Rattle.cabinet_records.specs.Layout.{firstAt, sizeAt, personalityAt, stateAt, recordRows, recordFrom, recordForm, recordBytes, Shaped, rowForm, rowBytes, decodedRow, encodedRow, ProperRow}
@@ -29,7 +29,7 @@ record-law =
     (both-law (placed-law 0 byte-law)
     (both-law (placed-law firstAt byte-law)
     (both-law (placed-law sizeAt two-law)
-    (both-law (placed-law personalityAt (row-law byte byte-law greatestLength 0)) (placed-law stateAt (row-law byte byte-law stateBytes 0))))))
+    (both-law (placed-law personalityAt (row-law byte byte-law greatestLength 0)) (placed-law stateAt (row-law byte byte-law timedBytes 0))))))
 
 pub row-of-records : Lawful rowForm 0
 row-of-records = row-law recordForm record-law recordCount freeRecord
@@ -95,7 +95,7 @@ module _ (b : List ℕ) (zeros : (i : ℕ) → byteAt b i ≡ 0) where
       let low = zeros (at + sizeAt) in
       let high = zeros (at + sizeAt + 1) in
       let personality = alike (λ k. byteAt b (at + personalityAt + k * 1)) 0 greatestLength (λ k. zeros (at + personalityAt + k * 1)) in
-      let state = alike (λ k. byteAt b (at + stateAt + k * 1)) 0 stateBytes (λ k. zeros (at + stateAt + k * 1)) in
+      let state = alike (λ k. byteAt b (at + stateAt + k * 1)) 0 timedBytes (λ k. zeros (at + stateAt + k * 1)) in
       λ i. record { held = held i; first = first i; size = low i + 256 * high i; personality = personality i; state = state i }
 
   row-read : rowForm .read b 0 ≡ replicate recordCount freeRecord

@@ -1,5 +1,5 @@
 -- Request ten of document 02: four sites in one cabinet. The cabinet has a row of four records and 32 outputs. One call places a site, one steps it,
--- one takes it out. A step does to its record's bytes and to its own outputs what the step call on bytes does (call_bytes/specs/CallBytes.antt).
+-- one takes it out. A step does to its record's bytes and to its own outputs what the step call on bytes does (board_step/specs/StepCall.antt).
 use Prim.Native.Nat.{ℕ, _+_, _-_}
 use mathlib.Core.Bool.{Bool, true, false, not, _&&_, _||_}
 use mathlib.Core.List.{List, [], _++_}
@@ -11,10 +11,10 @@ use Rattle.laws.specs.Folds.{if_then_else_, anyOf}
 use Rattle.rules.specs.Verdicts.{_orElse_, refuseIf}
 use Rattle.rules.specs.Personality.{verdictOf}
 use Rattle.rules.specs.Site.{siteOf}
-use Rattle.rules.specs.Kept.{freshKept}
+use Rattle.rules.specs.Timed.{freshTimed}
 use Rattle.rules.specs.Colours.{red}
 use Rattle.rules.specs.Laws.{greatestLength}
-use Rattle.state_bytes.specs.Layout.{stateBytes, encoded}
+use Rattle.state_timed.specs.TimedLayout.{timedBytes, timedEncoded}
 use Rattle.board_answers.specs.Answers.{packedVerdict}
 use Rattle.board_step.specs.StepCall.{stepAnswer, stateAfter, coloursAfter}
 use Rattle.cabinet_records.specs.declared.Record.{Record}
@@ -40,7 +40,7 @@ personalityOf r = take (r .size) (r .personality)
 
 -- a record of zeros
 unfoldable pub freeRecord : Record
-freeRecord = record { held = 0; first = 0; size = 0; personality = replicate greatestLength 0; state = replicate stateBytes 0 }
+freeRecord = record { held = 0; first = 0; size = 0; personality = replicate greatestLength 0; state = replicate timedBytes 0 }
 
 -- a record that holds a personality, with zeros behind it, a first output and the bytes of a state
 unfoldable pub holding : List ℕ → ℕ → List ℕ → Record
@@ -137,13 +137,17 @@ unfoldable pub returnedFor : Verdict → Returned (List Record) → List Record 
 returnedFor Accepted done row out = done
 returnedFor (Refused number place) done row out = record { answer = packedVerdict (Refused number place); row = row; outputs = out }
 
+-- the bytes of the fresh state of a personality
+abbrev pub freshBytes : List ℕ → List ℕ
+freshBytes b = timedEncoded (freshTimed (siteOf b))
+
 -- a site begins fresh, with its outputs red
 unfoldable pub placing : List Record → List ℕ → List ℕ → ℕ → ℕ → Returned (List Record)
 placing row out b k first =
     returnedFor (placingVerdict row out b k first)
     (record {
       answer = 0;
-      row = set row k (holding b first (encoded freshKept));
+      row = set row k (holding b first (freshBytes b));
       outputs = writtenAt out first (replicate (outputsOf b) red);
     })
     row

@@ -4,12 +4,13 @@ use Prim.Native.Nat.{ℕ, _-_}
 use mathlib.Core.List.{List, [], _∷_, _++_}
 use mathlib.Core.Path.{_≡_}
 use lib.ListN.{length, set, take, replicate}
-use Rattle.rules.specs.Junctions.{junction}
+use Rattle.rules.specs.Junctions.{junction, slower}
 use Rattle.rules.specs.Kept.{freshKept}
-use Rattle.state_bytes.specs.Layout.{encoded}
+use Rattle.rules.specs.TimedCases.{ruledBy}
+use Rattle.state_timed.specs.TimedLayout.{timedBytes, timedEncoded}
 use Rattle.board_answers.specs.Answers.{packed}
 use Rattle.cabinet_records.specs.declared.Record.{Record}
-use Rattle.cabinet_records.specs.Cabinet.{freeRecord, holding, Returned, Act, placeSite, stepSite, takeOut, doing}
+use Rattle.cabinet_records.specs.Cabinet.{freeRecord, holding, freshBytes, Returned, Act, placeSite, stepSite, takeOut, doing}
 
 -- A list of calls, each with the row and the outputs that the call before returned: their answers, and the outputs after the last of them. Or calls
 -- that all get the same row and outputs: their answers. Or what one call returns.
@@ -50,21 +51,25 @@ beyond = record { held = 7; first = 31; size = 65535; personality = junction; st
 
 -- its state is none, and bytes are left behind its personality
 unfoldable pub stateless : Record
-stateless = record { held = 255; first = 0; size = length junction; personality = junction ++ 9 ∷ 9 ∷ []; state = replicate 39 255 }
+stateless = record { held = 255; first = 0; size = length junction; personality = junction ++ 9 ∷ 9 ∷ []; state = replicate timedBytes 255 }
 
 -- free, with the bytes of a site in it
 unfoldable pub oldBytes : Record
-oldBytes = record { held = 0; first = 4; size = length junction; personality = junction; state = encoded freshKept }
+oldBytes = record { held = 0; first = 4; size = length junction; personality = junction; state = freshBytes junction }
 
 -- its personality would be refused: the last head, at 64, is cut
 unfoldable pub refusedSite : Record
-refusedSite = record { held = 1; first = 8; size = length junction - 1; personality = junction; state = encoded freshKept }
+refusedSite = record { held = 1; first = 8; size = length junction - 1; personality = junction; state = freshBytes junction }
 
 unfoldable pub oddRow : List Record
 oddRow = beyond ∷ stateless ∷ oldBytes ∷ refusedSite ∷ []
 
 unfoldable pub placedRow : List Record
-placedRow = set fourFree 0 (holding junction 0 (encoded freshKept))
+placedRow = set fourFree 0 (holding junction 0 (freshBytes junction))
+
+-- the same, if the times of another personality rule
+unfoldable pub retimedRow : List Record
+retimedRow = set fourFree 0 (holding junction 0 (timedEncoded (ruledBy slower freshKept)))
 
 -- ── The cases ──
 
@@ -89,7 +94,7 @@ cases =
     ∷ returning fourFree (replicate 33 9) (placeSite junction 0 1)
     (record {
       answer = 0;
-      row = holding junction 1 (encoded freshKept) ∷ freeRecord ∷ freeRecord ∷ freeRecord ∷ [];
+      row = holding junction 1 (freshBytes junction) ∷ freeRecord ∷ freeRecord ∷ freeRecord ∷ [];
       outputs = 9 ∷ 0 ∷ 0 ∷ replicate 30 9;
     })
     -- taking out: the state does not matter, and the others stay as they are
@@ -131,6 +136,8 @@ cases =
     ∷ answering (oddRow ++ freeRecord ∷ []) redOutputs (placeSite junction 2 8 ∷ stepSite 1 0 ∷ takeOut 1 ∷ []) (24 ∷ 24 ∷ 24 ∷ [])
     -- 15, then 14, with a buffer of 31 bytes, although the site's own outputs are in it
     ∷ answering placedRow (replicate 31 0) (stepSite 0 4 ∷ stepSite 0 0 ∷ takeOut 0 ∷ placeSite junction 1 2 ∷ []) (15 ∷ 14 ∷ 14 ∷ 14 ∷ [])
+    -- the wait is that of the times that rule in the state
+    ∷ answering retimedRow redOutputs (stepSite 0 0 ∷ []) (packed 0 460 ∷ [])
     ∷ []
 
 abbrev pub AllHold : List Case → Type 0

@@ -8,17 +8,17 @@ use lib.ListN.{length}
 use Rattle.laws.specs.Folds.{if_then_else_}
 use Rattle.rules.specs.Laws.{greatestLength}
 use Rattle.state_forms.specs.Forms.{Form, Table, byte, two, row, field, _⊗_, made}
-use Rattle.state_bytes.specs.Layout.{stateBytes}
+use Rattle.state_timed.specs.TimedLayout.{timedBytes}
 use Rattle.cabinet_records.specs.declared.Record.{Record}
 use Rattle.cabinet_records.specs.Cabinet.{recordCount, freeRecord, Returned, Act, doing}
 
--- ── A record: 520 bytes ──
+-- ── A record: 817 bytes ──
 
 abbrev pub personalityRoom : Form (List ℕ)
 personalityRoom = row greatestLength 0 byte
 
 abbrev pub stateRoom : Form (List ℕ)
-stateRoom = row stateBytes 0 byte
+stateRoom = row timedBytes 0 byte
 
 abbrev pub firstAt : ℕ
 firstAt = 1
@@ -55,9 +55,9 @@ recordBytes = recordForm .width
 -- the arrays have their lengths
 pub record Shaped (r : Record) : Type 0 where
   pub personality : length (r .personality) ≡ greatestLength
-  pub state : length (r .state) ≡ stateBytes
+  pub state : length (r .state) ≡ timedBytes
 
--- ── The row: record k stands from byte 520 k on ──
+-- ── The row: record k stands from byte 817 k on ──
 
 abbrev pub rowForm : Form (List Record)
 rowForm = row recordCount freeRecord recordForm

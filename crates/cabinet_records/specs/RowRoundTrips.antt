@@ -11,7 +11,7 @@ use Rattle.cabinet_records.specs.Layout.{stateAt, recordBytes, Shaped, r
 
 -- the numbers that a caller in C writes down
 abbrev pub RowSizes : Type 0
-RowSizes = (stateAt ≡ 481) × (recordBytes ≡ 520) × (rowBytes ≡ 2080)
+RowSizes = (stateAt ≡ 481) × (recordBytes ≡ 817) × (rowBytes ≡ 3268)
 
 -- ── From a row to bytes and back ──
 

@@ -1,2 +1,4 @@
+pub mod ProperTimes
 pub mod Proper
+pub mod Answers
 pub mod BoardRuns

@@ -1,60 +1,89 @@
--- Demand 3 of the library that a buyer links: the same demand, said of the numbers that its calls answer and of the bytes that they
--- leave in the caller's buffers.
+-- Demand 3 of the library that a buyer links: the same demand, said of the numbers that its calls answer and of the bytes that they leave in the
+-- caller's buffers. The calls are step and retiming calls, in any order.
 use Prim.Native.Nat.{ℕ, _/_, _%_}
-use mathlib.Core.Bool.{true, false}
 use mathlib.Core.List.{List}
 use mathlib.Core.Path.{_≡_}
 use lib.Dec.{eqb}
+use lib.ListN.{length}
 use Rattle.rules.specs.declared.answer.Outcome.{Outcome}
 use Rattle.rules.specs.declared.answer.Outcome.the-variants.{Stepped, StepRefused}
 use Rattle.rules.specs.declared.answer.Verdict.{Verdict}
 use Rattle.rules.specs.declared.answer.Verdict.the-variants.{Accepted, Refused}
-use Rattle.rules.specs.declared.state.KeptState.{KeptState}
 use Rattle.laws.specs.Folds.{if_then_else_}
 use Rattle.rules.specs.Personality.{verdictOf}
-use Rattle.rules.specs.Site.{siteOf}
-use Rattle.rules.specs.Kept.{freshKept, keptValid, keptStepped}
-use Rattle.rules.specs.Call.{strayInput}
-use Rattle.rules.specs.DemandThree.{Controller, DemandThreeOf}
-use Rattle.state_bytes.specs.Layout.{decoded, encodedOver, Proper}
+use Rattle.rules.specs.DemandThree.{DemandThreeOf}
+use Rattle.rules.specs.TimedDemandThree.{TimedController, timed, Given, Made, madeFrom, OfEveryTimedRun, TimedDemandThreeOf}
+use Rattle.state_timed.specs.TimedLayout.{timedBytes, timedDecoded}
 use Rattle.board_answers.specs.Answers.{packedVerdict}
+use Rattle.board_fresh.specs.FreshCall.{freshAnswer, freshAfter}
 use Rattle.board_step.specs.StepCall.{stepAnswer, stateAfter, coloursAfter}
-use Rattle.willowera.specs.Board.{freshAnswer}
+use Rattle.board_retime.specs.RetimeCall.{retimeAnswer, retimeAfter}
 
--- An answer as a caller reads it: the lowest byte is the number of the refusal, 0 where the call is accepted, and the rest is the
--- place or the wait bound.
+-- An answer as a caller reads it: the lowest byte is the number of the refusal, 0 if the call is accepted, and the rest is the place or the
+-- wait bound.
 unfoldable pub outcomeIn : ℕ → Outcome
 outcomeIn answer = if eqb (answer % 256) 0 then Stepped (answer / 256) else StepRefused (answer % 256) (answer / 256)
 
--- the same of an answer to reading
+-- the same of an answer to reading or retiming
 unfoldable pub verdictIn : ℕ → Verdict
 verdictIn answer = if eqb (answer % 256) 0 then Accepted else Refused (answer % 256) (answer / 256)
 
--- The library as a controller, its state the caller's bytes: what `willowera_read` and `willowera_step` answer, and what
--- `willowera_fresh` and `willowera_step` leave in a buffer, by their contracts.
-unfoldable pub board : List ℕ → Controller (List ℕ)
+-- The library as a controller, its state the caller's bytes: what `willowera_read`, `willowera_step` and `willowera_retime` answer, and what
+-- `willowera_fresh`, `willowera_step` and `willowera_retime` leave in a buffer, by their contracts. What is seen of a state is what its bytes
+-- hold.
+unfoldable pub board : List ℕ → TimedController (List ℕ)
 board buffer =
     record {
-      verdict = λ b. verdictIn (packedVerdict (verdictOf b));
-      fresh = λ b. encodedOver freshKept buffer;
-      outcome = λ b state inputs room. outcomeIn (stepAnswer b state inputs room);
-      next = stateAfter;
-      buffer = coloursAfter;
-      seen = λ state. decoded state .core;
+      stepping =
+          record {
+            verdict = λ b. verdictIn (packedVerdict (verdictOf b));
+            fresh = λ b. freshAfter b buffer;
+            outcome = λ b state inputs room. outcomeIn (stepAnswer b state inputs room);
+            next = stateAfter;
+            buffer = coloursAfter;
+            seen = λ state. timedDecoded state .core;
+          };
+      ruling = λ site state. timedDecoded state .ruling;
+      waits = λ state. timedDecoded state .waiting .present;
+      retimeVerdict = λ b state new. verdictIn (retimeAnswer b state new);
+      retimed = retimeAfter;
     }
 
--- whatever buffer `willowera_fresh` accepts and writes the fresh state into
-unfoldable pub BoardDemandThree : Type 0
-BoardDemandThree = (buffer : List ℕ) → freshAnswer buffer ≡ 0 → DemandThreeOf (board buffer)
+-- a claim about the library with every buffer of the length of a state, whatever bytes it has
+abbrev pub OfEveryBuffer : (TimedController (List ℕ) → Type 0) → Type 0
+OfEveryBuffer Claim = (buffer : List ℕ) → length buffer ≡ timedBytes → Claim (board buffer)
 
--- ── A law of states as bytes ──
+-- these are the buffers that `willowera_fresh` accepts with an accepted personality
+unfoldable pub FreshAccepts : Type 0
+FreshAccepts =
+    (b buffer : List ℕ) →
+    verdictOf b ≡ Accepted →
+    (freshAnswer b buffer ≡ 0 → length buffer ≡ timedBytes) × (length buffer ≡ timedBytes → freshAnswer b buffer ≡ 0)
 
--- on an accepted personality a step from a valid state leads to a state that the machine's types hold
-unfoldable pub StepIsProper : Type 0
-StepIsProper =
+-- ── The runs of the library are the runs of the rules ──
+
+-- every list of calls is taken alike
+unfoldable pub BoardRunsAlike : Type 0
+BoardRunsAlike =
+    OfEveryBuffer
+    (λ library.
     (b : List ℕ) →
     verdictOf b ≡ Accepted →
-    (s : KeptState) (inputs : ℕ) →
-    keptValid (siteOf b) s ≡ true →
-    strayInput (siteOf b) inputs ≡ false →
-    Proper (keptStepped (siteOf b) s inputs)
+    (calls : List Given) →
+    madeFrom library b (library .stepping .fresh b) calls ≡ madeFrom timed b (timed .stepping .fresh b) calls)
+
+-- so what holds of every run of the rules holds of every run of the library
+unfoldable pub BoardRunsHold : Type 1
+BoardRunsHold =
+    (Claim : List ℕ → List Made → Type 0) →
+    OfEveryTimedRun timed Claim →
+    OfEveryBuffer (λ library. OfEveryTimedRun library Claim)
+
+-- ── The demand ──
+
+unfoldable pub BoardDemandThree : Type 0
+BoardDemandThree = OfEveryBuffer (λ library. TimedDemandThreeOf library)
+
+-- the demand as `DemandThreeOf` states it, for lists of step calls alone
+unfoldable pub BoardDemandThreeBefore : Type 0
+BoardDemandThreeBefore = OfEveryBuffer (λ library. DemandThreeOf (library .stepping))

@@ -1,1 +1,2 @@
 pub mod BoardRuns
+pub mod ProperStates
