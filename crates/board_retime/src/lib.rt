@@ -4,8 +4,8 @@ ghost use Rattle.board_retime.specs.RetimeCall.{retimeAnswer, retimeAfte
 use board_answers::refusal;
 use rules::answer::Verdict;
 
-// The times of a second personality wait in the state. A refused call changes nothing. The first personality is checked first, then whether
-// the bytes are a state (13). The state is decoded after this reading, so that it is not held during it.
+// Makes the times of a second personality wait in the state. A refused call changes nothing. The first personality is checked first, then
+// whether the bytes are a state (13), then the rest. The state is decoded after the first reading, so that it is not held during it.
 pub fn retime(personality: &[u8], state: &mut [u8], new: &[u8]) -> u64
     ensures { λ r. ⌜ (r ≡ retimeAnswer (now (personality .entry)) (now (state .entry)) (now (new .entry)))
         × (now (state .exit) ≡ retimeAfter (now (personality .entry)) (now (state .entry)) (now (new .entry))) ⌝ }
