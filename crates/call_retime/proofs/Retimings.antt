@@ -1,6 +1,6 @@
 -- A retiming call, check by check: each decides the verdict once the checks before it have passed, and the verdict decides the answer.
-use Prim.Native.Nat.{ℕ, _<_}
-use mathlib.Core.Bool.{Bool, true, false, not, _&&_}
+use Prim.Native.Nat.{ℕ, _+_, _<_}
+use mathlib.Core.Bool.{Bool, true, false, not, _&&_, _||_}
 use mathlib.Core.List.{List}
 use mathlib.Core.Path.{_≡_, refl, ap, _∙_}
 use lib.Dec.{eqb}
@@ -15,12 +15,14 @@ use Rattle.rules.specs.declared.state.TimedState.{TimedState}
 use Rattle.laws.specs.Bytes.{byteAt}
 use Rattle.laws.specs.Folds.{anyOf}
 use Rattle.rules.specs.Verdicts.{_orElse_, refuseIf}
-use Rattle.rules.specs.Personality.{verdictOf}
+use Rattle.rules.specs.Personality.{bodyAt, verdictOf}
 use Rattle.rules.specs.Site.{siteOf, timesIn}
 use Rattle.rules.specs.SiteTimes.{under, timesWithin, admitted, blank}
 use Rattle.rules.specs.Timed.{waitingValid, timedValid}
 use Rattle.rules.specs.Call.{handedBack}
-use Rattle.rules.specs.TimedCall.{timeByte, differsElsewhere, retimeChecksBy, retimed, retimeVerdict, retimeAnswerOf}
+use Rattle.rules.specs.TimedCall.{between, timeByte, differsElsewhere, retimeChecksBy, retimed, retimeVerdict, retimeAnswerOf}
+use Rattle.read_layout.specs.declared.Layout.{Layout}
+use Rattle.read_layout.specs.LayoutOf.{LayoutOf}
 use Rattle.site_whole.specs.declared.Timing.{Timing}
 use Rattle.site_whole.specs.Decoding.{timingIn}
 use Rattle.laws.proofs.Folds.{any-at, any-done}
@@ -83,6 +85,18 @@ unfolding siteOf
 times-read new timing e = ap (λ (t : Timing). t .times) e
 
 -- ── 26 ──
+
+-- the bytes of the time settings, by the places of the layout
+pub time-bytes-laid :
+    (b : List ℕ) (w : Layout) (i : ℕ) →
+    LayoutOf b w →
+    (between 6 8 i
+    || between 12 (w .groups) i
+    || between (w .pedestrians + 4) (w .early) i
+    || (w .hasearly && between (w .early + 4) (w .order) i))
+    ≡ timeByte b i
+unfolding timeByte bodyAt
+time-bytes-laid b w i laid = rw (laid .groups, laid .pedestrians, laid .early, laid .hasearly, laid .order)
 
 module _ (b new : List ℕ) where
   -- byte i differs, and is not part of a time setting

@@ -1,6 +1,5 @@
 -- `call_retime::time_byte` meets its contract: the tests are those of the definition, at the places of the layout.
-use Rattle.rules.specs.Personality.{bodyAt}
-use Rattle.rules.specs.TimedCall.{timeByte}
+use Rattle.call_retime.proofs.Retimings.{time-bytes-laid}
 use borrow.Author.Needs.{needs}
 use Rattle.call_retime.proofs.time_byte.Statement.{statement}
 use Rattle.call_retime.proofs.time_byte.Tie as tie
@@ -24,24 +23,14 @@ between-requires-4 : tie.Need-between-requires-4
 between-requires-4 c κs = search needs
 
 returns : tie.Need-returns
-unfolding timeByte bodyAt
 returns c =
     let fourth = c .before in
     let third = fourth .before .before in
     let second = third .before .before in
     let first = second .before in
-    let laid = first .before .before .pre .1 in
-    rw (
-      fourth .between4 .ensures,
-      third .between3 .ensures,
-      second .between2 .ensures,
-      first .between .ensures,
-      laid .groups,
-      laid .pedestrians,
-      laid .early,
-      laid .hasearly,
-      laid .order,
-    )
+    let start = first .before .before in
+    rw (fourth .between4 .ensures, third .between3 .ensures, second .between2 .ensures, first .between .ensures)
+    (time-bytes-laid (start .args .s .now) (start .args .layout) (start .args .i) (start .pre .1))
 
 pub time-byte-spec : {M : Type 1} → statement M
 time-byte-spec =
