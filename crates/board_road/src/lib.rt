@@ -15,12 +15,13 @@ fn with_own_times(site: Site, state: KeptState) -> TimedState
     ensures { λ r. ⌜ r ≡ withOwnTimes site state ⌝ }
 {
     let core = state.core;
+    let waiting = step_timed::none_waiting();
     let ruling = site.times;
     TimedState {
         core,
         kept: state.kept,
         ruling,
-        waiting: step_timed::none_waiting(),
+        waiting,
     }
 }
 

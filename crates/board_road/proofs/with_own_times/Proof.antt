@@ -7,7 +7,7 @@ none-waiting-requires : tie.Need-none-waiting-requires
 none-waiting-requires c κs = search needs
 
 returns : tie.Need-returns
-returns c = rw (c .none-waiting .ensures)
+returns c = rw (c .before .none-waiting .ensures)
 
 pub with-own-times-spec : {M : Type 1} → statement M
 with-own-times-spec = tie.close (tie.spec none-waiting-requires returns)
