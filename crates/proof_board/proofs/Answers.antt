@@ -37,7 +37,7 @@ module _ (number value : ℕ) (small : number < 256) where
   unfolding packed
   high-part = omega arith
 
-abbrev Fits : ℕ → ℕ → Type 0
+abbrev pub Fits : ℕ → ℕ → Type 0
 Fits number place = (1 ≤ number) × (number < 256)
 
 -- a refusal reads back
@@ -67,7 +67,7 @@ verdict-for (Refused number place) fits = verdict-refused number place (fits num
 
 -- ── The answers of the calls ──
 
-retime-number-fits : (number : ℕ) → retimeNumber number ≡ true → Fits number 0
+pub retime-number-fits : (number : ℕ) → retimeNumber number ≡ true → Fits number 0
 retime-number-fits number known =
     ⊎-elim (λ e. omega (arith, eqb-true number 13 e)) (λ e. omega (arith, eqb-true number 26 e)) (or-cases (eqb number 13) (eqb number 26) known)
 

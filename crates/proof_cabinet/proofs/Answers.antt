@@ -1,9 +1,9 @@
--- Every refusal has a written number, at a place of the personality or at 0; and stepping answers the first refusal in the order of its checks.
+-- Every refusal has a written number and place; and stepping and new times answer the first refusal in the order of their checks.
 use Prim.Native.Nat.{ℕ, _+_, _*_, _%_, _/_, _<_}
 use mathlib.Core.Bool.{Bool, true, false, not, _&&_, _||_}
 use mathlib.Core.List.{List}
 use mathlib.Core.Logic.{_⊎_, inl, inr, ⊎-elim}
-use mathlib.Core.Path.{_≡_, refl, sym, subst}
+use mathlib.Core.Path.{_≡_, refl, sym, subst, ap}
 use native.Mathlib.Nat.{add-zero}
 use native.Mathlib.Omega.{arith}
 use borrow.Author.Tests.{eqb-true, ltb-false, lt-ltb, le-ltb}
@@ -15,69 +15,53 @@ use Rattle.laws.specs.Folds.{if_then_else_}
 use Rattle.rules.specs.Verdicts.{_orElse_, refuseIf, reportOf, stepReportOf, waitOf}
 use Rattle.rules.specs.Personality.{verdictOf}
 use Rattle.rules.specs.Site.{siteOf}
-use Rattle.rules.specs.Kept.{freshKept, keptValid}
+use Rattle.rules.specs.Timed.{ruledSite, timedValid, timedStepped}
 use Rattle.rules.specs.WaitBound.{waitBound}
-use Rattle.rules.specs.Call.{strayInput, stepVerdict, boundFor, checksBy, callVerdict, answerOf}
-use Rattle.rules.specs.Laws.{readingNumber, stepNumber, PlaceIn, Written, RefusalIsWritten, AcceptedIsSound}
+use Rattle.rules.specs.Call.{strayInput, stepVerdict, boundFor, checksBy}
+use Rattle.rules.specs.TimedCall.{timedVerdict, timedAnswerOf, differsElsewhere, retimeChecksBy, retimeVerdict}
+use Rattle.rules.specs.Laws.{readingNumber, stepNumber, PlaceIn, AcceptedIsSound}
+use Rattle.rules.specs.TimedLaws.{retimeNumber, RetimeRefusalIsWritten}
 use Rattle.laws.proofs.Booleans.{or-cases}
-use Rattle.rules.proofs.Verdicts.{or-refused, refuse-failed}
-use Rattle.state_bytes.specs.Layout.{isState, decoded}
+use Rattle.state_timed.specs.TimedLayout.{isTimed, timedDecoded}
 use Rattle.board_answers.specs.Answers.{packed, packedVerdict, packedOutcome}
 use Rattle.board_step.specs.StepCall.{stepAnswer}
+use Rattle.board_retime.specs.RetimeCall.{retimeVerdictOn, retimeAnswer}
 use Rattle.proof_acceptance.proofs.Acceptance.{accepted-is-sound}
-use Rattle.proof_acceptance.proofs.Refusals.{refusal-is-written}
+use Rattle.proof_acceptance.proofs.Refusals.{Refusals, if-refusals, or-refusals, personality-refusals, call-refusals, retime-refusal-is-written}
 use Rattle.proof_acceptance.proofs.Places.{number-fits}
+use Rattle.proof_board.proofs.Answers.{retime-number-fits}
 use Rattle.cabinet_records.specs.declared.Record.{Record}
 use Rattle.cabinet_records.specs.Cabinet.{outputCount, personalityOf, recordOf, outputsOf, isShort, outputsIn, ownOutputs, placingVerdict, heldVerdict, takingVerdict, Returned, returnedFor, placing, stepped, stepping, takingOut, placeSite, stepSite, takeOut, doing}
 use Rattle.cabinet_records.specs.CabinetLaws.{personalityNamed}
 use Rattle.cabinet_records.proofs.Checks.{held-read, held-within}
-use Rattle.proof_cabinet.specs.CabinetAnswers.{cabinetNumber, CabinetWritten, AnswerIsWritten, steppingVerdict, SteppingAnswers}
+use Rattle.proof_cabinet.specs.Operations.{retiming}
+use Rattle.proof_cabinet.specs.CabinetAnswers.{cabinetNumber, CabinetWritten, AnswerIsWritten, RetimingWritten, RetimingAnswerIsWritten, holdsState, steppingVerdict, SteppingAnswers, retimingVerdict, RetimingAnswers}
 
--- ── Verdicts whose refusals are written ──
+-- ── Answers, whatever is allowed of a number of one byte and a place ──
 
-abbrev Told : List ℕ → Verdict → Type 0
-Told b v = (n p : ℕ) → v ≡ Refused n p → CabinetWritten b n p
+abbrev ToldAnswer : (ℕ → ℕ → Type 0) → ℕ → Type 0
+ToldAnswer Allowed answer = (answer % 256 ≡ 0 → ⊥) → Allowed (answer % 256) (answer / 256)
 
-wider : (b : List ℕ) (n p : ℕ) → Written b n p → CabinetWritten b n p
-wider b n p =
-    ⊎-elim
-    (λ (w : (readingNumber n ≡ true) × PlaceIn b p). inl w)
-    (λ (w : (stepNumber n ≡ true) × (p ≡ 0)). inr (rw (w .0), w .1))
+module _ (Allowed : ℕ → ℕ → Type 0) (fits : (n p : ℕ) → Allowed n p → n < 256) where
+  packed-told : (n p : ℕ) → Allowed n p → ToldAnswer Allowed (packed n p)
+  unfolding packed
+  packed-told n p w refused =
+      let small = fits n p w in
+      let low : (n + 256 * p) % 256 ≡ n = omega arith in
+      let high : (n + 256 * p) / 256 ≡ p = omega arith in
+      subst (λ (m : ℕ). Allowed m ((n + 256 * p) / 256)) (sym low) (subst (Allowed n) (sym high) w)
 
-read-told : (b : List ℕ) → Told b (verdictOf b)
-unfolding RefusalIsWritten checksBy _orElse_
-read-told b n p e = wider b n p (refusal-is-written b freshKept 0 0 n p (rw e))
+  verdict-told : (v : Verdict) → Refusals Allowed v → ToldAnswer Allowed (packedVerdict v)
+  unfolding packedVerdict reportOf packed
+  verdict-told Accepted told refused = absurd (refused (omega arith))
+  verdict-told (Refused n p) told refused = packed-told n p (told n p refl) refused
 
-check-told : (b : List ℕ) (t : Bool) (m : ℕ) → cabinetNumber m ≡ true → Told b (refuseIf t m 0)
-check-told b t m known n p e =
-    let w = refuse-failed t m 0 e in
-    inr (subst (λ (i : ℕ). cabinetNumber i ≡ true) (sym (w .1)) known, w .2)
+  outcome-told : (v : Verdict) (wait : ℕ) → Refusals Allowed v → ToldAnswer Allowed (packedOutcome (boundFor v wait))
+  unfolding boundFor packedOutcome stepReportOf waitOf packed
+  outcome-told Accepted wait told = λ refused. absurd (refused (omega arith))
+  outcome-told (Refused n p) wait told = rw (add-zero p) (packed-told n p (told n p refl))
 
-or-told : (b : List ℕ) (v w : Verdict) → Told b v → Told b w → Told b (v orElse w)
-or-told b v w first later n p e = ⊎-elim (first n p) (λ (h : (v ≡ Accepted) × (w ≡ Refused n p)). later n p (h .1)) (or-refused v w e)
-
-placing-told : (row : List Record) (out b : List ℕ) (k first : ℕ) → Told b (placingVerdict row out b k first)
-unfolding placingVerdict
-placing-told row out b k first =
-    or-told b (verdictOf b) _ (read-told b)
-    (or-told b (refuseIf _ 24 0) _ (check-told b _ 24 refl)
-    (or-told b (refuseIf _ 25 0) _ (check-told b _ 25 refl) (check-told b _ 14 refl)))
-
-held-told : (row : List Record) (k : ℕ) → Told (personalityOf (recordOf row k)) (heldVerdict row k)
-unfolding heldVerdict
-held-told row k =
-    let b = personalityOf (recordOf row k) in
-    or-told b (refuseIf _ 24 0) _ (check-told b _ 24 refl) (or-told b (verdictOf b) _ (read-told b) (check-told b _ 25 refl))
-
-taking-told : (row : List Record) (out : List ℕ) (k : ℕ) → Told (personalityOf (recordOf row k)) (takingVerdict row out k)
-unfolding takingVerdict
-taking-told row out k =
-    or-told (personalityOf (recordOf row k)) (heldVerdict row k) _ (held-told row k) (check-told (personalityOf (recordOf row k)) _ 14 refl)
-
--- ── Answers ──
-
-abbrev ToldAnswer : List ℕ → ℕ → Type 0
-ToldAnswer b answer = (answer % 256 ≡ 0 → ⊥) → CabinetWritten b (answer % 256) (answer / 256)
+-- ── The calls of the cabinet ──
 
 cabinet-fits : (b : List ℕ) (n p : ℕ) → CabinetWritten b n p → n < 256
 cabinet-fits b n p =
@@ -93,56 +77,62 @@ cabinet-fits b n p =
     (λ (h : eqb n 25 ≡ true). omega (arith, eqb-true n 25 h))
     (or-cases (stepNumber n || eqb n 24) (eqb n 25) (w .0)))
 
-packed-told : (b : List ℕ) (n p : ℕ) → CabinetWritten b n p → ToldAnswer b (packed n p)
-unfolding packed
-packed-told b n p w refused =
-    let small = cabinet-fits b n p w in
-    let low : (n + 256 * p) % 256 ≡ n = omega arith in
-    let high : (n + 256 * p) / 256 ≡ p = omega arith in
-    subst (λ (m : ℕ). CabinetWritten b m ((n + 256 * p) / 256)) (sym low) (subst (CabinetWritten b n) (sym high) w)
+module _ (b : List ℕ) where
+  read-told : Refusals (CabinetWritten b) (verdictOf b)
+  read-told = personality-refusals b (CabinetWritten b) (λ n p known l. inl (known, l))
 
-verdict-told : (b : List ℕ) (v : Verdict) → Told b v → ToldAnswer b (packedVerdict v)
-unfolding packedVerdict reportOf packed
-verdict-told b Accepted told refused = absurd (refused (omega arith))
-verdict-told b (Refused n p) told refused = packed-told b n p (told n p refl) refused
+  check-told : (t : Bool) (m : ℕ) → cabinetNumber m ≡ true → Refusals (CabinetWritten b) (refuseIf t m 0)
+  check-told t m known = if-refusals (CabinetWritten b) t m 0 (inr (known, refl))
 
--- ── A step on bytes ──
+  or-told : (v w : Verdict) → Refusals (CabinetWritten b) v → Refusals (CabinetWritten b) w → Refusals (CabinetWritten b) (v orElse w)
+  or-told v w first later = or-refusals (CabinetWritten b) v w first (λ e. later)
 
+placing-told : (row : List Record) (out b : List ℕ) (k first : ℕ) → Refusals (CabinetWritten b) (placingVerdict row out b k first)
+unfolding placingVerdict
+placing-told row out b k first =
+    or-told b (verdictOf b) _ (read-told b)
+    (or-told b (refuseIf _ 24 0) _ (check-told b _ 24 refl)
+    (or-told b (refuseIf _ 25 0) _ (check-told b _ 25 refl) (check-told b _ 14 refl)))
+
+held-told : (row : List Record) (k : ℕ) → Refusals (CabinetWritten (personalityOf (recordOf row k))) (heldVerdict row k)
+unfolding heldVerdict
+held-told row k =
+    let b = personalityOf (recordOf row k) in
+    or-told b (refuseIf _ 24 0) _ (check-told b _ 24 refl) (or-told b (verdictOf b) _ (read-told b) (check-told b _ 25 refl))
+
+taking-told : (row : List Record) (out : List ℕ) (k : ℕ) → Refusals (CabinetWritten (personalityOf (recordOf row k))) (takingVerdict row out k)
+unfolding takingVerdict
+taking-told row out k =
+    let b = personalityOf (recordOf row k) in
+    or-told b (heldVerdict row k) _ (held-told row k) (check-told b _ 14 refl)
+
+-- a step on bytes
 module _ (b s : List ℕ) (inputs room : ℕ) where
-  outcome-told : (v : Verdict) → callVerdict b (decoded s) inputs room ≡ v → ToldAnswer b (packedOutcome (boundFor v (waitBound (siteOf b))))
-  unfolding boundFor packedOutcome stepReportOf waitOf packed RefusalIsWritten
-  outcome-told Accepted e = λ refused. absurd (refused (omega arith))
-  outcome-told (Refused n p) e =
-      rw (add-zero p) (packed-told b n p (wider b n p (refusal-is-written b (decoded s) inputs room n p e)))
-
-  thirteen-told : Told b (Refused 13 0)
-  thirteen-told n p e =
-      let number : 13 ≡ n = cc in
-      let at : 0 ≡ p = cc in
-      inr (subst (λ (i : ℕ). cabinetNumber i ≡ true) number refl, sym at)
-
-  answer-told :
+  step-for :
       (t : Bool) →
-      ToldAnswer b
-      (if t then packedOutcome (answerOf b (decoded s) inputs room .outcome) else packedVerdict (verdictOf b orElse Refused 13 0))
-  unfolding answerOf
-  answer-told true = outcome-told (callVerdict b (decoded s) inputs room) refl
-  answer-told false = verdict-told b (verdictOf b orElse Refused 13 0) (or-told b (verdictOf b) (Refused 13 0) (read-told b) thirteen-told)
+      ToldAnswer (CabinetWritten b)
+      (if t then packedOutcome (timedAnswerOf b (timedDecoded s) inputs room .outcome) else packedVerdict (verdictOf b orElse Refused 13 0))
+  unfolding timedAnswerOf checksBy refuseIf
+  step-for true =
+      outcome-told (CabinetWritten b) (cabinet-fits b) (timedVerdict b (timedDecoded s) inputs room) _
+      (call-refusals b (CabinetWritten b) (λ n p known l. inl (known, l)) (timedValid (siteOf b) (timedDecoded s)) inputs room
+      (λ n known. inr (rw known, refl)))
+  step-for false =
+      verdict-told (CabinetWritten b) (cabinet-fits b) (verdictOf b orElse Refused 13 0)
+      (or-told b (verdictOf b) (Refused 13 0) (read-told b) (check-told b true 13 refl))
 
-  step-told : ToldAnswer b (stepAnswer b s inputs room)
+  step-told : ToldAnswer (CabinetWritten b) (stepAnswer b s inputs room)
   unfolding stepAnswer
-  step-told = answer-told (isState s)
-
--- ── A call ──
+  step-told = step-for (isTimed s)
 
 returned-told :
     (b : List ℕ) (v : Verdict) (done : Returned (List Record)) (row : List Record) (out : List ℕ) →
-    Told b v →
-    ToldAnswer b (done .answer) →
-    ToldAnswer b (returnedFor v done row out .answer)
+    Refusals (CabinetWritten b) v →
+    ToldAnswer (CabinetWritten b) (done .answer) →
+    ToldAnswer (CabinetWritten b) (returnedFor v done row out .answer)
 unfolding returnedFor
 returned-told b Accepted done row out told own = own
-returned-told b (Refused n p) done row out told own = verdict-told b (Refused n p) told
+returned-told b (Refused n p) done row out told own = verdict-told (CabinetWritten b) (cabinet-fits b) (Refused n p) told
 
 pub answer-is-written : AnswerIsWritten
 unfolding AnswerIsWritten doing placing stepping stepped takingOut personalityNamed
@@ -154,6 +144,32 @@ answer-is-written row out (stepSite k inputs) =
     returned-told b (heldVerdict row k) _ row out (held-told row k) (step-told b (r .state) inputs (length (ownOutputs r out)))
 answer-is-written row out (takeOut k) =
     returned-told (personalityOf (recordOf row k)) (takingVerdict row out k) _ row out (taking-told row out k) (λ refused. absurd (refused refl))
+
+-- ── New times ──
+
+module _ (b old new : List ℕ) where
+  retiming-fits : (n p : ℕ) → RetimingWritten b new n p → n < 256
+  retiming-fits n p =
+      ⊎-elim
+      (λ (w : (readingNumber n ≡ true) × (PlaceIn b p ⊎ PlaceIn new p)).
+      ⊎-elim (λ (l : PlaceIn b p). number-fits b n p (inl (w .0, l)) .1) (λ (l : PlaceIn new p). number-fits new n p (inl (w .0, l)) .1) (w .1))
+      (λ (w : (retimeNumber n ≡ true) × (p ≡ 0)). retime-number-fits n (w .0) .1)
+
+  retime-for : (t : Bool) → Refusals (RetimingWritten b new) (if t then retimeVerdict b (timedDecoded old) new else (verdictOf b orElse Refused 13 0))
+  unfolding RetimeRefusalIsWritten refuseIf
+  retime-for true = retime-refusal-is-written b new (timedDecoded old)
+  retime-for false =
+      or-refusals (RetimingWritten b new) (verdictOf b) (Refused 13 0)
+      (personality-refusals b (RetimingWritten b new) (λ n p known l. inl (known, inl l)))
+      (λ e. if-refusals (RetimingWritten b new) true 13 0 (inr (refl, refl)))
+
+  retime-told : ToldAnswer (RetimingWritten b new) (retimeAnswer b old new)
+  unfolding retimeAnswer retimeVerdictOn
+  retime-told = verdict-told (RetimingWritten b new) retiming-fits (retimeVerdictOn b old new) (retime-for (isTimed old))
+
+pub retiming-answer-is-written : RetimingAnswerIsWritten
+unfolding RetimingAnswerIsWritten retiming
+retiming-answer-is-written row out k new = let r = recordOf row k in retime-told (personalityOf r) (r .state) new
 
 -- ── The order of stepping ──
 
@@ -186,20 +202,44 @@ module _ (row : List Record) (out : List ℕ) (k : ℕ) (held : heldVerdict row 
 
   state-for :
       (inputs : ℕ) (t : Bool) →
-      let s = decoded (r .state) in
+      let s = timedDecoded (r .state) in
+      let site = siteOf b in
       let room = length (ownOutputs r out) in
-      (if t then packedOutcome (answerOf b s inputs room .outcome) else packedVerdict (verdictOf b orElse Refused 13 0))
-      ≡ packedOutcome (boundFor (checks (t && keptValid (siteOf b) s) inputs) (waitBound (siteOf b)))
-  unfolding answerOf checksBy stepVerdict _orElse_ outputsOf
+      (if t then packedOutcome (timedAnswerOf b s inputs room .outcome) else packedVerdict (verdictOf b orElse Refused 13 0))
+      ≡ packedOutcome (boundFor (checks (t && timedValid site s) inputs) (waitBound (ruledSite site (timedStepped site s inputs))))
+  unfolding timedAnswerOf checksBy stepVerdict _orElse_ outputsOf
   state-for inputs true = rw (held-read row k held, room-for (isShort out) refl)
-  state-for inputs false = no-state inputs (waitBound (siteOf b))
+  state-for inputs false = no-state inputs _
 
-returned-answer : (v w : Verdict) (wait : ℕ) (done : Returned (List Record)) (row : List Record) (out : List ℕ) → (v ≡ Accepted → done .answer ≡ packedOutcome (boundFor w wait)) → returnedFor v done row out .answer ≡ packedOutcome (boundFor (v orElse w) wait)
+returned-answer :
+    (v w : Verdict) (wait : ℕ) (done : Returned (List Record)) (row : List Record) (out : List ℕ) →
+    (v ≡ Accepted → done .answer ≡ packedOutcome (boundFor w wait)) →
+    returnedFor v done row out .answer ≡ packedOutcome (boundFor (v orElse w) wait)
 unfolding returnedFor _orElse_ boundFor packedVerdict packedOutcome reportOf stepReportOf waitOf
 returned-answer Accepted w wait done row out h = h refl
 returned-answer (Refused number at) w wait done row out h = rw (add-zero at)
 
 pub stepping-answers : SteppingAnswers
-unfolding SteppingAnswers steppingVerdict stepping stepped stepAnswer
+unfolding SteppingAnswers steppingVerdict holdsState stepping stepped stepAnswer
 stepping-answers row out k inputs =
-    returned-answer (heldVerdict row k) _ _ _ row out (λ held. state-for row out k held inputs (isState (recordOf row k .state)))
+    returned-answer (heldVerdict row k) _ _ _ row out (λ held. state-for row out k held inputs (isTimed (recordOf row k .state)))
+
+-- ── The order of new times ──
+
+order-for :
+    (b old new : List ℕ) (t : Bool) →
+    let s = timedDecoded old in
+    (if t then retimeVerdict b s new else (verdictOf b orElse Refused 13 0))
+    ≡ (verdictOf b
+    orElse refuseIf (not (t && timedValid (siteOf b) s)) 13 0
+    orElse verdictOf new
+    orElse refuseIf (differsElsewhere b new) 26 0)
+unfolding retimeChecksBy _orElse_ refuseIf
+order-for b old new true = refl
+order-for b old new false = refl
+
+pub retiming-answers : RetimingAnswers
+unfolding RetimingAnswers retimingVerdict holdsState retiming retimeAnswer retimeVerdictOn
+retiming-answers row out k new =
+    let r = recordOf row k in
+    ap packedVerdict (order-for (personalityOf r) (r .state) new (isTimed (r .state)))

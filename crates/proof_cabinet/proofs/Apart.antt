@@ -11,18 +11,16 @@ use lib.ListN.{length, getD, set, length-set, List·getD-eq-default}
 use lib.Seq.{getD-set-same, getD-set-other}
 use Rattle.rules.specs.declared.answer.Verdict.{Verdict}
 use Rattle.rules.specs.declared.answer.Verdict.the-variants.{Accepted, Refused}
-use Rattle.laws.specs.Folds.{if_then_else_}
 use Rattle.laws.proofs.Booleans.{decided, and-false-rest}
 use Rattle.laws.proofs.Indices.{below-or-past, same-or-apart}
 use Rattle.laws.proofs.Folds.{any-false}
-use Rattle.rules.specs.Kept.{freshKept}
-use Rattle.state_bytes.specs.Layout.{encoded}
-use Rattle.board_step.specs.StepCall.{stateAfter}
 use Rattle.cabinet_records.specs.declared.Record.{Record}
-use Rattle.cabinet_records.specs.Cabinet.{recordCount, isFree, personalityOf, freeRecord, holding, withState, recordOf, outputsOf, isAccepted, hasOutputs, meet, meetsRecord, overlaps, outputsIn, placingVerdict, heldVerdict, takingVerdict, Returned, returnedFor, placing, stepped, stepping, takingOut, Act, placeSite, stepSite, takeOut, doing}
+use Rattle.cabinet_records.specs.Cabinet.{recordCount, isFree, personalityOf, freeRecord, holding, withState, recordOf, outputsOf, isAccepted, hasOutputs, meet, meetsRecord, overlaps, outputsIn, freshBytes, placingVerdict, heldVerdict, takingVerdict, Returned, returnedFor, placing, stepped, stepping, takingOut, Act, placeSite, stepSite, takeOut, doing}
 use Rattle.cabinet_records.proofs.Checks.{row-length, placing-there, placing-clear}
-use Rattle.proof_cabinet.specs.CabinetRuns.{onRecords, CabinetCall, stepsAt, inputsOf, takesOut, aloneAt, stateAlone, Clear, Apart, StaysIn, rowAfter, PlacedHolds, PlacedApart}
-use Rattle.proof_cabinet.proofs.Placed.{holding-personality, Placed, own-personality, own-first, own-state, not-free, own-act, again, other-act}
+use Rattle.rules.specs.TimedDemandThree.{Given}
+use Rattle.proof_cabinet.specs.Operations.{retiming, Operation, cabinetAct, retimeSite, operating}
+use Rattle.proof_cabinet.specs.CabinetRuns.{onRecords, CabinetCall, OwnCall, steps, retimes, nothing, callOn, aloneFor, aloneAt, stateAlone, Clear, Apart, StaysIn, rowAfter, PlacedHolds, PlacedApart}
+use Rattle.proof_cabinet.proofs.Placed.{holding-personality, Placed, nextFor, own-personality, own-first, own-state, not-free, placed-next}
 use Rattle.proof_cabinet.proofs.Runs.{placing-accepted, placed-row, placed-fresh}
 
 -- ── Two ranges of outputs ──
@@ -107,37 +105,15 @@ module _ (b : List ℕ) (k first : ℕ) (row : List Record) (s : List ℕ) (plac
       meet-swapped first (outputsOf b) g (outputsOf c)
       (rw (own-personality b k first row s placed, own-first b k first row s placed) at known)
 
-  new-holding : (c out : List ℕ) (j g : ℕ) → placingVerdict row out c j g ≡ Accepted → (k ≡ j → ⊥) → Clear first (outputsOf b) (holding c g (encoded freshKept))
+  new-holding : (c out : List ℕ) (j g : ℕ) → placingVerdict row out c j g ≡ Accepted → (k ≡ j → ⊥) → Clear first (outputsOf b) (holding c g (freshBytes c))
   unfolding Clear holding
-  new-holding c out j g e other has = rw (holding-personality c g (encoded freshKept)) (new-clear c out j g e other)
+  new-holding c out j g e other has = rw (holding-personality c g (freshBytes c)) (new-clear c out j g e other)
 
-  -- the state after a call: a step on the record makes a new one
-  abbrev pub stateNext : Act → List ℕ → List ℕ
-  stateNext act out = if stepsAt k act then stateAfter b s (inputsOf act) (length (outputsIn out first (outputsOf b))) else s
-
-  -- the call leaves the site in its place, if it does not take it out
-  placed-for :
-      (act : Act) (out : List ℕ) →
-      (takesOut k act ≡ true → doing row out act .answer ≡ 0 → ⊥) →
-      (t : Bool) → stepsAt k act ≡ t →
-      Placed b k first (doing row out act .row) (if t then stateAfter b s (inputsOf act) (length (outputsIn out first (outputsOf b))) else s)
-  placed-for act out stays true e =
-      let s₁ = stateAfter b s (inputsOf act) (length (outputsIn out first (outputsOf b))) in
-      subst (λ (d : Returned (List Record)). Placed b k first (d .row) s₁) (sym (own-act b k first row s placed act out e))
-      (again b k first row s placed s₁)
-  placed-for act out stays false e = other-act b k first row s placed act out e stays
-
-  pub placed-act :
-      (act : Act) (out : List ℕ) →
-      (takesOut k act ≡ true → doing row out act .answer ≡ 0 → ⊥) →
-      Placed b k first (doing row out act .row) (stateNext act out)
-  placed-act act out stays = placed-for act out stays (stepsAt k act) refl
-
-  pub apart-act : Apart k first (outputsOf b) row → (act : Act) (out : List ℕ) → Apart k first (outputsOf b) (doing row out act .row)
+  apart-act : Apart k first (outputsOf b) row → (act : Act) (out : List ℕ) → Apart k first (outputsOf b) (doing row out act .row)
   unfolding doing placing stepping stepped takingOut Apart
   apart-act apart (placeSite c j g) out =
       apart-for k first (outputsOf b) (placingVerdict row out c j g) _ row out apart
-      (λ e. apart-set k first (outputsOf b) row apart j (holding c g (encoded freshKept)) (λ other. new-holding c out j g e (λ h. other (sym h))))
+      (λ e. apart-set k first (outputsOf b) row apart j (holding c g (freshBytes c)) (λ other. new-holding c out j g e (λ h. other (sym h))))
   apart-act apart (stepSite j inputs) out =
       apart-for k first (outputsOf b) (heldVerdict row j) _ row out apart
       (λ e. apart-set k first (outputsOf b) row apart j (withState (recordOf row j) _) (λ other. clear-stepped first (outputsOf b) (recordOf row j) _ (apart j other)))
@@ -145,19 +121,22 @@ module _ (b : List ℕ) (k first : ℕ) (row : List Record) (s : List ℕ) (plac
       apart-for k first (outputsOf b) (takingVerdict row out j) _ row out apart
       (λ e. apart-set k first (outputsOf b) row apart j freeRecord (λ other. clear-free first (outputsOf b)))
 
+  pub apart-next : Apart k first (outputsOf b) row → (operation : Operation) (out : List ℕ) → Apart k first (outputsOf b) (operating row out operation .row)
+  unfolding operating retiming Apart
+  apart-next apart (cabinetAct act) out = apart-act apart act out
+  apart-next apart (retimeSite j new) out =
+      apart-set k first (outputsOf b) row apart j (withState (recordOf row j) _) (λ other. clear-stepped first (outputsOf b) (recordOf row j) _ (apart j other))
+
 -- ── A list of calls ──
 
 module _ (b : List ℕ) (k first : ℕ) where
   next-alone :
-      (s : List ℕ) (c : CabinetCall) (calls : List CabinetCall) (t : Bool) →
-      stateAlone b (if t then stateAfter b s (inputsOf (c .act)) (length (outputsIn (c .outputs) first (outputsOf b))) else s) (aloneAt k first (outputsOf b) calls)
-      ≡ stateAlone b s
-      (if t
-      then record { inputs = inputsOf (c .act); buffer = outputsIn (c .outputs) first (outputsOf b) } ∷ aloneAt k first (outputsOf b) calls
-      else aloneAt k first (outputsOf b) calls)
-  unfolding stateAlone
-  next-alone s c calls true = refl
-  next-alone s c calls false = refl
+      (s out : List ℕ) (rest : List Given) (call : OwnCall) →
+      stateAlone b (nextFor b k first s out call) rest ≡ stateAlone b s (aloneFor call (outputsIn out first (outputsOf b)) rest)
+  unfolding stateAlone aloneFor
+  next-alone s out rest (steps inputs) = refl
+  next-alone s out rest (retimes new) = refl
+  next-alone s out rest nothing = refl
 
   still-placed :
       (calls : List CabinetCall) (row : List Record) (s : List ℕ) →
@@ -169,13 +148,13 @@ module _ (b : List ℕ) (k first : ℕ) where
   unfolding rowAfter onRecords stateAlone aloneAt
   still-placed [] row s placed apart stays = (placed, apart)
   still-placed (c ∷ calls) row s placed apart stays =
-      let after = doing row (c .outputs) (c .act) .row in
-      let next = stateNext b k first row s placed (c .act) (c .outputs) in
+      let after = operating row (c .outputs) (c .operation) .row in
+      let call = callOn k (c .operation) in
       let still =
-      still-placed calls after next (placed-act b k first row s placed (c .act) (c .outputs) (stays .0))
-      (apart-act b k first row s placed apart (c .act) (c .outputs))
+      still-placed calls after (nextFor b k first s (c .outputs) call) (placed-next b k first row s placed (c .operation) (c .outputs) (stays .0))
+      (apart-next b k first row s placed apart (c .operation) (c .outputs))
       (stays .1) in
-      (subst (Placed b k first (rowAfter onRecords after calls)) (next-alone s c calls (stepsAt k (c .act))) (still .0), still .1)
+      (subst (Placed b k first (rowAfter onRecords after calls)) (next-alone s (c .outputs) (aloneAt k first (outputsOf b) calls) call) (still .0), still .1)
 
 module _ (row : List Record) (out b : List ℕ) (k first : ℕ) (e : placingVerdict row out b k first ≡ Accepted) where
   apart-before : Apart k first (outputsOf b) row
@@ -192,26 +171,26 @@ module _ (row : List Record) (out b : List ℕ) (k first : ℕ) (e : placingVerd
   pub apart-placed : Apart k first (outputsOf b) (placing row out b k first .row)
   apart-placed =
       subst (Apart k first (outputsOf b)) (sym (placed-row row out b k first e))
-      (apart-set k first (outputsOf b) row apart-before k (holding b first (encoded freshKept)) (λ other. absurd (other refl)))
+      (apart-set k first (outputsOf b) row apart-before k (holding b first (freshBytes b)) (λ other. absurd (other refl)))
 
   -- from the placing on
   pub placed-still :
       (calls : List CabinetCall) →
       let begun = placing row out b k first .row in
       StaysIn onRecords k begun calls →
-      Placed b k first (rowAfter onRecords begun calls) (stateAlone b (encoded freshKept) (aloneAt k first (outputsOf b) calls))
+      Placed b k first (rowAfter onRecords begun calls) (stateAlone b (freshBytes b) (aloneAt k first (outputsOf b) calls))
       × Apart k first (outputsOf b) (rowAfter onRecords begun calls)
   placed-still calls stays =
-      still-placed b k first calls (placing row out b k first .row) (encoded freshKept) (placed-fresh row out b k first e) apart-placed stays
+      still-placed b k first calls (placing row out b k first .row) (freshBytes b) (placed-fresh row out b k first e) apart-placed stays
 
 pub placed-holds : PlacedHolds onRecords
-unfolding PlacedHolds onRecords doing
+unfolding PlacedHolds onRecords operating doing
 placed-holds row out b k first answer calls stays =
     let last = rowAfter onRecords (placing row out b k first .row) calls in
-    let s = stateAlone b (encoded freshKept) (aloneAt k first (outputsOf b) calls) in
+    let s = stateAlone b (freshBytes b) (aloneAt k first (outputsOf b) calls) in
     let placed = placed-still row out b k first (placing-accepted row out b k first answer) calls stays .0 in
     (not-free b k first last s placed, own-first b k first last s placed, own-personality b k first last s placed, own-state b k first last s placed)
 
 pub placed-apart : PlacedApart onRecords
-unfolding PlacedApart onRecords doing
+unfolding PlacedApart onRecords operating doing
 placed-apart row out b k first answer calls stays = placed-still row out b k first (placing-accepted row out b k first answer) calls stays .1

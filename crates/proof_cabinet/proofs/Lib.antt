@@ -1,3 +1,4 @@
+pub mod Retimings
 pub mod Placed
 pub mod Runs
 pub mod Apart

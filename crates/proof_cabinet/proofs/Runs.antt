@@ -1,65 +1,49 @@
--- From an accepted placing to the taking out, the step calls on a record are a run of step calls alone.
+-- From an accepted placing to the taking out, the step and retiming calls on a record are a run of such calls alone.
 use Prim.Native.Nat.{ℕ, _≤_}
-use mathlib.Core.Bool.{Bool, true, false}
+use mathlib.Core.Bool.{not, _&&_}
 use mathlib.Core.List.{List, [], _∷_}
-use mathlib.Core.Logic.{⊎-elim}
+use mathlib.Core.Logic.{inl}
 use mathlib.Core.Path.{_≡_, refl, sym, subst, ap, _∙_}
 use native.Mathlib.Omega.{arith}
-use lib.ListN.{length, set, replicate, length-set}
+use lib.ListN.{length, set, replicate, length-set, length-replicate}
 use lib.Seq.{getD-set-same}
 use Rattle.rules.specs.declared.answer.Verdict.{Verdict}
 use Rattle.rules.specs.declared.answer.Verdict.the-variants.{Accepted, Refused}
-use Rattle.rules.specs.Verdicts.{_orElse_, refuseIf, reportOf}
+use Rattle.rules.specs.Verdicts.{refuseIf, reportOf}
 use Rattle.rules.specs.Personality.{verdictOf}
-use Rattle.rules.specs.Site.{siteOf}
-use Rattle.rules.specs.Kept.{freshKept}
-use Rattle.rules.specs.Call.{checksBy}
-use Rattle.rules.specs.Laws.{RefusalIsWritten}
-use Rattle.rules.specs.DemandThree.{takenFrom, SafeRun, DemandThreeOf}
-use Rattle.rules.proofs.Verdicts.{or-refused, refuse-failed}
-use Rattle.state_bytes.specs.Layout.{stateBytes, encoded, decoded, encodedOver}
+use Rattle.rules.specs.TimedDemandThree.{timed, Given, Made, stepMade, retimeMade, madeFrom, TimedSafeRun, TimedDemandThree, TimedDemandThreeOf}
+use Rattle.state_timed.specs.TimedLayout.{timedBytes, timedDecoded}
 use Rattle.board_answers.specs.Answers.{packed, packedVerdict}
-use Rattle.board_step.specs.StepCall.{stateAfter, coloursAfter}
-use Rattle.willowera.specs.Board.{freshAnswer}
-use Rattle.proof_acceptance.proofs.Refusals.{refusal-is-written}
+use Rattle.board_step.specs.StepCall.{coloursAfter}
+use Rattle.proof_acceptance.proofs.Refusals.{Refusals, if-refusals, or-refusals, personality-refusals}
 use Rattle.proof_acceptance.proofs.Places.{number-fits}
-use Rattle.proof_board.specs.BoardRuns.{outcomeIn, verdictIn, board, BoardDemandThree}
-use Rattle.proof_board.proofs.BoardRuns.{board-demand-three}
+use Rattle.proof_guarantees.proofs.TimedDemandThree.{timed-demand-three}
+use Rattle.proof_board.specs.BoardRuns.{outcomeIn, verdictIn, board, BoardRunsAlike}
+use Rattle.proof_board.proofs.BoardRuns.{fresh-bytes, board-runs-alike}
 use Rattle.cabinet_records.specs.declared.Record.{Record}
-use Rattle.cabinet_records.specs.Cabinet.{freeRecord, holding, recordOf, outputsOf, outputsIn, placingVerdict, Returned, returnedFor, placing, doing}
+use Rattle.cabinet_records.specs.Cabinet.{freeRecord, holding, recordOf, outputsOf, outputsIn, freshBytes, placingVerdict, Returned, returnedFor, placing, doing}
 use Rattle.cabinet_records.proofs.Checks.{row-length, record-below, placing-read, placing-there, placing-within}
 use Rattle.cabinet_records.proofs.Outputs.{colours-length, shown-written}
-use Rattle.proof_cabinet.specs.CabinetRuns.{onRecords, CabinetCall, stepsAt, inputsOf, aloneAt, seenAt, StaysIn, CabinetRuns, CabinetDemandThree}
-use Rattle.proof_cabinet.proofs.Placed.{Placed, own-outputs, own-state, own-act, again, other-act}
+use Rattle.proof_cabinet.specs.Operations.{operating}
+use Rattle.proof_cabinet.specs.CabinetRuns.{onRecords, CabinetCall, OwnCall, steps, retimes, nothing, callOn, aloneFor, aloneAt, seenFor, seenAt, StaysIn, CabinetRuns, CabinetRunsHold, CabinetDemandThree}
+use Rattle.proof_cabinet.proofs.Placed.{Did, did, Placed, nextFor, own-outputs, own-state, own-stepped, own-retimed, placed-next}
 
 -- ── An accepted placing ──
 
 -- a refusal has a number above 0
-reading-number : (b : List ℕ) (n p : ℕ) → verdictOf b ≡ Refused n p → 1 ≤ n
-unfolding RefusalIsWritten checksBy _orElse_
-reading-number b n p e = number-fits b n p (refusal-is-written b freshKept 0 0 n p (rw e)) .0
+abbrev Above : ℕ → ℕ → Type 0
+Above number place = 1 ≤ number
 
-check-number : (t : Bool) (m : ℕ) {n p : ℕ} → 1 ≤ m → refuseIf t m 0 ≡ Refused n p → 1 ≤ n
-check-number t m some e = omega (arith, refuse-failed t m 0 e .1)
-
-or-number :
-    (v w : Verdict) (n p : ℕ) →
-    (v ≡ Refused n p → 1 ≤ n) →
-    (w ≡ Refused n p → 1 ≤ n) →
-    (v orElse w) ≡ Refused n p → 1 ≤ n
-or-number v w n p first later e =
-    ⊎-elim first (λ (h : (v ≡ Accepted) × (w ≡ Refused n p)). later (h .1)) (or-refused v w e)
-
-placing-number : (row : List Record) (out b : List ℕ) (k first n p : ℕ) → placingVerdict row out b k first ≡ Refused n p → 1 ≤ n
+placing-number : (row : List Record) (out b : List ℕ) (k first : ℕ) → Refusals Above (placingVerdict row out b k first)
 unfolding placingVerdict
-placing-number row out b k first n p =
-    or-number (verdictOf b) _ n p (reading-number b n p)
-    (or-number (refuseIf _ 24 0) _ n p (check-number _ 24 (omega arith))
-    (or-number (refuseIf _ 25 0) _ n p (check-number _ 25 (omega arith)) (check-number _ 14 (omega arith))))
+placing-number row out b k first =
+    or-refusals Above (verdictOf b) _ (personality-refusals b Above (λ n p known l. number-fits b n p (inl (known, l)) .0))
+    (λ e. or-refusals Above (refuseIf _ 24 0) _ (if-refusals Above _ 24 0 (omega arith))
+    (λ f. or-refusals Above (refuseIf _ 25 0) _ (if-refusals Above _ 25 0 (omega arith)) (λ g. if-refusals Above _ 14 0 (omega arith))))
 
 accepted-for :
     (v : Verdict) (done : Returned (List Record)) (row : List Record) (out : List ℕ) →
-    ((n p : ℕ) → v ≡ Refused n p → 1 ≤ n) →
+    Refusals Above v →
     returnedFor v done row out .answer ≡ 0 →
     v ≡ Accepted
 unfolding returnedFor packedVerdict packed reportOf
@@ -71,14 +55,14 @@ unfolding placing
 placing-accepted row out b k first e = accepted-for (placingVerdict row out b k first) _ row out (placing-number row out b k first) e
 
 module _ (row : List Record) (out b : List ℕ) (k first : ℕ) (e : placingVerdict row out b k first ≡ Accepted) where
-  pub placed-row : placing row out b k first .row ≡ set row k (holding b first (encoded freshKept))
+  pub placed-row : placing row out b k first .row ≡ set row k (holding b first (freshBytes b))
   unfolding placing returnedFor
   placed-row = rw e
 
-  pub placed-fresh : Placed b k first (placing row out b k first .row) (encoded freshKept)
+  pub placed-fresh : Placed b k first (placing row out b k first .row) (freshBytes b)
   unfolding recordOf
   placed-fresh =
-      let new = holding b first (encoded freshKept) in
+      let new = holding b first (freshBytes b) in
       let there = placing-there row out b k first e in
       let four = row-length row k there in
       let below = record-below row k there in
@@ -93,69 +77,83 @@ module _ (row : List Record) (out b : List ℕ) (k first : ℕ) (e : placingVerd
 -- ── The list of calls ──
 
 module _ (b : List ℕ) (k first : ℕ) (buffer : List ℕ) where
-  abbrev Same : List CabinetCall → Type 0
-  Same calls =
-      (s : List ℕ) (row : List Record) →
+  -- one call, and what is seen of the calls after it
+  module _ (row : List Record) (s : List ℕ) (placed : Placed b k first row s) (out : List ℕ) (done : Returned (List Record)) (later : List Made) (rest : List Given) where
+    same-call :
+        (call : OwnCall) →
+        Did k row out call done →
+        Placed b k first (done .row) (nextFor b k first s out call) →
+        later ≡ madeFrom (board buffer) b (nextFor b k first s out call) rest →
+        seenFor call (recordOf row k) (recordOf (done .row) k) (done .answer) out (done .outputs) later
+        ≡ madeFrom (board buffer) b s (aloneFor call (outputsIn out first (outputsOf b)) rest)
+    unfolding seenFor aloneFor madeFrom board
+    same-call (steps inputs) made next same =
+        let n = outputsOf b in
+        let part = outputsIn out first n in
+        let alone = made ∙ own-stepped b k first row s placed out inputs in
+        let own = own-outputs b k first row s placed in
+        let before = ap timedDecoded (own-state b k first row s placed) in
+        let after = ap timedDecoded (own-state b k first (done .row) (nextFor b k first s out (steps inputs)) next) in
+        let shown =
+        own (done .outputs)
+        ∙ ap (λ (d : Returned (List Record)). outputsIn (d .outputs) first n) alone
+        ∙ shown-written out first n (placed .within) (coloursAfter b s inputs part) (colours-length b s inputs part) in
+        λ i.
+        stepMade
+        (record {
+          taken =
+              record {
+                before = before i .core;
+                inputs = inputs;
+                room = length (own out i);
+                outcome = outcomeIn (alone i .answer);
+                after = after i .core;
+                shown = shown i;
+              };
+          ruling = after i .ruling;
+          changed = before i .waiting .present && not (after i .waiting .present);
+        })
+        ∷ same i
+    same-call (retimes new) made next same =
+        let alone = made ∙ own-retimed b k first row s placed out new in
+        λ i. retimeMade new (verdictIn (alone i .answer)) ∷ same i
+    same-call nothing made next same = same
+
+  same-calls :
+      (calls : List CabinetCall) (s : List ℕ) (row : List Record) →
       Placed b k first row s →
       StaysIn onRecords k row calls →
-      seenAt onRecords k row calls ≡ takenFrom (board buffer) b s (aloneAt k first (outputsOf b) calls)
-
-  one-more :
-      (c : CabinetCall) (calls : List CabinetCall) →
-      Same calls →
-      (s : List ℕ) (row : List Record) →
-      Placed b k first row s →
-      StaysIn onRecords k row (c ∷ calls) →
-      (t : Bool) →
-      stepsAt k (c .act) ≡ t →
-      seenAt onRecords k row (c ∷ calls) ≡ takenFrom (board buffer) b s (aloneAt k first (outputsOf b) (c ∷ calls))
-  unfolding onRecords seenAt aloneAt takenFrom board recordOf
-  one-more c calls later s row placed stays false e =
-      rw e (later s (doing row (c .outputs) (c .act) .row) (other-act b k first row s placed (c .act) (c .outputs) e (stays .0)) (stays .1))
-  one-more c calls later s row placed stays true e =
-      let inputs = inputsOf (c .act) in
-      let n = outputsOf b in
-      let part = outputsIn (c .outputs) first n in
-      let done = own-act b k first row s placed (c .act) (c .outputs) e in
-      let s₁ = stateAfter b s inputs (length part) in
-      let there = again b k first row s placed s₁ in
-      let new = coloursAfter b s inputs part in
-      let own = own-outputs b k first row s placed in
-      let before = own-state b k first row s placed in
-      let after = ap (λ (d : Returned (List Record)). recordOf (d .row) k .state) done ∙ own-state b k first (set row k (holding b first s₁)) s₁ there in
-      let shown =
-      own (doing row (c .outputs) (c .act) .outputs)
-      ∙ ap (λ (d : Returned (List Record)). outputsIn (d .outputs) first n) done
-      ∙ shown-written (c .outputs) first n (placed .within) new (colours-length b s inputs part) in
-      let kept = subst (λ (d : Returned (List Record)). Placed b k first (d .row) s₁) (sym done) there in
-      let rest = later s₁ (doing row (c .outputs) (c .act) .row) kept (stays .1) in
-      rw e (λ i.
-      record {
-        before = decoded (before i) .core;
-        inputs = inputs;
-        room = length (own (c .outputs) i);
-        outcome = outcomeIn (done i .answer);
-        after = decoded (after i) .core;
-        shown = shown i;
-      }
-      ∷ rest i)
-
-  same-calls : (calls : List CabinetCall) → Same calls
-  unfolding seenAt aloneAt takenFrom
+      seenAt onRecords k row calls ≡ madeFrom (board buffer) b s (aloneAt k first (outputsOf b) calls)
+  unfolding onRecords seenAt aloneAt madeFrom
   same-calls [] s row placed stays = refl
-  same-calls (c ∷ calls) s row placed stays = one-more c calls (same-calls calls) s row placed stays (stepsAt k (c .act)) refl
+  same-calls (c ∷ calls) s row placed stays =
+      let out = c .outputs in
+      let done = operating row out (c .operation) in
+      let call = callOn k (c .operation) in
+      let next = placed-next b k first row s placed (c .operation) out (stays .0) in
+      same-call row s placed out done (seenAt onRecords k (done .row) calls) (aloneAt k first (outputsOf b) calls) call
+      (did k row out (c .operation))
+      next
+      (same-calls calls (nextFor b k first s out call) (done .row) next (stays .1))
+
+-- ── The theorems ──
 
 pub cabinet-runs : CabinetRuns onRecords
-unfolding CabinetRuns onRecords doing
-cabinet-runs row out b k first e calls stays =
-    same-calls b k first (replicate stateBytes 0) calls (encoded freshKept) (placing row out b k first .row)
-    (placed-fresh row out b k first (placing-accepted row out b k first e))
-    stays
+unfolding CabinetRuns onRecords operating doing board
+cabinet-runs row out b k first e calls stays buffer long =
+    let placed = placed-fresh row out b k first (placing-accepted row out b k first e) in
+    same-calls b k first buffer calls (freshBytes b) (placing row out b k first .row) placed stays
+    ∙ ap (λ (state : List ℕ). madeFrom (board buffer) b state (aloneAt k first (outputsOf b) calls)) (sym (fresh-bytes b buffer (placed .accepted) long))
+
+pub cabinet-runs-hold : CabinetRunsHold onRecords
+unfolding CabinetRunsHold CabinetRuns BoardRunsAlike onRecords operating doing timed
+cabinet-runs-hold Claim holds row out b k first e calls stays =
+    let zeros : List ℕ = replicate timedBytes 0 in
+    let long = length-replicate {A = ℕ} timedBytes 0 in
+    let accepted = placed-fresh row out b k first (placing-accepted row out b k first e) .accepted in
+    let alone = aloneAt k first (outputsOf b) calls in
+    subst (Claim b) (sym (cabinet-runs row out b k first e calls stays zeros long ∙ board-runs-alike zeros long b accepted alone)) (holds b accepted alone)
 
 pub cabinet-demand-three : CabinetDemandThree onRecords
-unfolding CabinetDemandThree CabinetRuns BoardDemandThree DemandThreeOf onRecords doing board freshAnswer encodedOver packedVerdict packed refuseIf reportOf verdictIn
-cabinet-demand-three row out b k first e calls stays =
-    let blank : List ℕ = replicate stateBytes 0 in
-    let accepted = placed-fresh row out b k first (placing-accepted row out b k first e) .accepted in
-    subst (SafeRun (siteOf b)) (sym (cabinet-runs row out b k first e calls stays))
-    (board-demand-three blank refl b (rw accepted) (aloneAt k first (outputsOf b) calls))
+unfolding CabinetDemandThree CabinetRunsHold TimedDemandThree TimedDemandThreeOf
+cabinet-demand-three = cabinet-runs-hold TimedSafeRun timed-demand-three

@@ -11,53 +11,62 @@ use Rattle.rules.specs.declared.answer.Outcome.{Outcome}
 use Rattle.rules.specs.declared.answer.Outcome.the-variants.{Stepped, StepRefused}
 use Rattle.rules.specs.declared.answer.Verdict.{Verdict}
 use Rattle.rules.specs.declared.answer.Verdict.the-variants.{Accepted, Refused}
-use Rattle.rules.specs.declared.state.KeptState.{KeptState}
+use Rattle.rules.specs.declared.state.TimedState.{TimedState}
 use Rattle.laws.specs.Folds.{if_then_else_}
 use Rattle.laws.proofs.Indices.{below-or-past, same-or-apart}
 use Rattle.rules.specs.Personality.{verdictOf}
-use Rattle.rules.specs.Kept.{freshKept}
+use Rattle.rules.specs.Site.{siteOf}
+use Rattle.rules.specs.Timed.{freshTimed}
 use Rattle.rules.specs.Laws.{greatestLength, AcceptedIsShort}
 use Rattle.proof_acceptance.proofs.Refusals.{accepted-is-short}
-use Rattle.state_bytes.specs.Layout.{stateBytes, isState, encoded}
-use Rattle.state_bytes.proofs.RoundTrips.{encoded-has-39}
+use Rattle.state_timed.specs.TimedLayout.{timedBytes, isTimed}
+use Rattle.state_timed.proofs.TimedRoundTrips.{encoded-has-336}
 use Rattle.board_step.specs.StepCall.{stateFor, stateAfter}
+use Rattle.board_retime.specs.RetimeCall.{retimeAfter}
 use Rattle.cabinet_records.specs.declared.Record.{Record}
-use Rattle.cabinet_records.specs.Cabinet.{personalityOf, freeRecord, holding, withState, recordOf, ownOutputs, placingVerdict, heldVerdict, takingVerdict, Returned, returnedFor, placing, stepped, stepping, takingOut, placeSite, stepSite, takeOut, doing}
+use Rattle.cabinet_records.specs.Cabinet.{personalityOf, freeRecord, holding, withState, recordOf, ownOutputs, freshBytes, placingVerdict, heldVerdict, takingVerdict, Returned, returnedFor, placing, stepped, stepping, takingOut, placeSite, stepSite, takeOut, doing}
 use Rattle.cabinet_records.specs.Layout.{Shaped}
 use Rattle.cabinet_records.proofs.Checks.{placing-read}
 use Rattle.cabinet_records.proofs.RowBytes.{free-shape}
+use Rattle.proof_cabinet.specs.Operations.{retiming, cabinetAct, retimeSite, operating}
 use Rattle.proof_cabinet.specs.CabinetAnswers.{ShapeStays}
+use Rattle.proof_cabinet.proofs.Retimings.{retimed-length}
 
 -- ── The bytes of a state ──
 
-state-for : (o : Outcome) (next : KeptState) (old : List ℕ) → length old ≡ stateBytes → length (stateFor o next old) ≡ stateBytes
+state-for : (o : Outcome) (next : TimedState) (old : List ℕ) → length old ≡ timedBytes → length (stateFor o next old) ≡ timedBytes
 unfolding stateFor
-state-for (Stepped wait) next old e = encoded-has-39 next
+state-for (Stepped wait) next old e = encoded-has-336 next
 state-for (StepRefused number place) next old e = e
 
-after-for : (t : Bool) (o : Outcome) (next : KeptState) (old : List ℕ) → length old ≡ stateBytes → length (if t then stateFor o next old else old) ≡ stateBytes
+after-for : (t : Bool) (o : Outcome) (next : TimedState) (old : List ℕ) → length old ≡ timedBytes → length (if t then stateFor o next old else old) ≡ timedBytes
 after-for true o next old e = state-for o next old e
 after-for false o next old e = e
 
-after-length : (b old : List ℕ) (inputs room : ℕ) → length old ≡ stateBytes → length (stateAfter b old inputs room) ≡ stateBytes
+after-length : (b old : List ℕ) (inputs room : ℕ) → length old ≡ timedBytes → length (stateAfter b old inputs room) ≡ timedBytes
 unfolding stateAfter
-after-length b old inputs room e = after-for (isState old) _ _ old e
+after-length b old inputs room e = after-for (isTimed old) _ _ old e
 
 -- ── The records that calls store ──
 
-holding-shape : (b : List ℕ) (first : ℕ) → verdictOf b ≡ Accepted → Shaped (holding b first (encoded freshKept))
+holding-shape : (b : List ℕ) (first : ℕ) → verdictOf b ≡ Accepted → Shaped (holding b first (freshBytes b))
 unfolding holding AcceptedIsShort
 holding-shape b first e =
     let rest : List ℕ = replicate (greatestLength - length b) 0 in
     record {
       personality = omega (arith, accepted-is-short .1 b e, length-append b rest, length-replicate {A = ℕ} (greatestLength - length b) 0);
-      state = encoded-has-39 freshKept;
+      state = encoded-has-336 (freshTimed (siteOf b));
     }
 
 stepped-shape : (r : Record) (inputs room : ℕ) → Shaped r → Shaped (withState r (stateAfter (personalityOf r) (r .state) inputs room))
 unfolding withState
 stepped-shape r inputs room shaped =
     record { personality = shaped .personality; state = after-length (personalityOf r) (r .state) inputs room (shaped .state) }
+
+retimed-shape : (r : Record) (new : List ℕ) → Shaped r → Shaped (withState r (retimeAfter (personalityOf r) (r .state) new))
+unfolding withState
+retimed-shape r new shaped =
+    record { personality = shaped .personality; state = retimed-length (personalityOf r) (r .state) new (shaped .state) }
 
 -- ── The row ──
 
@@ -85,12 +94,13 @@ shape-for Accepted done row out shaped h = h refl
 shape-for (Refused number place) done row out shaped h = shaped
 
 pub shape-stays : ShapeStays
-unfolding ShapeStays doing placing stepping stepped takingOut
-shape-stays row out (placeSite b k first) shaped =
+unfolding ShapeStays operating doing placing stepping stepped takingOut retiming
+shape-stays row out (cabinetAct (placeSite b k first)) shaped =
     shape-for (placingVerdict row out b k first) _ row out shaped
     (λ e. set-shape row shaped k _ (holding-shape b first (placing-read row out b k first e)))
-shape-stays row out (stepSite k inputs) shaped =
+shape-stays row out (cabinetAct (stepSite k inputs)) shaped =
     shape-for (heldVerdict row k) _ row out shaped
     (λ e. set-shape row shaped k _ (stepped-shape (recordOf row k) inputs (length (ownOutputs (recordOf row k) out)) (shaped k)))
-shape-stays row out (takeOut k) shaped =
+shape-stays row out (cabinetAct (takeOut k)) shaped =
     shape-for (takingVerdict row out k) _ row out shaped (λ e. set-shape row shaped k freeRecord free-shape)
+shape-stays row out (retimeSite k new) shaped = set-shape row shaped k _ (retimed-shape (recordOf row k) new (shaped k))

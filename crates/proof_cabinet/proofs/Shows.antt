@@ -14,22 +14,22 @@ use Rattle.rules.specs.declared.answer.Outcome.the-variants.{Stepped, StepRefus
 use Rattle.rules.specs.declared.answer.Verdict.{Verdict}
 use Rattle.rules.specs.declared.answer.Verdict.the-variants.{Accepted, Refused}
 use Rattle.laws.specs.Bytes.{byteAt}
-use Rattle.rules.specs.Kept.{freshKept}
+use Rattle.laws.specs.Folds.{if_then_else_}
 use Rattle.rules.specs.Colours.{red}
-use Rattle.rules.specs.DemandThree.{ifStepped, accepted}
+use Rattle.rules.specs.TimedDemandThree.{Made, ifAccepted, acceptedSteps}
 use Rattle.rules.proofs.Verdicts.{refused-not-accepted}
-use Rattle.state_bytes.specs.Layout.{encoded}
 use Rattle.proof_board.specs.BoardRuns.{outcomeIn}
 use Rattle.cabinet_records.specs.declared.Record.{Record}
-use Rattle.cabinet_records.specs.Cabinet.{outputCount, isFree, personalityOf, recordOf, outputsOf, isAccepted, hasOutputs, meet, isShort, outputsIn, writtenAt, ownOutputs, placingVerdict, heldVerdict, takingVerdict, Returned, returnedFor, placing, stepping, takingOut, Act, placeSite, stepSite, takeOut, doing}
+use Rattle.cabinet_records.specs.Cabinet.{outputCount, isFree, personalityOf, recordOf, outputsOf, isAccepted, hasOutputs, meet, isShort, outputsIn, writtenAt, ownOutputs, freshBytes, placingVerdict, heldVerdict, takingVerdict, Returned, returnedFor, placing, stepping, takingOut, placeSite, stepSite, takeOut, doing}
 use Rattle.cabinet_records.specs.CabinetLaws.{personalityNamed, firstNamed, RefusalLeaves}
 use Rattle.cabinet_records.proofs.Checks.{placing-free, placing-within, placing-long, held-busy, held-read, taking-held}
 use Rattle.cabinet_records.proofs.Outputs.{SameOutside, written-length, written-part}
 use Rattle.cabinet_records.proofs.CabinetLaws.{same-outside, refusal-leaves}
-use Rattle.proof_cabinet.specs.CabinetRuns.{onRecords, stepsAt, takesOut, lastShown, Clear, Apart, seenAt, StaysIn, linked, outputsAfter, PlacedShows}
-use Rattle.proof_cabinet.proofs.Placed.{Placed, not-free, own-outputs}
+use Rattle.proof_cabinet.specs.Operations.{retiming, Operation, cabinetAct, retimeSite, operating}
+use Rattle.proof_cabinet.specs.CabinetRuns.{onRecords, OwnCall, steps, retimes, nothing, callOn, takesOut, seenFor, lastShown, Clear, Apart, seenAt, StaysIn, linked, outputsAfter, PlacedShows}
+use Rattle.proof_cabinet.proofs.Placed.{Did, did, Placed, nextFor, not-free, own-outputs, placed-next}
 use Rattle.proof_cabinet.proofs.Runs.{placing-accepted, placed-fresh}
-use Rattle.proof_cabinet.proofs.Apart.{meet-sides, new-clear, stateNext, placed-act, apart-act, apart-placed}
+use Rattle.proof_cabinet.proofs.Apart.{meet-sides, new-clear, apart-next, apart-placed}
 
 -- ── Outputs that another call does not write ──
 
@@ -81,13 +81,15 @@ module _ (b : List ℕ) (k first : ℕ) (row : List Record) (s : List ℕ) (plac
   taken-elsewhere j Accepted done out stays zero e same = stays (eq-eqb j k same) zero
   taken-elsewhere j (Refused number at) done out stays zero e same = refused-not-accepted e
 
-  other-outputs :
-      (act : Act) (out : List ℕ) →
-      stepsAt k act ≡ false →
-      (takesOut k act ≡ true → doing row out act .answer ≡ 0 → ⊥) →
-      outputsIn (doing row out act .outputs) first (outputsOf b) ≡ outputsIn out first (outputsOf b)
-  unfolding doing placing stepping takingOut stepsAt takesOut firstNamed personalityNamed
-  other-outputs (placeSite c j g) out e stays =
+  -- an operation that is no step of the record leaves its outputs
+  abbrev Beside : List ℕ → OwnCall → List ℕ → Type 0
+  Beside out (steps inputs) after = Unit {0}
+  Beside out (retimes new) after = outputsIn after first (outputsOf b) ≡ outputsIn out first (outputsOf b)
+  Beside out nothing after = outputsIn after first (outputsOf b) ≡ outputsIn out first (outputsOf b)
+
+  place-beside : (c out : List ℕ) (j g : ℕ) → Beside out nothing (placing row out c j g .outputs)
+  unfolding doing placing firstNamed personalityNamed
+  place-beside c out j g =
       untouched-for first (outputsOf b) g (outputsOf c) (placingVerdict row out c j g) _ row out
       (λ v.
       new-clear b k first row s placed c out j g v
@@ -96,14 +98,36 @@ module _ (b : List ℕ) (k first : ℕ) (row : List Record) (s : List ℕ) (plac
       (sym (subst (λ (i : ℕ). isFree (recordOf row i) ≡ true) (sym same) (placing-free row out c j g v))
       ∙ not-free b k first row s placed)))
       (same-outside row out (placeSite c j g))
-  other-outputs (stepSite j inputs) out e stays =
+
+  step-beside : (out : List ℕ) (j inputs : ℕ) (t : Bool) → eqb j k ≡ t → Beside out (if t then steps inputs else nothing) (stepping row out j inputs .outputs)
+  unfolding doing stepping firstNamed personalityNamed
+  step-beside out j inputs true e = tt
+  step-beside out j inputs false e =
       untouched-for first (outputsOf b) (recordOf row j .first) (outputsOf (personalityOf (recordOf row j))) (heldVerdict row j) _ row out
       (λ v. held-clear j v (eqb-false j k e))
       (same-outside row out (stepSite j inputs))
-  other-outputs (takeOut j) out e stays =
+
+  take-beside : (out : List ℕ) (j : ℕ) → (eqb j k ≡ true → takingOut row out j .answer ≡ 0 → ⊥) → Beside out nothing (takingOut row out j .outputs)
+  unfolding doing takingOut firstNamed personalityNamed
+  take-beside out j stays =
       untouched-for first (outputsOf b) (recordOf row j .first) (outputsOf (personalityOf (recordOf row j))) (takingVerdict row out j) _ row out
       (λ v. held-clear j (taking-held row out j v) (taken-elsewhere j (takingVerdict row out j) _ out stays refl v))
       (same-outside row out (takeOut j))
+
+  retime-beside : (out : List ℕ) (j : ℕ) (new : List ℕ) (t : Bool) → Beside out (if t then retimes new else nothing) (retiming row out j new .outputs)
+  unfolding retiming
+  retime-beside out j new true = refl
+  retime-beside out j new false = refl
+
+  beside :
+      (operation : Operation) (out : List ℕ) →
+      (takesOut k operation ≡ true → operating row out operation .answer ≡ 0 → ⊥) →
+      Beside out (callOn k operation) (operating row out operation .outputs)
+  unfolding callOn takesOut operating doing
+  beside (cabinetAct (placeSite c j g)) out stays = place-beside c out j g
+  beside (cabinetAct (stepSite j inputs)) out stays = step-beside out j inputs (eqb j k) refl
+  beside (cabinetAct (takeOut j)) out stays = take-beside out j stays
+  beside (retimeSite j new) out stays = retime-beside out j new (eqb j k)
 
 -- ── A list of calls ──
 
@@ -114,74 +138,74 @@ refused-number answer n p e h =
     let z : _≡_ {A = ℕ} 0 1 = cc in omega arith
 
 module _ (b : List ℕ) (k first : ℕ) where
-  -- the outputs from a row in which the site is placed, and shows this
-  abbrev ShowsFrom : List Act → List Record → List ℕ → List ℕ → Type 0
-  ShowsFrom acts row out none =
-      outputsIn (outputsAfter onRecords row out acts) first (outputsOf b)
-      ≡ lastShown none (accepted (seenAt onRecords k row (linked onRecords row out acts)))
-
-  abbrev Shows : List Act → Type 0
-  Shows acts =
-      (row : List Record) (out none s : List ℕ) →
-      Placed b k first row s →
-      Apart k first (outputsOf b) row →
-      outputsIn out first (outputsOf b) ≡ none →
-      StaysIn onRecords k row (linked onRecords row out acts) →
-      ShowsFrom acts row out none
-
+  -- One call, in a row in which the site is placed and shows `none`. After the calls behind it the outputs show `last`, and of those calls `seen` is
+  -- seen.
   module _
-      (act : Act)
-      (acts : List Act)
-      (later : Shows acts)
       (row : List Record)
       (out none s : List ℕ)
       (placed : Placed b k first row s)
       (apart : Apart k first (outputsOf b) row)
       (shown : outputsIn out first (outputsOf b) ≡ none)
-      (stays : StaysIn onRecords k row (linked onRecords row out (act ∷ acts)))
+      (done : Returned (List Record))
+      (last : List ℕ)
+      (seen : List Made)
+      (later : (now : List ℕ) → outputsIn (done .outputs) first (outputsOf b) ≡ now → last ≡ lastShown now (acceptedSteps seen))
     where
+      abbrev Shows : OwnCall → Type 0
+      Shows call = last ≡ lastShown none (acceptedSteps (seenFor call (recordOf row k) (recordOf (done .row) k) (done .answer) out (done .outputs) seen))
+
+      -- a refused step leaves the outputs
+      left : (inputs n p : ℕ) → Did k row out (steps inputs) done → outcomeIn (done .answer) ≡ StepRefused n p → done .outputs ≡ out
+      unfolding RefusalLeaves doing
+      left inputs n p made o =
+          let answer = ap (λ (d : Returned (List Record)). outcomeIn (d .answer)) (sym made) ∙ o in
+          ap (λ (d : Returned (List Record)). d .outputs) made
+          ∙ refusal-leaves row out (stepSite k inputs) (refused-number (stepping row out k inputs .answer) n p answer) .1
+
       -- the record's own step, accepted or refused
-      own-shows : stepsAt k act ≡ true → (o : Outcome) → outcomeIn (doing row out act .answer) ≡ o → ShowsFrom (act ∷ acts) row out none
-      unfolding onRecords linked outputsAfter seenAt accepted ifStepped lastShown RefusalLeaves
-      own-shows e (Stepped wait) o =
-          let done = doing row out act in
-          let next = placed-act b k first row s placed act out (stays .0) in
-          let own = own-outputs b k first row s placed (done .outputs) in
-          rw (e, o)
-          (later (done .row) (done .outputs) (ownOutputs (recordOf row k) (done .outputs)) (stateNext b k first row s placed act out) next
-          (apart-act b k first row s placed apart act out)
-          (sym own)
-          (stays .1))
-      own-shows e (StepRefused number at) o =
-          let done = doing row out act in
-          let next = placed-act b k first row s placed act out (stays .0) in
-          let left = refusal-leaves row out act (refused-number (done .answer) number at o) in
-          rw (e, o)
-          (later (done .row) (done .outputs) none (stateNext b k first row s placed act out) next
-          (apart-act b k first row s placed apart act out)
-          (ap (λ (l : List ℕ). outputsIn l first (outputsOf b)) (left .1) ∙ shown)
-          (stays .1))
+      step-shows : (inputs : ℕ) → Did k row out (steps inputs) done → (o : Outcome) → outcomeIn (done .answer) ≡ o → Shows (steps inputs)
+      unfolding seenFor acceptedSteps ifAccepted lastShown
+      step-shows inputs made (Stepped wait) o =
+          rw o (later (ownOutputs (recordOf row k) (done .outputs)) (sym (own-outputs b k first row s placed (done .outputs))))
+      step-shows inputs made (StepRefused n p) o =
+          rw o (later none (ap (λ (l : List ℕ). outputsIn l first (outputsOf b)) (left inputs n p made o) ∙ shown))
 
-      one-more : (t : Bool) → stepsAt k act ≡ t → ShowsFrom (act ∷ acts) row out none
-      unfolding onRecords linked outputsAfter seenAt
-      one-more true e = own-shows e (outcomeIn (doing row out act .answer)) refl
-      one-more false e =
-          let done = doing row out act in
-          let next = placed-act b k first row s placed act out (stays .0) in
-          rw e
-          (later (done .row) (done .outputs) none (stateNext b k first row s placed act out) next
-          (apart-act b k first row s placed apart act out)
-          (other-outputs b k first row s placed apart act out e (stays .0) ∙ shown)
-          (stays .1))
+      one-more : (call : OwnCall) → Did k row out call done → Beside b k first row s placed apart out call (done .outputs) → Shows call
+      unfolding seenFor acceptedSteps
+      one-more (steps inputs) made aside = step-shows inputs made (outcomeIn (done .answer)) refl
+      one-more (retimes new) made aside = later none (aside ∙ shown)
+      one-more nothing made aside = later none (aside ∙ shown)
 
-  shows-from : (acts : List Act) → Shows acts
-  unfolding onRecords linked outputsAfter seenAt accepted lastShown
+  shows-from :
+      (operations : List Operation) (row : List Record) (out none s : List ℕ) →
+      Placed b k first row s →
+      Apart k first (outputsOf b) row →
+      outputsIn out first (outputsOf b) ≡ none →
+      StaysIn onRecords k row (linked onRecords row out operations) →
+      outputsIn (outputsAfter onRecords row out operations) first (outputsOf b)
+      ≡ lastShown none (acceptedSteps (seenAt onRecords k row (linked onRecords row out operations)))
+  unfolding onRecords linked outputsAfter seenAt acceptedSteps lastShown
   shows-from [] row out none s placed apart shown stays = shown
-  shows-from (act ∷ acts) row out none s placed apart shown stays =
-      one-more act acts (shows-from acts) row out none s placed apart shown stays (stepsAt k act) refl
+  shows-from (operation ∷ operations) row out none s placed apart shown stays =
+      let done = operating row out operation in
+      let next = placed-next b k first row s placed operation out (stays .0) in
+      one-more row out none s placed apart shown done
+      (outputsIn (outputsAfter onRecords (done .row) (done .outputs) operations) first (outputsOf b))
+      (seenAt onRecords k (done .row) (linked onRecords (done .row) (done .outputs) operations))
+      (λ now e.
+      shows-from operations (done .row) (done .outputs) now (nextFor b k first s out (callOn k operation)) next
+      (apart-next b k first row s placed apart operation out)
+      e
+      (stays .1))
+      (callOn k operation)
+      (did k row out operation)
+      (beside b k first row s placed apart operation out (stays .0))
 
 -- placing shows red
-painted-red : (row : List Record) (out b : List ℕ) (k first : ℕ) → placingVerdict row out b k first ≡ Accepted → outputsIn (placing row out b k first .outputs) first (outputsOf b) ≡ replicate (outputsOf b) red
+painted-red :
+    (row : List Record) (out b : List ℕ) (k first : ℕ) →
+    placingVerdict row out b k first ≡ Accepted →
+    outputsIn (placing row out b k first .outputs) first (outputsOf b) ≡ replicate (outputsOf b) red
 unfolding placing returnedFor outputsIn isShort
 painted-red row out b k first e =
     let n = outputsOf b in
@@ -193,11 +217,11 @@ painted-red row out b k first e =
     (ap (λ (m : ℕ). take m (drop first (writtenAt out first new))) (sym known) ∙ written-part out first new fits)
 
 pub placed-shows : PlacedShows onRecords
-unfolding PlacedShows onRecords doing
-placed-shows row out b k first answer acts stays =
+unfolding PlacedShows onRecords operating doing
+placed-shows row out b k first answer operations stays =
     let e = placing-accepted row out b k first answer in
     let begun = placing row out b k first in
-    shows-from b k first acts (begun .row) (begun .outputs) (replicate (outputsOf b) red) (encoded freshKept)
+    shows-from b k first operations (begun .row) (begun .outputs) (replicate (outputsOf b) red) (freshBytes b)
     (placed-fresh row out b k first e)
     (apart-placed row out b k first e)
     (painted-red row out b k first e)

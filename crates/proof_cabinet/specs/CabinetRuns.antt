@@ -1,83 +1,107 @@
 -- The theorem of the cabinet, stated for a row of records and for the bytes of a row. The first call gets any row whatever, each later one the row that
--- the call before returned. The output buffers may have any length and content.
+-- the call before returned. New times may be handed over between the calls. The output buffers may have any length and content.
 use Prim.Native.Nat.{ℕ}
-use mathlib.Core.Bool.{Bool, true, false}
+use mathlib.Core.Bool.{Bool, true, false, not, _&&_}
 use mathlib.Core.List.{List, [], _∷_}
 use mathlib.Core.Path.{_≡_}
 use lib.Dec.{eqb}
 use lib.ListN.{length, replicate}
 use Rattle.laws.specs.Folds.{if_then_else_}
-use Rattle.rules.specs.Site.{siteOf}
-use Rattle.rules.specs.Kept.{freshKept}
 use Rattle.rules.specs.Colours.{red}
-use Rattle.rules.specs.DemandThree.{Call, Taken, takenFrom, accepted, SafeRun}
-use Rattle.state_bytes.specs.Layout.{stateBytes, encoded, decoded}
+use Rattle.rules.specs.TimedDemandThree.{timed, Given, stepCall, retimeCall, TimedStep, Made, stepMade, retimeMade, madeFrom, acceptedSteps, TimedSafeRun, OfEveryTimedRun}
+use Rattle.state_timed.specs.TimedLayout.{timedDecoded}
 use Rattle.board_step.specs.StepCall.{stateAfter}
-use Rattle.proof_board.specs.BoardRuns.{outcomeIn, board}
+use Rattle.board_retime.specs.RetimeCall.{retimeAfter}
+use Rattle.proof_board.specs.BoardRuns.{outcomeIn, verdictIn, OfEveryBuffer}
 use Rattle.cabinet_records.specs.declared.Record.{Record}
-use Rattle.cabinet_records.specs.Cabinet.{isFree, personalityOf, recordOf, outputsOf, hasOutputs, meet, outputsIn, ownOutputs, Returned, Act, placeSite, stepSite, takeOut, doing}
-use Rattle.cabinet_records.specs.Layout.{decodedRow, doingBytes}
+use Rattle.cabinet_records.specs.Cabinet.{isFree, personalityOf, recordOf, outputsOf, hasOutputs, meet, outputsIn, ownOutputs, freshBytes, Returned, placeSite, stepSite, takeOut}
+use Rattle.cabinet_records.specs.Layout.{decodedRow}
+use Rattle.proof_cabinet.specs.Operations.{Operation, cabinetAct, retimeSite, operating, operatingBytes}
 
 -- ── Cabinets ──
 
--- what a call returns, and the records that a row holds
+-- what an operation returns, and the records that a row holds
 pub record Cabinet (Row : Type 0) : Type 0 where
-  pub does : Row → List ℕ → Act → Returned Row
+  pub does : Row → List ℕ → Operation → Returned Row
   pub records : Row → List Record
 
 unfoldable pub onRecords : Cabinet (List Record)
-onRecords = record { does = doing; records = λ row. row }
+onRecords = record { does = operating; records = λ row. row }
 
 -- what a caller in C holds
 unfoldable pub onBytes : Cabinet (List ℕ)
-onBytes = record { does = doingBytes; records = decodedRow }
-
--- A call on bytes, whatever they are, does to the records that they hold what the call on records does. (Its answer and its outputs are the same by
--- definition.)
-unfoldable pub BytesFollowRecords : Type 0
-BytesFollowRecords = (b out : List ℕ) (act : Act) → decodedRow (doingBytes b out act .row) ≡ doing (decodedRow b) out act .row
+onBytes = record { does = operatingBytes; records = decodedRow }
 
 -- ── Calls ──
 
--- one call, with its output buffer
+-- one operation, with the output buffer; new times do not use it
 pub record CabinetCall : Type 0 where
-  pub act : Act
+  pub operation : Operation
   pub outputs : List ℕ
 
--- the call steps record k
-unfoldable pub stepsAt : ℕ → Act → Bool
-stepsAt k (placeSite b j first) = false
-stepsAt k (stepSite j inputs) = eqb j k
-stepsAt k (takeOut j) = false
+-- the call on record k that an operation makes: a step with these input bits, new times with these bytes, or nothing
+pub data OwnCall : Type 0 where
+  steps : ℕ → OwnCall
+  retimes : List ℕ → OwnCall
+  nothing : OwnCall
 
-unfoldable pub inputsOf : Act → ℕ
-inputsOf (placeSite b k first) = 0
-inputsOf (stepSite k inputs) = inputs
-inputsOf (takeOut k) = 0
+unfoldable pub callOn : ℕ → Operation → OwnCall
+callOn k (cabinetAct (placeSite b j first)) = nothing
+callOn k (cabinetAct (stepSite j inputs)) = if eqb j k then steps inputs else nothing
+callOn k (cabinetAct (takeOut j)) = nothing
+callOn k (retimeSite j new) = if eqb j k then retimes new else nothing
 
--- the call takes record k out, if it is accepted
-unfoldable pub takesOut : ℕ → Act → Bool
-takesOut k (placeSite b j first) = false
-takesOut k (stepSite j inputs) = false
-takesOut k (takeOut j) = eqb j k
+-- the operation takes record k out, if it is accepted
+unfoldable pub takesOut : ℕ → Operation → Bool
+takesOut k (cabinetAct (placeSite b j first)) = false
+takesOut k (cabinetAct (stepSite j inputs)) = false
+takesOut k (cabinetAct (takeOut j)) = eqb j k
+takesOut k (retimeSite j new) = false
 
--- the step calls on record k, made alone: their colour buffers are the record's outputs
-unfoldable pub aloneAt : ℕ → ℕ → ℕ → List CabinetCall → List Call
+-- the step and retiming calls on record k, made alone: the colour buffer of a step is the record's outputs
+unfoldable pub aloneFor : OwnCall → List ℕ → List Given → List Given
+aloneFor (steps inputs) buffer later = stepCall (record { inputs = inputs; buffer = buffer }) ∷ later
+aloneFor (retimes new) buffer later = retimeCall new ∷ later
+aloneFor nothing buffer later = later
+
+unfoldable pub aloneAt : ℕ → ℕ → ℕ → List CabinetCall → List Given
 aloneAt k first count [] = []
 aloneAt k first count (c ∷ calls) =
-    if stepsAt k (c .act)
-    then record { inputs = inputsOf (c .act); buffer = outputsIn (c .outputs) first count } ∷ aloneAt k first count calls
-    else aloneAt k first count calls
+    aloneFor (callOn k (c .operation)) (outputsIn (c .outputs) first count) (aloneAt k first count calls)
 
 -- the bytes of the state that such calls leave
-unfoldable pub stateAlone : List ℕ → List ℕ → List Call → List ℕ
+unfoldable pub stateAlone : List ℕ → List ℕ → List Given → List ℕ
 stateAlone b s [] = s
-stateAlone b s (c ∷ calls) = stateAlone b (stateAfter b s (c .inputs) (length (c .buffer))) calls
+stateAlone b s (stepCall c ∷ calls) = stateAlone b (stateAfter b s (c .inputs) (length (c .buffer))) calls
+stateAlone b s (retimeCall new ∷ calls) = stateAlone b (retimeAfter b s new) calls
+
+-- A call as its caller sees it at a record: in the answer, in the record's state before and after it, and in the record's outputs.
+unfoldable pub seenFor : OwnCall → Record → Record → ℕ → List ℕ → List ℕ → List Made → List Made
+seenFor (steps inputs) before after answer out shown later =
+    let old = timedDecoded (before .state) in
+    let new = timedDecoded (after .state) in
+    stepMade
+    (record {
+      taken =
+          record {
+            before = old .core;
+            inputs = inputs;
+            room = length (ownOutputs before out);
+            outcome = outcomeIn answer;
+            after = new .core;
+            shown = ownOutputs before shown;
+          };
+      ruling = new .ruling;
+      changed = old .waiting .present && not (new .waiting .present);
+    })
+    ∷ later
+seenFor (retimes new) before after answer out shown later = retimeMade new (verdictIn answer) ∷ later
+seenFor nothing before after answer out shown later = later
 
 -- what the last of the steps shows; what is given if there is none
-unfoldable pub lastShown : List ℕ → List Taken → List ℕ
+unfoldable pub lastShown : List ℕ → List TimedStep → List ℕ
 lastShown none [] = none
-lastShown none (step ∷ later) = lastShown (step .shown) later
+lastShown none (step ∷ later) = lastShown (step .taken .shown) later
 
 -- ── Outputs that are not shared ──
 
@@ -94,48 +118,38 @@ module _ {Row : Type 0} (cabinet : Cabinet Row) where
   abbrev pub recordIn : Row → ℕ → Record
   recordIn row k = recordOf (cabinet .records row) k
 
-  -- A list of calls, each with the row that the call before returned: the step calls on record k, as their caller sees them in the answers, in the
-  -- record's state and in the record's outputs.
-  unfoldable pub seenAt : ℕ → Row → List CabinetCall → List Taken
+  -- A list of calls, each with the row that the call before returned: the step and retiming calls on record k, as their caller sees them.
+  unfoldable pub seenAt : ℕ → Row → List CabinetCall → List Made
   seenAt k row [] = []
   seenAt k row (c ∷ calls) =
-      let done = cabinet .does row (c .outputs) (c .act) in
-      let later = seenAt k (done .row) calls in
-      if stepsAt k (c .act)
-      then
-      record {
-        before = decoded (recordIn row k .state) .core;
-        inputs = inputsOf (c .act);
-        room = length (ownOutputs (recordIn row k) (c .outputs));
-        outcome = outcomeIn (done .answer);
-        after = decoded (recordIn (done .row) k .state) .core;
-        shown = ownOutputs (recordIn row k) (done .outputs);
-      }
-      ∷ later
-      else later
+      let done = cabinet .does row (c .outputs) (c .operation) in
+      seenFor (callOn k (c .operation)) (recordIn row k) (recordIn (done .row) k) (done .answer) (c .outputs) (done .outputs)
+      (seenAt k (done .row) calls)
 
   -- no call of the list takes record k out; a refused one does not
   abbrev pub StaysIn : ℕ → Row → List CabinetCall → Type 0
   StaysIn k row [] = Unit {0}
   StaysIn k row (c ∷ calls) =
-      let done = cabinet .does row (c .outputs) (c .act) in
-      (takesOut k (c .act) ≡ true → done .answer ≡ 0 → ⊥) × StaysIn k (done .row) calls
+      let done = cabinet .does row (c .outputs) (c .operation) in
+      (takesOut k (c .operation) ≡ true → done .answer ≡ 0 → ⊥) × StaysIn k (done .row) calls
 
   -- the row after a list of calls
   unfoldable pub rowAfter : Row → List CabinetCall → Row
   rowAfter row [] = row
-  rowAfter row (c ∷ calls) = rowAfter (cabinet .does row (c .outputs) (c .act) .row) calls
+  rowAfter row (c ∷ calls) = rowAfter (cabinet .does row (c .outputs) (c .operation) .row) calls
 
   -- the list of calls in which each also gets the outputs that the call before returned, and the outputs after the last of them
-  unfoldable pub linked : Row → List ℕ → List Act → List CabinetCall
+  unfoldable pub linked : Row → List ℕ → List Operation → List CabinetCall
   linked row out [] = []
-  linked row out (act ∷ acts) =
-      let done = cabinet .does row out act in
-      record { act = act; outputs = out } ∷ linked (done .row) (done .outputs) acts
+  linked row out (operation ∷ operations) =
+      let done = cabinet .does row out operation in
+      record { operation = operation; outputs = out } ∷ linked (done .row) (done .outputs) operations
 
-  unfoldable pub outputsAfter : Row → List ℕ → List Act → List ℕ
+  unfoldable pub outputsAfter : Row → List ℕ → List Operation → List ℕ
   outputsAfter row out [] = out
-  outputsAfter row out (act ∷ acts) = let done = cabinet .does row out act in outputsAfter (done .row) (done .outputs) acts
+  outputsAfter row out (operation ∷ operations) =
+      let done = cabinet .does row out operation in
+      outputsAfter (done .row) (done .outputs) operations
 
   -- ── The statements: from an accepted placing in any row, as long as the site is not taken out ──
 
@@ -143,29 +157,42 @@ module _ {Row : Type 0} (cabinet : Cabinet Row) where
   abbrev pub OfEveryPlacing : (List ℕ → ℕ → ℕ → Returned Row → Type 0) → Type 0
   OfEveryPlacing Claim =
       (row : Row) (out b : List ℕ) (k first : ℕ) →
-      cabinet .does row out (placeSite b k first) .answer ≡ 0 →
-      Claim b k first (cabinet .does row out (placeSite b k first))
+      let placed = cabinet .does row out (cabinetAct (placeSite b k first)) in
+      placed .answer ≡ 0 →
+      Claim b k first placed
 
-  -- The step calls on the record have the answers, states and colours of step calls on its personality alone, from the bytes of the fresh state.
+  -- The step and retiming calls on the record have the answers, states and colours of such calls on its personality alone, from the fresh state in
+  -- any state buffer.
   unfoldable pub CabinetRuns : Type 0
   CabinetRuns =
       OfEveryPlacing
       (λ b k first placed.
       (calls : List CabinetCall) →
       StaysIn k (placed .row) calls →
-      seenAt k (placed .row) calls
-      ≡ takenFrom (board (replicate stateBytes 0)) b (encoded freshKept) (aloneAt k first (outputsOf b) calls))
+      OfEveryBuffer
+      (λ library. seenAt k (placed .row) calls ≡ madeFrom library b (library .stepping .fresh b) (aloneAt k first (outputsOf b) calls)))
 
-  -- So demand 3 holds of every site in the cabinet.
+  -- So what holds of every run of the rules holds of every site in the cabinet,
+  unfoldable pub CabinetRunsHold : Type 1
+  CabinetRunsHold =
+      (Claim : List ℕ → List Made → Type 0) →
+      OfEveryTimedRun timed Claim →
+      OfEveryPlacing
+      (λ b k first placed.
+      (calls : List CabinetCall) →
+      StaysIn k (placed .row) calls →
+      Claim b (seenAt k (placed .row) calls))
+
+  -- and demand 3 does.
   unfoldable pub CabinetDemandThree : Type 0
   CabinetDemandThree =
       OfEveryPlacing
       (λ b k first placed.
       (calls : List CabinetCall) →
       StaysIn k (placed .row) calls →
-      SafeRun (siteOf b) (seenAt k (placed .row) calls))
+      TimedSafeRun b (seenAt k (placed .row) calls))
 
-  -- The record holds what was placed, with the bytes of the state that the step calls alone would have left.
+  -- The record holds what was placed, with the bytes of the state that the calls alone would have left.
   unfoldable pub PlacedHolds : Type 0
   PlacedHolds =
       OfEveryPlacing
@@ -176,7 +203,7 @@ module _ {Row : Type 0} (cabinet : Cabinet Row) where
       (isFree r ≡ false)
       × (r .first ≡ first)
       × (personalityOf r ≡ b)
-      × (r .state ≡ stateAlone b (encoded freshKept) (aloneAt k first (outputsOf b) calls)))
+      × (r .state ≡ stateAlone b (freshBytes b) (aloneAt k first (outputsOf b) calls)))
 
   -- It shares no output with another record whose personality would be accepted.
   unfoldable pub PlacedApart : Type 0
@@ -192,8 +219,8 @@ module _ {Row : Type 0} (cabinet : Cabinet Row) where
   PlacedShows =
       OfEveryPlacing
       (λ b k first placed.
-      (acts : List Act) →
-      let calls = linked (placed .row) (placed .outputs) acts in
+      (operations : List Operation) →
+      let calls = linked (placed .row) (placed .outputs) operations in
       StaysIn k (placed .row) calls →
-      outputsIn (outputsAfter (placed .row) (placed .outputs) acts) first (outputsOf b)
-      ≡ lastShown (replicate (outputsOf b) red) (accepted (seenAt k (placed .row) calls)))
+      outputsIn (outputsAfter (placed .row) (placed .outputs) operations) first (outputsOf b)
+      ≡ lastShown (replicate (outputsOf b) red) (acceptedSteps (seenAt k (placed .row) calls)))
