@@ -1,4 +1,6 @@
 pub mod Bytes
+pub mod Room
 pub mod Checks
-pub mod Taking
+pub mod Turned
 pub mod Steps
+pub mod Rows

@@ -1,18 +1,19 @@
 -- Internal: no promise cites this file. The calls of a cabinet by what a record holds: the parts of specs/Cabinet.antt of `cabinet_records` that do not look at the row.
 use Prim.Native.Nat.{ℕ, _≤_}
-use mathlib.Core.Bool.{Bool, not}
+use mathlib.Core.Bool.{Bool, not, _||_}
 use mathlib.Core.List.{List}
 use mathlib.Core.Path.{_≡_}
 use lib.Dec.{ltb}
 use lib.ListN.{length, replicate}
 use Rattle.rules.specs.declared.answer.Verdict.{Verdict}
 use Rattle.rules.specs.declared.answer.Verdict.the-variants.{Accepted, Refused}
+use Rattle.rules.specs.Call.{handedBack}
 use Rattle.rules.specs.Laws.{greatestLength}
 use Rattle.rules.specs.Personality.{verdictOf}
 use Rattle.rules.specs.Verdicts.{_orElse_, refuseIf}
 use Rattle.board_answers.specs.Answers.{packedVerdict}
 use Rattle.board_step.specs.StepCall.{stepAnswer, stateAfter, coloursAfter}
-use Rattle.cabinet_records.specs.Cabinet.{dark, outputsOf, pastLast, outputsIn, writtenAt}
+use Rattle.cabinet_records.specs.Cabinet.{outputsOf, pastLast, outputsIn, writtenAt}
 
 -- no place is above the length of the longest personality
 abbrev pub Near : Verdict → Type 0
@@ -27,21 +28,19 @@ heldChecks b first = verdictOf b orElse refuseIf (pastLast first (outputsOf b)) 
 unfoldable pub takingChecks : List ℕ → ℕ → ℕ → Verdict
 takingChecks b first room = heldChecks b first orElse refuseIf (ltb room 32) 14 0
 
--- placing, by whether the record is free and whether its outputs are taken
-unfoldable pub placingChecks : List ℕ → Bool → Bool → ℕ → Verdict
-placingChecks b free taken room =
-    verdictOf b orElse refuseIf (not free) 24 0 orElse refuseIf taken 25 0 orElse refuseIf (ltb room 32) 14 0
+-- placing, by whether the record is free and whether another record has one of the outputs
+unfoldable pub placingChecks : List ℕ → Bool → Bool → ℕ → ℕ → Verdict
+placingChecks b free met first room =
+    verdictOf b
+    orElse refuseIf (not free) 24 0
+    orElse refuseIf (pastLast first (outputsOf b) || met) 25 0
+    orElse refuseIf (ltb room 32) 14 0
 
--- ── Taking out ──
+-- ── Outputs ──
 
-unfoldable pub darkenedFor : Verdict → List ℕ → List ℕ → List ℕ
-darkenedFor Accepted new old = new
-darkenedFor (Refused number place) new old = old
-
--- the outputs after taking out
-unfoldable pub darkened : List ℕ → ℕ → List ℕ → List ℕ
-darkened b first out =
-    darkenedFor (takingChecks b first (length out)) (writtenAt out first (replicate (outputsOf b) dark)) out
+-- the outputs of a personality, turned to a colour if the call is accepted
+unfoldable pub turned : Verdict → ℕ → List ℕ → ℕ → List ℕ → List ℕ
+turned v colour b first out = handedBack v (writtenAt out first (replicate (outputsOf b) colour)) out
 
 -- ── A step ──
 

@@ -1,20 +1,31 @@
 // The calls of a cabinet on the personality that a record holds: what they check, and what they write to the outputs. They take slices, so
 // that a row of structs and a row of bytes share them.
-ghost use Prim.Native.Nat.{_≤_};
+ghost use Prim.Native.Nat.{min};
 ghost use mathlib.Core.Bool.{_&&_};
 ghost use mathlib.Core.Path.{_≡_};
 ghost use lib.ListN.{length};
+ghost use Rattle.rules.specs.Laws.{greatestLength};
 ghost use Rattle.rules.specs.Personality.{verdictOf};
 ghost use Rattle.board_answers.specs.Answers.{packedVerdict};
-ghost use Rattle.cabinet_records.specs.Cabinet.{outputsOf, isAccepted, meet, pastLast};
-ghost use Rattle.cabinet_held.specs.Held.{Near, heldChecks, takingChecks, placingChecks, darkened, heldStep};
+ghost use Rattle.cabinet_records.specs.Cabinet.{dark, outputsOf, isAccepted, meet, pastLast};
+ghost use Rattle.cabinet_held.specs.Held.{Near, heldChecks, takingChecks, turned, heldStep};
 
 pub mod fills;
+pub mod placing;
 
 use rules::answer::Verdict;
 
-// The colour of an output without a site.
+// The colour of a site's outputs as it begins, and of outputs without a site.
+const RED: u8 = 0;
+
 const DARK: u8 = 4;
+
+// How many bytes of its room the personality of a record has. A length above the room counts as the room.
+pub fn held_size(size: u16) -> usize
+    ensures { λ r. ⌜ r ≡ min size greatestLength ⌝ }
+{
+    if size < 477 { size as usize } else { 477 }
+}
 
 // How many outputs a personality has.
 pub fn outputs_of(personality: &[u8]) -> u8
@@ -44,17 +55,19 @@ pub fn past_last(first: usize, count: u8) -> bool
     32 < first + count as usize
 }
 
+// The second sum is made only if the first output is small.
 fn meet(first: usize, count: u8, own: u8, outputs: u8) -> bool
-    requires { ⌜ first ≤ 32 ⌝ }
     ensures { λ r. ⌜ r ≡ meet first count own outputs ⌝ }
 {
-    (first < own as usize + outputs as usize) & ((own as usize) < first + count as usize)
+    if first < own as usize + outputs as usize {
+        return (own as usize) < first + count as usize;
+    }
+    false
 }
 
 // Whether a personality whose outputs begin at `own` would be accepted and has one of the `count` outputs from `first` on. The outputs are
 // compared first, because most of them do not meet and then nothing has to be read.
 pub fn meets(personality: &[u8], own: u8, first: usize, count: u8) -> bool
-    requires { ⌜ first ≤ 32 ⌝ }
     ensures { λ r. ⌜ r ≡ (isAccepted (verdictOf (now (personality .entry))) && meet first count own (outputsOf (now (personality .entry)))) ⌝ }
 {
     if meet(first, count, own, outputs_of(personality)) {
@@ -72,35 +85,6 @@ pub fn packed_verdict(verdict: Verdict) -> u64
         Verdict::Accepted => 0,
         Verdict::Refused { number, place } => board_answers::refusal(number, place),
     }
-}
-
-// The checks of placing: the personality's own, then 24, 25 and 14.
-pub fn placing_checks(personality: &[u8], free: bool, taken: bool, room: usize) -> Verdict
-    ensures { λ r. ⌜ r ≡ placingChecks (now (personality .entry)) free taken room ⌝ }
-{
-    let verdict = read_personality::read(personality);
-    if let Verdict::Refused { .. } = verdict {
-        return verdict;
-    }
-    if !free {
-        return Verdict::Refused {
-            number: 24,
-            place: 0,
-        };
-    }
-    if taken {
-        return Verdict::Refused {
-            number: 25,
-            place: 0,
-        };
-    }
-    if room < 32 {
-        return Verdict::Refused {
-            number: 14,
-            place: 0,
-        };
-    }
-    Verdict::Accepted
 }
 
 // The checks of a held personality: its own, then 25.
@@ -140,7 +124,8 @@ fn taking_checks(personality: &[u8], first: u8, room: usize) -> Verdict
 // Turns the outputs of a held personality dark, if it may be taken out.
 pub fn held_taking(personality: &[u8], first: u8, outputs: &mut [u8]) -> Verdict
     ensures { λ r. ⌜ (r ≡ takingChecks (now (personality .entry)) first (length (now (outputs .entry))))
-        × (now (outputs .exit) ≡ darkened (now (personality .entry)) first (now (outputs .entry))) ⌝ }
+        × (now (outputs .exit) ≡ turned (takingChecks (now (personality .entry)) first (length (now (outputs .entry)))) dark (now (personality .entry)) first
+        (now (outputs .entry))) ⌝ }
 {
     let verdict = taking_checks(personality, first, outputs.len());
     if let Verdict::Refused { .. } = verdict {

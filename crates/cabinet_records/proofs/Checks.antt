@@ -1,11 +1,12 @@
 -- What an accepted call tells: of the row, of the record that it names, and of the output buffer.
 use Prim.Native.Nat.{ℕ, _+_, _≤_, _<_}
-use mathlib.Core.Bool.{true, false, not, _||_}
+use mathlib.Core.Bool.{Bool, true, false, not, _||_}
 use mathlib.Core.List.{List}
 use mathlib.Core.Path.{_≡_}
 use borrow.Author.Tests.{eqb-true, ltb-true, ltb-false, not-false}
 use lib.Dec.{eqb}
 use lib.ListN.{length}
+use Rattle.rules.specs.declared.answer.Verdict.{Verdict}
 use Rattle.rules.specs.declared.answer.Verdict.the-variants.{Accepted}
 use Rattle.rules.specs.Verdicts.{_orElse_, refuseIf}
 use Rattle.rules.specs.Personality.{verdictOf}
@@ -27,44 +28,50 @@ module _ (row : List Record) (k : ℕ) (has : hasRecord row k ≡ true) where
 
 -- ── Placing ──
 
+-- checks one after the other, as placing makes them
+pub all-passed :
+    (v : Verdict) (held taken short : Bool) →
+    (v orElse refuseIf held 24 0 orElse refuseIf taken 25 0 orElse refuseIf short 14 0) ≡ Accepted →
+    (v ≡ Accepted) × (held ≡ false) × (taken ≡ false) × (short ≡ false)
+all-passed v held taken short e =
+    let after-own = or-later v _ e in
+    let after-24 = or-later (refuseIf held 24 0) _ after-own in (
+      or-first v _ e,
+      refuse-passed held 24 0 (or-first (refuseIf held 24 0) _ after-own),
+      refuse-passed taken 25 0 (or-first (refuseIf taken 25 0) _ after-24),
+      refuse-passed short 14 0 (or-later (refuseIf taken 25 0) _ after-24),
+    )
+
 module _ (row : List Record) (out b : List ℕ) (k first : ℕ) (e : placingVerdict row out b k first ≡ Accepted) where
-  after-personality :
-      (refuseIf (not (hasRecord row k) || not (isFree (recordOf row k))) 24 0
-      orElse refuseIf (pastLast first (outputsOf b) || overlaps row k first (outputsOf b)) 25 0
-      orElse refuseIf (isShort out) 14 0)
-      ≡ Accepted
+  abbrev held : Bool
+  held = not (hasRecord row k) || not (isFree (recordOf row k))
+
+  abbrev taken : Bool
+  taken = pastLast first (outputsOf b) || overlaps row k first (outputsOf b)
+
+  placing-passed : (verdictOf b ≡ Accepted) × (held ≡ false) × (taken ≡ false) × (isShort out ≡ false)
   unfolding placingVerdict
-  after-personality = or-later (verdictOf b) _ e
-
-  after-24 : (refuseIf (pastLast first (outputsOf b) || overlaps row k first (outputsOf b)) 25 0 orElse refuseIf (isShort out) 14 0) ≡ Accepted
-  after-24 = or-later (refuseIf _ 24 0) _ after-personality
-
-  free-there : (not (hasRecord row k) || not (isFree (recordOf row k))) ≡ false
-  free-there = refuse-passed _ 24 0 (or-first (refuseIf _ 24 0) _ after-personality)
-
-  outputs-free : (pastLast first (outputsOf b) || overlaps row k first (outputsOf b)) ≡ false
-  outputs-free = refuse-passed _ 25 0 (or-first (refuseIf _ 25 0) _ after-24)
+  placing-passed = all-passed (verdictOf b) held taken (isShort out) e
 
   pub placing-read : verdictOf b ≡ Accepted
-  unfolding placingVerdict
-  placing-read = or-first (verdictOf b) _ e
+  placing-read = placing-passed .0
 
   pub placing-there : hasRecord row k ≡ true
-  placing-there = not-false (hasRecord row k) (or-false-left (not (hasRecord row k)) _ free-there)
+  placing-there = not-false (hasRecord row k) (or-false-left (not (hasRecord row k)) _ (placing-passed .1))
 
   pub placing-free : isFree (recordOf row k) ≡ true
-  placing-free = not-false (isFree (recordOf row k)) (or-false-right (not (hasRecord row k)) _ free-there)
+  placing-free = not-false (isFree (recordOf row k)) (or-false-right (not (hasRecord row k)) _ (placing-passed .1))
 
   pub placing-within : first + outputsOf b ≤ outputCount
   unfolding pastLast
-  placing-within = ltb-false outputCount (first + outputsOf b) (or-false-left (pastLast first (outputsOf b)) _ outputs-free)
+  placing-within = ltb-false outputCount (first + outputsOf b) (or-false-left (pastLast first (outputsOf b)) _ (placing-passed .2))
 
   pub placing-clear : overlaps row k first (outputsOf b) ≡ false
-  placing-clear = or-false-right (pastLast first (outputsOf b)) _ outputs-free
+  placing-clear = or-false-right (pastLast first (outputsOf b)) _ (placing-passed .2)
 
   pub placing-long : outputCount ≤ length out
   unfolding isShort
-  placing-long = ltb-false (length out) outputCount (refuse-passed (isShort out) 14 0 (or-later (refuseIf _ 25 0) _ after-24))
+  placing-long = ltb-false (length out) outputCount (placing-passed .3)
 
 -- ── Stepping and taking out ──
 

@@ -16,6 +16,7 @@ use prog.Wp.{Heap, Env}
 use ghost.Atoms.{Atoms, sem}
 use types.Kit.{Given, Item, ‵, _$_, _∵_, !, qed, move, keep, use1, fsplit, done}
 use types.Run.{Opd}
+use denote.Memory.{mem}
 use denote.RattleType.{RattleType}
 use denote.Ref.{RefT}
 use denote.Slice.{sliceVal, MutSlice, heres, codedHoleys, finally, res-finally}
@@ -24,6 +25,7 @@ use Rattle.laws.proofs.Lists.{listed}
 use Rattle.cabinet_records.specs.declared.Record.{Record}
 use Rattle.cabinet_records.specs.Cabinet.{recordCount, freeRecord, hasRecord}
 use Rattle.cabinet_records.proofs.Checks.{row-length, record-below}
+use Rattle.cabinet_records.proofs.Record as T
 
 -- ── Locals ──
 
@@ -32,6 +34,12 @@ abbrev pub laid : List Local → List ℕ → List (Ty × ℕ)
 laid [] places = []
 laid (local τ home ∷ locals) [] = []
 laid (local τ home ∷ locals) (place ∷ places) = (τ, place) ∷ laid locals places
+
+-- ── Records in memory ──
+
+-- the bytes from one record to the next
+abbrev pub stride : ℕ
+stride = mem T.the-row .size
 
 -- ── The record is there, or not ──
 

@@ -16,7 +16,7 @@ pub fn place(
         ≡ placing (now (row .entry)) (now (outputs .entry)) (now (personality .entry)) k first ⌝ }
 {
     if (row.len() != 4) | (4 <= k) {
-        return cabinet_work::placed_nowhere(personality);
+        return cabinet_held::placing::placed_nowhere(personality);
     }
     let all = [row[0], row[1], row[2], row[3]];
     let done = cabinet_work::placed_record(all, k, personality, first, outputs);

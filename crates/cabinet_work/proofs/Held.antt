@@ -7,11 +7,12 @@ use lib.ListN.{length, replicate}
 use borrow.Author.Tests.{eq-eqb, ne-eqb}
 use Rattle.rules.specs.declared.answer.Verdict.{Verdict}
 use Rattle.rules.specs.declared.answer.Verdict.the-variants.{Accepted, Refused}
+use Rattle.rules.specs.Call.{handedBack}
 use Rattle.rules.specs.Verdicts.{_orElse_, refuseIf, reportOf}
 use Rattle.board_answers.specs.Answers.{packed, packedVerdict}
 use Rattle.cabinet_records.specs.declared.Record.{Record}
-use Rattle.cabinet_records.specs.Cabinet.{isFree, personalityOf, freeRecord, withState, outputsOf, ownOutputs}
-use Rattle.cabinet_held.specs.Held.{heldChecks, takingChecks, darkenedFor, darkened, HeldStep, heldStepFor, heldStepped, heldStep}
+use Rattle.cabinet_records.specs.Cabinet.{dark, isFree, personalityOf, freeRecord, withState, outputsOf, ownOutputs}
+use Rattle.cabinet_held.specs.Held.{heldChecks, takingChecks, turned, HeldStep, heldStepFor, heldStepped, heldStep}
 use Rattle.cabinet_work.specs.Work.{OnRecord, onRecordFor, steppedRecord, takenOutRecord}
 
 pub free-record : (r : Record) → r .held ≡ 0 → isFree r ≡ true
@@ -57,12 +58,12 @@ module _ (r : Record) (out : List ℕ) where
   unfolding takenOutRecord onRecordFor _orElse_ refuseIf packedVerdict reportOf
   taking-free free e = rw (free, e)
 
-  module _ (held : isFree r ≡ false) {b after : List ℕ} {v : Verdict} (own : b ≡ personalityOf r) (e : v ≡ takingChecks b (r .first) (length out)) (shown : after ≡ darkened b (r .first) out) where
+  module _ (held : isFree r ≡ false) {b after : List ℕ} {v : Verdict} (own : b ≡ personalityOf r) (e : v ≡ takingChecks b (r .first) (length out)) (shown : after ≡ turned (takingChecks b (r .first) (length out)) dark b (r .first) out) where
     checked : takingChecks (personalityOf r) (r .first) (length out) ≡ v
     checked = sym (rw own at e)
 
     pub taking-accepted : {kept : Record} → v ≡ Accepted → kept ≡ freeRecord → record { answer = 0; kept = kept; outputs = after } ≡ takenOutRecord r out
-    unfolding takenOutRecord onRecordFor _orElse_ refuseIf darkened darkenedFor
+    unfolding takenOutRecord onRecordFor _orElse_ refuseIf turned handedBack
     taking-accepted f free = rw (shown, own, held, checked ∙ f, free)
 
     pub taking-refused :
@@ -70,5 +71,5 @@ module _ (r : Record) (out : List ℕ) where
         v ≡ Refused number place →
         answer ≡ packed number place →
         record { answer = answer; kept = r; outputs = after } ≡ takenOutRecord r out
-    unfolding takenOutRecord onRecordFor _orElse_ refuseIf darkened darkenedFor packedVerdict reportOf
+    unfolding takenOutRecord onRecordFor _orElse_ refuseIf turned handedBack packedVerdict reportOf
     taking-refused f p = rw (shown, own, held, checked ∙ f, p)

@@ -1,4 +1,3 @@
-pub mod Room
 pub mod Placed
 pub mod Held
 pub mod Rows

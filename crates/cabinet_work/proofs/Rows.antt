@@ -1,28 +1,19 @@
--- A call on a row is the call on the record that it names; a row without that record is refused.
+-- A call on a row is the call on the record that it names, if the row has it.
 use Prim.Native.Nat.{ℕ}
-use mathlib.Core.Bool.{true, false}
+use mathlib.Core.Bool.{true}
 use mathlib.Core.List.{List}
-use mathlib.Core.Path.{_≡_, refl, sym, ap, _∙_}
-use lib.Dec.{ltb}
+use mathlib.Core.Path.{_≡_, refl, ap, _∙_}
 use lib.ListN.{length, getD, set}
 use lib.Seq.{set-getD}
 use Rattle.rules.specs.declared.answer.Verdict.{Verdict}
 use Rattle.rules.specs.declared.answer.Verdict.the-variants.{Accepted, Refused}
-use Rattle.rules.specs.Personality.{verdictOf}
-use Rattle.rules.specs.Verdicts.{_orElse_, refuseIf, reportOf}
-use Rattle.board_answers.specs.Answers.{packed, packedVerdict}
+use Rattle.rules.specs.Verdicts.{_orElse_, refuseIf}
+use Rattle.board_answers.specs.Answers.{packedVerdict}
 use Rattle.cabinet_records.specs.declared.Record.{Record}
-use Rattle.cabinet_records.specs.Cabinet.{outputCount, isFree, personalityOf, freeRecord, recordOf, hasRecord, isShort, placingVerdict, heldVerdict, takingVerdict, Returned, returnedFor, placing, stepped, stepping, takingOut}
-use Rattle.cabinet_held.specs.Held.{heldChecks, takingChecks, placingChecks}
+use Rattle.cabinet_records.specs.Cabinet.{isFree, personalityOf, freeRecord, recordOf, hasRecord, placingVerdict, returnedFor, placing, stepped, stepping, takingOut}
+use Rattle.cabinet_held.specs.Held.{heldChecks, takingChecks}
+use Rattle.cabinet_held.proofs.Rows.{held-checked, taking-checked}
 use Rattle.cabinet_work.specs.Work.{OnRecord, onRecordFor, inRow, placedRecord, steppedRecord, takenOutRecord}
-use Rattle.cabinet_work.proofs.Placed.{nowhere}
-
-or-assoc : (u v w : Verdict) → (u orElse (v orElse w)) ≡ ((u orElse v) orElse w)
-unfolding _orElse_
-or-assoc Accepted v w = refl
-or-assoc (Refused number place) v w = refl
-
--- ── The record is there ──
 
 -- a refused call stores the record as it was
 in-row :
@@ -34,42 +25,18 @@ in-row row out k (Refused number place) done =
     ap (λ (l : List Record). record { answer = packedVerdict (Refused number place); row = l; outputs = out }) (set-getD row k freeRecord)
 
 module _ (row : List Record) (out : List ℕ) (k : ℕ) where
-  -- without a record placing is never accepted
-  refused-for :
-      (b : List ℕ) (v : Verdict) →
-      verdictOf b ≡ v →
-      (done : Returned (List Record)) →
-      record { answer = packedVerdict (placingChecks b false false 0); row = row; outputs = out }
-      ≡ returnedFor (placingChecks b false false 0) done row out
-  unfolding placingChecks returnedFor refuseIf _orElse_
-  refused-for b Accepted e done = rw e
-  refused-for b (Refused number place) e done = rw e
-
   placing-in : (b : List ℕ) (first : ℕ) → inRow row k (placedRecord row out b k first) ≡ placing row out b k first
   unfolding placedRecord placing inRow
   placing-in b first = in-row row out k (placingVerdict row out b k first) _
 
   module _ (has : hasRecord row k ≡ true) where
-    held-checked : heldVerdict row k ≡ (refuseIf (isFree (recordOf row k)) 24 0 orElse heldChecks (personalityOf (recordOf row k)) (recordOf row k .first))
-    unfolding heldVerdict heldChecks
-    held-checked = rw has
-
-    taking-checked :
-        (refuseIf (isFree (recordOf row k)) 24 0 orElse takingChecks (personalityOf (recordOf row k)) (recordOf row k .first) (length out))
-        ≡ takingVerdict row out k
-    unfolding takingChecks takingVerdict isShort
-    taking-checked =
-        let free = refuseIf (isFree (recordOf row k)) 24 0 in
-        let held = heldChecks (personalityOf (recordOf row k)) (recordOf row k .first) in
-        rw held-checked (or-assoc free held (refuseIf (ltb (length out) outputCount) 14 0))
-
     stepping-in : (inputs : ℕ) → inRow row k (steppedRecord (recordOf row k) out inputs) ≡ stepping row out k inputs
     unfolding steppedRecord stepping stepped inRow
-    stepping-in inputs = rw held-checked (in-row row out k (refuseIf (isFree (recordOf row k)) 24 0 orElse heldChecks (personalityOf (recordOf row k)) (recordOf row k .first)) _)
+    stepping-in inputs = rw (held-checked row out k has) (in-row row out k (refuseIf (isFree (recordOf row k)) 24 0 orElse heldChecks (personalityOf (recordOf row k)) (recordOf row k .first)) _)
 
     taking-in : inRow row k (takenOutRecord (recordOf row k) out) ≡ takingOut row out k
     unfolding takenOutRecord takingOut inRow
-    taking-in = rw (← taking-checked) (in-row row out k (refuseIf (isFree (recordOf row k)) 24 0 orElse takingChecks (personalityOf (recordOf row k)) (recordOf row k .first) (length out)) _)
+    taking-in = rw (taking-checked row out k has) (in-row row out k (refuseIf (isFree (recordOf row k)) 24 0 orElse takingChecks (personalityOf (recordOf row k)) (recordOf row k .first) (length out)) _)
 
     -- what the work on the record gives is what the call on the row gives
     pub stepping-done :
@@ -92,21 +59,3 @@ module _ (row : List Record) (out : List ℕ) (k : ℕ) where
       record { answer = answer; row = set row k kept; outputs = after } ≡ placing row out b k first
   unfolding inRow
   placing-done b first e = ap (inRow row k) e ∙ placing-in b first
-
-  -- ── It is not ──
-
-  module _ (none : hasRecord row k ≡ false) where
-    pub placing-nowhere :
-        (b : List ℕ) (first : ℕ) {answer : ℕ} →
-        answer ≡ packedVerdict (placingChecks b false false 0) →
-        record { answer = answer; row = row; outputs = out } ≡ placing row out b k first
-    unfolding placing
-    placing-nowhere b first e = rw (e, nowhere row out b k first none) (refused-for b (verdictOf b) refl _)
-
-    pub stepping-nowhere : (inputs : ℕ) → record { answer = 24; row = row; outputs = out } ≡ stepping row out k inputs
-    unfolding stepping heldVerdict returnedFor refuseIf _orElse_ packedVerdict packed reportOf
-    stepping-nowhere inputs = rw none
-
-    pub taking-nowhere : record { answer = 24; row = row; outputs = out } ≡ takingOut row out k
-    unfolding takingOut takingVerdict heldVerdict returnedFor refuseIf _orElse_ packedVerdict packed reportOf
-    taking-nowhere = rw none

@@ -5,13 +5,11 @@ use lib.ListN.{length, set, replicate}
 use Rattle.rules.specs.declared.answer.Verdict.{Verdict}
 use Rattle.rules.specs.declared.answer.Verdict.the-variants.{Accepted, Refused}
 use Rattle.rules.specs.Verdicts.{_orElse_, refuseIf}
-use Rattle.rules.specs.Kept.{freshKept}
 use Rattle.rules.specs.Colours.{red}
-use Rattle.state_bytes.specs.Layout.{encoded}
 use Rattle.board_answers.specs.Answers.{packedVerdict}
 use Rattle.board_step.specs.StepCall.{stepAnswer, stateAfter, coloursAfter}
 use Rattle.cabinet_records.specs.declared.Record.{Record}
-use Rattle.cabinet_records.specs.Cabinet.{dark, isFree, personalityOf, freeRecord, holding, withState, recordOf, outputsOf, writtenAt, ownOutputs, placingVerdict, Returned}
+use Rattle.cabinet_records.specs.Cabinet.{dark, isFree, personalityOf, freeRecord, holding, freshBytes, withState, recordOf, outputsOf, writtenAt, ownOutputs, placingVerdict, Returned}
 use Rattle.cabinet_held.specs.Held.{heldChecks, takingChecks}
 
 -- the answer, and the record and the outputs as the call returns
@@ -33,7 +31,7 @@ placedRecord row out b k first =
     onRecordFor (placingVerdict row out b k first)
     (record {
       answer = 0;
-      kept = holding b first (encoded freshKept);
+      kept = holding b first (freshBytes b);
       outputs = writtenAt out first (replicate (outputsOf b) red);
     })
     (recordOf row k)

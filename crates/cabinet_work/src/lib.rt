@@ -1,22 +1,16 @@
 // The calls of a cabinet on the record that they name. A record goes in and comes back by value.
-ghost use Prim.Native.Nat.{_≤_, _<_, min};
-ghost use mathlib.Core.Bool.{true, false, _&&_, _||_};
+ghost use Prim.Native.Nat.{_<_};
 ghost use mathlib.Core.Path.{_≡_};
-ghost use lib.Dec.{eqb, ltb};
-ghost use lib.ListN.{length};
-ghost use Rattle.rules.specs.Kept.{freshKept};
-ghost use Rattle.rules.specs.Laws.{greatestLength};
-ghost use Rattle.state_bytes.specs.Layout.{encoded};
-ghost use Rattle.board_answers.specs.Answers.{packedVerdict};
-ghost use Rattle.cabinet_records.specs.Cabinet.{recordCount, holding, pastLast, meetsRecord, overlaps};
-ghost use Rattle.cabinet_held.specs.Held.{placingChecks};
+ghost use Rattle.rules.specs.declared.answer.Verdict.the-variants.{Accepted};
+ghost use Rattle.rules.specs.Personality.{verdictOf};
+ghost use Rattle.read_layout.specs.LayoutOf.{LayoutOf};
+ghost use Rattle.cabinet_records.specs.Cabinet.{recordCount, holding, freshBytes, meetsRecord, overlaps};
 ghost use Rattle.cabinet_work.specs.Work.{placedRecord, steppedRecord, takenOutRecord};
 use cabinet_held::fills;
+use cabinet_held::placing;
 use cabinet_records::Record;
+use read_layout::Layout;
 use rules::answer::Verdict;
-
-// The colour of a site's outputs as it begins.
-const RED: u8 = 0;
 
 // What a call on a record returns, beside the outputs.
 pub struct Done {
@@ -24,36 +18,20 @@ pub struct Done {
     pub kept: Record,
 }
 
-// Whether a row of so many records has record k.
-pub fn has_record(count: usize, k: usize) -> bool
-    ensures { λ r. ⌜ r ≡ (eqb count recordCount && ltb k recordCount) ⌝ }
-{
-    (count == 4) & (k < 4)
-}
-
-// How many bytes of its room a record's personality has. A length above the room counts as the room.
-fn size_of(size: u16) -> usize
-    ensures { λ r. ⌜ r ≡ min size greatestLength ⌝ }
-{
-    if size < 477 { size as usize } else { 477 }
-}
-
 // Whether a record has one of the outputs. A free record has none.
 fn meets_record(first: usize, count: u8, own: Record) -> bool
-    requires { ⌜ first ≤ 32 ⌝ }
     ensures { λ r. ⌜ r ≡ meetsRecord first count own ⌝ }
 {
     if own.held == 0 {
         return false;
     }
     let room = own.personality;
-    let size = size_of(own.size);
+    let size = cabinet_held::held_size(own.size);
     cabinet_held::meets(&room[..size], own.first, first, count)
 }
 
 // Whether a record other than k has one of the outputs.
 fn overlaps(row: [Record; 4], k: usize, first: usize, count: u8) -> bool
-    requires { ⌜ first ≤ 32 ⌝ }
     ensures { λ r. ⌜ r ≡ overlaps row k first count ⌝ }
 {
     let mut found = false;
@@ -66,25 +44,15 @@ fn overlaps(row: [Record; 4], k: usize, first: usize, count: u8) -> bool
     found
 }
 
-// Whether the outputs go past the 32nd, or a record other than k has one of them.
-fn taken(row: [Record; 4], k: usize, first: usize, count: u8) -> bool
-    ensures { λ r. ⌜ r ≡ (pastLast first count || overlaps row k first count) ⌝ }
-{
-    if cabinet_held::past_last(first, count) {
-        return true;
-    }
-    overlaps(row, k, first, count)
-}
-
 // A record that holds a personality in the fresh state.
-fn holding(personality: &[u8], first: u8) -> Record
-    requires { ⌜ length (now personality) ≤ greatestLength ⌝ }
-    ensures { λ r. ⌜ r ≡ holding (now (personality .entry)) first (encoded freshKept) ⌝ }
+fn holding(personality: &[u8], layout: Layout, first: u8) -> Record
+    requires { ⌜ (verdictOf (now personality) ≡ Accepted) × LayoutOf (now personality) layout ⌝ }
+    ensures { λ r. ⌜ r ≡ holding (now (personality .entry)) first (freshBytes (now (personality .entry))) ⌝ }
 {
     let mut room = [0u8; 477];
     fills::store(personality, &mut room);
-    let mut state = [0u8; 39];
-    state_bytes::encode(call_fresh::fresh(), &mut state);
+    let mut state = [0u8; 336];
+    placing::fresh_state(personality, layout, &mut state);
     Record {
         held: 1,
         first,
@@ -92,13 +60,6 @@ fn holding(personality: &[u8], first: u8) -> Record
         personality: room,
         state,
     }
-}
-
-// The answer of placing a personality where there is no record.
-pub fn placed_nowhere(personality: &[u8]) -> u64
-    ensures { λ r. ⌜ r ≡ packedVerdict (placingChecks (now (personality .entry)) false false 0) ⌝ }
-{
-    cabinet_held::packed_verdict(cabinet_held::placing_checks(personality, false, false, 0))
 }
 
 // Places a personality in record k of the row: it begins fresh, with its outputs red.
@@ -115,18 +76,19 @@ pub fn placed_record(
 {
     let own = row[k];
     let count = cabinet_held::outputs_of(personality);
-    let busy = taken(row, k, first, count);
-    let verdict = cabinet_held::placing_checks(personality, own.held == 0, busy, outputs.len());
+    let met = overlaps(row, k, first, count);
+    let reading = placing::held_placing(personality, own.held == 0, met, first, outputs);
+    let verdict = reading.verdict;
     if let Verdict::Refused { number, place } = verdict {
         return Done {
             answer: board_answers::refusal(number, place),
             kept: own,
         };
     }
-    fills::fill(outputs, first, count as usize, RED);
+    let layout = reading.layout;
     Done {
         answer: 0,
-        kept: holding(personality, first as u8),
+        kept: holding(personality, layout, first as u8),
     }
 }
 
@@ -143,7 +105,7 @@ pub fn stepped_record(own: Record, inputs: u64, outputs: &mut [u8]) -> Done
     }
     let room = own.personality;
     let mut state = own.state;
-    let size = size_of(own.size);
+    let size = cabinet_held::held_size(own.size);
     let answer = cabinet_held::held_step(&room[..size], own.first, &mut state, inputs, outputs);
     let mut next = own;
     next.state = state;
@@ -162,7 +124,7 @@ pub fn taken_out_record(own: Record, outputs: &mut [u8]) -> Done
         };
     }
     let room = own.personality;
-    let size = size_of(own.size);
+    let size = cabinet_held::held_size(own.size);
     let verdict = cabinet_held::held_taking(&room[..size], own.first, outputs);
     match verdict {
         Verdict::Accepted => Done {

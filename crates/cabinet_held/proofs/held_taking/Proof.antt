@@ -1,7 +1,9 @@
 -- `cabinet_held::held_taking` meets its contract, by the two cases of the verdict.
 use native.Mathlib.Omega.{arith}
 use mathlib.Core.Path.{_≡_, sym, _∙_}
-use Rattle.cabinet_held.proofs.Taking.{taking-within, taking-refused, taking-accepted}
+use Rattle.cabinet_records.specs.Cabinet.{dark}
+use Rattle.cabinet_held.proofs.Checks.{taking-fits}
+use Rattle.cabinet_held.proofs.Turned.{turned-refused, turned-accepted}
 use borrow.Author.Needs.{needs}
 use Rattle.cabinet_held.proofs.held_taking.Statement.{statement}
 use Rattle.cabinet_held.proofs.held_taking.Tie as tie
@@ -15,7 +17,7 @@ enum-told c = search needs
 returns : tie.Need-returns
 returns c =
     let asked = c .before .before .taking-checks in
-    (asked .ensures, taking-refused _ _ _ (asked .ensures) (c .enum-told .given .1))
+    (asked .ensures, turned-refused dark _ _ _ (asked .ensures) (c .enum-told .given .1))
 
 enum-told-2 : tie.Need-enum-told-2
 enum-told-2 c = search needs
@@ -30,7 +32,7 @@ fill-requires : tie.Need-fill-requires
 fill-requires c κs =
     let asked = c .before .before .before .before .taking-checks in
     let told = c .before .before .enum-told2 .given .1 in
-    omega (arith, taking-within _ _ (sym (asked .ensures) ∙ told), c .outputs-of .ensures)
+    omega (arith, taking-fits _ _ (sym (asked .ensures) ∙ told), c .outputs-of .ensures)
 
 same-length : tie.Need-same-length
 same-length c = search needs
@@ -40,7 +42,7 @@ returns-2 c =
     let filled = c .before .before in
     let told = filled .before .before .before in
     let asked = told .before .before .taking-checks in
-    (asked .ensures, filled .fill .ensures ∙ taking-accepted _ _ _ (asked .ensures) (told .enum-told2 .given .1) (filled .before .outputs-of .ensures))
+    (asked .ensures, filled .fill .ensures ∙ turned-accepted dark _ _ _ (asked .ensures) (told .enum-told2 .given .1) (filled .before .outputs-of .ensures) (taking-fits _ _ (sym (asked .ensures) ∙ told .enum-told2 .given .1)))
 
 pub held-taking-spec : {M : Type 1} → statement M
 held-taking-spec =

@@ -1,19 +1,24 @@
--- `cabinet_held::meet` meets its contract: the two tests are the definition's.
-use mathlib.Core.Path.{refl}
+-- `cabinet_held::meet` meets its contract: the two tests are the definition's, and if the first fails the second is not made.
+use mathlib.Core.Path.{sym}
+use borrow.Author.Tests.{lt-ltb, le-ltb}
 use Rattle.cabinet_records.specs.Cabinet.{meet}
 use borrow.Author.Needs.{needs}
 use Rattle.cabinet_held.proofs.meet.Statement.{statement}
 use Rattle.cabinet_held.proofs.meet.Tie as tie
 
+add-if1 : tie.Need-add-if1
+add-if1 c = search needs
+
 add-result : tie.Need-add-result
 add-result c = search needs
 
-add-result-2 : tie.Need-add-result-2
-add-result-2 c = search needs
-
 returns : tie.Need-returns
 unfolding meet
-returns c = refl
+returns c = rw (lt-ltb _ _ (c .if1 .taken))
+
+returns-2 : tie.Need-returns-2
+unfolding meet
+returns-2 c = rw (le-ltb _ _ (c .if1 .left))
 
 pub meet-spec : {M : Type 1} → statement M
-meet-spec = tie.close (tie.spec add-result add-result-2 returns)
+meet-spec = tie.close (tie.spec add-if1 add-result returns returns-2)

@@ -46,28 +46,31 @@ use denote.Triple.Table.{entered, cited}
 use denote.Triple.Walked.{says, Stays, stay-none, stay-none-slice, stay-slice, gave-slice, walkOf, goes-none, goes-none-slice, goes-slice, goes-gave-slice, Walks, ends-at, walked, walk-meets}
 use denote.Exit.{yes}
 use denote.Signature.{plain}
+use Rattle.rules.specs.declared.answer.Verdict.the-variants.{Refused}
+use Rattle.rules.specs.Personality.{verdictOf}
+use Rattle.rules.specs.Verdicts.{_orElse_}
+use Rattle.laws.proofs.Booleans.{and-false-left}
 use Rattle.board_answers.specs.Answers.{packedVerdict}
 use Rattle.cabinet_records.specs.declared.Record.{Record}
 use Rattle.cabinet_records.specs.Cabinet.{recordCount, freeRecord, hasRecord}
-use Rattle.cabinet_records.specs.Layout.{recordBytes}
 use Rattle.cabinet_records.proofs.Checks.{row-length, record-below}
 use Rattle.cabinet_records.proofs.Record as T
 use Rattle.cabinet_records.proofs.Record.Laws as T′
-use Rattle.cabinet_held.specs.Held.{placingChecks}
 use Rattle.cabinet_work.specs.declared.Done.{Done}
 use Rattle.cabinet_work.specs.Work.{OnRecord, placedRecord}
 use Rattle.cabinet_work.proofs.Done as N
 use Rattle.cabinet_work.proofs.Done.Laws as N′
-use Rattle.cabinet_work.proofs.Rows.{placing-nowhere, placing-done}
-use Rattle.cabinet_work.proofs.placed_nowhere as nowhere
-use Rattle.cabinet_work.proofs.placed_nowhere.Symbol as nowhere-def
-use Rattle.cabinet_work.proofs.placed_nowhere.Symbol.{name as #nowhere}
-use Rattle.cabinet_work.proofs.placed_nowhere.Met as nowhere-thm
+use Rattle.cabinet_held.proofs.Rows.{placing-none}
+use Rattle.cabinet_work.proofs.Rows.{placing-done}
+use Rattle.cabinet_held.proofs.placing.placed_nowhere as nowhere
+use Rattle.cabinet_held.proofs.placing.placed_nowhere.Symbol as nowhere-def
+use Rattle.cabinet_held.proofs.placing.placed_nowhere.Symbol.{name as #nowhere}
+use Rattle.cabinet_held.proofs.placing.placed_nowhere.Met as nowhere-thm
 use Rattle.cabinet_work.proofs.placed_record as work
 use Rattle.cabinet_work.proofs.placed_record.Symbol as work-def
 use Rattle.cabinet_work.proofs.placed_record.Symbol.{name as #work}
 use Rattle.cabinet_work.proofs.placed_record.Met as work-thm
-use Rattle.cabinet_row.proofs.Laid.{laid, absent, present, inside, four-of, given-up, big-lit}
+use Rattle.cabinet_row.proofs.Laid.{laid, stride, absent, present, inside, four-of, given-up, big-lit}
 use Rattle.cabinet_row.proofs.place.Key.{name as #this}
 use Rattle.cabinet_row.proofs.place as this
 use Rattle.cabinet_row.proofs.place.Statement as stated
@@ -150,21 +153,21 @@ module _ {M : Type 1} (𝓤 : URA M) (H : Heap 𝓤) (A : Atoms 𝓤) (W : Given
   goes-nowhere =
       qed W (‵ (flft κ₁ q₁) ∷ ‵ P ∷ []) ∵ nothing ! $ move ! (2 ∷ 0 ∷ []) $ fjoin ! $ nothing ! $ move ! (2 ∷ 0 ∷ []) $ join ! $ move ! (0 ∷ 1 ∷ []) $ join ! $ frame ! $ done !
 
-  abbrev Refused : ℕ → Type 0
-  Refused r = r ≡ packedVerdict (placingChecks bs false false 0)
+  abbrev Declined : ℕ → Type 0
+  Declined r = r ≡ packedVerdict (verdictOf bs orElse Refused 24 0)
 
-  refused-of : (r : ℕ) → ent 𝓤 (ensured 𝓤 H A nowhere.ended (nowhere.clauses 𝓤 H A mem run) (κ₁, tt) (x₁, tt) tt r) (fact 𝓤 (Refused r))
-  refused-of r = exE 𝓤 _ (λ ws. snd∗ 𝓤 (sem 𝓤 H A (lasts nowhere.ended (κ₁, tt) (x₁, tt) ws)) (fact 𝓤 (Refused r)))
+  refused-of : (r : ℕ) → ent 𝓤 (ensured 𝓤 H A nowhere.ended (nowhere.clauses 𝓤 H A mem run) (κ₁, tt) (x₁, tt) tt r) (fact 𝓤 (Declined r))
+  refused-of r = exE 𝓤 _ (λ ws. snd∗ 𝓤 (sem 𝓤 H A (lasts nowhere.ended (κ₁, tt) (x₁, tt) ws)) (fact 𝓤 (Declined r)))
 
   -- what first and outputs own
   abbrev Rest : Fml
   Rest = owns (usize ∷ MutSlice (named 2) κ₂ u8 ∷ []) (first, (x₂, tt)) (vint w64 first ∷ [], (s₂ ∷ [], tt))
 
-  exits-refused : hasRecord ys k ≡ false → (r : ℕ) (w : Val) → Refused r
+  exits-refused : hasRecord ys k ≡ false → (r : ℕ) (w : Val) → Declined r
       → ent 𝓤 (⋆ 𝓤 H A (‵ (u64 .own r (w ∷ [])) ∷ (‵ (flft κ₁ q₁) ⊛ ‵ ftrue) ∷ (‵ (flft κ₂ q₂) ⊛ ‵ ftrue) ∷ ‵ (flft κ q) ∷ ‵ P ∷ ‵ Rest ∷ ‵ (usize .own k (vint w64 k ∷ [])) ∷ ‵ (MutSlice (named 0) κ T.the-row .own (x ys) (vals .0)) ∷ [])) (Post w)
   exits-refused none r w e =
       qed W (‵ (u64 .own r (w ∷ [])) ∷ (‵ (flft κ₁ q₁) ⊛ ‵ ftrue) ∷ (‵ (flft κ₂ q₂) ⊛ ‵ ftrue) ∷ ‵ (flft κ q) ∷ ‵ P ∷ ‵ Rest ∷ ‵ (usize .own k (vint w64 k ∷ [])) ∷ ‵ (MutSlice (named 0) κ T.the-row .own (x ys) (vals .0)) ∷ []) ∵
-      suffices ! _ (ends-at 𝓤 H A this.ended stayed (this.clauses 𝓤 H A mem run) W (((κ, (κ₁, (κ₂, tt))), (q, (q₁, (q₂, tt))), tt, a, vals), tt) w r (ys, (tt, (tt, (tt, (os, tt))))) (refl, (tt, (tt, (tt, (refl, tt)))))) $ says ! (placing-nowhere ys os k none bs first e) $
+      suffices ! _ (ends-at 𝓤 H A this.ended stayed (this.clauses 𝓤 H A mem run) W (((κ, (κ₁, (κ₂, tt))), (q, (q₁, (q₂, tt))), tt, a, vals), tt) w r (ys, (tt, (tt, (tt, (os, tt))))) (refl, (tt, (tt, (tt, (refl, tt)))))) $ says ! (rw e (placing-none ys os k bs first (and-false-left _ none))) $
       move ! (1 ∷ []) $ split ! $ move ! (0 ∷ 3 ∷ []) $ join ! $ move ! (3 ∷ 0 ∷ []) $ join ! $ frame ! $
       -- [true; the answer; P; what first and outputs own; what k owns; what row owns]
       move ! (3 ∷ []) $ fsplit ! $ move ! (1 ∷ []) $ fsplit ! $ use1 W (‵ (finally u8 γ₂ os)) (given-up u8 (named 2) κ₂ b₂ o₂ γ₂ os 𝓤 H A W) $
@@ -227,7 +230,7 @@ module _ {M : Type 1} (𝓤 : URA M) (H : Heap 𝓤) (A : Atoms 𝓤) (W : Given
         -- [what `placed_nowhere` asks; the token of the outputs; row's token; P; what first and outputs own; what k owns; what row owns; the locals, from 7 on]
         calls-at ! fm (Nowhere 𝓤 H A mem run) known-nowhere to-nowhere (and-then ! (load ! (from ! (stop !)) (look ! 45 refl)) (no-more !)) (λ w.
         use1 W (later (some (λ (r : ℕ). ((‵ (flft κ₁ q₁) ⊛ ‵ ftrue) ⊛ ‵ (u64 .own r (w ∷ []))) ⊛ raw (ensured 𝓤 H A nowhere.ended (nowhere.clauses 𝓤 H A mem run) (κ₁, tt) (x₁, tt) tt r)))) (id⊢ 𝓤 _) $ await ! tt $ pick ! (λ r.
-        split ! $ move ! (1 ∷ []) $ use1 W (raw (fact 𝓤 (Refused r))) (refused-of r) $ heard ! (Refused r) (λ e. split ! $ move ! (1 ∷ []) $ peeks ! u64 (Is u64) (shows 𝓤 H A u64) r (w ∷ []) (λ is.
+        split ! $ move ! (1 ∷ []) $ use1 W (raw (fact 𝓤 (Declined r))) (refused-of r) $ heard ! (Declined r) (λ e. split ! $ move ! (1 ∷ []) $ peeks ! u64 (Is u64) (shows 𝓤 H A u64) r (w ∷ []) (λ is.
         land ! (from ! (stop !)) (init ! 52 refl (uint-lawful 𝓤 H A W w64 .typed r _ is .0)) $
         returns-within ! Post refl (look ! 52 refl) $ forget ! 30 refl $ forget ! 32 refl $ forget ! 34 refl $ forget ! 36 refl $ forget ! 42 refl $ forget ! 44 refl $ forget ! 46 refl $ forget ! 48 refl $ forget ! 50 refl $ forget ! 52 refl $
         move ! (52 ∷ 53 ∷ []) $ free1 ! $ move ! (50 ∷ 51 ∷ []) $ free1 ! $ move ! (48 ∷ 49 ∷ []) $ free1 ! $ move ! (46 ∷ 47 ∷ []) $ free1 ! $ move ! (44 ∷ 45 ∷ []) $ free1 ! $ move ! (42 ∷ 43 ∷ []) $ free1 ! $ move ! (40 ∷ 41 ∷ []) $ free1 ! $ move ! (38 ∷ 39 ∷ []) $ free1 ! $ move ! (36 ∷ 37 ∷ []) $ free1 ! $ move ! (34 ∷ 35 ∷ []) $ free1 ! $ move ! (32 ∷ 33 ∷ []) $ free1 ! $ move ! (30 ∷ 31 ∷ []) $ free1 ! $ move ! (28 ∷ 29 ∷ []) $ free1 ! $ move ! (26 ∷ 27 ∷ []) $ free1 ! $ move ! (24 ∷ 25 ∷ []) $ free1 ! $ move ! (22 ∷ 23 ∷ []) $ free1 ! $ move ! (20 ∷ 21 ∷ []) $ free1 ! $ move ! (18 ∷ 19 ∷ []) $ free1 ! $ move ! (16 ∷ 17 ∷ []) $ free1 ! $ move ! (14 ∷ 15 ∷ []) $ free1 ! $ move ! (12 ∷ 13 ∷ []) $ free1 ! $ move ! (10 ∷ 11 ∷ []) $ free1 ! $ move ! (8 ∷ 9 ∷ []) $ free1 ! $ free0 ! $
@@ -236,24 +239,24 @@ module _ {M : Type 1} (𝓤 : URA M) (H : Heap 𝓤) (A : Atoms 𝓤) (W : Given
         skips ! $ exec ! C Λ En pieces.t-6 (atRet En Post) $
         -- the four records
         assigns ! (bin ! (load ! (from ! (fld ! refl (stop !))) (look-in ! 42 (sub ! 0 refl (whole !)))) (lit ! tt) tt) (from ! (stop !)) (init ! 20 refl (tt, tt)) $
-        rewrite ! 20 (λ (p : ℕ). ‵ (fat fullShare tyPtr l₁₂ 0 (vptr b p))) (sym (place-is recordBytes o 0)) refl $
+        rewrite ! 20 (λ (p : ℕ). ‵ (fat fullShare tyPtr l₁₂ 0 (vptr b p))) (sym (place-is stride o 0)) refl $
         move ! (47 ∷ []) $ fsplit ! $ fsplit ! $ move ! (1 ∷ []) $ fsplit ! $ move ! (50 ∷ []) $ split ! $ move ! (2 ∷ 3 ∷ 0 ∷ []) $ opens-slice ! tt T.the-row ys b o $
         -- [row; the open borrow; obs; auth; the other tokens; row's fact; what the other parameters own; the locals, from 7 on]
         elem-out ! T.the-row (Is T.the-row) (shows 𝓤 H A T.the-row) (LL.vals T.the-type T′.the-laws) (LL.tells T.the-type T′.the-laws) fullShare ys 0 freeRecord b o (omega (arith, long)) (λ is₀.
         assigns ! (of-opd ! (load ! (from ! (hop ! (look ! 29 refl) (stop !))) (look-raw ! 0 refl))) (from ! (stop !)) (init ! 27 refl (LL.lawful T.the-type T′.the-laws 𝓤 H A W .typed (s 0) _ is₀ .0)) $
         elem-back ! T.the-row fullShare ys 0 freeRecord (mach (s 0) ∷ []) b o (omega (arith, long)) $
         assigns ! (bin ! (load ! (from ! (fld ! refl (stop !))) (look-in ! 49 (sub ! 0 refl (whole !)))) (lit ! tt) tt) (from ! (stop !)) (init ! 23 refl (tt, tt)) $
-        rewrite ! 23 (λ (p : ℕ). ‵ (fat fullShare tyPtr l₁₄ 0 (vptr b p))) (sym (place-is recordBytes o 1)) refl $
+        rewrite ! 23 (λ (p : ℕ). ‵ (fat fullShare tyPtr l₁₄ 0 (vptr b p))) (sym (place-is stride o 1)) refl $
         elem-out ! T.the-row (Is T.the-row) (shows 𝓤 H A T.the-row) (LL.vals T.the-type T′.the-laws) (LL.tells T.the-type T′.the-laws) fullShare ys 1 freeRecord b o (omega (arith, long)) (λ is₁.
         assigns ! (of-opd ! (load ! (from ! (hop ! (look ! 25 refl) (stop !))) (look-raw ! 0 refl))) (from ! (stop !)) (init ! 23 refl (LL.lawful T.the-type T′.the-laws 𝓤 H A W .typed (s 1) _ is₁ .0)) $
         elem-back ! T.the-row fullShare ys 1 freeRecord (mach (s 1) ∷ []) b o (omega (arith, long)) $
         assigns ! (bin ! (load ! (from ! (fld ! refl (stop !))) (look-in ! 49 (sub ! 0 refl (whole !)))) (big-lit ! (record { fits = lit< tt })) tt) (from ! (stop !)) (init ! 19 refl (tt, tt)) $
-        rewrite ! 19 (λ (p : ℕ). ‵ (fat fullShare tyPtr l₁₆ 0 (vptr b p))) (sym (place-is recordBytes o 2)) refl $
+        rewrite ! 19 (λ (p : ℕ). ‵ (fat fullShare tyPtr l₁₆ 0 (vptr b p))) (sym (place-is stride o 2)) refl $
         elem-out ! T.the-row (Is T.the-row) (shows 𝓤 H A T.the-row) (LL.vals T.the-type T′.the-laws) (LL.tells T.the-type T′.the-laws) fullShare ys 2 freeRecord b o (omega (arith, long)) (λ is₂.
         assigns ! (of-opd ! (load ! (from ! (hop ! (look ! 21 refl) (stop !))) (look-raw ! 0 refl))) (from ! (stop !)) (init ! 19 refl (LL.lawful T.the-type T′.the-laws 𝓤 H A W .typed (s 2) _ is₂ .0)) $
         elem-back ! T.the-row fullShare ys 2 freeRecord (mach (s 2) ∷ []) b o (omega (arith, long)) $
         assigns ! (bin ! (load ! (from ! (fld ! refl (stop !))) (look-in ! 49 (sub ! 0 refl (whole !)))) (big-lit ! (record { fits = lit< tt })) tt) (from ! (stop !)) (init ! 15 refl (tt, tt)) $
-        rewrite ! 15 (λ (p : ℕ). ‵ (fat fullShare tyPtr l₁₈ 0 (vptr b p))) (sym (place-is recordBytes o 3)) refl $
+        rewrite ! 15 (λ (p : ℕ). ‵ (fat fullShare tyPtr l₁₈ 0 (vptr b p))) (sym (place-is stride o 3)) refl $
         elem-out ! T.the-row (Is T.the-row) (shows 𝓤 H A T.the-row) (LL.vals T.the-type T′.the-laws) (LL.tells T.the-type T′.the-laws) fullShare ys 3 freeRecord b o (omega (arith, long)) (λ is₃.
         assigns ! (of-opd ! (load ! (from ! (hop ! (look ! 17 refl) (stop !))) (look-raw ! 0 refl))) (from ! (stop !)) (init ! 15 refl (LL.lawful T.the-type T′.the-laws 𝓤 H A W .typed (s 3) _ is₃ .0)) $
         elem-back ! T.the-row fullShare ys 3 freeRecord (mach (s 3) ∷ []) b o (omega (arith, long)) $
@@ -274,9 +277,9 @@ module _ {M : Type 1} (𝓤 : URA M) (H : Heap 𝓤) (A : Atoms 𝓤) (W : Given
         land ! (from ! (stop !)) (init ! 47 refl (LL.lawful N.the-type N′.the-laws 𝓤 H A W .typed r _ got .0)) $
         rewrite ! 47 (λ (u : Val). ‵ (fat fullShare N′.mir l₇ 0 u)) (ap only (LL.tells N.the-type N′.the-laws r _ got)) refl $ drop ! $ move ! (11 ∷ 12 ∷ 13 ∷ 14 ∷ []) $
         -- [row; the open borrow; obs; auth; the other tokens; the last list of the outputs; five more; P; what .. own; row's fact; the locals, from 16 on]
-        assigns ! (bin ! (load ! (from ! (stop !)) (look ! 56 refl)) (lit ! tt) (scaled-fits k (length ys) recordBytes l (room .1))) (from ! (stop !)) (store ! 44 refl (tt, scaled-fits k (length ys) recordBytes l (room .1))) $
+        assigns ! (bin ! (load ! (from ! (stop !)) (look ! 56 refl)) (lit ! tt) (scaled-fits k (length ys) stride l (room .1))) (from ! (stop !)) (store ! 44 refl (tt, scaled-fits k (length ys) stride l (room .1))) $
         assigns ! (bin ! (load ! (from ! (fld ! refl (stop !))) (look-in ! 58 (sub ! 0 refl (whole !)))) (load ! (from ! (stop !)) (look ! 44 refl)) tt) (from ! (stop !)) (init ! 16 refl (tt, tt)) $
-        rewrite ! 16 (λ (p : ℕ). ‵ (fat fullShare tyPtr l₂₂ 0 (vptr b p))) (sym (place-is recordBytes o k)) refl $
+        rewrite ! 16 (λ (p : ℕ). ‵ (fat fullShare tyPtr l₂₂ 0 (vptr b p))) (sym (place-is stride o k)) refl $
         elem-out ! T.the-row (Is T.the-row) (shows 𝓤 H A T.the-row) (LL.vals T.the-type T′.the-laws) (LL.tells T.the-type T′.the-laws) fullShare ys k freeRecord b o l (λ is.
         assigns ! (of-opd ! (load ! (from ! (fld ! refl (stop !))) (look-in ! 48 (sub ! 1 refl (whole !))))) (from ! (hop ! (look ! 18 refl) (stop !))) (store-raw ! 0 refl (kept-typed r got)) $
         move ! (1 ∷ []) $ drop ! $ owned ! T.the-row (Is T.the-row) ((LL.makes T.the-type T′.the-plain) 𝓤 H A) (r .kept) _ (kept-is r got) $ move ! (1 ∷ 0 ∷ []) $ elem-put ! T.the-row fullShare ys k (r .kept) (mach (r .kept) ∷ []) b o l $
@@ -311,5 +314,5 @@ place-spec 𝓤 H 𝓜 𝓖 𝓡 =
     entered 𝓤 H (tripleOf 𝓤 H (𝓖 .A) this.signature (this.spec 𝓤 H (𝓖 .A) (𝓜 .mem) (𝓡 .run)))
     (tables 𝓤 H 𝓜 𝓡 code.env .C) (tables 𝓤 H 𝓜 𝓡 code.env .Λ) #this code.function (code.unfolded 𝓤 H 𝓜 𝓡)
     (meets 𝓤 H (𝓖 .A) (givenOf 𝓤 H 𝓜 𝓖) (𝓜 .mem) (𝓡 .run) (tablesOf 𝓤 H 𝓜 (tables 𝓤 H 𝓜 𝓡 code.env))
-    (cited 𝓤 H (Nowhere 𝓤 H (𝓖 .A) (𝓜 .mem) (𝓡 .run)) 𝓜 𝓡 code.env #nowhere nowhere-def.routine code.calls-cabinet-work·placed-nowhere (nowhere-thm.met 𝓤 H 𝓜 𝓖 𝓡))
+    (cited 𝓤 H (Nowhere 𝓤 H (𝓖 .A) (𝓜 .mem) (𝓡 .run)) 𝓜 𝓡 code.env #nowhere nowhere-def.routine code.calls-cabinet-held·placing·placed-nowhere (nowhere-thm.met 𝓤 H 𝓜 𝓖 𝓡))
     (cited 𝓤 H (Work 𝓤 H (𝓖 .A) (𝓜 .mem) (𝓡 .run)) 𝓜 𝓡 code.env #work work-def.routine code.calls-cabinet-work·placed-record (work-thm.met 𝓤 H 𝓜 𝓖 𝓡)))

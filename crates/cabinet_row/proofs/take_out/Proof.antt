@@ -46,19 +46,20 @@ use denote.Exit.{yes}
 use denote.Signature.{plain}
 use Rattle.cabinet_records.specs.declared.Record.{Record}
 use Rattle.cabinet_records.specs.Cabinet.{freeRecord, hasRecord}
-use Rattle.cabinet_records.specs.Layout.{recordBytes}
 use Rattle.cabinet_records.proofs.Record as T
 use Rattle.cabinet_records.proofs.Record.Laws as T′
 use Rattle.cabinet_work.specs.declared.Done.{Done}
 use Rattle.cabinet_work.specs.Work.{OnRecord, takenOutRecord}
 use Rattle.cabinet_work.proofs.Done as N
 use Rattle.cabinet_work.proofs.Done.Laws as N′
-use Rattle.cabinet_work.proofs.Rows.{taking-nowhere, taking-done}
+use Rattle.laws.proofs.Booleans.{and-false-left}
+use Rattle.cabinet_held.proofs.Rows.{taking-none}
+use Rattle.cabinet_work.proofs.Rows.{taking-done}
 use Rattle.cabinet_work.proofs.taken_out_record as work
 use Rattle.cabinet_work.proofs.taken_out_record.Symbol as work-def
 use Rattle.cabinet_work.proofs.taken_out_record.Symbol.{name as #work}
 use Rattle.cabinet_work.proofs.taken_out_record.Met as work-thm
-use Rattle.cabinet_row.proofs.Laid.{laid, absent, present, inside, given-up}
+use Rattle.cabinet_row.proofs.Laid.{laid, stride, absent, present, inside, given-up}
 use Rattle.cabinet_row.proofs.take_out.Key.{name as #this}
 use Rattle.cabinet_row.proofs.take_out as this
 use Rattle.cabinet_row.proofs.take_out.Statement as stated
@@ -132,7 +133,7 @@ module _ {M : Type 1} (𝓤 : URA M) (H : Heap 𝓤) (A : Atoms 𝓤) (W : Given
   exits-refused : hasRecord ys k ≡ false → ent 𝓤 (⋆ 𝓤 H A ((‵ (flft κ q) ⊛ ‵ (flft κ′ q′) ⊛ ‵ ftrue) ∷ ‵ (owns (MutSlice (named 0) κ T.the-row ∷ usize ∷ MutSlice (named 1) κ′ u8 ∷ []) a vals) ∷ [])) (Post (vint w64 24))
   exits-refused none =
       qed W ((‵ (flft κ q) ⊛ ‵ (flft κ′ q′) ⊛ ‵ ftrue) ∷ ‵ (owns (MutSlice (named 0) κ T.the-row ∷ usize ∷ MutSlice (named 1) κ′ u8 ∷ []) a vals) ∷ []) ∵
-      suffices ! _ (ends-at 𝓤 H A this.ended stayed (this.clauses 𝓤 H A mem run) W (((κ, (κ′, tt)), (q, (q′, tt)), tt, a, vals), tt) (vint w64 24) 24 (ys, (tt, (os, tt))) (refl, (tt, (refl, tt)))) $ says ! (taking-nowhere ys os k none) $
+      suffices ! _ (ends-at 𝓤 H A this.ended stayed (this.clauses 𝓤 H A mem run) W (((κ, (κ′, tt)), (q, (q′, tt)), tt, a, vals), tt) (vint w64 24) 24 (ys, (tt, (os, tt))) (refl, (tt, (refl, tt)))) $ says ! (taking-none ys os k (and-false-left _ none)) $
       frame ! $ fsplit ! $ move ! (1 ∷ []) $ fsplit ! $ move ! (1 ∷ []) $ fsplit ! $ use1 W (‵ (finally u8 γ′ os)) (given-up u8 (named 1) κ′ b′ o′ γ′ os 𝓤 H A W) $
       fjoin ! $ move ! (1 ∷ 0 ∷ []) $ fjoin ! $ move ! (1 ∷ 0 ∷ []) $ fjoin ! $ frame ! $ owned ! u64 (Is u64) (uint-makes 𝓤 H A W w64) 24 _ (refl, lit< tt) $ done !
 
@@ -166,9 +167,9 @@ module _ {M : Type 1} (𝓤 : URA M) (H : Heap 𝓤) (A : Atoms 𝓤) (W : Given
         by ! (exits-refused (absent ys k missing)))
         (λ there. let has : hasRecord ys k ≡ true = present ys k there in let l : k < length ys = inside ys k has in let En : Env 𝓤 H = laid pieces.locals (l₀ ∷ l₁ ∷ l₂ ∷ l₃ ∷ l₄ ∷ l₅ ∷ l₆ ∷ l₇ ∷ l₈ ∷ l₉ ∷ l₁₀ ∷ l₁₁ ∷ l₁₂ ∷ l₁₃ ∷ l₁₄ ∷ []) in
         skips ! $ exec ! C Λ En pieces.t-6 (atRet En Post) $
-        assigns ! (bin ! (load ! (from ! (stop !)) (look ! 24 refl)) (lit ! tt) (scaled-fits k (length ys) recordBytes l (room .1))) (from ! (stop !)) (store ! 16 refl (tt, scaled-fits k (length ys) recordBytes l (room .1))) $
+        assigns ! (bin ! (load ! (from ! (stop !)) (look ! 24 refl)) (lit ! tt) (scaled-fits k (length ys) stride l (room .1))) (from ! (stop !)) (store ! 16 refl (tt, scaled-fits k (length ys) stride l (room .1))) $
         assigns ! (bin ! (load ! (from ! (fld ! refl (stop !))) (look-in ! 26 (sub ! 0 refl (whole !)))) (load ! (from ! (stop !)) (look ! 16 refl)) tt) (from ! (stop !)) (init ! 8 refl (tt, tt)) $
-        rewrite ! 8 (λ (p : ℕ). ‵ (fat fullShare tyPtr l₁₀ 0 (vptr b p))) (sym (place-is recordBytes o k)) refl $
+        rewrite ! 8 (λ (p : ℕ). ‵ (fat fullShare tyPtr l₁₀ 0 (vptr b p))) (sym (place-is stride o k)) refl $
         move ! (31 ∷ []) $ fsplit ! $ fsplit ! $ move ! (1 ∷ []) $ fsplit ! $ move ! (34 ∷ []) $ split ! $ move ! (2 ∷ 3 ∷ 0 ∷ []) $
         opens-slice ! tt T.the-row ys b o $ elem-out ! T.the-row (Is T.the-row) (shows 𝓤 H A T.the-row) (LL.vals T.the-type T′.the-laws) (LL.tells T.the-type T′.the-laws) fullShare ys k freeRecord b o l (λ is.
         -- [row[k]; what it owns; the others; the open borrow; obs; auth; the token of the outputs; row's fact; what the other parameters own; the locals, from 9 on]
@@ -188,9 +189,9 @@ module _ {M : Type 1} (𝓤 : URA M) (H : Heap 𝓤) (A : Atoms 𝓤) (W : Given
         land ! (from ! (stop !)) (init ! 32 refl (LL.lawful N.the-type N′.the-laws 𝓤 H A W .typed r _ got .0)) $
         rewrite ! 32 (λ (u : Val). ‵ (fat fullShare N′.mir l₅ 0 u)) (ap only (LL.tells N.the-type N′.the-laws r _ got)) refl $ drop ! $ move ! (6 ∷ 7 ∷ 8 ∷ 9 ∷ 10 ∷ 11 ∷ []) $
         -- [row[k]; what it owns; the others; the open borrow; obs; auth; the token of the outputs; their last list; four more; row's fact; the locals, from 13 on]
-        assigns ! (bin ! (load ! (from ! (stop !)) (look ! 37 refl)) (lit ! tt) (scaled-fits k (length ys) recordBytes l (room .1))) (from ! (stop !)) (store ! 29 refl (tt, scaled-fits k (length ys) recordBytes l (room .1))) $
+        assigns ! (bin ! (load ! (from ! (stop !)) (look ! 37 refl)) (lit ! tt) (scaled-fits k (length ys) stride l (room .1))) (from ! (stop !)) (store ! 29 refl (tt, scaled-fits k (length ys) stride l (room .1))) $
         assigns ! (bin ! (load ! (from ! (fld ! refl (stop !))) (look-in ! 39 (sub ! 0 refl (whole !)))) (load ! (from ! (stop !)) (look ! 29 refl)) tt) (from ! (stop !)) (init ! 13 refl (tt, tt)) $
-        rewrite ! 13 (λ (p : ℕ). ‵ (fat fullShare tyPtr l₁₄ 0 (vptr b p))) (sym (place-is recordBytes o k)) refl $
+        rewrite ! 13 (λ (p : ℕ). ‵ (fat fullShare tyPtr l₁₄ 0 (vptr b p))) (sym (place-is stride o k)) refl $
         assigns ! (of-opd ! (load ! (from ! (fld ! refl (stop !))) (look-in ! 31 (sub ! 1 refl (whole !))))) (from ! (hop ! (look ! 13 refl) (stop !))) (store-raw ! 0 refl (kept-typed r got)) $
         move ! (1 ∷ []) $ drop ! $ owned ! T.the-row (Is T.the-row) ((LL.makes T.the-type T′.the-plain) 𝓤 H A) (r .kept) _ (kept-is r got) $ move ! (1 ∷ 0 ∷ []) $ elem-put ! T.the-row fullShare ys k (r .kept) (mach (r .kept) ∷ []) b o l $
         closes-slice ! tt T.the-row ys (zs r) (length-set ys k (r .kept)) b o $

@@ -1,8 +1,8 @@
 -- `cabinet_work::holding` meets its contract: the personality with zeros behind it, and the bytes of the fresh state.
-use Rattle.state_bytes.specs.Layout.{encoded, encodedOver}
-use Rattle.rules.specs.Kept.{freshKept}
-use mathlib.Core.Path.{_≡_, ap, _∙_}
+use native.Mathlib.Omega.{arith}
+use Rattle.state_timed.specs.TimedLayout.{timedEncodedOver}
 use Rattle.cabinet_records.specs.Cabinet.{holding}
+use Rattle.cabinet_held.proofs.Checks.{accepted-fits}
 use borrow.Author.Needs.{needs}
 use Rattle.cabinet_work.proofs.holding.Statement.{statement}
 use Rattle.cabinet_work.proofs.holding.Tie as tie
@@ -11,26 +11,20 @@ slice-aggregate-store : tie.Need-slice-aggregate-store
 slice-aggregate-store c = search needs
 
 store-requires : tie.Need-store-requires
-store-requires c κs = search needs
+store-requires c κs = accepted-fits _ (c .before .before .pre .0)
 
-fresh-requires : tie.Need-fresh-requires
-fresh-requires c κs = search needs
+slice-aggregate-fresh-state : tie.Need-slice-aggregate-fresh-state
+slice-aggregate-fresh-state c = search needs
 
-slice-aggregate-encode : tie.Need-slice-aggregate-encode
-slice-aggregate-encode c = search needs
+fresh-state-requires : tie.Need-fresh-state-requires
+fresh-state-requires c κs = search needs
 
-encode-requires : tie.Need-encode-requires
-encode-requires c κs = search needs
-
-cast-t13 : tie.Need-cast-t13
-cast-t13 c = search needs
+cast-t12 : tie.Need-cast-t12
+cast-t12 c = omega (arith, accepted-fits _ (c .before .before .before .before .before .before .before .pre .0))
 
 returns : tie.Need-returns
-unfolding holding encodedOver
-returns c =
-    let stored = c .before .before .before .before .before .store .ensures in
-    let state : c .before .encode .last .1 .0 ≡ encoded freshKept = c .before .encode .ensures .1 ∙ ap encoded (c .before .before .before .fresh .ensures) in
-    rw (stored, state)
+unfolding holding timedEncodedOver
+returns c = rw (c .before .before .before .before .store .ensures, c .before .fresh-state .ensures)
 
 pub holding-spec : {M : Type 1} → statement M
 holding-spec =
@@ -38,8 +32,7 @@ holding-spec =
     (tie.spec
     slice-aggregate-store
     store-requires
-    fresh-requires
-    slice-aggregate-encode
-    encode-requires
-    cast-t13
+    slice-aggregate-fresh-state
+    fresh-state-requires
+    cast-t12
     returns)

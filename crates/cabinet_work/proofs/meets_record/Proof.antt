@@ -1,5 +1,5 @@
 -- `cabinet_work::meets_record` meets its contract: a free record has no outputs; a held one is compared.
-use Rattle.cabinet_work.proofs.Room.{room-part, room-within, room-length}
+use Rattle.cabinet_held.proofs.Room.{room-part, room-within, room-length}
 use Rattle.cabinet_work.proofs.Held.{free-record, held-record}
 use Rattle.cabinet_records.specs.Cabinet.{hasOutputs, meetsRecord}
 use Rattle.rules.specs.Laws.{greatestLength}
@@ -17,14 +17,14 @@ returns : tie.Need-returns
 unfolding meetsRecord hasOutputs
 returns c = rw (free-record (c .before .before .args .own) (c .if1 .taken))
 
-size-of-requires : tie.Need-size-of-requires
-size-of-requires c κs = search needs
+held-size-requires : tie.Need-held-size-requires
+held-size-requires c κs = search needs
 
 array-share-prefix-room : tie.Need-array-share-prefix-room
-array-share-prefix-room c = let start = c .before .before .before .before in room-within (start .args .own) (long start) (c .size-of .ensures)
+array-share-prefix-room c = let start = c .before .before .before .before in room-within (start .args .own) (long start) (c .held-size .ensures)
 
 slice-aggregate-meets : tie.Need-slice-aggregate-meets
-slice-aggregate-meets c = let start = c .before .before .before .before .before in room-length (start .args .own) (long start) (c .before .size-of .ensures)
+slice-aggregate-meets c = let start = c .before .before .before .before .before in room-length (start .args .own) (long start) (c .before .held-size .ensures)
 
 meets-requires : tie.Need-meets-requires
 meets-requires c κs = search needs
@@ -35,14 +35,14 @@ returns-2 c =
     let sized = c .before .before in
     let start = sized .before .before .before .before in
     let r = start .args .own in
-    rw (held-record r (sized .before .before .if1 .left), ← room-part r (long start) (sized .size-of .ensures)) (c .meets .ensures)
+    rw (held-record r (sized .before .before .if1 .left), ← room-part r (long start) (sized .held-size .ensures)) (c .meets .ensures)
 
 pub meets-record-spec : {M : Type 1} → statement M
 meets-record-spec =
     tie.close
     (tie.spec
     returns
-    size-of-requires
+    held-size-requires
     array-share-prefix-room
     slice-aggregate-meets
     meets-requires

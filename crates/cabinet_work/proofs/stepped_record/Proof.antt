@@ -1,6 +1,6 @@
 -- `cabinet_work::stepped_record` meets its contract: a free record is refused; a held one is stepped.
 use Rattle.cabinet_records.specs.Cabinet.{withState}
-use Rattle.cabinet_work.proofs.Room.{room-part, room-within, room-length}
+use Rattle.cabinet_held.proofs.Room.{room-part, room-within, room-length}
 use Rattle.cabinet_work.proofs.Held.{free-record, held-record, step-free, step-held}
 use Rattle.rules.specs.Laws.{greatestLength}
 use lib.ListN.{length, length-map}
@@ -21,14 +21,14 @@ returns c =
     let tested = c .before in
     step-free _ _ _ (free-record _ (tested .if1 .taken)) (c .refusal .ensures)
 
-size-of-requires : tie.Need-size-of-requires
-size-of-requires c κs = search needs
+held-size-requires : tie.Need-held-size-requires
+held-size-requires c κs = search needs
 
 array-share-prefix-room : tie.Need-array-share-prefix-room
-array-share-prefix-room c = let start = c .before .before .before .before .before .before in room-within (start .args .own) (long start) (c .size-of .ensures)
+array-share-prefix-room c = let start = c .before .before .before .before .before .before in room-within (start .args .own) (long start) (c .held-size .ensures)
 
 slice-aggregate-held-step : tie.Need-slice-aggregate-held-step
-slice-aggregate-held-step c = let start = c .before .before .before .before .before .before .before in room-length (start .args .own) (long start) (c .before .size-of .ensures)
+slice-aggregate-held-step c = let start = c .before .before .before .before .before .before .before in room-length (start .args .own) (long start) (c .before .held-size .ensures)
 
 slice-aggregate-held-step-2 : tie.Need-slice-aggregate-held-step-2
 slice-aggregate-held-step-2 c = search needs
@@ -46,7 +46,7 @@ returns-2 c =
     let sized = called .before .before .before .before in
     let start = sized .before .before .before .before .before .before in
     let r = start .args .own in
-    step-held r _ _ (held-record r (sized .before .before .before .if1 .left)) (room-part r (long start) (sized .size-of .ensures)) (called .held-step .ensures)
+    step-held r _ _ (held-record r (sized .before .before .before .if1 .left)) (room-part r (long start) (sized .held-size .ensures)) (called .held-step .ensures)
 
 pub stepped-record-spec : {M : Type 1} → statement M
 stepped-record-spec =
@@ -54,7 +54,7 @@ stepped-record-spec =
     (tie.spec
     refusal-requires
     returns
-    size-of-requires
+    held-size-requires
     array-share-prefix-room
     slice-aggregate-held-step
     slice-aggregate-held-step-2

@@ -4,7 +4,7 @@ use Rattle.cabinet_records.specs.declared.Record.{Record}
 use mathlib.Core.Bool.{false}
 use Rattle.cabinet_held.proofs.Checks.{taking-near}
 use Rattle.cabinet_held.specs.Held.{Near}
-use Rattle.cabinet_work.proofs.Room.{room-part, room-within, room-length}
+use Rattle.cabinet_held.proofs.Room.{room-part, room-within, room-length}
 use Rattle.cabinet_work.proofs.Held.{free-record, held-record, taking-free, taking-accepted, taking-refused}
 use Rattle.rules.specs.Laws.{greatestLength}
 use lib.ListN.{length, length-map, take}
@@ -25,14 +25,14 @@ returns c =
     let tested = c .before in
     taking-free _ _ (free-record _ (tested .if1 .taken)) (c .refusal .ensures)
 
-size-of-requires : tie.Need-size-of-requires
-size-of-requires c κs = search needs
+held-size-requires : tie.Need-held-size-requires
+held-size-requires c κs = search needs
 
 array-share-prefix-room : tie.Need-array-share-prefix-room
-array-share-prefix-room c = let start = c .before .before .before .before .before in room-within (start .args .own) (long start) (c .size-of .ensures)
+array-share-prefix-room c = let start = c .before .before .before .before .before in room-within (start .args .own) (long start) (c .held-size .ensures)
 
 slice-aggregate-held-taking : tie.Need-slice-aggregate-held-taking
-slice-aggregate-held-taking c = let start = c .before .before .before .before .before .before in room-length (start .args .own) (long start) (c .before .size-of .ensures)
+slice-aggregate-held-taking c = let start = c .before .before .before .before .before .before in room-length (start .args .own) (long start) (c .before .held-size .ensures)
 
 held-taking-requires : tie.Need-held-taking-requires
 held-taking-requires c κs = search needs
@@ -47,8 +47,8 @@ own c = c .before .before .before .before .before .before .before .before .args 
 is-held : (c : tie.After-held-taking) → isFree (own c) ≡ false
 is-held c = held-record (own c) (c .before .before .before .before .before .if1 .left)
 
-whole : (c : tie.After-held-taking) → take (c .before .before .before .size-of .result) (own c .personality) ≡ personalityOf (own c)
-whole c = room-part (own c) (long (c .before .before .before .before .before .before .before .before)) (c .before .before .before .size-of .ensures)
+whole : (c : tie.After-held-taking) → take (c .before .before .before .held-size .result) (own c .personality) ≡ personalityOf (own c)
+whole c = room-part (own c) (long (c .before .before .before .before .before .before .before .before)) (c .before .before .before .held-size .ensures)
 
 free-record-requires : tie.Need-free-record-requires
 free-record-requires c κs = search needs
@@ -81,7 +81,7 @@ taken-out-record-spec =
     (tie.spec
     refusal-requires
     returns
-    size-of-requires
+    held-size-requires
     array-share-prefix-room
     slice-aggregate-held-taking
     held-taking-requires
