@@ -94,7 +94,8 @@ fresh-timed-is-proper b known =
     let site = siteOf b in
     let sound = accepted-is-sound b known in
     let told = timed-told site (freshTimed site) (fresh-timed-is-valid b known) in
-    (kept-fits site sound freshKept (told .rest) (omega arith) (omega arith) refl (omega arith), (read-fit site sound b known (told .ruling), none-fit))
+    let core = kept-fits site sound freshKept (told .rest) (omega arith) (omega arith) refl (omega arith) in
+    (core, (read-fit site sound b known (told .ruling), none-fit))
 
 module _ (s : TimedState) (proper : ProperTimed s) where
   ruling-fits : (t : Bool) → timesForm .fits (if t then s .waiting .times else s .ruling)

@@ -55,7 +55,12 @@ clear-stepped : (first count : ℕ) (r : Record) (s : List ℕ) → Clear first 
 unfolding Clear hasOutputs personalityOf isFree withState
 clear-stepped first count r s clear = clear
 
-clear-overlaps : (row : List Record) (k first count j : ℕ) → overlaps row k first count ≡ false → j < recordCount → (j ≡ k → ⊥) → Clear first count (recordOf row j)
+clear-overlaps :
+    (row : List Record) (k first count j : ℕ) →
+    overlaps row k first count ≡ false →
+    j < recordCount →
+    (j ≡ k → ⊥) →
+    Clear first count (recordOf row j)
 unfolding overlaps Clear meetsRecord
 clear-overlaps row k first count j e below other has =
     let r = recordOf row j in
@@ -65,7 +70,12 @@ clear-overlaps row k first count j e below other has =
 
 module _ (k first count : ℕ) where
   -- a record written in place j
-  apart-set : (row : List Record) → Apart k first count row → (j : ℕ) (r : Record) → ((j ≡ k → ⊥) → Clear first count r) → Apart k first count (set row j r)
+  apart-set :
+      (row : List Record) →
+      Apart k first count row →
+      (j : ℕ) (r : Record) →
+      ((j ≡ k → ⊥) → Clear first count r) →
+      Apart k first count (set row j r)
   unfolding Apart recordOf
   apart-set row apart j r clear i other =
       ⊎-elim
@@ -98,16 +108,31 @@ module _ (b : List ℕ) (k first : ℕ) (row : List Record) (s : List ℕ) (plac
   own-has = rw (not-free b k first row s placed, own-personality b k first row s placed, placed .accepted)
 
   -- an accepted placing elsewhere has none of the outputs
-  pub new-clear : (c out : List ℕ) (j g : ℕ) → placingVerdict row out c j g ≡ Accepted → (k ≡ j → ⊥) → meet first (outputsOf b) g (outputsOf c) ≡ false
+  pub new-clear :
+      (c out : List ℕ) (j g : ℕ) →
+      placingVerdict row out c j g ≡ Accepted →
+      (k ≡ j → ⊥) →
+      meet first (outputsOf b) g (outputsOf c) ≡ false
   unfolding Clear
   new-clear c out j g e other =
       let known = clear-overlaps row j g (outputsOf c) k (placing-clear row out c j g e) (placed .below) other own-has in
       meet-swapped first (outputsOf b) g (outputsOf c)
       (rw (own-personality b k first row s placed, own-first b k first row s placed) at known)
 
-  new-holding : (c out : List ℕ) (j g : ℕ) → placingVerdict row out c j g ≡ Accepted → (k ≡ j → ⊥) → Clear first (outputsOf b) (holding c g (freshBytes c))
+  new-holding :
+      (c out : List ℕ) (j g : ℕ) →
+      placingVerdict row out c j g ≡ Accepted →
+      (k ≡ j → ⊥) →
+      Clear first (outputsOf b) (holding c g (freshBytes c))
   unfolding Clear holding
   new-holding c out j g e other has = rw (holding-personality c g (freshBytes c)) (new-clear c out j g e other)
+
+  -- another state in record j
+  apart-state : Apart k first (outputsOf b) row → (j : ℕ) (t : List ℕ) → Apart k first (outputsOf b) (set row j (withState (recordOf row j) t))
+  unfolding Apart
+  apart-state apart j t =
+      apart-set k first (outputsOf b) row apart j (withState (recordOf row j) t)
+      (λ other. clear-stepped first (outputsOf b) (recordOf row j) t (apart j other))
 
   apart-act : Apart k first (outputsOf b) row → (act : Act) (out : List ℕ) → Apart k first (outputsOf b) (doing row out act .row)
   unfolding doing placing stepping stepped takingOut Apart
@@ -116,16 +141,18 @@ module _ (b : List ℕ) (k first : ℕ) (row : List Record) (s : List ℕ) (plac
       (λ e. apart-set k first (outputsOf b) row apart j (holding c g (freshBytes c)) (λ other. new-holding c out j g e (λ h. other (sym h))))
   apart-act apart (stepSite j inputs) out =
       apart-for k first (outputsOf b) (heldVerdict row j) _ row out apart
-      (λ e. apart-set k first (outputsOf b) row apart j (withState (recordOf row j) _) (λ other. clear-stepped first (outputsOf b) (recordOf row j) _ (apart j other)))
+      (λ e. apart-state apart j _)
   apart-act apart (takeOut j) out =
       apart-for k first (outputsOf b) (takingVerdict row out j) _ row out apart
       (λ e. apart-set k first (outputsOf b) row apart j freeRecord (λ other. clear-free first (outputsOf b)))
 
-  pub apart-next : Apart k first (outputsOf b) row → (operation : Operation) (out : List ℕ) → Apart k first (outputsOf b) (operating row out operation .row)
+  pub apart-next :
+      Apart k first (outputsOf b) row →
+      (operation : Operation) (out : List ℕ) →
+      Apart k first (outputsOf b) (operating row out operation .row)
   unfolding operating retiming Apart
   apart-next apart (cabinetAct act) out = apart-act apart act out
-  apart-next apart (retimeSite j new) out =
-      apart-set k first (outputsOf b) row apart j (withState (recordOf row j) _) (λ other. clear-stepped first (outputsOf b) (recordOf row j) _ (apart j other))
+  apart-next apart (retimeSite j new) out = apart-state apart j _
 
 -- ── A list of calls ──
 
@@ -150,11 +177,12 @@ module _ (b : List ℕ) (k first : ℕ) where
   still-placed (c ∷ calls) row s placed apart stays =
       let after = operating row (c .outputs) (c .operation) .row in
       let call = callOn k (c .operation) in
+      let rest = aloneAt k first (outputsOf b) calls in
       let still =
       still-placed calls after (nextFor b k first s (c .outputs) call) (placed-next b k first row s placed (c .operation) (c .outputs) (stays .0))
       (apart-next b k first row s placed apart (c .operation) (c .outputs))
       (stays .1) in
-      (subst (Placed b k first (rowAfter onRecords after calls)) (next-alone s (c .outputs) (aloneAt k first (outputsOf b) calls) call) (still .0), still .1)
+      (subst (Placed b k first (rowAfter onRecords after calls)) (next-alone s (c .outputs) rest call) (still .0), still .1)
 
 module _ (row : List Record) (out b : List ℕ) (k first : ℕ) (e : placingVerdict row out b k first ≡ Accepted) where
   apart-before : Apart k first (outputsOf b) row

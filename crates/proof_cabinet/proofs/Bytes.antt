@@ -42,7 +42,10 @@ none-same b none k after =
     (λ (h : (r : Record) × (after ≡ set (decodedRow b) k r)). none ∙ sym (h .1 ∙ ap (λ (l : List Record). set l k (h .0)) none))
 
 -- the records that the bytes hold after a call of the cabinet
-same-for : (b out : List ℕ) (act : Act) (t : Bool) → eqb (length b) rowBytes ≡ t → decodedRow (if t then encodedRow (doing (decodedRow b) out act .row) else b) ≡ doing (decodedRow b) out act .row
+same-for :
+    (b out : List ℕ) (act : Act) (t : Bool) →
+    eqb (length b) rowBytes ≡ t →
+    decodedRow (if t then encodedRow (doing (decodedRow b) out act .row) else b) ≡ doing (decodedRow b) out act .row
 unfolding OthersStay ShapeStays operating
 same-for b out act true e =
     let long = eqb-true (length b) rowBytes e in
@@ -113,7 +116,9 @@ same-linked (operation ∷ operations) b out =
     ap (λ (l : List CabinetCall). record { operation = operation; outputs = out } ∷ l)
     (same-linked operations (done .row) (done .outputs) ∙ (λ i. linked onRecords (row i) (shown i) operations))
 
-same-outputs : (operations : List Operation) (b out : List ℕ) → outputsAfter onBytes b out operations ≡ outputsAfter onRecords (decodedRow b) out operations
+same-outputs :
+    (operations : List Operation) (b out : List ℕ) →
+    outputsAfter onBytes b out operations ≡ outputsAfter onRecords (decodedRow b) out operations
 unfolding outputsAfter onBytes onRecords
 same-outputs [] b out = refl
 same-outputs (operation ∷ operations) b out =

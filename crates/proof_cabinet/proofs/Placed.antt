@@ -158,13 +158,21 @@ module _ (b : List ℕ) (k first : ℕ) where
     same-row next e = subst (λ (r : List Record). Placed r s) (sym e) placed
 
     -- placing is refused, since the record is not free
-    place-refused : (c out : List ℕ) (g : ℕ) (v : Verdict) → placingVerdict row out c k g ≡ v → (done : Returned (List Record)) → returnedFor v done row out .row ≡ row
+    place-refused :
+        (c out : List ℕ) (g : ℕ) (v : Verdict) →
+        placingVerdict row out c k g ≡ v →
+        (done : Returned (List Record)) →
+        returnedFor v done row out .row ≡ row
     unfolding returnedFor
     place-refused c out g Accepted e done = absurd (true≢false (sym (placing-free row out c k g e) ∙ not-free))
     place-refused c out g (Refused number at) e done = refl
 
     -- taking out is refused, since it is not accepted
-    take-refused : (out : List ℕ) (v : Verdict) (done : Returned (List Record)) → done .answer ≡ 0 → (returnedFor v done row out .answer ≡ 0 → ⊥) → returnedFor v done row out .row ≡ row
+    take-refused :
+        (out : List ℕ) (v : Verdict) (done : Returned (List Record)) →
+        done .answer ≡ 0 →
+        (returnedFor v done row out .answer ≡ 0 → ⊥) →
+        returnedFor v done row out .row ≡ row
     unfolding returnedFor
     take-refused out Accepted done e stays = absurd (stays e)
     take-refused out (Refused number at) done e stays = refl
@@ -178,7 +186,10 @@ module _ (b : List ℕ) (k first : ℕ) where
         let stay = others-stay row out (placeSite c j g) in
         elsewhere _ (stay .0 k (λ h. eqb-false j k e (sym h))) (stay .1)
 
-    step-for : (out : List ℕ) (j inputs : ℕ) (t : Bool) → eqb j k ≡ t → Placed (stepping row out j inputs .row) (nextFor s out (if t then steps inputs else nothing))
+    step-for :
+        (out : List ℕ) (j inputs : ℕ) (t : Bool) →
+        eqb j k ≡ t →
+        Placed (stepping row out j inputs .row) (nextFor s out (if t then steps inputs else nothing))
     unfolding OthersStay doing recordNamed
     step-for out j inputs true e =
         after (stepping row out j inputs) (nextFor s out (steps inputs))
@@ -197,7 +208,10 @@ module _ (b : List ℕ) (k first : ℕ) where
         let stay = others-stay row out (takeOut j) in
         elsewhere _ (stay .0 k (λ h. eqb-false j k e (sym h))) (stay .1)
 
-    retime-for : (out : List ℕ) (j : ℕ) (new : List ℕ) (t : Bool) → eqb j k ≡ t → Placed (retiming row out j new .row) (nextFor s out (if t then retimes new else nothing))
+    retime-for :
+        (out : List ℕ) (j : ℕ) (new : List ℕ) (t : Bool) →
+        eqb j k ≡ t →
+        Placed (retiming row out j new .row) (nextFor s out (if t then retimes new else nothing))
     unfolding RetimingOthersStay
     retime-for out j new true e =
         after (retiming row out j new) (retimeAfter b s new)

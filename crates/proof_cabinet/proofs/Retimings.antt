@@ -1,5 +1,5 @@
--- New times for a record alter its state and nothing else; in a row of bytes they alter the bytes of the state, and the row then holds the record with
--- the new state.
+-- New times for a record alter its state and nothing else; in a row of bytes they alter the bytes of the state, and the row then holds the record
+-- with the new state.
 use Prim.Native.Nat.{ℕ, _+_, _*_, _%_, _≤_, _<_}
 use mathlib.Core.Bool.{Bool, true, false}
 use mathlib.Core.List.{List}
@@ -38,7 +38,10 @@ use Rattle.proof_cabinet.specs.Operations.{retiming, retimingBytes, Reti
 -- ── The bytes of the state ──
 
 module _ (b old new : List ℕ) where
-  length-for : (v : Verdict) → length old ≡ timedBytes → length (handedBack v (timedEncoded (retimed (timedDecoded old) (timesIn new))) old) ≡ timedBytes
+  length-for :
+      (v : Verdict) →
+      length old ≡ timedBytes →
+      length (handedBack v (timedEncoded (retimed (timedDecoded old) (timesIn new))) old) ≡ timedBytes
   unfolding handedBack
   length-for Accepted e = encoded-has-336 (retimed (timedDecoded old) (timesIn new))
   length-for (Refused number place) e = e
@@ -141,7 +144,9 @@ module _ (b : List ℕ) (long : length b ≡ rowBytes) (k : ℕ) (below : k < re
   unfolding recordOf
   state-replaced =
       decoded-long after (state-outside .long ∙ long)
-      ∙ sym (list-set (λ j. recordForm .read after (0 + j * recordBytes)) (decodedRow b) recordCount k _ freeRecord (row-length b long) below own-read other-read)
+      ∙ sym
+      (list-set (λ j. recordForm .read after (0 + j * recordBytes)) (decodedRow b) recordCount k _ freeRecord (row-length b long) below own-read
+      other-read)
 
 -- record k stands in the bytes; or there is none, and none to alter
 data Standing (b : List ℕ) (k : ℕ) : Type 0 where

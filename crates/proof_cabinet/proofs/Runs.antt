@@ -50,7 +50,10 @@ unfolding returnedFor packedVerdict packed reportOf
 accepted-for Accepted done row out some e = refl
 accepted-for (Refused n p) done row out some e = absurd (omega (arith, e, some n p refl))
 
-pub placing-accepted : (row : List Record) (out b : List ℕ) (k first : ℕ) → placing row out b k first .answer ≡ 0 → placingVerdict row out b k first ≡ Accepted
+pub placing-accepted :
+    (row : List Record) (out b : List ℕ) (k first : ℕ) →
+    placing row out b k first .answer ≡ 0 →
+    placingVerdict row out b k first ≡ Accepted
 unfolding placing
 placing-accepted row out b k first e = accepted-for (placingVerdict row out b k first) _ row out (placing-number row out b k first) e
 
@@ -78,46 +81,54 @@ module _ (row : List Record) (out b : List ℕ) (k first : ℕ) (e : placingVerd
 
 module _ (b : List ℕ) (k first : ℕ) (buffer : List ℕ) where
   -- one call, and what is seen of the calls after it
-  module _ (row : List Record) (s : List ℕ) (placed : Placed b k first row s) (out : List ℕ) (done : Returned (List Record)) (later : List Made) (rest : List Given) where
-    same-call :
-        (call : OwnCall) →
-        Did k row out call done →
-        Placed b k first (done .row) (nextFor b k first s out call) →
-        later ≡ madeFrom (board buffer) b (nextFor b k first s out call) rest →
-        seenFor call (recordOf row k) (recordOf (done .row) k) (done .answer) out (done .outputs) later
-        ≡ madeFrom (board buffer) b s (aloneFor call (outputsIn out first (outputsOf b)) rest)
-    unfolding seenFor aloneFor madeFrom board
-    same-call (steps inputs) made next same =
-        let n = outputsOf b in
-        let part = outputsIn out first n in
-        let alone = made ∙ own-stepped b k first row s placed out inputs in
-        let own = own-outputs b k first row s placed in
-        let before = ap timedDecoded (own-state b k first row s placed) in
-        let after = ap timedDecoded (own-state b k first (done .row) (nextFor b k first s out (steps inputs)) next) in
-        let shown =
-        own (done .outputs)
-        ∙ ap (λ (d : Returned (List Record)). outputsIn (d .outputs) first n) alone
-        ∙ shown-written out first n (placed .within) (coloursAfter b s inputs part) (colours-length b s inputs part) in
-        λ i.
-        stepMade
-        (record {
-          taken =
-              record {
-                before = before i .core;
-                inputs = inputs;
-                room = length (own out i);
-                outcome = outcomeIn (alone i .answer);
-                after = after i .core;
-                shown = shown i;
-              };
-          ruling = after i .ruling;
-          changed = before i .waiting .present && not (after i .waiting .present);
-        })
-        ∷ same i
-    same-call (retimes new) made next same =
-        let alone = made ∙ own-retimed b k first row s placed out new in
-        λ i. retimeMade new (verdictIn (alone i .answer)) ∷ same i
-    same-call nothing made next same = same
+  module _
+      (row : List Record)
+      (s : List ℕ)
+      (placed : Placed b k first row s)
+      (out : List ℕ)
+      (done : Returned (List Record))
+      (later : List Made)
+      (rest : List Given)
+    where
+      same-call :
+          (call : OwnCall) →
+          Did k row out call done →
+          Placed b k first (done .row) (nextFor b k first s out call) →
+          later ≡ madeFrom (board buffer) b (nextFor b k first s out call) rest →
+          seenFor call (recordOf row k) (recordOf (done .row) k) (done .answer) out (done .outputs) later
+          ≡ madeFrom (board buffer) b s (aloneFor call (outputsIn out first (outputsOf b)) rest)
+      unfolding seenFor aloneFor madeFrom board
+      same-call (steps inputs) made next same =
+          let n = outputsOf b in
+          let part = outputsIn out first n in
+          let alone = made ∙ own-stepped b k first row s placed out inputs in
+          let own = own-outputs b k first row s placed in
+          let before = ap timedDecoded (own-state b k first row s placed) in
+          let after = ap timedDecoded (own-state b k first (done .row) (nextFor b k first s out (steps inputs)) next) in
+          let shown =
+          own (done .outputs)
+          ∙ ap (λ (d : Returned (List Record)). outputsIn (d .outputs) first n) alone
+          ∙ shown-written out first n (placed .within) (coloursAfter b s inputs part) (colours-length b s inputs part) in
+          λ i.
+          stepMade
+          (record {
+            taken =
+                record {
+                  before = before i .core;
+                  inputs = inputs;
+                  room = length (own out i);
+                  outcome = outcomeIn (alone i .answer);
+                  after = after i .core;
+                  shown = shown i;
+                };
+            ruling = after i .ruling;
+            changed = before i .waiting .present && not (after i .waiting .present);
+          })
+          ∷ same i
+      same-call (retimes new) made next same =
+          let alone = made ∙ own-retimed b k first row s placed out new in
+          λ i. retimeMade new (verdictIn (alone i .answer)) ∷ same i
+      same-call nothing made next same = same
 
   same-calls :
       (calls : List CabinetCall) (s : List ℕ) (row : List Record) →
@@ -142,8 +153,9 @@ pub cabinet-runs : CabinetRuns onRecords
 unfolding CabinetRuns onRecords operating doing board
 cabinet-runs row out b k first e calls stays buffer long =
     let placed = placed-fresh row out b k first (placing-accepted row out b k first e) in
+    let alone = aloneAt k first (outputsOf b) calls in
     same-calls b k first buffer calls (freshBytes b) (placing row out b k first .row) placed stays
-    ∙ ap (λ (state : List ℕ). madeFrom (board buffer) b state (aloneAt k first (outputsOf b) calls)) (sym (fresh-bytes b buffer (placed .accepted) long))
+    ∙ ap (λ (state : List ℕ). madeFrom (board buffer) b state alone) (sym (fresh-bytes b buffer (placed .accepted) long))
 
 pub cabinet-runs-hold : CabinetRunsHold onRecords
 unfolding CabinetRunsHold CabinetRuns BoardRunsAlike onRecords operating doing timed
@@ -152,7 +164,8 @@ cabinet-runs-hold Claim holds row out b k first e calls stays =
     let long = length-replicate {A = ℕ} timedBytes 0 in
     let accepted = placed-fresh row out b k first (placing-accepted row out b k first e) .accepted in
     let alone = aloneAt k first (outputsOf b) calls in
-    subst (Claim b) (sym (cabinet-runs row out b k first e calls stays zeros long ∙ board-runs-alike zeros long b accepted alone)) (holds b accepted alone)
+    let same = cabinet-runs row out b k first e calls stays zeros long ∙ board-runs-alike zeros long b accepted alone in
+    subst (Claim b) (sym same) (holds b accepted alone)
 
 pub cabinet-demand-three : CabinetDemandThree onRecords
 unfolding CabinetDemandThree CabinetRunsHold TimedDemandThree TimedDemandThreeOf

@@ -39,7 +39,10 @@ unfolding stateFor
 state-for (Stepped wait) next old e = encoded-has-336 next
 state-for (StepRefused number place) next old e = e
 
-after-for : (t : Bool) (o : Outcome) (next : TimedState) (old : List ℕ) → length old ≡ timedBytes → length (if t then stateFor o next old else old) ≡ timedBytes
+after-for :
+    (t : Bool) (o : Outcome) (next : TimedState) (old : List ℕ) →
+    length old ≡ timedBytes →
+    length (if t then stateFor o next old else old) ≡ timedBytes
 after-for true o next old e = state-for o next old e
 after-for false o next old e = e
 

@@ -99,7 +99,10 @@ module _ (b : List ℕ) (k first : ℕ) (row : List Record) (s : List ℕ) (plac
       ∙ not-free b k first row s placed)))
       (same-outside row out (placeSite c j g))
 
-  step-beside : (out : List ℕ) (j inputs : ℕ) (t : Bool) → eqb j k ≡ t → Beside out (if t then steps inputs else nothing) (stepping row out j inputs .outputs)
+  step-beside :
+      (out : List ℕ) (j inputs : ℕ) (t : Bool) →
+      eqb j k ≡ t →
+      Beside out (if t then steps inputs else nothing) (stepping row out j inputs .outputs)
   unfolding doing stepping firstNamed personalityNamed
   step-beside out j inputs true e = tt
   step-beside out j inputs false e =
@@ -152,7 +155,9 @@ module _ (b : List ℕ) (k first : ℕ) where
       (later : (now : List ℕ) → outputsIn (done .outputs) first (outputsOf b) ≡ now → last ≡ lastShown now (acceptedSteps seen))
     where
       abbrev Shows : OwnCall → Type 0
-      Shows call = last ≡ lastShown none (acceptedSteps (seenFor call (recordOf row k) (recordOf (done .row) k) (done .answer) out (done .outputs) seen))
+      Shows call =
+          last
+          ≡ lastShown none (acceptedSteps (seenFor call (recordOf row k) (recordOf (done .row) k) (done .answer) out (done .outputs) seen))
 
       -- a refused step leaves the outputs
       left : (inputs n p : ℕ) → Did k row out (steps inputs) done → outcomeIn (done .answer) ≡ StepRefused n p → done .outputs ≡ out

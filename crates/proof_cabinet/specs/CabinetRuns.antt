@@ -1,5 +1,5 @@
--- The theorem of the cabinet, stated for a row of records and for the bytes of a row. The first call gets any row whatever, each later one the row that
--- the call before returned. New times may be handed over between the calls. The output buffers may have any length and content.
+-- The theorem of the cabinet, stated for a row of records and for the bytes of a row. The first call gets any row whatever, each later one the row
+-- that the call before returned. New times may be handed over between the calls. The output buffers may have any length and content.
 use Prim.Native.Nat.{ℕ}
 use mathlib.Core.Bool.{Bool, true, false, not, _&&_}
 use mathlib.Core.List.{List, [], _∷_}
