@@ -1,17 +1,22 @@
 //! One site, timed.
 
 use crate::clock::{longest_ns, times_of, Longest, Time, Work};
-use generate::{known_inputs, Plan, Rng};
+use generate::{known_inputs, time_fields, Plan, Rng};
 use model::{packed, step_timed_on, Site, TimedState, MAX_GROUPS, STATE_LEN};
 use std::hint::black_box;
 
 /// Steps before the inputs repeat.
 const INPUTS: usize = 1 << 14;
 
-/// A site with the inputs of its steps.
+/// The byte of a state that says whether times wait.
+const TIMES_WAIT: usize = 187;
+
+/// A site with the inputs of its steps, and a second personality for it: each of its
+/// times is a step longer, or a step shorter where no longer one is allowed.
 pub struct Bench {
     name: &'static str,
     personality: Vec<u8>,
+    second: Vec<u8>,
     inputs: Vec<u64>,
 }
 
@@ -21,6 +26,7 @@ struct Calls {
     read: fn(&[u8]) -> u64,
     fresh: fn(&[u8], &mut [u8]) -> u64,
     step: fn(&[u8], &mut [u8], u64, &mut [u8]) -> u64,
+    retime: fn(&[u8], &mut [u8], &[u8]) -> u64,
 }
 
 const MODEL: Calls = Calls {
@@ -28,6 +34,7 @@ const MODEL: Calls = Calls {
     read: packed::read,
     fresh: packed::fresh,
     step: packed::step,
+    retime: packed::retime,
 };
 
 #[cfg(feature = "linked")]
@@ -36,6 +43,7 @@ const LIBRARY: Option<Calls> = Some(Calls {
     read: willowera::packed::read,
     fresh: willowera::packed::fresh,
     step: willowera::packed::step,
+    retime: willowera::packed::retime,
 });
 
 #[cfg(not(feature = "linked"))]
@@ -46,6 +54,8 @@ struct Times {
     name: &'static str,
     read: Time,
     full_step: Time,
+    retimed_step: Time,
+    waiting_step: Time,
     longest_step: Longest,
     longest_damaged: Longest,
 }
@@ -78,6 +88,7 @@ impl Bench {
         }
         Bench {
             name,
+            second: other_times(&personality),
             personality,
             inputs,
         }
@@ -88,8 +99,14 @@ impl Bench {
         println!();
         println!("{}: {} bytes", self.name, self.personality.len());
         println!(
-            "{:8} {:>16} {:>18} {:>24} {:>24}",
-            "", "read (best)", "full step (best)", "longest step (repeated)", "of a damaged read"
+            "{:8} {:>16} {:>18} {:>16} {:>16} {:>24} {:>24}",
+            "",
+            "read (best)",
+            "full step (best)",
+            "retimed",
+            "times waiting",
+            "longest step (repeated)",
+            "of a damaged read"
         );
         match LIBRARY {
             None => {
@@ -110,10 +127,14 @@ impl Bench {
     fn time<const SETS: usize>(&self, rounds: usize, sets: [&Calls; SETS]) -> [Times; SETS] {
         let mut reads = times_of(rounds, sets.map(|calls| self.reader(calls))).into_iter();
         let mut steps = times_of(rounds, sets.map(|calls| self.stepper(calls))).into_iter();
+        let mut retimed = times_of(rounds, sets.map(|calls| self.retimed_stepper(calls))).into_iter();
+        let mut waiting = times_of(rounds, sets.map(|calls| self.waiting_stepper(calls))).into_iter();
         sets.map(|calls| Times {
             name: calls.name,
             read: reads.next().expect("a time for each set"),
             full_step: steps.next().expect("a time for each set"),
+            retimed_step: retimed.next().expect("a time for each set"),
+            waiting_step: waiting.next().expect("a time for each set"),
             longest_step: longest_ns(INPUTS, || self.stepper(calls)),
             longest_damaged: longest_ns(8 * self.personality.len(), || self.damager(calls)),
         })
@@ -135,18 +156,56 @@ impl Bench {
         })
     }
 
+    fn fresh(&self, calls: &Calls) -> [u8; STATE_LEN] {
+        let mut state = [0; STATE_LEN];
+        assert_eq!((calls.fresh)(&self.personality, &mut state), 0);
+        state
+    }
+
+    /// Makes step number `call` of the run.
+    fn step(&self, calls: &Calls, state: &mut [u8], colours: &mut [u8], call: usize) {
+        let inputs = self.inputs[call % INPUTS];
+        let personality = black_box(self.personality.as_slice());
+        let answer = (calls.step)(personality, state, inputs, colours);
+        assert_eq!(packed::number(black_box(answer)), 0);
+        black_box(colours);
+    }
+
     /// Runs the controller on from call to call.
     fn stepper<'a>(&'a self, calls: &'a Calls) -> Work<'a> {
-        let mut state = [0; STATE_LEN];
+        let mut state = self.fresh(calls);
         let mut colours = [0; MAX_GROUPS];
-        (calls.fresh)(&self.personality, &mut state);
+        Box::new(move |call| self.step(calls, &mut state, &mut colours, call))
+    }
+
+    /// The same with the times of the second personality ruling.
+    fn retimed_stepper<'a>(&'a self, calls: &'a Calls) -> Work<'a> {
+        let mut state = self.fresh(calls);
+        let mut colours = [0; MAX_GROUPS];
+        self.retime(calls, &mut state);
+        let mut call = 0;
+        while state[TIMES_WAIT] == 1 {
+            self.step(calls, &mut state, &mut colours, call);
+            call += 1;
+        }
+        Box::new(move |call| self.step(calls, &mut state, &mut colours, call))
+    }
+
+    /// The same with times that wait: each time they have taken over, they are handed
+    /// over again.
+    fn waiting_stepper<'a>(&'a self, calls: &'a Calls) -> Work<'a> {
+        let mut state = self.fresh(calls);
+        let mut colours = [0; MAX_GROUPS];
         Box::new(move |call| {
-            let inputs = self.inputs[call % INPUTS];
-            let personality = black_box(self.personality.as_slice());
-            let answer = (calls.step)(personality, &mut state, inputs, &mut colours);
-            assert_eq!(packed::number(black_box(answer)), 0);
-            black_box(&colours);
+            if state[TIMES_WAIT] == 0 {
+                self.retime(calls, &mut state);
+            }
+            self.step(calls, &mut state, &mut colours, call);
         })
+    }
+
+    fn retime(&self, calls: &Calls, state: &mut [u8]) {
+        assert_eq!((calls.retime)(&self.personality, state, &self.second), 0);
     }
 
     /// The same from a site already read.
@@ -165,11 +224,12 @@ impl Bench {
 
 impl Times {
     fn print(&self) {
-        let (read, step) = (shown(&self.read), shown(&self.full_step));
+        let [read, step] = [&self.read, &self.full_step].map(shown);
+        let [retimed, waiting] = [&self.retimed_step, &self.waiting_step].map(shown);
         let [longest, damaged] = [self.longest_step, self.longest_damaged]
             .map(|Longest { seen, repeated }| format!("{seen} ({repeated})"));
         println!(
-            "{:8} {read:>16} {step:>18} {longest:>24} {damaged:>24}",
+            "{:8} {read:>16} {step:>18} {retimed:>16} {waiting:>16} {longest:>24} {damaged:>24}",
             self.name
         );
     }
@@ -182,8 +242,27 @@ impl Times {
         };
         let read = ratio(&self.read, &other.read);
         let step = ratio(&self.full_step, &other.full_step);
-        println!("{:8} {read:>16} {step:>18}", "ratio");
+        let retimed = ratio(&self.retimed_step, &other.retimed_step);
+        let waiting = ratio(&self.waiting_step, &other.waiting_step);
+        println!(
+            "{:8} {read:>16} {step:>18} {retimed:>16} {waiting:>16}",
+            "ratio"
+        );
     }
+}
+
+/// The personality with each time a step longer, or a step shorter where no longer
+/// one is allowed.
+fn other_times(personality: &[u8]) -> Vec<u8> {
+    let mut other = personality.to_vec();
+    for (at, _) in time_fields(personality) {
+        let time = u16::from_le_bytes([other[at], other[at + 1]]);
+        other[at..at + 2].copy_from_slice(&(time + 1).to_le_bytes());
+        if packed::read(&other) != 0 {
+            other[at..at + 2].copy_from_slice(&(time - 1).to_le_bytes());
+        }
+    }
+    other
 }
 
 fn shown(time: &Time) -> String {
@@ -211,6 +290,18 @@ mod tests {
         let early = |state: &State| state.interval == Interval::EarlyCutOff;
         let found = Bench::all(1).map(|bench| reaches(&bench, early));
         assert_eq!(found, [false, false, true, false, true]);
+    }
+
+    #[test]
+    fn every_second_personality_has_other_times() {
+        for bench in Bench::all(1) {
+            let mut state = bench.fresh(&MODEL);
+            bench.retime(&MODEL, &mut state);
+            assert_eq!(state[TIMES_WAIT], 1);
+            for (at, _) in time_fields(&bench.personality) {
+                assert_ne!(bench.second[at..at + 2], bench.personality[at..at + 2]);
+            }
+        }
     }
 
     #[test]
