@@ -127,8 +127,10 @@ impl Bench {
     fn time<const SETS: usize>(&self, rounds: usize, sets: [&Calls; SETS]) -> [Times; SETS] {
         let mut reads = times_of(rounds, sets.map(|calls| self.reader(calls))).into_iter();
         let mut steps = times_of(rounds, sets.map(|calls| self.stepper(calls))).into_iter();
-        let mut retimed = times_of(rounds, sets.map(|calls| self.retimed_stepper(calls))).into_iter();
-        let mut waiting = times_of(rounds, sets.map(|calls| self.waiting_stepper(calls))).into_iter();
+        let mut retimed =
+            times_of(rounds, sets.map(|calls| self.retimed_stepper(calls))).into_iter();
+        let mut waiting =
+            times_of(rounds, sets.map(|calls| self.waiting_stepper(calls))).into_iter();
         sets.map(|calls| Times {
             name: calls.name,
             read: reads.next().expect("a time for each set"),
