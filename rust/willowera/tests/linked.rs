@@ -247,7 +247,7 @@ fn a_controller_from_the_bytes_of_a_state() {
 fn why_the_junction_holds() {
     use willowera::{Why, LONGEST_LINE};
     let mut controller = Controller::new(&JUNCTION).unwrap();
-    let refused = |number| Err(Refusal { number, place: 0 });
+    let refused = |number| Refusal { number, place: 0 };
     let mut buffer = [9; LONGEST_LINE];
     for step in 1..=35 {
         controller.step(1, &mut [9; 2]).unwrap();
@@ -270,13 +270,13 @@ fn why_the_junction_holds() {
     };
     assert_eq!(Why::parse(line), Some(told));
     let mut short = [9; 38];
-    assert_eq!(controller.why(0, &mut short), refused(14));
+    assert_eq!(controller.why(0, &mut short), Err(refused(14)));
     assert_eq!(short, [9; 38]);
     assert_eq!(controller.why(0, &mut buffer[..39]), Ok(line));
     // A locking detector of B in the inputs alters nothing.
     assert_eq!(controller.why(2, &mut buffer), Ok(line));
-    assert_eq!(controller.why_length(4), refused(15));
-    assert_eq!(controller.why(4, &mut []), refused(15));
+    assert_eq!(controller.why_length(4), Err(refused(15)));
+    assert_eq!(controller.why(4, &mut []), Err(refused(15)));
     assert_eq!(controller.state(), &before);
     assert_eq!(packed::why_length(&JUNCTION, &[], 4), 13);
     assert_eq!(packed::why(&JUNCTION, &[], 4, &mut []), 13);
@@ -287,7 +287,7 @@ fn why_the_junction_holds() {
 #[test]
 fn why_a_site_of_a_cabinet_holds() {
     use willowera::{Cabinet, LONGEST_LINE, OUTPUTS};
-    let refused = |number| Err(Refusal { number, place: 0 });
+    let refused = |number| Refusal { number, place: 0 };
     let mut cabinet = Cabinet::new();
     let (mut outputs, mut buffer) = ([0; OUTPUTS], [9; LONGEST_LINE]);
     cabinet.place(1, &JUNCTION, 4, &mut outputs).unwrap();
@@ -301,10 +301,10 @@ fn why_a_site_of_a_cabinet_holds() {
     assert_eq!(cabinet.why_length(1, 0), Ok(resting.len()));
     assert_eq!(cabinet.why(1, 0, &mut buffer), Ok(resting.as_slice()));
     assert_eq!(cabinet.why(2, 0, &mut buffer), Ok(called.as_slice()));
-    assert_eq!(cabinet.why(2, 4, &mut buffer), refused(15));
+    assert_eq!(cabinet.why(2, 4, &mut buffer), Err(refused(15)));
     for record in [0, 3, 4, usize::MAX] {
-        assert_eq!(cabinet.why_length(record, 0), refused(24));
-        assert_eq!(cabinet.why(record, 0, &mut buffer), refused(24));
+        assert_eq!(cabinet.why_length(record, 0), Err(refused(24)));
+        assert_eq!(cabinet.why(record, 0, &mut buffer), Err(refused(24)));
     }
 }
 
