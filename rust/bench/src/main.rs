@@ -1,9 +1,9 @@
 //! Times of the model, and of the board library beside it where it is linked.
 //!
 //! `bench [seed] [rounds]`. A full step call reads and checks the personality,
-//! then steps; an inner step starts from a site already read. A road is an hour
-//! of steps in one call. Each time is the
-//! median of the rounds, with the best round behind it; a ratio is the median of
+//! then steps; an inner step starts from a site already read. A line says why a phase
+//! holds, of a state in running. A road is an hour of steps in one call. Each time is
+//! the median of the rounds, with the best round behind it; a ratio is the median of
 //! the rounds' own ratios, with that of the best rounds behind it.
 
 #![forbid(unsafe_code)]

@@ -2,17 +2,23 @@
 
 use crate::clock::{longest_ns, times_of, Longest, Time, Work};
 use generate::{known_inputs, Plan, Rng};
-use model::{packed, step_timed_on, Site, TimedState, MAX_GROUPS, STATE_LEN};
+use model::{packed, step_timed_on, Interval, Site, TimedState};
+use model::{LONGEST_LINE, MAX_GROUPS, STATE_LEN};
 use std::hint::black_box;
 
 /// Steps before the inputs repeat.
 const INPUTS: usize = 1 << 14;
 
-/// A site with the inputs of its steps.
+/// States of which lines are told.
+const HOLDING: usize = 64;
+
+/// A site with the inputs of its steps, and some of the states in running that these
+/// lead to, each with the inputs of its step.
 pub struct Bench {
     name: &'static str,
     personality: Vec<u8>,
     inputs: Vec<u64>,
+    holding: Vec<([u8; STATE_LEN], u64)>,
 }
 
 /// The functions that are timed, of the model or of the library.
@@ -21,6 +27,7 @@ struct Calls {
     read: fn(&[u8]) -> u64,
     fresh: fn(&[u8], &mut [u8]) -> u64,
     step: fn(&[u8], &mut [u8], u64, &mut [u8]) -> u64,
+    why: fn(&[u8], &[u8], u64, &mut [u8]) -> u64,
 }
 
 const MODEL: Calls = Calls {
@@ -28,6 +35,7 @@ const MODEL: Calls = Calls {
     read: packed::read,
     fresh: packed::fresh,
     step: packed::step,
+    why: packed::why,
 };
 
 #[cfg(feature = "linked")]
@@ -36,6 +44,7 @@ const LIBRARY: Option<Calls> = Some(Calls {
     read: willowera::packed::read,
     fresh: willowera::packed::fresh,
     step: willowera::packed::step,
+    why: willowera::packed::why,
 });
 
 #[cfg(not(feature = "linked"))]
@@ -46,6 +55,7 @@ struct Times {
     name: &'static str,
     read: Time,
     full_step: Time,
+    why: Time,
     longest_step: Longest,
     longest_damaged: Longest,
 }
@@ -76,10 +86,12 @@ impl Bench {
             let lasts = rng.range(1, 30).min(INPUTS - inputs.len());
             inputs.extend(std::iter::repeat_n(word, lasts));
         }
+        let holding = holding(&site, &inputs);
         Bench {
             name,
             personality,
             inputs,
+            holding,
         }
     }
 
@@ -88,8 +100,13 @@ impl Bench {
         println!();
         println!("{}: {} bytes", self.name, self.personality.len());
         println!(
-            "{:8} {:>16} {:>18} {:>24} {:>24}",
-            "", "read (best)", "full step (best)", "longest step (repeated)", "of a damaged read"
+            "{:8} {:>16} {:>18} {:>16} {:>24} {:>24}",
+            "",
+            "read (best)",
+            "full step (best)",
+            "line (best)",
+            "longest step (repeated)",
+            "of a damaged read"
         );
         match LIBRARY {
             None => {
@@ -110,10 +127,12 @@ impl Bench {
     fn time<const SETS: usize>(&self, rounds: usize, sets: [&Calls; SETS]) -> [Times; SETS] {
         let mut reads = times_of(rounds, sets.map(|calls| self.reader(calls))).into_iter();
         let mut steps = times_of(rounds, sets.map(|calls| self.stepper(calls))).into_iter();
+        let mut whys = times_of(rounds, sets.map(|calls| self.teller(calls))).into_iter();
         sets.map(|calls| Times {
             name: calls.name,
             read: reads.next().expect("a time for each set"),
             full_step: steps.next().expect("a time for each set"),
+            why: whys.next().expect("a time for each set"),
             longest_step: longest_ns(INPUTS, || self.stepper(calls)),
             longest_damaged: longest_ns(8 * self.personality.len(), || self.damager(calls)),
         })
@@ -149,6 +168,18 @@ impl Bench {
         })
     }
 
+    /// Tells why a phase holds, of another state in each call.
+    fn teller<'a>(&'a self, calls: &'a Calls) -> Work<'a> {
+        let mut line = [0; LONGEST_LINE];
+        Box::new(move |call| {
+            let (state, inputs) = &self.holding[call % self.holding.len()];
+            let personality = black_box(self.personality.as_slice());
+            let answer = (calls.why)(personality, black_box(state), *inputs, &mut line);
+            assert_eq!(packed::number(black_box(answer)), 0);
+            black_box(&line);
+        })
+    }
+
     /// The same from a site already read.
     fn inner_stepper(&self) -> Work<'_> {
         let site = Site::read(&self.personality).expect("an accepted plan");
@@ -165,11 +196,11 @@ impl Bench {
 
 impl Times {
     fn print(&self) {
-        let (read, step) = (shown(&self.read), shown(&self.full_step));
+        let [read, step, why] = [&self.read, &self.full_step, &self.why].map(shown);
         let [longest, damaged] = [self.longest_step, self.longest_damaged]
             .map(|Longest { seen, repeated }| format!("{seen} ({repeated})"));
         println!(
-            "{:8} {read:>16} {step:>18} {longest:>24} {damaged:>24}",
+            "{:8} {read:>16} {step:>18} {why:>16} {longest:>24} {damaged:>24}",
             self.name
         );
     }
@@ -182,8 +213,24 @@ impl Times {
         };
         let read = ratio(&self.read, &other.read);
         let step = ratio(&self.full_step, &other.full_step);
-        println!("{:8} {read:>16} {step:>18}", "ratio");
+        let why = ratio(&self.why, &other.why);
+        println!("{:8} {read:>16} {step:>18} {why:>16}", "ratio");
     }
+}
+
+/// States in running from all over a run, each with the inputs of its step.
+fn holding(site: &Site, inputs: &[u64]) -> Vec<([u8; STATE_LEN], u64)> {
+    let mut state = TimedState::fresh(site);
+    let mut colours = [0; MAX_GROUPS];
+    let mut running = Vec::new();
+    for &inputs in inputs {
+        state = step_timed_on(site, &state, inputs, &mut colours).expect("an accepted step");
+        if state.state.interval == Interval::Running {
+            running.push((state.to_bytes(), inputs));
+        }
+    }
+    let apart = (running.len() / HOLDING).max(1);
+    running.into_iter().step_by(apart).take(HOLDING).collect()
 }
 
 fn shown(time: &Time) -> String {
@@ -211,6 +258,19 @@ mod tests {
         let early = |state: &State| state.interval == Interval::EarlyCutOff;
         let found = Bench::all(1).map(|bench| reaches(&bench, early));
         assert_eq!(found, [false, false, true, false, true]);
+    }
+
+    #[test]
+    fn every_site_tells_lines_of_several_lengths() {
+        for bench in Bench::all(1) {
+            assert_eq!(bench.holding.len(), HOLDING, "{}", bench.name);
+            let length = |(state, inputs): &([u8; STATE_LEN], u64)| {
+                packed::rest(packed::why_length(&bench.personality, state, *inputs))
+            };
+            let lengths = bench.holding.iter().map(length);
+            let lengths: std::collections::BTreeSet<u64> = lengths.collect();
+            assert!(lengths.len() > 2 && !lengths.contains(&0), "{lengths:?}");
+        }
     }
 
     #[test]
