@@ -57,8 +57,8 @@ class Asked:
             self.ask(inputs, room)
 
     def bytes(self):
-        return b"".join(little(len(data), 2) + data for data in (self.personality, self.first)) + little(len(self.calls), 2) + b"".join(
-            self.calls)
+        handed = b"".join(little(len(data), 2) + data for data in (self.personality, self.first))
+        return handed + little(len(self.calls), 2) + b"".join(self.calls)
 
     def watch(self, inputs, room, length, written):
         """Counts what a call shows."""
@@ -66,8 +66,7 @@ class Asked:
         self.seen["why answers", written[0]] += 1
         if length[0]:
             return
-        parts = taken_apart(self.personality, self.data)
-        state, ruling, waiting = parts
+        state, _, waiting = taken_apart(self.personality, self.data)
         self.seen["in", "SLMGEYR"[state.interval]] += 1
         if state.interval != G:
             self.seen["no room outside running"] += room == 0
@@ -82,14 +81,15 @@ class Asked:
             self.seen[word, len(count)] += 1
         self.watch_demands(state, inputs, told)
         self.seen["max before the count begins"] += state.maximum == 0
-        # The steps left by the personality's own times and by those that wait would be others.
-        own, later = (None if times is None else site_of(with_times(self.personality, times)).phases[state.phase]["X"]
-                      for times in (times_of(self.personality), waiting))
-        ruled = state.site.phases[state.phase]["X"]
-        self.seen["another maximum in the personality"] += own != ruled
-        self.seen["another maximum waits"] += later not in (None, ruled)
+        self.seen["another maximum in the personality"] += self.maximum(state.phase) != state.site.phases[state.phase]["X"]
+        self.seen["another maximum waits"] += waiting is not None and self.maximum(state.phase, waiting) != state.site.phases[state.phase]["X"]
         self.seen["first clearance told"] += any(stage == FIRST for stage, _ in state.stages)
         self.seen["second clearance not told"] += any(stage == SECOND for stage, _ in state.stages)
+
+    def maximum(self, phase, times=None):
+        """X of a phase by the personality's own times, or by others."""
+        personality = self.personality if times is None else with_times(self.personality, times)
+        return site_of(personality).phases[phase]["X"]
 
     def watch_demands(self, state, inputs, told):
         alone, own, site = "no other demand" in told, {state.phase}, state.site
@@ -127,7 +127,7 @@ def by_own_times(personality, state):
 
 def worked():
     """The junction of two phases: lines after some steps, and none in other intervals."""
-    nobody = {step: b"" for step in (1, 9, 10, 29)}
+    nobody = dict.fromkeys((1, 9, 10, 29), b"")
     resting = {**nobody, 30: b"A holds, no other demand, max 30", 31: b"A holds, no other demand, max 30"}
     called = {**nobody, 30: b"A holds, max 30", 31: b"", 60: b"", 70: b"", 71: b"", 91: b"B holds, no other demand, max 30"}
     held = {**nobody, 30: b"A holds, gap 5, max 30", 31: b"A holds, gap 5, max 29", 50: b"A holds, gap 5, max 10",
@@ -305,9 +305,9 @@ def runs(rng, count, length):
             if rng.random() < often:
                 _, _, data = retime(personality, data, second(rng, personality))
             inputs = traffic.next()
-            found, _, data, _ = step(personality, data, inputs, 32)
+            _, _, data, _ = step(personality, data, inputs, 32)
             if data[1] == G and rng.random() < 0.4 or rng.random() < 0.03:
-                inputs = inputs if rng.random() < 0.8 else traffic.site.wired & rng.getrandbits(64)
+                inputs = inputs if rng.random() < 0.8 else site.wired & rng.getrandbits(64)
                 asked.ask(inputs, room_of(rng, personality, data, inputs), data)
         yield asked
 
