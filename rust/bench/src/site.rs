@@ -2,7 +2,8 @@
 
 use crate::clock::{longest_ns, times_of, Longest, Time, Work};
 use generate::{known_inputs, time_fields, Plan, Rng};
-use model::{packed, step_timed_on, Site, TimedState, MAX_GROUPS, STATE_LEN};
+use model::{packed, step_timed_on, Interval, Site, TimedState};
+use model::{LONGEST_LINE, MAX_GROUPS, STATE_LEN};
 use std::hint::black_box;
 
 /// Steps before the inputs repeat.
@@ -11,13 +12,19 @@ const INPUTS: usize = 1 << 14;
 /// The byte of a state that says whether times wait.
 const TIMES_WAIT: usize = 187;
 
-/// A site with the inputs of its steps, and a second personality for it: each of its
-/// times is a step longer, or a step shorter where no longer one is allowed.
+/// States of which lines are told.
+const HOLDING: usize = 64;
+
+/// A site with the inputs of its steps, a second personality for it, and some of the
+/// states in running that the inputs lead to, each with the inputs of its step. Each
+/// time of the second is a step longer, or a step shorter where no longer one is
+/// allowed.
 pub struct Bench {
     name: &'static str,
     personality: Vec<u8>,
     second: Vec<u8>,
     inputs: Vec<u64>,
+    holding: Vec<([u8; STATE_LEN], u64)>,
 }
 
 /// The functions that are timed, of the model or of the library.
@@ -27,6 +34,7 @@ struct Calls {
     fresh: fn(&[u8], &mut [u8]) -> u64,
     step: fn(&[u8], &mut [u8], u64, &mut [u8]) -> u64,
     retime: fn(&[u8], &mut [u8], &[u8]) -> u64,
+    why: fn(&[u8], &[u8], u64, &mut [u8]) -> u64,
 }
 
 const MODEL: Calls = Calls {
@@ -35,6 +43,7 @@ const MODEL: Calls = Calls {
     fresh: packed::fresh,
     step: packed::step,
     retime: packed::retime,
+    why: packed::why,
 };
 
 #[cfg(feature = "linked")]
@@ -44,6 +53,7 @@ const LIBRARY: Option<Calls> = Some(Calls {
     fresh: willowera::packed::fresh,
     step: willowera::packed::step,
     retime: willowera::packed::retime,
+    why: willowera::packed::why,
 });
 
 #[cfg(not(feature = "linked"))]
@@ -56,6 +66,7 @@ struct Times {
     full_step: Time,
     retimed_step: Time,
     waiting_step: Time,
+    why: Time,
     longest_step: Longest,
     longest_damaged: Longest,
 }
@@ -89,6 +100,7 @@ impl Bench {
         Bench {
             name,
             second: other_times(&personality),
+            holding: holding(&site, &inputs),
             personality,
             inputs,
         }
@@ -99,12 +111,13 @@ impl Bench {
         println!();
         println!("{}: {} bytes", self.name, self.personality.len());
         println!(
-            "{:8} {:>16} {:>18} {:>16} {:>16} {:>24} {:>24}",
+            "{:8} {:>16} {:>18} {:>16} {:>16} {:>16} {:>24} {:>24}",
             "",
             "read (best)",
             "full step (best)",
             "retimed",
             "times waiting",
+            "line (best)",
             "longest step (repeated)",
             "of a damaged read"
         );
@@ -131,12 +144,14 @@ impl Bench {
             times_of(rounds, sets.map(|calls| self.retimed_stepper(calls))).into_iter();
         let mut waiting =
             times_of(rounds, sets.map(|calls| self.waiting_stepper(calls))).into_iter();
+        let mut whys = times_of(rounds, sets.map(|calls| self.teller(calls))).into_iter();
         sets.map(|calls| Times {
             name: calls.name,
             read: reads.next().expect("a time for each set"),
             full_step: steps.next().expect("a time for each set"),
             retimed_step: retimed.next().expect("a time for each set"),
             waiting_step: waiting.next().expect("a time for each set"),
+            why: whys.next().expect("a time for each set"),
             longest_step: longest_ns(INPUTS, || self.stepper(calls)),
             longest_damaged: longest_ns(8 * self.personality.len(), || self.damager(calls)),
         })
@@ -210,6 +225,18 @@ impl Bench {
         assert_eq!((calls.retime)(&self.personality, state, &self.second), 0);
     }
 
+    /// Tells why a phase holds, of another state in each call.
+    fn teller<'a>(&'a self, calls: &'a Calls) -> Work<'a> {
+        let mut line = [0; LONGEST_LINE];
+        Box::new(move |call| {
+            let (state, inputs) = &self.holding[call % self.holding.len()];
+            let personality = black_box(self.personality.as_slice());
+            let answer = (calls.why)(personality, black_box(state), *inputs, &mut line);
+            assert_eq!(packed::number(black_box(answer)), 0);
+            black_box(&line);
+        })
+    }
+
     /// The same from a site already read.
     fn inner_stepper(&self) -> Work<'_> {
         let site = Site::read(&self.personality).expect("an accepted plan");
@@ -226,12 +253,12 @@ impl Bench {
 
 impl Times {
     fn print(&self) {
-        let [read, step] = [&self.read, &self.full_step].map(shown);
+        let [read, step, why] = [&self.read, &self.full_step, &self.why].map(shown);
         let [retimed, waiting] = [&self.retimed_step, &self.waiting_step].map(shown);
         let [longest, damaged] = [self.longest_step, self.longest_damaged]
             .map(|Longest { seen, repeated }| format!("{seen} ({repeated})"));
         println!(
-            "{:8} {read:>16} {step:>18} {retimed:>16} {waiting:>16} {longest:>24} {damaged:>24}",
+            "{:8} {read:>16} {step:>18} {retimed:>16} {waiting:>16} {why:>16} {longest:>24} {damaged:>24}",
             self.name
         );
     }
@@ -246,8 +273,9 @@ impl Times {
         let step = ratio(&self.full_step, &other.full_step);
         let retimed = ratio(&self.retimed_step, &other.retimed_step);
         let waiting = ratio(&self.waiting_step, &other.waiting_step);
+        let why = ratio(&self.why, &other.why);
         println!(
-            "{:8} {read:>16} {step:>18} {retimed:>16} {waiting:>16}",
+            "{:8} {read:>16} {step:>18} {retimed:>16} {waiting:>16} {why:>16}",
             "ratio"
         );
     }
@@ -265,6 +293,21 @@ fn other_times(personality: &[u8]) -> Vec<u8> {
         }
     }
     other
+}
+
+/// States in running from all over a run, each with the inputs of its step.
+fn holding(site: &Site, inputs: &[u64]) -> Vec<([u8; STATE_LEN], u64)> {
+    let mut state = TimedState::fresh(site);
+    let mut colours = [0; MAX_GROUPS];
+    let mut running = Vec::new();
+    for &inputs in inputs {
+        state = step_timed_on(site, &state, inputs, &mut colours).expect("an accepted step");
+        if state.state.interval == Interval::Running {
+            running.push((state.to_bytes(), inputs));
+        }
+    }
+    let apart = (running.len() / HOLDING).max(1);
+    running.into_iter().step_by(apart).take(HOLDING).collect()
 }
 
 fn shown(time: &Time) -> String {
@@ -292,6 +335,19 @@ mod tests {
         let early = |state: &State| state.interval == Interval::EarlyCutOff;
         let found = Bench::all(1).map(|bench| reaches(&bench, early));
         assert_eq!(found, [false, false, true, false, true]);
+    }
+
+    #[test]
+    fn every_site_tells_lines_of_several_lengths() {
+        for bench in Bench::all(1) {
+            assert_eq!(bench.holding.len(), HOLDING, "{}", bench.name);
+            let length = |(state, inputs): &([u8; STATE_LEN], u64)| {
+                packed::rest(packed::why_length(&bench.personality, state, *inputs))
+            };
+            let lengths = bench.holding.iter().map(length);
+            let lengths: std::collections::BTreeSet<u64> = lengths.collect();
+            assert!(lengths.len() > 2 && !lengths.contains(&0), "{lengths:?}");
+        }
     }
 
     #[test]

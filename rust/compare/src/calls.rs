@@ -128,6 +128,47 @@ impl Comparison<'_> {
         Ok(expected)
     }
 
+    /// Asks why a phase holds, for the length of the line and for the line itself in a
+    /// buffer with this room; gives the answer of the writing call. Neither call
+    /// writes the state.
+    pub fn why(
+        &mut self,
+        personality: &[u8],
+        state: &[u8],
+        inputs: u64,
+        room: usize,
+    ) -> Result<u64, Box<Difference>> {
+        let handed = Handed {
+            personality: personality.to_vec(),
+            state: state.to_vec(),
+            inputs,
+            line: self.rng.bytes(room),
+            ..Handed::default()
+        };
+        let guarded = Guarded::new(&mut self.rng, personality);
+        let guarded_state = Guarded::new(&mut self.rng, state);
+        let mut found_line = Guarded::new(&mut self.rng, &handed.line);
+        let mut line = handed.line.clone();
+        let expected = Model.why_length(personality, state, inputs);
+        let found = self
+            .board
+            .why_length(guarded.inner(), guarded_state.inner(), inputs);
+        same("why length: the answer", expected, found, &handed)?;
+        let expected = Model.why(personality, state, inputs, &mut line);
+        let found = self.board.why(
+            guarded.inner(),
+            guarded_state.inner(),
+            inputs,
+            found_line.inner_mut(),
+        );
+        same("why: the answer", expected, found, &handed)?;
+        found_line.holds("why: the line", &line, &handed)?;
+        guarded_state.untouched("why: the state", &handed)?;
+        guarded.untouched("why: the personality", &handed)?;
+        self.tally.count_answer(expected);
+        Ok(expected)
+    }
+
     /// Runs a road into a buffer that holds a state or other bytes, and a result
     /// buffer of a length; gives the answer.
     pub fn road(

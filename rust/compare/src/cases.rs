@@ -49,10 +49,13 @@ pub enum Kind {
     BrokenTimes,
     RetimingWrongs,
     RetimedWatched,
+    WhyRun,
+    Whys,
+    WhyWrongs,
 }
 
 /// The kinds take turns, those that matter most more often.
-const TURNS: [Kind; 48] = [
+const TURNS: [Kind; 52] = [
     Kind::Accepted,
     Kind::Damaged(1),
     Kind::Run,
@@ -101,6 +104,10 @@ const TURNS: [Kind; 48] = [
     Kind::BrokenTimes,
     Kind::RetimingWrongs,
     Kind::RetimedWatched,
+    Kind::WhyRun,
+    Kind::Whys,
+    Kind::WhyWrongs,
+    Kind::Whys,
 ];
 
 impl Kind {
@@ -152,6 +159,9 @@ impl fmt::Display for Kind {
             Kind::BrokenTimes => "states with wrong times",
             Kind::RetimingWrongs => "several wrongs in one retiming",
             Kind::RetimedWatched => "retimed run watched for demand 3",
+            Kind::WhyRun => "run of steps with the line after each",
+            Kind::Whys => "lines of random valid states",
+            Kind::WhyWrongs => "several wrongs in one call for a line",
         };
         f.write_str(words)
     }
@@ -227,6 +237,9 @@ impl Comparison<'_> {
             Kind::BrokenTimes => self.broken_times(),
             Kind::RetimingWrongs => self.retiming_wrongs(),
             Kind::RetimedWatched => self.watched(true),
+            Kind::WhyRun => self.why_run(),
+            Kind::Whys => self.whys(),
+            Kind::WhyWrongs => self.why_wrongs(),
         }
     }
 
@@ -248,12 +261,14 @@ impl Comparison<'_> {
         let inputs = self.rng.draw();
         self.step(personality, &mut state, inputs, 32)?;
         self.retime(personality, &mut state, &other)?;
+        self.why(personality, &state, inputs, 32)?;
         let length = self.rng.below(400);
         let mut state = self.rng.bytes(length);
         let colours_len = self.rng.below(40);
         self.fresh(personality, length)?;
         self.step(personality, &mut state, inputs, colours_len)?;
         self.retime(personality, &mut state, personality)?;
+        self.why(personality, &state, inputs, colours_len)?;
         let length = self.rng.below(20);
         let road = RoadPlan {
             streams: self.rng.bytes(length),

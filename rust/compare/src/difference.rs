@@ -30,6 +30,7 @@ pub struct Handed {
     pub state: Vec<u8>,
     pub inputs: u64,
     pub colours: Vec<u8>,
+    pub line: Vec<u8>,
     pub kind: u16,
     pub streams: Vec<u8>,
     pub steps: u32,
@@ -81,6 +82,7 @@ impl fmt::Display for Handed {
         writeln!(f, "  state       {}", hex(&self.state))?;
         writeln!(f, "  inputs      {:016x}", self.inputs)?;
         writeln!(f, "  colours     {}", hex(&self.colours))?;
+        writeln!(f, "  line        {}", hex(&self.line))?;
         writeln!(f, "  kind        {}", self.kind)?;
         writeln!(f, "  streams     {}", hex(&self.streams))?;
         writeln!(f, "  steps       {}", self.steps)?;

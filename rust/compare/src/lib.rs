@@ -15,6 +15,8 @@ mod road_vectors;
 mod tally;
 mod vectors;
 mod watches;
+mod why_vectors;
+mod whys;
 
 pub use cabinet_vectors::run_cabinet_vectors;
 pub use cases::{run_case, Kind};
@@ -25,6 +27,7 @@ pub use lists::{run_lists, Lists};
 pub use road_vectors::run_road_vectors;
 pub use tally::Tally;
 pub use watches::{run_watches, Watched};
+pub use why_vectors::{run_why_vectors, Asked};
 
 /// The board that is compared: the library where it is linked.
 #[cfg(feature = "linked")]

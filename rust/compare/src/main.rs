@@ -3,13 +3,13 @@
 //! watch STEPS` watches the library alone for demand 3. `compare roads FILE` and
 //! `compare cabinets FILE` run the vectors of the Python road and cabinet on the
 //! library and on the model, `compare retimes FILE` the lists of calls of the Python
-//! controller.
+//! controller, `compare whys FILE` those for the line that says why a phase holds.
 
 #![forbid(unsafe_code)]
 
 use compare::{
-    board_name, run_cabinet_vectors, run_cases, run_lists, run_road_vectors, run_watches, Lists,
-    BOARD,
+    board_name, run_cabinet_vectors, run_cases, run_lists, run_road_vectors, run_watches,
+    run_why_vectors, Asked, Lists, BOARD,
 };
 use model::packed::{Board, Model};
 use std::process::ExitCode;
@@ -19,7 +19,8 @@ const USAGE: &str = "usage: compare SEED CASES
        compare SEED watch STEPS
        compare roads FILE
        compare cabinets FILE
-       compare retimes FILE";
+       compare retimes FILE
+       compare whys FILE";
 
 /// What is to be done.
 enum Task {
@@ -35,6 +36,7 @@ fn main() -> ExitCode {
             "roads" => return exit_code(vectors(file, roads)),
             "cabinets" => return exit_code(vectors(file, cabinets)),
             "retimes" => return exit_code(vectors(file, retimes)),
+            "whys" => return exit_code(vectors(file, whys)),
             _ => {}
         }
     }
@@ -118,6 +120,11 @@ fn cabinets(board: &dyn Board, file: &[u8]) -> Result<String, String> {
 fn retimes(board: &dyn Board, file: &[u8]) -> Result<String, String> {
     let Lists { lists, calls } = run_lists(board, file)?;
     Ok(format!("{lists:>9}  lists of calls, {calls} calls"))
+}
+
+fn whys(board: &dyn Board, file: &[u8]) -> Result<String, String> {
+    let Asked { lists, lines } = run_why_vectors(board, file)?;
+    Ok(format!("{lists:>9}  lists of states, {lines} lines"))
 }
 
 /// Runs the vectors of a file on the model and on the board.

@@ -101,7 +101,7 @@ impl Comparison<'_> {
 }
 
 /// A state that is valid or breaks one rule.
-fn doubtful_state(rng: &mut Rng, personality: &[u8], site: &Site) -> Vec<u8> {
+pub(crate) fn doubtful_state(rng: &mut Rng, personality: &[u8], site: &Site) -> Vec<u8> {
     let broken = match rng.below(4) {
         0 => {
             let breakage = rng.pick(&Breakage::ALL);
@@ -117,7 +117,7 @@ fn doubtful_state(rng: &mut Rng, personality: &[u8], site: &Site) -> Vec<u8> {
 }
 
 /// A random accepted personality; two of three have short times.
-fn quick_personality(rng: &mut Rng) -> Vec<u8> {
+pub(crate) fn quick_personality(rng: &mut Rng) -> Vec<u8> {
     let mut shape = Shape::random(rng);
     if rng.percent(66) {
         shape.pace = Pace::Short;

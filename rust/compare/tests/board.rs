@@ -1,7 +1,9 @@
 //! The board against the model: the library where it is linked, else the model
 //! stands in for it.
 
-use compare::{board_name, run_cases, run_watches, BOARD};
+use compare::{board_name, run_cases, run_watches, run_why_vectors, Asked, BOARD};
+use model::packed::{Board, Model};
+use std::path::Path;
 
 /// Seeds of the cases that run with every test.
 const SEEDS: [u64; 3] = [1, 20_260_101, 0xB0A2D];
@@ -14,6 +16,17 @@ fn differs_nowhere() {
             Ok(tally) => println!("{tally}"),
             Err(failure) => panic!("{failure}"),
         }
+    }
+}
+
+#[test]
+fn agrees_with_the_lines_of_the_python_model() {
+    let package = Path::new(env!("CARGO_MANIFEST_DIR"));
+    let kept = std::fs::read(package.join("../../vectors/whys"));
+    let kept = kept.expect("the vectors of the line are kept");
+    for board in [&Model as &dyn Board, &BOARD] {
+        let Asked { lists, lines } = run_why_vectors(board, &kept).unwrap();
+        assert!(lists > 200 && lines > 3_000, "{lists} lists, {lines} lines");
     }
 }
 

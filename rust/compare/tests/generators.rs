@@ -2,14 +2,15 @@
 
 use generate::{
     any_records, broken_state_bytes, broken_times, changed_beyond_times, damaged, held_record,
-    invalid_state, known_inputs, other_edition, refused_second, retimed, scrambled, time_fields,
-    twice_damaged, twist, unknown_inputs, valid_state, valid_timed_state, Breakage, CabinetCall,
-    Plan, Rng, RoadPlan, TimesBreakage, Twist, AIMED, MODES,
+    invalid_state, known_inputs, other_edition, refused_second, retimed, running_timed_state,
+    scrambled, time_fields, twice_damaged, twist, unknown_inputs, valid_state, valid_timed_state,
+    Breakage, CabinetCall, Plan, Rng, RoadPlan, TimesBreakage, Twist, AIMED, MODES,
 };
 use model::packed::{self, number, rest, Model};
 use model::{
-    read, records_of, row_of, times_alone_differ, valid, valid_timed, Edition, Interval, Mark,
-    Record, Road, Setting, Site, Stage, State, Stream, TimedState, Times, RECORDS, ROW_LEN,
+    read, records_of, row_of, times_alone_differ, valid, valid_timed, why_on, Edition, Interval,
+    Mark, Reasons, Record, Road, Setting, Site, Stage, State, Stream, TimedState, Times, RECORDS,
+    ROW_LEN,
 };
 use std::collections::{BTreeMap, BTreeSet};
 
@@ -435,6 +436,47 @@ fn valid_timed_states_are_valid_and_of_every_kind() {
     }
     for (name, count) in seen {
         assert!(count >= 100, "{name}: {count}");
+    }
+}
+
+#[test]
+fn running_states_have_every_reason_to_hold() {
+    let mut rng = Rng::new(SEED);
+    let mut seen: BTreeMap<String, usize> = BTreeMap::new();
+    for plan in plans(1_000) {
+        let bytes = plan.bytes();
+        let site = Site::read(&bytes).unwrap();
+        for _ in 0..20 {
+            let timed = running_timed_state(&mut rng, &bytes, &site);
+            assert!(valid_timed(&site, &timed), "{timed:?}");
+            let inputs = known_inputs(&mut rng, &site);
+            let reasons = why_on(&site, &timed, inputs).unwrap();
+            let reasons = reasons.expect("a state in running");
+            let Reasons {
+                no_other_demand,
+                gap,
+                steps_left,
+                walks,
+                ..
+            } = reasons;
+            let mut count = |name: String| *seen.entry(name).or_default() += 1;
+            count(format!("no other demand {no_other_demand}"));
+            count(format!("gap of length {}", gap.to_string().len()));
+            count(format!(
+                "maximum of length {}",
+                steps_left.to_string().len()
+            ));
+            count(format!("gap above 0 {}", gap > 0));
+            count(format!("steps left {}", steps_left > 0));
+            count(format!("walks {}", walks.count_ones().min(4)));
+            if [1, 9, 10, 99, 100, 999, 1000].contains(&steps_left) {
+                count(format!("{steps_left} steps left"));
+            }
+        }
+    }
+    assert_eq!(seen.len(), 2 + 3 + 4 + 2 + 2 + 5 + 7, "{seen:?}");
+    for (name, count) in seen {
+        assert!(count >= 20, "{name}: {count}");
     }
 }
 

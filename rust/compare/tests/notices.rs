@@ -48,6 +48,14 @@ impl Board for Wrong {
         self.section.map_or(answer, |spoil| spoil(answer, kind))
     }
 
+    fn why_length(&self, personality: &[u8], state: &[u8], inputs: u64) -> u64 {
+        Model.why_length(personality, state, inputs)
+    }
+
+    fn why(&self, personality: &[u8], state: &[u8], inputs: u64, line: &mut [u8]) -> u64 {
+        Model.why(personality, state, inputs, line)
+    }
+
     fn road(
         &self,
         personality: &[u8],
@@ -270,6 +278,14 @@ impl Board for ScansAnew {
         Model.section(personality, kind)
     }
 
+    fn why_length(&self, personality: &[u8], state: &[u8], inputs: u64) -> u64 {
+        Model.why_length(personality, state, inputs)
+    }
+
+    fn why(&self, personality: &[u8], state: &[u8], inputs: u64, line: &mut [u8]) -> u64 {
+        Model.why(personality, state, inputs, line)
+    }
+
     fn road(
         &self,
         personality: &[u8],
@@ -339,6 +355,14 @@ impl Board for GoesByLetters {
         Model.section(personality, kind)
     }
 
+    fn why_length(&self, personality: &[u8], state: &[u8], inputs: u64) -> u64 {
+        Model.why_length(personality, state, inputs)
+    }
+
+    fn why(&self, personality: &[u8], state: &[u8], inputs: u64, line: &mut [u8]) -> u64 {
+        Model.why(personality, state, inputs, line)
+    }
+
     fn road(
         &self,
         personality: &[u8],
@@ -404,6 +428,14 @@ impl Board for OtherEditions {
 
     fn section(&self, personality: &[u8], kind: u16) -> u64 {
         (self.section)(personality, kind)
+    }
+
+    fn why_length(&self, personality: &[u8], state: &[u8], inputs: u64) -> u64 {
+        Model.why_length(personality, state, inputs)
+    }
+
+    fn why(&self, personality: &[u8], state: &[u8], inputs: u64, line: &mut [u8]) -> u64 {
+        Model.why(personality, state, inputs, line)
     }
 
     fn road(
@@ -490,8 +522,9 @@ fn another_first_kind_taken_for_edition_two() {
             read,
             section: |personality, kind| Model.section(personality, kind),
         };
-        let failure = run_cases(&board, 5, 0..4_000).expect_err("nothing is noticed");
-        assert_eq!(failure.kind, Kind::Damaged(2));
+        let cases = (0..20_000).filter(|&index| Kind::of(index) == Kind::Damaged(2));
+        let found = run_cases(&board, 5, cases);
+        assert!(found.is_err(), "nothing is noticed");
     }
 }
 

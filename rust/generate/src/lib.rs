@@ -20,6 +20,8 @@ pub use inputs::{any_inputs, known_inputs, unknown_inputs};
 pub use plan::{Pace, Plan, Shape, MODES};
 pub use retimes::{any_second, changed_beyond_times, refused_second, retimed, time_fields};
 pub use rng::Rng;
-pub use states::{broken_state_bytes, invalid_state, valid_state, Breakage};
+pub use states::{broken_state_bytes, invalid_state, running_state, valid_state, Breakage};
 pub use streams::{RoadDamage, RoadPlan};
-pub use timed::{broken_times, invalid_timed_state, valid_timed_state, TimesBreakage};
+pub use timed::{
+    broken_times, invalid_timed_state, running_timed_state, valid_timed_state, TimesBreakage,
+};

@@ -10,10 +10,39 @@ use model::{
 
 /// A random valid state, reachable or not.
 pub fn valid_state(rng: &mut Rng, site: &Site) -> State {
+    let interval = random_interval(rng, site);
+    state_in(rng, site, interval)
+}
+
+/// Counts at which a number becomes longer, and those beside them.
+const LONGER: [u16; 10] = [1, 9, 10, 11, 99, 100, 101, 999, 1000, 1001];
+
+/// A random valid state in running. Many have a gap count or steps left to the maximum
+/// at which the number becomes longer, and many have no demand of another phase.
+pub fn running_state(rng: &mut Rng, site: &Site) -> State {
+    let mut state = state_in(rng, site, Interval::Running);
+    let times = site.phase(state.phase);
+    if rng.percent(50) {
+        state.gap_count = rng.pick(&LONGER).min(times.gap);
+    }
+    if rng.percent(50) {
+        state.maximum_count = times.maximum_green.saturating_sub(rng.pick(&LONGER));
+    }
+    if rng.percent(50) {
+        state.locks &= 1 << state.phase;
+        let own = |index: &usize| site.movement(*index).phase == state.phase;
+        let own = (0..site.movement_count()).filter(own);
+        state.demands &= own.fold(0, |set, index| set | 1 << index);
+        state.demanded = scan(site, &state);
+    }
+    state
+}
+
+/// A random valid state in an interval that the site has.
+fn state_in(rng: &mut Rng, site: &Site, interval: Interval) -> State {
     let phases = site.phase_count();
     let phase = rng.below(phases) as u8;
     let times = site.phase(phase);
-    let interval = random_interval(rng, site);
     let mut state = State {
         phase,
         interval,

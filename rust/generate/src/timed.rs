@@ -4,12 +4,27 @@
 use crate::damage::wrong_time;
 use crate::retimes::{retimed, time_fields};
 use crate::rng::Rng;
-use crate::states::{invalid_state, valid_state, Breakage};
-use model::{layout, Setting, Site, TimedState, Times, STATE_LEN, TIMES_LEN};
+use crate::states::{invalid_state, running_state, valid_state, Breakage};
+use model::{layout, Setting, Site, State, TimedState, Times, STATE_LEN, TIMES_LEN};
 
 /// A random valid state at the site of a personality, reachable or not: by its own
 /// times or by others, with none waiting or some.
 pub fn valid_timed_state(rng: &mut Rng, personality: &[u8], site: &Site) -> TimedState {
+    timed_state(rng, personality, site, valid_state)
+}
+
+/// The same in running.
+pub fn running_timed_state(rng: &mut Rng, personality: &[u8], site: &Site) -> TimedState {
+    timed_state(rng, personality, site, running_state)
+}
+
+/// A state that is drawn by the times that rule in it.
+fn timed_state(
+    rng: &mut Rng,
+    personality: &[u8],
+    site: &Site,
+    draw: impl FnOnce(&mut Rng, &Site) -> State,
+) -> TimedState {
     let ruling = random_times(rng, personality);
     let waiting = match rng.below(5) {
         0 | 1 => None,
@@ -17,7 +32,7 @@ pub fn valid_timed_state(rng: &mut Rng, personality: &[u8], site: &Site) -> Time
         _ => Some(random_times(rng, personality)),
     };
     TimedState {
-        state: valid_state(rng, &site.with_times(&ruling)),
+        state: draw(rng, &site.with_times(&ruling)),
         ruling,
         waiting,
     }

@@ -4,8 +4,8 @@
 //! One step is 0.1 s and every time is counted in steps. The model reads a
 //! personality, steps the controller, gives the colours of the signal groups,
 //! the wait bound and the sections of a personality, takes new times while it runs,
-//! runs a simulated road, and keeps four sites in one cabinet. It needs no heap and
-//! nothing of the standard library but its core.
+//! says why a phase holds its green, runs a simulated road, and keeps four sites in
+//! one cabinet. It needs no heap and nothing of the standard library but its core.
 //!
 //! A [`State`] is what the rules of a step are about. A [`TimedState`] has the times
 //! in it too, those that rule and those that wait: it is what a call hands back.
@@ -38,6 +38,7 @@ mod timed;
 mod times;
 mod valid;
 mod wait;
+mod why;
 
 pub use cabinet::{place, step_held, take_out, OUTPUTS};
 pub use colours::Colour;
@@ -56,6 +57,7 @@ pub use timed::{step_timed, step_timed_on, valid_timed, TimedAnswer, TimedState}
 pub use times::{Times, TIMES_LEN};
 pub use valid::valid;
 pub use wait::wait_bound;
+pub use why::{why, why_on, Reasons, LONGEST_LINE};
 
 /// Most phases of a site.
 pub const MAX_PHASES: usize = 7;

@@ -1,7 +1,7 @@
 //! The model in the shape of the board library: a state is bytes that a step
 //! replaces, and an answer is one number. Its low 8 bits are 0 where the call is
-//! accepted, else the number of the refusal; the rest is the wait bound or the
-//! place.
+//! accepted, else the number of the refusal; the rest is the wait bound, the length
+//! of a line or the place.
 
 use crate::cabinet;
 use crate::record::{records_of, row_of, Record};
@@ -9,6 +9,7 @@ use crate::refusal::{Number, Refusal};
 use crate::road::{Road, RESULT_LEN};
 use crate::site::Site;
 use crate::timed::{step_timed_on, TimedState};
+use crate::why::{why_on, Reasons};
 use crate::STATE_LEN;
 
 /// A board: the calls of the library, over buffers of any content and length.
@@ -19,6 +20,8 @@ pub trait Board {
     fn step(&self, personality: &[u8], state: &mut [u8], inputs: u64, colours: &mut [u8]) -> u64;
     fn retime(&self, personality: &[u8], state: &mut [u8], new_personality: &[u8]) -> u64;
     fn section(&self, personality: &[u8], kind: u16) -> u64;
+    fn why_length(&self, personality: &[u8], state: &[u8], inputs: u64) -> u64;
+    fn why(&self, personality: &[u8], state: &[u8], inputs: u64, line: &mut [u8]) -> u64;
     fn road(
         &self,
         personality: &[u8],
@@ -68,6 +71,14 @@ impl Board for Model {
         section(personality, kind)
     }
 
+    fn why_length(&self, personality: &[u8], state: &[u8], inputs: u64) -> u64 {
+        why_length(personality, state, inputs)
+    }
+
+    fn why(&self, personality: &[u8], state: &[u8], inputs: u64, line: &mut [u8]) -> u64 {
+        why(personality, state, inputs, line)
+    }
+
     fn road(
         &self,
         personality: &[u8],
@@ -104,7 +115,7 @@ pub fn number(answer: u64) -> u8 {
     answer as u8
 }
 
-/// The wait bound or the place in an answer.
+/// The wait bound, the length of a line or the place in an answer.
 pub fn rest(answer: u64) -> u64 {
     answer >> 8
 }
@@ -174,6 +185,35 @@ pub fn section(personality: &[u8], kind: u16) -> u64 {
     crate::section(personality, kind).map_or_else(refuse, |part| {
         u64::from(part.offset) << 8 | u64::from(part.length) << 40
     })
+}
+
+/// The length of the line that says why a phase holds; 0 outside running.
+pub fn why_length(personality: &[u8], state: &[u8], inputs: u64) -> u64 {
+    told(personality, state, inputs, |reasons| Ok(reasons.length()))
+}
+
+/// Writes the line that says why a phase holds, and answers its length. Outside
+/// running no byte is written, and no buffer is too short.
+pub fn why(personality: &[u8], state: &[u8], inputs: u64, line: &mut [u8]) -> u64 {
+    told(personality, state, inputs, |reasons| reasons.write(line))
+}
+
+/// What is told of the reasons of a state in its bytes: a length.
+fn told(
+    personality: &[u8],
+    state: &[u8],
+    inputs: u64,
+    tell: impl FnOnce(Reasons) -> Result<usize, Refusal>,
+) -> u64 {
+    let site = match Site::read(personality) {
+        Ok(site) => site,
+        Err(refusal) => return refuse(refusal),
+    };
+    let Some(timed) = TimedState::from_bytes(state) else {
+        return Number::InvalidState as u64;
+    };
+    let length = why_on(&site, &timed, inputs).and_then(|reasons| reasons.map_or(Ok(0), tell));
+    length.map_or_else(refuse, |length| accept(length as u32))
 }
 
 /// Runs a simulated road: writes the last state, and for each stream the vehicles
@@ -247,8 +287,8 @@ fn on_records(row: &mut [u8], call: impl FnOnce(&mut [Record]) -> Result<u32, Re
     }
 }
 
-fn accept(bound: u32) -> u64 {
-    u64::from(bound) << 8
+fn accept(rest: u32) -> u64 {
+    u64::from(rest) << 8
 }
 
 fn refuse(refusal: Refusal) -> u64 {

@@ -32,7 +32,8 @@ pub enum Number {
     /// The state is not valid.
     InvalidState = 13,
     /// The colour buffer is shorter than the group count, the result buffer
-    /// shorter than the results, or the output buffer shorter than the outputs.
+    /// shorter than the results, the output buffer shorter than the outputs, or the
+    /// line buffer shorter than the line.
     ShortBuffer = 14,
     /// An input bit is set without a detector or button there.
     UnknownInput = 15,

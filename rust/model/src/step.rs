@@ -94,15 +94,15 @@ pub fn scan(site: &Site, state: &State) -> u8 {
 }
 
 /// The phases with an occupied detector that calls, locks or extends.
-struct Occupied {
-    calling: u8,
+pub(crate) struct Occupied {
+    pub(crate) calling: u8,
     locking: u8,
     extending: u8,
 }
 
 impl Occupied {
     #[inline]
-    fn by(site: &Site, inputs: u64) -> Occupied {
+    pub(crate) fn by(site: &Site, inputs: u64) -> Occupied {
         let mut occupied = Occupied {
             calling: 0,
             locking: 0,

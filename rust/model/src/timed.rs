@@ -1,7 +1,7 @@
 //! The state with the times that rule, and those that wait for a phase to start.
 
 use crate::colours::show;
-use crate::refusal::{Number, Refusal};
+use crate::refusal::{Number, Refusal, Verdict};
 use crate::site::Site;
 use crate::state::{fresh, State};
 use crate::step::advance_with;
@@ -57,6 +57,18 @@ fn valid_by(site: &Site, ruled: &Site, timed: &TimedState) -> bool {
         && valid(ruled, &timed.state)
 }
 
+/// Checks the state and the inputs of a step, given the site by the times that rule.
+#[inline]
+pub(crate) fn admit(site: &Site, ruled: &Site, timed: &TimedState, inputs: u64) -> Verdict {
+    if !valid_by(site, ruled, timed) {
+        return Err(Refusal::without_place(Number::InvalidState));
+    }
+    if inputs & !site.known_inputs() != 0 {
+        return Err(Refusal::without_place(Number::UnknownInput));
+    }
+    Ok(())
+}
+
 /// The answer to a step call: the state handed back (the old one where the step
 /// is refused), and the wait bound of the times that rule after it or the refusal.
 #[derive(Clone, Copy, Debug, PartialEq, Eq)]
@@ -98,12 +110,7 @@ pub fn step_timed_on(
     colours: &mut [u8],
 ) -> Result<TimedState, Refusal> {
     let ruled = site.with_times(&timed.ruling);
-    if !valid_by(site, &ruled, timed) {
-        return Err(Refusal::without_place(Number::InvalidState));
-    }
-    if inputs & !site.known_inputs() != 0 {
-        return Err(Refusal::without_place(Number::UnknownInput));
-    }
+    admit(site, &ruled, timed, inputs)?;
     let Some(colours) = colours.get_mut(..site.group_count()) else {
         return Err(Refusal::without_place(Number::ShortBuffer));
     };

@@ -92,6 +92,22 @@ pub fn yellow(speed: u32, grade: i32) -> Result<u64, Refusal> {
     wait_bound_or_refusal(packed::yellow(speed, grade))
 }
 
+/// The length of a line in an answer.
+pub(crate) fn line_length(answer: u64) -> Result<usize, Refusal> {
+    wait_bound_or_refusal(answer).map(|length| length as usize)
+}
+
+/// The line of a state, where it is written in a buffer.
+pub(crate) fn line_of<'b>(
+    personality: &[u8],
+    state: &[u8],
+    inputs: u64,
+    buffer: &'b mut [u8],
+) -> Result<&'b [u8], Refusal> {
+    let length = line_length(packed::why(personality, state, inputs, buffer))?;
+    Ok(&buffer[..length])
+}
+
 /// The version of the library.
 pub fn version() -> u32 {
     packed::version()
@@ -137,6 +153,18 @@ impl<'a> Controller<'a> {
     pub fn retime(&mut self, new_personality: &[u8]) -> Result<(), Refusal> {
         let answer = packed::retime(self.personality, &mut self.state, new_personality);
         wait_bound_or_refusal(answer).map(|_| ())
+    }
+
+    /// The length of the line that [`Controller::why`] writes.
+    pub fn why_length(&self, inputs: u64) -> Result<usize, Refusal> {
+        line_length(packed::why_length(self.personality, &self.state, inputs))
+    }
+
+    /// Writes a line to the beginning of a buffer: why the phase holds its green after
+    /// a step with these inputs. It is empty outside running, and never longer than
+    /// [`crate::LONGEST_LINE`]; [`crate::Why::parse`] takes it apart.
+    pub fn why<'b>(&self, inputs: u64, buffer: &'b mut [u8]) -> Result<&'b [u8], Refusal> {
+        line_of(self.personality, &self.state, inputs, buffer)
     }
 
     /// The bytes of the state.

@@ -1,7 +1,9 @@
 //! Four sites in one cabinet.
 
 use crate::answer::{wait_bound_or_refusal, Refusal};
+use crate::board::{line_length, line_of};
 use crate::{packed, RECORD_LEN, ROW_LEN, STATE_LEN};
+use std::ops::Range;
 
 /// A cabinet of [`crate::RECORDS`] records, each free or with a site. The outputs
 /// belong to the caller: [`crate::OUTPUTS`] bytes or more, which go on from call
@@ -47,9 +49,31 @@ impl Cabinet {
     /// and rule from that start on. A record that is free, or that the cabinet lacks, is
     /// refused with 24 as in a step.
     pub fn retime(&mut self, record: usize, new_personality: &[u8]) -> Result<(), Refusal> {
-        let (personality, state) = parts_in(&mut self.row, record).ok_or(NO_SITE)?;
-        let answer = packed::retime(personality, state, new_personality);
+        let (personality, state) = parts_in(&self.row, record).ok_or(NO_SITE)?;
+        let (before, after) = self.row.split_at_mut(state.start);
+        let state = &mut after[..STATE_LEN];
+        let answer = packed::retime(&before[personality], state, new_personality);
         wait_bound_or_refusal(answer).map(|_| ())
+    }
+
+    /// The length of the line that [`Cabinet::why`] writes.
+    pub fn why_length(&self, record: usize, inputs: u64) -> Result<usize, Refusal> {
+        let (personality, state) = parts_in(&self.row, record).ok_or(NO_SITE)?;
+        let answer = packed::why_length(&self.row[personality], &self.row[state], inputs);
+        line_length(answer)
+    }
+
+    /// Writes a line to the beginning of a buffer: why the phase of the site of a
+    /// record holds its green after a step with these inputs. A record that is free, or
+    /// that the cabinet lacks, is refused with 24 as in a step.
+    pub fn why<'b>(
+        &self,
+        record: usize,
+        inputs: u64,
+        buffer: &'b mut [u8],
+    ) -> Result<&'b [u8], Refusal> {
+        let (personality, state) = parts_in(&self.row, record).ok_or(NO_SITE)?;
+        line_of(&self.row[personality], &self.row[state], inputs, buffer)
     }
 
     /// Takes the site out of a record, which is then free; its outputs turn dark.
@@ -69,15 +93,15 @@ const NO_SITE: Refusal = Refusal {
     place: 0,
 };
 
-/// The personality and the state of a record, where they lie in the row. None if the
-/// record is free, or the row has no such record.
-fn parts_in(row: &mut [u8; ROW_LEN], record: usize) -> Option<(&[u8], &mut [u8])> {
-    let record: &mut [u8; RECORD_LEN] = row.as_chunks_mut().0.get_mut(record)?;
-    let (head, state) = record.split_at_mut(RECORD_LEN - STATE_LEN);
-    let (&mut [held, _, low, high], room) = head.split_first_chunk_mut()?;
+/// Where the personality and the state of a record lie in the row. None if the record
+/// is free, or the row has no such record.
+fn parts_in(row: &[u8; ROW_LEN], record: usize) -> Option<(Range<usize>, Range<usize>)> {
+    let &[held, _, low, high, ..]: &[u8; RECORD_LEN] = row.as_chunks().0.get(record)?;
+    let room = RECORD_LEN * record + 4;
+    let state = RECORD_LEN * (record + 1) - STATE_LEN;
     // A length above the room counts as the room.
-    let length = usize::from(u16::from_le_bytes([low, high])).min(room.len());
-    (held != 0).then_some((&room[..length], state))
+    let length = usize::from(u16::from_le_bytes([low, high])).min(state - room);
+    (held != 0).then_some((room..room + length, state..state + STATE_LEN))
 }
 
 impl Default for Cabinet {

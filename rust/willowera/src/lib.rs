@@ -11,6 +11,7 @@ mod board;
 mod cabinet;
 #[cfg(feature = "linked")]
 pub mod packed;
+mod why;
 
 pub use answer::{part, sheet_settings, wait_bound_or_refusal, Part, Refusal, Settings};
 #[cfg(feature = "linked")]
@@ -20,6 +21,7 @@ pub use board::{
 };
 #[cfg(feature = "linked")]
 pub use cabinet::Cabinet;
+pub use why::{Why, LONGEST_LINE};
 
 /// The version of the interface that these wrappers are for.
 pub const VERSION: u32 = 5;

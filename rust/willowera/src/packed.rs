@@ -1,6 +1,6 @@
 //! The calls of the library over slices of any length, with its packed answers:
 //! the low 8 bits are 0 where a call is accepted, else the number of the
-//! refusal; the rest is the wait bound or the place.
+//! refusal; the rest is the wait bound, the length of a line or the place.
 
 mod ffi {
     unsafe extern "C" {
@@ -30,6 +30,22 @@ mod ffi {
             new_personality_len: usize,
         ) -> u64;
         pub fn willowera_section(personality: *const u8, personality_len: usize, kind: u16) -> u64;
+        pub fn willowera_why_length(
+            personality: *const u8,
+            personality_len: usize,
+            state: *const u8,
+            state_len: usize,
+            inputs: u64,
+        ) -> u64;
+        pub fn willowera_why(
+            personality: *const u8,
+            personality_len: usize,
+            state: *const u8,
+            state_len: usize,
+            inputs: u64,
+            line: *mut u8,
+            line_len: usize,
+        ) -> u64;
         pub fn willowera_road(
             personality: *const u8,
             personality_len: usize,
@@ -138,6 +154,38 @@ pub fn retime(personality: &[u8], state: &mut [u8], new_personality: &[u8]) -> u
 pub fn section(personality: &[u8], kind: u16) -> u64 {
     // SAFETY: the pointer and the length are those of one slice, only read.
     unsafe { ffi::willowera_section(personality.as_ptr(), personality.len(), kind) }
+}
+
+/// The length of the line that says why a phase holds; 0 outside running.
+pub fn why_length(personality: &[u8], state: &[u8], inputs: u64) -> u64 {
+    // SAFETY: each pointer and length are those of one slice, only read.
+    unsafe {
+        ffi::willowera_why_length(
+            personality.as_ptr(),
+            personality.len(),
+            state.as_ptr(),
+            state.len(),
+            inputs,
+        )
+    }
+}
+
+/// Writes the line that says why a phase holds, unless it is refused, and answers
+/// its length.
+pub fn why(personality: &[u8], state: &[u8], inputs: u64, line: &mut [u8]) -> u64 {
+    // SAFETY: each pointer and length are those of one slice; the one lent for
+    // writing overlaps neither of the two that are only read.
+    unsafe {
+        ffi::willowera_why(
+            personality.as_ptr(),
+            personality.len(),
+            state.as_ptr(),
+            state.len(),
+            inputs,
+            line.as_mut_ptr(),
+            line.len(),
+        )
+    }
 }
 
 /// A simulated road: writes the last state, and 4 bytes for each stream, unless

@@ -244,6 +244,71 @@ fn a_controller_from_the_bytes_of_a_state() {
 }
 
 #[test]
+fn why_the_junction_holds() {
+    use willowera::{Why, LONGEST_LINE};
+    let mut controller = Controller::new(&JUNCTION).unwrap();
+    let refused = |number| Refusal { number, place: 0 };
+    let mut buffer = [9; LONGEST_LINE];
+    for step in 1..=35 {
+        controller.step(1, &mut [9; 2]).unwrap();
+        if step < 30 {
+            assert_eq!(controller.why_length(1), Ok(0));
+            assert_eq!(controller.why(1, &mut []), Ok([].as_slice()));
+        }
+    }
+    let before = *controller.state();
+    let line = b"A holds, no other demand, gap 5, max 30".as_slice();
+    assert_eq!(controller.why_length(0), Ok(line.len()));
+    assert_eq!(controller.why(0, &mut buffer), Ok(line));
+    assert!(buffer[line.len()..].iter().all(|&byte| byte == 9));
+    let told = Why {
+        phase: 0,
+        no_other_demand: true,
+        gap: 5,
+        max: 30,
+        walks: 0,
+    };
+    assert_eq!(Why::parse(line), Some(told));
+    let mut short = [9; 38];
+    assert_eq!(controller.why(0, &mut short), Err(refused(14)));
+    assert_eq!(short, [9; 38]);
+    assert_eq!(controller.why(0, &mut buffer[..39]), Ok(line));
+    // A locking detector of B in the inputs alters nothing.
+    assert_eq!(controller.why(2, &mut buffer), Ok(line));
+    assert_eq!(controller.why_length(4), Err(refused(15)));
+    assert_eq!(controller.why(4, &mut []), Err(refused(15)));
+    assert_eq!(controller.state(), &before);
+    assert_eq!(packed::why_length(&JUNCTION, &[], 4), 13);
+    assert_eq!(packed::why(&JUNCTION, &[], 4, &mut []), 13);
+    assert_eq!(packed::why_length(&[], &[], 4), 1);
+    assert_eq!(packed::why(&[], &[], 4, &mut []), 1);
+}
+
+#[test]
+fn why_a_site_of_a_cabinet_holds() {
+    use willowera::{Cabinet, LONGEST_LINE, OUTPUTS};
+    let refused = |number| Refusal { number, place: 0 };
+    let mut cabinet = Cabinet::new();
+    let (mut outputs, mut buffer) = ([0; OUTPUTS], [9; LONGEST_LINE]);
+    cabinet.place(1, &JUNCTION, 4, &mut outputs).unwrap();
+    cabinet.place(2, &JUNCTION, 6, &mut outputs).unwrap();
+    for step in 1..=30 {
+        cabinet.step(1, 0, &mut outputs).unwrap();
+        let called = if step == 12 { 2 } else { 0 };
+        cabinet.step(2, called, &mut outputs).unwrap();
+    }
+    let (resting, called) = (b"A holds, no other demand, max 30", b"A holds, max 30");
+    assert_eq!(cabinet.why_length(1, 0), Ok(resting.len()));
+    assert_eq!(cabinet.why(1, 0, &mut buffer), Ok(resting.as_slice()));
+    assert_eq!(cabinet.why(2, 0, &mut buffer), Ok(called.as_slice()));
+    assert_eq!(cabinet.why(2, 4, &mut buffer), Err(refused(15)));
+    for record in [0, 3, 4, usize::MAX] {
+        assert_eq!(cabinet.why_length(record, 0), Err(refused(24)));
+        assert_eq!(cabinet.why(record, 0, &mut buffer), Err(refused(24)));
+    }
+}
+
+#[test]
 fn buffers_of_no_length() {
     assert_eq!(
         read(&[]).unwrap_err(),

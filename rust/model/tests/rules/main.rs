@@ -21,3 +21,4 @@ mod running;
 mod states;
 mod trace;
 mod wait;
+mod why;
