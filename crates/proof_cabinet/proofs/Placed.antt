@@ -18,7 +18,7 @@ use Rattle.rules.specs.Laws.{greatestLength}
 use Rattle.board_step.specs.StepCall.{stepAnswer, stateAfter, coloursAfter}
 use Rattle.board_retime.specs.RetimeCall.{retimeAnswer, retimeAfter}
 use Rattle.cabinet_records.specs.declared.Record.{Record}
-use Rattle.cabinet_records.specs.Cabinet.{recordCount, outputCount, isFree, personalityOf, freeRecord, holding, withState, recordOf, hasRecord, outputsOf, pastLast, outputsIn, writtenAt, ownOutputs, placingVerdict, heldVerdict, takingVerdict, Returned, returnedFor, placing, stepped, stepping, takingOut, placeSite, stepSite, takeOut, doing}
+use Rattle.cabinet_records.specs.Cabinet.{recordCount, outputCount, isFree, personalityOf, freeRecord, holding, withState, recordOf, hasRecord, outputsOf, pastLast, outputsIn, writtenAt, ownOutputs, placingVerdict, heldVerdict, takingVerdict, Returned, returnedFor, placing, stepped, stepping, takingOut, Act, placeSite, stepSite, takeOut, doing}
 use Rattle.cabinet_records.specs.CabinetLaws.{recordNamed, OthersStay}
 use Rattle.cabinet_records.proofs.Checks.{placing-free}
 use Rattle.cabinet_records.proofs.CabinetLaws.{others-stay}
@@ -109,7 +109,7 @@ module _ (b : List ℕ) (k first : ℕ) where
     unfolding heldVerdict refuseIf pastLast _orElse_
     held-accepted = rw (there, not-free, own-personality, own-first, placed .accepted, le-ltb outputCount (first + outputsOf b) (placed .within))
 
-    -- ── A step on the record ──
+    -- ── A step of the site in the record, and new times for it ──
 
     pub own-outputs : (out : List ℕ) → ownOutputs (recordOf row k) out ≡ outputsIn out first (outputsOf b)
     unfolding ownOutputs
@@ -154,6 +154,10 @@ module _ (b : List ℕ) (k first : ℕ) where
           at = same ∙ placed .at;
         }
 
+    act-elsewhere : (act : Act) (out : List ℕ) → (k ≡ recordNamed act → ⊥) → Placed (doing row out act .row) s
+    unfolding OthersStay
+    act-elsewhere act out other = let stay = others-stay row out act in elsewhere (doing row out act .row) (stay .0 k other) (stay .1)
+
     same-row : (next : List Record) → next ≡ row → Placed next s
     same-row next e = subst (λ (r : List Record). Placed r s) (sym e) placed
 
@@ -178,35 +182,29 @@ module _ (b : List ℕ) (k first : ℕ) where
     take-refused out (Refused number at) done e stays = refl
 
     place-for : (c out : List ℕ) (j g : ℕ) (t : Bool) → eqb j k ≡ t → Placed (placing row out c j g .row) s
-    unfolding OthersStay doing placing recordNamed
+    unfolding doing placing recordNamed
     place-for c out j g true e =
         same-row _
         (ap (λ (i : ℕ). placing row out c i g .row) (eqb-true j k e) ∙ place-refused c out g (placingVerdict row out c k g) refl _)
-    place-for c out j g false e =
-        let stay = others-stay row out (placeSite c j g) in
-        elsewhere _ (stay .0 k (λ h. eqb-false j k e (sym h))) (stay .1)
+    place-for c out j g false e = act-elsewhere (placeSite c j g) out (λ h. eqb-false j k e (sym h))
 
     step-for :
         (out : List ℕ) (j inputs : ℕ) (t : Bool) →
         eqb j k ≡ t →
         Placed (stepping row out j inputs .row) (nextFor s out (if t then steps inputs else nothing))
-    unfolding OthersStay doing recordNamed
+    unfolding doing recordNamed
     step-for out j inputs true e =
         after (stepping row out j inputs) (nextFor s out (steps inputs))
         (ap (λ (i : ℕ). stepping row out i inputs .row) (eqb-true j k e) ∙ ap (λ (d : Returned (List Record)). d .row) (own-stepped out inputs))
-    step-for out j inputs false e =
-        let stay = others-stay row out (stepSite j inputs) in
-        elsewhere _ (stay .0 k (λ h. eqb-false j k e (sym h))) (stay .1)
+    step-for out j inputs false e = act-elsewhere (stepSite j inputs) out (λ h. eqb-false j k e (sym h))
 
     take-for :
         (out : List ℕ) (j : ℕ) (t : Bool) → eqb j k ≡ t →
         (t ≡ true → takingOut row out j .answer ≡ 0 → ⊥) →
         Placed (takingOut row out j .row) s
-    unfolding OthersStay doing takingOut recordNamed
+    unfolding doing takingOut recordNamed
     take-for out j true e stays = same-row _ (take-refused out (takingVerdict row out j) _ refl (stays refl))
-    take-for out j false e stays =
-        let stay = others-stay row out (takeOut j) in
-        elsewhere _ (stay .0 k (λ h. eqb-false j k e (sym h))) (stay .1)
+    take-for out j false e stays = act-elsewhere (takeOut j) out (λ h. eqb-false j k e (sym h))
 
     retime-for :
         (out : List ℕ) (j : ℕ) (new : List ℕ) (t : Bool) →
@@ -218,7 +216,7 @@ module _ (b : List ℕ) (k first : ℕ) where
         (ap (λ (i : ℕ). retiming row out i new .row) (eqb-true j k e) ∙ ap (λ (d : Returned (List Record)). d .row) (own-retimed out new))
     retime-for out j new false e =
         let stay = retiming-others-stay row out j new in
-        elsewhere _ (stay .0 k (λ h. eqb-false j k e (sym h))) (stay .1)
+        elsewhere (retiming row out j new .row) (stay .0 k (λ h. eqb-false j k e (sym h))) (stay .1)
 
     -- the operation leaves the site in its place, if it does not take it out
     pub placed-next :
