@@ -7,8 +7,9 @@
  *
  * - A pointer has as many bytes behind it as the length next to it says. All 64 bits of a length count: bytes after a whole
  *   personality are refused with 12, and a state of any length other than WILLOWERA_STATE_BYTES with 13.
- * - During a call nobody else writes a buffer of the call, or reads the state, the colours, the results, the row or the outputs.
- * - State, colours and results do not overlap each other, a personality or the streams. They may be adjacent. The two personalities of
+ * - During a call nobody else writes a buffer of the call, or reads the state, the colours, the line, the results, the row or the
+ *   outputs.
+ * - State, colours, line and results do not overlap each other, a personality or the streams. They may be adjacent. The two personalities of
  *   willowera_retime may be the same buffer.
  * - The row and the outputs of a cabinet do not overlap each other or the personality that is placed. They may be adjacent.
  * - willowera_settings is called in the default floating-point environment: round to nearest, subnormal numbers on.
@@ -18,12 +19,12 @@
  * - A valid pointer for length 0. The pointer may be anything, also null; the buffer is empty and is not accessed.
  * - Alignment, of any buffer.
  * - A writable personality. It may be in read-only memory.
- * - Initial values in the colour buffer, in the buffer for a fresh state or in the outputs of a cabinet.
+ * - Initial values in the colour buffer, in the buffers for a fresh state and for a line, or in the outputs of a cabinet.
  *
  * What a call does to memory:
  *
  * - It reads the personalities, the state, the streams and the row. An accepted step writes the state and one colour byte for each group,
- *   an accepted retiming the state, an accepted road the state and the results. An accepted call of a cabinet writes its own record and
+ *   an accepted retiming the state, willowera_why the line, an accepted road the state and the results. An accepted call of a cabinet writes its own record and
  *   its own outputs. A refused call writes nothing. Otherwise a call uses only its stack.
  * - The library has no variables, no heap and no locks. Calls with their own state and colours may run at the same time, in several
  *   threads or in a signal handler that interrupts another call, and may share a personality. Calls on one row may not.
@@ -55,6 +56,8 @@ extern "C" {
 #define WILLOWERA_MOST_GROUPS 32
 #define WILLOWERA_MOST_DETECTORS 48
 #define WILLOWERA_MOST_MOVEMENTS 8
+
+#define WILLOWERA_MOST_LINE_BYTES 107 /* the longest line of willowera_why */
 
 #define WILLOWERA_MOST_STREAMS 48
 #define WILLOWERA_MOST_RATE 1800
@@ -136,7 +139,7 @@ extern "C" {
 #define WILLOWERA_WRONG_DETECTOR 11     /* unknown phase or mode; place: the record */
 #define WILLOWERA_LEFT_OVER 12          /* bytes follow the last section; place: the first of them */
 #define WILLOWERA_STATE_NOT_VALID 13    /* state not valid, or not a state; place 0 */
-#define WILLOWERA_BUFFER_SHORT 14       /* colour, result or output buffer too short; place 0 */
+#define WILLOWERA_BUFFER_SHORT 14       /* colour, line, result or output buffer too short; place 0 */
 #define WILLOWERA_STRAY_INPUT 15        /* an input bit is set that has no detector and no button; place 0 */
 #define WILLOWERA_NO_EARLY_TIMES 17     /* a group stops early, but section 7 is missing; place: the first such record */
 #define WILLOWERA_WRONG_ORDER 18        /* section 9 does not list each phase once; place: its head */
@@ -164,6 +167,7 @@ extern "C" {
 #define WILLOWERA_NUMBER(answer) ((unsigned)((answer) & 0xff))
 #define WILLOWERA_PLACE(answer) ((size_t)((answer) >> 8))
 #define WILLOWERA_WAIT(answer) ((uint32_t)((answer) >> 8))
+#define WILLOWERA_LINE_LENGTH(answer) ((size_t)((answer) >> 8))
 #define WILLOWERA_OFFSET(answer) ((size_t)((answer) >> 8 & 0xffffffff))
 #define WILLOWERA_LENGTH(answer) ((size_t)((answer) >> 40))
 #define WILLOWERA_MINIMUM_GREEN_SETTING(answer) ((uint16_t)((answer) >> 8))
@@ -198,6 +202,26 @@ uint64_t willowera_step(const uint8_t *personality, size_t personality_length, u
  * The checks: the first personality; then 13; then the new personality (a place is then an offset in the new one); then 26. */
 uint64_t willowera_retime(const uint8_t *personality, size_t personality_length, uint8_t *state, size_t state_length,
                           const uint8_t *new_personality, size_t new_length);
+
+/* Why the phase of a state in running holds, as one line of text for a panel, read from the state after a step and the inputs of that step:
+ * the phase letter and " holds", then those that are true, each after a comma and a space:
+ *
+ *     no other demand     no other phase is demanded
+ *     gap 5               steps that the gap count has left
+ *     max 120             steps left to the maximum: X of the times that rule, less the maximum count
+ *     walk 2              a movement in walk or first clearance, counted from 1; one for each
+ *
+ * as in "A holds, gap 5, max 120, walk 2". Of the inputs only the detectors that call without lock count. In another interval the line has no
+ * bytes. There is no terminator.
+ *
+ * Both answer the length of the line (WILLOWERA_LINE_LENGTH), at most WILLOWERA_MOST_LINE_BYTES, or a refusal; willowera_why also writes the
+ * line to the start of the buffer, and bytes behind it stay. Neither writes the state.
+ *
+ * The checks: the personality; then 13; then 15; willowera_why: then 14 (line_length is less than the length of the line). */
+uint64_t willowera_why_length(const uint8_t *personality, size_t personality_length, const uint8_t *state, size_t state_length,
+                              uint64_t inputs);
+uint64_t willowera_why(const uint8_t *personality, size_t personality_length, const uint8_t *state, size_t state_length, uint64_t inputs,
+                       uint8_t *line, size_t line_length);
 
 /* Minimum green and passage time of an approach, in steps (WILLOWERA_MINIMUM_GREEN_SETTING, WILLOWERA_PASSAGE_TIME), or a refusal.
  * The speed is in km/h. The metres are the distance of an advance detector, or the length of a stop-line zone. A NaN, an infinity,
@@ -240,7 +264,7 @@ uint64_t willowera_section(const uint8_t *personality, size_t personality_length
  * clear one that came from elsewhere, write zeros over it. Its outputs are not kept for it: another site may be placed on them.
  *
  * A pointer to a part of a record may be handed to other calls: a held personality to willowera_section, or a held personality and its
- * state to willowera_retime. */
+ * state to willowera_retime and willowera_why. */
 
 /* Places a site in a free record: stores the personality, the fresh state and the first output, turns the site's outputs red, and answers
  * 0; or a refusal.

@@ -4,6 +4,7 @@
 #     check.sh needs         it needs nothing but memcpy and memset, and has no data that could be written
 #     check.sh conditions    what include/willowera.h says of buffers and threads, tried by conditions.c
 #     check.sh steps         steps.c prints the colours of the trace of the junction of two phases
+#     check.sh why           steps.c prints why the phases of two sites hold, as it is kept in why.txt
 #     check.sh settings      settings.c prints the answers that the data sheet's table of site sheets has
 #     check.sh road          road.c prints what the tables of the example roads have, but for the longest queue
 #     check.sh cabinet       cabinet.c prints what is kept in cabinet.txt, and every site in the cabinet does what it does alone
@@ -44,6 +45,10 @@ steps)
     run steps examples/two_phases/personality.bin 80 12-12:1 |
         cmp - <(echo 'wait bound 270 steps' && changes examples/two_phases/trace_call.txt)
     ;;
+why)
+    { run steps --why examples/two_phases/personality.bin 110 12-12:1 1-110:0 && run steps --why examples/crossings/personality.bin 700 60-60:48 61-61:50; } |
+        diff - examples/c/why.txt
+    ;;
 settings)
     # shellcheck disable=SC2046 # three words of each row
     run settings $(sheets '$2, $3, $4') | diff - <(sheets '$5')
@@ -67,7 +72,7 @@ yellow)
     run yellow $(yellows '$2, $3') | diff - <(yellows '$4')
     ;;
 *)
-    sed -n '2,12s/^# \{0,1\}//p' "$0"
+    sed -n '2,13s/^# \{0,1\}//p' "$0"
     exit 2
     ;;
 esac
