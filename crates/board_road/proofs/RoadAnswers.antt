@@ -50,7 +50,9 @@ module _ (b streams : List ℕ) (steps : ℕ) (state : List ℕ) (room : ℕ) wh
 -- what the call answers, with both buffers as they return
 abbrev pub Answers : List ℕ → List ℕ → ℕ → List ℕ → List ℕ → ℕ → List ℕ → List ℕ → Type 0
 Answers b streams steps state old r new out =
-    (r ≡ roadAnswer b streams steps state (length old)) × (new ≡ lastState b streams steps state (length old)) × (out ≡ resultsAfter b streams steps state old)
+    (r ≡ roadAnswer b streams steps state (length old))
+    × (new ≡ lastState b streams steps state (length old))
+    × (out ≡ resultsAfter b streams steps state old)
 
 module _ (b streams : List ℕ) (steps : ℕ) (state old : List ℕ) where
   pub declines :

@@ -1,70 +1,75 @@
-// The calls of a cabinet on a row of bytes, for callers in C and Rust: four records at fixed places (cabinet_records/specs/Layout.antt).
-// A call reads and writes the bytes of its own record where they are.
-mod held;
-mod layout;
-mod overlap;
-mod placing;
-
+// A row of bytes for callers in C and Rust: four records at fixed places (cabinet_records/specs/Layout.antt). Where the parts of a record are,
+// and what they hold.
+ghost use Prim.Native.Nat.{min};
+ghost use mathlib.Core.Bool.{not, _&&_};
 ghost use mathlib.Core.Path.{_≡_};
-ghost use Rattle.cabinet_records.specs.Cabinet.{placeSite, stepSite, takeOut};
-ghost use Rattle.cabinet_records.specs.Layout.{doingBytes};
-use crate::held::step_held;
-use crate::held::taking;
-use crate::layout::RECORD_BYTES;
-use crate::layout::is_free;
-use crate::layout::is_held;
-use crate::placing::checks;
-use crate::placing::hold;
-use crate::placing::placed_nowhere;
-use cabinet_held::fills;
-use rules::answer::Verdict;
+ghost use Rattle.rules.specs.Laws.{greatestLength};
+ghost use Rattle.cabinet_records.specs.Cabinet.{isFree, personalityOf, hasRecord, recordOf};
+ghost use Rattle.cabinet_records.specs.Layout.{decodedRow};
+ghost use Rattle.cabinet_bytes.specs.Named.{Named};
+use base_bytes::two_in;
 
-// The colour of a site's outputs as it begins.
-const RED: u8 = 0;
+pub const RECORDS: usize = 4;
 
-// Places a site in record k, which is free: it begins fresh, with its outputs red. Answers 0 or the refusal.
-pub fn place(row: &mut [u8], k: usize, personality: &[u8], first: usize, outputs: &mut [u8]) -> u64
-    ensures { λ r. ⌜ record { answer = r; row = now (row .exit); outputs = now (outputs .exit) }
-        ≡ doingBytes (now (row .entry)) (now (outputs .entry)) (placeSite (now (personality .entry)) k first) ⌝ }
+pub const FIRST: usize = 1;
+
+pub const SIZE: usize = 2;
+
+pub const PERSONALITY: usize = 4;
+
+pub const STATE: usize = PERSONALITY + 477;
+
+pub const RECORD_BYTES: usize = STATE + state_timed::TIMED_BYTES;
+
+pub const ROW_BYTES: usize = RECORDS * RECORD_BYTES;
+
+// Whether a row has record k. A row of another length has none.
+pub fn has_record(row: &[u8], k: usize) -> bool
+    ensures { λ r. ⌜ r ≡ hasRecord (decodedRow (now (row .entry))) k ⌝ }
 {
-    if !is_free(row, k) {
-        return placed_nowhere(personality);
-    }
-    let verdict = checks(row, k, personality, first, outputs.len());
-    if let Verdict::Refused { number, place } = verdict {
-        return board_answers::refusal(number, place);
-    }
-    let count = cabinet_held::outputs_of(personality);
-    fills::fill(outputs, first, count as usize, RED);
-    let at = k * RECORD_BYTES;
-    let end = at + RECORD_BYTES;
-    hold(&mut row[at..end], personality, first as u8);
-    0
+    (row.len() == ROW_BYTES) & (k < RECORDS)
 }
 
-// One step of 0.1 s of the site that record k holds. Answers its wait bound or the refusal.
-pub fn step(row: &mut [u8], k: usize, inputs: u64, outputs: &mut [u8]) -> u64
-    ensures { λ r. ⌜ record { answer = r; row = now (row .exit); outputs = now (outputs .exit) }
-        ≡ doingBytes (now (row .entry)) (now (outputs .entry)) (stepSite k inputs) ⌝ }
+// Whether record k is there and free.
+pub fn is_free(row: &[u8], k: usize) -> bool
+    ensures { λ r. ⌜ r ≡ (hasRecord (decodedRow (now (row .entry))) k && isFree (recordOf (decodedRow (now (row .entry))) k)) ⌝ }
 {
-    if !is_held(row, k) {
-        return board_answers::refusal(24, 0);
+    if has_record(row, k) {
+        row[k * RECORD_BYTES] == 0
+    } else {
+        false
     }
-    step_held(row, k, inputs, outputs)
 }
 
-// Takes out the site that record k holds: the record is free, and its outputs are dark. Answers 0 or the refusal.
-pub fn take_out(row: &mut [u8], k: usize, outputs: &mut [u8]) -> u64
-    ensures { λ r. ⌜ record { answer = r; row = now (row .exit); outputs = now (outputs .exit) }
-        ≡ doingBytes (now (row .entry)) (now (outputs .entry)) (takeOut k) ⌝ }
+// Whether record k is there and not free.
+pub fn is_held(row: &[u8], k: usize) -> bool
+    ensures { λ r. ⌜ r ≡ (hasRecord (decodedRow (now (row .entry))) k && not (isFree (recordOf (decodedRow (now (row .entry))) k))) ⌝ }
 {
-    if !is_held(row, k) {
-        return board_answers::refusal(24, 0);
-    }
-    let verdict = taking(row, k, outputs);
-    if let Verdict::Refused { number, place } = verdict {
-        return board_answers::refusal(number, place);
-    }
-    fills::fill(row, k * RECORD_BYTES, RECORD_BYTES, 0);
-    0
+    has_record(row, k) & !is_free(row, k)
+}
+
+// The first output of record k.
+pub fn first_of(row: &[u8], k: usize) -> u8
+    requires { ⌜ Named (now row) k ⌝ }
+    ensures { λ r. ⌜ r ≡ recordOf (decodedRow (now (row .entry))) k .first ⌝ }
+{
+    row[k * RECORD_BYTES + FIRST]
+}
+
+// How many bytes of its room the personality of record k has.
+fn size_of(row: &[u8], k: usize) -> usize
+    requires { ⌜ Named (now row) k ⌝ }
+    ensures { λ r. ⌜ r ≡ min (recordOf (decodedRow (now (row .entry))) k .size) greatestLength ⌝ }
+{
+    cabinet_held::held_size(two_in(row, k * RECORD_BYTES + SIZE))
+}
+
+// The personality that record k holds.
+pub fn personality_of(row: &[u8], k: usize) -> &[u8]
+    requires { ⌜ Named (now row) k ⌝ }
+    ensures { λ r. ⌜ now r ≡ personalityOf (recordOf (decodedRow (now (row .entry))) k) ⌝ }
+{
+    let start = k * RECORD_BYTES + PERSONALITY;
+    let end = start + size_of(row, k);
+    &row[start..end]
 }

@@ -2,17 +2,18 @@
 use Prim.Native.Nat.{ℕ}
 use mathlib.Core.Bool.{Bool, true, false, not, _&&_, _||_}
 use mathlib.Core.List.{List}
-use mathlib.Core.Path.{_≡_, refl, sym}
+use mathlib.Core.Path.{_≡_, refl, sym, ap}
 use lib.Dec.{ltb}
-use lib.ListN.{length}
+use lib.ListN.{length, set}
+use lib.Seq.{set-getD}
 use Rattle.rules.specs.declared.answer.Verdict.{Verdict}
 use Rattle.rules.specs.declared.answer.Verdict.the-variants.{Accepted, Refused}
 use Rattle.rules.specs.Personality.{verdictOf}
 use Rattle.rules.specs.Verdicts.{_orElse_, refuseIf, reportOf}
 use Rattle.board_answers.specs.Answers.{packed, packedVerdict}
 use Rattle.cabinet_records.specs.declared.Record.{Record}
-use Rattle.cabinet_records.specs.Cabinet.{outputCount, isFree, personalityOf, recordOf, hasRecord, outputsOf, overlaps, isShort, placingVerdict, heldVerdict, takingVerdict, returnedFor, placing, stepping, takingOut}
-use Rattle.cabinet_held.specs.Held.{heldChecks, takingChecks, placingChecks}
+use Rattle.cabinet_records.specs.Cabinet.{outputCount, isFree, personalityOf, freeRecord, withState, recordOf, hasRecord, outputsOf, overlaps, isShort, ownOutputs, placingVerdict, heldVerdict, takingVerdict, returnedFor, placing, stepped, stepping, takingOut}
+use Rattle.cabinet_held.specs.Held.{heldChecks, takingChecks, placingChecks, heldStepFor, heldStepped, heldStep}
 
 not-and : (a b : Bool) → (not a || not b) ≡ not (a && b)
 not-and true b = refl
@@ -70,6 +71,26 @@ module _ (row : List Record) (out : List ℕ) (k : ℕ) where
     taking-checked =
         rw held-checked
         (sym (or-assoc (refuseIf (isFree own) 24 0) (heldChecks (personalityOf own) (own .first)) (refuseIf (ltb (length out) outputCount) 14 0)))
+
+    -- a step of a held record, by the step call on its personality
+    held-for :
+        (inputs : ℕ) (v : Verdict) →
+        heldChecks (personalityOf own) (own .first) ≡ v →
+        isFree own ≡ false →
+        let done = heldStep (personalityOf own) (own .first) (own .state) inputs out in
+        stepping row out k inputs ≡ record { answer = done .answer; row = set row k (withState own (done .state)); outputs = done .outputs }
+    unfolding stepping stepped returnedFor heldStep heldStepFor heldStepped ownOutputs withState recordOf refuseIf _orElse_
+    held-for inputs Accepted e held = rw (held-checked, held, e)
+    held-for inputs (Refused number place) e held =
+        rw (held-checked, held, e)
+        (ap (λ (l : List Record). record { answer = packedVerdict (Refused number place); row = l; outputs = out }) (sym (set-getD row k freeRecord)))
+
+    pub stepping-held :
+        (inputs : ℕ) →
+        isFree own ≡ false →
+        let done = heldStep (personalityOf own) (own .first) (own .state) inputs out in
+        stepping row out k inputs ≡ record { answer = done .answer; row = set row k (withState own (done .state)); outputs = done .outputs }
+    stepping-held inputs = held-for inputs (heldChecks (personalityOf own) (own .first)) refl
 
   -- no such record, or it is free
   module _ (none : (hasRecord row k && not (isFree own)) ≡ false) where

@@ -8,12 +8,13 @@ use lib.ListN.{length, replicate}
 use Rattle.rules.specs.declared.answer.Verdict.{Verdict}
 use Rattle.rules.specs.declared.answer.Verdict.the-variants.{Accepted, Refused}
 use Rattle.rules.specs.Call.{handedBack}
+use Rattle.rules.specs.Colours.{red}
 use Rattle.rules.specs.Laws.{greatestLength}
 use Rattle.rules.specs.Personality.{verdictOf}
 use Rattle.rules.specs.Verdicts.{_orElse_, refuseIf}
 use Rattle.board_answers.specs.Answers.{packedVerdict}
 use Rattle.board_step.specs.StepCall.{stepAnswer, stateAfter, coloursAfter}
-use Rattle.cabinet_records.specs.Cabinet.{outputsOf, pastLast, outputsIn, writtenAt}
+use Rattle.cabinet_records.specs.Cabinet.{dark, outputsOf, pastLast, outputsIn, writtenAt}
 
 -- no place is above the length of the longest personality
 abbrev pub Near : Verdict → Type 0
@@ -41,6 +42,13 @@ placingChecks b free met first room =
 -- the outputs of a personality, turned to a colour if the call is accepted
 unfoldable pub turned : Verdict → ℕ → List ℕ → ℕ → List ℕ → List ℕ
 turned v colour b first out = handedBack v (writtenAt out first (replicate (outputsOf b) colour)) out
+
+-- after taking out, and after placing
+abbrev pub darkened : List ℕ → ℕ → List ℕ → List ℕ
+darkened b first out = turned (takingChecks b first (length out)) dark b first out
+
+abbrev pub reddened : List ℕ → Bool → Bool → ℕ → List ℕ → List ℕ
+reddened b free met first out = turned (placingChecks b free met first (length out)) red b first out
 
 -- ── A step ──
 

@@ -7,8 +7,8 @@ ghost use lib.ListN.{length};
 ghost use Rattle.rules.specs.Laws.{greatestLength};
 ghost use Rattle.rules.specs.Personality.{verdictOf};
 ghost use Rattle.board_answers.specs.Answers.{packedVerdict};
-ghost use Rattle.cabinet_records.specs.Cabinet.{dark, outputsOf, isAccepted, meet, pastLast};
-ghost use Rattle.cabinet_held.specs.Held.{Near, heldChecks, takingChecks, turned, heldStep};
+ghost use Rattle.cabinet_records.specs.Cabinet.{outputsOf, isAccepted, meet, pastLast};
+ghost use Rattle.cabinet_held.specs.Held.{Near, heldChecks, takingChecks, darkened, heldStep};
 
 pub mod fills;
 pub mod placing;
@@ -124,8 +124,7 @@ fn taking_checks(personality: &[u8], first: u8, room: usize) -> Verdict
 // Turns the outputs of a held personality dark, if it may be taken out.
 pub fn held_taking(personality: &[u8], first: u8, outputs: &mut [u8]) -> Verdict
     ensures { λ r. ⌜ (r ≡ takingChecks (now (personality .entry)) first (length (now (outputs .entry))))
-        × (now (outputs .exit) ≡ turned (takingChecks (now (personality .entry)) first (length (now (outputs .entry)))) dark (now (personality .entry)) first
-        (now (outputs .entry))) ⌝ }
+        × (now (outputs .exit) ≡ darkened (now (personality .entry)) first (now (outputs .entry))) ⌝ }
 {
     let verdict = taking_checks(personality, first, outputs.len());
     if let Verdict::Refused { .. } = verdict {

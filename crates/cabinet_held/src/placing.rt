@@ -4,7 +4,6 @@ ghost use mathlib.Core.Path.{_≡_};
 ghost use lib.Dec.{ltb};
 ghost use lib.ListN.{length};
 ghost use Rattle.rules.specs.declared.answer.Verdict.the-variants.{Accepted, Refused};
-ghost use Rattle.rules.specs.Colours.{red};
 ghost use Rattle.rules.specs.Personality.{verdictOf};
 ghost use Rattle.rules.specs.Site.{siteOf};
 ghost use Rattle.rules.specs.Timed.{freshTimed};
@@ -12,7 +11,7 @@ ghost use Rattle.rules.specs.Verdicts.{_orElse_, refuseIf};
 ghost use Rattle.read_layout.specs.LayoutOf.{LayoutOf};
 ghost use Rattle.state_timed.specs.TimedLayout.{timedEncodedOver};
 ghost use Rattle.board_answers.specs.Answers.{packedVerdict};
-ghost use Rattle.cabinet_held.specs.Held.{placingChecks, turned};
+ghost use Rattle.cabinet_held.specs.Held.{placingChecks, reddened};
 use crate::RED;
 use crate::fills::fill;
 use crate::outputs_of;
@@ -61,8 +60,7 @@ pub fn held_placing(
 ) -> Reading
     ensures { λ r. ⌜ (r .verdict ≡ placingChecks (now (personality .entry)) free met first (length (now (outputs .entry))))
         × LayoutOf (now (personality .entry)) (r .layout)
-        × (now (outputs .exit) ≡ turned (placingChecks (now (personality .entry)) free met first (length (now (outputs .entry)))) red
-        (now (personality .entry)) first (now (outputs .entry))) ⌝ }
+        × (now (outputs .exit) ≡ reddened (now (personality .entry)) free met first (now (outputs .entry))) ⌝ }
 {
     let reading = read_personality::read_with_layout(personality);
     let own = reading.verdict;

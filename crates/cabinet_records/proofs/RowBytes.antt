@@ -128,6 +128,15 @@ module _ (b : List ℕ) (bytes : AreBytes b) (long : length b ≡ rowBytes) wher
 
 -- ── What a call leaves alone ──
 
+-- the row that the bytes hold, written over them
+same-for : (b : List ℕ) → AreBytes b → (t : Bool) → eqb (length b) rowBytes ≡ t → (if t then encodedRow (decodedRow b) else b) ≡ b
+same-for b bytes true e = encoded-decoded-row b bytes (eqb-true (length b) rowBytes e)
+same-for b bytes false e = refl
+
+pub same-over : (b : List ℕ) → AreBytes b → encodedRowOver (decodedRow b) b ≡ b
+unfolding encodedRowOver
+same-over b bytes = same-for b bytes (eqb (length b) rowBytes) refl
+
 module _ (b : List ℕ) (bytes : AreBytes b) (long : length b ≡ rowBytes) (k : ℕ) where
   named-written : (r : Record) → SameOutside (k * recordBytes) recordBytes b (encodedRow (set (decodedRow b) k r))
   named-written r =
@@ -165,16 +174,12 @@ module _ (b out : List ℕ) (bytes : AreBytes b) (act : Act) where
           kept-for b bytes (eqb-true (length b) rowBytes e) (recordNamed act) (doing (decodedRow b) out act .row) (written (decodedRow b) out act)
       by-length false e = same-all
 
-  over-same : (t : Bool) → eqb (length b) rowBytes ≡ t → (if t then encodedRow (decodedRow b) else b) ≡ b
-  over-same true e = encoded-decoded-row b bytes (eqb-true (length b) rowBytes e)
-  over-same false e = refl
-
 pub bytes-stay : BytesStay
 unfolding BytesStay
 bytes-stay b out act bytes = let same = bytes-same b out bytes act in (same .outside, same .long)
 
 pub refusal-leaves-bytes : RefusalLeavesBytes
-unfolding RefusalLeavesBytes RefusalLeaves doingBytes inBytes encodedRowOver
+unfolding RefusalLeavesBytes RefusalLeaves doingBytes inBytes
 refusal-leaves-bytes b out act bytes refused =
     let left = refusal-leaves (decodedRow b) out act refused in
-    (rw (left .0) (over-same b out bytes act (eqb (length b) rowBytes) refl), left .1)
+    (rw (left .0) (same-over b bytes), left .1)

@@ -11,8 +11,8 @@ use Rattle.rules.specs.Call.{handedBack}
 use Rattle.rules.specs.Verdicts.{_orElse_, refuseIf, reportOf}
 use Rattle.board_answers.specs.Answers.{packed, packedVerdict}
 use Rattle.cabinet_records.specs.declared.Record.{Record}
-use Rattle.cabinet_records.specs.Cabinet.{dark, isFree, personalityOf, freeRecord, withState, outputsOf, ownOutputs}
-use Rattle.cabinet_held.specs.Held.{heldChecks, takingChecks, turned, HeldStep, heldStepFor, heldStepped, heldStep}
+use Rattle.cabinet_records.specs.Cabinet.{isFree, personalityOf, freeRecord, withState, outputsOf, ownOutputs}
+use Rattle.cabinet_held.specs.Held.{heldChecks, takingChecks, turned, darkened, HeldStep, heldStepFor, heldStepped, heldStep}
 use Rattle.cabinet_work.specs.Work.{OnRecord, onRecordFor, steppedRecord, takenOutRecord}
 
 pub free-record : (r : Record) → r .held ≡ 0 → isFree r ≡ true
@@ -58,7 +58,7 @@ module _ (r : Record) (out : List ℕ) where
   unfolding takenOutRecord onRecordFor _orElse_ refuseIf packedVerdict reportOf
   taking-free free e = rw (free, e)
 
-  module _ (held : isFree r ≡ false) {b after : List ℕ} {v : Verdict} (own : b ≡ personalityOf r) (e : v ≡ takingChecks b (r .first) (length out)) (shown : after ≡ turned (takingChecks b (r .first) (length out)) dark b (r .first) out) where
+  module _ (held : isFree r ≡ false) {b after : List ℕ} {v : Verdict} (own : b ≡ personalityOf r) (e : v ≡ takingChecks b (r .first) (length out)) (shown : after ≡ darkened b (r .first) out) where
     checked : takingChecks (personalityOf r) (r .first) (length out) ≡ v
     checked = sym (rw own at e)
 

@@ -8,13 +8,12 @@ use borrow.Author.Tests.{eq-eqb, lt-ltb}
 use Rattle.rules.specs.declared.answer.Verdict.{Verdict}
 use Rattle.rules.specs.declared.answer.Verdict.the-variants.{Accepted, Refused}
 use Rattle.rules.specs.Call.{handedBack}
-use Rattle.rules.specs.Colours.{red}
 use Rattle.rules.specs.Verdicts.{reportOf}
 use Rattle.laws.proofs.Booleans.{and-both}
 use Rattle.board_answers.specs.Answers.{packed, packedVerdict}
 use Rattle.cabinet_records.specs.declared.Record.{Record}
 use Rattle.cabinet_records.specs.Cabinet.{recordCount, isFree, holding, freshBytes, recordOf, hasRecord, outputsOf, overlaps, placingVerdict}
-use Rattle.cabinet_held.specs.Held.{placingChecks, turned}
+use Rattle.cabinet_held.specs.Held.{placingChecks, turned, reddened}
 use Rattle.cabinet_held.proofs.Rows.{placing-checked}
 use Rattle.cabinet_work.specs.Work.{onRecordFor, placedRecord}
 
@@ -29,7 +28,7 @@ module _ (row : List Record) (out b : List ℕ) (k first : ℕ) where
     pub read : own ≡ recordOf row k
     pub meets : met ≡ overlaps row k first (outputsOf b)
     pub told : v ≡ placingChecks b (isFree own) met first (length out)
-    pub shown : after ≡ turned (placingChecks b (isFree own) met first (length out)) red b first out
+    pub shown : after ≡ reddened b (isFree own) met first out
 
 module _ {row : List Record} {out b : List ℕ} {k first : ℕ} {own : Record} {met : Bool} {v : Verdict} {after : List ℕ} (known : Checked row out b k first own met v after) where
   verdict : placingVerdict row out b k first ≡ v

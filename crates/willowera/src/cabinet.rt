@@ -15,7 +15,7 @@ pub extern "C" fn willowera_cabinet_place(
     ensures { λ r. ⌜ record { answer = r; row = now (row .exit); outputs = now (outputs .exit) }
         ≡ doingBytes (now (row .entry)) (now (outputs .entry)) (placeSite (now (personality .entry)) k first) ⌝ }
 {
-    cabinet_bytes::place(row, k, personality, first, outputs)
+    cabinet_place::place(row, k, personality, first, outputs)
 }
 
 // One step of 0.1 s of the site in a record: its wait bound, or a refusal.
@@ -29,7 +29,7 @@ pub extern "C" fn willowera_cabinet_step(
     ensures { λ r. ⌜ record { answer = r; row = now (row .exit); outputs = now (outputs .exit) }
         ≡ doingBytes (now (row .entry)) (now (outputs .entry)) (stepSite k inputs) ⌝ }
 {
-    cabinet_bytes::step(row, k, inputs, outputs)
+    cabinet_step::step(row, k, inputs, outputs)
 }
 
 // Takes out the site in a record; its outputs turn dark: 0, or a refusal.
@@ -38,5 +38,5 @@ pub extern "C" fn willowera_cabinet_take_out(row: &mut [u8], k: usize, outputs: 
     ensures { λ r. ⌜ record { answer = r; row = now (row .exit); outputs = now (outputs .exit) }
         ≡ doingBytes (now (row .entry)) (now (outputs .entry)) (takeOut k) ⌝ }
 {
-    cabinet_bytes::take_out(row, k, outputs)
+    cabinet_take_out::take_out(row, k, outputs)
 }

@@ -5,19 +5,16 @@ ghost use mathlib.Core.Path.{_≡_};
 ghost use lib.ListN.{length};
 ghost use Rattle.rules.specs.Call.{boundOf};
 ghost use Rattle.rules.specs.Personality.{verdictOf};
-ghost use Rattle.rules.specs.Kept.{freshKept};
-ghost use Rattle.state_bytes.specs.Layout.{encodedOver};
 ghost use Rattle.board_answers.specs.Answers.{packedVerdict, packedOutcome};
 ghost use Rattle.board_read.specs.SectionCall.{sectionAnswer};
+ghost use Rattle.board_fresh.specs.FreshCall.{freshAnswer, freshAfter};
+ghost use Rattle.board_retime.specs.RetimeCall.{retimeAnswer, retimeAfter};
 ghost use Rattle.board_step.specs.StepCall.{stepAnswer, stateAfter, coloursAfter};
 ghost use Rattle.board_settings.specs.SettingsCall.{settingsAnswer};
 ghost use Rattle.board_yellow.specs.YellowCall.{yellowAnswer};
 ghost use Rattle.board_road.specs.RoadCall.{roadAnswer, lastState, resultsAfter};
-ghost use Rattle.willowera.specs.Board.{freshAnswer};
 
 pub mod cabinet;
-
-use board_answers::packed;
 
 // The version of the interface.
 #[no_mangle]
@@ -55,16 +52,13 @@ pub extern "C" fn willowera_section(personality: &[u8], kind: u16) -> u64
 
 // ---- A running site ----
 
-// Writes the fresh state into a buffer of 39 bytes. If the buffer has another length, it stays as it is, and the answer is 13.
+// Writes the fresh state of a personality, in which its own times rule, and answers 0. A refused call writes nothing.
 #[no_mangle]
-pub extern "C" fn willowera_fresh(state: &mut [u8]) -> u64
-    ensures { λ r. ⌜ (r ≡ freshAnswer (now (state .entry))) × (now (state .exit) ≡ encodedOver freshKept (now (state .entry))) ⌝ }
+pub extern "C" fn willowera_fresh(personality: &[u8], state: &mut [u8]) -> u64
+    ensures { λ r. ⌜ (r ≡ freshAnswer (now (personality .entry)) (now (state .entry)))
+        × (now (state .exit) ≡ freshAfter (now (personality .entry)) (now (state .entry))) ⌝ }
 {
-    if state_bytes::encode(call_fresh::fresh(), state) {
-        0
-    } else {
-        packed(13, 0)
-    }
+    board_fresh::fresh(personality, state)
 }
 
 // One step of 0.1 s: replaces the state by the next state, writes the colours of the groups, and answers the wait bound. A refused step
@@ -81,6 +75,15 @@ pub extern "C" fn willowera_step(
         × (now (colours .exit) ≡ coloursAfter (now (personality .entry)) (now (state .entry)) inputs (now (colours .entry))) ⌝ }
 {
     board_step::step(personality, state, inputs, colours)
+}
+
+// Makes the times of a second personality wait in the state until a phase next starts, and answers 0. A refused call changes nothing.
+#[no_mangle]
+pub extern "C" fn willowera_retime(personality: &[u8], state: &mut [u8], new: &[u8]) -> u64
+    ensures { λ r. ⌜ (r ≡ retimeAnswer (now (personality .entry)) (now (state .entry)) (now (new .entry)))
+        × (now (state .exit) ≡ retimeAfter (now (personality .entry)) (now (state .entry)) (now (new .entry))) ⌝ }
+{
+    board_retime::retime(personality, state, new)
 }
 
 // ---- Settings of a site ----

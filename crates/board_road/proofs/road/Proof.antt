@@ -1,7 +1,6 @@
 -- `board_road::road` meets its contract: each check that fails gives its refusal once those before it have passed, and if all pass the road is run.
 use mathlib.Core.Bool.{false}
 use mathlib.Core.Path.{_≡_, sym, ap, subst⁻¹, _∙_}
-use lib.ListN.{length}
 use borrow.Author.Needs.{needs}
 use Rattle.rules.specs.declared.answer.Verdict.the-variants.{Accepted}
 use Rattle.rules.specs.declared.site.Site.{Site}

@@ -1,10 +1,9 @@
 -- `board_yellow::yellow` meets its contract, by the two cases of the answer; the place of a refusal is 0.
-use Prim.Native.Nat.{ℕ, _+_}
+use Prim.Native.Nat.{ℕ}
 use mathlib.Core.Path.{_≡_, sym, ap, _∙_}
 use native.Mathlib.Nat.{zero-add, add-zero}
 use native.Mathlib.Omega.{arith}
 use borrow.Author.Needs.{needs}
-use lib.IntN.{ℤ}
 use mir.Facts.{toZ-ofZ}
 use Rattle.sheet_yellow.specs.declared.Answer.{Answer}
 use Rattle.sheet_yellow.specs.declared.Answer.the-variants.{Yellow, Refused}

@@ -44,7 +44,10 @@ loop-again c =
     let turn = read .before .before in
     let cells = turn .before .before .before .before .args .cells .now in
     rw (put .put-result .ensures)
-    (stored-record (λ i. resultOf (trafficAt cells i)) 4 (λ i. refl) (turn .before .loop .i * 4) (resultOf (read .traffic-at .result)) (turn .before .loop .inv) (turn .loop-test .taken) (omega arith)
+    (stored-record (λ i. resultOf (trafficAt cells i)) 4 (λ i. refl) (turn .before .loop .i * 4) (resultOf (read .traffic-at .result))
+    (turn .before .loop .inv)
+    (turn .loop-test .taken)
+    (omega arith)
     (ap resultOf (read .traffic-at .ensures)))
 
 same-length : tie.Need-same-length Inv-loop μ-loop

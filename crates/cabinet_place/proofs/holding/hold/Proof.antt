@@ -1,0 +1,71 @@
+-- `cabinet_place::holding::hold` meets its contract: the first four bytes, the personality and the state, one after the other.
+use native.Mathlib.Omega.{arith}
+use lib.ListN.{length-take, length-drop}
+use Rattle.cabinet_held.proofs.Checks.{accepted-fits}
+use Rattle.cabinet_place.proofs.Held.{holding-stored}
+use borrow.Author.Needs.{needs}
+use Rattle.cabinet_place.proofs.holding.hold.Statement.{statement}
+use Rattle.cabinet_place.proofs.holding.hold.Tie as tie
+
+cast-mark : tie.Need-cast-mark
+cast-mark c = omega (arith, accepted-fits _ (c .before .before .before .pre .1))
+
+mark-requires : tie.Need-mark-requires
+mark-requires c κs = search needs
+
+sub-store : tie.Need-sub-store
+sub-store c = search needs
+
+part-store-start : tie.Need-part-store-start
+part-store-start c = search needs
+
+part-store-end : tie.Need-part-store-end
+part-store-end c = search needs
+
+store-requires : tie.Need-store-requires
+store-requires c κs =
+    let start = c .before .before .before .before .before .before .before in
+    omega (arith, accepted-fits _ (start .pre .1), start .pre .0)
+
+sub-fresh-state : tie.Need-sub-fresh-state
+sub-fresh-state c = search needs
+
+part-fresh-state-start : tie.Need-part-fresh-state-start
+part-fresh-state-start c = search needs
+
+part-fresh-state-end : tie.Need-part-fresh-state-end
+part-fresh-state-end c = search needs
+
+fresh-state-requires : tie.Need-fresh-state-requires
+fresh-state-requires c κs = search needs
+
+same-length : tie.Need-same-length
+same-length c = search needs
+
+returns : tie.Need-returns
+returns c =
+    let made = c .before .before in
+    let put = made .before .before .before .before in
+    let marked = put .before .before .before .before in
+    let start = marked .before .before .before .before in
+    holding-stored (start .args .personality .now) (start .args .first) (accepted-fits _ (start .pre .1)) (start .args .own .now) _ _ _ (start .pre .0)
+    (marked .mark .ensures)
+    (put .store .ensures)
+    (made .fresh-state .ensures)
+
+pub hold-spec : {M : Type 1} → statement M
+hold-spec =
+    tie.close
+    (tie.spec
+    cast-mark
+    mark-requires
+    sub-store
+    part-store-start
+    part-store-end
+    store-requires
+    sub-fresh-state
+    part-fresh-state-start
+    part-fresh-state-end
+    fresh-state-requires
+    same-length
+    returns)
