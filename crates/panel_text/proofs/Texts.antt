@@ -13,7 +13,7 @@ use Rattle.panel_text.specs.Text.{reasonText, reasonsText, line}
 use Rattle.panel_text.specs.Put.{Put}
 use Rattle.panel_text.proofs.Puts.{put-as, put-then}
 
-reasons-join : (a b : List Reason) → reasonsText (a ++ b) ≡ reasonsText a ++ reasonsText b
+pub reasons-join : (a b : List Reason) → reasonsText (a ++ b) ≡ reasonsText a ++ reasonsText b
 unfolding reasonsText
 reasons-join [] b = refl
 reasons-join (reason ∷ a) b =
