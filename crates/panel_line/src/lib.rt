@@ -73,9 +73,9 @@ fn walks_length(set: u8) -> usize
     total
 }
 
-// How many bytes the line has.
+// How many bytes the line has; the number fits in a byte.
 pub fn line_length(why: Why) -> usize
-    ensures { λ r. ⌜ r ≡ length (lineOf why) ⌝ }
+    ensures { λ r. ⌜ (r ≡ length (lineOf why)) × (r < 256) ⌝ }
 {
     let gap = why.gap;
     let left = why.left;

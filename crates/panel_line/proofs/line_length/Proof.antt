@@ -35,7 +35,8 @@ returns : tie.Need-returns
 unfolding lineOf
 returns c =
     let why = c .before .before .before .before .args .why in
-    omega (arith, whole-sum (why .phase) (why .alone) (why .gap) (why .left) (λ k. bit k (why .walks)))
+    let sum = whole-sum (why .phase) (why .alone) (why .gap) (why .left) (λ k. bit k (why .walks)) in
+    (omega arith, omega arith)
 
 pub line-length-spec : {M : Type 1} → statement M
 line-length-spec =

@@ -1,0 +1,2 @@
+pub mod WhyCall
+pub mod Explains
