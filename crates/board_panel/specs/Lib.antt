@@ -1,0 +1,2 @@
+pub mod PanelCall
+pub mod Placed

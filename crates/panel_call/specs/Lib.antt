@@ -1,0 +1,3 @@
+pub mod WhyCall
+pub mod WhyRefusals
+pub mod Explains

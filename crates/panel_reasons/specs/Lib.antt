@@ -1,0 +1,2 @@
+pub mod PanelLine
+pub mod Holding

@@ -1,0 +1,80 @@
+-- `panel_text::reason_length` meets its contract, reason by reason: the bytes of its word, and the digits of its number, which are at most five.
+use borrow.Author.Needs.{needs}
+use mathlib.Core.Path.{ap}
+use native.Mathlib.Omega.{arith}
+use lib.ListN.{length}
+use Rattle.panel_text.specs.declared.Reason.{Reason}
+use Rattle.panel_text.specs.Text.{reasonText}
+use Rattle.panel_text.proofs.reason_length.Statement.{statement}
+use Rattle.panel_text.proofs.reason_length.Tie as tie
+
+enum-told : tie.Need-enum-told
+enum-told c = search needs
+
+enum-known-reason : tie.Need-enum-known-reason
+enum-known-reason c = search needs
+
+digit-count-requires : tie.Need-digit-count-requires
+digit-count-requires c κs = search needs
+
+add-result : tie.Need-add-result
+add-result c = search needs
+
+enum-known-reason-2 : tie.Need-enum-known-reason-2
+enum-known-reason-2 c = search needs
+
+digit-count-requires-2 : tie.Need-digit-count-requires-2
+digit-count-requires-2 c κs = search needs
+
+add-result-2 : tie.Need-add-result-2
+add-result-2 c = search needs
+
+enum-known-reason-3 : tie.Need-enum-known-reason-3
+enum-known-reason-3 c = search needs
+
+digit-count-requires-3 : tie.Need-digit-count-requires-3
+digit-count-requires-3 c κs = search needs
+
+add-result-3 : tie.Need-add-result-3
+add-result-3 c = search needs
+
+returns : tie.Need-returns
+unfolding reasonText
+returns c = let told = ap (λ (r : Reason). length (reasonText r)) (c .enum-told .given .1) in (omega arith, omega arith)
+
+returns-2 : tie.Need-returns-2
+unfolding reasonText
+returns-2 c =
+    let told = ap (λ (r : Reason). length (reasonText r)) (c .before .before .reason .given .1) in
+    (omega arith, omega arith)
+
+returns-3 : tie.Need-returns-3
+unfolding reasonText
+returns-3 c =
+    let told = ap (λ (r : Reason). length (reasonText r)) (c .before .before .reason2 .given .1) in
+    (omega arith, omega arith)
+
+returns-4 : tie.Need-returns-4
+unfolding reasonText
+returns-4 c =
+    let told = ap (λ (r : Reason). length (reasonText r)) (c .before .before .reason3 .given .1) in
+    (omega arith, omega arith)
+
+pub reason-length-spec : {M : Type 1} → statement M
+reason-length-spec =
+    tie.close
+    (tie.spec
+    enum-told
+    enum-known-reason
+    digit-count-requires
+    add-result
+    enum-known-reason-2
+    digit-count-requires-2
+    add-result-2
+    enum-known-reason-3
+    digit-count-requires-3
+    add-result-3
+    returns
+    returns-2
+    returns-3
+    returns-4)

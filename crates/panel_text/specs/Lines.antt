@@ -1,0 +1,25 @@
+-- Statements about lines: each reads back as its phase and its reasons, so different lists of reasons never read alike, and no line is empty. The
+-- reasons may be any list, of any length and order and with any numbers.
+use Prim.Native.Nat.{ℕ, _<_}
+use mathlib.Core.List.{List, []}
+use mathlib.Core.Path.{_≡_}
+use Rattle.panel_text.specs.declared.Reason.{Reason}
+use Rattle.panel_text.specs.Text.{line}
+use Rattle.panel_text.specs.Reader.{phaseIn, reasonsIn}
+
+unfoldable pub LineReadsBack : Type 0
+LineReadsBack =
+    (phase : ℕ) (reasons : List Reason) →
+    phase < 7 →
+    (phaseIn (line phase reasons) ≡ phase) × (reasonsIn (line phase reasons) ≡ reasons)
+
+unfoldable pub NeverAlike : Type 0
+NeverAlike =
+    (p q : ℕ) (reasons others : List Reason) →
+    p < 7 →
+    q < 7 →
+    line p reasons ≡ line q others →
+    (p ≡ q) × (reasons ≡ others)
+
+unfoldable pub NeverEmpty : Type 0
+NeverEmpty = (phase : ℕ) (reasons : List Reason) → line phase reasons ≡ [] → ⊥
