@@ -10,6 +10,7 @@ ghost use Rattle.board_read.specs.SectionCall.{sectionAnswer};
 ghost use Rattle.board_fresh.specs.FreshCall.{freshAnswer, freshAfter};
 ghost use Rattle.board_retime.specs.RetimeCall.{retimeAnswer, retimeAfter};
 ghost use Rattle.board_step.specs.StepCall.{stepAnswer, stateAfter, coloursAfter};
+ghost use Rattle.board_panel.specs.PanelCall.{whyLengthAnswer, whyAnswer, lineAfter};
 ghost use Rattle.board_settings.specs.SettingsCall.{settingsAnswer};
 ghost use Rattle.board_yellow.specs.YellowCall.{yellowAnswer};
 ghost use Rattle.board_road.specs.RoadCall.{roadAnswer, lastState, resultsAfter};
@@ -84,6 +85,24 @@ pub extern "C" fn willowera_retime(personality: &[u8], state: &mut [u8], new: &[
         × (now (state .exit) ≡ retimeAfter (now (personality .entry)) (now (state .entry)) (now (new .entry))) ⌝ }
 {
     board_retime::retime(personality, state, new)
+}
+
+// How many bytes the line has that says why the phase of a state in running holds, or a refusal. The inputs are those of the step that gave the
+// state.
+#[no_mangle]
+pub extern "C" fn willowera_why_length(personality: &[u8], state: &[u8], inputs: u64) -> u64
+    ensures { λ r. ⌜ r ≡ whyLengthAnswer (now (personality .entry)) (now (state .entry)) inputs ⌝ }
+{
+    board_panel::why_length(personality, state, inputs)
+}
+
+// Writes the line to the start of a buffer and answers its length, or a refusal. A refused call writes nothing.
+#[no_mangle]
+pub extern "C" fn willowera_why(personality: &[u8], state: &[u8], inputs: u64, line: &mut [u8]) -> u64
+    ensures { λ r. ⌜ (r ≡ whyAnswer (now (personality .entry)) (now (state .entry)) inputs (length (now (line .entry))))
+        × (now (line .exit) ≡ lineAfter (now (personality .entry)) (now (state .entry)) inputs (now (line .entry))) ⌝ }
+{
+    board_panel::why(personality, state, inputs, line)
 }
 
 // ---- Settings of a site ----
