@@ -30,11 +30,10 @@ pub again : Site → ℕ → ℕ
 again site p = longestWalk site p + leavingTime (phaseTimes (site .times) p) + longestClearance site p
 
 -- all visits
-unfoldable pub visits : Site → ℕ
+abbrev pub visits : Site → ℕ
 visits site = sumOf (visit site) (site .size .phases)
 
 pub visit-most : (site : Site) (p : ℕ) → p < site .size .phases → visit site p ≤ visits site
-unfolding visits
 visit-most site p h = sum-at (visit site) (site .size .phases) p h
 
 -- a phase's share
@@ -46,7 +45,7 @@ unfolding phaseShare visit again
 share site p = omega arith
 
 pub bound-parts : (site : Site) (p : ℕ) → p < site .size .phases → site .times .start + visits site + again site p ≤ waitBound site
-unfolding waitBoundBy visits
+unfolding waitBoundBy
 bound-parts site p h =
     omega (
       arith,
