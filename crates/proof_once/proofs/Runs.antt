@@ -25,7 +25,7 @@ use Rattle.proof_waits.proofs.Buttons.{ButtonStands}
 use Rattle.proof_waits.proofs.Locks.{LockStands}
 use Rattle.proof_waits.proofs.Paths.{ringIn}
 use Rattle.proof_timed.proofs.Induction.{viewed, plainFrom, TimedLink, TimedRun, SeenReady, truly}
-use Rattle.proof_timed.proofs.Demands.{lock-again, button-again, lock-seen, button-seen, lock-from, button-from}
+use Rattle.proof_timed.proofs.Across.{lock-again, button-again, lock-seen, button-seen, lock-from, button-from}
 use Rattle.proof_once.proofs.Ways.{fromStart, other-some, startsLeft, starts-most}
 use Rattle.proof_once.proofs.Falling.{Falls, Falling, falling-more, starts-once, others-few}
 use Rattle.proof_once.proofs.Nears.{Near, Nears}

@@ -5,7 +5,7 @@ use Prim.Native.Nat.{ℕ, _≤_, _<_}
 use mathlib.Core.Bool.{Bool, true, false, _&&_}
 use mathlib.Core.List.{List}
 use mathlib.Core.Logic.{⊎-elim}
-use mathlib.Core.Path.{_≡_, refl, ap, subst}
+use mathlib.Core.Path.{_≡_, refl, ap}
 use native.Mathlib.Omega.{arith}
 use lib.Dec.{eqb}
 use Rattle.rules.specs.declared.site.Site.{Site}
@@ -19,7 +19,6 @@ use Rattle.rules.specs.declared.state.State.{State}
 use Rattle.laws.specs.Folds.{if_then_else_}
 use Rattle.rules.specs.Site.{phaseTimes}
 use Rattle.rules.specs.IntervalTable.{isBeforeStart, isLeaving, phaseHeld}
-use Rattle.rules.specs.State.{targetValid}
 use Rattle.rules.specs.Demands.{demanded, nextDemanded}
 use Rattle.rules.specs.Interval.{following, entering, starting, staying}
 use Rattle.rules.specs.Step.{stepped}
@@ -28,7 +27,7 @@ use Rattle.rules.specs.OnceEach.{isFirst}
 use Rattle.laws.proofs.Booleans.{never-both}
 use Rattle.laws.proofs.Indices.{same-or-apart}
 use Rattle.laws.proofs.Sums.{sum-within}
-use Rattle.proof_runs.proofs.ValidStates.{ValidState, target-below}
+use Rattle.proof_runs.proofs.ValidStates.{ValidState, leaving-target}
 use Rattle.proof_runs.proofs.Steps.{position-of}
 use Rattle.proof_runs.proofs.Ends.{by-early, by-end, running-ends}
 use Rattle.proof_waits.proofs.Paths.{ringIn, ahead, onward, onward-some, ahead-apart, ahead-most, onward-most, onward-own, next-near}
@@ -167,10 +166,7 @@ module _ (site : Site) (q : ℕ) (sound : Sound site) (below : q < site .size .p
   starts-most s v = by (s .position .interval) refl
     where
       target : isLeaving (s .position .interval) ≡ true → fromStart (ringIn site) q (phaseHeld (s .position .target)) ≤ site .size .phases
-      target h =
-          start-most (phaseHeld (s .position .target))
-          (target-below (site .size .phases) (s .position .phase) (s .position .target)
-          (subst (λ (b : Bool). targetValid (site .size .phases) (s .position .phase) b (s .position .target) ≡ true) h (v .target)))
+      target h = start-most (phaseHeld (s .position .target)) (leaving-target site s v h)
 
       by :
           (i : Interval) →
