@@ -71,7 +71,8 @@ module _ (site : Site) (q : ℕ) where
     nears n standing goes (inl most) =
         way-nears (ringIn site) q (minimumGreenBegins q) (LockStands q) (InLate q) n step
         (rw (link .taken .before, link .taken .after)
-        (step-way site q sound below s (step .inputs) (link .here .phase) (lock-demands site s (step .inputs) q (omega (arith, sound .phases)) standing)))
+        (step-way site q sound below s (step .inputs) (link .here .phase)
+        (lock-demands site s (step .inputs) q (omega (arith, sound .phases)) standing)))
         (rw (link .taken .before) most)
         (standing-on goes)
         (λ stands h same.
@@ -84,10 +85,14 @@ module _ (site : Site) (q : ℕ) where
     pub lock-nears : (n : ℕ) → LockNear n s → LockNears n step
     unfolding lockedNow
     lock-nears n near =
-        nears n (or-left (registersLock site s (step .inputs) q) (near .stands .locked)) (lock-goes site sound q below s step link (near .stands)) (near .bound)
+        nears n (or-left (registersLock site s (step .inputs) q) (near .stands .locked))
+        (lock-goes site sound q below s step link (near .stands))
+        (near .bound)
 
     -- from the step that registers it on
     pub lock-first : registersLock site s (step .inputs) q ≡ true → LockNears (startsLeft (ringIn site) q (s .position)) step
     unfolding lockedNow
     lock-first r =
-        nears (startsLeft (ringIn site) q (s .position)) (or-right (locked s q) r) (lock-registers site sound q below s step link r) (inl (omega arith))
+        nears (startsLeft (ringIn site) q (s .position)) (or-right (locked s q) r)
+        (lock-registers site sound q below s step link r)
+        (inl (omega arith))

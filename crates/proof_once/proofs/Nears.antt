@@ -41,7 +41,11 @@ module _ (phases : List ℕ) (q : ℕ) (met : Taken → Bool) (Stands : State �
     quiet-nears none near = record { left = n; falls = (omega arith, λ r e. absurd (never-both (phase-told r step e .0) none)); near = near }
 
     -- the demand was about to be met
-    pub last-nears : someStarts step ≡ false → (met step ≡ true) ⊎ Stands (step .after) → (Stands (step .after) → Last (step .after .position)) → Nears n step
+    pub last-nears :
+        someStarts step ≡ false →
+        (met step ≡ true) ⊎ Stands (step .after) →
+        (Stands (step .after) → Last (step .after .position)) →
+        Nears n step
     last-nears none goes last =
         quiet-nears none
         (⊎-elim

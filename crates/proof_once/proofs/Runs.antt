@@ -33,7 +33,12 @@ use Rattle.proof_once.proofs.Locks.{InLate, lock-nears, lock-first}
 use Rattle.proof_once.proofs.Buttons.{Nowhere, button-nears, button-first}
 
 -- a start is one seen from the state that the step is plain from
-starts-from : (c : Bool) (s : State) (step : Taken) → step .before ≡ s → (r : ℕ) → phaseStarts r step ≡ true → phaseStarts r (viewed (plainFrom c s) step) ≡ true
+starts-from :
+    (c : Bool) (s : State) (step : Taken) →
+    step .before ≡ s →
+    (r : ℕ) →
+    phaseStarts r step ≡ true →
+    phaseStarts r (viewed (plainFrom c s) step) ≡ true
 unfolding phaseStarts someStarts
 starts-from true s step e r h = rw e at h
 starts-from false s step e r h = rw e at h
@@ -68,7 +73,8 @@ module _
         nears .left,
         falls,
         ⊎-elim
-            (λ (m : met (viewed (plainFrom (step .changed) s) (step .taken)) ≡ true). absurd (never-both (truly site met seen s ruling step link m) e))
+            (λ (m : met (viewed (plainFrom (step .changed) s) (step .taken)) ≡ true).
+            absurd (never-both (truly site met seen s ruling step link m) e))
             (rest (nears .left))
             (nears .near),
       ))
@@ -98,16 +104,15 @@ module _
   pub falling-first :
       (s : State) (ruling : Times) (step : TimedStep) (later : List TimedStep) →
       TimedRun site s ruling (step ∷ later) →
-      Sound (under site (step .ruling)) →
       q < site .size .phases →
       (let from = plainFrom (step .changed) s in
       Nears (ringIn site) q met Stands Last (startsLeft (ringIn site) q (from .position)) (viewed from (step .taken))) →
       Falling key (site .size .phases) (untilMet met (takens (step ∷ later)))
-  falling-first s ruling step later run sound below nears =
+  falling-first s ruling step later run below nears =
       let from = plainFrom (step .changed) s in
       let n = startsLeft (ringIn site) q (from .position) in
       falling-more key n (site .size .phases) (untilMet met (takens (step ∷ later)))
-      (starts-most (under site (step .ruling)) q sound below from (run .0 .plain .here))
+      (starts-most (under site (step .ruling)) q (run .0 .plain .sound) below from (run .0 .plain .here))
       (from-step n s ruling step (takens later) (run .0) nears (λ m near. falling later m (step .taken .after) (step .ruling) (run .1) near))
 
 -- ── Both kinds ──
@@ -119,7 +124,8 @@ FallingTo site p steps = Falling (fromStart (ringIn site) p) (site .size .phases
 pub falls-once : (site : Site) (p : ℕ) (steps : List Taken) → FallingTo site p steps → (r : ℕ) → howMany (phaseStarts r) steps ≤ 1
 falls-once site p steps falling r = starts-once (fromStart (ringIn site) p) r (site .size .phases) steps falling
 
-pub falls-few : (site : Site) → Sound site → (p : ℕ) (steps : List Taken) → FallingTo site p steps → howMany (otherStarts p) steps < site .size .phases
+pub falls-few :
+    (site : Site) → Sound site → (p : ℕ) (steps : List Taken) → FallingTo site p steps → howMany (otherStarts p) steps < site .size .phases
 falls-few site sound p steps falling =
     omega (arith, others-few (fromStart (ringIn site) p) p (other-some (ringIn site) p) (site .size .phases) steps falling, sound .phases)
 
@@ -130,9 +136,8 @@ module _
   lock-falling p r =
       let from = plainFrom (step .changed) s in
       let now = under site (step .ruling) in
-      let fine = run .0 .plain .sound in
       let here = lock-from site s ruling step (run .0) p r in
-      let below = lock-below now fine from (step .taken .inputs) p here in
+      let below = lock-below now (run .0 .plain .sound) from (step .taken .inputs) p here in
       falling-first site p (minimumGreenBegins p) (LockStands p) (InLate p) (lock-seen p)
       (λ n s near. record { stands = lock-again p s (near .stands); bound = near .bound })
       (λ r n s step link near. lock-nears (under site r) p (link .sound) below s step link n near)
@@ -141,9 +146,8 @@ module _
       step
       later
       run
-      fine
       below
-      (lock-first now p fine below from (viewed from (step .taken)) (run .0 .plain) here)
+      (lock-first now p (run .0 .plain .sound) below from (viewed from (step .taken)) (run .0 .plain) here)
 
   button-falling :
       (k p : ℕ) →
@@ -165,7 +169,6 @@ module _
       step
       later
       run
-      (run .0 .plain .sound)
       (of .1)
       (button-first (under site (step .ruling)) q k (run .0 .plain .sound) (of .1) l (of .2) (of .3) from (viewed from (step .taken)) (run .0 .plain)
       (button-from site s ruling step (run .0) k room r)))
@@ -191,6 +194,10 @@ at-each site sound (step ∷ later) s ruling run = (
 )
 
 pub starts-fall :
-    (site : Site) → Sound site → (s : State) (ruling : Times) (steps : List TimedStep) → TimedRun site s ruling steps → WhileWaiting (FallingTo site) site (takens steps)
+    (site : Site) →
+    Sound site →
+    (s : State) (ruling : Times) (steps : List TimedStep) →
+    TimedRun site s ruling steps →
+    WhileWaiting (FallingTo site) site (takens steps)
 starts-fall site sound s ruling steps run earlier later step split =
     each-at (At site) (takens steps) earlier later step split (at-each site sound steps s ruling run)

@@ -151,7 +151,11 @@ step-way site q sound below s inputs here d =
 module _ (site : Site) (q : ℕ) (sound : Sound site) (below : q < site .size .phases) where
   start-most : (t : ℕ) → t < site .size .phases → fromStart (ringIn site) q t ≤ site .size .phases
   start-most t l =
-      omega (arith, ahead-most site q sound below (λ (p : ℕ). 1) 1 (omega arith) t l, sum-within (λ (p : ℕ). 1) (site .size .phases) 1 (λ i h. omega arith))
+      omega (
+        arith,
+        ahead-most site q sound below (λ (p : ℕ). 1) 1 (omega arith) t l,
+        sum-within (λ (p : ℕ). 1) (site .size .phases) 1 (λ i h. omega arith),
+      )
 
   end-most : (p : ℕ) → p < site .size .phases → fromEnd (ringIn site) q p ≤ site .size .phases
   end-most p l =

@@ -42,22 +42,35 @@ button-seen k l step still h = and-both (and-left (inWalk (step .after) k) _ h) 
 
 -- what a step registers is so of the state that it is plain from
 module _ (site : Site) (s : State) (ruling : Times) (step : TimedStep) (link : TimedLink site s ruling step) where
-  pub lock-from : (p : ℕ) → registersLocked site (step .taken) p ≡ true → registersLock (under site (step .ruling)) (plainFrom (step .changed) s) (step .taken .inputs) p ≡ true
+  pub lock-from :
+      (p : ℕ) →
+      registersLocked site (step .taken) p ≡ true →
+      registersLock (under site (step .ruling)) (plainFrom (step .changed) s) (step .taken .inputs) p ≡ true
   unfolding registersLock detected inGreen
   lock-from p r =
       by-change (step .changed)
       (ap (λ (b : State). registersLock site b (step .taken .inputs) p) (sym (link .before)) ∙ sym (lock-same site (step .taken) p) ∙ r)
     where
-      by-change : (c : Bool) → registersLock site s (step .taken .inputs) p ≡ true → registersLock (under site (step .ruling)) (plainFrom c s) (step .taken .inputs) p ≡ true
+      by-change :
+          (c : Bool) →
+          registersLock site s (step .taken .inputs) p ≡ true →
+          registersLock (under site (step .ruling)) (plainFrom c s) (step .taken .inputs) p ≡ true
       by-change true h = h
       by-change false h = h
 
-  pub button-from : (k : ℕ) → k < 8 → registersPressed (step .taken) k ≡ true → registersButton (plainFrom (step .changed) s .movements) (step .taken .inputs) k ≡ true
+  pub button-from :
+      (k : ℕ) →
+      k < 8 →
+      registersPressed (step .taken) k ≡ true →
+      registersButton (plainFrom (step .changed) s .movements) (step .taken .inputs) k ≡ true
   unfolding registersButton
   button-from k l r =
       by-change (step .changed)
       (ap (λ (b : State). registersButton (b .movements) (step .taken .inputs) k) (sym (link .before)) ∙ sym (button-same (step .taken) k) ∙ r)
     where
-      by-change : (c : Bool) → registersButton (s .movements) (step .taken .inputs) k ≡ true → registersButton (plainFrom c s .movements) (step .taken .inputs) k ≡ true
+      by-change :
+          (c : Bool) →
+          registersButton (s .movements) (step .taken .inputs) k ≡ true →
+          registersButton (plainFrom c s .movements) (step .taken .inputs) k ≡ true
       by-change true h = rw (getD-replicate 8 k idle idle l) (and-both (and-left (pressed (step .taken .inputs) k) _ h) refl)
       by-change false h = h

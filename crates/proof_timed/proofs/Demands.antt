@@ -18,7 +18,9 @@ use Rattle.proof_runs.proofs.Chains.{ValidLink}
 use Rattle.proof_timed.proofs.Induction.{viewed, plainFrom, TimedRun, past, front, met-in-time}
 use Rattle.proof_timed.proofs.Across.{lock-again, button-again, lock-seen, button-seen, lock-from, button-from}
 
-module _ (site : Site) (sound : Sound site) (s : State) (ruling : Times) (step : TimedStep) (between : List TimedStep) (run : TimedRun site s ruling (step ∷ between)) where
+module _
+    (site : Site) (sound : Sound site) (s : State) (ruling : Times) (step : TimedStep) (between : List TimedStep)
+    (run : TimedRun site s ruling (step ∷ between)) where
   abbrev from : State
   from = plainFrom (step .changed) s
 
