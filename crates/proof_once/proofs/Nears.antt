@@ -14,7 +14,7 @@ use Rattle.rules.specs.OnceEach.{someStarts, phaseStarts}
 use Rattle.laws.proofs.Booleans.{and-left, and-right, decided, never-both}
 use Rattle.laws.proofs.Indices.{same-or-apart}
 use Rattle.proof_waits.proofs.Paths.{ahead-some, ahead-apart}
-use Rattle.proof_once.proofs.Ways.{fromStart, startsLeft, Way}
+use Rattle.proof_once.proofs.Ways.{one, fromStart, startsLeft, Way}
 use Rattle.proof_once.proofs.Falling.{Falls}
 
 -- a phase that starts is the one that the state has after the step
@@ -71,7 +71,7 @@ module _ (phases : List ℕ) (q : ℕ) (met : Taken → Bool) (Stands : State �
             omega (arith, keys .0, most),
             λ r e.
                 subst (λ (r : ℕ). (fromStart phases q t - 1 < fromStart phases q r) × (fromStart phases q r ≤ n)) (phase-told r step e .1)
-                (omega (arith, ahead-some (λ (p : ℕ). 1) phases q 1 t), omega (arith, keys .0, most)),
+                (omega (arith, ahead-some one phases q 1 t), omega (arith, keys .0, most)),
           );
           near =
               ⊎-elim
@@ -82,7 +82,7 @@ module _ (phases : List ℕ) (q : ℕ) (met : Taken → Bool) (Stands : State �
                 bound =
                     ⊎-elim
                     (λ (same : t ≡ q). inr (own stands h same))
-                    (λ (other : t ≡ q → ⊥). inl (omega (arith, keys .1, ahead-apart (λ (p : ℕ). 1) phases q 1 t other)))
+                    (λ (other : t ≡ q → ⊥). inl (omega (arith, keys .1, ahead-apart one phases q 1 t other)))
                     (same-or-apart t q);
               }))
               goes;

@@ -49,17 +49,21 @@ none-stays AllRed = refl
 
 -- ── The starts that are left ──
 
+-- the weight of a phase: its start
+abbrev pub one : ℕ → ℕ
+one p = 1
+
 module _ (phases : List ℕ) (q : ℕ) where
   -- from the start of phase t on, and from the end of phase p on
   abbrev pub fromStart : ℕ → ℕ
-  fromStart = ahead (λ (p : ℕ). 1) phases q 1
+  fromStart = ahead one phases q 1
 
   abbrev pub fromEnd : ℕ → ℕ
-  fromEnd = onward (λ (p : ℕ). 1) phases q 1
+  fromEnd = onward one phases q 1
 
   -- another phase and q itself
   pub other-some : (t : ℕ) → (t ≡ q → ⊥) → 2 ≤ fromStart t
-  other-some t other = omega (arith, ahead-apart (λ (p : ℕ). 1) phases q 1 t other, onward-some (λ (p : ℕ). 1) phases q 1 t)
+  other-some t other = omega (arith, ahead-apart one phases q 1 t other, onward-some one phases q 1 t)
 
   -- in an interval of a phase
   unfoldable pub startsIn : Interval → ℕ → Held → ℕ
@@ -143,7 +147,7 @@ step-way site q sound below s inputs here d =
     (by-end site s inputs (λ (p : Position). Way (ringIn site) q (s .position .interval) (s .position) p)
     (λ over.
     following-way (ringIn site) q (s .position .interval) (site .times) (nextDemanded site s inputs) (s .position)
-    (λ running. next-near site q sound below s inputs d (λ p. 1) 1 here (running-ends site s inputs running over)))
+    (λ running. next-near site q sound below s inputs d one 1 here (running-ends site s inputs running over)))
     (λ still. staying-way (ringIn site) q (s .position)))
 
 -- ── At most one for each phase ──
@@ -153,16 +157,16 @@ module _ (site : Site) (q : ℕ) (sound : Sound site) (below : q < site .size .p
   start-most t l =
       omega (
         arith,
-        ahead-most site q sound below (λ (p : ℕ). 1) 1 (omega arith) t l,
-        sum-within (λ (p : ℕ). 1) (site .size .phases) 1 (λ i h. omega arith),
+        ahead-most site q sound below one 1 (omega arith) t l,
+        sum-within one (site .size .phases) 1 (λ i h. omega arith),
       )
 
   end-most : (p : ℕ) → p < site .size .phases → fromEnd (ringIn site) q p ≤ site .size .phases
   end-most p l =
-      let phases = sum-within (λ (p : ℕ). 1) (site .size .phases) 1 (λ i h. omega arith) in
+      let phases = sum-within one (site .size .phases) 1 (λ i h. omega arith) in
       ⊎-elim
-      (λ (same : p ≡ q). rw same (omega (arith, onward-own site q sound below (λ (p : ℕ). 1) 1, phases)))
-      (λ (other : p ≡ q → ⊥). omega (arith, onward-most site q sound below (λ (p : ℕ). 1) 1 (omega arith) p l other, phases))
+      (λ (same : p ≡ q). rw same (omega (arith, onward-own site q sound below one 1, phases)))
+      (λ (other : p ≡ q → ⊥). omega (arith, onward-most site q sound below one 1 (omega arith) p l other, phases))
       (same-or-apart p q)
 
   pub starts-most : (s : State) → ValidState site s → startsLeft (ringIn site) q (s .position) ≤ site .size .phases

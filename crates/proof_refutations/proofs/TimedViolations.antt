@@ -2,22 +2,19 @@
 -- facts of one list of calls that no list has if the claim holds. Places in a list count from 0.
 use Prim.Native.Nat.{ℕ, suc, _<_}
 use mathlib.Core.Bool.{Bool, true, false}
-use mathlib.Core.List.{List, [], _∷_, _++_}
-use mathlib.Core.Path.{_≡_, refl, sym, subst, ap, _∙_}
+use mathlib.Core.List.{List, _∷_, _++_}
+use mathlib.Core.Path.{_≡_, sym, subst, ap, _∙_}
 use native.Mathlib.Omega.{arith}
 use borrow.Author.Tests.{ltb-true, leb-true}
 use lib.Dec.{leb, ltb, eqb}
 use lib.ListN.{length, getD, take, drop, replicate, length-replicate, getD-replicate, List·getD-append}
 use lib.Seq.{split-at}
-use Rattle.rules.specs.declared.answer.Outcome.the-variants.{StepRefused}
 use Rattle.rules.specs.declared.answer.Verdict.the-variants.{Accepted}
-use Rattle.rules.specs.declared.site.PhaseTimes.{PhaseTimes}
 use Rattle.rules.specs.Site.{siteOf, phaseTimes, isPedestrian, conflict}
-use Rattle.rules.specs.State.{fresh}
 use Rattle.rules.specs.SiteTimes.{noTimes}
 use Rattle.rules.specs.Colours.{red, yellow, green}
-use Rattle.rules.specs.DemandThree.{Taken, shows, shownBy, NeverGreen, lastGreen, StartsGreen, VehicleCleared, Cleared, registersLocked, minimumGreenBegins, someStep}
-use Rattle.rules.specs.TimedDemandThree.{TimedController, Given, TimedStep, madeFrom, acceptedSteps, takens, siteAfter, TimedClearances, TimedDemandThreeOf}
+use Rattle.rules.specs.DemandThree.{Taken, shows, shownBy, lastGreen, StartsGreen, VehicleCleared, Cleared, registersLocked, minimumGreenBegins, someStep}
+use Rattle.rules.specs.TimedDemandThree.{TimedController, Given, TimedStep, madeFrom, acceptedSteps, takens, TimedClearances, TimedDemandThreeOf}
 use Rattle.rules.specs.OnceEach.{phaseStarts, howMany, untilMet, OnceEach, OnceEachOf}
 use Rattle.proof_refutations.proofs.Violations.{nowhere, never-green}
 
