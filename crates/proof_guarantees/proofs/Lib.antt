@@ -7,4 +7,5 @@ pub mod TimedDemandThree
 pub mod AsBefore
 pub mod WithoutRetimings
 pub mod DemandThree
+pub mod OnceEach
 pub mod Junction

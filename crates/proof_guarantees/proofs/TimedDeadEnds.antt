@@ -68,7 +68,7 @@ module _ (b : List ℕ) (known : verdictOf b ≡ Accepted) where
 
   -- ── Lists of calls ──
 
-  own-from : (calls : List Given) (s : TimedState) → timedValid (siteOf b) s ≡ true → Each (AnswersOwn b) (madeFrom timed b s calls)
+  own-from : (calls : List Given) (s : TimedState) → timedValid (siteOf b) s ≡ true → Each (λ call later. AnswersOwn b call) (madeFrom timed b s calls)
   unfolding madeFrom timed AnswersOwn
   own-from [] s valid = tt
   own-from (stepCall c ∷ calls) s valid =
@@ -84,4 +84,4 @@ module _ (b : List ℕ) (known : verdictOf b ≡ Accepted) where
   pub timed-no-dead-end : (calls : List Given) (s : TimedState) → timedValid (siteOf b) s ≡ true → TimedNoDeadEnd b (madeFrom timed b s calls)
   unfolding TimedNoDeadEnd
   timed-no-dead-end calls s valid earlier later call split =
-      each-at (AnswersOwn b) (madeFrom timed b s calls) earlier later call split (own-from calls s valid)
+      each-at (λ call later. AnswersOwn b call) (madeFrom timed b s calls) earlier later call split (own-from calls s valid)

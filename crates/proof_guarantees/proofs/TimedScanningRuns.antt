@@ -18,7 +18,7 @@ use Rattle.rules.specs.Timed.{keptOf, ruledSite, noneWaiting, timedValid, takes
 use Rattle.rules.specs.TimedCall.{timedParts, retimed, retimeVerdict}
 use Rattle.rules.specs.TimedLaws.{TimedStepKeepsValid, RetimeKeepsValid, TimedStepForgets}
 use Rattle.rules.specs.TimedDemandThree.{timed}
-use Rattle.rules.specs.TimedScanning.{scanValid, scanStepped, scanParts, timedScanning, TimedRunForgets}
+use Rattle.rules.specs.TimedScanning.{scanValid, steppedFinding, partsFinding, timedScanning, TimedRunForgets}
 use Rattle.laws.proofs.Booleans.{and-left, and-both}
 use Rattle.proof_runs.proofs.Alike.{made-alike}
 use Rattle.proof_runs.proofs.AlikeParts.{AlikeParts, parts-alike}
@@ -55,8 +55,8 @@ module _ (b : List ℕ) (known : verdictOf b ≡ Accepted) where
   unfolding scanValid
   valid-unread t = refl
 
-  step-unread : (t : TimedState) (inputs : ℕ) → scanStepped (siteOf b) (forgotten t) inputs ≡ scanStepped (siteOf b) t inputs
-  unfolding scanStepped rulingNext takesOver
+  step-unread : (t : TimedState) (inputs : ℕ) → steppedFinding nextDemanded (siteOf b) (forgotten t) inputs ≡ steppedFinding nextDemanded (siteOf b) t inputs
+  unfolding steppedFinding rulingNext takesOver
   step-unread t inputs =
       let site = ruledSite (siteOf b) t in
       ap (λ (core : State). leaving t (steppedInto (rulingNext (siteOf b) t) (nextDemanded site (t .core) inputs) site core inputs))
@@ -72,12 +72,12 @@ module _ (b : List ℕ) (known : verdictOf b ≡ Accepted) where
       (s : TimedState) →
       timedValid (siteOf b) s ≡ true →
       (inputs : ℕ) →
-      forgotten (timedStepped (siteOf b) s inputs) ≡ scanStepped (siteOf b) s inputs
-  unfolding scanStepped timedStepped TimedStepForgets
+      forgotten (timedStepped (siteOf b) s inputs) ≡ steppedFinding nextDemanded (siteOf b) s inputs
+  unfolding steppedFinding timedStepped TimedStepForgets
   step-forgets s v inputs = ap (leaving s) (timed-step-forgets b known s v inputs)
 
-  scanned : (s t : TimedState) → Rest s t → AlikeParts timedParts scanParts b (λ b. refl) (λ site. refl) Rest s t
-  unfolding TimedStepKeepsValid scanStepped
+  scanned : (s t : TimedState) → Rest s t → AlikeParts timedParts (partsFinding nextDemanded) b (λ b. refl) (λ site. refl) Rest s t
+  unfolding TimedStepKeepsValid steppedFinding
   scanned s t r =
       record {
         seen = ap (λ (s : TimedState). s .core) (r .1);
@@ -87,7 +87,7 @@ module _ (b : List ℕ) (known : verdictOf b ≡ Accepted) where
           timed-step-keeps-valid b known s (r .0) inputs wired,
           step-forgets s (r .0) inputs
               ∙ sym (step-unread s inputs)
-              ∙ ap (λ (t : TimedState). scanStepped (siteOf b) t inputs) (r .1)
+              ∙ ap (λ (t : TimedState). steppedFinding nextDemanded (siteOf b) t inputs) (r .1)
               ∙ step-unread t inputs,
         );
       }
@@ -105,7 +105,7 @@ pub timed-run-forgets : TimedRunForgets
 unfolding TimedRunForgets timed timedScanning
 timed-run-forgets b known s v calls =
     made-alike timed timedScanning b (Rest b known)
-    (parts-alike timedParts scanParts b (λ b. refl) (λ site. refl) (Rest b known) (scanned b known)
+    (parts-alike timedParts (partsFinding nextDemanded) b (λ b. refl) (λ site. refl) (Rest b known) (scanned b known)
     (λ s. s .waiting .present)
     (λ s. s .waiting .present)
     (λ s t r. ap (λ (s : TimedState). s .waiting .present) (r .1))

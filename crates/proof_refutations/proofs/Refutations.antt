@@ -5,21 +5,24 @@ use lib.ListN.{set}
 use Rattle.rules.specs.Personality.{verdictOf}
 use Rattle.rules.specs.Step.{stepped}
 use Rattle.rules.specs.WaitBound.{waitBound}
-use Rattle.rules.specs.Junctions.{junction, slower}
+use Rattle.rules.specs.Junctions.{junction, slower, threePhases}
 use Rattle.rules.specs.DemandThree.{ruled, DemandThreeOf}
+use Rattle.rules.specs.OnceEach.{isFirst, someStarts, phaseStarts, howMany, untilMet, OnceEachOf}
+use Rattle.rules.specs.TimedScanning.{scanValid, steppedFinding, finding}
 use Rattle.rules.proofs.Opened.{opened}
-use Rattle.proof_refutations.specs.Faults.{faulty, passed, passesTen, moved, is, agesOnly, neverAlters, leavesTheSite, endsTimed, endsOnTimer, choosing, choosesAgain, choosesEarlyAgain, clearing, dropsPresses, inventedBound, smallBound, ruledNow, retiming}
-use Rattle.proof_refutations.specs.Refutations.{Refutations, SmallBoundFails, RulesAtOnceFails}
+use Rattle.proof_refutations.specs.Faults.{faulty, passed, passesTen, moved, is, agesOnly, neverAlters, leavesTheSite, endsTimed, endsOnTimer, choosing, choosesAgain, choosesEarlyAgain, clearing, dropsPresses, inventedBound, smallBound, ruledNow, retiming, demandedElse, fromTheBeginning, backTo, goesBack}
+use Rattle.proof_refutations.specs.Refutations.{Refutations, SmallBoundFails, RulesAtOnceFails, StartsTwice}
 use Rattle.proof_refutations.proofs.Violations.{together, starts, cut, skipped, met, answers, refuted-by-greens, refuted-by-clearance, refuted-by-yellow, unmet-by-lock, unmet-by-button, refuted-by-wait, refuted-by-refusal, refuted-by-bound}
-use Rattle.proof_refutations.proofs.TimedViolations.{timedStarts, cutShort, refuted-by-cut}
-use Rattle.proof_refutations.proofs.Witnesses.{callsFrom, crossings, shared, sharedArrow, atOnce, walkThenB, laterB, pressedAgain, longestWait, stepsFrom, retimedInYellow}
+use Rattle.proof_refutations.proofs.TimedViolations.{timedStarts, cutShort, refuted-by-cut, twice, refuted-by-start}
+use Rattle.proof_refutations.proofs.Witnesses.{callsFrom, crossings, shared, sharedArrow, atOnce, walkThenB, laterB, pressedAgain, longestWait, thenA, stepsFrom, retimedInYellow}
 
 -- what the runs compute with
 unfoldable computing : Unit {0}
 unfolding
     opened passed passesTen moved agesOnly neverAlters leavesTheSite is endsTimed endsOnTimer choosing choosesAgain choosesEarlyAgain clearing
     dropsPresses inventedBound smallBound together starts cut skipped met answers callsFrom crossings shared sharedArrow atOnce walkThenB laterB
-    pressedAgain longestWait ruledNow timedStarts cutShort stepsFrom retimedInYellow
+    pressedAgain longestWait ruledNow timedStarts cutShort stepsFrom retimedInYellow demandedElse fromTheBeginning backTo goesBack scanValid
+    steppedFinding isFirst someStarts phaseStarts howMany untilMet twice thenA
 computing = tt
 
 -- Group 1 of the junction is made one of A too: both groups are green in step 10.
@@ -111,3 +114,15 @@ small-bound-fails holds =
 pub rules-at-once-fails : RulesAtOnceFails
 unfolding computing RulesAtOnceFails
 rules-at-once-fails = refuted-by-cut (retiming ruledNow) slower refl retimedInYellow 59 100 1 0 30 refl refl
+
+-- C waits from step 1 on. A starts in step 10, B in step 71, and A again in step 132.
+from-the-beginning : ¬ OnceEachOf (finding fromTheBeginning)
+unfolding computing
+from-the-beginning = refuted-by-start (finding fromTheBeginning) threePhases refl (stepsFrom thenA 3 1 132) 0 2 0 refl
+
+goes-back : ¬ OnceEachOf (finding goesBack)
+unfolding computing
+goes-back = refuted-by-start (finding goesBack) threePhases refl (stepsFrom thenA 3 1 132) 0 2 0 refl
+
+pub starts-twice : StartsTwice
+starts-twice = record { fromTheBeginning = from-the-beginning; goesBack = goes-back }

@@ -1,33 +1,26 @@
--- How a computed run refutes part b of the demand over step and retiming calls: facts of one list of calls that no list has if the demand holds.
--- Places in a list count from 0.
+-- How a computed run refutes a claim about lists of step and retiming calls, part b of the demand or that no phase starts twice while a demand waits:
+-- facts of one list of calls that no list has if the claim holds. Places in a list count from 0.
 use Prim.Native.Nat.{ℕ, suc, _<_}
 use mathlib.Core.Bool.{Bool, true, false}
-use mathlib.Core.List.{List, [], _∷_, _++_}
-use mathlib.Core.Path.{_≡_, refl, sym, subst, ap, _∙_}
+use mathlib.Core.List.{List, _∷_, _++_}
+use mathlib.Core.Path.{_≡_, sym, subst, ap, _∙_}
 use native.Mathlib.Omega.{arith}
-use borrow.Author.Tests.{ltb-true}
-use lib.Dec.{ltb, eqb}
+use borrow.Author.Tests.{ltb-true, leb-true}
+use lib.Dec.{leb, ltb, eqb}
 use lib.ListN.{length, getD, take, drop, replicate, length-replicate, getD-replicate, List·getD-append}
 use lib.Seq.{split-at}
-use Rattle.rules.specs.declared.answer.Outcome.the-variants.{StepRefused}
 use Rattle.rules.specs.declared.answer.Verdict.the-variants.{Accepted}
-use Rattle.rules.specs.declared.site.PhaseTimes.{PhaseTimes}
 use Rattle.rules.specs.Site.{siteOf, phaseTimes, isPedestrian, conflict}
-use Rattle.rules.specs.State.{fresh}
 use Rattle.rules.specs.SiteTimes.{noTimes}
 use Rattle.rules.specs.Colours.{red, yellow, green}
-use Rattle.rules.specs.DemandThree.{Taken, shows, shownBy, NeverGreen, lastGreen, StartsGreen, VehicleCleared, Cleared, someStep}
-use Rattle.rules.specs.TimedDemandThree.{TimedController, Given, TimedStep, madeFrom, acceptedSteps, takens, siteAfter, TimedClearances, TimedDemandThreeOf}
-use Rattle.proof_refutations.proofs.Violations.{never-green}
+use Rattle.rules.specs.DemandThree.{Taken, shows, shownBy, lastGreen, StartsGreen, VehicleCleared, Cleared, registersLocked, minimumGreenBegins, someStep}
+use Rattle.rules.specs.TimedDemandThree.{TimedController, Given, TimedStep, madeFrom, acceptedSteps, takens, TimedClearances, TimedDemandThreeOf}
+use Rattle.rules.specs.OnceEach.{phaseStarts, howMany, untilMet, OnceEach, OnceEachOf}
+use Rattle.proof_refutations.proofs.Violations.{nowhere, never-green}
 
 -- what is read past the end of a list
-abbrev nowhere : TimedStep
-nowhere =
-    record {
-      taken = record { before = fresh; inputs = 0; room = 0; outcome = StepRefused 0 0; after = fresh; shown = [] };
-      ruling = noTimes;
-      changed = false;
-    }
+abbrev noStep : TimedStep
+noStep = record { taken = nowhere; ruling = noTimes; changed = false }
 
 yellow-at : (y r i : ℕ) → i < y → getD (replicate y yellow ++ replicate r red) i red ≡ yellow
 yellow-at y r i l =
@@ -50,16 +43,16 @@ module _ {S : Type 0} (controller : TimedController S) (b : List ℕ) (known : c
     ltb m (length steps),
     ltb n (length (front m)),
     conflict (siteOf b) g j,
-    shows (getD steps m nowhere .taken) g,
+    shows (getD steps m noStep .taken) g,
     lastGreen false g (takens (front m)),
-    shows (getD (front m) n nowhere .taken) j,
+    shows (getD (front m) n noStep .taken) j,
     someStep (λ step. eqb (shows step j) green) (since n m),
   )
 
   -- of vehicle group j: it is one; its step i after step n is one of its yellow by the times that rule after step n; and what it shows then
   unfoldable pub cutShort : ℕ → ℕ → ℕ → ℕ → Bool × Bool × ℕ
   cutShort n m j i =
-      let last = getD (front m) n nowhere in
+      let last = getD (front m) n noStep in
       let times = phaseTimes (last .ruling) (last .taken .after .position .phase) in
       (isPedestrian (siteOf b .groups) j, ltb i (times .yellow), getD (shownBy j (since n m)) i red)
 
@@ -70,13 +63,13 @@ module _ {S : Type 0} (controller : TimedController S) (b : List ℕ) (known : c
       ¬ TimedDemandThreeOf controller
   unfolding timedStarts cutShort TimedDemandThreeOf TimedClearances StartsGreen Cleared VehicleCleared
   refuted-by-cut n m g j i facts more holds =
-      let whole = split-at steps m nowhere (ltb-true m (length steps) (λ i. facts i .0)) in
-      let parts = split-at (front m) n nowhere (ltb-true n (length (front m)) (λ i. facts i .1)) in
-      let last = getD (front m) n nowhere in
+      let whole = split-at steps m noStep (ltb-true m (length steps) (λ i. facts i .0)) in
+      let parts = split-at (front m) n noStep (ltb-true n (length (front m)) (λ i. facts i .1)) in
+      let last = getD (front m) n noStep in
       let time = phaseTimes (last .ruling) (last .taken .after .position .phase) .yellow in
       let cleared =
-      holds b known calls .fullClearances (take n (front m)) (drop (suc n) (front m)) (drop (suc m) steps) last (getD steps m nowhere)
-      (subst (λ (xs : List TimedStep). steps ≡ xs ++ getD steps m nowhere ∷ drop (suc m) steps) parts whole)
+      holds b known calls .fullClearances (take n (front m)) (drop (suc n) (front m)) (drop (suc m) steps) last (getD steps m noStep)
+      (subst (λ (xs : List TimedStep). steps ≡ xs ++ getD steps m noStep ∷ drop (suc m) steps) parts whole)
       g
       j
       (λ i. facts i .2)
@@ -90,3 +83,21 @@ module _ {S : Type 0} (controller : TimedController S) (b : List ℕ) (known : c
       ∙ ap (λ (xs : List ℕ). getD xs i red) (shown .2)
       ∙ yellow-at time (shown .0) i (ltb-true i time (λ i. more i .1)) in
       omega arith
+
+  -- ── Once each ──
+
+  -- of step n: it is there, it registers a locked demand of phase p, and phase r starts twice or more often until that is met
+  unfoldable pub twice : ℕ → ℕ → ℕ → Bool × Bool × Bool
+  twice n p r =
+      let step = getD (takens steps) n nowhere in
+      let waiting = untilMet (minimumGreenBegins p) (step ∷ drop (suc n) (takens steps)) in
+      (ltb n (length (takens steps)), registersLocked (siteOf b) step p, leb 2 (howMany (phaseStarts r) waiting))
+
+  pub refuted-by-start : (n p r : ℕ) → twice n p r ≡ (true, true, true) → ¬ OnceEachOf controller
+  unfolding twice OnceEachOf OnceEach
+  refuted-by-start n p r facts holds =
+      let step = getD (takens steps) n nowhere in
+      let later = drop (suc n) (takens steps) in
+      let split = split-at (takens steps) n nowhere (ltb-true n (length (takens steps)) (λ i. facts i .0)) in
+      let many = leb-true 2 (howMany (phaseStarts r) (untilMet (minimumGreenBegins p) (step ∷ later))) (λ i. facts i .2) in
+      omega (arith, many, holds b known calls (take n (takens steps)) later step split .0 p (λ i. facts i .1) r)

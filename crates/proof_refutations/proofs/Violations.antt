@@ -23,7 +23,7 @@ use Rattle.rules.specs.DemandThree.{Controller, Call, Taken, takenFrom, accepte
 use Rattle.laws.proofs.Booleans.{never-both, or-false-left, or-false-right}
 
 -- what is read past the end of a list
-abbrev nowhere : Taken
+abbrev pub nowhere : Taken
 nowhere = record { before = fresh; inputs = 0; room = 0; outcome = StepRefused 0 0; after = fresh; shown = [] }
 
 pub never-green : (g : ℕ) (steps : List Taken) → someStep (λ step. eqb (shows step g) green) steps ≡ false → NeverGreen g steps

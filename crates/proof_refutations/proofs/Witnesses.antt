@@ -69,6 +69,10 @@ pressedAgain step = if eqb step 1 || eqb step 31 then 2 ^ 48 else if eqb step 30
 unfoldable pub longestWait : ℕ → ℕ
 longestWait step = if eqb step 229 then 2 ^ 49 else if leb 230 step then 1 else pressedAgain step
 
+-- the detectors of B and C in step 1, and that of A in step 40, when A is being left for B
+unfoldable pub thenA : ℕ → ℕ
+thenA step = if eqb step 1 then 6 else if eqb step 40 then 1 else 0
+
 -- ── Calls with a retiming among them ──
 
 -- n step calls from a step on, as step calls of a list with retiming calls

@@ -1,5 +1,6 @@
 -- Controllers that must not pass: each is the controller of the scanning rules with its verdict, its step or its wait replaced. For the same
--- calls the scanning rules answer as the rules do (`RunForgets`). The last one is the controller of the timed rules with its retiming replaced.
+-- calls the scanning rules answer as the rules do (`RunForgets`). The last three are the controller of the timed rules with its retiming replaced,
+-- and that of the scanning timed rules (`TimedRunForgets`) with its search for the next phase replaced.
 use Prim.Native.Nat.{ℕ, _+_, _-_, _^_}
 use mathlib.Core.Bool.{Bool, not, _&&_, _||_}
 use mathlib.Core.List.{List}
@@ -11,7 +12,7 @@ use Rattle.rules.specs.declared.site.Site.{Site}
 use Rattle.rules.specs.declared.site.Times.{Times}
 use Rattle.rules.specs.declared.state.Counts.{Counts}
 use Rattle.rules.specs.declared.state.Held.{Held}
-use Rattle.rules.specs.declared.state.Held.the-variants.{Nothing}
+use Rattle.rules.specs.declared.state.Held.the-variants.{Nothing, Phase}
 use Rattle.rules.specs.declared.state.Interval.{Interval}
 use Rattle.rules.specs.declared.state.Interval.the-variants.{StartRed, EarlyCutOff, Yellow, AllRed}
 use Rattle.rules.specs.declared.state.Movement.{Movement}
@@ -19,11 +20,11 @@ use Rattle.rules.specs.declared.state.Position.{Position}
 use Rattle.rules.specs.declared.state.State.{State}
 use Rattle.rules.specs.declared.state.TimedState.{TimedState}
 use Rattle.laws.specs.Folds.{if_then_else_, sumOf}
-use Rattle.rules.specs.Site.{phaseTimes}
+use Rattle.rules.specs.Site.{phaseTimes, ring}
 use Rattle.rules.specs.IntervalTable.{intervalRow, isIdle, isWalk, isStartRed}
 use Rattle.rules.specs.Personality.{verdictOf}
 use Rattle.rules.specs.State.{movement}
-use Rattle.rules.specs.Demands.{pressed, nextDemanded}
+use Rattle.rules.specs.Demands.{pressed, demanded, firstIn, nextDemanded}
 use Rattle.rules.specs.Interval.{ends, entering, staying, positionAfter}
 use Rattle.rules.specs.Step.{steppedBy, stepped}
 use Rattle.rules.specs.WaitBound.{phaseShare, longestWalk, longestClearance}
@@ -126,3 +127,21 @@ ruledNow s times = record { core = s .core; kept = s .kept; ruling = times; wait
 -- the controller of the rules with such a retiming; `timed` is `retiming retimed`
 abbrev pub retiming : (TimedState → Times → TimedState) → TimedController TimedState
 retiming retimed = timedControllerOf timedParts (λ s. s .waiting .present) retimed
+
+-- ── Searches for the next phase that are wrong; `timedScanning` is `finding nextDemanded` ──
+
+-- another phase that is demanded
+unfoldable pub demandedElse : Site → State → ℕ → ℕ → Bool
+demandedElse site s inputs p = demanded site s inputs p && not (eqb p (s .position .phase))
+
+-- the first of the order, counted from its beginning
+unfoldable pub fromTheBeginning : Site → State → ℕ → Held
+fromTheBeginning site s inputs = firstIn (demandedElse site s inputs) (ring (site .order) (site .size .phases))
+
+-- came-from, if that is demanded
+unfoldable pub backTo : Held → Site → State → ℕ → Held
+backTo Nothing site s inputs = nextDemanded site s inputs
+backTo (Phase p) site s inputs = if demandedElse site s inputs p then Phase p else nextDemanded site s inputs
+
+unfoldable pub goesBack : Site → State → ℕ → Held
+goesBack site s inputs = backTo (s .position .previous) site s inputs

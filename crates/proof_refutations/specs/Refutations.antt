@@ -1,4 +1,4 @@
--- What is shown of the controllers that must not pass: demand 3 is false of each.
+-- What is shown of the controllers that must not pass: demand 3, or that no phase starts twice while a demand waits, is false of each.
 use Prim.Native.Nat.{ℕ}
 use mathlib.Core.List.{List}
 use mathlib.Core.Path.{_≡_}
@@ -10,7 +10,9 @@ use Rattle.rules.specs.Kept.{freshKept}
 use Rattle.rules.specs.WaitBound.{waitBound}
 use Rattle.rules.specs.DemandThree.{ruled, Call, takenFrom, accepted, DemandsMet, DemandThreeOf}
 use Rattle.rules.specs.TimedDemandThree.{TimedDemandThreeOf}
-use Rattle.proof_refutations.specs.Faults.{faulty, passesTen, agesOnly, neverAlters, leavesTheSite, endsOnTimer, choosesAgain, choosesEarlyAgain, dropsPresses, inventedBound, smallBound, ruledNow, retiming}
+use Rattle.rules.specs.OnceEach.{OnceEachOf}
+use Rattle.rules.specs.TimedScanning.{finding}
+use Rattle.proof_refutations.specs.Faults.{faulty, passesTen, agesOnly, neverAlters, leavesTheSite, endsOnTimer, choosesAgain, choosesEarlyAgain, dropsPresses, inventedBound, smallBound, ruledNow, retiming, fromTheBeginning, goesBack}
 
 -- Ten controllers. One that sets the maximum count back when a non-locking demand drops away is not among them: demand 3 does not see it,
 -- since it speaks of locked and button demands, which never drop away. Demand 2 shuts it out: the contract of a step gives the count.
@@ -42,3 +44,8 @@ SmallBoundFails =
 -- A controller under which new times rule at once breaks part b of the demand over step and retiming calls: a yellow that has begun is cut.
 unfoldable pub RulesAtOnceFails : Type 0
 RulesAtOnceFails = ¬ TimedDemandThreeOf (retiming ruledNow)
+
+-- Two controllers under which a phase starts twice while a demand waits.
+pub record StartsTwice : Type 0 where
+  pub fromTheBeginning : ¬ OnceEachOf (finding fromTheBeginning)
+  pub goesBack : ¬ OnceEachOf (finding goesBack)

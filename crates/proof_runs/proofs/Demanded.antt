@@ -7,7 +7,7 @@ use Rattle.rules.specs.declared.site.Site.{Site}
 use Rattle.rules.specs.declared.state.State.{State}
 use Rattle.laws.specs.Bytes.{bit}
 use Rattle.rules.specs.Site.{detectorOf, crosses}
-use Rattle.rules.specs.Demands.{occupied, detectedAmong, detected, calls, demandsAfter, movementDemands, stands, demanded}
+use Rattle.rules.specs.Demands.{occupied, locking, detectedAmong, detected, registersLock, calls, demandsAfter, movementDemands, stands, demanded}
 use Rattle.rules.specs.Laws.{Sound}
 use Rattle.laws.proofs.Booleans.{and-left, and-right, and-both, or-left, or-right}
 use Rattle.laws.proofs.Folds.{any-found, any-at}
@@ -22,6 +22,12 @@ detected-below site sound kind inputs p h =
     let d = found .0 in
     let ofPhase = and-right (occupied inputs d) _ (and-left _ (kind (detectorOf (site .detectors) d .mode)) (found .2)) in
     rw (eqb-true (detectorOf (site .detectors) d .phase) p ofPhase) at (sound .detectorPhase d (found .1))
+
+-- so a phase whose lock is registered exists
+pub lock-below :
+    (site : Site) → Sound site → (s : State) (inputs p : ℕ) → registersLock site s inputs p ≡ true → p < site .size .phases
+unfolding registersLock
+lock-below site sound s inputs p h = detected-below site sound locking inputs p (and-left (detected locking site inputs p) _ h)
 
 module _ (site : Site) (s : State) (inputs : ℕ) where
   pub lock-demands : (p : ℕ) → p < 8 → lockedNow site s inputs p ≡ true → demanded site s inputs p ≡ true

@@ -163,3 +163,7 @@ pub target-below : (count phase : ℕ) (target : Held) → targetValid count pha
 unfolding targetValid phaseHeld
 target-below count phase Nothing h = absurd (true≢false (sym h))
 target-below count phase (Phase t) h = ltb-true t count (and-left (ltb t count) (not (eqb t phase)) h)
+
+pub leaving-target :
+    (site : Site) (s : State) → ValidState site s → isLeaving (s .position .interval) ≡ true → phaseHeld (s .position .target) < site .size .phases
+leaving-target site s v h = target-below (site .size .phases) (s .position .phase) (s .position .target) (rw h at (v .target))

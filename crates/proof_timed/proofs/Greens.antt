@@ -20,7 +20,7 @@ use Rattle.proof_timed.proofs.Induction.{viewed, plainFrom, TimedRun}
 abbrev Apart : Site → Taken → Type 0
 Apart site step = (g j : ℕ) → conflict site g j ≡ true → shows step g ≡ green → shows step j ≡ green → ⊥
 
-all-apart : (site : Site) (s : State) (ruling : Times) (steps : List TimedStep) → TimedRun site s ruling steps → Each (Apart site) (takens steps)
+all-apart : (site : Site) (s : State) (ruling : Times) (steps : List TimedStep) → TimedRun site s ruling steps → Each (λ step later. Apart site step) (takens steps)
 unfolding conflict shows
 all-apart site s ruling [] run = tt
 all-apart site s ruling (step ∷ later) run =
@@ -33,4 +33,4 @@ pub timed-greens :
     (site : Site) (s : State) (ruling : Times) (steps : List TimedStep) → TimedRun site s ruling steps → NoConflictingGreens site (takens steps)
 unfolding NoConflictingGreens
 timed-greens site s ruling steps run earlier later step split =
-    each-at (Apart site) (takens steps) earlier later step split (all-apart site s ruling steps run)
+    each-at (λ step later. Apart site step) (takens steps) earlier later step split (all-apart site s ruling steps run)

@@ -1,7 +1,7 @@
 -- Accepted steps with changes of times among them, and induction over them: a plain link under the times that rule, or, where others take over,
 -- a plain link under those from the ready state. At a change the bound is set anew.
 use Prim.Native.Nat.{ℕ, zero, suc, _+_, _≤_, _<_}
-use mathlib.Core.Bool.{Bool, true, false, _||_}
+use mathlib.Core.Bool.{Bool, true, false}
 use mathlib.Core.List.{List, [], _∷_, _++_}
 use mathlib.Core.Logic.{_⊎_, ⊎-elim}
 use mathlib.Core.Path.{_≡_, refl, sym, ap, subst, _∙_}
@@ -20,7 +20,7 @@ use Rattle.rules.specs.TimedLaws.{readyCore}
 use Rattle.rules.specs.Laws.{Sound}
 use Rattle.rules.specs.DemandThree.{Taken, inWalk, someStep}
 use Rattle.rules.specs.TimedDemandThree.{TimedStep, takens, changedWaits, MetInTime}
-use Rattle.laws.proofs.Booleans.{or-false-left, or-false-right, never-both, not-true-false}
+use Rattle.laws.proofs.Booleans.{or-false-left, or-false-right, never-both}
 use Rattle.proof_runs.proofs.ValidStates.{ValidState}
 use Rattle.proof_runs.proofs.Chains.{ValidLink}
 use Rattle.proof_waits.proofs.Demand.{Waits}
@@ -65,9 +65,25 @@ front site (step ∷ earlier) later s ruling run = (run .0, front site earlier l
 
 -- ── A demand of either kind ──
 
--- the event comes neither in the first step nor later
-none-first : (first later : Bool) → (first || later) ≡ false → (first ≡ false) × (later ≡ false)
-none-first first later h = (or-false-left first later h, or-false-right first later h)
+-- that its event comes in a step is seen from the state that the step is plain from
+abbrev pub SeenReady : (Taken → Bool) → Type 0
+SeenReady met =
+    (step : Taken) → ((k : ℕ) → k < 8 → inWalk (step .before) k ≡ false) → met (viewed (readyCore (step .before)) step) ≡ true → met step ≡ true
+
+pub truly :
+    (site : Site) (met : Taken → Bool) →
+    SeenReady met →
+    (s : State) (ruling : Times) (step : TimedStep) →
+    TimedLink site s ruling step →
+    met (viewed (plainFrom (step .changed) s) (step .taken)) ≡ true →
+    met (step .taken) ≡ true
+truly site met seen s ruling step link = by (step .changed) refl
+  where
+    by : (c : Bool) → step .changed ≡ c → met (viewed (plainFrom c s) (step .taken)) ≡ true → met (step .taken) ≡ true
+    by false e h = ap (λ (b : State). met (viewed b (step .taken))) (link .before) ∙ h
+    by true e h =
+        seen (step .taken) (λ k l. ap (λ (b : State). inWalk b k) (link .before) ∙ link .still e k l)
+        (ap (λ (b : State). met (viewed (readyCore b) (step .taken))) (link .before) ∙ h)
 
 module _
     (site : Site) (met : Taken → Bool) (Stands : State → Type 0) (Left : Times → ℕ → State → Type 0)
@@ -85,22 +101,14 @@ module _
     Left ruling (waitBound (under site ruling)) s)
     (never : (ruling : Times) (s : State) → Left ruling zero s → ⊥)
     (again : (s : State) → Stands s → Stands (readyCore s))
-    (seen : (step : Taken) → ((k : ℕ) → k < 8 → inWalk (step .before) k ≡ false) → met (viewed (readyCore (step .before)) step) ≡ true → met step ≡ true) where
+    (seen : SeenReady met) where
+  -- the demand waits on, seen from the state that the step is plain from
+  abbrev WaitsFrom : Bool → State → TimedStep → Type 0
+  WaitsFrom changed s step = Waits Stands (Left (step .ruling)) (plainFrom changed s) (viewed (plainFrom changed s) (step .taken))
+
   -- the demand stands, and so many steps are left at most
   abbrev Holds : State → Times → ℕ → Type 0
   Holds s ruling n = Stands s × Left ruling n s
-
-  plain-step :
-      (s : State) (ruling : Times) (step : TimedStep) (n : ℕ) →
-      ValidLink (under site ruling) s (viewed s (step .taken)) →
-      met (viewed s (step .taken)) ≡ false →
-      Holds s ruling (suc n) →
-      Holds (step .taken .after) ruling n
-  plain-step s ruling step n link none w =
-      ⊎-elim
-      (λ (e : met (viewed s (step .taken)) ≡ true). absurd (never-both e none))
-      (λ (waits : Waits Stands (Left ruling) s (viewed s (step .taken))). (waits .stands, waits .falls n (w .1)))
-      (goes ruling s (viewed s (step .taken)) link (w .0))
 
   -- some step is left
   some-left : (s : State) (ruling : Times) (n : ℕ) → Left ruling n s → (m : ℕ) × (n ≡ suc m)
@@ -114,38 +122,33 @@ module _
       met (step .taken) ≡ false →
       Holds s ruling n →
       (m : ℕ) × (suc m ≤ n + (if step .changed then waitBound (under site (step .ruling)) else 0)) × Holds (step .taken .after) (step .ruling) m
-  one-step s ruling step n link none w = decide (step .changed) refl (link .plain)
+  one-step s ruling step n link none w =
+      let from = plainFrom (step .changed) s in
+      decide (step .changed) refl (link .plain)
+      (⊎-elim
+      (λ (e : met (viewed from (step .taken)) ≡ true). absurd (never-both (truly site met seen s ruling step link e) none))
+      (λ (waits : WaitsFrom (step .changed) s step). waits)
+      (goes (step .ruling) from (viewed from (step .taken)) (link .plain) (stands-from (step .changed))))
     where
-      back : met (viewed s (step .taken)) ≡ false
-      back = ap (λ (b : State). met (viewed b (step .taken))) (sym (link .before)) ∙ none
+      stands-from : (changed : Bool) → Stands (plainFrom changed s)
+      stands-from true = again s (w .0)
+      stands-from false = w .0
 
       decide :
           (changed : Bool) →
           step .changed ≡ changed →
           ValidLink (under site (step .ruling)) (plainFrom changed s) (viewed (plainFrom changed s) (step .taken)) →
+          WaitsFrom changed s step →
           (m : ℕ) × (suc m ≤ n + (if changed then waitBound (under site (step .ruling)) else 0)) × Holds (step .taken .after) (step .ruling) m
-      decide false e plain =
+      decide false e plain waits =
           let left = some-left s ruling n (w .1) in
-          let same = link .kept e in (
-            left .0,
-            omega (arith, left .1),
-            plain-step s (step .ruling) step (left .0) plain back (w .0, subst (λ (r : Times). Left r (suc (left .0)) s) (sym same) (subst (λ (k : ℕ). Left ruling k s) (left .1) (w .1))),
-          )
-      decide true e plain =
-          let stands = again s (w .0) in
-          let anew = within (step .ruling) (plain .sound) (readyCore s) (plain .here) stands in
-          let left = some-left (readyCore s) (step .ruling) (waitBound (under site (step .ruling))) anew in (
-            left .0,
-            omega (arith, left .1),
-            plain-step (readyCore s) (step .ruling) step (left .0) plain
-                (not-true-false (met (viewed (readyCore s) (step .taken)))
-                (λ h.
-                never-both
-                (seen (step .taken) (λ k l. ap (λ (b : State). inWalk b k) (link .before) ∙ link .still e k l)
-                (ap (λ (b : State). met (viewed (readyCore b) (step .taken))) (link .before) ∙ h))
-                none))
-                (stands, subst (λ (k : ℕ). Left (step .ruling) k (readyCore s)) (left .1) anew),
-          )
+          let here = subst (λ (r : Times). Left r (suc (left .0)) s) (sym (link .kept e)) (subst (λ (k : ℕ). Left ruling k s) (left .1) (w .1)) in
+          (left .0, omega (arith, left .1), (waits .stands, waits .falls (left .0) here))
+      decide true e plain waits =
+          let anew = within (step .ruling) (plain .sound) (readyCore s) (plain .here) (stands-from true) in
+          let left = some-left (readyCore s) (step .ruling) (waitBound (under site (step .ruling))) anew in
+          let here = subst (λ (k : ℕ). Left (step .ruling) k (readyCore s)) (left .1) anew in
+          (left .0, omega (arith, left .1), (waits .stands, waits .falls (left .0) here))
 
   lasts :
       (between : List TimedStep) (s : State) (ruling : Times) (n : ℕ) →
@@ -156,31 +159,23 @@ module _
   unfolding changedWaits someStep
   lasts [] s ruling n run w none = omega (arith, some-left s ruling n (w .1) .1)
   lasts (step ∷ later) s ruling n run w none =
-      let parts = none-first (met (step .taken)) (someStep met (takens later)) none in
-      let one = one-step s ruling step n (run .0) (parts .0) w in
-      omega (arith, one .1, lasts later (step .taken .after) (step .ruling) (one .0) (run .1) (one .2) (parts .1))
+      let one = one-step s ruling step n (run .0) (or-false-left (met (step .taken)) (someStep met (takens later)) none) w in
+      let rest = or-false-right (met (step .taken)) (someStep met (takens later)) none in
+      omega (arith, one .1, lasts later (step .taken .after) (step .ruling) (one .0) (run .1) (one .2) rest)
 
   -- from the step that registers it on
   pub met-in-time :
       (s : State) (ruling : Times) (step : TimedStep) (between : List TimedStep) →
       TimedRun site s ruling (step ∷ between) →
-      (met (viewed (plainFrom (step .changed) s) (step .taken)) ≡ true)
-      ⊎ Waits Stands (Left (step .ruling)) (plainFrom (step .changed) s) (viewed (plainFrom (step .changed) s) (step .taken)) →
+      (met (viewed (plainFrom (step .changed) s) (step .taken)) ≡ true) ⊎ WaitsFrom (step .changed) s step →
       MetInTime site met step between
   unfolding MetInTime someStep
   met-in-time s ruling step between run first none =
-      let parts = none-first (met (step .taken)) (someStep met (takens between)) none in
       ⊎-elim
       (λ (e : met (viewed (plainFrom (step .changed) s) (step .taken)) ≡ true).
-      absurd (never-both (truly (step .changed) refl e) (parts .0)))
-      (λ (waits : Waits Stands (Left (step .ruling)) (plainFrom (step .changed) s) (viewed (plainFrom (step .changed) s) (step .taken))).
+      absurd (never-both (truly site met seen s ruling step (run .0) e) (or-false-left (met (step .taken)) (someStep met (takens between)) none)))
+      (λ (waits : WaitsFrom (step .changed) s step).
       lasts between (step .taken .after) (step .ruling) (waitBound (under site (step .ruling))) (run .1)
       (waits .stands, within (step .ruling) (run .0 .plain .sound) (step .taken .after) (run .0 .plain .there) (waits .stands))
-      (parts .1))
+      (or-false-right (met (step .taken)) (someStep met (takens between)) none))
       first
-    where
-      truly : (c : Bool) → step .changed ≡ c → met (viewed (plainFrom c s) (step .taken)) ≡ true → met (step .taken) ≡ true
-      truly false e h = ap (λ (b : State). met (viewed b (step .taken))) (run .0 .before) ∙ h
-      truly true e h =
-          seen (step .taken) (λ k l. ap (λ (b : State). inWalk b k) (run .0 .before) ∙ run .0 .still e k l)
-          (ap (λ (b : State). met (viewed (readyCore b) (step .taken))) (run .0 .before) ∙ h)

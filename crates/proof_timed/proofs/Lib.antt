@@ -5,4 +5,5 @@ pub mod Countdowns
 pub mod VehicleClearances
 pub mod PedestrianClearances
 pub mod Clearances
+pub mod Across
 pub mod Demands

@@ -2,8 +2,8 @@
 -- and its clearance once more; every phase is visited at most once on the way, and the second part pays for the rest of the phase that
 -- the state has.
 use Prim.Native.Nat.{ℕ, _+_, _≤_, _<_}
-use mathlib.Core.Bool.{Bool, true, false}
-use mathlib.Core.Path.{_≡_, refl, subst}
+use mathlib.Core.Bool.{true, false}
+use mathlib.Core.Path.{_≡_, refl}
 use native.Mathlib.Omega.{arith}
 use Rattle.rules.specs.declared.site.Site.{Site}
 use Rattle.rules.specs.declared.state.Interval.{Interval}
@@ -12,11 +12,11 @@ use Rattle.rules.specs.declared.state.State.{State}
 use Rattle.laws.specs.Folds.{sumOf}
 use Rattle.rules.specs.Site.{phaseTimes}
 use Rattle.rules.specs.IntervalTable.{phaseHeld, isLeaving, isStartRed}
-use Rattle.rules.specs.State.{movement, targetValid}
+use Rattle.rules.specs.State.{movement}
 use Rattle.rules.specs.WaitBound.{phaseShare, waitBound, waitBoundBy}
 use Rattle.rules.specs.Laws.{Sound}
 use Rattle.laws.proofs.Sums.{sum-at, sum-both}
-use Rattle.proof_runs.proofs.ValidStates.{ValidState, target-below}
+use Rattle.proof_runs.proofs.ValidStates.{ValidState, leaving-target}
 use Rattle.proof_runs.proofs.Steps.{timesNow}
 use Rattle.proof_waits.proofs.Stages.{longestWalk, longestClearance, outs, idles, outs-most, clear-most}
 use Rattle.rules.proofs.Settings.{Timed, phase-timed, start-timed}
@@ -30,11 +30,10 @@ pub again : Site → ℕ → ℕ
 again site p = longestWalk site p + leavingTime (phaseTimes (site .times) p) + longestClearance site p
 
 -- all visits
-unfoldable pub visits : Site → ℕ
+abbrev pub visits : Site → ℕ
 visits site = sumOf (visit site) (site .size .phases)
 
 pub visit-most : (site : Site) (p : ℕ) → p < site .size .phases → visit site p ≤ visits site
-unfolding visits
 visit-most site p h = sum-at (visit site) (site .size .phases) p h
 
 -- a phase's share
@@ -46,7 +45,7 @@ unfolding phaseShare visit again
 share site p = omega arith
 
 pub bound-parts : (site : Site) (p : ℕ) → p < site .size .phases → site .times .start + visits site + again site p ≤ waitBound site
-unfolding waitBoundBy visits
+unfolding waitBoundBy
 bound-parts site p h =
     omega (
       arith,
@@ -77,13 +76,7 @@ module _
     bound = bound-parts site (s .position .phase) (v .phase)
 
     target-far : isLeaving (s .position .interval) ≡ true → ahead (phaseHeld (s .position .target)) ≤ visits site
-    target-far h =
-        far (phaseHeld (s .position .target))
-        (target-below (site .size .phases) (s .position .phase) (s .position .target)
-        (subst
-        (λ (b : Bool). targetValid (site .size .phases) (s .position .phase) b (s .position .target) ≡ true)
-        h
-        (v .target)))
+    target-far h = far (phaseHeld (s .position .target)) (leaving-target site s v h)
 
     idles-clear :
         isLeaving (s .position .interval) ≡ true → (k : ℕ) → k < 8 → idles site s k ≤ longestClearance site (s .position .phase)

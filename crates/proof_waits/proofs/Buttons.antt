@@ -29,11 +29,11 @@ use Rattle.proof_runs.proofs.Demanded.{button-demands}
 use Rattle.proof_runs.proofs.Ends.{ended-in, now-in}
 use Rattle.proof_runs.proofs.Chains.{ValidLink}
 use Rattle.proof_waits.proofs.Stages.{idles, walk-kept-out, idle-told, idle-none, idle-kept, idle-most}
-use Rattle.proof_waits.proofs.Left.{Left, never-none}
+use Rattle.proof_waits.proofs.Left.{visit, Left, never-none}
 use Rattle.proof_waits.proofs.Moves.{moved-on, idles-fall}
 use Rattle.proof_waits.proofs.Progress.{Standing, Starts, progress}
 use Rattle.proof_waits.proofs.Bound.{left-within}
-use Rattle.proof_waits.proofs.Paths.{ahead, onward, ahead-apart, ahead-most, onward-most, onward-own, demanded-another, next-near}
+use Rattle.proof_waits.proofs.Paths.{ringIn, ahead, onward, ahead-apart, ahead-most, onward-most, onward-own, demanded-another, next-near}
 use Rattle.proof_waits.proofs.Demand.{Waits}
 
 -- the button is set, and the movement is not in walk
@@ -41,8 +41,15 @@ pub record ButtonStands (m : ℕ) (s : State) : Type 0 where
   pub asked : asked s m ≡ true
   pub still : inWalk s m ≡ false
 
+-- the way to phase q, weighed by the visits
+abbrev here : Site → ℕ → ℕ → ℕ
+here site q = ahead (visit site) (ringIn site) q 0
+
+abbrev beyond : Site → ℕ → ℕ → ℕ
+beyond site q = onward (visit site) (ringIn site) q 0
+
 abbrev pub ButtonLeft : Site → (q m : ℕ) → ℕ → State → Type 0
-ButtonLeft site q m n s = Left site (ahead site q 0) (onward site q 0) (idles site s m) s n
+ButtonLeft site q m n s = Left site (here site q) (beyond site q) (idles site s m) s n
 
 module _
     (site : Site)
@@ -82,7 +89,7 @@ module _
           ∙ walk-kept-out (mayEnd site s inputs) (walkTimes (site .times) m) (movement s m .age) (movement s m .stage) h
 
       -- the phase does not start: the walk would begin
-      not-started : started site s inputs ≡ true → now site s inputs .phase ≡ q → ⊥
+      pub not-started : started site s inputs ≡ true → now site s inputs .phase ≡ q → ⊥
       unfolding begun
       not-started h e = never-both (and-both (and-both standing (ap (crosses (site .crossings) m) e ∙ crossing)) (or-left _ h)) quiet
 
@@ -104,17 +111,17 @@ module _
           quiet
 
       module _ (v : ValidState site s) (v' : ValidState site next) (still : inWalk s m ≡ false) where
-        stand : Standing site (ahead site q 0) (onward site q 0) q s inputs (idles site s m) (idles site next m)
+        stand : Standing site (here site q) (beyond site q) q s inputs (idles site s m) (idles site next m)
         unfolding inWalk
         stand =
             let demanded = button-demands site s inputs m q button-room exists crossing standing in
             record {
-              apart = ahead-apart site q 0;
-              found = next-near site q 0 sound below s inputs demanded (v .phase);
+              apart = ahead-apart (visit site) (ringIn site) q 0;
+              found = next-near site q sound below s inputs demanded (visit site) 0 (v .phase);
               held = λ i z.
                   ⊎-elim
                   (λ (same : s .position .phase ≡ q). not-false-true (another site s inputs) (not-alone i same z))
-                  (demanded-another site q 0 sound below s inputs demanded)
+                  (demanded-another site q sound below s inputs demanded)
                   (same-or-apart (s .position .phase) q);
               fewer = idles-fall site s inputs sound v m button-room still quiet;
               gone = gone next v';
@@ -124,11 +131,11 @@ module _
         unfolding starting
         button-falls n h =
             ⊎-elim
-            (λ (starts : Starts site (ahead site q 0) q s inputs n).
+            (λ (starts : Starts site (here site q) q s inputs n).
             absurd (not-started (starts .starts)
             (ap (λ (p : Position). p .phase) (sym (position-of site s inputs) ∙ starts .position))))
             (λ (left : ButtonLeft site q m n next). left)
-            (progress site sound (ahead site q 0) (onward site q 0) q s inputs v v' (idles site s m) (idles site next m) stand n h)
+            (progress site sound (here site q) (beyond site q) q s inputs v v' (idles site s m) (idles site next m) stand n h)
 
     -- ── A step ──
 
@@ -177,14 +184,14 @@ module _
     pub button-within : (s : State) → ValidState site s → ButtonStands m s → ButtonLeft site q m (waitBound site) s
     unfolding idles
     button-within s v stands =
-        left-within site sound (ahead site q 0) (onward site q 0) (idles site s m) s v
-        (ahead-most site q 0 sound below (omega arith))
+        left-within site sound (here site q) (beyond site q) (idles site s m) s v
+        (ahead-most site q sound below (visit site) 0 (omega arith))
         (λ red leaving.
         ⊎-elim
-        (λ (same : s .position .phase ≡ q). rw same (omega (arith, onward-own site q 0 sound below)))
-        (onward-most site q 0 sound below (omega arith) (s .position .phase) (v .phase))
+        (λ (same : s .position .phase ≡ q). rw same (omega (arith, onward-own site q sound below (visit site) 0)))
+        (onward-most site q sound below (visit site) 0 (omega arith) (s .position .phase) (v .phase))
         (same-or-apart (s .position .phase) q))
         (idle-most site sound (s .position) m (movement s m) (v .movements m button-room))
 
 pub button-never : (site : Site) (q m : ℕ) (s : State) → ButtonLeft site q m zero s → ⊥
-button-never site q m s h = never-none site (ahead site q 0) (onward site q 0) (idles site s m) s h
+button-never site q m s h = never-none site (here site q) (beyond site q) (idles site s m) s h

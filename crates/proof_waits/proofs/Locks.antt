@@ -34,7 +34,7 @@ use Rattle.proof_waits.proofs.Left.{visit, Left, never-none}
 use Rattle.proof_waits.proofs.Falls.{timer-falls}
 use Rattle.proof_waits.proofs.Progress.{Standing, Starts, progress}
 use Rattle.proof_waits.proofs.Bound.{visits, visit-most, bound-parts, left-within}
-use Rattle.proof_waits.proofs.Paths.{ahead, onward, ahead-own, ahead-apart, ahead-most, onward-most, demanded-another, next-near}
+use Rattle.proof_waits.proofs.Paths.{ringIn, ahead, onward, ahead-own, ahead-apart, ahead-most, onward-most, demanded-another, next-near}
 use Rattle.proof_waits.proofs.Registers.{green-same}
 use Rattle.proof_waits.proofs.Away.{AwayAt, NotBegun, following-away, away-told, away-green, not-begun}
 use Rattle.proof_waits.proofs.Demand.{Waits}
@@ -52,18 +52,19 @@ abbrev OwnLate : Site → ℕ → Position → ℕ → Type 0
 OwnLate site q position n =
     (position .interval ≡ LateStart) × (position .phase ≡ q) × (late site q - position .age + 1 + 0 ≤ n)
 
+-- the way to the minimum green of phase q, weighed by the visits
+abbrev here : Site → ℕ → ℕ → ℕ
+here site q = ahead (visit site) (ringIn site) q (late site q)
+
+abbrev beyond : Site → ℕ → ℕ → ℕ
+beyond site q = onward (visit site) (ringIn site) q (late site q)
+
 abbrev pub LockLeft : Site → ℕ → ℕ → State → Type 0
-LockLeft site q n s = Left site (ahead site q (late site q)) (onward site q (late site q)) 0 s n ⊎ OwnLate site q (s .position) n
+LockLeft site q n s = Left site (here site q) (beyond site q) 0 s n ⊎ OwnLate site q (s .position) n
 
 module _ (site : Site) (sound : Sound site) (q : ℕ) (below : q < site .size .phases) where
   lock-room : q < 8
   lock-room = omega (arith, sound .phases)
-
-  abbrev here : ℕ → ℕ
-  here = ahead site q (late site q)
-
-  abbrev beyond : ℕ → ℕ
-  beyond = onward site q (late site q)
 
   -- ── A step in which its minimum green does not begin ──
 
@@ -99,20 +100,20 @@ module _ (site : Site) (sound : Sound site) (q : ℕ) (below : q < site .size .p
           (rw (position-of site s inputs) at none))
 
       module _ (v : ValidState site s) (v' : ValidState site next) where
-        stand : Standing site here beyond q s inputs 0 0
+        stand : Standing site (here site q) (beyond site q) q s inputs 0 0
         stand =
             let demanded = lock-demands site s inputs q lock-room standing in
             record {
-              apart = ahead-apart site q (late site q);
-              found = next-near site q (late site q) sound below s inputs demanded (v .phase);
+              apart = ahead-apart (visit site) (ringIn site) q (late site q);
+              found = next-near site q sound below s inputs demanded (visit site) (late site q) (v .phase);
               held = λ e z.
-                  demanded-another site q (late site q) sound below s inputs demanded (λ same. never-both (ap isGreen e) (away same));
+                  demanded-another site q sound below s inputs demanded (λ same. never-both (ap isGreen e) (away same));
               fewer = omega arith;
               gone = λ other. refl;
             }
 
         -- the phase starts, with late start
-        late-starts : (n : ℕ) → Starts site here q s inputs n → OwnLate site q (next .position) n
+        late-starts : (n : ℕ) → Starts site (here site q) q s inputs n → OwnLate site q (next .position) n
         unfolding starting
         late-starts n starts =
             rw (starts .position)
@@ -124,7 +125,7 @@ module _ (site : Site) (sound : Sound site) (q : ℕ) (below : q < site .size .p
                 (q ≡ q → isMinimumGreen (if b then MinimumGreen else LateStart) ≡ false) →
                 ((if b then MinimumGreen else LateStart) ≡ LateStart) × (q ≡ q) × (late site q - 1 + 1 + 0 ≤ n)
             step true e never = absurd (never-both refl (never refl))
-            step false e never = (refl, refl, omega (arith, starts .near, ahead-own site q (late site q), eqb-false (late site q) 0 e))
+            step false e never = (refl, refl, omega (arith, starts .near, ahead-own (visit site) (ringIn site) q (late site q), eqb-false (late site q) 0 e))
 
         late-goes-on : (n : ℕ) → OwnLate site q (s .position) (suc n) → OwnLate site q (next .position) n
         unfolding following entering staying ends
@@ -147,9 +148,9 @@ module _ (site : Site) (sound : Sound site) (q : ℕ) (below : q < site .size .p
         lock-falls : (n : ℕ) → LockLeft site q (suc n) s → LockLeft site q n next
         lock-falls n (inl h) =
             ⊎-elim
-            (λ (starts : Starts site here q s inputs n). inr (late-starts n starts))
-            (λ (left : Left site here beyond 0 next n). inl left)
-            (progress site sound here beyond q s inputs v v' 0 0 stand n h)
+            (λ (starts : Starts site (here site q) q s inputs n). inr (late-starts n starts))
+            (λ (left : Left site (here site q) (beyond site q) 0 next n). inl left)
+            (progress site sound (here site q) (beyond site q) q s inputs v v' 0 0 stand n h)
         lock-falls n (inr h) = inr (late-goes-on n h)
 
   -- ── A step ──
@@ -205,9 +206,9 @@ module _ (site : Site) (sound : Sound site) (q : ℕ) (below : q < site .size .p
     whole :
         (isStartRed (s .position .interval) ≡ false →
         isLeaving (s .position .interval) ≡ false →
-        visit site (s .position .phase) + beyond (s .position .phase) ≤ visits site) →
+        visit site (s .position .phase) + beyond site q (s .position .phase) ≤ visits site) →
         LockLeft site q (waitBound site) s
-    whole fits = inl (left-within site sound here beyond 0 s v (ahead-most site q (late site q) sound below tail-most) fits (omega arith))
+    whole fits = inl (left-within site sound (here site q) (beyond site q) 0 s v (ahead-most site q sound below (visit site) (late site q) tail-most) fits (omega arith))
 
     lock-own : (i : Interval) → s .position .interval ≡ i → s .position .phase ≡ q → LockLeft site q (waitBound site) s
     lock-own StartRed e same = whole (λ red leaving. absurd (never-both (ap isStartRed e) red))
@@ -229,9 +230,9 @@ module _ (site : Site) (sound : Sound site) (q : ℕ) (below : q < site .size .p
       (lock-own s v (stands .away) (s .position .interval) refl)
       (λ (other : s .position .phase ≡ q → ⊥).
       whole s v (stands .away)
-      (λ red leaving. onward-most site q (late site q) sound below tail-most (s .position .phase) (v .phase) other))
+      (λ red leaving. onward-most site q sound below (visit site) (late site q) tail-most (s .position .phase) (v .phase) other))
       (same-or-apart (s .position .phase) q)
 
 pub lock-never : (site : Site) (q : ℕ) (s : State) → LockLeft site q zero s → ⊥
-lock-never site q s (inl h) = never-none site (ahead site q (late site q)) (onward site q (late site q)) 0 s h
+lock-never site q s (inl h) = never-none site (here site q) (beyond site q) 0 s h
 lock-never site q s (inr h) = omega (arith, h .2)

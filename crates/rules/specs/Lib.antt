@@ -20,6 +20,7 @@ pub mod Call
 pub mod TimedCall
 pub mod DemandThree
 pub mod TimedDemandThree
+pub mod OnceEach
 pub mod Laws
 pub mod TimedLaws
 pub mod Scanning

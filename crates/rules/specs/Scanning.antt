@@ -16,7 +16,7 @@ use Rattle.rules.specs.Demands.{stands}
 use Rattle.rules.specs.Step.{stepped}
 use Rattle.rules.specs.Kept.{isKept, keptValid, keptStepped}
 use Rattle.rules.specs.WaitBound.{waitBound}
-use Rattle.rules.specs.Call.{Parts, checksBy}
+use Rattle.rules.specs.Call.{Parts}
 use Rattle.rules.specs.DemandThree.{Controller, controllerOf, Call, ruled, takenFrom}
 
 -- the parts of a controller whose state has no kept set, by its verdict, its step and its wait
@@ -34,9 +34,6 @@ withoutKept verdict step wait =
 
 abbrev scanningParts : Parts State
 scanningParts = withoutKept verdictOf stepped waitBound
-
-abbrev pub scanVerdict : List ℕ → State → ℕ → ℕ → Verdict
-scanVerdict = checksBy scanningParts
 
 unfoldable pub scanning : Controller State
 scanning = controllerOf scanningParts

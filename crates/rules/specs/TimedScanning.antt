@@ -6,6 +6,8 @@ use mathlib.Core.List.{List}
 use mathlib.Core.Path.{_≡_}
 use Rattle.rules.specs.declared.answer.Verdict.the-variants.{Accepted}
 use Rattle.rules.specs.declared.site.Site.{Site}
+use Rattle.rules.specs.declared.state.Held.{Held}
+use Rattle.rules.specs.declared.state.State.{State}
 use Rattle.rules.specs.declared.state.TimedState.{TimedState}
 use Rattle.laws.specs.Folds.{if_then_else_}
 use Rattle.rules.specs.Personality.{verdictOf}
@@ -24,14 +26,14 @@ use Rattle.rules.specs.TimedDemandThree.{TimedController, timedControlle
 unfoldable pub scanValid : Site → TimedState → Bool
 scanValid site s = admitted site (s .ruling) && waitingValid site (s .waiting) && valid (ruledSite site s) (s .core)
 
--- The step does not read the kept set, and leaves it empty.
-unfoldable pub scanStepped : Site → TimedState → ℕ → TimedState
-scanStepped site s inputs =
+-- The step does not read the kept set, and leaves it empty. `find` gives the phase that is demanded next.
+unfoldable pub steppedFinding : (Site → State → ℕ → Held) → Site → TimedState → ℕ → TimedState
+steppedFinding find site s inputs =
     let over = takesOver site s in
     let old = ruledSite site s in
     record {
       core =
-          steppedInto (rulingNext site s) (nextDemanded old (s .core) inputs) old
+          steppedInto (rulingNext site s) (find old (s .core) inputs) old
           ((if over then withoutCounts (keptOf s) else keptOf s) .core)
           inputs;
       kept = 0;
@@ -39,20 +41,24 @@ scanStepped site s inputs =
       waiting = if over then noneWaiting else s .waiting;
     }
 
-abbrev pub scanParts : Parts TimedState
-scanParts =
+-- the controller of the timed rules that finds the next phase so
+abbrev pub partsFinding : (Site → State → ℕ → Held) → Parts TimedState
+partsFinding find =
     record {
       verdict = verdictOf;
       fresh = freshTimed;
       valid = scanValid;
-      step = scanStepped;
+      step = steppedFinding find;
       wait = waitBound;
       seen = λ s. s .core;
       ruling = λ site s. s .ruling;
     }
 
+abbrev pub finding : (Site → State → ℕ → Held) → TimedController TimedState
+finding find = timedControllerOf (partsFinding find) (λ s. s .waiting .present) retimed
+
 unfoldable pub timedScanning : TimedController TimedState
-timedScanning = timedControllerOf scanParts (λ s. s .waiting .present) retimed
+timedScanning = finding nextDemanded
 
 -- both rules take every list of calls from a valid state alike: the same outcomes, waits, buffers, times and rest of the state
 unfoldable pub TimedRunForgets : Type 0
