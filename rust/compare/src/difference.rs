@@ -4,7 +4,7 @@ use crate::cases::Kind;
 use monitor::Breach;
 use std::fmt;
 
-/// A difference between a board and the model, or a breach of demand 3.
+/// A difference between a board and the model, or a breach that a monitor has seen.
 #[derive(Clone, Debug, PartialEq, Eq)]
 pub enum Difference {
     /// An answer or a buffer is not what the model gives.
@@ -16,7 +16,7 @@ pub enum Difference {
         /// What went into the call.
         handed: Box<Handed>,
     },
-    /// A watched run breaks demand 3.
+    /// A watched run breaks demand 3 or request fourteen.
     Breach {
         personality: Vec<u8>,
         breach: Breach,
@@ -69,7 +69,7 @@ impl fmt::Display for Difference {
                 personality,
                 breach,
             } => {
-                writeln!(f, "demand 3: {breach}")?;
+                writeln!(f, "breach: {breach}")?;
                 write!(f, "  personality {}", hex(personality))
             }
         }

@@ -1,9 +1,10 @@
 //! `compare SEED CASES` compares the board library with the model on so many
 //! cases, `compare SEED case INDEX` runs one of them again, and `compare SEED
-//! watch STEPS` watches the library alone for demand 3. `compare roads FILE` and
-//! `compare cabinets FILE` run the vectors of the Python road and cabinet on the
-//! library and on the model, `compare retimes FILE` the lists of calls of the Python
-//! controller, `compare whys FILE` those for the line that says why a phase holds.
+//! watch STEPS` watches the library alone for demand 3 and request fourteen. `compare
+//! roads FILE` and `compare cabinets FILE` run the vectors of the Python road and
+//! cabinet on the library and on the model, `compare retimes FILE` the lists of calls of
+//! the Python controller, `compare whys FILE` those for the line that says why a phase
+//! holds.
 
 #![forbid(unsafe_code)]
 
@@ -93,12 +94,12 @@ fn watches(seed: u64, steps: u64) -> bool {
             for strategy in watched {
                 println!("{strategy}");
             }
-            println!("no breach of demand 3");
+            println!("no breach of demand 3 or of request fourteen");
             true
         }
         Err((personality, breach)) => {
             let hex: String = personality.iter().map(|b| format!("{b:02x}")).collect();
-            println!("breach of demand 3: {breach}");
+            println!("breach: {breach}");
             println!("  personality {hex}");
             println!("again: compare {seed} watch {steps}");
             false

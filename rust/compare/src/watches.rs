@@ -17,6 +17,8 @@ pub struct Watched {
     pub demands_met: u64,
     pub retimings: u64,
     pub changes: u64,
+    /// Most phases that started while a demand waited.
+    pub most_starts: u32,
     /// The longest wait as a part of what it was allowed.
     pub nearest: f64,
 }
@@ -100,6 +102,7 @@ impl Watched {
             demands_met: 0,
             retimings: 0,
             changes: 0,
+            most_starts: 0,
             nearest: 0.0,
         }
     }
@@ -112,6 +115,7 @@ impl Watched {
         self.demands_met += report.demands_met;
         self.retimings += report.retimings;
         self.changes += report.changes;
+        self.most_starts = self.most_starts.max(report.most_starts);
         let (waited, allowed) = report.nearest_wait;
         self.nearest = self.nearest.max(waited as f64 / allowed as f64);
     }
@@ -122,7 +126,8 @@ impl fmt::Display for Watched {
         write!(
             f,
             "{:8} {:>5} runs, {:>9} steps, {:>7} refused calls, {:>7} greens begun, \
-             {:>7} demands met, {:>6} retimings, {:>5} changes, longest wait {:.2} of its bound",
+             {:>7} demands met, {:>6} retimings, {:>5} changes, longest wait {:.2} of its bound, \
+             {} phases started in a wait",
             self.name,
             self.runs,
             self.accepted,
@@ -131,7 +136,8 @@ impl fmt::Display for Watched {
             self.demands_met,
             self.retimings,
             self.changes,
-            self.nearest
+            self.nearest,
+            self.most_starts
         )
     }
 }

@@ -1,5 +1,6 @@
 //! What a watched run can be found guilty of.
 
+use crate::Demand;
 use std::fmt;
 
 /// A breach, at an accepted step counted from 1.
@@ -42,6 +43,13 @@ pub enum Breach {
     PressUnmet {
         step: u64,
         movement: usize,
+        registered: u64,
+    },
+    /// A phase starts for the second time while a demand waits.
+    StartsTwice {
+        step: u64,
+        phase: usize,
+        demand: Demand,
         registered: u64,
     },
     /// A call that is right is refused, or one that is wrong is accepted.
@@ -106,6 +114,15 @@ impl fmt::Display for Breach {
             } => write!(
                 f,
                 "step {step}: the press for movement {movement} of step {registered} is not met"
+            ),
+            Breach::StartsTwice {
+                step,
+                phase,
+                demand,
+                registered,
+            } => write!(
+                f,
+                "step {step}: phase {phase} starts again while {demand} of step {registered} waits"
             ),
             Breach::WrongAnswer { step, answer } => {
                 write!(f, "after step {step}: a call is answered with {answer:#x}")

@@ -1,9 +1,9 @@
 //! Watches a run of step and retiming calls from outside, for the parts of demand 3:
 //! no conflicting greens together, full clearances before a conflicting green, and
 //! every registered demand met within the wait of the times then ruling and of those
-//! that take over while it stands. A group that stops early begins its clearance with
-//! early cut-off, the phases kept as demanded are those that are, and times rule from
-//! the start on that they waited for.
+//! that take over while it stands. While it waits no phase starts twice. A group that
+//! stops early begins its clearance with early cut-off, the phases kept as demanded are
+//! those that are, and times rule from the start on that they waited for.
 //!
 //! [`Monitor`] is told of accepted calls; [`watch`] and [`watch_retimed`] drive a
 //! board with random or adversarial inputs and tell it, [`watch_cabinet`] the sites of
@@ -14,18 +14,22 @@
 mod breach;
 mod cabinet;
 mod clearances;
+mod demands;
 mod drivers;
+mod starts;
 mod times;
 mod waits;
 mod watching;
 
 pub use breach::Breach;
 pub use cabinet::watch_cabinet;
+pub use demands::Demand;
 pub use drivers::{Driver, Strategy};
 pub use watching::{watch, watch_retimed, Report};
 
 use clearances::Clearances;
 use model::{Site, State, TimedState, Times};
+use starts::Starts;
 use waits::Waits;
 
 /// An accepted step as seen from outside.
@@ -60,6 +64,7 @@ fn demanded_kept(site: &Site, state: &State, step: u64) -> Result<(), Breach> {
 #[derive(Clone, Debug)]
 pub struct Monitor {
     clearances: Clearances,
+    starts: Starts,
     waits: Waits,
     accepted: u64,
 }
@@ -68,17 +73,19 @@ impl Monitor {
     pub fn new(site: &Site) -> Monitor {
         Monitor {
             clearances: Clearances::new(site),
+            starts: Starts::new(site),
             waits: Waits::new(site),
             accepted: 0,
         }
     }
 
-    /// Takes in an accepted step; a breach of demand 3 is an error.
+    /// Takes in an accepted step; a breach is an error.
     pub fn accepted_step(&mut self, site: &Site, seen: &Seen) -> Result<(), Breach> {
         self.accepted += 1;
         times::step(site, seen, self.accepted)?;
         demanded_kept(site, &seen.after.state, self.accepted)?;
         self.clearances.step(site, seen, self.accepted)?;
+        self.starts.step(site, seen, self.accepted)?;
         self.waits.step(site, seen, self.accepted)
     }
 
@@ -111,6 +118,11 @@ impl Monitor {
     /// and that.
     pub fn nearest_wait(&self) -> (u64, u64) {
         self.waits.nearest
+    }
+
+    /// Most phases that started so far while a demand waited.
+    pub fn most_starts(&self) -> u32 {
+        self.starts.most
     }
 
     /// The changes to other times so far.

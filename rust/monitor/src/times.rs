@@ -1,15 +1,8 @@
 //! The times that rule and those that wait, read off the states.
 
+use crate::starts::started;
 use crate::{Breach, Seen};
-use model::{Interval, Site, TimedState, Times};
-
-/// Whether a phase starts in a step: start red or all-red ends.
-pub fn starts(seen: &Seen) -> bool {
-    let (before, after) = (seen.before.state.interval, seen.after.state.interval);
-    let before_a_start = matches!(before, Interval::StartRed | Interval::AllRed);
-    let started = matches!(after, Interval::LateStart | Interval::MinimumGreen);
-    before_a_start && started
-}
+use model::{Site, TimedState, Times};
 
 /// Whether the times change in a step: some waited before it, and none do after.
 pub fn changes(seen: &Seen) -> bool {
@@ -22,7 +15,7 @@ pub fn changes(seen: &Seen) -> bool {
 pub fn step(site: &Site, seen: &Seen, step: u64) -> Result<(), Breach> {
     let (before, after) = (seen.before, seen.after);
     let expected = match before.waiting {
-        Some(waiting) if starts(seen) => (waiting, None),
+        Some(waiting) if started(seen).is_some() => (waiting, None),
         waiting => (before.ruling, waiting),
     };
     if (after.ruling, after.waiting) != expected {

@@ -1,8 +1,9 @@
-//! Demands, and how long they wait.
+//! How long demands wait.
 
+use crate::demands::{minimum_green_begins, registered_movements, registered_phases, walk_begins};
 use crate::times::changes;
 use crate::{Breach, Seen};
-use model::{Interval, Site, Stage, State, FIRST_BUTTON};
+use model::Site;
 
 /// The demands that wait.
 #[derive(Clone, Debug)]
@@ -121,32 +122,4 @@ fn register(waiting: &mut Option<Waiting>, now: Waiting) {
         Some(earlier) if earlier.ends() <= now.ends() => {}
         _ => *waiting = Some(now),
     }
-}
-
-/// The phases of occupied locking detectors, unless in minimum green or running.
-fn registered_phases<'a>(site: &'a Site, seen: &'a Seen) -> impl Iterator<Item = usize> + 'a {
-    (0..site.detector_count())
-        .filter(|detector| seen.inputs >> detector & 1 != 0)
-        .map(|detector| site.detector(detector))
-        .filter(|detector| detector.locks() && !seen.before.state.is_green(detector.phase))
-        .map(|detector| detector.phase.into())
-}
-
-/// The movements of pressed buttons, unless in walk.
-fn registered_movements<'a>(site: &'a Site, seen: &'a Seen) -> impl Iterator<Item = usize> + 'a {
-    (0..site.movement_count())
-        .filter(|movement| seen.inputs >> FIRST_BUTTON >> movement & 1 != 0)
-        .filter(|&movement| seen.before.state.movements[movement].stage != Stage::Walk)
-}
-
-fn minimum_green_begins(seen: &Seen, phase: usize) -> bool {
-    let in_minimum_green = |state: &State| {
-        usize::from(state.phase) == phase && state.interval == Interval::MinimumGreen
-    };
-    in_minimum_green(&seen.after.state) && !in_minimum_green(&seen.before.state)
-}
-
-fn walk_begins(seen: &Seen, movement: usize) -> bool {
-    let in_walk = |state: &State| state.movements[movement].stage == Stage::Walk;
-    in_walk(&seen.after.state) && !in_walk(&seen.before.state)
 }

@@ -16,6 +16,8 @@ pub struct Report {
     /// Of the demands met, the wait that came nearest to what it was allowed, and
     /// that.
     pub nearest_wait: (u64, u64),
+    /// Most phases that started while a demand waited.
+    pub most_starts: u32,
     /// The wait bound of the personality.
     pub bound: u64,
     /// Accepted retimings, and changes to the times that waited.
@@ -33,6 +35,7 @@ impl Report {
             demands_met: monitor.met(),
             longest_wait: monitor.longest_wait(),
             nearest_wait: monitor.nearest_wait(),
+            most_starts: monitor.most_starts(),
             bound: site.wait_bound().into(),
             retimings,
             changes: monitor.changes(),
@@ -53,6 +56,7 @@ impl Report {
             } else {
                 other.nearest_wait
             },
+            most_starts: self.most_starts.max(other.most_starts),
             bound: other.bound,
             retimings: self.retimings + other.retimings,
             changes: self.changes + other.changes,

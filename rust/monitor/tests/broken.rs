@@ -367,7 +367,7 @@ fn the_target_chosen_again_after_yellow() {
 #[test]
 fn the_lowest_demanded_phase_always_next() {
     // Yellow has begun with the other target, so that some runs break a clearance
-    // before a demand waits too long.
+    // before a phase starts twice.
     let board = Broken(|outcome: &mut Outcome| {
         let state = &mut outcome.state;
         let others = demanded_phases(&outcome.site, state) & !(1 << state.phase);
@@ -375,9 +375,8 @@ fn the_lowest_demanded_phase_always_next() {
             state.target = Some(others.trailing_zeros() as u8);
         }
     });
-    let unmet =
-        |breach: &Breach| matches!(breach, Breach::LockUnmet { .. } | Breach::PressUnmet { .. });
-    assert!(find_breach(&board, unmet).is_some());
+    let twice = |breach: &Breach| matches!(breach, Breach::StartsTwice { .. });
+    assert!(find_breach(&board, twice).is_some());
 }
 
 #[test]
@@ -388,7 +387,7 @@ fn locks_dropped() {
                 outcome.state.locks = 0;
             }
         },
-        Breach::LockUnmet { .. }
+        Breach::LockUnmet { .. } | Breach::StartsTwice { .. }
     );
 }
 
@@ -403,7 +402,7 @@ fn a_press_during_clearance_dropped() {
                 }
             }
         },
-        Breach::PressUnmet { .. }
+        Breach::PressUnmet { .. } | Breach::StartsTwice { .. }
     );
 }
 

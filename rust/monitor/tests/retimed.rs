@@ -287,7 +287,10 @@ fn a_change_that_drops_the_demands() {
         },
         ..RIGHT
     };
-    assert_breach!(board, Breach::LockUnmet { .. } | Breach::PressUnmet { .. });
+    assert_breach!(
+        board,
+        Breach::LockUnmet { .. } | Breach::PressUnmet { .. } | Breach::StartsTwice { .. }
+    );
 }
 
 /// Steps an interval by the times that wait, as if they ruled in it.
