@@ -19,7 +19,8 @@ use Rattle.rules.specs.Call.{boundFor, handedBack, checksBy, nextBy}
 use Rattle.rules.specs.TimedCall.{timedParts, timedVerdict, timedAnswerOf, timedBufferOf, retimeVerdict, retimed, retimedBy}
 use Rattle.rules.specs.TimedLaws.{FreshTimedIsValid, TimedStepKeepsValid, RetimeKeepsValid}
 use Rattle.rules.specs.DemandThree.{Call, Taken, takenFrom, SafeRun, DemandThreeOf}
-use Rattle.rules.specs.TimedDemandThree.{TimedController, timed, Given, stepCall, retimeCall, Made, stepMade, retimeMade, nextOf, stepOf, madeFrom, TimedSafeRun, TimedDemandThreeOf, TimedDemandThree}
+use Rattle.rules.specs.TimedDemandThree.{TimedController, timed, Given, stepCall, retimeCall, Made, stepMade, retimeMade, nextOf, stepOf, madeFrom, acceptedSteps, takens, TimedSafeRun, TimedDemandThreeOf, TimedDemandThree}
+use Rattle.rules.specs.OnceEach.{OnceEach, OnceEachOf, RunsStartOnceEach}
 use Rattle.state_timed.specs.TimedLayout.{timedBytes, timedEncoded, timedDecoded, ProperTimed}
 use Rattle.state_timed.proofs.TimedRoundTrips.{encoded-is-timed, decoded-encoded}
 use Rattle.board_answers.specs.Answers.{packed, packedVerdict}
@@ -30,7 +31,8 @@ use Rattle.proof_runs.proofs.Chains.{checks-told}
 use Rattle.proof_guarantees.proofs.TimedAccepted.{fresh-timed-is-valid, timed-step-keeps-valid, retime-keeps-valid}
 use Rattle.proof_guarantees.proofs.TimedDemandThree.{timed-demand-three}
 use Rattle.proof_guarantees.proofs.WithoutRetimings.{demand-three-before}
-use Rattle.proof_board.specs.BoardRuns.{outcomeIn, verdictIn, board, FreshAccepts, BoardRunsAlike, BoardRunsHold, BoardDemandThree, BoardDemandThreeBefore}
+use Rattle.proof_guarantees.proofs.OnceEach.{runs-start-once-each}
+use Rattle.proof_board.specs.BoardRuns.{outcomeIn, verdictIn, board, FreshAccepts, BoardRunsAlike, BoardRunsHold, BoardDemandThree, BoardDemandThreeBefore, BoardOnceEach}
 use Rattle.proof_board.specs.ProperStates.{FreshTimedIsProper, TimedStepIsProper, RetimeIsProper}
 use Rattle.proof_board.proofs.Answers.{read-back, outcome-back, retime-back}
 use Rattle.proof_board.proofs.Proper.{fresh-timed-is-proper, timed-step-is-proper, retime-is-proper}
@@ -180,6 +182,10 @@ board-runs-hold Claim holds buffer long b read calls =
 pub board-demand-three : BoardDemandThree
 unfolding BoardDemandThree BoardRunsHold TimedDemandThree TimedDemandThreeOf
 board-demand-three = board-runs-hold TimedSafeRun timed-demand-three
+
+pub board-once-each : BoardOnceEach
+unfolding BoardOnceEach BoardRunsHold RunsStartOnceEach OnceEachOf
+board-once-each = board-runs-hold (λ b calls. OnceEach (siteOf b) (takens (acceptedSteps calls))) runs-start-once-each
 
 -- ── Step calls alone ──
 

@@ -13,6 +13,7 @@ use Rattle.laws.specs.Folds.{if_then_else_}
 use Rattle.rules.specs.Personality.{verdictOf}
 use Rattle.rules.specs.DemandThree.{DemandThreeOf}
 use Rattle.rules.specs.TimedDemandThree.{TimedController, timed, Given, Made, madeFrom, OfEveryTimedRun, TimedDemandThreeOf}
+use Rattle.rules.specs.OnceEach.{OnceEachOf}
 use Rattle.state_timed.specs.TimedLayout.{timedBytes, timedDecoded}
 use Rattle.board_answers.specs.Answers.{packedVerdict}
 use Rattle.board_fresh.specs.FreshCall.{freshAnswer, freshAfter}
@@ -87,3 +88,7 @@ BoardDemandThree = OfEveryBuffer (λ library. TimedDemandThreeOf library)
 -- the demand as `DemandThreeOf` states it, for lists of step calls alone
 unfoldable pub BoardDemandThreeBefore : Type 0
 BoardDemandThreeBefore = OfEveryBuffer (λ library. DemandThreeOf (library .stepping))
+
+-- while a demand waits, no phase starts twice
+unfoldable pub BoardOnceEach : Type 0
+BoardOnceEach = OfEveryBuffer (λ library. OnceEachOf library)

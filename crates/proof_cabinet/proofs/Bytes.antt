@@ -9,9 +9,12 @@ use borrow.Author.Tests.{eqb-true}
 use lib.Dec.{eqb}
 use lib.ListN.{length, set, replicate}
 use Rattle.laws.specs.Folds.{if_then_else_}
+use Rattle.rules.specs.Site.{siteOf}
 use Rattle.rules.specs.Colours.{red}
-use Rattle.rules.specs.TimedDemandThree.{Made, acceptedSteps, TimedSafeRun, TimedDemandThree, TimedDemandThreeOf}
+use Rattle.rules.specs.TimedDemandThree.{Made, acceptedSteps, takens, TimedSafeRun, TimedDemandThree, TimedDemandThreeOf}
+use Rattle.rules.specs.OnceEach.{OnceEach, OnceEachOf, RunsStartOnceEach}
 use Rattle.proof_guarantees.proofs.TimedDemandThree.{timed-demand-three}
+use Rattle.proof_guarantees.proofs.OnceEach.{runs-start-once-each}
 use Rattle.cabinet_records.specs.declared.Record.{Record}
 use Rattle.cabinet_records.specs.Cabinet.{isFree, personalityOf, recordOf, outputsOf, outputsIn, freshBytes, Act, placeSite, doing}
 use Rattle.cabinet_records.specs.CabinetLaws.{recordNamed, OthersStay}
@@ -21,7 +24,7 @@ use Rattle.cabinet_records.proofs.RowRoundTrips.{decoded-encoded-row}
 use Rattle.cabinet_records.proofs.RowBytes.{row-length, row-shape}
 use Rattle.proof_cabinet.specs.Operations.{retiming, retimingBytes, Operation, cabinetAct, retimeSite, operating, operatingBytes, BytesFollowRecords}
 use Rattle.proof_cabinet.specs.CabinetAnswers.{ShapeStays}
-use Rattle.proof_cabinet.specs.CabinetRuns.{onRecords, onBytes, CabinetCall, callOn, seenFor, aloneAt, stateAlone, lastShown, Apart, seenAt, StaysIn, rowAfter, linked, outputsAfter, CabinetRuns, CabinetRunsHold, CabinetDemandThree, PlacedHolds, PlacedApart, PlacedShows}
+use Rattle.proof_cabinet.specs.CabinetRuns.{onRecords, onBytes, CabinetCall, callOn, seenFor, aloneAt, stateAlone, lastShown, Apart, seenAt, StaysIn, rowAfter, linked, outputsAfter, CabinetRuns, CabinetRunsHold, CabinetDemandThree, CabinetOnceEach, PlacedHolds, PlacedApart, PlacedShows}
 use Rattle.proof_cabinet.proofs.Retimings.{retimed-follows}
 use Rattle.proof_cabinet.proofs.Shapes.{shape-stays}
 use Rattle.proof_cabinet.proofs.Runs.{cabinet-runs, cabinet-runs-hold}
@@ -163,6 +166,10 @@ cabinet-runs-hold-on-bytes Claim holds b out p k first e calls stays =
 pub cabinet-demand-three-on-bytes : CabinetDemandThree onBytes
 unfolding CabinetDemandThree CabinetRunsHold TimedDemandThree TimedDemandThreeOf
 cabinet-demand-three-on-bytes = cabinet-runs-hold-on-bytes TimedSafeRun timed-demand-three
+
+pub cabinet-once-each-on-bytes : CabinetOnceEach onBytes
+unfolding CabinetOnceEach CabinetRunsHold RunsStartOnceEach OnceEachOf
+cabinet-once-each-on-bytes = cabinet-runs-hold-on-bytes (λ b made. OnceEach (siteOf b) (takens (acceptedSteps made))) runs-start-once-each
 
 pub placed-holds-on-bytes : PlacedHolds onBytes
 unfolding PlacedHolds onBytes onRecords operating operatingBytes doingBytes inBytes

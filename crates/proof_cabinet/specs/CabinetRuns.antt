@@ -7,8 +7,10 @@ use mathlib.Core.Path.{_≡_}
 use lib.Dec.{eqb}
 use lib.ListN.{length, replicate}
 use Rattle.laws.specs.Folds.{if_then_else_}
+use Rattle.rules.specs.Site.{siteOf}
 use Rattle.rules.specs.Colours.{red}
-use Rattle.rules.specs.TimedDemandThree.{timed, Given, stepCall, retimeCall, TimedStep, Made, stepMade, retimeMade, madeFrom, acceptedSteps, TimedSafeRun, OfEveryTimedRun}
+use Rattle.rules.specs.TimedDemandThree.{timed, Given, stepCall, retimeCall, TimedStep, Made, stepMade, retimeMade, madeFrom, acceptedSteps, takens, TimedSafeRun, OfEveryTimedRun}
+use Rattle.rules.specs.OnceEach.{OnceEach}
 use Rattle.state_timed.specs.TimedLayout.{timedDecoded}
 use Rattle.board_step.specs.StepCall.{stateAfter}
 use Rattle.board_retime.specs.RetimeCall.{retimeAfter}
@@ -191,6 +193,15 @@ module _ {Row : Type 0} (cabinet : Cabinet Row) where
       (calls : List CabinetCall) →
       StaysIn k (placed .row) calls →
       TimedSafeRun b (seenAt k (placed .row) calls))
+
+  -- While a demand waits, no phase starts twice.
+  unfoldable pub CabinetOnceEach : Type 0
+  CabinetOnceEach =
+      OfEveryPlacing
+      (λ b k first placed.
+      (calls : List CabinetCall) →
+      StaysIn k (placed .row) calls →
+      OnceEach (siteOf b) (takens (acceptedSteps (seenAt k (placed .row) calls))))
 
   -- The record holds what was placed, with the bytes of the state that the calls alone would have left.
   unfoldable pub PlacedHolds : Type 0
