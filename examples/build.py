@@ -373,6 +373,16 @@ def road_of(path, site, personality):
     return little(len(personality), 2) + personality + little(steps, 4) + streams, len(lines)
 
 
+# ── The phases before one's own ──
+
+def rows_before(site):
+    """For each phase a row for NOTE.md: the longest sequence of phases that start before it while a demand of it waits. These are all the others,
+    in running order."""
+    order = [LETTERS[p] for p in site.order] or list(LETTERS[:len(site.phases)])
+    turned = [(order[i], order[i + 1:] + order[:i]) for i in range(len(order))]
+    return [f"| {own} | {' '.join(others)} |" for own, others in sorted(turned)]
+
+
 # ── Commands ──
 
 def accepted_site(path):
@@ -418,8 +428,11 @@ def write(name):
 
 
 def check(name):
-    """Whether the files kept are those that would be written, and no others."""
+    """Whether the files kept are those that would be written, and no others, and the note has the phases before each."""
     files, told = built(name)
+    note = (HERE / name / "NOTE.md").read_text(encoding="utf-8").splitlines()
+    for row in rows_before(site_of(HERE / name / "site.txt")[0]):
+        need(row in note, f"{name}/NOTE.md", f"the row `{row}` is missing")
     kept = {path.name: path.read_bytes() for path in (HERE / name).glob("*.bin")}
     for file in sorted(set(files) | set(kept)):
         need(files.get(file) == kept.get(file), f"{name}/{file}", "not as built")
