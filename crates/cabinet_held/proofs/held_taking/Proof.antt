@@ -1,6 +1,6 @@
 -- `cabinet_held::held_taking` meets its contract, by the two cases of the verdict.
 use native.Mathlib.Omega.{arith}
-use mathlib.Core.Path.{_≡_, sym, _∙_}
+use mathlib.Core.Path.{sym, _∙_}
 use Rattle.cabinet_records.specs.Cabinet.{dark}
 use Rattle.cabinet_held.proofs.Checks.{taking-fits}
 use Rattle.cabinet_held.proofs.Turned.{turned-refused, turned-accepted}

@@ -1,5 +1,5 @@
 -- `cabinet_take_out::take_out` meets its contract: 24 if the record is not held, else by the two cases of the verdict.
-use mathlib.Core.Bool.{false, not}
+use mathlib.Core.Bool.{false}
 use mathlib.Core.Path.{_≡_, sym, subst⁻¹, _∙_}
 use native.Mathlib.Omega.{arith}
 use borrow.Author.Tests.{not-true, not-false}

@@ -1,10 +1,8 @@
 -- `cabinet_held::placing::held_placing` meets its contract, by the two cases of the verdict.
-use mathlib.Core.Bool.{Bool, _||_}
-use mathlib.Core.Path.{_≡_, sym, ap, _∙_}
+use mathlib.Core.Path.{_≡_, sym, _∙_}
 use native.Mathlib.Omega.{arith}
 use lib.ListN.{length}
 use Rattle.rules.specs.Colours.{red}
-use Rattle.cabinet_records.specs.Cabinet.{pastLast}
 use Rattle.cabinet_held.specs.Held.{placingChecks}
 use Rattle.cabinet_held.proofs.Checks.{placing-fits}
 use Rattle.cabinet_held.proofs.Turned.{turned-refused, turned-accepted}
