@@ -58,7 +58,13 @@ module _ (r : Record) (out : List ℕ) where
   unfolding takenOutRecord onRecordFor _orElse_ refuseIf packedVerdict reportOf
   taking-free free e = rw (free, e)
 
-  module _ (held : isFree r ≡ false) {b after : List ℕ} {v : Verdict} (own : b ≡ personalityOf r) (e : v ≡ takingChecks b (r .first) (length out)) (shown : after ≡ darkened b (r .first) out) where
+  module _
+      (held : isFree r ≡ false)
+      {b after : List ℕ}
+      {v : Verdict}
+      (own : b ≡ personalityOf r)
+      (e : v ≡ takingChecks b (r .first) (length out))
+      (shown : after ≡ darkened b (r .first) out) where
     checked : takingChecks (personalityOf r) (r .first) (length out) ≡ v
     checked = sym (rw own at e)
 
