@@ -1,0 +1,2 @@
+pub mod AfterStep
+pub mod Inputs
