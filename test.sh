@@ -25,18 +25,25 @@ check 'layout (rt fmt --check)' rt fmt --check
 check 'names in the documents' python3 docs/check_names.py
 check 'docs/TRUSTED.md' python3 docs/trusted.py --check
 
-# The edits of the rules that a theorem must refuse are tried beside rt ci, which leaves a processor idle while it waits for the crates that
-# the next ones need.
 log=$(mktemp)
 room=$(mktemp -d)
 trap 'rm -rf "$log" "$room"' EXIT
+
+# Long checks run beside others, which leave a processor idle: `beside` keeps what a check prints, and `passed_beside` prints and judges it.
+beside() { # NAME COMMAND..
+    name=$1
+    shift
+    "$@" >"$room/$name.out" 2>&1 && touch "$room/$name.passed"
+}
+passed_beside() { cat "$room/$1.out" && [ -e "$room/$1.passed" ]; }
+
+# The edits of the rules that a theorem must refuse are tried beside rt ci.
 try_edits() {
     for edit in must-fail-rules/*.edit; do
-        name=$(basename "$edit" .edit)
-        must-fail-rules/run.sh "$name" >"$room/$name.out" 2>&1 && touch "$room/$name.refused"
+        edit=$(basename "$edit" .edit)
+        beside "$edit" must-fail-rules/run.sh "$edit"
     done
 }
-refused_edit() { cat "$room/$1.out" && [ -e "$room/$1.refused" ]; }
 try_edits &
 edits=$!
 
@@ -91,10 +98,17 @@ check 'vectors/make_reads.py' same_vectors
 # are printed.
 rust_tests() { (cd rust && cargo test --quiet --offline --features linked); }
 compare_with_model() { (cd rust && cargo run --quiet --release --offline --features linked -p compare -- "$@"); }
+build_compare() { (cd rust && cargo build --quiet --release --offline --features linked -p compare); }
 check 'rt staticlib willowera' rt staticlib willowera
+check 'the comparison' build_compare
+beside agree compare_with_model 1 50000 &
+agree=$!
+beside watch compare_with_model 1 watch 4000000 &
+watch=$!
 check 'tests of rust/' rust_tests
-check 'library and model agree' compare_with_model 1 50000
-check 'demand 3 watched' compare_with_model 1 watch 4000000
+wait "$agree" "$watch"
+check 'library and model agree' passed_beside agree
+check 'demand 3 watched' passed_beside watch
 
 # Simulated roads of a model in Python, for the library and for the model in rust/.
 same_roads() { python3 vectors/make_roads.py "$log" && compare_with_model roads "$log"; }
@@ -132,7 +146,7 @@ check 'table of yellow times by vectors/yellow.py' exact_yellow
 
 wait "$edits"
 for edit in must-fail-rules/*.edit; do
-    check "$edit" refused_edit "$(basename "$edit" .edit)"
+    check "$edit" passed_beside "$(basename "$edit" .edit)"
 done
 
 echo "$passed passed, $failed failed"

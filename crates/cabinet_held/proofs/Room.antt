@@ -1,6 +1,5 @@
 -- The personality in its room.
 use Prim.Native.Nat.{ℕ, _≤_, _<_, min}
-use mathlib.Core.List.{List}
 use mathlib.Core.Logic.{⊎-elim}
 use mathlib.Core.Path.{_≡_, sym, ap, _∙_}
 use native.Mathlib.Omega.{arith}

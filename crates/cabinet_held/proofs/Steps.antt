@@ -14,7 +14,7 @@ use Rattle.board_answers.specs.Answers.{packedVerdict}
 use Rattle.board_step.proofs.Steps.{Steps, refuses}
 use Rattle.cabinet_records.specs.Cabinet.{outputsOf, pastLast, isShort, outputsIn, writtenAt}
 use Rattle.cabinet_records.proofs.Outputs.{written-none}
-use Rattle.cabinet_held.specs.Held.{heldChecks, HeldStep, heldStepFor, heldStepped, heldStep}
+use Rattle.cabinet_held.specs.Held.{heldChecks, heldStepFor, heldStepped, heldStep}
 use Rattle.cabinet_held.proofs.Bytes.{none-of, part-back, part-kept}
 
 module _ (b : List ℕ) (first : ℕ) (old : List ℕ) (inputs : ℕ) (out : List ℕ) where

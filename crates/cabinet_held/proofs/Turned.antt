@@ -8,7 +8,7 @@ use lib.Seq.{sets}
 use Rattle.rules.specs.declared.answer.Verdict.{Verdict}
 use Rattle.rules.specs.declared.answer.Verdict.the-variants.{Accepted, Refused}
 use Rattle.rules.specs.Call.{handedBack}
-use Rattle.cabinet_records.specs.Cabinet.{outputsOf, writtenAt}
+use Rattle.cabinet_records.specs.Cabinet.{outputsOf}
 use Rattle.cabinet_held.specs.Held.{turned}
 use Rattle.cabinet_held.proofs.Bytes.{sets-written}
 

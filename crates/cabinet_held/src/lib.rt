@@ -46,7 +46,7 @@ fn is_accepted(personality: &[u8]) -> bool
 }
 
 // Whether outputs from `first` on go past the 32nd. The first output may be any number.
-pub fn past_last(first: usize, count: u8) -> bool
+fn past_last(first: usize, count: u8) -> bool
     ensures { λ r. ⌜ r ≡ pastLast first count ⌝ }
 {
     if 32 < first {
@@ -55,7 +55,7 @@ pub fn past_last(first: usize, count: u8) -> bool
     32 < first + count as usize
 }
 
-// The second sum is made only if the first output is small.
+// Whether outputs from `first` on and outputs from `own` on have one in common. The second sum is made only if `first` is small.
 fn meet(first: usize, count: u8, own: u8, outputs: u8) -> bool
     ensures { λ r. ⌜ r ≡ meet first count own outputs ⌝ }
 {
@@ -77,7 +77,7 @@ pub fn meets(personality: &[u8], own: u8, first: usize, count: u8) -> bool
 }
 
 // The number and place of a refusal as one number, 0 if there is none.
-pub fn packed_verdict(verdict: Verdict) -> u64
+fn packed_verdict(verdict: Verdict) -> u64
     requires { ⌜ Near verdict ⌝ }
     ensures { λ r. ⌜ r ≡ packedVerdict verdict ⌝ }
 {

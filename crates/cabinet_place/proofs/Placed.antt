@@ -1,5 +1,5 @@
 -- Placing, by cases: a refusal leaves the bytes, and an accepted call writes those of its record.
-use Prim.Native.Nat.{ℕ, _+_, _*_, _≤_}
+use Prim.Native.Nat.{ℕ, _+_, _*_}
 use mathlib.Core.Bool.{Bool, true, false, _&&_}
 use mathlib.Core.List.{List, _++_}
 use mathlib.Core.Path.{_≡_, sym, ap, _∙_}
@@ -18,7 +18,6 @@ use Rattle.cabinet_records.proofs.RowRoundTrips.{record-law}
 use Rattle.cabinet_held.specs.Held.{placingChecks, turned, reddened}
 use Rattle.cabinet_held.proofs.Bytes.{part-back}
 use Rattle.cabinet_held.proofs.Rows.{placing-checked, placing-none}
-use Rattle.cabinet_bytes.specs.Named.{Named}
 use Rattle.cabinet_bytes.proofs.Parts.{there-to-place}
 use Rattle.cabinet_bytes.proofs.Calls.{leaves, changes}
 

@@ -1,5 +1,5 @@
 -- Taking out, by cases: a refusal leaves the bytes, and an accepted call writes zeros in the place of its record.
-use Prim.Native.Nat.{ℕ, _+_, _*_, _≤_}
+use Prim.Native.Nat.{ℕ, _*_}
 use mathlib.Core.Bool.{false, not, _&&_}
 use mathlib.Core.List.{List}
 use mathlib.Core.Path.{_≡_, sym, ap, _∙_}
@@ -12,7 +12,6 @@ use Rattle.rules.specs.Call.{handedBack}
 use Rattle.rules.specs.Verdicts.{_orElse_, refuseIf, reportOf}
 use Rattle.state_forms.specs.Forms.{AreBytes}
 use Rattle.board_answers.specs.Answers.{packed, packedVerdict}
-use Rattle.cabinet_records.specs.declared.Record.{Record}
 use Rattle.cabinet_records.specs.Cabinet.{isFree, personalityOf, freeRecord, recordOf, hasRecord, writtenAt, takingVerdict, returnedFor, takingOut, takeOut, doing}
 use Rattle.cabinet_records.specs.Layout.{recordForm, recordBytes, decodedRow, doingBytes}
 use Rattle.cabinet_records.proofs.RecordBytes.{record-written}

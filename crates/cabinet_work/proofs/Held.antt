@@ -3,7 +3,7 @@ use Prim.Native.Nat.{ℕ}
 use mathlib.Core.Bool.{true, false}
 use mathlib.Core.List.{List}
 use mathlib.Core.Path.{_≡_, refl, sym, ap, _∙_}
-use lib.ListN.{length, replicate}
+use lib.ListN.{length}
 use borrow.Author.Tests.{eq-eqb, ne-eqb}
 use Rattle.rules.specs.declared.answer.Verdict.{Verdict}
 use Rattle.rules.specs.declared.answer.Verdict.the-variants.{Accepted, Refused}
@@ -11,9 +11,9 @@ use Rattle.rules.specs.Call.{handedBack}
 use Rattle.rules.specs.Verdicts.{_orElse_, refuseIf, reportOf}
 use Rattle.board_answers.specs.Answers.{packed, packedVerdict}
 use Rattle.cabinet_records.specs.declared.Record.{Record}
-use Rattle.cabinet_records.specs.Cabinet.{isFree, personalityOf, freeRecord, withState, outputsOf, ownOutputs}
+use Rattle.cabinet_records.specs.Cabinet.{isFree, personalityOf, freeRecord, withState, ownOutputs}
 use Rattle.cabinet_held.specs.Held.{heldChecks, takingChecks, turned, darkened, HeldStep, heldStepFor, heldStepped, heldStep}
-use Rattle.cabinet_work.specs.Work.{OnRecord, onRecordFor, steppedRecord, takenOutRecord}
+use Rattle.cabinet_work.specs.Work.{onRecordFor, steppedRecord, takenOutRecord}
 
 pub free-record : (r : Record) → r .held ≡ 0 → isFree r ≡ true
 unfolding isFree
@@ -58,7 +58,13 @@ module _ (r : Record) (out : List ℕ) where
   unfolding takenOutRecord onRecordFor _orElse_ refuseIf packedVerdict reportOf
   taking-free free e = rw (free, e)
 
-  module _ (held : isFree r ≡ false) {b after : List ℕ} {v : Verdict} (own : b ≡ personalityOf r) (e : v ≡ takingChecks b (r .first) (length out)) (shown : after ≡ darkened b (r .first) out) where
+  module _
+      (held : isFree r ≡ false)
+      {b after : List ℕ}
+      {v : Verdict}
+      (own : b ≡ personalityOf r)
+      (e : v ≡ takingChecks b (r .first) (length out))
+      (shown : after ≡ darkened b (r .first) out) where
     checked : takingChecks (personalityOf r) (r .first) (length out) ≡ v
     checked = sym (rw own at e)
 

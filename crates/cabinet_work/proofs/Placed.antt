@@ -30,7 +30,15 @@ module _ (row : List Record) (out b : List ℕ) (k first : ℕ) where
     pub told : v ≡ placingChecks b (isFree own) met first (length out)
     pub shown : after ≡ reddened b (isFree own) met first out
 
-module _ {row : List Record} {out b : List ℕ} {k first : ℕ} {own : Record} {met : Bool} {v : Verdict} {after : List ℕ} (known : Checked row out b k first own met v after) where
+module _
+    {row : List Record}
+    {out b : List ℕ}
+    {k first : ℕ}
+    {own : Record}
+    {met : Bool}
+    {v : Verdict}
+    {after : List ℕ}
+    (known : Checked row out b k first own met v after) where
   verdict : placingVerdict row out b k first ≡ v
   verdict = placing-checked row out k b first (isFree own) (rw (known .has, known .read)) ∙ rw (← known .meets) (sym (known .told))
 

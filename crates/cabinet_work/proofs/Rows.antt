@@ -32,11 +32,15 @@ module _ (row : List Record) (out : List ℕ) (k : ℕ) where
   module _ (has : hasRecord row k ≡ true) where
     stepping-in : (inputs : ℕ) → inRow row k (steppedRecord (recordOf row k) out inputs) ≡ stepping row out k inputs
     unfolding steppedRecord stepping stepped inRow
-    stepping-in inputs = rw (held-checked row out k has) (in-row row out k (refuseIf (isFree (recordOf row k)) 24 0 orElse heldChecks (personalityOf (recordOf row k)) (recordOf row k .first)) _)
+    stepping-in inputs =
+        let r = recordOf row k in
+        rw (held-checked row out k has) (in-row row out k (refuseIf (isFree r) 24 0 orElse heldChecks (personalityOf r) (r .first)) _)
 
     taking-in : inRow row k (takenOutRecord (recordOf row k) out) ≡ takingOut row out k
     unfolding takenOutRecord takingOut inRow
-    taking-in = rw (taking-checked row out k has) (in-row row out k (refuseIf (isFree (recordOf row k)) 24 0 orElse takingChecks (personalityOf (recordOf row k)) (recordOf row k .first) (length out)) _)
+    taking-in =
+        let r = recordOf row k in
+        rw (taking-checked row out k has) (in-row row out k (refuseIf (isFree r) 24 0 orElse takingChecks (personalityOf r) (r .first) (length out)) _)
 
     -- what the work on the record gives is what the call on the row gives
     pub stepping-done :

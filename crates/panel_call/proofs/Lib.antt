@@ -1,2 +1,3 @@
 pub mod Explanations
 pub mod Refusals
+pub mod WhyCases

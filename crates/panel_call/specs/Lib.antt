@@ -1,3 +1,4 @@
 pub mod WhyCall
 pub mod WhyRefusals
+pub mod WhyCases
 pub mod Explains

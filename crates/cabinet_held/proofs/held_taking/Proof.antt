@@ -1,6 +1,6 @@
 -- `cabinet_held::held_taking` meets its contract, by the two cases of the verdict.
 use native.Mathlib.Omega.{arith}
-use mathlib.Core.Path.{_≡_, sym, _∙_}
+use mathlib.Core.Path.{sym, _∙_}
 use Rattle.cabinet_records.specs.Cabinet.{dark}
 use Rattle.cabinet_held.proofs.Checks.{taking-fits}
 use Rattle.cabinet_held.proofs.Turned.{turned-refused, turned-accepted}
@@ -42,7 +42,10 @@ returns-2 c =
     let filled = c .before .before in
     let told = filled .before .before .before in
     let asked = told .before .before .taking-checks in
-    (asked .ensures, filled .fill .ensures ∙ turned-accepted dark _ _ _ (asked .ensures) (told .enum-told2 .given .1) (filled .before .outputs-of .ensures) (taking-fits _ _ (sym (asked .ensures) ∙ told .enum-told2 .given .1)))
+    let fits = taking-fits _ _ (sym (asked .ensures) ∙ told .enum-told2 .given .1) in (
+      asked .ensures,
+      filled .fill .ensures ∙ turned-accepted dark _ _ _ (asked .ensures) (told .enum-told2 .given .1) (filled .before .outputs-of .ensures) fits,
+    )
 
 pub held-taking-spec : {M : Type 1} → statement M
 held-taking-spec =

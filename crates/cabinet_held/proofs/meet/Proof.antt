@@ -1,5 +1,4 @@
 -- `cabinet_held::meet` meets its contract: the two tests are the definition's, and if the first fails the second is not made.
-use mathlib.Core.Path.{sym}
 use borrow.Author.Tests.{lt-ltb, le-ltb}
 use Rattle.cabinet_records.specs.Cabinet.{meet}
 use borrow.Author.Needs.{needs}

@@ -1,6 +1,6 @@
 -- `cabinet_held::taking_checks` meets its contract: the checks in their order.
 use borrow.Author.Tests.{lt-ltb, le-ltb}
-use mathlib.Core.Path.{sym, ap, _∙_}
+use mathlib.Core.Path.{sym}
 use Rattle.cabinet_held.specs.Held.{takingChecks}
 use Rattle.rules.proofs.Verdicts.{or-next, or-stop, refuse-yes, refuse-no}
 use borrow.Author.Needs.{needs}

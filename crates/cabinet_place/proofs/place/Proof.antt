@@ -37,7 +37,8 @@ returns c =
     let asked = c .before .before in
     let entry = asked .before .before .before .before in
     let a = entry .before .args in
-    place-none (a .row .now) (a .outputs .now) (a .personality .now) (a .k) (a .first) (bytes entry) (sym (asked .is-free .ensures) ∙ not-true _ (c .before .if1 .taken))
+    place-none (a .row .now) (a .outputs .now) (a .personality .now) (a .k) (a .first) (bytes entry)
+    (sym (asked .is-free .ensures) ∙ not-true _ (c .before .if1 .taken))
     (c .placed-nowhere .ensures)
 
 -- ── Where the record is free ──
@@ -45,7 +46,10 @@ returns c =
 abbrev entry : tie.Else1 → tie.After-slice-known
 entry c = c .before .before .before .before .before
 
-free : (c : tie.Else1) → let a = entry c .before .args in (hasRecord (decodedRow (a .row .now)) (a .k) && isFree (recordOf (decodedRow (a .row .now)) (a .k))) ≡ true
+free :
+    (c : tie.Else1) →
+    let a = entry c .before .args in
+    (hasRecord (decodedRow (a .row .now)) (a .k) && isFree (recordOf (decodedRow (a .row .now)) (a .k))) ≡ true
 free c = sym (c .before .is-free .ensures) ∙ not-false _ (c .if1 .left)
 
 there : (c : tie.Else1) → let a = entry c .before .args in Named (a .row .now) (a .k)
@@ -136,7 +140,9 @@ hold-requires c κs =
     let here = other (called (c .before)) in
     let a = entry here .before .args in
     let at = a .k * recordBytes in
-    (omega (arith, length-take (at + recordBytes - at) (drop at (a .row .now)), length-drop at (a .row .now), inside (there here)), placing-read _ _ _ _ _ (checked (c .before)), called (c .before) .held-placing .ensures .1)
+    let kept = length-take (at + recordBytes - at) (drop at (a .row .now)) in
+    let behind = length-drop at (a .row .now) in
+    (omega (arith, kept, behind, inside (there here)), placing-read _ _ _ _ _ (checked (c .before)), called (c .before) .held-placing .ensures .1)
 
 same-length-4 : tie.Need-same-length-4
 same-length-4 c = search needs
@@ -153,7 +159,8 @@ returns-3 c =
     let a = known .before .args in
     let at = a .k * recordBytes in
     let size : at + recordBytes - at ≡ recordBytes = omega arith in
-    place-accepted (a .row .now) (a .outputs .now) (a .personality .now) (a .k) (a .first) (bytes known) (free (other done)) (meets done) (done .held-placing .ensures .0)
+    place-accepted (a .row .now) (a .outputs .now) (a .personality .now) (a .k) (a .first) (bytes known) (free (other done)) (meets done)
+    (done .held-placing .ensures .0)
     (done .held-placing .ensures .2)
     (accepted .before .enum-told .given .1)
     (held .hold .ensures)

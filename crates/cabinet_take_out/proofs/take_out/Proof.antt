@@ -1,5 +1,5 @@
 -- `cabinet_take_out::take_out` meets its contract: 24 if the record is not held, else by the two cases of the verdict.
-use mathlib.Core.Bool.{false, not}
+use mathlib.Core.Bool.{false}
 use mathlib.Core.Path.{_≡_, sym, subst⁻¹, _∙_}
 use native.Mathlib.Omega.{arith}
 use borrow.Author.Tests.{not-true, not-false}
@@ -64,7 +64,9 @@ returns-2 : tie.Need-returns-2
 returns-2 c =
     let asked = c .before .before .before .before .before .before in
     let here = other asked in
-    take-refused _ (bytes (known here)) (held here .0) (held here .1) (asked .taking .ensures .0) (asked .taking .ensures .1) (c .before .before .verdict .given .1) (c .refusal2 .ensures)
+    take-refused _ (bytes (known here)) (held here .0) (held here .1) (asked .taking .ensures .0) (asked .taking .ensures .1)
+    (c .before .before .verdict .given .1)
+    (c .refusal2 .ensures)
 
 enum-told : tie.Need-enum-told
 enum-told c = search needs
@@ -87,7 +89,9 @@ returns-3 c =
     let told = filled .before .before in
     let asked = told .before .before .before .before in
     let here = other asked in
-    take-accepted _ (bytes (known here)) (held here .0) (held here .1) (asked .taking .ensures .0) (asked .taking .ensures .1) (told .enum-told .given .1) (filled .fill .ensures)
+    take-accepted _ (bytes (known here)) (held here .0) (held here .1) (asked .taking .ensures .0) (asked .taking .ensures .1)
+    (told .enum-told .given .1)
+    (filled .fill .ensures)
 
 pub take-out-spec : {M : Type 1} → statement M
 take-out-spec =

@@ -5,7 +5,7 @@ use Rattle.cabinet_records.specs.Cabinet.{recordCount, recordOf, meetsRecord, o
 use Rattle.laws.proofs.Folds.{none-passes, one-more}
 use Rattle.laws.specs.Folds.{anyOf}
 use lib.Dec.{eqb}
-use mathlib.Core.Path.{_≡_, refl, sym, ap, _∙_}
+use mathlib.Core.Path.{_≡_, ap, _∙_}
 use mathlib.Core.Bool.{not, _&&_, Bool}
 use Prim.Native.Nat.{_-_, _≤_, _<_}
 use borrow.Author.Needs.{needs}

@@ -43,7 +43,9 @@ start c = asked c .before .before .before .before .before
 known :
     (c : tie.After-held-placing) →
     let a = start c .args in
-    Checked (a .t1) (a .outputs .now) (a .personality .now) (a .k) (a .first) (getD (a .t1) (a .k) noRecord) (asked c .overlaps .result) (c .held-placing .result .verdict) (c .held-placing .last .1 .1 .1 .1 .0)
+    Checked (a .t1) (a .outputs .now) (a .personality .now) (a .k) (a .first) (getD (a .t1) (a .k) noRecord) (asked c .overlaps .result)
+    (c .held-placing .result .verdict)
+    (c .held-placing .last .1 .1 .1 .1 .0)
 unfolding isFree recordOf
 known c =
     let a = start c .args in

@@ -1,14 +1,11 @@
 -- `cabinet_held::fills::copy` meets its contract: after i turns the first i bytes are those of `from`.
 use Rattle.cabinet_held.proofs.Bytes.{filled-length, copied}
-use Prim.Native.Nat.{_+_, _-_, _≤_, _<_}
-use mathlib.Core.List.{_++_}
-use mathlib.Core.Path.{_≡_, refl, sym, ap, _∙_}
-use lib.ListN.{length, getD, drop}
+use Prim.Native.Nat.{_-_, _≤_, _<_}
+use mathlib.Core.Path.{refl}
+use lib.ListN.{length, getD}
 use native.Mathlib.Omega.{arith}
 use borrow.Author.Needs.{needs}
-use Rattle.laws.specs.Folds.{listOf}
 use Rattle.laws.proofs.Arrays.{Filled, fill-none, fill-step}
-use Rattle.laws.proofs.Lists.{list-length, listed}
 use Rattle.cabinet_held.proofs.fills.copy.Statement.{statement}
 use Rattle.cabinet_held.proofs.fills.copy.Tie as tie
 

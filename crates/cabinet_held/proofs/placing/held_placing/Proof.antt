@@ -1,10 +1,8 @@
 -- `cabinet_held::placing::held_placing` meets its contract, by the two cases of the verdict.
-use mathlib.Core.Bool.{Bool, _||_}
-use mathlib.Core.Path.{_≡_, sym, ap, _∙_}
+use mathlib.Core.Path.{_≡_, sym, _∙_}
 use native.Mathlib.Omega.{arith}
 use lib.ListN.{length}
 use Rattle.rules.specs.Colours.{red}
-use Rattle.cabinet_records.specs.Cabinet.{pastLast}
 use Rattle.cabinet_held.specs.Held.{placingChecks}
 use Rattle.cabinet_held.proofs.Checks.{placing-fits}
 use Rattle.cabinet_held.proofs.Turned.{turned-refused, turned-accepted}
@@ -61,12 +59,17 @@ returns c =
     let told = filled .before .before in
     let called = told .before .before in
     let counted = called .before .before in
-    (checked called, counted .before .before .read-with-layout .ensures .1, filled .fill .ensures ∙ turned-accepted red _ _ _ (checked called) (told .enum-told .given .1) (counted .outputs-of .ensures) (placing-fits _ _ _ _ _ (sym (checked called) ∙ told .enum-told .given .1)))
+    let fits = placing-fits _ _ _ _ _ (sym (checked called) ∙ told .enum-told .given .1) in (
+      checked called,
+      counted .before .before .read-with-layout .ensures .1,
+      filled .fill .ensures ∙ turned-accepted red _ _ _ (checked called) (told .enum-told .given .1) (counted .outputs-of .ensures) fits,
+    )
 
 returns-2 : tie.Need-returns-2
 returns-2 c =
     let called = c .before .before in
-    (checked called, called .before .before .before .before .read-with-layout .ensures .1, turned-refused red _ _ _ (checked called) (c .enum-told2 .given .1))
+    let read = called .before .before .before .before .read-with-layout in
+    (checked called, read .ensures .1, turned-refused red _ _ _ (checked called) (c .enum-told2 .given .1))
 
 pub held-placing-spec : {M : Type 1} → statement M
 held-placing-spec =

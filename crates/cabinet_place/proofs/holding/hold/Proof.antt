@@ -1,6 +1,5 @@
 -- `cabinet_place::holding::hold` meets its contract: the first four bytes, the personality and the state, one after the other.
 use native.Mathlib.Omega.{arith}
-use lib.ListN.{length-take, length-drop}
 use Rattle.cabinet_held.proofs.Checks.{accepted-fits}
 use Rattle.cabinet_place.proofs.Held.{holding-stored}
 use borrow.Author.Needs.{needs}

@@ -1,0 +1,4 @@
+pub mod AfterStep
+pub mod Steps
+pub mod Inputs
+pub mod Lengths

@@ -1,0 +1,70 @@
+-- Statements about the panel's line: what it says after a step, what of the inputs it reads, and how long it can be. All are over the bytes of an
+-- accepted personality.
+use Prim.Native.Nat.{ℕ, _<_, _≤_}
+use mathlib.Core.Bool.{Bool, true, not}
+use mathlib.Core.List.{List}
+use mathlib.Core.Path.{_≡_}
+use lib.ListN.{length}
+use Rattle.rules.specs.declared.answer.Verdict.the-variants.{Accepted}
+use Rattle.rules.specs.declared.site.Site.{Site}
+use Rattle.rules.specs.declared.state.State.{State}
+use Rattle.rules.specs.declared.state.TimedState.{TimedState}
+use Rattle.rules.specs.Site.{siteOf, detectorOf}
+use Rattle.rules.specs.IntervalTable.{isRunning, isHeld}
+use Rattle.rules.specs.Demands.{occupied, calling, nextDemanded}
+use Rattle.rules.specs.Timed.{timedStepped}
+use Rattle.rules.specs.TimedCall.{timedVerdict}
+use Rattle.panel_text.specs.Text.{line}
+use Rattle.panel_line.specs.Reasons.{reasonsBy}
+use Rattle.panel_reasons.specs.PanelLine.{stepsLeft, walkingAmong}
+use Rattle.panel_call.specs.WhyCall.{whyLine, lengthVerdict}
+
+-- ── After a step ──
+
+-- the step from this state finds no other phase demanded, by lock, button or call
+unfoldable pub foundNone : Site → State → ℕ → Bool
+foundNone site s inputs = not (isHeld (nextDemanded site s inputs))
+
+-- After an accepted step the line can be had: with the inputs of that step the calls are not refused, apart from 14.
+unfoldable pub StepIsExplained : Type 0
+StepIsExplained =
+    (b : List ℕ) (s : TimedState) (inputs room : ℕ) →
+    timedVerdict b s inputs room ≡ Accepted →
+    lengthVerdict b (timedStepped (siteOf b) s inputs) inputs ≡ Accepted
+
+-- After an accepted step that ends in running, the line with the inputs of that step tells `no other demand` exactly if the step found no other
+-- phase demanded. (By `NeverAlike` no other line has these bytes.)
+unfoldable pub ToldExactly : Type 0
+ToldExactly =
+    (b : List ℕ) (s : TimedState) (inputs room : ℕ) →
+    timedVerdict b s inputs room ≡ Accepted →
+    let new = timedStepped (siteOf b) s inputs in
+    isRunning (new .core .position .interval) ≡ true →
+    whyLine b new inputs
+    ≡ line (new .core .position .phase)
+    (reasonsBy (foundNone (siteOf b) (s .core) inputs) (new .core .counts .gap) (stepsLeft new) (walkingAmong (new .core .movements)))
+
+-- ── What of the inputs is read ──
+
+-- inputs that agree on each non-locking detector
+abbrev pub SameCalls : Site → ℕ → ℕ → Type 0
+SameCalls site inputs others =
+    (d : ℕ) → d < site .size .detectors → calling (detectorOf (site .detectors) d .mode) ≡ true → occupied inputs d ≡ occupied others d
+
+-- Such inputs have the same line, from any state. So locking detectors and buttons alter no byte.
+unfoldable pub OnlyCallsCount : Type 0
+OnlyCallsCount =
+    (b : List ℕ) (s : TimedState) (inputs others : ℕ) →
+    SameCalls (siteOf b) inputs others →
+    whyLine b s inputs ≡ whyLine b s others
+
+-- ── How long it can be ──
+
+abbrev pub longestLine : ℕ
+longestLine = 107
+
+-- no line is longer, and one is as long
+unfoldable pub LongestLine : Type 0
+LongestLine =
+    ((b : List ℕ) (s : TimedState) (inputs : ℕ) → lengthVerdict b s inputs ≡ Accepted → length (whyLine b s inputs) ≤ longestLine)
+    × ((b : List ℕ) × (s : TimedState) × (inputs : ℕ) × (lengthVerdict b s inputs ≡ Accepted) × (length (whyLine b s inputs) ≡ longestLine))

@@ -1,0 +1,1 @@
+// The theorems of the panel's line. This crate has no function.
