@@ -30,7 +30,7 @@ pub fn read_one(bytes: &[u8], at: usize, early: u16) -> PhaseTimes
     }
 }
 
-fn early_in(bytes: &[u8], early: usize, present: bool, p: usize) -> u16
+pub fn early_in(bytes: &[u8], early: usize, present: bool, p: usize) -> u16
     requires { ⌜ (present ≡ true → early + p * 2 + 2 ≤ length (now bytes)) ⌝ }
     ensures { λ r. ⌜ r ≡ earlyIn (now (bytes .entry)) early present p ⌝ }
 {
