@@ -1,4 +1,4 @@
--- Rows of time records in bytes. A personality and a state have records of the same form, at different places; a site has as many of them as
+-- Internal: no promise cites this file. Rows of time records in bytes. A personality and a state have records of the same form, at different places; a site has as many of them as
 -- it has phases and movements.
 use Prim.Native.Nat.{ℕ, _+_, _*_}
 use mathlib.Core.Bool.{Bool}
