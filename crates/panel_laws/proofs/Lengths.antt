@@ -2,7 +2,7 @@
 use Prim.Native.Nat.{ℕ, _+_, _<_, _≤_}
 use mathlib.Core.Bool.{Bool, true, false, not}
 use mathlib.Core.List.{List, []}
-use mathlib.Core.Path.{_≡_, refl, ap, _∙_}
+use mathlib.Core.Path.{_≡_, refl}
 use native.Mathlib.Omega.{arith}
 use lib.ListN.{length}
 use borrow.Author.Tests.{not-false}
@@ -14,20 +14,19 @@ use Rattle.laws.specs.Folds.{if_then_else_}
 use Rattle.rules.specs.Verdicts.{_orElse_, refuseIf}
 use Rattle.rules.specs.Limits.{limits, limitOf, phaseSettings}
 use Rattle.rules.specs.Personality.{verdictOf}
-use Rattle.rules.specs.Site.{siteOf, phaseTimes}
-use Rattle.rules.specs.SiteTimes.{under}
+use Rattle.rules.specs.Site.{siteOf}
 use Rattle.rules.specs.IntervalTable.{isRunning}
 use Rattle.rules.specs.State.{valid}
 use Rattle.rules.specs.Kept.{keptValid}
-use Rattle.rules.specs.Timed.{keptOf, ruledSite, timedValid}
+use Rattle.rules.specs.Timed.{ruledSite, timedValid}
 use Rattle.rules.specs.Call.{strayInput}
-use Rattle.rules.specs.Laws.{Sound, AcceptedIsSound}
+use Rattle.rules.specs.Laws.{AcceptedIsSound}
 use Rattle.rules.specs.TraceText.{phaseLetter}
 use Rattle.rules.proofs.Opened.{opened}
 use Rattle.rules.proofs.Verdicts.{or-first, or-later, refuse-passed}
 use Rattle.laws.proofs.Booleans.{and-left}
 use Rattle.proof_acceptance.proofs.Acceptance.{accepted-is-sound}
-use Rattle.proof_runs.proofs.ValidStates.{ValidState, state-told}
+use Rattle.proof_runs.proofs.ValidStates.{state-told}
 use Rattle.proof_change.proofs.Admitted.{admitted-told}
 use Rattle.proof_change.proofs.Timed.{timed-told}
 use Rattle.panel_text.specs.Decimal.{digits, decimal}
@@ -68,7 +67,8 @@ module _ (b : List ℕ) (s : TimedState) (inputs : ℕ) (passed : lengthVerdict 
       let sound = accepted-is-sound b known in
       let told-state = timed-told (siteOf b) s valid-state in
       let core = state-told (ruledSite (siteOf b) s) (s .core) (and-left (valid (ruledSite (siteOf b) s) (s .core)) _ (told-state .rest)) in
-      let settings = admitted-told (siteOf b) (s .ruling) (sound .phases .1) (sound .movements) (told-state .ruling) .inTable .phase (s .core .position .phase) (core .phase) in (
+      let times = admitted-told (siteOf b) (s .ruling) (sound .phases .1) (sound .movements) (told-state .ruling) in
+      let settings = times .inTable .phase (s .core .position .phase) (core .phase) in (
         omega (arith, core .gap, settings .gap .1, highest-gap (siteOf b .edition)),
         omega (arith, settings .maximum .1, highest-maximum (siteOf b .edition)),
       )
