@@ -2,3 +2,4 @@ pub mod AfterStep
 pub mod Steps
 pub mod Inputs
 pub mod Lengths
+pub mod WhyCases

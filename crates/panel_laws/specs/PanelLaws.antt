@@ -17,7 +17,7 @@ use Rattle.rules.specs.TimedCall.{timedVerdict}
 use Rattle.panel_text.specs.Text.{line}
 use Rattle.panel_line.specs.Reasons.{reasonsBy}
 use Rattle.panel_reasons.specs.PanelLine.{stepsLeft, walkingAmong}
-use Rattle.panel_call.specs.WhyCall.{whyLine, lengthVerdict}
+use Rattle.panel_call.specs.WhyCall.{whyLine, lengthVerdict, whyVerdict}
 
 -- ── After a step ──
 
@@ -68,3 +68,10 @@ unfoldable pub LongestLine : Type 0
 LongestLine =
     ((b : List ℕ) (s : TimedState) (inputs : ℕ) → lengthVerdict b s inputs ≡ Accepted → length (whyLine b s inputs) ≤ longestLine)
     × ((b : List ℕ) × (s : TimedState) × (inputs : ℕ) × (lengthVerdict b s inputs ≡ Accepted) × (length (whyLine b s inputs) ≡ longestLine))
+
+-- a buffer of 107 bytes is never too short: the checks of the writing call are then those of the length call
+unfoldable pub LongestRoomIsEnough : Type 0
+LongestRoomIsEnough =
+    (b : List ℕ) (s : TimedState) (inputs room : ℕ) →
+    longestLine ≤ room →
+    whyVerdict b s inputs room ≡ lengthVerdict b s inputs
