@@ -67,7 +67,7 @@ same-phase false times next old h = refl
 
 -- ── The search ──
 
-found-passes : (d : ℕ → Bool) (l : List ℕ) → isHeld (firstIn d l) ≡ true → (t : ℕ) × (firstIn d l ≡ Phase t) × (d t ≡ true)
+pub found-passes : (d : ℕ → Bool) (l : List ℕ) → isHeld (firstIn d l) ≡ true → (t : ℕ) × (firstIn d l ≡ Phase t) × (d t ≡ true)
 unfolding firstIn isHeld
 found-passes d [] h = absurd (never-both h refl)
 found-passes d (q ∷ l) h =

@@ -1,4 +1,5 @@
 pub mod AfterStep
+pub mod Found
 pub mod Steps
 pub mod Inputs
 pub mod Lengths
