@@ -2,7 +2,7 @@
 use Prim.Native.Nat.{ℕ}
 use mathlib.Core.Bool.{Bool, true, false}
 use mathlib.Core.List.{List}
-use mathlib.Core.Path.{_≡_, refl, sym, subst⁻¹, _∙_}
+use mathlib.Core.Path.{_≡_, refl, subst⁻¹}
 use lib.ListN.{length}
 use Rattle.rules.specs.declared.answer.Verdict.{Verdict}
 use Rattle.rules.specs.declared.answer.Verdict.the-variants.{Accepted, Refused}
@@ -72,6 +72,10 @@ module _ (b state : List ℕ) (inputs r : ℕ) where
     unfolding whyLengthAnswer
     length-told f = rw (known, ← decoded, ← f) e
 
-    pub why-told : (buffer : List ℕ) {out : List ℕ} → answer ≡ whyOf b s inputs (length buffer) → out ≡ whyBufferOf b s inputs buffer → Writes b state inputs buffer r out
+    pub why-told :
+        (buffer : List ℕ) {out : List ℕ} →
+        answer ≡ whyOf b s inputs (length buffer) →
+        out ≡ whyBufferOf b s inputs buffer →
+        Writes b state inputs buffer r out
     unfolding whyAnswer lineAfter
     why-told buffer f g = (rw (known, ← decoded, ← f) e, rw (known, ← decoded) g)

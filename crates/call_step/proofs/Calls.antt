@@ -19,6 +19,7 @@ use Rattle.rules.specs.Kept.{keptValid, keptStepped}
 use Rattle.rules.specs.WaitBound.{waitBound}
 use Rattle.rules.specs.Call.{strayInput, stepVerdict, boundFor, handedBack, bufferFor, checksBy, callVerdict}
 use Rattle.rules.specs.Laws.{Sound, AcceptedIsSound}
+use Rattle.call_step.specs.Answers.{Answers}
 use Rattle.proof_acceptance.proofs.Acceptance.{accepted-is-sound}
 
 module _ (site : Site) {isValid : Bool} (inputs room : ℕ) where
@@ -45,12 +46,6 @@ module _ (site : Site) {isValid : Bool} (inputs room : ℕ) where
       stepVerdict site isValid inputs room ≡ Accepted
   unfolding stepVerdict _orElse_ refuseIf
   passes e f l = rw (e, f, le-ltb room (site .size .groups) l)
-
--- what a call answers, and the buffer as it returns
-abbrev pub Answers : Verdict → Site → KeptState → ℕ → List ℕ → Answer → List ℕ → Type 0
-Answers v site s inputs buffer answer out =
-    (answer ≡ record { outcome = boundFor v (waitBound site); state = handedBack v (keptStepped site s inputs) s })
-    × (out ≡ bufferFor v site (keptStepped site s inputs .core) buffer)
 
 pub declines :
     (v : Verdict) (site : Site) (s : KeptState) (inputs : ℕ) (buffer : List ℕ) (answer : Answer) (number place : ℕ) →

@@ -3,13 +3,17 @@ ghost use lib.ListN.{length};
 ghost use mathlib.Core.Path.{_≡_};
 ghost use Rattle.rules.specs.declared.answer.Outcome.the-variants.{StepRefused};
 ghost use Rattle.rules.specs.declared.answer.Verdict.the-variants.{Accepted};
-ghost use Rattle.rules.specs.Call.{answerOf, bufferOf};
+ghost use Rattle.rules.specs.Call.{stepVerdict, answerOf, bufferOf};
+ghost use Rattle.rules.specs.Kept.{keptValid};
+ghost use Rattle.rules.specs.Laws.{Sound};
 ghost use Rattle.rules.specs.Personality.{verdictOf};
 ghost use Rattle.read_layout.specs.LayoutOf.{LayoutOf};
+ghost use Rattle.call_step.specs.Answers.{Answers};
 use read_layout::Layout;
 use rules::answer::Answer;
 use rules::answer::Outcome;
 use rules::answer::Verdict;
+use rules::site::Site;
 use rules::state::KeptState;
 
 // A refused step hands back the old state.
@@ -22,20 +26,12 @@ fn step_refused(number: u8, place: usize, state: KeptState) -> Answer
     }
 }
 
-// A step call on an accepted personality with its layout: 13, then 15, then 14, then the step. The site is made here and not passed in,
-// because an argument by value is copied.
-pub fn step_accepted(
-    personality: &[u8],
-    layout: Layout,
-    state: KeptState,
-    inputs: u64,
-    colours: &mut [u8],
-) -> Answer
-    requires { ⌜ (verdictOf (now personality) ≡ Accepted) × LayoutOf (now personality) layout ⌝ }
-    ensures { λ r. ⌜ (r ≡ answerOf (now (personality .entry)) state inputs (length (now (colours .entry))))
-        × (now (colours .exit) ≡ bufferOf (now (personality .entry)) state inputs (now (colours .entry))) ⌝ }
+// A step call on a sound site: 13, then 15, then 14, then the step.
+pub fn step_on(site: Site, state: KeptState, inputs: u64, colours: &mut [u8]) -> Answer
+    requires { ⌜ Sound site ⌝ }
+    ensures { λ r. ⌜ Answers (stepVerdict site (keptValid site state) inputs (length (now (colours .entry)))) site state inputs (now (colours .entry))
+        r (now (colours .exit)) ⌝ }
 {
-    let site = site_whole::site_of(personality, layout);
     if !step_valid::kept_valid(site, state) {
         return step_refused(13, 0, state);
     }
@@ -57,6 +53,22 @@ pub fn step_accepted(
         },
         state: next,
     }
+}
+
+// A step call on an accepted personality with its layout.
+pub fn step_accepted(
+    personality: &[u8],
+    layout: Layout,
+    state: KeptState,
+    inputs: u64,
+    colours: &mut [u8],
+) -> Answer
+    requires { ⌜ (verdictOf (now personality) ≡ Accepted) × LayoutOf (now personality) layout ⌝ }
+    ensures { λ r. ⌜ (r ≡ answerOf (now (personality .entry)) state inputs (length (now (colours .entry))))
+        × (now (colours .exit) ≡ bufferOf (now (personality .entry)) state inputs (now (colours .entry))) ⌝ }
+{
+    let site = site_whole::site_of(personality, layout);
+    step_on(site, state, inputs, colours)
 }
 
 // A step call: checks the personality, then makes the step.

@@ -1,1 +1,2 @@
+pub mod PlainCalls
 pub mod TimedCalls

@@ -1,18 +1,15 @@
 -- The checks of a call for the line, made on the site with the ruling times, and what their outcome says of the answers.
 use Prim.Native.Nat.{ℕ, _≤_, _<_}
-use mathlib.Core.Bool.{Bool, true, false, not}
-use mathlib.Core.List.{List, [], _++_}
+use mathlib.Core.Bool.{Bool, true, false}
+use mathlib.Core.List.{List, _++_}
 use mathlib.Core.Path.{_≡_, refl, sym, ap, subst, _∙_}
 use native.Mathlib.Omega.{arith}
-use lib.Dec.{ltb}
 use lib.ListN.{length, drop}
 use borrow.Author.Tests.{le-ltb, lt-ltb}
-use Rattle.rules.specs.declared.answer.Verdict.{Verdict}
 use Rattle.rules.specs.declared.answer.Verdict.the-variants.{Accepted, Refused}
 use Rattle.rules.specs.declared.site.Site.{Site}
 use Rattle.rules.specs.declared.site.Times.{Times}
 use Rattle.rules.specs.declared.state.TimedState.{TimedState}
-use Rattle.laws.specs.Folds.{if_then_else_}
 use Rattle.rules.specs.Verdicts.{_orElse_, refuseIf}
 use Rattle.rules.specs.Personality.{verdictOf}
 use Rattle.rules.specs.Site.{siteOf}
@@ -105,7 +102,7 @@ module _ (b : List ℕ) (s : TimedState) (inputs : ℕ) where
   -- a line without bytes fits everywhere
   pub silent-write : (buffer : List ℕ) → Explains b s inputs Silent → Writes buffer (Line 0) buffer
   unfolding whyOf whyBufferOf whyVerdict lineFor handedBack _orElse_ refuseIf
-  silent-write buffer e = (rw (e .0, e .1, le-ltb (length buffer) 0 (omega arith)), rw (e .0, e .1, le-ltb (length buffer) 0 (omega arith)))
+  silent-write buffer e = let fits = le-ltb (length buffer) 0 (omega arith) in (rw (e .0, e .1, fits), rw (e .0, e .1, fits))
 
   pub holds-write :
       (why : Why) (buffer : List ℕ) {out : List ℕ} {answer : LineAnswer} →
@@ -119,7 +116,7 @@ module _ (b : List ℕ) (s : TimedState) (inputs : ℕ) where
 
 pub too-short : (why : Why) (buffer : List ℕ) → length buffer < length (lineOf why) → PutIn why buffer buffer (LineRefused 14 0)
 unfolding lineFor handedBack refuseIf
-too-short why buffer h = (rw (lt-ltb (length buffer) (length (lineOf why)) h), rw (lt-ltb (length buffer) (length (lineOf why)) h))
+too-short why buffer h = let short = lt-ltb (length buffer) (length (lineOf why)) h in (rw short, rw short)
 
 pub has-room :
     (why : Why) (buffer : List ℕ) {n : ℕ} {out : List ℕ} →
@@ -128,4 +125,4 @@ pub has-room :
     out ≡ lineOf why ++ drop (length (lineOf why)) buffer →
     PutIn why buffer out (Line n)
 unfolding lineFor handedBack refuseIf
-has-room why buffer h e o = (rw (le-ltb (length buffer) (length (lineOf why)) h, e), rw (le-ltb (length buffer) (length (lineOf why)) h, o))
+has-room why buffer h e o = let fits = le-ltb (length buffer) (length (lineOf why)) h in (rw (fits, e), rw (fits, o))

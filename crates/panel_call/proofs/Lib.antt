@@ -1,3 +1,2 @@
 pub mod Explanations
 pub mod Refusals
-pub mod WhyCases

@@ -1,4 +1,3 @@
 pub mod WhyCall
 pub mod WhyRefusals
-pub mod WhyCases
 pub mod Explains

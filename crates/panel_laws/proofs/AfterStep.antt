@@ -13,16 +13,16 @@ use Rattle.rules.specs.declared.site.Site.{Site}
 use Rattle.rules.specs.declared.site.Times.{Times}
 use Rattle.rules.specs.declared.state.Demands.{Demands}
 use Rattle.rules.specs.declared.state.Held.{Held}
-use Rattle.rules.specs.declared.state.Held.the-variants.{Nothing, Phase}
+use Rattle.rules.specs.declared.state.Held.the-variants.{Phase}
 use Rattle.rules.specs.declared.state.Interval.{Interval}
 use Rattle.rules.specs.declared.state.Interval.the-variants.{StartRed, LateStart, MinimumGreen, Running, EarlyCutOff, Yellow, AllRed}
 use Rattle.rules.specs.declared.state.KeptState.{KeptState}
 use Rattle.rules.specs.declared.state.Movement.{Movement}
 use Rattle.rules.specs.declared.state.Position.{Position}
 use Rattle.laws.specs.Bytes.{bit}
-use Rattle.laws.specs.Folds.{if_then_else_, anyOf, setOf}
+use Rattle.laws.specs.Folds.{if_then_else_, setOf}
 use Rattle.rules.specs.Site.{phaseTimes, crosses, ring}
-use Rattle.rules.specs.IntervalTable.{isRunning, isMinimumGreen, isHeld, phaseHeld}
+use Rattle.rules.specs.IntervalTable.{isRunning, isHeld, phaseHeld}
 use Rattle.rules.specs.Demands.{calls, inGreen, demandsAfter, firstIn, nextAfter}
 use Rattle.rules.specs.Interval.{entering, starting, leaving, following, staying, positionAfter, clearsLock, locksLeft}
 use Rattle.rules.specs.Walks.{begins, buttonsLeft}
@@ -30,10 +30,9 @@ use Rattle.rules.specs.Step.{steppedBy}
 use Rattle.rules.specs.Kept.{isKept, keptAfter, nextKept, gone, cleared, keptLeft, keptSteppedInto}
 use Rattle.rules.specs.Laws.{Sound}
 use Rattle.rules.proofs.IntervalTests.{running-only}
-use Rattle.laws.proofs.Booleans.{and-left, and-right, and-false-left, and-false-right, or-false-both, decided, never-both, not-true-false, same-tests}
+use Rattle.laws.proofs.Booleans.{and-false-left, and-false-right, or-false-both, decided, never-both, not-true-false, same-tests}
 use Rattle.laws.proofs.Folds.{any-none}
 use Rattle.laws.proofs.ByteSets.{bit-set}
-use Rattle.laws.proofs.Indices.{same-or-apart}
 use Rattle.proof_ring.proofs.Turns.{turn}
 use Rattle.proof_ring.proofs.Ring.{RingOf, found-other, other-found}
 use Rattle.proof_ring.proofs.RunningOrder.{ring-of}
@@ -45,7 +44,10 @@ not-started : (late : Bool) → isRunning (if late then MinimumGreen else LateSt
 not-started true h = never-both h refl
 not-started false h = never-both h refl
 
-followed : (i : Interval) (times : Times) (next : Held) (old : Position) → isRunning (following i times next old .interval) ≡ true → following i times next old .phase ≡ old .phase
+followed :
+    (i : Interval) (times : Times) (next : Held) (old : Position) →
+    isRunning (following i times next old .interval) ≡ true →
+    following i times next old .phase ≡ old .phase
 unfolding following starting leaving entering
 followed StartRed times next old h = absurd (not-started (eqb (phaseTimes times (old .phase) .late) 0) h)
 followed LateStart times next old h = refl
@@ -55,14 +57,17 @@ followed EarlyCutOff times next old h = refl
 followed Yellow times next old h = refl
 followed AllRed times next old h = absurd (not-started (eqb (phaseTimes times (phaseHeld (old .target)) .late) 0) h)
 
-same-phase : (ended : Bool) (times : Times) (next : Held) (old : Position) → isRunning (positionAfter ended times next old .interval) ≡ true → positionAfter ended times next old .phase ≡ old .phase
+same-phase :
+    (ended : Bool) (times : Times) (next : Held) (old : Position) →
+    isRunning (positionAfter ended times next old .interval) ≡ true →
+    positionAfter ended times next old .phase ≡ old .phase
 unfolding positionAfter staying
 same-phase true times next old h = followed (old .interval) times next old h
 same-phase false times next old h = refl
 
 -- ── The search ──
 
-found-passes : (d : ℕ → Bool) (l : List ℕ) → isHeld (firstIn d l) ≡ true → (t : ℕ) × (firstIn d l ≡ Phase t) × (d t ≡ true)
+pub found-passes : (d : ℕ → Bool) (l : List ℕ) → isHeld (firstIn d l) ≡ true → (t : ℕ) × (firstIn d l ≡ Phase t) × (d t ≡ true)
 unfolding firstIn isHeld
 found-passes d [] h = absurd (never-both h refl)
 found-passes d (q ∷ l) h =
@@ -72,16 +77,19 @@ found-passes d (q ∷ l) h =
     (decided (d q))
 
 module _ {n : ℕ} {ring : List ℕ} (ofn : RingOf n ring) (p : ℕ) where
-  others-found : (d e : ℕ → Bool) → ((q : ℕ) → q < n → (q ≡ p → ⊥) → d q ≡ e q) → isHeld (firstIn d (turn ring p)) ≡ true → isHeld (firstIn e (turn ring p)) ≡ true
-  others-found d e same h =
+  -- two tests agree on every other phase
+  abbrev Agree : (ℕ → Bool) → (ℕ → Bool) → Type 0
+  Agree d e = (q : ℕ) → q < n → (q ≡ p → ⊥) → d q ≡ e q
+
+  other-passes : (d e : ℕ → Bool) → Agree d e → isHeld (firstIn d (turn ring p)) ≡ true → isHeld (firstIn e (turn ring p)) ≡ true
+  other-passes d e same h =
       let found = found-passes d (turn ring p) h in
       let other = found-other ofn d (found .1) in
       other-found ofn e (other .0) (other .1) (sym (same (found .0) (other .0) (other .1)) ∙ found .2)
 
-  -- tests that agree on every other phase find one or none
-  others-same : (d e : ℕ → Bool) → ((q : ℕ) → q < n → (q ≡ p → ⊥) → d q ≡ e q) → isHeld (firstIn d (turn ring p)) ≡ isHeld (firstIn e (turn ring p))
-  others-same d e same =
-      same-tests _ _ (others-found d e same) (others-found e d (λ q l ne. sym (same q l ne)))
+  -- then both find one, or neither does
+  others-same : (d e : ℕ → Bool) → Agree d e → isHeld (firstIn d (turn ring p)) ≡ isHeld (firstIn e (turn ring p))
+  others-same d e same = same-tests _ _ (other-passes d e same) (other-passes e d (λ q l ne. sym (same q l ne)))
 
 -- ── What is cleared ──
 
@@ -160,7 +168,8 @@ module _ (ruling : Times) (site : Site) (sound : Sound site) (s : KeptState) (in
       unfolding isKept keptLeft steppedBy
       still-kept l =
           bit-set _ q l
-          ∙ kept-all (keptAfter site s inputs q) _ _ (cleared-none site sound (new .core .position) q other _ _ _ _ (demandsAfter site (s .core) inputs) l running)
+          ∙ kept-all (keptAfter site s inputs q) _ _
+          (cleared-none site sound (new .core .position) q other _ _ _ _ (demandsAfter site (s .core) inputs) l running)
 
       still-called : calls site (new .core) inputs q ≡ calls site (s .core) inputs q
       unfolding calls inGreen

@@ -1,5 +1,5 @@
 -- Only non-locking calls are read of the inputs: inputs that agree on them call the same phases.
-use Prim.Native.Nat.{ℕ, _<_}
+use Prim.Native.Nat.{ℕ}
 use mathlib.Core.Bool.{Bool, true, false, not, _&&_, _||_}
 use mathlib.Core.List.{List, [], _∷_}
 use mathlib.Core.Logic.{⊎-elim}
@@ -9,7 +9,6 @@ use Rattle.rules.specs.declared.site.Site.{Site}
 use Rattle.rules.specs.declared.state.Held.{Held}
 use Rattle.rules.specs.declared.state.KeptState.{KeptState}
 use Rattle.rules.specs.declared.state.State.{State}
-use Rattle.laws.specs.Folds.{if_then_else_}
 use Rattle.rules.specs.Site.{siteOf, detectorOf}
 use Rattle.rules.specs.IntervalTable.{isHeld}
 use Rattle.rules.specs.Demands.{occupied, calling, detectedAmong, detected, inGreen, calls, firstIn, nextAfter}

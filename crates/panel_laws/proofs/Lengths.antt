@@ -2,11 +2,13 @@
 use Prim.Native.Nat.{ℕ, _+_, _<_, _≤_}
 use mathlib.Core.Bool.{Bool, true, false, not}
 use mathlib.Core.List.{List, []}
-use mathlib.Core.Path.{_≡_, refl, ap, _∙_}
+use mathlib.Core.Path.{_≡_, refl}
 use native.Mathlib.Omega.{arith}
+use lib.Dec.{ltb}
 use lib.ListN.{length}
-use borrow.Author.Tests.{not-false}
-use Rattle.rules.specs.declared.answer.Verdict.the-variants.{Accepted}
+use borrow.Author.Tests.{not-false, le-ltb}
+use Rattle.rules.specs.declared.answer.Verdict.{Verdict}
+use Rattle.rules.specs.declared.answer.Verdict.the-variants.{Accepted, Refused}
 use Rattle.rules.specs.declared.site.Edition.{Edition}
 use Rattle.rules.specs.declared.site.Edition.the-variants.{One, Two}
 use Rattle.rules.specs.declared.state.TimedState.{TimedState}
@@ -14,20 +16,19 @@ use Rattle.laws.specs.Folds.{if_then_else_}
 use Rattle.rules.specs.Verdicts.{_orElse_, refuseIf}
 use Rattle.rules.specs.Limits.{limits, limitOf, phaseSettings}
 use Rattle.rules.specs.Personality.{verdictOf}
-use Rattle.rules.specs.Site.{siteOf, phaseTimes}
-use Rattle.rules.specs.SiteTimes.{under}
+use Rattle.rules.specs.Site.{siteOf}
 use Rattle.rules.specs.IntervalTable.{isRunning}
 use Rattle.rules.specs.State.{valid}
 use Rattle.rules.specs.Kept.{keptValid}
-use Rattle.rules.specs.Timed.{keptOf, ruledSite, timedValid}
+use Rattle.rules.specs.Timed.{ruledSite, timedValid}
 use Rattle.rules.specs.Call.{strayInput}
-use Rattle.rules.specs.Laws.{Sound, AcceptedIsSound}
+use Rattle.rules.specs.Laws.{AcceptedIsSound}
 use Rattle.rules.specs.TraceText.{phaseLetter}
 use Rattle.rules.proofs.Opened.{opened}
-use Rattle.rules.proofs.Verdicts.{or-first, or-later, refuse-passed}
+use Rattle.rules.proofs.Verdicts.{or-first, or-later, refuse-passed, refuse-no}
 use Rattle.laws.proofs.Booleans.{and-left}
 use Rattle.proof_acceptance.proofs.Acceptance.{accepted-is-sound}
-use Rattle.proof_runs.proofs.ValidStates.{ValidState, state-told}
+use Rattle.proof_runs.proofs.ValidStates.{state-told}
 use Rattle.proof_change.proofs.Admitted.{admitted-told}
 use Rattle.proof_change.proofs.Timed.{timed-told}
 use Rattle.panel_text.specs.Decimal.{digits, decimal}
@@ -35,9 +36,9 @@ use Rattle.panel_text.specs.Text.{reasonText, reasonsText, line}
 use Rattle.panel_line.specs.Reasons.{told, walks, reasonsBy}
 use Rattle.panel_line.proofs.Lengths.{longest}
 use Rattle.panel_reasons.specs.PanelLine.{noOther, stepsLeft, walkingAmong, reasonsOf, panelLine}
-use Rattle.panel_call.specs.WhyCall.{whyLine, lengthVerdict}
-use Rattle.panel_call.specs.WhyCases.{eightCrossings, longest as longestState}
-use Rattle.panel_laws.specs.PanelLaws.{longestLine, LongestLine}
+use Rattle.panel_call.specs.WhyCall.{whyLine, lengthVerdict, whyVerdict}
+use Rattle.panel_laws.specs.WhyCases.{eightCrossings, longest as longestState}
+use Rattle.panel_laws.specs.PanelLaws.{longestLine, LongestLine, LongestRoomIsEnough}
 
 -- the highest G and X of each edition
 highest-gap : (edition : Edition) → limitOf (limits edition) (phaseSettings + 3) .high ≡ 100
@@ -68,7 +69,8 @@ module _ (b : List ℕ) (s : TimedState) (inputs : ℕ) (passed : lengthVerdict 
       let sound = accepted-is-sound b known in
       let told-state = timed-told (siteOf b) s valid-state in
       let core = state-told (ruledSite (siteOf b) s) (s .core) (and-left (valid (ruledSite (siteOf b) s) (s .core)) _ (told-state .rest)) in
-      let settings = admitted-told (siteOf b) (s .ruling) (sound .phases .1) (sound .movements) (told-state .ruling) .inTable .phase (s .core .position .phase) (core .phase) in (
+      let times = admitted-told (siteOf b) (s .ruling) (sound .phases .1) (sound .movements) (told-state .ruling) in
+      let settings = times .inTable .phase (s .core .position .phase) (core .phase) in (
         omega (arith, core .gap, settings .gap .1, highest-gap (siteOf b .edition)),
         omega (arith, settings .maximum .1, highest-maximum (siteOf b .edition)),
       )
@@ -84,3 +86,11 @@ module _ (b : List ℕ) (s : TimedState) (inputs : ℕ) (passed : lengthVerdict 
 pub longest-line : LongestLine
 unfolding LongestLine opened phaseLetter digits decimal reasonText reasonsText line told walks reasonsBy noOther stepsLeft walkingAmong reasonsOf panelLine lengthVerdict eightCrossings
 longest-line = (line-within, (eightCrossings, longestState, 0, refl, refl))
+
+pub longest-room-is-enough : LongestRoomIsEnough
+unfolding LongestRoomIsEnough whyVerdict _orElse_
+longest-room-is-enough b s inputs room h = by (lengthVerdict b s inputs) refl
+  where
+    by : (v : Verdict) → lengthVerdict b s inputs ≡ v → (v orElse refuseIf (ltb room (length (whyLine b s inputs))) 14 0) ≡ v
+    by Accepted e = refuse-no 14 0 (le-ltb room (length (whyLine b s inputs)) (omega (arith, line-within b s inputs e)))
+    by (Refused number place) e = refl

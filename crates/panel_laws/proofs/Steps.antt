@@ -3,9 +3,8 @@
 use Prim.Native.Nat.{ℕ}
 use mathlib.Core.Bool.{Bool, true, false, not}
 use mathlib.Core.List.{List}
-use mathlib.Core.Path.{_≡_, refl, sym, ap, _∙_}
+use mathlib.Core.Path.{_≡_, refl, ap, _∙_}
 use Rattle.rules.specs.declared.answer.Verdict.the-variants.{Accepted}
-use Rattle.rules.specs.declared.site.Site.{Site}
 use Rattle.rules.specs.declared.state.Held.{Held}
 use Rattle.rules.specs.declared.state.TimedState.{TimedState}
 use Rattle.laws.specs.Folds.{if_then_else_}
@@ -14,7 +13,7 @@ use Rattle.rules.specs.Personality.{verdictOf}
 use Rattle.rules.specs.Site.{siteOf}
 use Rattle.rules.specs.IntervalTable.{isRunning, isHeld}
 use Rattle.rules.specs.Demands.{detected, registersLock, calls, locksAfter, demandsAfter, demanded, nextDemanded}
-use Rattle.rules.specs.Kept.{isKept, keptAfter, nextKept, keptSteppedInto}
+use Rattle.rules.specs.Kept.{isKept, keptAfter, nextKept}
 use Rattle.rules.specs.Timed.{keptOf, ruledSite, timedValid, takesOver, withoutCounts, rulingNext, timedStepped}
 use Rattle.rules.specs.Call.{strayInput, stepVerdict, checksBy}
 use Rattle.rules.specs.TimedCall.{timedParts}
@@ -26,9 +25,7 @@ use Rattle.proof_runs.proofs.Chains.{checks-told}
 use Rattle.proof_kept.proofs.Scans.{next-kept}
 use Rattle.proof_change.proofs.Timed.{timed-told, old-sound}
 use Rattle.proof_guarantees.proofs.TimedAccepted.{timed-step-keeps-valid}
-use Rattle.panel_text.specs.Text.{line}
-use Rattle.panel_line.specs.Reasons.{reasonsBy}
-use Rattle.panel_reasons.specs.PanelLine.{noOther, stepsLeft, walkingAmong, reasonsOf, panelLine}
+use Rattle.panel_reasons.specs.PanelLine.{noOther, reasonsOf, panelLine}
 use Rattle.panel_call.specs.WhyCall.{lengthVerdict}
 use Rattle.panel_laws.specs.PanelLaws.{foundNone, StepIsExplained, ToldExactly}
 use Rattle.panel_laws.proofs.AfterStep.{told-by-kept}
@@ -60,12 +57,16 @@ module _ (b : List ℕ) (s : TimedState) (inputs room : ℕ) (passed : checksBy 
   unfolding nextDemanded demanded demandsAfter locksAfter registersLock calls detected
   found-own = refl
 
-  found-without : (t : Bool) → nextKept (ruledSite (siteOf b) s) (if t then withoutCounts (keptOf s) else keptOf s) inputs ≡ nextKept (ruledSite (siteOf b) s) (keptOf s) inputs
+  found-without :
+      (t : Bool) →
+      nextKept (ruledSite (siteOf b) s) (if t then withoutCounts (keptOf s) else keptOf s) inputs ≡ nextKept (ruledSite (siteOf b) s) (keptOf s) inputs
   unfolding nextKept keptAfter isKept registersLock calls
   found-without true = refl
   found-without false = refl
 
-  told : isRunning (timedStepped (siteOf b) s inputs .core .position .interval) ≡ true → noOther (siteOf b) (keptOf (timedStepped (siteOf b) s inputs)) inputs ≡ foundNone (siteOf b) (s .core) inputs
+  told :
+      isRunning (timedStepped (siteOf b) s inputs .core .position .interval) ≡ true →
+      noOther (siteOf b) (keptOf (timedStepped (siteOf b) s inputs)) inputs ≡ foundNone (siteOf b) (s .core) inputs
   unfolding timedStepped noOther calls detected foundNone
   told running =
       let before = if takesOver (siteOf b) s then withoutCounts (keptOf s) else keptOf s in

@@ -1,1 +1,2 @@
 pub mod PanelLaws
+pub mod WhyCases

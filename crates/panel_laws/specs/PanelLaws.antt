@@ -1,7 +1,7 @@
 -- Statements about the panel's line: what it says after a step, what of the inputs it reads, and how long it can be. All are over the bytes of an
 -- accepted personality.
 use Prim.Native.Nat.{ℕ, _<_, _≤_}
-use mathlib.Core.Bool.{Bool, true, not}
+use mathlib.Core.Bool.{Bool, true, false, not}
 use mathlib.Core.List.{List}
 use mathlib.Core.Path.{_≡_}
 use lib.ListN.{length}
@@ -9,21 +9,32 @@ use Rattle.rules.specs.declared.answer.Verdict.the-variants.{Accepted}
 use Rattle.rules.specs.declared.site.Site.{Site}
 use Rattle.rules.specs.declared.state.State.{State}
 use Rattle.rules.specs.declared.state.TimedState.{TimedState}
+use Rattle.rules.specs.Personality.{verdictOf}
 use Rattle.rules.specs.Site.{siteOf, detectorOf}
 use Rattle.rules.specs.IntervalTable.{isRunning, isHeld}
-use Rattle.rules.specs.Demands.{occupied, calling, nextDemanded}
+use Rattle.rules.specs.Demands.{occupied, calling, demanded, nextDemanded}
 use Rattle.rules.specs.Timed.{timedStepped}
 use Rattle.rules.specs.TimedCall.{timedVerdict}
 use Rattle.panel_text.specs.Text.{line}
 use Rattle.panel_line.specs.Reasons.{reasonsBy}
 use Rattle.panel_reasons.specs.PanelLine.{stepsLeft, walkingAmong}
-use Rattle.panel_call.specs.WhyCall.{whyLine, lengthVerdict}
+use Rattle.panel_call.specs.WhyCall.{whyLine, lengthVerdict, whyVerdict}
 
 -- ── After a step ──
 
 -- the step from this state finds no other phase demanded, by lock, button or call
 unfoldable pub foundNone : Site → State → ℕ → Bool
 foundNone site s inputs = not (isHeld (nextDemanded site s inputs))
+
+-- that is, no phase but that of the state is demanded in the step
+unfoldable pub FoundNoneMeans : Type 0
+FoundNoneMeans =
+    (b : List ℕ) →
+    verdictOf b ≡ Accepted →
+    (s : State) (inputs : ℕ) →
+    let OthersAreNot : Type 0 =
+    (q : ℕ) → q < siteOf b .size .phases → (q ≡ s .position .phase → ⊥) → demanded (siteOf b) s inputs q ≡ false in
+    (foundNone (siteOf b) s inputs ≡ true → OthersAreNot) × (OthersAreNot → foundNone (siteOf b) s inputs ≡ true)
 
 -- After an accepted step the line can be had: with the inputs of that step the calls are not refused, apart from 14.
 unfoldable pub StepIsExplained : Type 0
@@ -68,3 +79,10 @@ unfoldable pub LongestLine : Type 0
 LongestLine =
     ((b : List ℕ) (s : TimedState) (inputs : ℕ) → lengthVerdict b s inputs ≡ Accepted → length (whyLine b s inputs) ≤ longestLine)
     × ((b : List ℕ) × (s : TimedState) × (inputs : ℕ) × (lengthVerdict b s inputs ≡ Accepted) × (length (whyLine b s inputs) ≡ longestLine))
+
+-- a buffer of 107 bytes is never too short: the checks of the writing call are then those of the length call
+unfoldable pub LongestRoomIsEnough : Type 0
+LongestRoomIsEnough =
+    (b : List ℕ) (s : TimedState) (inputs room : ℕ) →
+    longestLine ≤ room →
+    whyVerdict b s inputs room ≡ lengthVerdict b s inputs

@@ -1,8 +1,8 @@
 -- How many bytes a line has, reason by reason, and the longest line.
 use Prim.Native.Nat.{ℕ, zero, suc, _+_, _*_, _≤_, _<_}
 use mathlib.Core.Bool.{Bool, true, false}
-use mathlib.Core.List.{List, [], _∷_, _++_, append-nil}
-use mathlib.Core.Path.{_≡_, refl, sym, ap, _∙_}
+use mathlib.Core.List.{List, [], _++_, append-nil}
+use mathlib.Core.Path.{_≡_, refl, ap, _∙_}
 use native.Mathlib.Nat.{add-zero}
 use native.Mathlib.Numerals.{add-one}
 use native.Mathlib.Omega.{arith}
@@ -10,7 +10,6 @@ use lib.Dec.{ltb}
 use lib.ListN.{length, length-append}
 use Rattle.panel_text.specs.declared.Reason.{Reason}
 use Rattle.panel_text.specs.declared.Reason.the-variants.{NoOtherDemand, Gap, Max, Walk}
-use Rattle.panel_text.specs.Decimal.{decimal}
 use Rattle.panel_text.specs.Text.{reasonText, reasonsText, line}
 use Rattle.panel_text.proofs.Decimals.{at-most}
 use Rattle.panel_text.proofs.Texts.{reasons-join, line-more}

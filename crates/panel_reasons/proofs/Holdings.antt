@@ -1,23 +1,19 @@
 -- What is known of a state whose phase holds, and what its parts say of the line.
-use Prim.Native.Nat.{ℕ, zero, suc, _-_, _<_, _≤_}
+use Prim.Native.Nat.{ℕ, _-_, _<_, _≤_}
 use mathlib.Core.Bool.{Bool, true, not, _&&_, _||_, and-true}
-use mathlib.Core.List.{List, _++_}
-use mathlib.Core.Path.{_≡_, refl, sym, ap, ap₂, _∙_}
+use mathlib.Core.Path.{_≡_, sym, ap, ap₂, _∙_}
 use native.Mathlib.Omega.{arith}
 use lib.Bits.{bitOr}
 use lib.Dec.{eqb}
-use Rattle.rules.specs.declared.site.PhaseTimes.{PhaseTimes}
 use Rattle.rules.specs.declared.site.Site.{Site}
 use Rattle.rules.specs.declared.state.Held.{Held}
-use Rattle.rules.specs.declared.state.Interval.{Interval}
-use Rattle.rules.specs.declared.state.State.{State}
 use Rattle.rules.specs.declared.state.TimedState.{TimedState}
 use Rattle.laws.specs.Bytes.{bit}
-use Rattle.laws.specs.Folds.{if_then_else_, setOf}
+use Rattle.laws.specs.Folds.{setOf}
 use Rattle.rules.specs.Site.{phaseTimes, ring}
 use Rattle.rules.specs.IntervalTable.{isRunning, isGreen, isHeld}
 use Rattle.rules.specs.State.{valid}
-use Rattle.rules.specs.Demands.{calling, detectedAmong, detected, inGreen, calls, nextAfter}
+use Rattle.rules.specs.Demands.{calling, detected, inGreen, calls, nextAfter}
 use Rattle.rules.specs.Kept.{isKept, keptValid}
 use Rattle.rules.specs.Timed.{keptOf}
 use Rattle.rules.specs.Laws.{Sound}

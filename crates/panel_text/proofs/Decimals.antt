@@ -1,16 +1,16 @@
 -- A decimal digit by digit, for a number of any width: one digit below 10, else one more than a tenth of the number has. So a number below 10 to the
--- k has at most k digits, and reading the digits gives the number back.
-use Prim.Native.Nat.{ℕ, zero, suc, _+_, _*_, _/_, _%_, _^_, _≤_, _<_}
+-- k has at most k digits, and no number but 0 begins with a 0.
+use Prim.Native.Nat.{ℕ, zero, suc, _+_, _/_, _%_, _^_, _≤_, _<_}
 use mathlib.Core.List.{List, [], _∷_, _++_}
 use mathlib.Core.Logic.{⊎-elim}
-use mathlib.Core.Path.{_≡_, ap, _∙_}
+use mathlib.Core.Path.{_≡_, sym, ap, _∙_}
 use native.Mathlib.Nat.{pow-suc, div-lt-iff-lt-mul}
 use native.Mathlib.Omega.{arith}
-use lib.Dec.{ltb}
-use lib.ListN.{length, length-append}
+use lib.ListN.{length, getD, length-append, List·getD-append}
 use borrow.Author.Tests.{lt-ltb, le-ltb}
 use Rattle.laws.proofs.Indices.{below-or-past}
 use Rattle.panel_text.specs.Decimal.{digits, decimal}
+use Rattle.panel_text.specs.Lines.{NoLeadingZero}
 
 -- more digits than are needed change nothing
 any-most : (a b n : ℕ) → n < a → n < b → digits a n ≡ digits b n
@@ -52,3 +52,22 @@ at-most zero n h = omega (arith, length-one n h)
 at-most (suc k) n h =
     let tenth = at-most k (n / 10) (div-lt-iff-lt-mul (omega arith) .1 (rw pow-suc at h)) in
     ⊎-elim (λ (l : n < 10). omega (arith, length-one n l)) (λ (l : 10 ≤ n). omega (arith, length-more n l)) (below-or-past n 10)
+
+-- ── The first digit ──
+
+-- by induction on a bound: the first digit is that of a tenth of the number
+no-zero : (bound n : ℕ) → n < bound → 0 < n → getD (decimal n) 0 0 ≡ 48 → ⊥
+no-zero zero n l h e = omega arith
+no-zero (suc bound) n l h e =
+    ⊎-elim
+    (λ (small : n < 10). omega (arith, ap (λ (d : List ℕ). getD d 0 0) (one-digit n small)))
+    (λ (large : 10 ≤ n).
+    no-zero bound (n / 10) (omega arith) (omega arith)
+    (sym (List·getD-append (decimal (n / 10)) ((48 + n % 10) ∷ []) 0 0 (some-digit (n / 10)))
+    ∙ ap (λ (d : List ℕ). getD d 0 0) (sym (one-digit-more n large))
+    ∙ e))
+    (below-or-past n 10)
+
+pub no-leading-zero : NoLeadingZero
+unfolding NoLeadingZero
+no-leading-zero n = no-zero (suc n) n (omega arith)

@@ -1,14 +1,13 @@
 -- A line reads back. A decimal has no comma and reads as its number; behind a reason there is a comma or nothing. So each comma of a line gives its
 -- reason, and equal lines have equal phases and equal reasons.
 use Prim.Native.Nat.{ℕ, zero, suc, _+_, _-_, _*_, _/_, _%_, _≤_, _<_}
-use mathlib.Core.Bool.{Bool, true, false, _&&_}
+use mathlib.Core.Bool.{true, false}
 use mathlib.Core.List.{List, [], _∷_, _++_, append-assoc}
 use mathlib.Core.Logic.{⊎-elim}
 use mathlib.Core.Path.{_≡_, refl, sym, ap, ap₂, _∙_}
 use native.Mathlib.Omega.{arith}
-use lib.Dec.{leb, ltb, eqb}
 use borrow.Author.Tests.{le-leb, ne-eqb, lt-ltb, le-ltb}
-use Rattle.laws.specs.Folds.{if_then_else_, allOf}
+use Rattle.laws.specs.Folds.{allOf}
 use Rattle.laws.proofs.Indices.{below-or-past}
 use Rattle.laws.proofs.Tables.{table-same, table-equal}
 use Rattle.rules.specs.TraceText.{phaseLetter}
@@ -84,7 +83,9 @@ counted reason n reasons =
     (digits-read (suc n) n (reasonsText reasons) (omega arith) ∙ stops reasons n)
     (digits-passed (suc n) n (reasonsText reasons))
 
-first-read : (reason : Reason) (reasons : List Reason) → reasonsIn (reasonText reason ++ reasonsText reasons) ≡ reason ∷ reasonsIn (reasonsText reasons)
+first-read :
+    (reason : Reason) (reasons : List Reason) →
+    reasonsIn (reasonText reason ++ reasonsText reasons) ≡ reason ∷ reasonsIn (reasonsText reasons)
 unfolding reasonText reasonsIn reasonIn numberIn
 first-read NoOtherDemand reasons = refl
 first-read (Gap n) reasons = counted Gap n reasons

@@ -1,10 +1,10 @@
 -- A text put into a buffer: nothing, one text behind another, a text from its last byte on, and a copy.
-use Prim.Native.Nat.{ℕ, zero, suc, _+_, _≤_, _<_}
+use Prim.Native.Nat.{ℕ, suc, _+_, _≤_}
 use mathlib.Core.List.{List, [], _∷_, _++_}
-use mathlib.Core.Path.{_≡_, refl, sym, ap, ap₂, _∙_}
+use mathlib.Core.Path.{_≡_, refl, sym, ap, _∙_}
 use native.Mathlib.Nat.{add-zero, zero-add}
 use native.Mathlib.Omega.{arith}
-use lib.ListN.{length, take, drop, set, length-append}
+use lib.ListN.{length, drop, set, length-append}
 use lib.Seq.{sets, length-sets, sets-eq, set-comm}
 use Rattle.laws.proofs.Arrays.{sets-next}
 use Rattle.panel_text.specs.Put.{Put}

@@ -1,17 +1,14 @@
 -- The lengths of texts, and the text of lists of reasons one behind the other.
-use Prim.Native.Nat.{ℕ, _+_, _≤_, _<_}
-use mathlib.Core.List.{List, [], _∷_, _++_, append-assoc, append-nil}
+use Prim.Native.Nat.{ℕ, _+_, _<_}
+use mathlib.Core.List.{List, [], _∷_, _++_, append-assoc}
 use mathlib.Core.Path.{_≡_, refl, sym, ap, _∙_}
 use native.Mathlib.Omega.{arith}
-use lib.ListN.{length, length-append}
 use Rattle.laws.specs.Folds.{allOf}
 use Rattle.laws.proofs.Tables.{table-equal}
 use Rattle.rules.specs.TraceText.{phaseLetter}
 use Rattle.panel_text.specs.declared.Reason.{Reason}
 use Rattle.panel_text.specs.Ascii.{ascii}
 use Rattle.panel_text.specs.Text.{reasonText, reasonsText, line}
-use Rattle.panel_text.specs.Put.{Put}
-use Rattle.panel_text.proofs.Puts.{put-as, put-then}
 
 pub reasons-join : (a b : List Reason) → reasonsText (a ++ b) ≡ reasonsText a ++ reasonsText b
 unfolding reasonsText

@@ -1,9 +1,11 @@
 -- Statements about lines: each reads back as its phase and its reasons, so different lists of reasons never read alike, and no line is empty. The
--- reasons may be any list, of any length and order and with any numbers.
+-- reasons may be any list, of any length and order and with any numbers. Decimals have no leading zeros.
 use Prim.Native.Nat.{ℕ, _<_}
 use mathlib.Core.List.{List, []}
 use mathlib.Core.Path.{_≡_}
+use lib.ListN.{getD}
 use Rattle.panel_text.specs.declared.Reason.{Reason}
+use Rattle.panel_text.specs.Decimal.{decimal}
 use Rattle.panel_text.specs.Text.{line}
 use Rattle.panel_text.specs.Reader.{phaseIn, reasonsIn}
 
@@ -23,3 +25,7 @@ NeverAlike =
 
 unfoldable pub NeverEmpty : Type 0
 NeverEmpty = (phase : ℕ) (reasons : List Reason) → line phase reasons ≡ [] → ⊥
+
+-- a number begins with the digit 0 only if it is 0
+unfoldable pub NoLeadingZero : Type 0
+NoLeadingZero = (n : ℕ) → 0 < n → getD (decimal n) 0 0 ≡ 48 → ⊥

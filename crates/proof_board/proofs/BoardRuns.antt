@@ -19,7 +19,7 @@ use Rattle.rules.specs.Call.{boundFor, handedBack, checksBy, nextBy}
 use Rattle.rules.specs.TimedCall.{timedParts, timedVerdict, timedAnswerOf, timedBufferOf, retimeVerdict, retimed, retimedBy}
 use Rattle.rules.specs.TimedLaws.{FreshTimedIsValid, TimedStepKeepsValid, RetimeKeepsValid}
 use Rattle.rules.specs.DemandThree.{Call, Taken, takenFrom, SafeRun, DemandThreeOf}
-use Rattle.rules.specs.TimedDemandThree.{TimedController, timed, Given, stepCall, retimeCall, Made, stepMade, retimeMade, nextOf, stepOf, madeFrom, acceptedSteps, takens, TimedSafeRun, TimedDemandThreeOf, TimedDemandThree}
+use Rattle.rules.specs.TimedDemandThree.{TimedController, timed, Given, stepCall, retimeCall, Made, stepMade, retimeMade, nextOf, stepOf, madeFrom, acceptedSteps, takens, TimedSafeRun, TimedDemandThreeOf, TimedDemandThree, BeforeFollows}
 use Rattle.rules.specs.OnceEach.{OnceEach, OnceEachOf, RunsStartOnceEach}
 use Rattle.state_timed.specs.TimedLayout.{timedBytes, timedEncoded, timedDecoded, ProperTimed}
 use Rattle.state_timed.proofs.TimedRoundTrips.{encoded-is-timed, decoded-encoded}
@@ -30,7 +30,7 @@ use Rattle.board_retime.specs.RetimeCall.{retimeVerdictOn, retimeAnswer, retime
 use Rattle.proof_runs.proofs.Chains.{checks-told}
 use Rattle.proof_guarantees.proofs.TimedAccepted.{fresh-timed-is-valid, timed-step-keeps-valid, retime-keeps-valid}
 use Rattle.proof_guarantees.proofs.TimedDemandThree.{timed-demand-three}
-use Rattle.proof_guarantees.proofs.WithoutRetimings.{demand-three-before}
+use Rattle.proof_guarantees.proofs.WithoutRetimings.{before-follows}
 use Rattle.proof_guarantees.proofs.OnceEach.{runs-start-once-each}
 use Rattle.proof_board.specs.BoardRuns.{outcomeIn, verdictIn, board, FreshAccepts, BoardRunsAlike, BoardRunsHold, BoardDemandThree, BoardDemandThreeBefore, BoardOnceEach}
 use Rattle.proof_board.specs.ProperStates.{FreshTimedIsProper, TimedStepIsProper, RetimeIsProper}
@@ -204,7 +204,7 @@ steps-taken controller b s (c ∷ calls) =
     ap (λ (later : List Taken). stepOf controller b s c .taken ∷ later) (steps-taken controller b (nextOf controller b s c) calls)
 
 pub board-demand-three-before : BoardDemandThreeBefore
-unfolding BoardDemandThreeBefore BoardRunsAlike DemandThreeOf timed
+unfolding BoardDemandThreeBefore BoardRunsAlike BeforeFollows DemandThreeOf timed
 board-demand-three-before buffer long b read calls =
     let library = board buffer in
     let known = accepted-read buffer b read in
@@ -212,4 +212,4 @@ board-demand-three-before buffer long b read calls =
     sym (steps-taken library b (library .stepping .fresh b) calls)
     ∙ ap steps (board-runs-alike buffer long b known (map stepCall calls))
     ∙ steps-taken timed b (timed .stepping .fresh b) calls in
-    subst (SafeRun (siteOf b)) (sym same) (demand-three-before b known calls)
+    subst (SafeRun (siteOf b)) (sym same) (before-follows timed-demand-three b known calls)

@@ -1,3 +1,4 @@
+pub mod KeptWritten
 pub mod TimedLaws
 pub mod TimedRoundTrips
 pub mod TimedWritten

@@ -1,2 +1,3 @@
 pub mod TimesLaws
+pub mod TimesRead
 pub mod Written

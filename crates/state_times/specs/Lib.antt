@@ -1,1 +1,2 @@
+pub mod TimeRows
 pub mod TimesLayout

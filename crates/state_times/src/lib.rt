@@ -1,6 +1,6 @@
 // Times as 148 bytes. The layout is in specs/TimesLayout.antt. Any bytes are times, so there is no test.
-mod phases;
-mod walks;
+pub mod phases;
+pub mod walks;
 
 ghost use Prim.Native.Nat.{_+_, _≤_};
 ghost use mathlib.Core.Path.{_≡_};
@@ -26,8 +26,8 @@ pub fn read(bytes: &[u8], at: usize) -> Times
 {
     Times {
         start: base_bytes::two_in(bytes, at + START),
-        phases: phases::read(bytes, at + PHASES, at + EARLIES),
-        walks: walks::read(bytes, at + WALKS),
+        phases: phases::read(bytes, at + PHASES, at + EARLIES, true, 7),
+        walks: walks::read(bytes, at + WALKS, 8),
     }
 }
 

@@ -1,19 +1,21 @@
 // The times of the seven phases: L, M, X, G, Y, R in 12 bytes each, and in another place the kind 7 times in 2 bytes each.
 ghost use Prim.Native.Nat.{_+_, _*_, _≤_};
+ghost use mathlib.Core.Bool.{true};
 ghost use mathlib.Core.List.{map};
 ghost use mathlib.Core.Path.{_≡_};
 ghost use lib.ListN.{length};
 ghost use lib.Seq.{sets};
-ghost use Rattle.laws.specs.Folds.{listOf};
-ghost use Rattle.laws.specs.Bytes.{twoAt};
+ghost use Rattle.laws.specs.Folds.{rowOf};
+ghost use Rattle.rules.specs.Site.{noPhaseTimes};
 ghost use Rattle.state_times.specs.TimesLayout.{phaseRows, phaseOf, phases as phasesForm, earlies};
+ghost use Rattle.state_times.specs.TimeRows.{earlyIn, phaseIn};
 use rules::site::PhaseTimes;
 
 const RECORD: usize = 12;
 
 const EARLY: usize = 2;
 
-fn read_one(bytes: &[u8], at: usize, early: u16) -> PhaseTimes
+pub fn read_one(bytes: &[u8], at: usize, early: u16) -> PhaseTimes
     requires { ⌜ at + phaseRows .form .width ≤ length (now bytes) ⌝ }
     ensures { λ r. ⌜ r ≡ phaseOf (phaseRows .form .read (now (bytes .entry)) at) early ⌝ }
 {
@@ -28,10 +30,20 @@ fn read_one(bytes: &[u8], at: usize, early: u16) -> PhaseTimes
     }
 }
 
-// The records are at one place, and the kind 7 times at another.
-pub fn read(bytes: &[u8], at: usize, early: usize) -> [PhaseTimes; 7]
-    requires { ⌜ (at + phasesForm .width ≤ length (now bytes)) × (early + earlies .width ≤ length (now bytes)) ⌝ }
-    ensures { λ r. ⌜ r ≡ listOf (λ p. phaseOf (phaseRows .form .read (now (bytes .entry)) (at + p * 12)) (twoAt (now (bytes .entry)) (early + p * 2))) 7 ⌝ }
+pub fn early_in(bytes: &[u8], early: usize, present: bool, p: usize) -> u16
+    requires { ⌜ (present ≡ true → early + p * 2 + 2 ≤ length (now bytes)) ⌝ }
+    ensures { λ r. ⌜ r ≡ earlyIn (now (bytes .entry)) early present p ⌝ }
+{
+    if present {
+        return base_bytes::two_in(bytes, early + p * EARLY);
+    }
+    0
+}
+
+// The times of the first phases, and zeros for the others. The records are at one place, and the kind 7 times, if there are some, at another.
+pub fn read(bytes: &[u8], at: usize, early: usize, present: bool, count: usize) -> [PhaseTimes; 7]
+    requires { ⌜ (count ≤ 7) × (at + count * 12 ≤ length (now bytes)) × (present ≡ true → early + count * 2 ≤ length (now bytes)) ⌝ }
+    ensures { λ r. ⌜ r ≡ rowOf (phaseIn (now (bytes .entry)) at early present) count 7 noPhaseTimes ⌝ }
 {
     let blank = PhaseTimes {
         late: 0,
@@ -44,12 +56,8 @@ pub fn read(bytes: &[u8], at: usize, early: usize) -> [PhaseTimes; 7]
     };
     let mut records = [blank; 7];
     let mut p: usize = 0;
-    while p < 7 {
-        records[p] = read_one(
-            bytes,
-            at + p * RECORD,
-            base_bytes::two_in(bytes, early + p * EARLY),
-        );
+    while p < count {
+        records[p] = read_one(bytes, at + p * RECORD, early_in(bytes, early, present, p));
         p += 1;
     }
     records

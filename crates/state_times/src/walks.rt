@@ -1,14 +1,17 @@
 // The times of the eight movements, 6 bytes each.
-ghost use Prim.Native.Nat.{_+_, _≤_};
+ghost use Prim.Native.Nat.{_+_, _*_, _≤_};
 ghost use mathlib.Core.Path.{_≡_};
 ghost use lib.ListN.{length};
 ghost use lib.Seq.{sets};
+ghost use Rattle.laws.specs.Folds.{rowOf};
+ghost use Rattle.rules.specs.Site.{noWalkTimes};
+ghost use Rattle.state_times.specs.TimeRows.{walkIn};
 ghost use Rattle.state_times.specs.TimesLayout.{walk, walks as walksForm};
 use rules::site::WalkTimes;
 
 const RECORD: usize = 6;
 
-fn read_one(bytes: &[u8], at: usize) -> WalkTimes
+pub fn read_one(bytes: &[u8], at: usize) -> WalkTimes
     requires { ⌜ at + walk .width ≤ length (now bytes) ⌝ }
     ensures { λ r. ⌜ r ≡ walk .read (now (bytes .entry)) at ⌝ }
 {
@@ -19,9 +22,10 @@ fn read_one(bytes: &[u8], at: usize) -> WalkTimes
     }
 }
 
-pub fn read(bytes: &[u8], at: usize) -> [WalkTimes; 8]
-    requires { ⌜ at + walksForm .width ≤ length (now bytes) ⌝ }
-    ensures { λ r. ⌜ r ≡ walksForm .read (now (bytes .entry)) at ⌝ }
+// The times of the first movements, and zeros for the others.
+pub fn read(bytes: &[u8], at: usize, count: usize) -> [WalkTimes; 8]
+    requires { ⌜ (count ≤ 8) × (at + count * 6 ≤ length (now bytes)) ⌝ }
+    ensures { λ r. ⌜ r ≡ rowOf (walkIn (now (bytes .entry)) at) count 8 noWalkTimes ⌝ }
 {
     let blank = WalkTimes {
         walk: 0,
@@ -30,7 +34,7 @@ pub fn read(bytes: &[u8], at: usize) -> [WalkTimes; 8]
     };
     let mut records = [blank; 8];
     let mut k: usize = 0;
-    while k < 8 {
+    while k < count {
         records[k] = read_one(bytes, at + k * RECORD);
         k += 1;
     }

@@ -70,7 +70,7 @@ same-record : {A : Type 0} (t : Bool) → _≡_ {A = List A} (if t then [] else 
 same-record true = refl
 same-record false = refl
 
-all-same : (f g : ℕ → Bool) (n : ℕ) → ((i : ℕ) → i < n → f i ≡ g i) → allOf f n ≡ allOf g n
+pub all-same : (f g : ℕ → Bool) (n : ℕ) → ((i : ℕ) → i < n → f i ≡ g i) → allOf f n ≡ allOf g n
 unfolding allOf
 all-same = fold-same allOf (λ f g. refl) (λ f g n front last. rw (front, last))
 

@@ -20,7 +20,7 @@ use rules::state::Waiting;
 
 // The settings of a phase that the site has, by their numbers in the table; `early` says if it has a section of kind 7. For a phase that it
 // does not have every setting is 0.
-fn phase_within(edition: Edition, has: bool, early: bool, times: PhaseTimes) -> bool
+pub fn phase_within(edition: Edition, has: bool, early: bool, times: PhaseTimes) -> bool
     ensures { λ r. ⌜ r ≡ phaseWithin (if has then limits edition else []) early times ⌝ }
 {
     if has {
@@ -57,7 +57,7 @@ fn phases_within(edition: Edition, count: u8, early: bool, times: [PhaseTimes; 7
 }
 
 // The same of a movement.
-fn walk_within(edition: Edition, has: bool, times: WalkTimes) -> bool
+pub fn walk_within(edition: Edition, has: bool, times: WalkTimes) -> bool
     ensures { λ r. ⌜ r ≡ walkWithin (if has then limits edition else []) times ⌝ }
 {
     if has {

@@ -1,11 +1,15 @@
--- `board_step::step` meets its contract: a refused personality, bytes that are no state, a refused step and a step.
+-- `board_step::step` meets its contract: a refused personality, bytes that are no state, a state in which no times wait, a refused step and a
+-- step.
 use mathlib.Core.Bool.{true}
 use mathlib.Core.Path.{_≡_, sym, _∙_}
+use native.Mathlib.Omega.{arith}
 use borrow.Author.Needs.{needs}
 use borrow.Author.Tests.{not-true, not-false}
 use Rattle.rules.specs.declared.answer.Verdict.the-variants.{Accepted}
+use Rattle.laws.specs.Bytes.{byteAt}
 use Rattle.rules.specs.Personality.{verdictOf}
 use Rattle.state_timed.specs.TimedLayout.{isTimed}
+use Rattle.state_timed.proofs.TimedLaws.{timed-known}
 use Rattle.board_answers.proofs.Answers.{refused-near}
 use Rattle.board_step.proofs.Steps.{refuses, no-state, answer-near, steps-on, stays}
 use Rattle.board_step.proofs.step.Statement.{statement}
@@ -62,7 +66,7 @@ returns-2 c =
     (sym (tested .is-timed .ensures) ∙ not-true (tested .is-timed .result) (c .before .if1 .taken))
     (c .refusal2 .ensures)
 
--- ── A state: the step, refused or not ──
+-- ── A state ──
 
 abbrev told : tie.Else1 → tie.After-enum-told
 told c = c .before .before .before
@@ -70,12 +74,36 @@ told c = c .before .before .before
 known : (c : tie.Else1) → isTimed (start (told c) .args .state .now) ≡ true
 known c = sym (c .before .is-timed .ensures) ∙ not-false (c .before .is-timed .result) (c .if1 .left)
 
+-- ── No times wait ──
+
+slice-read-if2 : tie.Need-slice-read-if2
+slice-read-if2 c = omega (arith, timed-known _ (known (c .before .before)) .size)
+
+step-requires : tie.Need-step-requires
+unfolding byteAt
+step-requires c κs =
+    let here = c .before .before in
+    let left = here .before .before .before in
+    let read = told left in
+    (accepted read, read .before .before .read-with-layout .ensures .1, known left, here .if2 .taken)
+
+same-length-2 : tie.Need-same-length-2
+same-length-2 c = search needs
+
+same-length-3 : tie.Need-same-length-3
+same-length-3 c = search needs
+
+returns-3 : tie.Need-returns-3
+returns-3 c = c .before .before .before .before .step .ensures
+
+-- ── Times wait: the step, refused or not ──
+
 timed-decoded-requires : tie.Need-timed-decoded-requires
-timed-decoded-requires c κs = known (c .before .before)
+timed-decoded-requires c κs = known (c .before .before .before .before)
 
 step-accepted-requires : tie.Need-step-accepted-requires
 step-accepted-requires c κs =
-    let read = told (c .before .before .before .before) in
+    let read = told (c .before .before .before .before .before .before) in
     (accepted read, read .before .before .read-with-layout .ensures .1)
 
 enum-known-outcome : tie.Need-enum-known-outcome
@@ -92,7 +120,7 @@ enum-known-outcome-2 c = search needs
 
 -- where the state's bytes are known, from the step on
 abbrev past : tie.After-step-accepted → tie.Else1
-past c = c .before .before .before .before .before
+past c = c .before .before .before .before .before .before .before
 
 refusal-requires-3 : tie.Need-refusal-requires-3
 refusal-requires-3 c κs =
@@ -102,14 +130,14 @@ refusal-requires-3 c κs =
     (called .step-accepted .ensures)
     (c .before .outcome2 .given .1)
 
-same-length-2 : tie.Need-same-length-2
-same-length-2 c = search needs
+same-length-4 : tie.Need-same-length-4
+same-length-4 c = search needs
 
-same-length-3 : tie.Need-same-length-3
-same-length-3 c = search needs
+same-length-5 : tie.Need-same-length-5
+same-length-5 c = search needs
 
-returns-3 : tie.Need-returns-3
-returns-3 c =
+returns-4 : tie.Need-returns-4
+returns-4 c =
     let moved = c .before .before .before .before .before .before in
     let called = moved .before .before .before .before in
     let a = start (told (past called)) .args in
@@ -120,14 +148,14 @@ returns-3 c =
     (c .before .before .before .timed-encode .ensures .1)
     (c .packed .ensures)
 
-same-length-4 : tie.Need-same-length-4
-same-length-4 c = search needs
+same-length-6 : tie.Need-same-length-6
+same-length-6 c = search needs
 
-same-length-5 : tie.Need-same-length-5
-same-length-5 c = search needs
+same-length-7 : tie.Need-same-length-7
+same-length-7 c = search needs
 
-returns-4 : tie.Need-returns-4
-returns-4 c =
+returns-5 : tie.Need-returns-5
+returns-5 c =
     let called = c .before .before .before .before .before .before in
     let a = start (told (past called)) .args in
     stays (a .personality .now) (a .state .now) (a .colours .now) (a .inputs) (c .refusal3 .result) (known (past called))
@@ -149,6 +177,11 @@ step-spec =
     refusal-requires-2
     same-length
     returns-2
+    slice-read-if2
+    step-requires
+    same-length-2
+    same-length-3
+    returns-3
     timed-decoded-requires
     step-accepted-requires
     enum-known-outcome
@@ -156,9 +189,9 @@ step-spec =
     packed-requires
     enum-known-outcome-2
     refusal-requires-3
-    same-length-2
-    same-length-3
-    returns-3
     same-length-4
     same-length-5
-    returns-4)
+    returns-4
+    same-length-6
+    same-length-7
+    returns-5)

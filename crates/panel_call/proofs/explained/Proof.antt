@@ -1,4 +1,5 @@
--- `panel_call::explained` meets its contract: each check that fails gives its refusal once those before it have passed; then the line is told or empty.
+-- `panel_call::explained` meets its contract: each check that fails gives its refusal once those before it have passed. Then the line is empty
+-- or says why.
 use borrow.Author.Needs.{needs}
 use borrow.Author.Tests.{not-true, not-false}
 use mathlib.Core.Bool.{true, false}
@@ -48,7 +49,10 @@ returns-2 c =
     stray-told _ (start .args .state) (start .args .inputs) (start .pre .0) (sited .site-under .ensures) (valid passed)
     (sym (c .before .stray-input .ensures) ∙ c .if2 .taken)
 
-wired : (c : tie.Else2) → strayInput (c .before .before .before .before .site-under .result) (entry (c .before .before .before .before) .args .inputs) ≡ false
+wired :
+    (c : tie.Else2) →
+    let sited = c .before .before .before .before in
+    strayInput (sited .site-under .result) (entry sited .args .inputs) ≡ false
 wired c = sym (c .before .stray-input .ensures) ∙ c .if2 .left
 
 is-running-requires : tie.Need-is-running-requires

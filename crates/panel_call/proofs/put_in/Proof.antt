@@ -1,6 +1,5 @@
 -- `panel_call::put_in` meets its contract: the buffer is too short for the line, or the line is put into it.
 use borrow.Author.Needs.{needs}
-use mathlib.Core.Path.{_≡_}
 use native.Mathlib.Omega.{arith}
 use Rattle.panel_call.proofs.Explanations.{too-short, has-room}
 use Rattle.panel_call.proofs.put_in.Statement.{statement}

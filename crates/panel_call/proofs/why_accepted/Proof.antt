@@ -29,13 +29,15 @@ returns : tie.Need-returns
 returns c =
     let found = c .before .before .before in
     let a = entry found .args in
-    refused-write (a .personality .now) (a .state) (a .inputs) (a .line .now) (said (a .personality .now) (a .state) (a .inputs) (c .before .found .given .1) (found .explained .ensures))
+    refused-write (a .personality .now) (a .state) (a .inputs) (a .line .now)
+    (said (a .personality .now) (a .state) (a .inputs) (c .before .found .given .1) (found .explained .ensures))
 
 returns-2 : tie.Need-returns-2
 returns-2 c =
     let found = c .before .before in
     let a = entry found .args in
-    silent-write (a .personality .now) (a .state) (a .inputs) (a .line .now) (said (a .personality .now) (a .state) (a .inputs) (c .enum-told .given .1) (found .explained .ensures))
+    silent-write (a .personality .now) (a .state) (a .inputs) (a .line .now)
+    (said (a .personality .now) (a .state) (a .inputs) (c .enum-told .given .1) (found .explained .ensures))
 
 same-length : tie.Need-same-length
 same-length c = search needs
@@ -46,7 +48,9 @@ returns-3 c =
     let read = put .before .before .before in
     let found = read .before .before in
     let a = entry found .args in
-    holds-write (a .personality .now) (a .state) (a .inputs) _ (a .line .now) (said (a .personality .now) (a .state) (a .inputs) (read .found2 .given .1) (found .explained .ensures)) (put .put-in .ensures)
+    holds-write (a .personality .now) (a .state) (a .inputs) _ (a .line .now)
+    (said (a .personality .now) (a .state) (a .inputs) (read .found2 .given .1) (found .explained .ensures))
+    (put .put-in .ensures)
 
 pub why-accepted-spec : {M : Type 1} → statement M
 why-accepted-spec =

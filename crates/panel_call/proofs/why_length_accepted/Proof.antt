@@ -31,7 +31,8 @@ returns : tie.Need-returns
 returns c =
     let found = c .before .before .before in
     let a = entry found .args in
-    refused-length (a .personality .now) (a .state) (a .inputs) (said (a .personality .now) (a .state) (a .inputs) (c .before .found .given .1) (found .explained .ensures))
+    refused-length (a .personality .now) (a .state) (a .inputs)
+    (said (a .personality .now) (a .state) (a .inputs) (c .before .found .given .1) (found .explained .ensures))
 
 returns-2 : tie.Need-returns-2
 returns-2 c =

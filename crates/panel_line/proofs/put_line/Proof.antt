@@ -1,7 +1,6 @@
 -- `panel_line::put_line` meets its contract: each part of the line is put behind those before it, and the whole line has room for each.
 use borrow.Author.Needs.{needs}
-use Prim.Native.Nat.{ℕ, _+_, _≤_}
-use mathlib.Core.Bool.{Bool}
+use Prim.Native.Nat.{_+_}
 use mathlib.Core.List.{List, [], _++_}
 use mathlib.Core.Path.{_≡_}
 use native.Mathlib.Omega.{arith}
@@ -10,8 +9,7 @@ use lib.ListN.{length}
 use Rattle.laws.specs.Bytes.{bit}
 use Rattle.panel_text.specs.declared.Reason.{Reason}
 use Rattle.panel_text.specs.declared.Reason.the-variants.{NoOtherDemand, Gap, Max}
-use Rattle.panel_text.specs.Text.{reasonsText, line}
-use Rattle.panel_text.specs.Put.{Put}
+use Rattle.panel_text.specs.Text.{reasonsText}
 use Rattle.panel_text.proofs.Puts.{put-front}
 use Rattle.panel_line.specs.declared.Why.{Why}
 use Rattle.panel_line.specs.Reasons.{told, walks, reasonsBy, lineOf}

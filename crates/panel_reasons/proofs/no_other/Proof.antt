@@ -1,6 +1,6 @@
 -- `panel_reasons::no_other` meets its contract: the search goes by the kept set and the calls of the rules.
 use borrow.Author.Needs.{needs}
-use mathlib.Core.Bool.{Bool, not}
+use mathlib.Core.Bool.{not}
 use mathlib.Core.Path.{ap, _∙_}
 use Prim.Native.Nat.{_<_}
 use native.Mathlib.Omega.{arith}

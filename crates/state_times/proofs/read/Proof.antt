@@ -1,6 +1,7 @@
 -- `state_times::read` meets its contract: start red, the phases from their two lists, and the movements.
 use Prim.Native.Nat.{_+_}
 use mathlib.Core.Path.{_∙_}
+use Rattle.laws.specs.Folds.{listOf, rowOf}
 use Rattle.state_times.proofs.TimesLaws.{joined-read}
 use borrow.Author.Needs.{needs}
 use Rattle.state_times.proofs.read.Statement.{statement}
@@ -28,6 +29,7 @@ read-requires-2 : tie.Need-read-requires-2
 read-requires-2 c κs = search needs
 
 returns : tie.Need-returns
+unfolding listOf rowOf
 returns c =
     let phases = c .before in
     let start = phases .before in

@@ -1,26 +1,21 @@
--- `state_times::walks::read` meets its contract. The invariant: the records passed are stored from the front. The measure is the number left.
-use Prim.Native.Nat.{_+_, _*_, _-_}
-use mathlib.Core.Path.{refl, _∙_}
-use lib.ListN.{replicate}
-use Rattle.laws.specs.Folds.{listOf}
+-- `state_times::walks::read` meets its contract: before movement k the records of the movements below k are in place, the rest is blank.
+use Prim.Native.Nat.{_-_}
 use Rattle.rules.specs.Site.{noWalkTimes}
-use Rattle.laws.proofs.Lists.{list-length}
-use Rattle.laws.proofs.Arrays.{Stored, stored-none, stored-one, stored-all, sets-whole}
-use Rattle.state_times.specs.TimesLayout.{walk}
+use Rattle.laws.proofs.Rows.{Filled, filled-none, filled-more, filled-whole}
+use Rattle.state_times.specs.TimeRows.{walkIn}
 use borrow.Author.Needs.{needs}
 use native.Mathlib.Omega.{arith}
 use Rattle.state_times.proofs.walks.read.Statement.{statement}
 use Rattle.state_times.proofs.walks.read.Tie as tie
 
 abbrev Inv-loop : tie.InvT-loop
-Inv-loop bytes at records₀ k₀ records k = Stored (listOf (λ k. walk .read bytes (at + k * 6))) (replicate 8 noWalkTimes) 0 8 records k
+Inv-loop bytes at count records₀ k₀ records k = Filled (walkIn bytes at) count 8 noWalkTimes k records
 
 abbrev μ-loop : tie.MeasureT-loop
-μ-loop bytes at records₀ k₀ records k = 8 - k
+μ-loop bytes at count records₀ k₀ records k = count - k
 
 loop-holds : tie.Need-loop-holds Inv-loop μ-loop
-unfolding listOf
-loop-holds c = stored-none refl
+loop-holds c = filled-none
 
 mul-read-one : tie.Need-mul-read-one Inv-loop μ-loop
 mul-read-one c = search needs
@@ -44,16 +39,10 @@ loop-less : tie.Need-loop-less Inv-loop μ-loop
 loop-less c = search needs
 
 loop-again : tie.Need-loop-again Inv-loop μ-loop
-loop-again c =
-    let turn = c .before .before in
-    let args = turn .before .before .args in
-    stored-one (λ k. walk .read (args .bytes .now) (args .at + k * 6)) (turn .loop .inv) (omega arith) (omega arith) (c .read-one .ensures)
+loop-again c = filled-more (c .before .before .loop .inv) (c .read-one .ensures) (omega arith) (omega arith)
 
 returns : tie.Need-returns Inv-loop μ-loop
-returns c =
-    let args = c .before .before .before .args in
-    stored-all (c .before .loop .inv) (c .loop-test .left)
-    ∙ sets-whole (replicate 8 noWalkTimes) _ (list-length (λ k. walk .read (args .bytes .now) (args .at + k * 6)) 8)
+returns c = filled-whole (c .before .loop .inv) (omega arith)
 
 pub read-spec : {M : Type 1} → statement M
 read-spec =

@@ -1,0 +1,4 @@
+pub mod AdmittedBytes
+pub mod BlankTimes
+pub mod OwnTimes
+pub mod Words

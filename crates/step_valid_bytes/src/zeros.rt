@@ -1,0 +1,44 @@
+// Whether times are 0: the settings of a record that a site does not have, and a run of bytes.
+ghost use Prim.Native.Nat.{_+_, _≤_};
+ghost use mathlib.Core.Bool.{Bool};
+ghost use mathlib.Core.List.{[]};
+ghost use mathlib.Core.Path.{_≡_};
+ghost use lib.Dec.{eqb};
+ghost use lib.ListN.{length};
+ghost use Rattle.laws.specs.Bytes.{byteAt};
+ghost use Rattle.laws.specs.Folds.{allOf};
+ghost use Rattle.rules.specs.SiteTimes.{phaseWithin, walkWithin};
+ghost use Rattle.state_times.specs.TimesLayout.{phaseRows, phaseOf, walk as walkForm};
+use base_bytes::eight_in;
+use base_bytes::four_in;
+use base_bytes::two_in;
+
+// The settings of a phase: its 12 bytes, and its kind 7 time.
+pub fn phase(bytes: &[u8], at: usize, early: u16) -> bool
+    requires { ⌜ at + phaseRows .form .width ≤ length (now bytes) ⌝ }
+    ensures { λ r. ⌜ ((has : Bool) → r ≡ phaseWithin [] has (phaseOf (phaseRows .form .read (now (bytes .entry)) at) early)) ⌝ }
+{
+    (eight_in(bytes, at) == 0) & (four_in(bytes, at + 8) == 0) & (early == 0)
+}
+
+// The settings of a movement.
+pub fn walk(bytes: &[u8], at: usize) -> bool
+    requires { ⌜ at + walkForm .width ≤ length (now bytes) ⌝ }
+    ensures { λ r. ⌜ r ≡ walkWithin [] (walkForm .read (now (bytes .entry)) at) ⌝ }
+{
+    (four_in(bytes, at) == 0) & (two_in(bytes, at + 4) == 0)
+}
+
+// All of so many bytes. The loop tests them all, so that the compiler tests many at once.
+pub fn all(bytes: &[u8], at: usize, count: usize) -> bool
+    requires { ⌜ at + count ≤ length (now bytes) ⌝ }
+    ensures { λ r. ⌜ r ≡ allOf (λ i. eqb (byteAt (now (bytes .entry)) (at + i)) 0) count ⌝ }
+{
+    let mut zero = true;
+    let mut i: usize = 0;
+    while i < count {
+        zero = zero & (bytes[at + i] == 0);
+        i += 1;
+    }
+    zero
+}
