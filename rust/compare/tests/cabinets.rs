@@ -5,6 +5,7 @@ use compare::{run_cases, Difference, Kind};
 use model::packed::{number, Board, Model};
 use model::{layout, Site, TimedState, Times, PLAIN_LEN, STATE_LEN};
 use std::ops::Range;
+use variant::{AsBoard, Variant};
 
 /// The points in which a plain cabinet may go wrong.
 #[derive(Clone, Copy, Debug, PartialEq, Eq)]
@@ -348,23 +349,7 @@ fn outputs_from(outputs: &mut [u8], first: usize, groups: usize) -> &mut [u8] {
     &mut outputs[first.min(end)..end]
 }
 
-impl Board for PlainCabinet {
-    fn read(&self, personality: &[u8]) -> u64 {
-        Model.read(personality)
-    }
-
-    fn wait_bound(&self, personality: &[u8]) -> u64 {
-        Model.wait_bound(personality)
-    }
-
-    fn fresh(&self, personality: &[u8], state: &mut [u8]) -> u64 {
-        Model.fresh(personality, state)
-    }
-
-    fn step(&self, personality: &[u8], state: &mut [u8], inputs: u64, colours: &mut [u8]) -> u64 {
-        Model.step(personality, state, inputs, colours)
-    }
-
+impl Variant for PlainCabinet {
     fn retime(&self, personality: &[u8], state: &mut [u8], new_personality: &[u8]) -> u64 {
         match self.0 {
             Fault::RetimingRefused => 24,
@@ -378,29 +363,6 @@ impl Board for PlainCabinet {
             }
             _ => Model.retime(personality, state, new_personality),
         }
-    }
-
-    fn section(&self, personality: &[u8], kind: u16) -> u64 {
-        Model.section(personality, kind)
-    }
-
-    fn why_length(&self, personality: &[u8], state: &[u8], inputs: u64) -> u64 {
-        Model.why_length(personality, state, inputs)
-    }
-
-    fn why(&self, personality: &[u8], state: &[u8], inputs: u64, line: &mut [u8]) -> u64 {
-        Model.why(personality, state, inputs, line)
-    }
-
-    fn road(
-        &self,
-        personality: &[u8],
-        streams: &[u8],
-        steps: u32,
-        state: &mut [u8],
-        results: &mut [u8],
-    ) -> u64 {
-        Model.road(personality, streams, steps, state, results)
     }
 
     fn cabinet_place(
@@ -569,7 +531,7 @@ fn cases() -> impl Iterator<Item = u64> {
 
 #[test]
 fn a_plain_cabinet_agrees() {
-    if let Err(failure) = run_cases(&PlainCabinet(Fault::None), SEED, cases()) {
+    if let Err(failure) = run_cases(&AsBoard(PlainCabinet(Fault::None)), SEED, cases()) {
         panic!("{failure}");
     }
 }
@@ -577,7 +539,7 @@ fn a_plain_cabinet_agrees() {
 #[test]
 fn wrong_cabinets_are_noticed() {
     for fault in FAULTS {
-        match run_cases(&PlainCabinet(fault), SEED, cases()) {
+        match run_cases(&AsBoard(PlainCabinet(fault)), SEED, cases()) {
             Ok(_) => panic!("{fault:?} is not noticed"),
             Err(failure) => match failure.difference {
                 Difference::Call { what, .. } => {

@@ -3,6 +3,7 @@
 use compare::{run_case, run_cases, Difference, Failure, Kind};
 use model::packed::{number, Board, Model};
 use model::{layout, scan, section, MovementState, Site, Stage, TimedState, STATE_LEN};
+use variant::{AsBoard, Variant};
 
 /// Spoils an answer, and the state and colours that go with it.
 type SpoilStep = fn(u64, &mut [u8], &mut [u8]) -> u64;
@@ -17,7 +18,7 @@ struct Wrong {
     section: Option<fn(u64, u16) -> u64>,
 }
 
-impl Board for Wrong {
+impl Variant for Wrong {
     fn read(&self, personality: &[u8]) -> u64 {
         let answer = Model.read(personality);
         self.read.map_or(answer, |spoil| spoil(answer))
@@ -39,51 +40,9 @@ impl Board for Wrong {
             .map_or(answer, |spoil| spoil(answer, state, colours))
     }
 
-    fn retime(&self, personality: &[u8], state: &mut [u8], new_personality: &[u8]) -> u64 {
-        Model.retime(personality, state, new_personality)
-    }
-
     fn section(&self, personality: &[u8], kind: u16) -> u64 {
         let answer = Model.section(personality, kind);
         self.section.map_or(answer, |spoil| spoil(answer, kind))
-    }
-
-    fn why_length(&self, personality: &[u8], state: &[u8], inputs: u64) -> u64 {
-        Model.why_length(personality, state, inputs)
-    }
-
-    fn why(&self, personality: &[u8], state: &[u8], inputs: u64, line: &mut [u8]) -> u64 {
-        Model.why(personality, state, inputs, line)
-    }
-
-    fn road(
-        &self,
-        personality: &[u8],
-        streams: &[u8],
-        steps: u32,
-        state: &mut [u8],
-        results: &mut [u8],
-    ) -> u64 {
-        Model.road(personality, streams, steps, state, results)
-    }
-
-    fn cabinet_place(
-        &self,
-        row: &mut [u8],
-        record: usize,
-        personality: &[u8],
-        first: usize,
-        outputs: &mut [u8],
-    ) -> u64 {
-        Model.cabinet_place(row, record, personality, first, outputs)
-    }
-
-    fn cabinet_step(&self, row: &mut [u8], record: usize, inputs: u64, outputs: &mut [u8]) -> u64 {
-        Model.cabinet_step(row, record, inputs, outputs)
-    }
-
-    fn cabinet_take_out(&self, row: &mut [u8], record: usize, outputs: &mut [u8]) -> u64 {
-        Model.cabinet_take_out(row, record, outputs)
     }
 }
 
@@ -92,9 +51,9 @@ fn failure(board: &dyn Board) -> Failure {
     *run_cases(board, 5, 0..600).expect_err("the comparison notices nothing")
 }
 
-/// What differs.
-fn what(board: &dyn Board) -> String {
-    match failure(board).difference {
+/// What differs in a variant of the model.
+fn what(variant: impl Variant) -> String {
+    match failure(&AsBoard(variant)).difference {
         Difference::Call { what, .. } => what.to_string(),
         Difference::Breach { breach, .. } => breach.to_string(),
     }
@@ -102,7 +61,17 @@ fn what(board: &dyn Board) -> String {
 
 #[test]
 fn a_right_board_differs_nowhere() {
-    assert!(run_cases(&Wrong::default(), 5, 0..600).is_ok());
+    assert!(run_cases(&AsBoard(Wrong::default()), 5, 0..600).is_ok());
+}
+
+/// The model with no call replaced.
+struct Unchanged;
+
+impl Variant for Unchanged {}
+
+#[test]
+fn calls_that_are_not_replaced_are_the_models() {
+    assert!(run_cases(&AsBoard(Unchanged), 5, 0..600).is_ok());
 }
 
 #[test]
@@ -117,7 +86,7 @@ fn a_wrong_place() {
         }),
         ..Wrong::default()
     };
-    assert_eq!(what(&board), "read: the answer");
+    assert_eq!(what(board), "read: the answer");
 }
 
 #[test]
@@ -126,7 +95,7 @@ fn a_personality_accepted_too_many() {
         read: Some(|answer| if number(answer) == 7 { 0 } else { answer }),
         ..Wrong::default()
     };
-    assert_eq!(what(&board), "read: the answer");
+    assert_eq!(what(board), "read: the answer");
 }
 
 #[test]
@@ -141,7 +110,7 @@ fn a_wait_bound_one_too_long() {
         }),
         ..Wrong::default()
     };
-    assert_eq!(what(&board), "wait bound: the answer");
+    assert_eq!(what(board), "wait bound: the answer");
 }
 
 #[test]
@@ -150,7 +119,7 @@ fn a_section_for_a_kind_not_held() {
         section: Some(|answer, kind| if kind == 257 { 0 } else { answer }),
         ..Wrong::default()
     };
-    assert_eq!(what(&board), "section: the answer");
+    assert_eq!(what(board), "section: the answer");
 }
 
 #[test]
@@ -165,7 +134,7 @@ fn a_section_of_early_cut_off_times_not_found() {
         }),
         ..Wrong::default()
     };
-    assert_eq!(what(&board), "section: the answer");
+    assert_eq!(what(board), "section: the answer");
 }
 
 #[test]
@@ -180,7 +149,7 @@ fn a_section_with_the_order_not_found() {
         }),
         ..Wrong::default()
     };
-    assert_eq!(what(&board), "section: the answer");
+    assert_eq!(what(board), "section: the answer");
 }
 
 #[test]
@@ -189,7 +158,7 @@ fn a_phase_nobody_can_call() {
         read: Some(|answer| if number(answer) == 21 { 0 } else { answer }),
         ..Wrong::default()
     };
-    assert_eq!(what(&board), "read: the answer");
+    assert_eq!(what(board), "read: the answer");
 }
 
 #[test]
@@ -198,7 +167,7 @@ fn any_order_accepted() {
         read: Some(|answer| if number(answer) == 18 { 0 } else { answer }),
         ..Wrong::default()
     };
-    assert_eq!(what(&board), "read: the answer");
+    assert_eq!(what(board), "read: the answer");
 }
 
 #[test]
@@ -207,7 +176,7 @@ fn bytes_left_over_before_early_cut_off_times_not_there() {
         read: Some(|answer| if number(answer) == 17 { 12 } else { answer }),
         ..Wrong::default()
     };
-    assert_eq!(what(&board), "read: the answer");
+    assert_eq!(what(board), "read: the answer");
 }
 
 #[test]
@@ -223,7 +192,7 @@ fn an_arrow_that_stays_green_in_early_cut_off() {
         }),
         ..Wrong::default()
     };
-    assert_eq!(what(&board), "step: the colours");
+    assert_eq!(what(board), "step: the colours");
 }
 
 #[test]
@@ -237,25 +206,13 @@ fn a_phase_kept_that_is_not_demanded() {
         }),
         ..Wrong::default()
     };
-    assert_eq!(what(&board), "step: the state");
+    assert_eq!(what(board), "step: the state");
 }
 
 /// The model, but the demanded phases handed in are not looked at.
 struct ScansAnew;
 
-impl Board for ScansAnew {
-    fn read(&self, personality: &[u8]) -> u64 {
-        Model.read(personality)
-    }
-
-    fn wait_bound(&self, personality: &[u8]) -> u64 {
-        Model.wait_bound(personality)
-    }
-
-    fn fresh(&self, personality: &[u8], state: &mut [u8]) -> u64 {
-        Model.fresh(personality, state)
-    }
-
+impl Variant for ScansAnew {
     fn step(&self, personality: &[u8], state: &mut [u8], inputs: u64, colours: &mut [u8]) -> u64 {
         let site = Site::read(personality);
         if let (Ok(site), Some(mut handed)) = (site, TimedState::from_bytes(state)) {
@@ -269,75 +226,17 @@ impl Board for ScansAnew {
         }
         Model.step(personality, state, inputs, colours)
     }
-
-    fn retime(&self, personality: &[u8], state: &mut [u8], new_personality: &[u8]) -> u64 {
-        Model.retime(personality, state, new_personality)
-    }
-
-    fn section(&self, personality: &[u8], kind: u16) -> u64 {
-        Model.section(personality, kind)
-    }
-
-    fn why_length(&self, personality: &[u8], state: &[u8], inputs: u64) -> u64 {
-        Model.why_length(personality, state, inputs)
-    }
-
-    fn why(&self, personality: &[u8], state: &[u8], inputs: u64, line: &mut [u8]) -> u64 {
-        Model.why(personality, state, inputs, line)
-    }
-
-    fn road(
-        &self,
-        personality: &[u8],
-        streams: &[u8],
-        steps: u32,
-        state: &mut [u8],
-        results: &mut [u8],
-    ) -> u64 {
-        Model.road(personality, streams, steps, state, results)
-    }
-
-    fn cabinet_place(
-        &self,
-        row: &mut [u8],
-        record: usize,
-        personality: &[u8],
-        first: usize,
-        outputs: &mut [u8],
-    ) -> u64 {
-        Model.cabinet_place(row, record, personality, first, outputs)
-    }
-
-    fn cabinet_step(&self, row: &mut [u8], record: usize, inputs: u64, outputs: &mut [u8]) -> u64 {
-        Model.cabinet_step(row, record, inputs, outputs)
-    }
-
-    fn cabinet_take_out(&self, row: &mut [u8], record: usize, outputs: &mut [u8]) -> u64 {
-        Model.cabinet_take_out(row, record, outputs)
-    }
 }
 
 #[test]
 fn kept_phases_that_are_not_looked_at() {
-    assert_eq!(what(&ScansAnew), "step: the answer");
+    assert_eq!(what(ScansAnew), "step: the answer");
 }
 
 /// The model, but it steps by letters whatever the order.
 struct GoesByLetters;
 
-impl Board for GoesByLetters {
-    fn read(&self, personality: &[u8]) -> u64 {
-        Model.read(personality)
-    }
-
-    fn wait_bound(&self, personality: &[u8]) -> u64 {
-        Model.wait_bound(personality)
-    }
-
-    fn fresh(&self, personality: &[u8], state: &mut [u8]) -> u64 {
-        Model.fresh(personality, state)
-    }
-
+impl Variant for GoesByLetters {
     fn step(&self, personality: &[u8], state: &mut [u8], inputs: u64, colours: &mut [u8]) -> u64 {
         // The order, a head of four bytes and its body, is the last section.
         let unordered = match section(personality, 9) {
@@ -346,127 +245,11 @@ impl Board for GoesByLetters {
         };
         Model.step(unordered, state, inputs, colours)
     }
-
-    fn retime(&self, personality: &[u8], state: &mut [u8], new_personality: &[u8]) -> u64 {
-        Model.retime(personality, state, new_personality)
-    }
-
-    fn section(&self, personality: &[u8], kind: u16) -> u64 {
-        Model.section(personality, kind)
-    }
-
-    fn why_length(&self, personality: &[u8], state: &[u8], inputs: u64) -> u64 {
-        Model.why_length(personality, state, inputs)
-    }
-
-    fn why(&self, personality: &[u8], state: &[u8], inputs: u64, line: &mut [u8]) -> u64 {
-        Model.why(personality, state, inputs, line)
-    }
-
-    fn road(
-        &self,
-        personality: &[u8],
-        streams: &[u8],
-        steps: u32,
-        state: &mut [u8],
-        results: &mut [u8],
-    ) -> u64 {
-        Model.road(personality, streams, steps, state, results)
-    }
-
-    fn cabinet_place(
-        &self,
-        row: &mut [u8],
-        record: usize,
-        personality: &[u8],
-        first: usize,
-        outputs: &mut [u8],
-    ) -> u64 {
-        Model.cabinet_place(row, record, personality, first, outputs)
-    }
-
-    fn cabinet_step(&self, row: &mut [u8], record: usize, inputs: u64, outputs: &mut [u8]) -> u64 {
-        Model.cabinet_step(row, record, inputs, outputs)
-    }
-
-    fn cabinet_take_out(&self, row: &mut [u8], record: usize, outputs: &mut [u8]) -> u64 {
-        Model.cabinet_take_out(row, record, outputs)
-    }
 }
 
 #[test]
 fn phases_in_letter_order_where_there_is_another() {
-    assert_eq!(what(&GoesByLetters), "step: the state");
-}
-
-/// The model, but reading and lookups take an edition in another way.
-struct OtherEditions {
-    read: fn(&[u8]) -> u64,
-    section: fn(&[u8], u16) -> u64,
-}
-
-impl Board for OtherEditions {
-    fn read(&self, personality: &[u8]) -> u64 {
-        (self.read)(personality)
-    }
-
-    fn wait_bound(&self, personality: &[u8]) -> u64 {
-        Model.wait_bound(personality)
-    }
-
-    fn fresh(&self, personality: &[u8], state: &mut [u8]) -> u64 {
-        Model.fresh(personality, state)
-    }
-
-    fn step(&self, personality: &[u8], state: &mut [u8], inputs: u64, colours: &mut [u8]) -> u64 {
-        Model.step(personality, state, inputs, colours)
-    }
-
-    fn retime(&self, personality: &[u8], state: &mut [u8], new_personality: &[u8]) -> u64 {
-        Model.retime(personality, state, new_personality)
-    }
-
-    fn section(&self, personality: &[u8], kind: u16) -> u64 {
-        (self.section)(personality, kind)
-    }
-
-    fn why_length(&self, personality: &[u8], state: &[u8], inputs: u64) -> u64 {
-        Model.why_length(personality, state, inputs)
-    }
-
-    fn why(&self, personality: &[u8], state: &[u8], inputs: u64, line: &mut [u8]) -> u64 {
-        Model.why(personality, state, inputs, line)
-    }
-
-    fn road(
-        &self,
-        personality: &[u8],
-        streams: &[u8],
-        steps: u32,
-        state: &mut [u8],
-        results: &mut [u8],
-    ) -> u64 {
-        Model.road(personality, streams, steps, state, results)
-    }
-
-    fn cabinet_place(
-        &self,
-        row: &mut [u8],
-        record: usize,
-        personality: &[u8],
-        first: usize,
-        outputs: &mut [u8],
-    ) -> u64 {
-        Model.cabinet_place(row, record, personality, first, outputs)
-    }
-
-    fn cabinet_step(&self, row: &mut [u8], record: usize, inputs: u64, outputs: &mut [u8]) -> u64 {
-        Model.cabinet_step(row, record, inputs, outputs)
-    }
-
-    fn cabinet_take_out(&self, row: &mut [u8], record: usize, outputs: &mut [u8]) -> u64 {
-        Model.cabinet_take_out(row, record, outputs)
-    }
+    assert_eq!(what(GoesByLetters), "step: the state");
 }
 
 /// Whether the first head has a kind below 256.
@@ -474,94 +257,81 @@ fn first_kind(personality: &[u8], kind: u8) -> bool {
     personality.get(2..4) == Some(&[kind, 0])
 }
 
-/// Reads the bytes with another first kind where they have this one.
-fn read_as(personality: &[u8], kind: u8, other: u8) -> u64 {
-    let mut bytes = personality.to_vec();
-    if first_kind(personality, kind) {
-        bytes[2] = other;
+/// The model, but it reads bytes with one first kind as if they had another.
+struct Reads {
+    kind: u8,
+    other: u8,
+}
+
+impl Variant for Reads {
+    fn read(&self, personality: &[u8]) -> u64 {
+        let mut bytes = personality.to_vec();
+        if first_kind(personality, self.kind) {
+            bytes[2] = self.other;
+        }
+        Model.read(&bytes)
     }
-    Model.read(&bytes)
 }
 
 #[test]
 fn edition_two_held_to_the_limits_of_edition_one() {
-    let board = OtherEditions {
-        read: |personality| read_as(personality, 8, 1),
-        section: |personality, kind| Model.section(personality, kind),
-    };
-    assert_eq!(what(&board), "read: the answer");
+    assert_eq!(what(Reads { kind: 8, other: 1 }), "read: the answer");
 }
 
 #[test]
 fn edition_one_held_to_the_limits_of_edition_two() {
-    let board = OtherEditions {
-        read: |personality| read_as(personality, 1, 8),
-        section: |personality, kind| Model.section(personality, kind),
-    };
-    assert_eq!(what(&board), "read: the answer");
+    assert_eq!(what(Reads { kind: 1, other: 8 }), "read: the answer");
 }
 
 #[test]
 fn edition_two_refused() {
-    let board = OtherEditions {
-        read: |personality| read_as(personality, 8, 0),
-        section: |personality, kind| Model.section(personality, kind),
-    };
-    assert_eq!(what(&board), "read: the answer");
+    assert_eq!(what(Reads { kind: 8, other: 0 }), "read: the answer");
 }
 
 #[test]
 fn another_first_kind_taken_for_edition_two() {
-    let reads: [fn(&[u8]) -> u64; 3] = [
-        |personality| read_as(personality, 0, 8),
-        |personality| read_as(personality, 2, 8),
-        |personality| read_as(personality, 9, 8),
-    ];
-    for read in reads {
-        let board = OtherEditions {
-            read,
-            section: |personality, kind| Model.section(personality, kind),
-        };
+    for kind in [0, 2, 9] {
+        let board = AsBoard(Reads { kind, other: 8 });
         let cases = (0..20_000).filter(|&index| Kind::of(index) == Kind::Damaged(2));
         let found = run_cases(&board, 5, cases);
         assert!(found.is_err(), "nothing is noticed");
     }
 }
 
+/// The model, but it looks sections up in another way.
+struct LooksUp(fn(&[u8], u16) -> u64);
+
+impl Variant for LooksUp {
+    fn section(&self, personality: &[u8], kind: u16) -> u64 {
+        (self.0)(personality, kind)
+    }
+}
+
 #[test]
 fn kind_1_found_in_edition_two() {
-    let board = OtherEditions {
-        read: |personality| Model.read(personality),
-        section: |personality, kind| match kind {
-            1 if first_kind(personality, 8) => Model.section(personality, 8),
-            _ => Model.section(personality, kind),
-        },
-    };
-    assert_eq!(what(&board), "section: the answer");
+    let board = LooksUp(|personality, kind| match kind {
+        1 if first_kind(personality, 8) => Model.section(personality, 8),
+        _ => Model.section(personality, kind),
+    });
+    assert_eq!(what(board), "section: the answer");
 }
 
 #[test]
 fn kind_8_found_in_edition_one() {
-    let board = OtherEditions {
-        read: |personality| Model.read(personality),
-        section: |personality, kind| match kind {
-            8 if first_kind(personality, 1) => Model.section(personality, 1),
-            _ => Model.section(personality, kind),
-        },
-    };
-    assert_eq!(what(&board), "section: the answer");
+    let board = LooksUp(|personality, kind| match kind {
+        8 if first_kind(personality, 1) => Model.section(personality, 1),
+        _ => Model.section(personality, kind),
+    });
+    assert_eq!(what(board), "section: the answer");
 }
 
 #[test]
 fn kind_8_not_found() {
-    let board = OtherEditions {
-        read: |personality| Model.read(personality),
-        section: |personality, kind| match Model.section(personality, kind) {
-            answer if kind == 8 && number(answer) == 0 => 2,
-            answer => answer,
-        },
-    };
-    assert_eq!(what(&board), "section: the answer");
+    let board = LooksUp(|personality, kind| match Model.section(personality, kind) {
+        answer if kind == 8 && number(answer) == 0 => 2,
+        answer => answer,
+    });
+    assert_eq!(what(board), "section: the answer");
 }
 
 #[test]
@@ -580,7 +350,7 @@ fn a_walk_that_does_not_rest() {
         }),
         ..Wrong::default()
     };
-    assert_eq!(what(&board), "step: the state");
+    assert_eq!(what(board), "step: the state");
 }
 
 #[test]
@@ -594,7 +364,7 @@ fn a_fresh_state_in_a_longer_buffer() {
         }),
         ..Wrong::default()
     };
-    assert_eq!(what(&board), "fresh: the state");
+    assert_eq!(what(board), "fresh: the state");
 }
 
 #[test]
@@ -608,7 +378,7 @@ fn a_state_changed_by_a_refusal() {
         }),
         ..Wrong::default()
     };
-    assert_eq!(what(&board), "step: the state");
+    assert_eq!(what(board), "step: the state");
 }
 
 #[test]
@@ -622,7 +392,7 @@ fn colours_past_the_groups() {
         }),
         ..Wrong::default()
     };
-    assert_eq!(what(&board), "step: the colours");
+    assert_eq!(what(board), "step: the colours");
 }
 
 #[test]
@@ -631,15 +401,15 @@ fn unknown_inputs_before_an_invalid_state() {
         step: Some(|answer, _, _| if number(answer) == 13 { 15 } else { answer }),
         ..Wrong::default()
     };
-    assert_eq!(what(&board), "step: the answer");
+    assert_eq!(what(board), "step: the answer");
 }
 
 #[test]
 fn a_failing_case_fails_again_alone_and_says_how() {
-    let board = Wrong {
+    let board = AsBoard(Wrong {
         read: Some(|answer| if number(answer) == 9 { 0 } else { answer }),
         ..Wrong::default()
-    };
+    });
     let first = failure(&board);
     let again = run_case(&board, first.seed, first.index, &mut Default::default());
     assert_eq!(*again.unwrap_err(), first);

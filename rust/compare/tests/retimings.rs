@@ -6,6 +6,7 @@ use compare::{run_cases, Difference, Kind};
 use generate::time_fields;
 use model::packed::{number, Board, Model};
 use model::{fresh, layout, read, step, valid, Interval, Site, State, STATE_LEN};
+use variant::{AsBoard, Variant};
 
 /// The points in which it may go wrong.
 #[derive(Clone, Copy, Debug, PartialEq, Eq)]
@@ -414,15 +415,7 @@ fn started(before: &State, after: &State) -> bool {
     ready && begun
 }
 
-impl Board for Plain {
-    fn read(&self, personality: &[u8]) -> u64 {
-        Model.read(personality)
-    }
-
-    fn wait_bound(&self, personality: &[u8]) -> u64 {
-        Model.wait_bound(personality)
-    }
-
+impl Variant for Plain {
     fn fresh(&self, personality: &[u8], state: &mut [u8]) -> u64 {
         let own = Model.read(personality);
         if own != 0 {
@@ -478,48 +471,6 @@ impl Board for Plain {
         }
         answer
     }
-
-    fn section(&self, personality: &[u8], kind: u16) -> u64 {
-        Model.section(personality, kind)
-    }
-
-    fn why_length(&self, personality: &[u8], state: &[u8], inputs: u64) -> u64 {
-        Model.why_length(personality, state, inputs)
-    }
-
-    fn why(&self, personality: &[u8], state: &[u8], inputs: u64, line: &mut [u8]) -> u64 {
-        Model.why(personality, state, inputs, line)
-    }
-
-    fn road(
-        &self,
-        personality: &[u8],
-        streams: &[u8],
-        steps: u32,
-        state: &mut [u8],
-        results: &mut [u8],
-    ) -> u64 {
-        Model.road(personality, streams, steps, state, results)
-    }
-
-    fn cabinet_place(
-        &self,
-        row: &mut [u8],
-        record: usize,
-        personality: &[u8],
-        first: usize,
-        outputs: &mut [u8],
-    ) -> u64 {
-        Model.cabinet_place(row, record, personality, first, outputs)
-    }
-
-    fn cabinet_step(&self, row: &mut [u8], record: usize, inputs: u64, outputs: &mut [u8]) -> u64 {
-        Model.cabinet_step(row, record, inputs, outputs)
-    }
-
-    fn cabinet_take_out(&self, row: &mut [u8], record: usize, outputs: &mut [u8]) -> u64 {
-        Model.cabinet_take_out(row, record, outputs)
-    }
 }
 
 const SEED: u64 = 12;
@@ -541,7 +492,7 @@ fn cases() -> impl Iterator<Item = u64> {
 
 #[test]
 fn a_plain_controller_agrees() {
-    if let Err(failure) = run_cases(&Plain(Fault::None), SEED, cases()) {
+    if let Err(failure) = run_cases(&AsBoard(Plain(Fault::None)), SEED, cases()) {
         panic!("{failure}");
     }
 }
@@ -549,7 +500,7 @@ fn a_plain_controller_agrees() {
 #[test]
 fn wrong_controllers_are_noticed() {
     for fault in FAULTS {
-        match run_cases(&Plain(fault), SEED, cases()) {
+        match run_cases(&AsBoard(Plain(fault)), SEED, cases()) {
             Ok(_) => panic!("{fault:?} is not noticed"),
             Err(failure) => match failure.difference {
                 Difference::Call { what, .. } => {

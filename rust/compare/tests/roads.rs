@@ -4,6 +4,7 @@
 use compare::{run_cases, Difference, Kind};
 use model::packed::{Board, Model};
 use model::{fresh, step_on, valid, Mark, Site, TimedState, STATE_LEN};
+use variant::{AsBoard, Variant};
 
 /// The points in which a plain road may go wrong.
 #[derive(Clone, Copy, Debug, PartialEq, Eq)]
@@ -264,39 +265,7 @@ impl PlainRoad {
     }
 }
 
-impl Board for PlainRoad {
-    fn read(&self, personality: &[u8]) -> u64 {
-        Model.read(personality)
-    }
-
-    fn wait_bound(&self, personality: &[u8]) -> u64 {
-        Model.wait_bound(personality)
-    }
-
-    fn fresh(&self, personality: &[u8], state: &mut [u8]) -> u64 {
-        Model.fresh(personality, state)
-    }
-
-    fn step(&self, personality: &[u8], state: &mut [u8], inputs: u64, colours: &mut [u8]) -> u64 {
-        Model.step(personality, state, inputs, colours)
-    }
-
-    fn retime(&self, personality: &[u8], state: &mut [u8], new_personality: &[u8]) -> u64 {
-        Model.retime(personality, state, new_personality)
-    }
-
-    fn section(&self, personality: &[u8], kind: u16) -> u64 {
-        Model.section(personality, kind)
-    }
-
-    fn why_length(&self, personality: &[u8], state: &[u8], inputs: u64) -> u64 {
-        Model.why_length(personality, state, inputs)
-    }
-
-    fn why(&self, personality: &[u8], state: &[u8], inputs: u64, line: &mut [u8]) -> u64 {
-        Model.why(personality, state, inputs, line)
-    }
-
+impl Variant for PlainRoad {
     fn road(
         &self,
         personality: &[u8],
@@ -323,25 +292,6 @@ impl Board for PlainRoad {
         }
         0
     }
-
-    fn cabinet_place(
-        &self,
-        row: &mut [u8],
-        record: usize,
-        personality: &[u8],
-        first: usize,
-        outputs: &mut [u8],
-    ) -> u64 {
-        Model.cabinet_place(row, record, personality, first, outputs)
-    }
-
-    fn cabinet_step(&self, row: &mut [u8], record: usize, inputs: u64, outputs: &mut [u8]) -> u64 {
-        Model.cabinet_step(row, record, inputs, outputs)
-    }
-
-    fn cabinet_take_out(&self, row: &mut [u8], record: usize, outputs: &mut [u8]) -> u64 {
-        Model.cabinet_take_out(row, record, outputs)
-    }
 }
 
 const SEED: u64 = 8;
@@ -359,7 +309,7 @@ fn cases() -> impl Iterator<Item = u64> {
 
 #[test]
 fn a_plain_road_agrees() {
-    if let Err(failure) = run_cases(&PlainRoad(Fault::None), SEED, cases()) {
+    if let Err(failure) = run_cases(&AsBoard(PlainRoad(Fault::None)), SEED, cases()) {
         panic!("{failure}");
     }
 }
@@ -367,7 +317,7 @@ fn a_plain_road_agrees() {
 #[test]
 fn wrong_roads_are_noticed() {
     for fault in FAULTS {
-        match run_cases(&PlainRoad(fault), SEED, cases()) {
+        match run_cases(&AsBoard(PlainRoad(fault)), SEED, cases()) {
             Ok(_) => panic!("{fault:?} is not noticed"),
             Err(failure) => match failure.difference {
                 Difference::Call { what, .. } => {

@@ -4,6 +4,7 @@
 use compare::{run_cases, Difference, Kind};
 use model::packed::{number, Board, Model};
 use model::{layout, valid, Interval, Site, TimedState, Times};
+use variant::{AsBoard, Variant};
 
 /// The points in which a line may go wrong.
 #[derive(Clone, Copy, Debug, PartialEq, Eq)]
@@ -354,31 +355,7 @@ impl Plain {
     }
 }
 
-impl Board for Plain {
-    fn read(&self, personality: &[u8]) -> u64 {
-        Model.read(personality)
-    }
-
-    fn wait_bound(&self, personality: &[u8]) -> u64 {
-        Model.wait_bound(personality)
-    }
-
-    fn fresh(&self, personality: &[u8], state: &mut [u8]) -> u64 {
-        Model.fresh(personality, state)
-    }
-
-    fn step(&self, personality: &[u8], state: &mut [u8], inputs: u64, colours: &mut [u8]) -> u64 {
-        Model.step(personality, state, inputs, colours)
-    }
-
-    fn retime(&self, personality: &[u8], state: &mut [u8], new_personality: &[u8]) -> u64 {
-        Model.retime(personality, state, new_personality)
-    }
-
-    fn section(&self, personality: &[u8], kind: u16) -> u64 {
-        Model.section(personality, kind)
-    }
-
+impl Variant for Plain {
     fn why_length(&self, personality: &[u8], state: &[u8], inputs: u64) -> u64 {
         match self.told(personality, state, inputs, None) {
             Ok(line) => {
@@ -418,36 +395,6 @@ impl Board for Plain {
             _ => (line.len() as u64) << 8,
         }
     }
-
-    fn road(
-        &self,
-        personality: &[u8],
-        streams: &[u8],
-        steps: u32,
-        state: &mut [u8],
-        results: &mut [u8],
-    ) -> u64 {
-        Model.road(personality, streams, steps, state, results)
-    }
-
-    fn cabinet_place(
-        &self,
-        row: &mut [u8],
-        record: usize,
-        personality: &[u8],
-        first: usize,
-        outputs: &mut [u8],
-    ) -> u64 {
-        Model.cabinet_place(row, record, personality, first, outputs)
-    }
-
-    fn cabinet_step(&self, row: &mut [u8], record: usize, inputs: u64, outputs: &mut [u8]) -> u64 {
-        Model.cabinet_step(row, record, inputs, outputs)
-    }
-
-    fn cabinet_take_out(&self, row: &mut [u8], record: usize, outputs: &mut [u8]) -> u64 {
-        Model.cabinet_take_out(row, record, outputs)
-    }
 }
 
 const SEED: u64 = 13;
@@ -460,7 +407,7 @@ fn cases() -> impl Iterator<Item = u64> {
 
 #[test]
 fn plain_lines_agree() {
-    if let Err(failure) = run_cases(&Plain(Fault::None), SEED, cases()) {
+    if let Err(failure) = run_cases(&AsBoard(Plain(Fault::None)), SEED, cases()) {
         panic!("{failure}");
     }
 }
@@ -468,7 +415,7 @@ fn plain_lines_agree() {
 #[test]
 fn wrong_lines_are_noticed() {
     for fault in FAULTS {
-        match run_cases(&Plain(fault), SEED, cases()) {
+        match run_cases(&AsBoard(Plain(fault)), SEED, cases()) {
             Ok(_) => panic!("{fault:?} is not noticed"),
             Err(failure) => match failure.difference {
                 Difference::Call { what, .. } => {
@@ -486,9 +433,9 @@ fn wrong_lines_differ_from_the_kept_vectors() {
     let package = std::path::Path::new(env!("CARGO_MANIFEST_DIR"));
     let kept = std::fs::read(package.join("../../vectors/whys"));
     let kept = kept.expect("the vectors of the line are kept");
-    assert!(compare::run_why_vectors(&Plain(Fault::None), &kept).is_ok());
+    assert!(compare::run_why_vectors(&AsBoard(Plain(Fault::None)), &kept).is_ok());
     for fault in FAULTS {
-        let found = compare::run_why_vectors(&Plain(fault), &kept);
+        let found = compare::run_why_vectors(&AsBoard(Plain(fault)), &kept);
         assert!(found.is_err(), "{fault:?} is not noticed");
     }
 }

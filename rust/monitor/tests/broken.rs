@@ -6,6 +6,7 @@ use model::{
     layout, Edition, Interval, Mark, MovementState, Site, Stage, State, TimedState, MAX_AGE,
 };
 use monitor::{watch, Breach, Driver, Strategy};
+use variant::{AsBoard, Variant};
 
 /// The model with its accepted steps spoilt.
 struct Broken<F>(F);
@@ -17,19 +18,7 @@ struct Outcome<'a> {
     colours: &'a mut [u8],
 }
 
-impl<F: Fn(&mut Outcome)> Board for Broken<F> {
-    fn read(&self, personality: &[u8]) -> u64 {
-        packed::read(personality)
-    }
-
-    fn wait_bound(&self, personality: &[u8]) -> u64 {
-        packed::wait_bound(personality)
-    }
-
-    fn fresh(&self, personality: &[u8], state: &mut [u8]) -> u64 {
-        packed::fresh(personality, state)
-    }
-
+impl<F: Fn(&mut Outcome)> Variant for Broken<F> {
     fn step(&self, personality: &[u8], state: &mut [u8], inputs: u64, colours: &mut [u8]) -> u64 {
         let answer = packed::step(personality, state, inputs, colours);
         if number(answer) == 0 {
@@ -45,52 +34,6 @@ impl<F: Fn(&mut Outcome)> Board for Broken<F> {
             state.copy_from_slice(&timed.to_bytes());
         }
         answer
-    }
-
-    fn retime(&self, personality: &[u8], state: &mut [u8], new_personality: &[u8]) -> u64 {
-        packed::retime(personality, state, new_personality)
-    }
-
-    fn section(&self, personality: &[u8], kind: u16) -> u64 {
-        packed::section(personality, kind)
-    }
-
-    fn why_length(&self, personality: &[u8], state: &[u8], inputs: u64) -> u64 {
-        packed::why_length(personality, state, inputs)
-    }
-
-    fn why(&self, personality: &[u8], state: &[u8], inputs: u64, line: &mut [u8]) -> u64 {
-        packed::why(personality, state, inputs, line)
-    }
-
-    fn road(
-        &self,
-        personality: &[u8],
-        streams: &[u8],
-        steps: u32,
-        state: &mut [u8],
-        results: &mut [u8],
-    ) -> u64 {
-        packed::road(personality, streams, steps, state, results)
-    }
-
-    fn cabinet_place(
-        &self,
-        row: &mut [u8],
-        record: usize,
-        personality: &[u8],
-        first: usize,
-        outputs: &mut [u8],
-    ) -> u64 {
-        Model.cabinet_place(row, record, personality, first, outputs)
-    }
-
-    fn cabinet_step(&self, row: &mut [u8], record: usize, inputs: u64, outputs: &mut [u8]) -> u64 {
-        Model.cabinet_step(row, record, inputs, outputs)
-    }
-
-    fn cabinet_take_out(&self, row: &mut [u8], record: usize, outputs: &mut [u8]) -> u64 {
-        Model.cabinet_take_out(row, record, outputs)
     }
 }
 
@@ -145,15 +88,15 @@ fn find_breach(board: &dyn Board, wanted: impl Fn(&Breach) -> bool) -> Option<Br
     })
 }
 
-/// The first breach on some site under some strategy.
-fn first_breach(board: &dyn Board) -> Breach {
-    find_breach(board, |_| true).expect("the monitor notices nothing")
+/// The first breach of a variant of the model on some site under some strategy.
+fn first_breach(variant: impl Variant) -> Breach {
+    find_breach(&AsBoard(variant), |_| true).expect("the monitor notices nothing")
 }
 
 macro_rules! assert_breach {
     ($spoil:expr, $breach:pat) => {
         let spoil: fn(&mut Outcome) = $spoil;
-        let breach = first_breach(&Broken(spoil));
+        let breach = first_breach(Broken(spoil));
         assert!(matches!(breach, $breach), "{breach}");
     };
 }
@@ -164,7 +107,7 @@ fn nothing_is_noticed_where_nothing_is_broken() {
     for seed in 0..5 {
         let plan = busy_site(&mut rng);
         for strategy in Strategy::ALL {
-            let untouched = Broken(|_: &mut Outcome| {});
+            let untouched = AsBoard(Broken(|_: &mut Outcome| {}));
             assert_eq!(breach_of(&untouched, &plan, strategy, seed), None);
         }
     }
@@ -368,13 +311,13 @@ fn the_target_chosen_again_after_yellow() {
 fn the_lowest_demanded_phase_always_next() {
     // Yellow has begun with the other target, so that some runs break a clearance
     // before a phase starts twice.
-    let board = Broken(|outcome: &mut Outcome| {
+    let board = AsBoard(Broken(|outcome: &mut Outcome| {
         let state = &mut outcome.state;
         let others = demanded_phases(&outcome.site, state) & !(1 << state.phase);
         if state.interval == Interval::Yellow && state.age == 1 && others != 0 {
             state.target = Some(others.trailing_zeros() as u8);
         }
-    });
+    }));
     let twice = |breach: &Breach| matches!(breach, Breach::StartsTwice { .. });
     assert!(find_breach(&board, twice).is_some());
 }
@@ -458,70 +401,12 @@ fn every_group_green() {
     );
 }
 
-/// A board that answers steps in its own way.
+/// The model, but it answers steps in another way.
 struct Odd(fn(&[u8], &mut [u8], u64, &mut [u8]) -> u64);
 
-impl Board for Odd {
-    fn read(&self, personality: &[u8]) -> u64 {
-        packed::read(personality)
-    }
-
-    fn wait_bound(&self, personality: &[u8]) -> u64 {
-        packed::wait_bound(personality)
-    }
-
-    fn fresh(&self, personality: &[u8], state: &mut [u8]) -> u64 {
-        packed::fresh(personality, state)
-    }
-
+impl Variant for Odd {
     fn step(&self, personality: &[u8], state: &mut [u8], inputs: u64, colours: &mut [u8]) -> u64 {
         (self.0)(personality, state, inputs, colours)
-    }
-
-    fn retime(&self, personality: &[u8], state: &mut [u8], new_personality: &[u8]) -> u64 {
-        packed::retime(personality, state, new_personality)
-    }
-
-    fn section(&self, personality: &[u8], kind: u16) -> u64 {
-        packed::section(personality, kind)
-    }
-
-    fn why_length(&self, personality: &[u8], state: &[u8], inputs: u64) -> u64 {
-        packed::why_length(personality, state, inputs)
-    }
-
-    fn why(&self, personality: &[u8], state: &[u8], inputs: u64, line: &mut [u8]) -> u64 {
-        packed::why(personality, state, inputs, line)
-    }
-
-    fn road(
-        &self,
-        personality: &[u8],
-        streams: &[u8],
-        steps: u32,
-        state: &mut [u8],
-        results: &mut [u8],
-    ) -> u64 {
-        packed::road(personality, streams, steps, state, results)
-    }
-
-    fn cabinet_place(
-        &self,
-        row: &mut [u8],
-        record: usize,
-        personality: &[u8],
-        first: usize,
-        outputs: &mut [u8],
-    ) -> u64 {
-        Model.cabinet_place(row, record, personality, first, outputs)
-    }
-
-    fn cabinet_step(&self, row: &mut [u8], record: usize, inputs: u64, outputs: &mut [u8]) -> u64 {
-        Model.cabinet_step(row, record, inputs, outputs)
-    }
-
-    fn cabinet_take_out(&self, row: &mut [u8], record: usize, outputs: &mut [u8]) -> u64 {
-        Model.cabinet_take_out(row, record, outputs)
     }
 }
 
@@ -531,7 +416,7 @@ fn blind_to_detectors() {
         let site = Site::read(personality).unwrap();
         packed::step(personality, state, inputs & !site.known_inputs(), colours)
     });
-    let breach = first_breach(&blind);
+    let breach = first_breach(blind);
     assert!(matches!(
         breach,
         Breach::LockUnmet { .. } | Breach::PressUnmet { .. }
@@ -540,7 +425,7 @@ fn blind_to_detectors() {
 
 #[test]
 fn a_demanded_phase_not_kept() {
-    let breach = first_breach(&Odd(|personality, state, inputs, colours| {
+    let breach = first_breach(Odd(|personality, state, inputs, colours| {
         let answer = packed::step(personality, state, inputs, colours);
         state[layout::DEMANDED] &= !(1 << 2);
         answer
@@ -550,7 +435,7 @@ fn a_demanded_phase_not_kept() {
 
 #[test]
 fn a_phase_kept_that_is_not_demanded() {
-    let breach = first_breach(&Odd(|personality, state, inputs, colours| {
+    let breach = first_breach(Odd(|personality, state, inputs, colours| {
         let answer = packed::step(personality, state, inputs, colours);
         if number(answer) == 0 {
             state[layout::DEMANDED] |= 1;
@@ -562,13 +447,13 @@ fn a_phase_kept_that_is_not_demanded() {
 
 #[test]
 fn every_step_refused() {
-    let breach = first_breach(&Odd(|_, _, _, _| 13));
+    let breach = first_breach(Odd(|_, _, _, _| 13));
     assert!(matches!(breach, Breach::WrongAnswer { .. }));
 }
 
 #[test]
 fn a_refusal_that_writes() {
-    let breach = first_breach(&Odd(|personality, state, inputs, colours| {
+    let breach = first_breach(Odd(|personality, state, inputs, colours| {
         let answer = packed::step(personality, state, inputs, colours);
         if number(answer) == 15 {
             colours[0] = 0;
@@ -580,7 +465,7 @@ fn a_refusal_that_writes() {
 
 #[test]
 fn a_state_that_is_none() {
-    let breach = first_breach(&Odd(|personality, state, inputs, colours| {
+    let breach = first_breach(Odd(|personality, state, inputs, colours| {
         let answer = Model.step(personality, state, inputs, colours);
         state[layout::INTERVAL] = 9;
         answer

@@ -5,6 +5,7 @@ use generate::{Plan, Rng};
 use model::packed::{self, number, Board};
 use model::{parts_in, Number, Site, TimedState, Times, OUTPUTS, PLAIN_LEN, RECORDS, RECORD_LEN};
 use monitor::{watch_cabinet, Breach, Report};
+use variant::{AsBoard, Variant};
 
 const SEED: u64 = 20_260_102;
 
@@ -25,48 +26,9 @@ const RIGHT: Cabinet = Cabinet {
     retime: packed::retime,
 };
 
-impl Board for Cabinet {
-    fn read(&self, personality: &[u8]) -> u64 {
-        packed::read(personality)
-    }
-
-    fn wait_bound(&self, personality: &[u8]) -> u64 {
-        packed::wait_bound(personality)
-    }
-
-    fn fresh(&self, personality: &[u8], state: &mut [u8]) -> u64 {
-        packed::fresh(personality, state)
-    }
-
-    fn step(&self, personality: &[u8], state: &mut [u8], inputs: u64, colours: &mut [u8]) -> u64 {
-        packed::step(personality, state, inputs, colours)
-    }
-
+impl Variant for Cabinet {
     fn retime(&self, personality: &[u8], state: &mut [u8], new_personality: &[u8]) -> u64 {
         (self.retime)(personality, state, new_personality)
-    }
-
-    fn section(&self, personality: &[u8], kind: u16) -> u64 {
-        packed::section(personality, kind)
-    }
-
-    fn why_length(&self, personality: &[u8], state: &[u8], inputs: u64) -> u64 {
-        packed::why_length(personality, state, inputs)
-    }
-
-    fn why(&self, personality: &[u8], state: &[u8], inputs: u64, line: &mut [u8]) -> u64 {
-        packed::why(personality, state, inputs, line)
-    }
-
-    fn road(
-        &self,
-        personality: &[u8],
-        streams: &[u8],
-        steps: u32,
-        state: &mut [u8],
-        results: &mut [u8],
-    ) -> u64 {
-        packed::road(personality, streams, steps, state, results)
     }
 
     fn cabinet_place(
@@ -91,14 +53,10 @@ impl Board for Cabinet {
             _ => answer,
         }
     }
-
-    fn cabinet_take_out(&self, row: &mut [u8], record: usize, outputs: &mut [u8]) -> u64 {
-        packed::cabinet_take_out(row, record, outputs)
-    }
 }
 
 /// Watches so many sites of eight groups at most.
-fn watched(board: &Cabinet, count: usize, seed: u64) -> Result<Vec<Report>, (usize, Breach)> {
+fn watched(board: &dyn Board, count: usize, seed: u64) -> Result<Vec<Report>, (usize, Breach)> {
     let mut rng = Rng::new(seed);
     let sites = (0..count).map(|_| Plan::small(&mut rng, OUTPUTS / RECORDS).bytes());
     let sites: Vec<Vec<u8>> = sites.collect();
@@ -106,8 +64,9 @@ fn watched(board: &Cabinet, count: usize, seed: u64) -> Result<Vec<Report>, (usi
 }
 
 /// The breaches that some seeds find, each with its site; some must find one.
-fn breaches(board: &Cabinet) -> Vec<(usize, Breach)> {
-    let found = (0..20).filter_map(|seed| watched(board, RECORDS, seed).err());
+fn breaches(cabinet: Cabinet) -> Vec<(usize, Breach)> {
+    let board = AsBoard(cabinet);
+    let found = (0..20).filter_map(|seed| watched(&board, RECORDS, seed).err());
     let found: Vec<(usize, Breach)> = found.collect();
     assert!(!found.is_empty(), "the monitors notice nothing");
     found
@@ -115,7 +74,7 @@ fn breaches(board: &Cabinet) -> Vec<(usize, Breach)> {
 
 /// The breaches of a cabinet whose steps are spoilt.
 fn step_breaches(step: Spoil) -> Vec<(usize, Breach)> {
-    breaches(&Cabinet { step, ..RIGHT })
+    breaches(Cabinet { step, ..RIGHT })
 }
 
 macro_rules! assert_breaches {
@@ -144,7 +103,7 @@ fn every_site_of_the_model_is_without_a_breach() {
     let (mut retimings, mut changes, mut never_retimed) = (0, 0, 0);
     for _ in 0..100 {
         let count = rng.range(1, RECORDS);
-        let reports = watched(&RIGHT, count, rng.draw());
+        let reports = watched(&AsBoard(RIGHT), count, rng.draw());
         let reports = reports.unwrap_or_else(|(site, breach)| panic!("site {site}: {breach}"));
         assert_eq!(reports.len(), count);
         for report in reports {
@@ -161,7 +120,7 @@ fn every_site_of_the_model_is_without_a_breach() {
 #[test]
 fn the_largest_site_fills_a_cabinet() {
     let sites = [Plan::largest().bytes()];
-    let reports = watch_cabinet(&RIGHT, &sites, &mut Rng::new(SEED), 4_000);
+    let reports = watch_cabinet(&AsBoard(RIGHT), &sites, &mut Rng::new(SEED), 4_000);
     let bound = Site::read(&sites[0]).unwrap().wait_bound();
     assert_eq!(reports.unwrap()[0].bound, u64::from(bound));
 }
@@ -257,7 +216,7 @@ fn the_wait_of_the_personality_whatever_times_rule() {
 
 #[test]
 fn a_site_placed_with_times_that_wait() {
-    let found = breaches(&Cabinet {
+    let found = breaches(Cabinet {
         place: |row, record, _, answer| {
             change_state(row, record, |personality, timed| {
                 timed.waiting = Some(times_of(personality));
@@ -271,7 +230,7 @@ fn a_site_placed_with_times_that_wait() {
 
 #[test]
 fn a_retiming_that_is_refused_in_a_cabinet() {
-    let found = breaches(&Cabinet {
+    let found = breaches(Cabinet {
         retime: |_, _, _| Number::WrongRecord as u64,
         ..RIGHT
     });
@@ -280,7 +239,7 @@ fn a_retiming_that_is_refused_in_a_cabinet() {
 
 #[test]
 fn a_retiming_that_leaves_the_state() {
-    let found = breaches(&Cabinet {
+    let found = breaches(Cabinet {
         retime: |personality, state, new| packed::retime(personality, &mut state.to_vec(), new),
         ..RIGHT
     });
@@ -289,7 +248,7 @@ fn a_retiming_that_leaves_the_state() {
 
 #[test]
 fn a_refused_retiming_that_writes() {
-    let found = breaches(&Cabinet {
+    let found = breaches(Cabinet {
         retime: |personality, state, new| {
             let answer = packed::retime(personality, state, new);
             if answer != 0 {

@@ -5,6 +5,7 @@ use generate::{Pace, Plan, Rng, Shape};
 use model::packed::{self, number, Board, Model};
 use model::{Interval, Number, Site, State, TimedState, Times};
 use monitor::{watch_retimed, Breach, Driver, Monitor, Report, Seen, Strategy};
+use variant::{AsBoard, Variant};
 
 /// A retimed run of a board.
 fn watched(
@@ -62,7 +63,7 @@ fn the_model_breaks_nothing() {
     );
 }
 
-/// A board that handles steps or retimings in its own way.
+/// The model, but it handles steps or retimings in another way.
 struct Odd {
     step: fn(&[u8], &mut [u8], u64, &mut [u8]) -> u64,
     retime: fn(&[u8], &mut [u8], &[u8]) -> u64,
@@ -73,19 +74,7 @@ const RIGHT: Odd = Odd {
     retime: packed::retime,
 };
 
-impl Board for Odd {
-    fn read(&self, personality: &[u8]) -> u64 {
-        packed::read(personality)
-    }
-
-    fn wait_bound(&self, personality: &[u8]) -> u64 {
-        packed::wait_bound(personality)
-    }
-
-    fn fresh(&self, personality: &[u8], state: &mut [u8]) -> u64 {
-        packed::fresh(personality, state)
-    }
-
+impl Variant for Odd {
     fn step(&self, personality: &[u8], state: &mut [u8], inputs: u64, colours: &mut [u8]) -> u64 {
         (self.step)(personality, state, inputs, colours)
     }
@@ -93,57 +82,16 @@ impl Board for Odd {
     fn retime(&self, personality: &[u8], state: &mut [u8], new_personality: &[u8]) -> u64 {
         (self.retime)(personality, state, new_personality)
     }
-
-    fn section(&self, personality: &[u8], kind: u16) -> u64 {
-        packed::section(personality, kind)
-    }
-
-    fn why_length(&self, personality: &[u8], state: &[u8], inputs: u64) -> u64 {
-        packed::why_length(personality, state, inputs)
-    }
-
-    fn why(&self, personality: &[u8], state: &[u8], inputs: u64, line: &mut [u8]) -> u64 {
-        packed::why(personality, state, inputs, line)
-    }
-
-    fn road(
-        &self,
-        personality: &[u8],
-        streams: &[u8],
-        steps: u32,
-        state: &mut [u8],
-        results: &mut [u8],
-    ) -> u64 {
-        packed::road(personality, streams, steps, state, results)
-    }
-
-    fn cabinet_place(
-        &self,
-        row: &mut [u8],
-        record: usize,
-        personality: &[u8],
-        first: usize,
-        outputs: &mut [u8],
-    ) -> u64 {
-        packed::cabinet_place(row, record, personality, first, outputs)
-    }
-
-    fn cabinet_step(&self, row: &mut [u8], record: usize, inputs: u64, outputs: &mut [u8]) -> u64 {
-        packed::cabinet_step(row, record, inputs, outputs)
-    }
-
-    fn cabinet_take_out(&self, row: &mut [u8], record: usize, outputs: &mut [u8]) -> u64 {
-        packed::cabinet_take_out(row, record, outputs)
-    }
 }
 
 /// The first breach on some site under some strategy.
-fn first_breach(board: &Odd) -> Breach {
+fn first_breach(odd: Odd) -> Breach {
+    let board = AsBoard(odd);
     let mut rng = Rng::new(7);
     for seed in 0..30 {
         let plan = quick_site(&mut rng);
         for strategy in Strategy::ALL {
-            if let Err(breach) = watched(board, &plan, strategy, seed, 3_000) {
+            if let Err(breach) = watched(&board, &plan, strategy, seed, 3_000) {
                 return breach;
             }
         }
@@ -153,7 +101,7 @@ fn first_breach(board: &Odd) -> Breach {
 
 macro_rules! assert_breach {
     ($board:expr, $breach:pat) => {
-        let breach = first_breach(&$board);
+        let breach = first_breach($board);
         assert!(matches!(breach, $breach), "{breach}");
     };
 }

@@ -10,6 +10,7 @@ use model::{
 use monitor::{
     watch, watch_cabinet, watch_retimed, Breach, Demand, Driver, Monitor, Report, Seen, Strategy,
 };
+use variant::{AsBoard, Variant};
 
 // ── Controllers that choose the next phase in another way ──
 
@@ -19,13 +20,13 @@ use monitor::{
 struct Reordered(fn(&[u8], &State) -> Vec<u8>);
 
 /// Always takes the first demanded phase in the order from its beginning.
-const FROM_THE_BEGINNING: Reordered = Reordered(|order, state| {
+const FROM_THE_BEGINNING: AsBoard<Reordered> = AsBoard(Reordered(|order, state| {
     let others = order.iter().copied().filter(|&other| other != state.phase);
     [state.phase].into_iter().chain(others).collect()
-});
+}));
 
 /// Goes back to the phase that it came from, if that is demanded.
-const BACK: Reordered = Reordered(|order, state| {
+const BACK: AsBoard<Reordered> = AsBoard(Reordered(|order, state| {
     let from = state.came_from.filter(|&from| from != state.phase);
     let others = order.iter().copied();
     let others = others.filter(|&other| other != state.phase && Some(other) != from);
@@ -34,15 +35,15 @@ const BACK: Reordered = Reordered(|order, state| {
         .chain(from)
         .chain(others)
         .collect()
-});
+}));
 
 /// Goes round the other way. Each phase still starts once.
-const BACKWARDS: Reordered = Reordered(|order, state| {
+const BACKWARDS: AsBoard<Reordered> = AsBoard(Reordered(|order, state| {
     let mut order: Vec<u8> = order.iter().copied().rev().collect();
     let place = order.iter().position(|&phase| phase == state.phase);
     order.rotate_left(place.expect("a phase of the order"));
     order
-});
+}));
 
 impl Reordered {
     /// The personality with the order of this step.
@@ -60,61 +61,11 @@ impl Reordered {
     }
 }
 
-impl Board for Reordered {
-    fn read(&self, personality: &[u8]) -> u64 {
-        packed::read(personality)
-    }
-
-    fn wait_bound(&self, personality: &[u8]) -> u64 {
-        packed::wait_bound(personality)
-    }
-
-    fn fresh(&self, personality: &[u8], state: &mut [u8]) -> u64 {
-        packed::fresh(personality, state)
-    }
-
+impl Variant for Reordered {
     fn step(&self, personality: &[u8], state: &mut [u8], inputs: u64, colours: &mut [u8]) -> u64 {
         let before = TimedState::from_bytes(state).expect("a state");
         let personality = self.personality(personality, &before.state);
         packed::step(&personality, state, inputs, colours)
-    }
-
-    fn retime(&self, personality: &[u8], state: &mut [u8], new_personality: &[u8]) -> u64 {
-        packed::retime(personality, state, new_personality)
-    }
-
-    fn section(&self, personality: &[u8], kind: u16) -> u64 {
-        packed::section(personality, kind)
-    }
-
-    fn why_length(&self, personality: &[u8], state: &[u8], inputs: u64) -> u64 {
-        packed::why_length(personality, state, inputs)
-    }
-
-    fn why(&self, personality: &[u8], state: &[u8], inputs: u64, line: &mut [u8]) -> u64 {
-        packed::why(personality, state, inputs, line)
-    }
-
-    fn road(
-        &self,
-        personality: &[u8],
-        streams: &[u8],
-        steps: u32,
-        state: &mut [u8],
-        results: &mut [u8],
-    ) -> u64 {
-        packed::road(personality, streams, steps, state, results)
-    }
-
-    fn cabinet_place(
-        &self,
-        row: &mut [u8],
-        record: usize,
-        personality: &[u8],
-        first: usize,
-        outputs: &mut [u8],
-    ) -> u64 {
-        packed::cabinet_place(row, record, personality, first, outputs)
     }
 
     fn cabinet_step(&self, row: &mut [u8], record: usize, inputs: u64, outputs: &mut [u8]) -> u64 {
@@ -126,10 +77,6 @@ impl Board for Reordered {
         let (personality, state) = parts_in(row, record).expect("a whole row");
         let groups = Site::read(personality).expect("a site").group_count();
         self.step(personality, state, inputs, &mut outputs[first..][..groups])
-    }
-
-    fn cabinet_take_out(&self, row: &mut [u8], record: usize, outputs: &mut [u8]) -> u64 {
-        packed::cabinet_take_out(row, record, outputs)
     }
 }
 
