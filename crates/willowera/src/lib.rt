@@ -98,7 +98,12 @@ pub extern "C" fn willowera_why_length(personality: &[u8], state: &[u8], inputs:
 
 // Writes the line to the start of a buffer and answers its length, or a refusal. A refused call writes nothing.
 #[no_mangle]
-pub extern "C" fn willowera_why(personality: &[u8], state: &[u8], inputs: u64, line: &mut [u8]) -> u64
+pub extern "C" fn willowera_why(
+    personality: &[u8],
+    state: &[u8],
+    inputs: u64,
+    line: &mut [u8],
+) -> u64
     ensures { λ r. ⌜ (r ≡ whyAnswer (now (personality .entry)) (now (state .entry)) inputs (length (now (line .entry))))
         × (now (line .exit) ≡ lineAfter (now (personality .entry)) (now (state .entry)) inputs (now (line .entry))) ⌝ }
 {
