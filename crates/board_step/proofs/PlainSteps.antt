@@ -1,9 +1,9 @@
 -- A step on the bytes of a state in which no times wait, by cases: refused because of the times in the bytes, or what the plain call under the
 -- ruling times answers.
 use Prim.Native.Nat.{ℕ, _≤_}
-use mathlib.Core.Bool.{Bool, true, false}
+use mathlib.Core.Bool.{true, false}
 use mathlib.Core.List.{List}
-use mathlib.Core.Path.{_≡_, refl, sym, ap, subst⁻¹, _∙_}
+use mathlib.Core.Path.{_≡_, refl, ap, subst⁻¹, _∙_}
 use lib.ListN.{length}
 use lib.Seq.{sets}
 use Rattle.rules.specs.declared.answer.Answer.{Answer}
@@ -20,7 +20,7 @@ use Rattle.rules.specs.Personality.{phaseCount, movementCount, hasEarly, verdic
 use Rattle.rules.specs.Site.{siteOf}
 use Rattle.rules.specs.SiteTimes.{under, admitted, blank}
 use Rattle.rules.specs.Kept.{keptValid}
-use Rattle.rules.specs.Timed.{keptOf, ruledSite, timedValid}
+use Rattle.rules.specs.Timed.{ruledSite, timedValid}
 use Rattle.rules.specs.Call.{stepVerdict, checksBy}
 use Rattle.rules.specs.TimedCall.{timedParts, timedAnswerOf, timedBufferOf}
 use Rattle.rules.specs.Laws.{Sound, AcceptedIsSound}

@@ -1,21 +1,19 @@
 -- If no times wait, a step call on a timed state is the plain call under the ruling times, and the times in the state stay as they are.
 use Prim.Native.Nat.{ℕ}
-use mathlib.Core.Bool.{Bool, true, false, _&&_}
+use mathlib.Core.Bool.{true, false}
 use mathlib.Core.List.{List}
-use mathlib.Core.Path.{_≡_, refl, sym, ap, _∙_}
+use mathlib.Core.Path.{_≡_, refl}
 use lib.ListN.{length}
 use Rattle.rules.specs.declared.answer.Answer.{Answer}
-use Rattle.rules.specs.declared.answer.TimedAnswer.{TimedAnswer}
 use Rattle.rules.specs.declared.answer.Verdict.{Verdict}
 use Rattle.rules.specs.declared.answer.Verdict.the-variants.{Accepted, Refused}
 use Rattle.rules.specs.declared.site.Site.{Site}
 use Rattle.rules.specs.declared.state.KeptState.{KeptState}
 use Rattle.rules.specs.declared.state.TimedState.{TimedState}
-use Rattle.rules.specs.SiteTimes.{under, timesWithin, admitted, blank}
+use Rattle.rules.specs.SiteTimes.{timesWithin, admitted, blank}
 use Rattle.rules.specs.Kept.{keptValid, keptStepped}
 use Rattle.rules.specs.Timed.{keptOf, ruledSite, waitingValid, timedValid, takesOver, rulingNext, timedStepped}
-use Rattle.rules.specs.WaitBound.{waitBound}
-use Rattle.rules.specs.Call.{stepVerdict, boundFor, handedBack, bufferFor}
+use Rattle.rules.specs.Call.{stepVerdict, handedBack}
 use Rattle.laws.proofs.Booleans.{and-false-left, and-false-right}
 use Rattle.call_step.specs.Answers as plain
 use Rattle.call_timed.proofs.TimedCalls.{Answers}

@@ -5,24 +5,23 @@ use mathlib.Core.List.{List, []}
 use mathlib.Core.Path.{_≡_, refl, sym, ap, subst, _∙_}
 use native.Mathlib.Nat.{add-zero}
 use native.Mathlib.Omega.{arith}
-use lib.Dec.{eqb, ltb}
+use lib.Dec.{eqb}
 use lib.ListN.{length, getD, drop, replicate, getD-replicate}
 use lib.Seq.{getD-take, getD-drop}
 use borrow.Author.Tests.{eqb-true, eq-eqb, le-ltb}
 use Rattle.rules.specs.declared.site.PhaseTimes.{PhaseTimes}
-use Rattle.rules.specs.declared.site.Range.{Range}
 use Rattle.rules.specs.declared.site.Site.{Site}
 use Rattle.rules.specs.declared.site.Times.{Times}
 use Rattle.rules.specs.declared.site.WalkTimes.{WalkTimes}
 use Rattle.laws.specs.Bytes.{byteAt, twoAt}
-use Rattle.laws.specs.Folds.{if_then_else_, allOf, listOf}
+use Rattle.laws.specs.Folds.{allOf, listOf}
 use Rattle.rules.specs.Site.{noPhaseTimes, noWalkTimes, phaseTimes, walkTimes}
 use Rattle.rules.specs.SiteTimes.{noTimes, siteLimits, recordLimits, phaseWithin, walkWithin, blank}
 use Rattle.rules.specs.Timed.{noneWaiting, waitingValid}
 use Rattle.laws.proofs.Booleans.{and-left, and-right, same-tests}
 use Rattle.laws.proofs.Bytes.{part}
 use Rattle.laws.proofs.Folds.{all-at, all-each}
-use Rattle.laws.proofs.Lists.{list-length, list-same, list-told}
+use Rattle.laws.proofs.Lists.{list-length, list-told}
 use Rattle.proof_change.proofs.Timed.{none-valid}
 use Rattle.state_forms.specs.Forms.{partsOf, AreBytes}
 use Rattle.state_times.specs.TimesLayout.{phasesAt, walksAt, earliesAt, times}

@@ -1,6 +1,5 @@
 -- `state_times::phases::early_in` meets its contract, with and without kind 7 times.
 use native.Mathlib.Omega.{arith}
-use borrow.Author.Needs.{needs}
 use Rattle.state_times.proofs.phases.early_in.Statement.{statement}
 use Rattle.state_times.proofs.phases.early_in.Tie as tie
 
