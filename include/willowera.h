@@ -7,10 +7,10 @@
  *
  * - A pointer has as many bytes behind it as the length next to it says. All 64 bits of a length count: bytes after a whole
  *   personality are refused with 12, and a state of any length other than WILLOWERA_STATE_BYTES with 13.
- * - During a call nobody else writes a buffer of the call, or reads the state, the colours, the line, the results, the row or the
- *   outputs.
- * - State, colours, line and results do not overlap each other, a personality or the streams. They may be adjacent. The two personalities of
- *   willowera_retime may be the same buffer.
+ * - During a call nobody else writes a buffer of the call, or reads the state, the colours, the line, the sealed record, the results, the
+ *   row or the outputs.
+ * - State, colours, line, sealed record and results do not overlap each other, a personality or the streams. They may be adjacent. The two
+ *   personalities of willowera_retime may be the same buffer.
  * - The row and the outputs of a cabinet do not overlap each other or the personality that is placed. They may be adjacent.
  * - willowera_settings is called in the default floating-point environment: round to nearest, subnormal numbers on.
  *
@@ -19,23 +19,30 @@
  * - A valid pointer for length 0. The pointer may be anything, also null; the buffer is empty and is not accessed.
  * - Alignment, of any buffer.
  * - A writable personality. It may be in read-only memory.
- * - Initial values in the colour buffer, in the buffers for a fresh state and for a line, or in the outputs of a cabinet.
+ * - Initial values in the colour buffer, in the buffers for a fresh or resumed state, for a sealed record and for a line, or in the outputs
+ *   of a cabinet.
  *
  * What a call does to memory:
  *
- * - It reads the personalities, the state, the streams and the row. An accepted step writes the state and one colour byte for each group,
- *   an accepted retiming the state, willowera_why the line, an accepted road the state and the results. An accepted call of a cabinet writes its own record and
- *   its own outputs. A refused call writes nothing. Otherwise a call uses only its stack.
+ * - It reads the personalities, the state, the streams, the sealed record and the row. An accepted step writes the state and one colour
+ *   byte for each group, an accepted retiming or resuming the state, willowera_why the line, willowera_seal the sealed record, an accepted
+ *   road the state and the results. An accepted call of a cabinet writes its own record and its own outputs. A refused call writes nothing.
+ *   Otherwise a call uses only its stack.
  * - The library has no variables, no heap and no locks. Calls with their own state and colours may run at the same time, in several
  *   threads or in a signal handler that interrupts another call, and may share a personality. Calls on one row may not.
  * - A state or a row has no pointers in it: it may be copied, moved and stored. A step is not atomic: a call that never returns (a reset,
  *   a thread that was ended from outside) can leave state, colours, row or outputs half written. If that matters, keep a copy of the last
- *   state or row.
+ *   state or row. A state that must survive a loss of power is kept as a sealed record (willowera_seal), which shows if it is damaged.
  *
  * The archive is for x86-64 Linux, System V calling convention, C or C++. It can be linked into programs and shared objects, and needs
- * only memcpy and memset. It uses the SSE2 registers and the red zone, and does not change the floating-point environment. A byte is a
- * uint8_t. All numbers are unsigned, except two: the grade of willowera_yellow is signed, and the metres of willowera_settings are a
- * double.
+ * only memcpy and memset. It uses the SSE2 registers and the red zone, and does not change the floating-point environment. Archives for
+ * other processors are made by targets/build.sh; targets/README.md says which, and what each needs. This header is the same for all of
+ * them.
+ *
+ * A byte is a uint8_t. All numbers are unsigned, except two: the grade of willowera_yellow is signed, and the metres of willowera_settings
+ * are a double. A length, a record and a first output have 64 bits on every target, because the library is proved and compiled with 64 of
+ * them. On a 32-bit processor a size_t has 32, so that caller and library would look for the arguments in different places. A size_t that
+ * is handed over is converted without loss.
  *
  * Only willowera_settings uses floating-point numbers: its metres are a double, and it may raise floating-point exception flags.
  */
@@ -52,6 +59,7 @@ extern "C" {
 /* ── Sizes ── */
 
 #define WILLOWERA_STATE_BYTES 336
+#define WILLOWERA_SEALED_BYTES 347
 #define WILLOWERA_MOST_PHASES 7
 #define WILLOWERA_MOST_GROUPS 32
 #define WILLOWERA_MOST_DETECTORS 48
@@ -100,7 +108,7 @@ extern "C" {
 #define WILLOWERA_FLASHING_RED 3
 #define WILLOWERA_DARK 4 /* in a cabinet: the outputs of a site that was taken out */
 
-/* ── Codes in the bytes of a state: intervals, then stages of a movement ── */
+/* ── Codes in the bytes of a state: intervals, stages of a movement, and no phase ── */
 
 #define WILLOWERA_START_RED 0
 #define WILLOWERA_LATE_START 1
@@ -115,15 +123,68 @@ extern "C" {
 #define WILLOWERA_CLEARANCE_ONE 2
 #define WILLOWERA_CLEARANCE_TWO 3
 
+#define WILLOWERA_NO_PHASE 255 /* of WILLOWERA_CAME_FROM and WILLOWERA_TARGET; it is not in the bytes */
+
+/* ── The fields of a state, by the offset of their first byte. A number of two bytes has its low byte first ── */
+
+#define WILLOWERA_STATE_PHASE 0
+#define WILLOWERA_STATE_INTERVAL 1
+#define WILLOWERA_STATE_AGE 2           /* 2 bytes */
+#define WILLOWERA_STATE_CAME_FROM 4     /* 2 bytes: 0 and 0 for none, 1 and the phase */
+#define WILLOWERA_STATE_TARGET 6        /* 2 bytes, as before */
+#define WILLOWERA_STATE_GAP 8           /* 2 bytes */
+#define WILLOWERA_STATE_MAXIMUM 10      /* 2 bytes */
+#define WILLOWERA_STATE_LOCKED 12       /* a set of phases: bit 0 is phase A */
+#define WILLOWERA_STATE_BUTTONS 13      /* a set of movements: bit 0 is movement 0 */
+#define WILLOWERA_STATE_MOVEMENTS 14    /* eight records of WILLOWERA_MOVEMENT_BYTES: the stage, then the age (2 bytes) */
+#define WILLOWERA_STATE_KEPT 38         /* a set of phases */
+#define WILLOWERA_STATE_RULING 39       /* WILLOWERA_TIMES_BYTES: the times that rule */
+#define WILLOWERA_STATE_TIMES_WAIT 187
+#define WILLOWERA_STATE_WAITING 188     /* WILLOWERA_TIMES_BYTES: the times that wait, zeros if none wait */
+
+#define WILLOWERA_MOVEMENT_BYTES 3
+
+/* The parts of such times, by the offset of their first byte. Each time has 2 bytes. */
+#define WILLOWERA_TIMES_START_RED 0
+#define WILLOWERA_TIMES_PHASES 2        /* seven phases, 12 bytes each: L, M, X, G, Y, R */
+#define WILLOWERA_TIMES_MOVEMENTS 86    /* eight movements, 6 bytes each: walk, C1, C2 */
+#define WILLOWERA_TIMES_EARLY 134       /* seven phases, 2 bytes each: early cut-off green */
+
+#define WILLOWERA_TIMES_BYTES 148
+
+/* Read a field. The state is a pointer to its bytes; it may be evaluated more than once. */
+#define WILLOWERA_TWO_BYTES(bytes, at) ((uint16_t)((bytes)[at] | (unsigned)(bytes)[(at) + 1] << 8))
+
+#define WILLOWERA_PHASE(state) ((state)[WILLOWERA_STATE_PHASE])       /* 0 is A */
+#define WILLOWERA_INTERVAL(state) ((state)[WILLOWERA_STATE_INTERVAL]) /* WILLOWERA_START_RED to WILLOWERA_ALL_RED */
+#define WILLOWERA_AGE(state) WILLOWERA_TWO_BYTES(state, WILLOWERA_STATE_AGE)
+
+/* The phase that was left before this one, and the one that comes next, or WILLOWERA_NO_PHASE. */
+#define WILLOWERA_CAME_FROM(state) WILLOWERA_PHASE_OR_NONE(state, WILLOWERA_STATE_CAME_FROM)
+#define WILLOWERA_TARGET(state) WILLOWERA_PHASE_OR_NONE(state, WILLOWERA_STATE_TARGET)
+#define WILLOWERA_PHASE_OR_NONE(state, at) ((uint8_t)((state)[at] ? (state)[(at) + 1] : WILLOWERA_NO_PHASE))
+
+#define WILLOWERA_GAP_COUNT(state) WILLOWERA_TWO_BYTES(state, WILLOWERA_STATE_GAP)
+#define WILLOWERA_MAXIMUM_COUNT(state) WILLOWERA_TWO_BYTES(state, WILLOWERA_STATE_MAXIMUM)
+
+/* Sets: the phases with a locked demand; the movements with a button demand; the phases with a locked demand or a demanded movement. */
+#define WILLOWERA_LOCKED_DEMANDS(state) ((state)[WILLOWERA_STATE_LOCKED])
+#define WILLOWERA_BUTTON_DEMANDS(state) ((state)[WILLOWERA_STATE_BUTTONS])
+#define WILLOWERA_KEPT_SET(state) ((state)[WILLOWERA_STATE_KEPT])
+
+/* Of movement k, 0 to 7: WILLOWERA_IDLE to WILLOWERA_CLEARANCE_TWO, and the age of the stage. */
+#define WILLOWERA_STAGE(state, k) ((state)[WILLOWERA_STATE_MOVEMENTS + WILLOWERA_MOVEMENT_BYTES * (k)])
+#define WILLOWERA_STAGE_AGE(state, k) WILLOWERA_TWO_BYTES(state, WILLOWERA_STATE_MOVEMENTS + WILLOWERA_MOVEMENT_BYTES * (k) + 1)
+
 /* Whether times wait in a state: 1, or 0. They wait until a phase next starts. */
-#define WILLOWERA_TIMES_WAIT(state) ((state)[187])
+#define WILLOWERA_TIMES_WAIT(state) ((state)[WILLOWERA_STATE_TIMES_WAIT])
 
 /* ── Detectors of a site sheet: at a distance before the stop line, or a zone at the stop line ── */
 
 #define WILLOWERA_ADVANCE 0
 #define WILLOWERA_STOP_LINE 1
 
-/* ── Refusals. A place is a byte offset in the personality ── */
+/* ── Refusals. A place is a byte offset in the personality. willowera_words.h puts them into sentences ── */
 
 #define WILLOWERA_ACCEPTED 0
 #define WILLOWERA_CUT_SHORT 1           /* the personality ends before the end of a section; place: its head */
@@ -139,7 +200,7 @@ extern "C" {
 #define WILLOWERA_WRONG_DETECTOR 11     /* unknown phase or mode; place: the record */
 #define WILLOWERA_LEFT_OVER 12          /* bytes follow the last section; place: the first of them */
 #define WILLOWERA_STATE_NOT_VALID 13    /* state not valid, or not a state; place 0 */
-#define WILLOWERA_BUFFER_SHORT 14       /* colour, line, result or output buffer too short; place 0 */
+#define WILLOWERA_BUFFER_SHORT 14       /* colour, line, result or output buffer too short, or sealed buffer not 347 bytes; place 0 */
 #define WILLOWERA_STRAY_INPUT 15        /* an input bit is set that has no detector and no button; place 0 */
 #define WILLOWERA_NO_EARLY_TIMES 17     /* a group stops early, but section 7 is missing; place: the first such record */
 #define WILLOWERA_WRONG_ORDER 18        /* section 9 does not list each phase once; place: its head */
@@ -162,11 +223,18 @@ extern "C" {
 /* Refusal of a retiming. */
 #define WILLOWERA_NOT_ONLY_TIMES 26     /* the new personality differs from the first in more than times; place 0 */
 
-/* ── Answers: the number in bits 0 to 7, above it the place of a refusal, or the result of an accepted call ── */
+/* Refusals of a sealed record. */
+#define WILLOWERA_OTHER_VERSION 27      /* it was sealed under another version of the interface; place 0 */
+#define WILLOWERA_DAMAGED 28            /* its length or its check value is wrong; place 0 */
+#define WILLOWERA_OTHER_PERSONALITY 29  /* it was sealed with another personality; place 0 */
+
+/* ── Answers: the number in bits 0 to 7, above it the place of a refusal, or the result of an accepted call. A place is at most 477, and
+ * every length, offset and count fits into a size_t of 16 bits ── */
 
 #define WILLOWERA_NUMBER(answer) ((unsigned)((answer) & 0xff))
 #define WILLOWERA_PLACE(answer) ((size_t)((answer) >> 8))
 #define WILLOWERA_WAIT(answer) ((uint32_t)((answer) >> 8))
+#define WILLOWERA_GROUPS(answer) ((size_t)((answer) >> 8))
 #define WILLOWERA_LINE_LENGTH(answer) ((size_t)((answer) >> 8))
 #define WILLOWERA_OFFSET(answer) ((size_t)((answer) >> 8 & 0xffffffff))
 #define WILLOWERA_LENGTH(answer) ((size_t)((answer) >> 40))
@@ -177,20 +245,23 @@ extern "C" {
 /* ── Calls ── */
 
 /* Checks a personality: 0, or its refusal. */
-uint64_t willowera_read(const uint8_t *personality, size_t personality_length);
+uint64_t willowera_read(const uint8_t *personality, uint64_t personality_length);
 
 /* The wait bound of a personality in steps (WILLOWERA_WAIT), or its refusal. */
-uint64_t willowera_wait_bound(const uint8_t *personality, size_t personality_length);
+uint64_t willowera_wait_bound(const uint8_t *personality, uint64_t personality_length);
+
+/* The number of signal groups of a personality (WILLOWERA_GROUPS), or its refusal. A step writes as many colours. */
+uint64_t willowera_groups(const uint8_t *personality, uint64_t personality_length);
 
 /* Writes the fresh state of a personality, in which its own times rule: 0, or a refusal.
  *
  * The checks: the personality; then 13 (state_length is not WILLOWERA_STATE_BYTES). */
-uint64_t willowera_fresh(const uint8_t *personality, size_t personality_length, uint8_t *state, size_t state_length);
+uint64_t willowera_fresh(const uint8_t *personality, uint64_t personality_length, uint8_t *state, uint64_t state_length);
 
 /* One step of 0.1 s. Replaces the state by the next state, writes the colours, and answers the wait bound of the times that rule after
  * the step (WILLOWERA_WAIT); or a refusal. */
-uint64_t willowera_step(const uint8_t *personality, size_t personality_length, uint8_t *state, size_t state_length,
-                        uint64_t inputs, uint8_t *colours, size_t colours_length);
+uint64_t willowera_step(const uint8_t *personality, uint64_t personality_length, uint8_t *state, uint64_t state_length,
+                        uint64_t inputs, uint8_t *colours, uint64_t colours_length);
 
 /* Gives a running site the times of a new personality: 0, or a refusal. They wait in the state until a phase next starts, and rule from
  * that start on. Times that waited before are replaced. Every call on the site, this one too, still gets the first personality; of its
@@ -200,8 +271,28 @@ uint64_t willowera_step(const uint8_t *personality, size_t personality_length, u
  * times of kind 7. To take waiting times back, retime to the times that rule.
  *
  * The checks: the first personality; then 13; then the new personality (a place is then an offset in the new one); then 26. */
-uint64_t willowera_retime(const uint8_t *personality, size_t personality_length, uint8_t *state, size_t state_length,
-                          const uint8_t *new_personality, size_t new_length);
+uint64_t willowera_retime(const uint8_t *personality, uint64_t personality_length, uint8_t *state, uint64_t state_length,
+                          const uint8_t *new_personality, uint64_t new_length);
+
+/* Seals a state for the time without power: writes a record of WILLOWERA_SEALED_BYTES, and answers 0; or a refusal. Only
+ * willowera_resume reads the record.
+ *
+ * The record has the version of the interface, the length and the check value of the personality, the state with its times, and a check
+ * value of all of these. A check value is the CRC-32 of Ethernet: it shows accidental damage, and is no protection against intent.
+ *
+ * The checks: the personality; then 13; then 14 (sealed_length is not WILLOWERA_SEALED_BYTES). */
+uint64_t willowera_seal(const uint8_t *personality, uint64_t personality_length, const uint8_t *state, uint64_t state_length,
+                        uint8_t *sealed, uint64_t sealed_length);
+
+/* Writes the state of a sealed record, and answers 0; or a refusal. The personality is the one that the state was sealed with: if the site
+ * was retimed, still the first. The next step goes on from the step at which the state was sealed. After a refusal start from the fresh
+ * state.
+ *
+ * The checks: the personality; then 13 (state_length is not WILLOWERA_STATE_BYTES); then 27 (the record has a first byte, and it is not
+ * WILLOWERA_VERSION); then 28 (sealed_length is not WILLOWERA_SEALED_BYTES, or the check value of the record is wrong); then 29 (length or
+ * check value of the personality differ); then 13 (the record's state is not a valid state of the personality). */
+uint64_t willowera_resume(const uint8_t *personality, uint64_t personality_length, const uint8_t *sealed, uint64_t sealed_length,
+                          uint8_t *state, uint64_t state_length);
 
 /* Why the phase of a state in running holds, as one line of text for a panel, read from the state after a step and the inputs of that step:
  * the phase letter and " holds", then those that are true, each after a comma and a space:
@@ -218,10 +309,10 @@ uint64_t willowera_retime(const uint8_t *personality, size_t personality_length,
  * line to the start of the buffer, and bytes behind it stay. Neither writes the state.
  *
  * The checks: the personality; then 13; then 15; willowera_why: then 14 (line_length is less than the length of the line). */
-uint64_t willowera_why_length(const uint8_t *personality, size_t personality_length, const uint8_t *state, size_t state_length,
+uint64_t willowera_why_length(const uint8_t *personality, uint64_t personality_length, const uint8_t *state, uint64_t state_length,
                               uint64_t inputs);
-uint64_t willowera_why(const uint8_t *personality, size_t personality_length, const uint8_t *state, size_t state_length, uint64_t inputs,
-                       uint8_t *line, size_t line_length);
+uint64_t willowera_why(const uint8_t *personality, uint64_t personality_length, const uint8_t *state, uint64_t state_length,
+                       uint64_t inputs, uint8_t *line, uint64_t line_length);
 
 /* Minimum green and passage time of an approach, in steps (WILLOWERA_MINIMUM_GREEN_SETTING, WILLOWERA_PASSAGE_TIME), or a refusal.
  * The speed is in km/h. The metres are the distance of an advance detector, or the length of a stop-line zone. A NaN, an infinity,
@@ -240,8 +331,8 @@ uint64_t willowera_settings(uint32_t speed, uint32_t detector, double metres);
  * The checks: the personality; then 22 (bytes that are not whole streams, more than 48 streams, more than 180,000 steps, a rate above
  * 1,800, a detector or a vehicle group that the site does not have); then 13 (state_length is not WILLOWERA_STATE_BYTES); then 14
  * (results_length is less than 4 for each stream). A simulated hour takes a few milliseconds. */
-uint64_t willowera_road(const uint8_t *personality, size_t personality_length, const uint8_t *streams, size_t streams_length,
-                        uint32_t steps, uint8_t *state, size_t state_length, uint8_t *results, size_t results_length);
+uint64_t willowera_road(const uint8_t *personality, uint64_t personality_length, const uint8_t *streams, uint64_t streams_length,
+                        uint32_t steps, uint8_t *state, uint64_t state_length, uint8_t *results, uint64_t results_length);
 
 /* The yellow time of an approach in steps (WILLOWERA_YELLOW_TIME), for use as Y, or a refusal. The speed is in km/h, 40 to 110. The
  * grade is in percent, -10 to 10; uphill is positive. */
@@ -249,7 +340,7 @@ uint64_t willowera_yellow(uint32_t speed, int32_t grade);
 
 /* Offset and length of the body of a section (WILLOWERA_OFFSET, WILLOWERA_LENGTH), or a refusal. The site section is of kind
  * WILLOWERA_EDITION_ONE or WILLOWERA_EDITION_TWO. */
-uint64_t willowera_section(const uint8_t *personality, size_t personality_length, uint16_t kind);
+uint64_t willowera_section(const uint8_t *personality, uint64_t personality_length, uint16_t kind);
 
 /* ── A cabinet: up to four sites on 32 outputs ──
  *
@@ -271,22 +362,23 @@ uint64_t willowera_section(const uint8_t *personality, size_t personality_length
  *
  * The checks: the personality; then 24 (no such record, or it is not free); then 25 (outputs past the 32nd, or an output of a site in
  * another record); then 14 (outputs_length is less than 32). */
-uint64_t willowera_cabinet_place(uint8_t *row, size_t row_length, size_t record, const uint8_t *personality, size_t personality_length,
-                                 size_t first, uint8_t *outputs, size_t outputs_length);
+uint64_t willowera_cabinet_place(uint8_t *row, uint64_t row_length, uint64_t record, const uint8_t *personality,
+                                 uint64_t personality_length, uint64_t first, uint8_t *outputs, uint64_t outputs_length);
 
 /* One step of 0.1 s of the site in a record, as willowera_step does it alone: replaces its state, writes its outputs, and answers its wait
  * bound (WILLOWERA_WAIT); or a refusal.
  *
  * The checks: 24 (no such record, or it is free); then the held personality; then 25 (outputs past the 32nd); then 13, 15 and, if
  * outputs_length is less than 32, 14. */
-uint64_t willowera_cabinet_step(uint8_t *row, size_t row_length, size_t record, uint64_t inputs, uint8_t *outputs, size_t outputs_length);
+uint64_t willowera_cabinet_step(uint8_t *row, uint64_t row_length, uint64_t record, uint64_t inputs, uint8_t *outputs,
+                                uint64_t outputs_length);
 
 /* Takes the site out of a record: the record is zeros and free, the site's outputs are dark, and the answer is 0; or a refusal. The state
  * does not matter.
  *
  * The checks: 24 (no such record, or it is free); then the held personality; then 25 (outputs past the 32nd); then 14 (outputs_length is
  * less than 32). */
-uint64_t willowera_cabinet_take_out(uint8_t *row, size_t row_length, size_t record, uint8_t *outputs, size_t outputs_length);
+uint64_t willowera_cabinet_take_out(uint8_t *row, uint64_t row_length, uint64_t record, uint8_t *outputs, uint64_t outputs_length);
 
 /* The version of the interface of the archive. It equals WILLOWERA_VERSION if this header belongs to the archive. */
 #define WILLOWERA_VERSION 5

@@ -3,6 +3,7 @@
  *     cc -O2 -pthread -Iinclude examples/c/stack.c target/staticlib/libwillowera.a -o stack
  *     ./stack examples/largest/personality.bin 2000
  */
+#define _DEFAULT_SOURCE
 #include <pthread.h>
 #include <stdio.h>
 #include <stdlib.h>
