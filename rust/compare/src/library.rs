@@ -36,6 +36,18 @@ impl Board for Library {
         packed::section(personality, kind)
     }
 
+    fn groups(&self, personality: &[u8]) -> u64 {
+        packed::groups(personality)
+    }
+
+    fn seal(&self, personality: &[u8], state: &[u8], sealed: &mut [u8]) -> u64 {
+        packed::seal(personality, state, sealed)
+    }
+
+    fn resume(&self, personality: &[u8], sealed: &[u8], state: &mut [u8]) -> u64 {
+        packed::resume(personality, sealed, state)
+    }
+
     fn why_length(&self, personality: &[u8], state: &[u8], inputs: u64) -> u64 {
         packed::why_length(personality, state, inputs)
     }

@@ -4,8 +4,9 @@
 //! One step is 0.1 s and every time is counted in steps. The model reads a
 //! personality, steps the controller, gives the colours of the signal groups,
 //! the wait bound and the sections of a personality, takes new times while it runs,
-//! says why a phase holds its green, runs a simulated road, and keeps four sites in
-//! one cabinet. It needs no heap and nothing of the standard library but its core.
+//! says why a phase holds its green, runs a simulated road, keeps four sites in one
+//! cabinet, and seals a state for the time without power. It needs no heap and nothing
+//! of the standard library but its core.
 //!
 //! A [`State`] is what the rules of a step are about. A [`TimedState`] has the times
 //! in it too, those that rule and those that wait: it is what a call hands back.
@@ -22,6 +23,7 @@ extern crate std;
 mod bits;
 mod cabinet;
 mod colours;
+mod crc;
 pub mod layout;
 mod limits;
 mod lookup;
@@ -31,6 +33,7 @@ mod record;
 mod refusal;
 mod retime;
 mod road;
+pub mod sealed;
 mod site;
 mod state;
 mod step;
@@ -42,6 +45,7 @@ mod why;
 
 pub use cabinet::{place, step_held, take_out, OUTPUTS};
 pub use colours::Colour;
+pub use crc::crc32;
 pub use layout::{PLAIN_LEN, STATE_LEN};
 pub use limits::{Edition, Limits, Setting};
 pub use lookup::{section, Part};
@@ -50,6 +54,7 @@ pub use record::{parts_in, records_of, row_of, Record, RECORDS, RECORD_LEN, ROOM
 pub use refusal::{Number, Refusal, Verdict};
 pub use retime::{retime, retime_on, times_alone_differ};
 pub use road::{Road, Stream, Vehicles, MAX_RATE, MAX_STEPS, MAX_STREAMS, RESULT_LEN, STREAM_LEN};
+pub use sealed::{resume, resume_on, seal, seal_on, SEALED_LEN};
 pub use site::{Detector, Group, Mark, Movement, PhaseTimes, Site};
 pub use state::{fresh, Interval, MovementState, Stage, State, MAX_AGE};
 pub use step::{scan, step, step_on, Answer};

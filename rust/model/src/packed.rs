@@ -1,12 +1,13 @@
 //! The model in the shape of the board library: a state is bytes that a step
 //! replaces, and an answer is one number. Its low 8 bits are 0 where the call is
 //! accepted, else the number of the refusal; the rest is the wait bound, the length
-//! of a line or the place.
+//! of a line, the number of groups or the place.
 
 use crate::cabinet;
 use crate::record::{records_of, row_of, Record};
 use crate::refusal::{Number, Refusal};
 use crate::road::{Road, RESULT_LEN};
+use crate::sealed::{resume_on, seal_on, SEALED_LEN};
 use crate::site::Site;
 use crate::timed::{step_timed_on, TimedState};
 use crate::why::{why_on, Reasons};
@@ -20,6 +21,9 @@ pub trait Board {
     fn step(&self, personality: &[u8], state: &mut [u8], inputs: u64, colours: &mut [u8]) -> u64;
     fn retime(&self, personality: &[u8], state: &mut [u8], new_personality: &[u8]) -> u64;
     fn section(&self, personality: &[u8], kind: u16) -> u64;
+    fn groups(&self, personality: &[u8]) -> u64;
+    fn seal(&self, personality: &[u8], state: &[u8], sealed: &mut [u8]) -> u64;
+    fn resume(&self, personality: &[u8], sealed: &[u8], state: &mut [u8]) -> u64;
     fn why_length(&self, personality: &[u8], state: &[u8], inputs: u64) -> u64;
     fn why(&self, personality: &[u8], state: &[u8], inputs: u64, line: &mut [u8]) -> u64;
     fn road(
@@ -71,6 +75,18 @@ impl Board for Model {
         section(personality, kind)
     }
 
+    fn groups(&self, personality: &[u8]) -> u64 {
+        groups(personality)
+    }
+
+    fn seal(&self, personality: &[u8], state: &[u8], sealed: &mut [u8]) -> u64 {
+        seal(personality, state, sealed)
+    }
+
+    fn resume(&self, personality: &[u8], sealed: &[u8], state: &mut [u8]) -> u64 {
+        resume(personality, sealed, state)
+    }
+
     fn why_length(&self, personality: &[u8], state: &[u8], inputs: u64) -> u64 {
         why_length(personality, state, inputs)
     }
@@ -115,7 +131,7 @@ pub fn number(answer: u64) -> u8 {
     answer as u8
 }
 
-/// The wait bound, the length of a line or the place in an answer.
+/// The wait bound, the length of a line, the number of groups or the place in an answer.
 pub fn rest(answer: u64) -> u64 {
     answer >> 8
 }
@@ -185,6 +201,47 @@ pub fn section(personality: &[u8], kind: u16) -> u64 {
     crate::section(personality, kind).map_or_else(refuse, |part| {
         u64::from(part.offset) << 8 | u64::from(part.length) << 40
     })
+}
+
+/// The number of signal groups of a personality.
+pub fn groups(personality: &[u8]) -> u64 {
+    Site::read(personality).map_or_else(refuse, |site| accept(site.group_count() as u32))
+}
+
+/// Seals a state: writes a record into a buffer that is exactly as long.
+pub fn seal(personality: &[u8], state: &[u8], sealed: &mut [u8]) -> u64 {
+    let record = Site::read(personality).and_then(|site| {
+        let timed = TimedState::from_bytes(state);
+        let timed = timed.ok_or(Refusal::without_place(Number::InvalidState))?;
+        seal_on(&site, personality, &timed)
+    });
+    match record {
+        Ok(_) if sealed.len() != SEALED_LEN => Number::ShortBuffer as u64,
+        Ok(record) => {
+            sealed.copy_from_slice(&record);
+            0
+        }
+        Err(refusal) => refuse(refusal),
+    }
+}
+
+/// Gives back the state of a sealed record: 13 where the buffer is not as long as a
+/// state, before the record is looked at.
+pub fn resume(personality: &[u8], sealed: &[u8], state: &mut [u8]) -> u64 {
+    let site = match Site::read(personality) {
+        Ok(site) => site,
+        Err(refusal) => return refuse(refusal),
+    };
+    if state.len() != STATE_LEN {
+        return Number::InvalidState as u64;
+    }
+    match resume_on(&site, personality, sealed) {
+        Ok(timed) => {
+            state.copy_from_slice(&timed.to_bytes());
+            0
+        }
+        Err(refusal) => refuse(refusal),
+    }
 }
 
 /// The length of the line that says why a phase holds; 0 outside running.

@@ -33,7 +33,8 @@ pub enum Number {
     InvalidState = 13,
     /// The colour buffer is shorter than the group count, the result buffer
     /// shorter than the results, the output buffer shorter than the outputs, or the
-    /// line buffer shorter than the line.
+    /// line buffer shorter than the line; or the buffer for a sealed record is not
+    /// exactly as long as one.
     ShortBuffer = 14,
     /// An input bit is set without a detector or button there.
     UnknownInput = 15,
@@ -53,6 +54,13 @@ pub enum Number {
     WrongOutputs = 25,
     /// A second personality that differs in more than time settings.
     NotTimesAlone = 26,
+    /// A sealed record of another version.
+    OtherVersion = 27,
+    /// A sealed record with another length than it was written with, or whose check
+    /// value is not that of its bytes.
+    Damaged = 28,
+    /// A sealed record of another personality.
+    OtherPersonality = 29,
 }
 
 /// A refusal: its number, and the byte of the personality it is about (0 where

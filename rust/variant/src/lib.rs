@@ -33,6 +33,9 @@ calls! {
     step(personality: &[u8], state: &mut [u8], inputs: u64, colours: &mut [u8]);
     retime(personality: &[u8], state: &mut [u8], new_personality: &[u8]);
     section(personality: &[u8], kind: u16);
+    groups(personality: &[u8]);
+    seal(personality: &[u8], state: &[u8], sealed: &mut [u8]);
+    resume(personality: &[u8], sealed: &[u8], state: &mut [u8]);
     why_length(personality: &[u8], state: &[u8], inputs: u64);
     why(personality: &[u8], state: &[u8], inputs: u64, line: &mut [u8]);
     road(personality: &[u8], streams: &[u8], steps: u32, state: &mut [u8], results: &mut [u8]);

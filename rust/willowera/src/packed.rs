@@ -30,6 +30,23 @@ mod ffi {
             new_personality_len: usize,
         ) -> u64;
         pub fn willowera_section(personality: *const u8, personality_len: usize, kind: u16) -> u64;
+        pub fn willowera_groups(personality: *const u8, personality_len: usize) -> u64;
+        pub fn willowera_seal(
+            personality: *const u8,
+            personality_len: usize,
+            state: *const u8,
+            state_len: usize,
+            sealed: *mut u8,
+            sealed_len: usize,
+        ) -> u64;
+        pub fn willowera_resume(
+            personality: *const u8,
+            personality_len: usize,
+            sealed: *const u8,
+            sealed_len: usize,
+            state: *mut u8,
+            state_len: usize,
+        ) -> u64;
         pub fn willowera_why_length(
             personality: *const u8,
             personality_len: usize,
@@ -154,6 +171,45 @@ pub fn retime(personality: &[u8], state: &mut [u8], new_personality: &[u8]) -> u
 pub fn section(personality: &[u8], kind: u16) -> u64 {
     // SAFETY: the pointer and the length are those of one slice, only read.
     unsafe { ffi::willowera_section(personality.as_ptr(), personality.len(), kind) }
+}
+
+/// The number of signal groups of a personality.
+pub fn groups(personality: &[u8]) -> u64 {
+    // SAFETY: the pointer and the length are those of one slice, only read.
+    unsafe { ffi::willowera_groups(personality.as_ptr(), personality.len()) }
+}
+
+/// Seals a state for the time without power: writes a record into a buffer of exactly
+/// 347 bytes, unless it is refused.
+pub fn seal(personality: &[u8], state: &[u8], sealed: &mut [u8]) -> u64 {
+    // SAFETY: each pointer and length are those of one slice; the one lent for
+    // writing overlaps neither of the two that are only read.
+    unsafe {
+        ffi::willowera_seal(
+            personality.as_ptr(),
+            personality.len(),
+            state.as_ptr(),
+            state.len(),
+            sealed.as_mut_ptr(),
+            sealed.len(),
+        )
+    }
+}
+
+/// Gives back the state of a sealed record: writes it, unless it is refused.
+pub fn resume(personality: &[u8], sealed: &[u8], state: &mut [u8]) -> u64 {
+    // SAFETY: each pointer and length are those of one slice; the one lent for
+    // writing overlaps neither of the two that are only read.
+    unsafe {
+        ffi::willowera_resume(
+            personality.as_ptr(),
+            personality.len(),
+            sealed.as_ptr(),
+            sealed.len(),
+            state.as_mut_ptr(),
+            state.len(),
+        )
+    }
 }
 
 /// The length of the line that says why a phase holds; 0 outside running.

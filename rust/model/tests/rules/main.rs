@@ -18,6 +18,7 @@ mod resting_walk;
 mod retime;
 mod road;
 mod running;
+mod sealed;
 mod states;
 mod trace;
 mod wait;
