@@ -1,1 +1,2 @@
 pub mod SectionAnswers
+pub mod GroupsAnswers

@@ -1,1 +1,2 @@
 pub mod SectionCall
+pub mod GroupsCall

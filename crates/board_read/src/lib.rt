@@ -1,9 +1,10 @@
-// The calls of the board interface on a personality alone: accept or refuse it, its wait bound, and where a section is.
+// The calls of the board interface on a personality alone: accept or refuse it, its wait bound, its number of groups, and where a section is.
 ghost use Prim.Native.Nat.{_+_, _*_, _<_};
 ghost use mathlib.Core.Path.{_≡_};
 ghost use Rattle.rules.specs.Call.{boundOf};
 ghost use Rattle.rules.specs.Personality.{verdictOf};
 ghost use Rattle.board_answers.specs.Answers.{packedVerdict, packedOutcome};
+ghost use Rattle.board_read.specs.GroupsCall.{groupsAnswer};
 ghost use Rattle.board_read.specs.SectionCall.{sectionAnswer};
 use base_bytes::two_at;
 use board_answers::packed;
@@ -30,6 +31,19 @@ pub fn wait_bound(personality: &[u8]) -> u64
     match outcome {
         Outcome::Stepped { wait } => packed(0, wait),
         Outcome::StepRefused { number, place } => refusal(number, place),
+    }
+}
+
+// The number of signal groups of a personality, or its refusal.
+pub fn groups(personality: &[u8]) -> u64
+    ensures { λ r. ⌜ r ≡ groupsAnswer (now (personality .entry)) ⌝ }
+{
+    let reading = read_personality::read_with_layout(personality);
+    let verdict = reading.verdict;
+    let layout = reading.layout;
+    match verdict {
+        Verdict::Accepted => packed(0, layout.groupcount as u32),
+        Verdict::Refused { number, place } => refusal(number, place),
     }
 }
 

@@ -14,6 +14,7 @@
 --   Bits        bits of one number: bit-above, bit-below, bit-lower, bit-down, bit-up, half-bit, odd-bit, same-bits, no-bits, bit-one
 --   BitRanges   bits from a place on or below one: no-bits-from, bit-from, reaches, full-each, all-full, ones-counted, shifted, firsts
 --   JoinedBits  bits of two numbers: bit-and, bit-or, bit-xor, in-common, common-below, joined-below, first-row, next-row
+--   ExclusiveOr numbers with the same bits: same-numbers; xor-swap, xor-assoc, xor-twice, xor-cancel, xor-split
 --   LowestBit   a pass that takes the lowest bit of what is left: lowest, others, taken, Left, next-within, left-more, counted, counted-same
 --   Words       a number as the set of the indices below n that pass: wordOf, word-small, word-bit, word-past
 --   ByteSets    a byte as a set: set-small, bit-set, set-same, set-told, self-told, union-told, with-told, without-told, below-told
@@ -31,6 +32,7 @@ pub mod Entries
 pub mod Bits
 pub mod BitRanges
 pub mod JoinedBits
+pub mod ExclusiveOr
 pub mod LowestBit
 pub mod Words
 pub mod ByteSets

@@ -19,6 +19,19 @@ pub fn put_two(bytes: &mut [u8], at: usize, x: u16)
     bytes[at + 1] = (x / 256) as u8;
 }
 
+// ---- All bytes of a part ----
+
+pub fn put_all(bytes: &mut [u8], at: usize, part: &[u8])
+    requires { ⌜ at + length (now part) ≤ length (now bytes) ⌝ }
+    ensures { λ _. ⌜ now (bytes .exit) ≡ sets (now (bytes .entry)) at (now (part .entry)) ⌝ }
+{
+    let mut i: usize = 0;
+    while i < part.len() {
+        bytes[at + i] = part[i];
+        i += 1;
+    }
+}
+
 // ---- A phase or none ----
 
 pub fn held_known(bytes: &[u8], at: usize) -> bool

@@ -5,11 +5,14 @@ ghost use mathlib.Core.Path.{_≡_};
 ghost use lib.ListN.{length};
 ghost use Rattle.rules.specs.Call.{boundOf};
 ghost use Rattle.rules.specs.Personality.{verdictOf};
+ghost use Rattle.state_sealed.specs.Sealed.{interfaceVersion};
 ghost use Rattle.board_answers.specs.Answers.{packedVerdict, packedOutcome};
+ghost use Rattle.board_read.specs.GroupsCall.{groupsAnswer};
 ghost use Rattle.board_read.specs.SectionCall.{sectionAnswer};
 ghost use Rattle.board_fresh.specs.FreshCall.{freshAnswer, freshAfter};
 ghost use Rattle.board_retime.specs.RetimeCall.{retimeAnswer, retimeAfter};
 ghost use Rattle.board_step.specs.StepCall.{stepAnswer, stateAfter, coloursAfter};
+ghost use Rattle.board_seal.specs.SealCall.{sealAnswer, sealAfter, resumeAnswer, resumeAfter};
 ghost use Rattle.board_panel.specs.PanelCall.{whyLengthAnswer, whyAnswer, lineAfter};
 ghost use Rattle.board_settings.specs.SettingsCall.{settingsAnswer};
 ghost use Rattle.board_yellow.specs.YellowCall.{yellowAnswer};
@@ -20,9 +23,9 @@ pub mod cabinet;
 // The version of the interface.
 #[no_mangle]
 pub extern "C" fn willowera_version() -> u32
-    ensures { λ r. ⌜ r ≡ 5 ⌝ }
+    ensures { λ r. ⌜ r ≡ interfaceVersion ⌝ }
 {
-    5
+    state_sealed::VERSION as u32
 }
 
 // ---- A personality ----
@@ -41,6 +44,14 @@ pub extern "C" fn willowera_wait_bound(personality: &[u8]) -> u64
     ensures { λ r. ⌜ r ≡ packedOutcome (boundOf (now (personality .entry))) ⌝ }
 {
     board_read::wait_bound(personality)
+}
+
+// The number of signal groups of a personality, or its refusal.
+#[no_mangle]
+pub extern "C" fn willowera_groups(personality: &[u8]) -> u64
+    ensures { λ r. ⌜ r ≡ groupsAnswer (now (personality .entry)) ⌝ }
+{
+    board_read::groups(personality)
 }
 
 // Offset and length of the body of a section, or a refusal.
@@ -108,6 +119,26 @@ pub extern "C" fn willowera_why(
         × (now (line .exit) ≡ lineAfter (now (personality .entry)) (now (state .entry)) inputs (now (line .entry))) ⌝ }
 {
     board_panel::why(personality, state, inputs, line)
+}
+
+// ---- A site without power ----
+
+// Writes the sealed record of a state, and answers 0. A refused call writes nothing.
+#[no_mangle]
+pub extern "C" fn willowera_seal(personality: &[u8], state: &[u8], sealed: &mut [u8]) -> u64
+    ensures { λ r. ⌜ (r ≡ sealAnswer (now (personality .entry)) (now (state .entry)) (now (sealed .entry)))
+        × (now (sealed .exit) ≡ sealAfter (now (personality .entry)) (now (state .entry)) (now (sealed .entry))) ⌝ }
+{
+    board_seal::seal(personality, state, sealed)
+}
+
+// Writes the state of a sealed record, and answers 0. A refused call writes nothing.
+#[no_mangle]
+pub extern "C" fn willowera_resume(personality: &[u8], sealed: &[u8], state: &mut [u8]) -> u64
+    ensures { λ r. ⌜ (r ≡ resumeAnswer (now (personality .entry)) (now (sealed .entry)) (now (state .entry)))
+        × (now (state .exit) ≡ resumeAfter (now (personality .entry)) (now (sealed .entry)) (now (state .entry))) ⌝ }
+{
+    board_seal::resume(personality, sealed, state)
 }
 
 // ---- Settings of a site ----

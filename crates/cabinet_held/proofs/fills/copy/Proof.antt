@@ -1,48 +1,22 @@
--- `cabinet_held::fills::copy` meets its contract: after i turns the first i bytes are those of `from`.
-use Rattle.cabinet_held.proofs.Bytes.{filled-length, copied}
-use Prim.Native.Nat.{_-_, _≤_, _<_}
-use mathlib.Core.Path.{refl}
-use lib.ListN.{length, getD}
+-- `cabinet_held::fills::copy` meets its contract: the bytes are stored from the start of the buffer on.
+use mathlib.Core.Path.{_∙_}
 use native.Mathlib.Omega.{arith}
+use lib.ListN.{length}
+use lib.Seq.{sets-eq}
 use borrow.Author.Needs.{needs}
-use Rattle.laws.proofs.Arrays.{Filled, fill-none, fill-step}
 use Rattle.cabinet_held.proofs.fills.copy.Statement.{statement}
 use Rattle.cabinet_held.proofs.fills.copy.Tie as tie
 
-abbrev Inv-loop : tie.InvT-loop
-Inv-loop from to₀ i₀ to i = (i ≤ length from) × Filled (λ j. getD from j 0) to₀ to i
+put-all-requires : tie.Need-put-all-requires
+put-all-requires c κs = search needs
 
-abbrev μ-loop : tie.MeasureT-loop
-μ-loop from to₀ i₀ to i = length from - i
+same-length : tie.Need-same-length
+same-length c = search needs
 
-loop-holds : tie.Need-loop-holds Inv-loop μ-loop
-loop-holds c = (search needs, fill-none _ _)
-
-shared-slice-read-to : tie.Need-shared-slice-read-to Inv-loop μ-loop
-shared-slice-read-to c = search needs
-
-slice-write-to : tie.Need-slice-write-to Inv-loop μ-loop
-slice-write-to c =
-    let here = c .before .before .loop in
-    omega (arith, filled-length (here .inv .1) (omega arith))
-
-add-i : tie.Need-add-i Inv-loop μ-loop
-add-i c = search needs
-
-loop-less : tie.Need-loop-less Inv-loop μ-loop
-loop-less c = search needs
-
-loop-again : tie.Need-loop-again Inv-loop μ-loop
-loop-again c =
-    let turn = c .before in
-    let inside : turn .before .loop .i < length (turn .before .before .args .to .now) = omega arith in
-    (search needs, fill-step (turn .before .loop .inv .1) inside refl)
-
-same-length : tie.Need-same-length Inv-loop μ-loop
-same-length c = filled-length (c .before .loop .inv .1) (omega arith)
-
-returns : tie.Need-returns Inv-loop μ-loop
-returns c = copied (c .before .before .args .from .now) _ _ _ (c .before .loop .inv .1) (c .before .loop .inv .0) (c .loop-test .left)
+returns : tie.Need-returns
+returns c =
+    let a = c .before .before .args in
+    c .put-all .ensures ∙ sets-eq (a .from .now) (a .to .now) 0 (omega arith)
 
 pub copy-spec : {M : Type 1} → statement M
-copy-spec = tie.close (tie.spec Inv-loop μ-loop loop-holds shared-slice-read-to slice-write-to add-i loop-less loop-again same-length returns)
+copy-spec = tie.close (tie.spec put-all-requires same-length returns)

@@ -1,0 +1,4 @@
+pub mod Shifts
+pub mod Numbers
+pub mod Bursts
+pub mod CrcCases

@@ -1,0 +1,4 @@
+pub mod SealAnswers
+pub mod SealLaws
+pub mod SealedRuns
+pub mod SealCases

@@ -1,0 +1,4 @@
+pub mod SealLaws
+pub mod SealAnswers
+pub mod SealedRuns
+pub mod SealCases

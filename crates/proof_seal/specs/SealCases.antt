@@ -1,0 +1,68 @@
+-- Worked cases: the junction of two phases, its fresh state and the sealed record of this state, and what other records are refused with.
+use Prim.Native.Nat.{ℕ}
+use mathlib.Core.List.{List, [], _∷_, _++_}
+use mathlib.Core.Path.{_≡_}
+use lib.ListN.{length, take, set, replicate}
+use Rattle.rules.specs.declared.answer.Verdict.{Verdict}
+use Rattle.rules.specs.declared.answer.Verdict.the-variants.{Accepted, Refused}
+use Rattle.rules.specs.Site.{siteOf}
+use Rattle.rules.specs.Timed.{freshTimed}
+use Rattle.rules.specs.Kept.{freshKept}
+use Rattle.rules.specs.Junctions.{shortPhase, junction, slower}
+use Rattle.state_bytes.specs.Layout.{encoded}
+use Rattle.state_timed.specs.TimedLayout.{timedEncoded}
+use Rattle.state_sealed.specs.Sealed.{sealedBytes, sealedOf}
+use Rattle.board_seal.specs.SealCall.{sealAnswer, sealAfter, recordVerdict}
+
+-- the fresh state; the times of the junction rule, and none wait
+unfoldable pub junctionState : List ℕ
+junctionState = encoded freshKept ++ (10 ∷ 0 ∷ (shortPhase ++ shortPhase)) ++ replicate 271 0
+
+unfoldable pub JunctionStarts : Type 0
+JunctionStarts = timedEncoded (freshTimed (siteOf junction)) ≡ junctionState
+
+-- version 5, 68 bytes with the check value 0xA42C18F8; the record has the check value 0x47D5E107
+unfoldable pub junctionRecord : List ℕ
+junctionRecord = (5 ∷ 68 ∷ 0 ∷ 248 ∷ 24 ∷ 44 ∷ 164 ∷ []) ++ junctionState ++ (7 ∷ 225 ∷ 213 ∷ 71 ∷ [])
+
+unfoldable pub JunctionIsSealed : Type 0
+JunctionIsSealed =
+    (room : List ℕ) →
+    length room ≡ sealedBytes →
+    (sealAnswer junction junctionState room ≡ 0) × (sealAfter junction junctionState room ≡ junctionRecord)
+
+-- ── Records that are handed in ──
+
+-- a personality, a record, and the verdict of its checks
+pub data Case : Type 0 where
+  on : List ℕ → List ℕ → Verdict → Case
+
+abbrev Holds : Case → Type 0
+Holds (on b sealed verdict) = recordVerdict b sealed ≡ verdict
+
+unfoldable pub cases : List Case
+cases =
+    on junction junctionRecord Accepted
+    -- another version, also with other damage
+    ∷ on junction (set junctionRecord 0 4) (Refused 27 0)
+    ∷ on junction (set (set junctionRecord 0 6) 9 2) (Refused 27 0)
+    -- no bytes, one too few, one too many
+    ∷ on junction [] (Refused 28 0)
+    ∷ on junction (take 346 junctionRecord) (Refused 28 0)
+    ∷ on junction (junctionRecord ++ (0 ∷ [])) (Refused 28 0)
+    -- age 2 for 1, another last byte, another length of the personality
+    ∷ on junction (set junctionRecord 9 2) (Refused 28 0)
+    ∷ on junction (set junctionRecord 346 70) (Refused 28 0)
+    ∷ on junction (set junctionRecord 1 69) (Refused 28 0)
+    -- the junction with longer times
+    ∷ on slower junctionRecord (Refused 29 0)
+    -- a whole record without a valid state
+    ∷ on junction (sealedOf junction (replicate 336 0)) (Refused 13 0)
+    ∷ []
+
+abbrev AllHold : List Case → Type 0
+AllHold [] = Unit {0}
+AllHold (c ∷ cases) = Holds c × AllHold cases
+
+unfoldable pub CasesHold : Type 0
+CasesHold = AllHold cases
