@@ -4,13 +4,13 @@
 //! roads FILE` and `compare cabinets FILE` run the vectors of the Python road and
 //! cabinet on the library and on the model, `compare retimes FILE` the lists of calls of
 //! the Python controller, `compare whys FILE` those for the line that says why a phase
-//! holds.
+//! holds, `compare seals FILE` those that seal states and resume them.
 
 #![forbid(unsafe_code)]
 
 use compare::{
-    board_name, run_cabinet_vectors, run_cases, run_lists, run_road_vectors, run_watches,
-    run_why_vectors, Asked, Lists, BOARD,
+    board_name, run_cabinet_vectors, run_cases, run_lists, run_road_vectors, run_seal_vectors,
+    run_watches, run_why_vectors, Asked, Lists, Sealings, BOARD,
 };
 use model::packed::{Board, Model};
 use std::process::ExitCode;
@@ -21,7 +21,8 @@ const USAGE: &str = "usage: compare SEED CASES
        compare roads FILE
        compare cabinets FILE
        compare retimes FILE
-       compare whys FILE";
+       compare whys FILE
+       compare seals FILE";
 
 /// What is to be done.
 enum Task {
@@ -38,6 +39,7 @@ fn main() -> ExitCode {
             "cabinets" => return exit_code(vectors(file, cabinets)),
             "retimes" => return exit_code(vectors(file, retimes)),
             "whys" => return exit_code(vectors(file, whys)),
+            "seals" => return exit_code(vectors(file, seals)),
             _ => {}
         }
     }
@@ -126,6 +128,11 @@ fn retimes(board: &dyn Board, file: &[u8]) -> Result<String, String> {
 fn whys(board: &dyn Board, file: &[u8]) -> Result<String, String> {
     let Asked { lists, lines } = run_why_vectors(board, file)?;
     Ok(format!("{lists:>9}  lists of states, {lines} lines"))
+}
+
+fn seals(board: &dyn Board, file: &[u8]) -> Result<String, String> {
+    let Sealings { lists, calls } = run_seal_vectors(board, file)?;
+    Ok(format!("{lists:>9}  lists of sealed states, {calls} calls"))
 }
 
 /// Runs the vectors of a file on the model and on the board.

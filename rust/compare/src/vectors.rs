@@ -37,6 +37,20 @@ pub fn take_behind_length<'a>(file: &mut &'a [u8]) -> Option<&'a [u8]> {
     take_bytes(file, length.into())
 }
 
+/// A number of one byte, and a place, a length or a count of four.
+pub fn take_answer(file: &mut &[u8]) -> Option<u64> {
+    let [number] = take_array(file)?;
+    let rest = u32::from_le_bytes(take_array(file)?);
+    Some(u64::from(rest) << 8 | u64::from(number))
+}
+
+pub fn same_answer(what: &str, expected: u64, found: u64) -> Result<(), String> {
+    if expected == found {
+        return Ok(());
+    }
+    Err(format!("{what}, expected {expected:#x}, found {found:#x}"))
+}
+
 pub fn same(what: &str, expected: &[u8], found: &[u8]) -> Result<(), String> {
     if expected == found {
         return Ok(());

@@ -1,7 +1,8 @@
 //! The calls of the Python model for the line that says why a phase holds, which
 //! `vectors/make_why.py` writes, on a board.
 
-use crate::vectors::{same, take_array, take_behind_length, take_bytes, CANARY};
+use crate::vectors::CANARY;
+use crate::vectors::{same, same_answer, take_answer, take_array, take_behind_length, take_bytes};
 use model::packed::Board;
 
 /// How many lists were run, and how many times a line was asked for in them.
@@ -77,13 +78,6 @@ fn take_told<'a>(file: &mut &'a [u8]) -> Option<Told<'a>> {
     })
 }
 
-/// A number of one byte, and a place or length of four.
-fn take_answer(file: &mut &[u8]) -> Option<u64> {
-    let [number] = take_array(file)?;
-    let rest = u32::from_le_bytes(take_array(file)?);
-    Some(u64::from(rest) << 8 | u64::from(number))
-}
-
 impl Question<'_> {
     /// Makes both calls and leaves the state for the next ones.
     fn ask(
@@ -107,13 +101,6 @@ impl Question<'_> {
         expected.resize(self.room, CANARY);
         same("the line", &expected, &line)
     }
-}
-
-fn same_answer(what: &str, expected: u64, found: u64) -> Result<(), String> {
-    if expected == found {
-        return Ok(());
-    }
-    Err(format!("{what}, expected {expected:#x}, found {found:#x}"))
 }
 
 #[cfg(test)]
