@@ -22,13 +22,13 @@ The rules. In backticks:
     be a package of rust/. `Type::item`: a variant, constant or function of the type.
  4. `File.name`: a definition of File.antt in specs/ or proofs/, or a field of the type File; in `rules`, in `laws` or in a crate
     that the section names.
- 5. `willowera_name`: an exported function, in each of the three places of rule 15.
+ 5. `willowera_name`: an exported function, in each of the three places of rule 15; or a function of another header in include/.
  6. `snake_case`: a crate, a must-fail edit, an example, a package of rust/, or something declared in the code. In a document beside .edit
     files: an edit of that folder, a crate or a function. `prefix_` and `prefix_*`: at least one of these begins with it. C types (`_t`) are
     not checked.
  7. `camelCase`, `Capital`: a definition, a type, a variant, a field or a file of any crate, or a name that a crate takes from the libraries.
  8. `kebab-case`: a theorem, a folder, or a word of a site's text (in quotes in examples/build.py).
- 9. `WILLOWERA_NAME`: it stands in include/willowera.h or in rust/.
+ 9. `WILLOWERA_NAME`: it stands in a header of include/ or in rust/.
 10. `word`, of small letters alone: it occurs in the code of a crate or of rust/ outside comments, or in a script or a text of the repository.
 11. Of several words in one pair of backticks, those after `rt check`, `rt dev` and the like are crates, one after `cargo .. -p` is a package
     of rust/, a path that begins with a folder of the repository must exist, `a::b` is checked as in 3, and a word with a capital inside it must
@@ -155,14 +155,16 @@ class Tree:
         self.anywhere = set().union(*in_crates.values(), *in_rust.values(), *self.members.values())
         self.modules = {os.path.basename(f).rsplit('.', 1)[0] for f in in_crates}
         self.theorems = set().union(*(names for f, names in in_crates.items() if f.endswith('.antt')))
-        header = ''.join(self.text(f) for f in self.files if f.startswith('include/'))
+        header = self.text('include/willowera.h')
+        beside = ''.join(self.text(f) for f in self.files if f.startswith('include/') and f != 'include/willowera.h')
         sources = lambda folder: ''.join(self.text(f) for f in self.declared if f.startswith(folder))
         self.exports = {
             'include/willowera.h': set(re.findall(r'\b(willowera_\w+)\s*\(', re.sub(r'(?s)/\*.*?\*/', '', header))),
             'crates/willowera/src': set(re.findall(r'pub extern "C" fn (willowera_\w+)', sources('crates/willowera/src/'))),
             'rust/willowera/src': set(re.findall(r'pub fn (willowera_\w+)', sources('rust/willowera/src/'))),
         }
-        self.capitals = set(re.findall(r'WILLOWERA_[A-Z0-9_]+', header + sources('rust/')))
+        self.capitals = set(re.findall(r'WILLOWERA_[A-Z0-9_]+', header + beside + sources('rust/')))
+        self.beside = set(re.findall(r'\b(willowera_\w+)\s*\(', re.sub(r'(?s)/\*.*?\*/', '', beside)))
         self.site_words = set(re.findall(r'["\']([a-z]+(?:-[a-z]+)+)["\']', self.text('examples/build.py')))
 
     def text(self, path):
@@ -285,6 +287,8 @@ def find_word(tree, word, folder, scope):
         if word.endswith('_t'):
             return None
         if word.startswith('willowera_'):
+            if word in tree.beside:
+                return None
             missing = [where for where, names in tree.exports.items() if word not in names]
             return 'an exported function in ' + ' and '.join(missing) if missing else None
         return find_snake(tree, word, folder)
@@ -293,7 +297,7 @@ def find_word(tree, word, folder, scope):
         begins = tuple(tree.crates) + tuple(tree.anywhere) + tuple(tree.edit_labels)
         return None if any(n.startswith(m.group(1)) for n in begins) else 'a crate or a function that begins so'
     if CAPITALS.match(word):
-        return None if word in tree.capitals else 'a name in include/willowera.h or rust/'
+        return None if word in tree.capitals else 'a name in include/ or rust/'
     if CAMEL.match(word):
         if word in tree.anywhere or word in tree.modules or word in tree.taken:
             return None
