@@ -41,13 +41,13 @@ def clang(target, strict, *words):
     subprocess.run(words, check=True, stdin=subprocess.DEVNULL)
 
 
-def allowed(target):
+def allowed(target, path=HERE / "needs.txt"):
     """The outside names that the archive of a target may need."""
     names = set()
-    for number, line in enumerate((HERE / "needs.txt").read_text().splitlines(), 1):
+    for number, line in enumerate(path.read_text().splitlines(), 1):
         head, colon, rest = line.split("#")[0].partition(":")
         if not colon and head.strip():
-            raise Refused(f"targets/needs.txt:{number}: expected TARGET..: NAME..")
+            raise Refused(f"{path}:{number}: expected TARGET..: NAME..")
         if target in head.split():
             names.update(rest.split())
     return names

@@ -295,11 +295,13 @@ class Alone:
 
 
 def told(main):
-    """Runs a program; a refusal becomes its sentence and exit status 1."""
+    """Runs a program; a refusal, or a failed command, becomes a sentence and exit status 1."""
     try:
         sys.exit(main())
     except Refused as refusal:
         sys.exit(f"{Path(sys.argv[0]).name}: {refusal}")
+    except subprocess.CalledProcessError as failed:
+        sys.exit(f"{Path(sys.argv[0]).name}: this command failed: {' '.join(map(str, failed.cmd))}")
 
 
 if __name__ == "__main__":

@@ -16,29 +16,33 @@ static int aligned(const void *a, const void *b)
     return (((uintptr_t)a | (uintptr_t)b) & 3) == 0;
 }
 
+/* The bytes may overlap if they go down. */
+static void copy_upwards(uint8_t *to, const uint8_t *from, size_t length)
+{
+    if (aligned(to, from))
+        for (; length >= 4; length -= 4, to += 4, from += 4)
+            *(word *)to = *(const word *)from;
+    while (length-- > 0)
+        *to++ = *from++;
+}
+
 WEAK void *memcpy(void *restrict to, const void *restrict from, size_t length)
 {
-    uint8_t *t = to;
-    const uint8_t *f = from;
-
-    if (aligned(t, f))
-        for (; length >= 4; length -= 4, t += 4, f += 4)
-            *(word *)t = *(const word *)f;
-    while (length-- > 0)
-        *t++ = *f++;
+    copy_upwards(to, from, length);
     return to;
 }
 
-/* Upwards if the bytes go down or do not overlap, downwards otherwise. */
 WEAK void *memmove(void *to, const void *from, size_t length)
 {
     uint8_t *t = to;
     const uint8_t *f = from;
 
+    /* not from + 1 to from + length - 1: nothing is overwritten before it is read */
     if ((uintptr_t)t - (uintptr_t)f >= length)
-        return memcpy(to, from, length);
-    while (length-- > 0)
-        t[length] = f[length];
+        copy_upwards(t, f, length);
+    else
+        while (length-- > 0)
+            t[length] = f[length];
     return to;
 }
 
