@@ -186,7 +186,7 @@ fn conflicts() {
 #[test]
 fn detectors_order_and_callers() {
     refused(
-        &[("1 B", "1 D")],
+        &[("1 B locking", "1 D locking")],
         11,
         "19:3 detector 1 is of phase D; the site has phases A to C",
         &[],
