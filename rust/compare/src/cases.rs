@@ -5,13 +5,13 @@ use crate::difference::{Difference, Failure};
 use crate::tally::Tally;
 use generate::{
     any_inputs, any_records, broken_state_bytes, damaged, invalid_timed_state, known_inputs,
-    other_edition, scrambled, twice_damaged, unknown_inputs, valid_timed_state, Breakage,
-    CabinetCall, Plan, Rng, RoadDamage, RoadPlan,
+    other_edition, record_of, scrambled, twice_damaged, unknown_inputs, valid_timed_state,
+    Breakage, CabinetCall, Plan, Rng, RoadDamage, RoadPlan,
 };
 use model::packed::Board;
 use model::{
     records_of, row_of, Site, TimedState, OUTPUTS, PLAIN_LEN, RECORDS, RECORD_LEN, RESULT_LEN,
-    ROW_LEN, STATE_LEN, STREAM_LEN,
+    ROW_LEN, SEALED_LEN, STATE_LEN, STREAM_LEN,
 };
 use monitor::{watch, watch_cabinet, watch_retimed, Driver, Strategy};
 use std::fmt;
@@ -52,10 +52,17 @@ pub enum Kind {
     WhyRun,
     Whys,
     WhyWrongs,
+    SealedRun,
+    Seals,
+    SealWrongs,
+    DamagedSeals,
+    OtherSeals,
+    InvalidSeals,
+    ResumeWrongs,
 }
 
 /// The kinds take turns, those that matter most more often.
-const TURNS: [Kind; 52] = [
+const TURNS: [Kind; 60] = [
     Kind::Accepted,
     Kind::Damaged(1),
     Kind::Run,
@@ -108,6 +115,14 @@ const TURNS: [Kind; 52] = [
     Kind::Whys,
     Kind::WhyWrongs,
     Kind::Whys,
+    Kind::SealedRun,
+    Kind::Seals,
+    Kind::SealWrongs,
+    Kind::DamagedSeals,
+    Kind::OtherSeals,
+    Kind::InvalidSeals,
+    Kind::ResumeWrongs,
+    Kind::DamagedSeals,
 ];
 
 impl Kind {
@@ -162,6 +177,13 @@ impl fmt::Display for Kind {
             Kind::WhyRun => "run of steps with the line after each",
             Kind::Whys => "lines of random valid states",
             Kind::WhyWrongs => "several wrongs in one call for a line",
+            Kind::SealedRun => "run of steps with times without power among them",
+            Kind::Seals => "random valid states sealed and resumed",
+            Kind::SealWrongs => "several wrongs in one sealing",
+            Kind::DamagedSeals => "sealed records damaged in every way",
+            Kind::OtherSeals => "sealed records of another personality",
+            Kind::InvalidSeals => "sealed records of states that may be invalid",
+            Kind::ResumeWrongs => "several wrongs in one resuming",
         };
         f.write_str(words)
     }
@@ -240,6 +262,13 @@ impl Comparison<'_> {
             Kind::WhyRun => self.why_run(),
             Kind::Whys => self.whys(),
             Kind::WhyWrongs => self.why_wrongs(),
+            Kind::SealedRun => self.sealed_run(),
+            Kind::Seals => self.seals(),
+            Kind::SealWrongs => self.seal_wrongs(),
+            Kind::DamagedSeals => self.damaged_seals(),
+            Kind::OtherSeals => self.other_seals(),
+            Kind::InvalidSeals => self.invalid_seals(),
+            Kind::ResumeWrongs => self.resume_wrongs(),
         }
     }
 
@@ -262,6 +291,10 @@ impl Comparison<'_> {
         self.step(personality, &mut state, inputs, 32)?;
         self.retime(personality, &mut state, &other)?;
         self.why(personality, &state, inputs, 32)?;
+        let sealed = self.seal(personality, &state, SEALED_LEN)?;
+        self.resume(personality, &sealed, &mut state)?;
+        let sealed = record_of(personality, &state);
+        self.resume(personality, &sealed, &mut state)?;
         let length = self.rng.below(400);
         let mut state = self.rng.bytes(length);
         let colours_len = self.rng.below(40);

@@ -13,6 +13,7 @@ mod lists;
 mod retimings;
 mod road_vectors;
 mod seal_vectors;
+mod seals;
 mod tally;
 mod vectors;
 mod watches;
