@@ -13,7 +13,7 @@ use model::{
     records_of, row_of, Site, TimedState, OUTPUTS, PLAIN_LEN, RECORDS, RECORD_LEN, RESULT_LEN,
     ROW_LEN, SEALED_LEN, STATE_LEN, STREAM_LEN,
 };
-use monitor::{watch, watch_cabinet, watch_retimed, Driver, Strategy};
+use monitor::{watch, watch_cabinet, watch_resumed, watch_retimed, Driver, Strategy, Watch};
 use std::fmt;
 
 /// What a case is about.
@@ -59,10 +59,11 @@ pub enum Kind {
     OtherSeals,
     InvalidSeals,
     ResumeWrongs,
+    ResumedWatched,
 }
 
 /// The kinds take turns, those that matter most more often.
-const TURNS: [Kind; 60] = [
+const TURNS: [Kind; 61] = [
     Kind::Accepted,
     Kind::Damaged(1),
     Kind::Run,
@@ -123,6 +124,7 @@ const TURNS: [Kind; 60] = [
     Kind::InvalidSeals,
     Kind::ResumeWrongs,
     Kind::DamagedSeals,
+    Kind::ResumedWatched,
 ];
 
 impl Kind {
@@ -184,6 +186,9 @@ impl fmt::Display for Kind {
             Kind::OtherSeals => "sealed records of another personality",
             Kind::InvalidSeals => "sealed records of states that may be invalid",
             Kind::ResumeWrongs => "several wrongs in one resuming",
+            Kind::ResumedWatched => {
+                "run with times without power watched for demand 3 and request fourteen"
+            }
         };
         f.write_str(words)
     }
@@ -243,7 +248,7 @@ impl Comparison<'_> {
             Kind::UnknownInputs => self.unknown_inputs(),
             Kind::BufferLength => self.buffer_lengths(),
             Kind::ManyWrongs => self.many_wrongs(),
-            Kind::Watched => self.watched(false),
+            Kind::Watched => self.watched(watch),
             Kind::Road => self.roads(),
             Kind::DamagedRoad => self.damaged_roads(),
             Kind::RoadBuffers => self.road_buffers(),
@@ -258,7 +263,7 @@ impl Comparison<'_> {
             Kind::RefusedSecond => self.refused_seconds(),
             Kind::BrokenTimes => self.broken_times(),
             Kind::RetimingWrongs => self.retiming_wrongs(),
-            Kind::RetimedWatched => self.watched(true),
+            Kind::RetimedWatched => self.watched(watch_retimed),
             Kind::WhyRun => self.why_run(),
             Kind::Whys => self.whys(),
             Kind::WhyWrongs => self.why_wrongs(),
@@ -269,6 +274,7 @@ impl Comparison<'_> {
             Kind::OtherSeals => self.other_seals(),
             Kind::InvalidSeals => self.invalid_seals(),
             Kind::ResumeWrongs => self.resume_wrongs(),
+            Kind::ResumedWatched => self.watched(watch_resumed),
         }
     }
 
@@ -429,12 +435,11 @@ impl Comparison<'_> {
     }
 
     /// The board alone under the monitor.
-    fn watched(&mut self, retimed: bool) -> Outcome {
+    fn watched(&mut self, watch: Watch) -> Outcome {
         let personality = Plan::random(&mut self.rng).bytes();
         let site = site_whole(&personality);
         let strategy = self.rng.pick(&Strategy::ALL);
         let mut driver = Driver::new(strategy, &site, self.rng.clone());
-        let watch = if retimed { watch_retimed } else { watch };
         let watched = watch(self.board, &personality, &mut driver, &mut self.rng, 1_000);
         match watched.expect("an accepted plan") {
             Ok(_) => Ok(()),

@@ -6,8 +6,8 @@
 //! those that are, and times rule from the start on that they waited for.
 //!
 //! [`Monitor`] is told of accepted calls; [`watch`] and [`watch_retimed`] drive a
-//! board with random or adversarial inputs and tell it, [`watch_cabinet`] the sites of
-//! a cabinet.
+//! board with random or adversarial inputs and tell it, [`watch_resumed`] with times
+//! without power among the calls, [`watch_cabinet`] the sites of a cabinet.
 
 #![forbid(unsafe_code)]
 
@@ -25,7 +25,7 @@ pub use breach::Breach;
 pub use cabinet::watch_cabinet;
 pub use demands::Demand;
 pub use drivers::{Driver, Strategy};
-pub use watching::{watch, watch_retimed, Report};
+pub use watching::{watch, watch_resumed, watch_retimed, Report, Watch};
 
 use clearances::Clearances;
 use model::{Site, State, TimedState, Times};
