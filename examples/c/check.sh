@@ -5,6 +5,7 @@
 #     check.sh headers       the headers compile without warnings as C99, C11 and C++11, with 64 and 32 bits; headers.c has what they promise
 #     check.sh conditions    what include/willowera.h says of buffers and threads, tried by conditions.c
 #     check.sh steps         steps.c prints the colours of the trace of the junction of two phases, and refuses wrong words
+#     check.sh rust          rust/willowera/examples/steps.rs prints the same colours, and refuses a wrong word
 #     check.sh why           steps.c prints why the phases of two sites hold, as it is kept in why.txt
 #     check.sh words         words.c: the refusals in words are those kept in words.txt, and fit every personality of the reader's vectors
 #     check.sh settings      settings.c prints the answers that the data sheet's table of site sheets has
@@ -33,7 +34,10 @@ undefined_names() { nm -u "$library" | awk '$1 == "U" { print $2 }' | sort | xar
 writable_sections() { readelf -SW "$library" | sed 's/^ *\[ *[0-9]*\]//' | awk '$7 ~ /W/ { print $1 }'; }
 sheets() { awk -F ' *[|] *' "/^## / { here = /from a site sheet/ } here && \$2 ~ /^[0-9]+\$/ { print $1 }" docs/DATA-SHEET.md; }
 yellows() { awk -F ' *[|] *' "/^## / { here = /^## Yellow times/ } here && \$2 ~ /^[0-9]+\$/ { print $1 }" docs/DATA-SHEET.md; }
-changes() { awk 'NR > 1 && $4 != last { print $1, $4; last = $4 }' "$1"; }
+
+# What both programs that step a site print for the junction of two phases with one call of phase B.
+called() { echo 'wait bound 270 steps' && awk 'NR > 1 && $4 != last { print $1, $4; last = $4 }' examples/two_phases/trace_call.txt; }
+rust_steps() { (cd rust && cargo run --quiet --offline -p willowera --features linked --example steps -- ../examples/two_phases/personality.bin 80 "$@"); }
 
 # Compiles headers.c, and warns of nothing. Freestanding, so that 32 bits need no second C library.
 compiles() { # COMPILER FLAGS..
@@ -81,7 +85,7 @@ conditions)
     ;;
 steps)
     site=examples/two_phases/personality.bin
-    run steps "$site" 80 12-12:1 | cmp - <(echo 'wait bound 270 steps' && changes examples/two_phases/trace_call.txt) || exit 1
+    run steps "$site" 80 12-12:1 | cmp - <(called) || exit 1
     for wrong in x 12 12-12 12-12: 12-12:1x 12-12:+1 -1-3:1 0-3:1 5-3:1 12-12:56 1-1000000000:1 ''; do
         wrong_word "$wrong" "$site" 80 12-12:1 "$wrong" || exit 1
     done
@@ -91,6 +95,11 @@ steps)
     head -c 66 "$site" >"$built/cut" && head -c 5000 /dev/zero >"$built/long"
     refused 'refused 15 0: an input bit' "$site" 9 2-2:5 && refused 'refused 1 64: the personality has only 66 bytes' "$built/cut" 9 &&
         refused 'more than 4096 bytes' "$built/long" 9 && refused 'Is a directory' "$built" 9
+    ;;
+rust)
+    rust_steps 12-12:1 | cmp - <(called) || exit 1
+    if rust_steps 12-12 >"$built/said" 2>&1; then exit 1; fi
+    grep -qF "'12-12' is not FROM-TO:BIT" "$built/said"
     ;;
 words)
     reads=crates/run_reads/data/reads
