@@ -2,7 +2,10 @@
 //! bit by bit, agree with the model's. Those that are wrong in one small thing are
 //! noticed.
 
-use compare::{run_cases, Difference, Kind};
+mod faults;
+
+use compare::Kind;
+use faults::{assert_agrees, assert_noticed, cases_of};
 use model::packed::{number, Board, Model};
 use model::{layout, Site, Times, SEALED_LEN, STATE_LEN};
 use variant::{AsBoard, Variant};
@@ -392,7 +395,7 @@ const SEED: u64 = 21;
 
 /// The cases with sealed records, and those with the number of groups, accepted and
 /// refused.
-fn cases() -> impl Iterator<Item = u64> {
+fn cases() -> Vec<u64> {
     let kinds = [
         Kind::Accepted,
         Kind::Damaged(5),
@@ -404,31 +407,19 @@ fn cases() -> impl Iterator<Item = u64> {
         Kind::InvalidSeals,
         Kind::ResumeWrongs,
     ];
-    (0..3_000).filter(move |&index| kinds.contains(&Kind::of(index)))
+    cases_of(&kinds, 3_000)
 }
 
 #[test]
 fn plain_seals_agree() {
-    if let Err(failure) = run_cases(&AsBoard(Plain(Fault::None)), SEED, cases()) {
-        panic!("{failure}");
-    }
+    assert_agrees(&AsBoard(Plain(Fault::None)), SEED, cases());
 }
 
 #[test]
 fn wrong_seals_are_noticed() {
+    let calls = ["groups: ", "seal: ", "resume: "];
     for &fault in FAULTS {
-        match run_cases(&AsBoard(Plain(fault)), SEED, cases()) {
-            Ok(_) => panic!("{fault:?} is not noticed"),
-            Err(failure) => match failure.difference {
-                Difference::Call { what, .. } => {
-                    let calls = ["groups: ", "seal: ", "resume: "];
-                    assert!(
-                        calls.iter().any(|call| what.starts_with(call)),
-                        "{fault:?}: {what}"
-                    );
-                }
-                Difference::Breach { breach, .. } => panic!("{fault:?}: {breach}"),
-            },
-        }
+        let board = AsBoard(Plain(fault));
+        assert_noticed(fault, &board, SEED, cases(), &calls);
     }
 }
