@@ -13,7 +13,7 @@ use model::{
     records_of, row_of, Site, TimedState, OUTPUTS, PLAIN_LEN, RECORDS, RECORD_LEN, RESULT_LEN,
     ROW_LEN, SEALED_LEN, STATE_LEN, STREAM_LEN,
 };
-use monitor::{watch, watch_cabinet, watch_resumed, watch_retimed, Driver, Strategy, Watch};
+use monitor::{watch, watch_cabinet, Among, Driver, Strategy};
 use std::fmt;
 
 /// What a case is about.
@@ -248,7 +248,7 @@ impl Comparison<'_> {
             Kind::UnknownInputs => self.unknown_inputs(),
             Kind::BufferLength => self.buffer_lengths(),
             Kind::ManyWrongs => self.many_wrongs(),
-            Kind::Watched => self.watched(watch),
+            Kind::Watched => self.watched(Among::Nothing),
             Kind::Road => self.roads(),
             Kind::DamagedRoad => self.damaged_roads(),
             Kind::RoadBuffers => self.road_buffers(),
@@ -263,7 +263,7 @@ impl Comparison<'_> {
             Kind::RefusedSecond => self.refused_seconds(),
             Kind::BrokenTimes => self.broken_times(),
             Kind::RetimingWrongs => self.retiming_wrongs(),
-            Kind::RetimedWatched => self.watched(watch_retimed),
+            Kind::RetimedWatched => self.watched(Among::Retimings),
             Kind::WhyRun => self.why_run(),
             Kind::Whys => self.whys(),
             Kind::WhyWrongs => self.why_wrongs(),
@@ -274,7 +274,7 @@ impl Comparison<'_> {
             Kind::OtherSeals => self.other_seals(),
             Kind::InvalidSeals => self.invalid_seals(),
             Kind::ResumeWrongs => self.resume_wrongs(),
-            Kind::ResumedWatched => self.watched(watch_resumed),
+            Kind::ResumedWatched => self.watched(Among::PowerDowns),
         }
     }
 
@@ -435,12 +435,13 @@ impl Comparison<'_> {
     }
 
     /// The board alone under the monitor.
-    fn watched(&mut self, watch: Watch) -> Outcome {
+    fn watched(&mut self, among: Among) -> Outcome {
         let personality = Plan::random(&mut self.rng).bytes();
         let site = site_whole(&personality);
         let strategy = self.rng.pick(&Strategy::ALL);
         let mut driver = Driver::new(strategy, &site, self.rng.clone());
-        let watched = watch(self.board, &personality, &mut driver, &mut self.rng, 1_000);
+        let rng = &mut self.rng;
+        let watched = watch(among, self.board, &personality, &mut driver, rng, 1_000);
         match watched.expect("an accepted plan") {
             Ok(_) => Ok(()),
             Err(breach) => Err(Box::new(Difference::Breach {

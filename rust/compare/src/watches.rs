@@ -3,8 +3,7 @@
 use generate::{Plan, Rng};
 use model::packed::Board;
 use model::{Site, OUTPUTS, RECORDS};
-use monitor::{watch, watch_cabinet, watch_resumed, watch_retimed};
-use monitor::{Breach, Driver, Report, Strategy, Watch};
+use monitor::{watch, watch_cabinet, Among, Breach, Driver, Report, Strategy};
 use std::fmt;
 
 /// What the runs of one strategy, or in cabinets, have shown together.
@@ -78,15 +77,15 @@ fn run_strategy(
             1..=3 => Plan::largest(),
             _ => Plan::random(&mut rng),
         };
-        let watch: Watch = match watched.runs % 3 {
-            0 => watch,
-            1 => watch_retimed,
-            _ => watch_resumed,
+        let among = match watched.runs % 3 {
+            0 => Among::Nothing,
+            1 => Among::Retimings,
+            _ => Among::PowerDowns,
         };
         let personality = plan.bytes();
         let site = Site::read(&personality).expect("an accepted plan");
         let mut driver = Driver::new(strategy, &site, rng.clone());
-        let report = watch(board, &personality, &mut driver, &mut rng, calls);
+        let report = watch(among, board, &personality, &mut driver, &mut rng, calls);
         match report.expect("an accepted plan") {
             Ok(report) => watched.add(&report),
             Err(breach) => return Err((personality, breach)),

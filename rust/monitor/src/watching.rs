@@ -75,14 +75,21 @@ pub(crate) const TWO_IN_A_ROW: usize = 20;
 /// Of a hundred times without power so many also try a damaged record.
 const DAMAGED_RECORDS: usize = 30;
 
-/// A way to run a board on a personality for so many calls. The outer error is a
-/// refused personality.
-pub type Watch =
-    fn(&dyn Board, &[u8], &mut Driver, &mut Rng, u64) -> Result<Result<Report, Breach>, Refusal>;
+/// What is among the steps of a run, besides wrong calls.
+#[derive(Clone, Copy, Debug, PartialEq, Eq)]
+pub enum Among {
+    Nothing,
+    /// Retimings, accepted and refused ones: in some runs many, in others few.
+    Retimings,
+    /// Times without power: the state is sealed, forgotten and resumed. Some of these
+    /// runs have retimings too.
+    PowerDowns,
+}
 
 /// Runs a board on a personality from its fresh state for so many calls, wrong
 /// calls among them. The outer error is a refused personality.
 pub fn watch(
+    among: Among,
     board: &dyn Board,
     personality: &[u8],
     driver: &mut Driver,
@@ -90,35 +97,14 @@ pub fn watch(
     calls: u64,
 ) -> Result<Result<Report, Breach>, Refusal> {
     let mut run = Run::new(board, personality)?;
-    Ok(run.go(driver, rng, calls))
-}
-
-/// The same with retimings among the calls, accepted and refused ones: in some runs
-/// many, in others few.
-pub fn watch_retimed(
-    board: &dyn Board,
-    personality: &[u8],
-    driver: &mut Driver,
-    rng: &mut Rng,
-    calls: u64,
-) -> Result<Result<Report, Breach>, Refusal> {
-    let mut run = Run::new(board, personality)?;
-    run.calls_a_retiming = Some(rng.pick(&[10, 60, 300, 1_000]));
-    Ok(run.go(driver, rng, calls))
-}
-
-/// The same with times without power among the calls: the state is sealed, forgotten and
-/// resumed. Some of these runs have retimings too.
-pub fn watch_resumed(
-    board: &dyn Board,
-    personality: &[u8],
-    driver: &mut Driver,
-    rng: &mut Rng,
-    calls: u64,
-) -> Result<Result<Report, Breach>, Refusal> {
-    let mut run = Run::new(board, personality)?;
-    run.calls_a_retiming = rng.pick(&[None, Some(10), Some(60), Some(300)]);
-    run.calls_a_power_down = Some(rng.pick(&[1, 10, 100]));
+    match among {
+        Among::Nothing => {}
+        Among::Retimings => run.calls_a_retiming = Some(rng.pick(&[10, 60, 300, 1_000])),
+        Among::PowerDowns => {
+            run.calls_a_retiming = rng.pick(&[None, Some(10), Some(60), Some(300)]);
+            run.calls_a_power_down = Some(rng.pick(&[1, 10, 100]));
+        }
+    }
     Ok(run.go(driver, rng, calls))
 }
 

@@ -1,26 +1,14 @@
 //! Runs with times without power among the calls: the model without a breach, and
 //! boards that seal or resume wrongly.
 
-use generate::{Plan, Rng};
-use model::packed::{self, Board, Model};
-use model::{layout, Interval, Number, Site, SEALED_LEN, STATE_LEN};
-use monitor::{watch_resumed, Breach, Driver, Report, Strategy};
-use variant::{AsBoard, Variant};
+mod runs;
 
-/// A run of a board.
-fn watched(
-    board: &dyn Board,
-    plan: &Plan,
-    strategy: Strategy,
-    seed: u64,
-    calls: u64,
-) -> Result<Report, Breach> {
-    let personality = plan.bytes();
-    let site = Site::read(&personality).unwrap();
-    let mut driver = Driver::new(strategy, &site, Rng::new(seed));
-    let mut rng = Rng::new(!seed);
-    watch_resumed(board, &personality, &mut driver, &mut rng, calls).unwrap()
-}
+use generate::{Plan, Rng};
+use model::packed::{self, Model};
+use model::{layout, Interval, Number, SEALED_LEN, STATE_LEN};
+use monitor::{Among, Breach, Report, Strategy};
+use runs::{first_breach, watched};
+use variant::{AsBoard, Variant};
 
 #[test]
 fn the_model_breaks_nothing() {
@@ -33,7 +21,7 @@ fn the_model_breaks_nothing() {
             _ => Plan::random(&mut rng),
         };
         for strategy in Strategy::ALL {
-            let report = watched(&Model, &plan, strategy, seed, 600)
+            let report = watched(Among::PowerDowns, &Model, &plan, strategy, seed, 600)
                 .unwrap_or_else(|breach| panic!("{strategy:?}, seed {seed}: {breach}\n{plan:?}"));
             together.power_downs += report.power_downs;
             together.demands_met += report.demands_met;
@@ -74,24 +62,9 @@ impl Variant for Odd {
     }
 }
 
-/// The first breach on some site under some strategy.
-fn first_breach(odd: Odd) -> Breach {
-    let board = AsBoard(odd);
-    let mut rng = Rng::new(7);
-    for seed in 0..10 {
-        let plan = Plan::random(&mut rng);
-        for strategy in Strategy::ALL {
-            if let Err(breach) = watched(&board, &plan, strategy, seed, 1_000) {
-                return breach;
-            }
-        }
-    }
-    panic!("the monitor notices nothing");
-}
-
 macro_rules! assert_breach {
     ($board:expr, $breach:pat) => {
-        let breach = first_breach($board);
+        let breach = first_breach(Among::PowerDowns, &AsBoard($board), Plan::random);
         assert!(matches!(breach, $breach), "{breach}");
     };
 }
