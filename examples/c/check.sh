@@ -8,6 +8,7 @@
 #     check.sh rust          rust/willowera/examples/steps.rs prints the same colours, and refuses a wrong word
 #     check.sh why           steps.c prints why the phases of two sites hold, as it is kept in why.txt
 #     check.sh words         words.c: the refusals in words are those kept in words.txt, and fit every personality of the reader's vectors
+#     check.sh arm           conditions.c, steps.c and words.c do the same with the archive for 32-bit ARM Linux, under qemu
 #     check.sh settings      settings.c prints the answers that the data sheet's table of site sheets has
 #     check.sh road          road.c prints what the tables of the example roads have, but for the longest queue
 #     check.sh cabinet       cabinet.c prints what is kept in cabinet.txt, and every site in the cabinet does what it does alone
@@ -38,6 +39,12 @@ yellows() { awk -F ' *[|] *' "/^## / { here = /^## Yellow times/ } here && \$2 ~
 # What both programs that step a site print for the junction of two phases with one call of phase B.
 called() { echo 'wait bound 270 steps' && awk 'NR > 1 && $4 != last { print $1, $4; last = $4 }' examples/two_phases/trace_call.txt; }
 rust_steps() { (cd rust && cargo run --quiet --offline -p willowera --features linked --example steps -- ../examples/two_phases/personality.bin 80 "$@"); }
+
+# Builds a program for 32-bit ARM Linux, without sanitizers, and runs it.
+run_arm() { # NAME WORDS..
+    arm-linux-gnueabihf-gcc -std=c11 -Wall -Wextra -Wconversion -O1 -static -pthread -Iinclude "examples/c/$1.c" \
+        target/targets/armv7-linux/libwillowera.a -o "$built/arm_$1" && qemu-arm "$built/arm_$1" "${@:2}"
+}
 
 # Compiles headers.c, and warns of nothing. Freestanding, so that 32 bits need no second C library.
 compiles() { # COMPILER FLAGS..
@@ -112,6 +119,12 @@ words)
 why)
     { run steps --why examples/two_phases/personality.bin 110 12-12:1 1-110:0 && built steps --why examples/crossings/personality.bin 700 60-60:48 61-61:50; } |
         diff - examples/c/why.txt
+    ;;
+arm)
+    targets/install.sh arm-linux-gnueabihf-gcc qemu-arm && targets/build.sh armv7-linux || exit 1
+    run_arm conditions examples/two_phases/personality.bin examples/largest/personality.bin &&
+        run_arm steps examples/two_phases/personality.bin 80 12-12:1 | cmp - <(called) &&
+        run_arm words kept examples/c/words.txt | diff - examples/c/words.txt && run_arm words fuzz crates/run_reads/data/reads 1 100000
     ;;
 settings)
     # shellcheck disable=SC2046 # three words of each row

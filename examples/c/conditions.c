@@ -438,9 +438,9 @@ static void cabinet_refusals_write_nothing(const struct site *site)
     need(willowera_cabinet_place(row, rows, 1, bytes, length - 1, 0, outputs, room) % 256 != 0, "a cut personality");
     need(willowera_cabinet_place(row, rows, 0, bytes, length, 0, outputs, room) == WILLOWERA_WRONG_RECORD, "24 for a record that is not free");
     need(willowera_cabinet_place(row, rows, 4, bytes, length, 0, outputs, room) == WILLOWERA_WRONG_RECORD, "24 for record 4");
-    need(willowera_cabinet_place(row, rows, SIZE_MAX, bytes, length, 0, outputs, room) == WILLOWERA_WRONG_RECORD, "24 for any number");
+    need(willowera_cabinet_place(row, rows, UINT64_MAX, bytes, length, 0, outputs, room) == WILLOWERA_WRONG_RECORD, "24 for any number");
     need(willowera_cabinet_place(row, rows, 1, bytes, length, last + 1, outputs, room) == WILLOWERA_OUTPUTS_TAKEN, "25 past the 32nd");
-    need(willowera_cabinet_place(row, rows, 1, bytes, length, SIZE_MAX, outputs, room) == WILLOWERA_OUTPUTS_TAKEN, "25 for any number");
+    need(willowera_cabinet_place(row, rows, 1, bytes, length, UINT64_MAX, outputs, room) == WILLOWERA_OUTPUTS_TAKEN, "25 for any number");
     need(willowera_cabinet_place(row, rows, 1, bytes, length, last, outputs, room) == WILLOWERA_OUTPUTS_TAKEN, "25 for taken outputs");
     need(willowera_cabinet_step(row, rows, 0, ~site->known, outputs, room - 1) == WILLOWERA_STRAY_INPUT, "15 before 14");
     need(willowera_cabinet_step(row, rows, 0, 0, outputs, room - 1) == WILLOWERA_BUFFER_SHORT, "14 when stepping");
@@ -526,9 +526,11 @@ static void empty_buffers(const struct site *site)
     free_page(page);
 }
 
-/* Lengths are taken whole: one of 2^32 and a little is not taken for a little. Only the first page of each buffer is there. */
+/* Lengths are taken whole: one of 2^32 and a little is not taken for a little. Only the first page of each buffer is there. A 32-bit target
+ * has no such buffers. */
 static void long_lengths(const struct site *site)
 {
+#if SIZE_MAX > UINT32_MAX
     const size_t over = (size_t)1 << 32;
     uint8_t *room = mmap(NULL, over + PAGE, PROT_NONE, MAP_PRIVATE | MAP_ANONYMOUS | MAP_NORESERVE, -1, 0);
     uint8_t state[WILLOWERA_STATE_BYTES];
@@ -551,6 +553,9 @@ static void long_lengths(const struct site *site)
     need(willowera_resume(site->personality, site->length, room, over + WILLOWERA_SEALED_BYTES, state, sizeof state) == WILLOWERA_DAMAGED,
          "a long record");
     munmap(room, over + PAGE);
+#else
+    (void)site;
+#endif
 }
 
 /* ── Threads and signal handlers ── */

@@ -89,7 +89,7 @@ static unsigned print_case(char *line, size_t number)
 {
     struct personality site = {{0}, 0};
     char path[256], text[WILLOWERA_MOST_WORDS_BYTES], *words = strchr(line, '|');
-    uint64_t kind = 0, given = 0;
+    unsigned long kind = 0, given = 0;
 
     need(words != NULL, "a line without |", number);
     *words = '\0';
@@ -255,7 +255,7 @@ int main(int count, char **words)
     } else if (file != NULL && count == 3 && strcmp(mode, "reads") == 0) {
         try_vectors(file);
     } else if (file != NULL && count == 5 && strcmp(mode, "fuzz") == 0) {
-        fuzz(file, strtoull(words[3], NULL, 10), strtoull(words[4], NULL, 10));
+        fuzz(file, strtoul(words[3], NULL, 10), strtoul(words[4], NULL, 10));
     } else {
         fprintf(stderr, "usage: words kept FILE | words reads READS | words fuzz READS SEED N\n");
         return 2;
