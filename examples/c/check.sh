@@ -5,7 +5,7 @@
 #     check.sh headers       the headers compile without warnings as C99, C11 and C++11, with 64 and 32 bits; headers.c has what they promise
 #     check.sh conditions    what include/willowera.h says of buffers and threads, tried by conditions.c
 #     check.sh steps         steps.c prints the colours of the trace of the junction of two phases, and refuses wrong words
-#     check.sh rust          rust/willowera/examples/steps.rs prints the same colours, and refuses a wrong word
+#     check.sh rust          rust/willowera/examples/steps.rs prints the same colours, and refuses a wrong word and an archive of another version
 #     check.sh why           steps.c prints why the phases of two sites hold, as it is kept in why.txt
 #     check.sh words         words.c: the refusals in words are those kept in words.txt, and fit every personality of the reader's vectors
 #     check.sh arm           conditions.c, steps.c and words.c do the same with the archive for 32-bit ARM Linux, under qemu
@@ -106,7 +106,11 @@ steps)
 rust)
     rust_steps 12-12:1 | cmp - <(called) || exit 1
     if rust_steps 12-12 >"$built/said" 2>&1; then exit 1; fi
-    grep -qF "'12-12' is not FROM-TO:BIT" "$built/said"
+    grep -qF "'12-12' is not FROM-TO:BIT" "$built/said" || exit 1
+    objcopy --redefine-sym willowera_version=its_version "$library" "$built/libwillowera.a" &&
+        echo 'unsigned willowera_version(void) { return 4; }' | cc -x c -c - -o "$built/other.o" && ar r "$built/libwillowera.a" "$built/other.o" || exit 1
+    if WILLOWERA_LIB_DIR=$built CARGO_TARGET_DIR=$built/cargo rust_steps 12-12:1 >"$built/said" 2>&1; then exit 1; fi
+    grep -q 'has version 4 of the interface' "$built/said"
     ;;
 words)
     reads=crates/run_reads/data/reads
