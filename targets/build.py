@@ -66,6 +66,13 @@ def check_needs(path, target):
         raise Refused(f"{target}: the archive needs {', '.join(sorted(stray))}, which targets/needs.txt does not list")
 
 
+def check_list(path, target):
+    """A list that has a name too many would not show when the archive begins to need it."""
+    stale = allowed(target) - needed(path)
+    if stale:
+        raise Refused(f"{target}: targets/needs.txt lists {', '.join(sorted(stale))}, which the archive does not need")
+
+
 def archive(target, strict, text, folder):
     """An ELF archive: the object of the module, and for strict code the copies and fills that make no unaligned access either."""
     objects = [folder / "willowera.o"]
@@ -73,6 +80,10 @@ def archive(target, strict, text, folder):
     if strict:
         objects.append(folder / "strict_memory.o")
         clang(target, strict, "-std=c11", "-ffreestanding", "-fno-builtin", "-fstack-usage", "-c", HERE / "strict_memory.c", "-o", objects[1])
+    if target.startswith("cortex"):
+        # tables for unwinding the stack: no function needs them, and a linker script without a place for them may put them before the data
+        for path in objects:
+            said_by(tool("llvm-objcopy"), "--wildcard", "--remove-section=*.ARM.exidx*", path)
     made = folder / "libwillowera.a"
     subprocess.run([tool("llvm-ar"), "rcsD", "--format=gnu", made, *objects], check=True)
     check_needs(made, target)
@@ -95,7 +106,12 @@ def build(target, strict, text):
     folder.mkdir(parents=True, exist_ok=True)
     for old in folder.iterdir():
         old.unlink()
-    return web_module(target, text, folder) if target == "wasm32" else archive(target, strict, text, folder)
+    if target == "wasm32":
+        return web_module(target, text, folder)
+    made = archive(target, strict, text, folder)
+    if not strict:
+        check_list(made, target)
+    return made
 
 
 def main():

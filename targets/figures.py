@@ -1,0 +1,118 @@
+"""The tables of the data sheet about other processors, as Markdown (targets/figures.sh)."""
+
+import sys
+import tempfile
+from pathlib import Path
+
+from build import TARGETS
+from module import BUILT, ROOT, Refused, said_by, told, tool
+from stack import bounds, rows
+
+SITES = ["two_phases", "four_phases", "largest"]
+STEPS = "2000"
+CLOCK_MHZ = 100
+CYCLES = (1.0, 1.5)  # of an instruction of a Cortex-M4 on average, from memory without wait states: an estimate
+
+
+def table(head, lines):
+    print(f"| {' | '.join(head)} |\n|{'---|' * len(head)}")
+    for line in lines:
+        print(f"| {' | '.join(str(word) for word in line)} |")
+    print()
+
+
+def number(value):
+    return f"{value:,}"
+
+
+# ── Sizes ──
+
+
+def sections(path):
+    """The sizes of the sections of an object or a WebAssembly module, summed by the kind: code, constants, the rest that is loaded."""
+    kinds = {"code": 0, "constants": 0}
+    for row in rows(said_by(tool("llvm-objdump"), "-h", path)):
+        if len(row) > 2 and row[0].isdigit():
+            name, size = row[1], int(row[2], 16)
+            if name == "CODE" or name.startswith(".text"):
+                kinds["code"] += size
+            elif name == "DATA" or name.startswith(".rodata"):
+                kinds["constants"] += size
+            elif size > 0 and name.startswith((".data", ".bss")):
+                raise Refused(f"{path} has the writable section {name}")
+    return kinds
+
+
+def sizes():
+    for target in TARGETS:
+        for name in (target, target + "-strict"):
+            folder = BUILT / name
+            if not folder.exists():
+                continue
+            made = next(path for path in (folder / "willowera.wasm", folder / "willowera.o") if path.exists())
+            kinds = sections(made)
+            extra = folder / "strict_memory.o"
+            memory = sections(extra)["code"] if extra.exists() else 0
+            yield f"`{name}`", number(kinds["code"] + memory), number(kinds["constants"]), number(sum(kinds.values()) + memory)
+
+
+# ── Stack ──
+
+
+def stacks():
+    for name, (alone, helpers, _) in bounds("cortex-m4").items():
+        yield f"`{name}`", number(alone), ", ".join(f"`{helper}`" for helper in helpers)
+
+
+def linked_stacks():
+    """The bounds with Debian's newlib and libgcc linked."""
+    with tempfile.TemporaryDirectory() as room:
+        said_by(ROOT / "targets" / "measure" / "run.sh", "--linked", "cortex-m4", every_call(Path(room)), f"{room}/linked")
+        return bounds("cortex-m4", f"{room}/linked")
+
+
+def every_call(room):
+    path = room / "calls.c"
+    path.write_text(said_by(sys.executable, ROOT / "targets" / "calls.py"))
+    return path
+
+
+# ── Steps ──
+
+
+def measured(program, *words):
+    """What targets/measure counted: for accepted and for refused calls, the number of calls, mean, most and stack."""
+    said = said_by(ROOT / "targets" / "measure" / "run.sh", "cortex-m4", program, *words)
+    return {row[0]: [int(word) for word in (row[1], row[3], row[5], row[7])] for row in rows(said) if row[0] in ("accepted", "refused")}
+
+
+def microseconds(instructions):
+    low, high = (instructions * cycles / CLOCK_MHZ for cycles in CYCLES)
+    return f"{low:.0f} to {high:.0f} µs"
+
+
+def steps():
+    for site in SITES:
+        personality = f"examples/{site}/personality.bin"
+        _, mean, most, stack = measured("examples/c/instructions.c", personality, STEPS)["accepted"]
+        flips = measured("targets/measure/flips.c", personality)
+        count, refused_mean, refused_most, refused_stack = flips["refused"]
+        yield (site, number(mean), number(most), f"{number(refused_mean)} ({number(count)} calls)", number(refused_most),
+               microseconds(max(most, refused_most)), number(max(stack, refused_stack, flips["accepted"][3] if "accepted" in flips else 0)))
+
+
+def main():
+    if sys.argv[1:] not in ([], ["fixed"]):
+        raise Refused("usage: figures.py [fixed]")
+    table(["Target", "Code, bytes", "Constants", "Together"], sizes())
+    table(["Call, on `cortex-m4`", "Stack, bytes, without helpers", "Helpers it may call"], stacks())
+    if sys.argv[1:] == ["fixed"]:
+        return
+    table(["Call, on `cortex-m4`", "Stack, bytes, with the helpers of newlib and libgcc"],
+          ((f"`{name}`", number(full)) for name, (_, _, full) in linked_stacks().items()))
+    table(["Site, on `cortex-m4`", "Instructions of a step: mean", "most seen", "refused: mean", "most seen",
+           f"Longest at {CLOCK_MHZ} MHz (estimate)", "Painted stack, bytes"], steps())
+
+
+if __name__ == "__main__":
+    told(main)
