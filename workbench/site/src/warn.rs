@@ -91,8 +91,9 @@ impl<'a> List<'a> {
         }
     }
 
-    /// Groups that share no phase and do not conflict. Two crossings never conflict, and
-    /// a group in no phase has a warning of its own.
+    /// Groups that are red in a phase although they conflict with no group of it: a
+    /// conflict is missing, or the group could be green there. Two crossings never
+    /// conflict, and a group in no phase has a warning of its own.
     fn conflicts(&mut self) {
         let site = self.site;
         if site.groups.iter().all(|group| group.conflicts.is_empty()) {
@@ -101,23 +102,44 @@ impl<'a> List<'a> {
             return self.warn(Kind::NoConflicts, span, text);
         }
         for (at, group) in site.groups.iter().enumerate() {
-            let others = site.groups.iter().enumerate().skip(at + 1);
-            let never = others.filter(|(other, two)| {
-                let known = group.apart.iter().any(|(one, _)| one == other);
-                let known = known || two.apart.iter().any(|(one, _)| *one == at);
-                let crossings = group.is_pedestrian() && two.is_pedestrian();
-                let phases = group.phases != 0 && two.phases != 0 && group.phases & two.phases == 0;
-                phases && !crossings && !known && !group.conflicts_with(*other)
-            });
-            let names: Vec<&str> = never.map(|(_, two)| two.name.as_str()).collect();
-            if !names.is_empty() {
-                let text = format!(
-                    "{} shares no phase with {names} and does not conflict: if that is meant, add `not {names}`",
-                    group.name,
-                    names = names.join(" "),
-                );
-                self.warn(Kind::NeverConflict, group.row, text);
+            if group.phases == 0 {
+                continue;
             }
+            for phase in (0..site.phases.len()).filter(|phase| !group.in_phase(*phase)) {
+                let others = self.kept_apart(at, phase);
+                if !others.is_empty() {
+                    let names: Vec<&str> = others.iter().map(|one| site.groups[*one].name.as_str()).collect();
+                    let text = format!(
+                        "{} is red in phase {letter} but conflicts with no group of it: if that is meant, add `not {}`",
+                        group.name,
+                        names.join(" "),
+                        letter = letter(phase),
+                    );
+                    self.warn(Kind::NeverConflict, group.row, text);
+                }
+            }
+        }
+    }
+
+    /// The groups of a phase that never conflict with a group, if none of the phase does;
+    /// nothing if all of them are named behind `not`.
+    fn kept_apart(&self, at: usize, phase: usize) -> Vec<usize> {
+        let site = self.site;
+        let group = &site.groups[at];
+        let others = site.groups.iter().enumerate().filter(|(_, other)| {
+            let crossings = group.is_pedestrian() && other.is_pedestrian();
+            other.in_phase(phase) && other.phases & group.phases == 0 && !crossings
+        });
+        let others: Vec<usize> = others.map(|(other, _)| other).collect();
+        let known = |other: &usize| {
+            let names = |list: &[(usize, Span)], one: usize| list.iter().any(|(group, _)| *group == one);
+            names(&group.apart, *other) || names(&site.groups[*other].apart, at)
+        };
+        let conflict = others.iter().any(|other| group.conflicts_with(*other));
+        if conflict || others.iter().all(known) {
+            Vec::new()
+        } else {
+            others
         }
     }
 
