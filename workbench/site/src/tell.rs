@@ -289,9 +289,10 @@ impl<'a> Teller<'a> {
                     "{} and {} conflict and are both in {many} {shared}",
                     one.name, other.name
                 );
-                let noted = self.note(one.phases_span, format!("the phases of {}", one.name));
-                noted
+                let first = (other.phases & one.phases).trailing_zeros() as usize;
+                self.note(one.phases_span, format!("the phases of {}", one.name))
                     .note(other.phases_span, format!("the phases of {}", other.name))
+                    .note(site.phases[first].span, format!("phase {}", letter(first)))
                     .say(*span, text)
             }
             None => self.told,
@@ -327,28 +328,37 @@ impl<'a> Teller<'a> {
         }
     }
 
+    /// The letter that the order has twice or that the site does not have, and the first
+    /// phase that is missing.
     fn order(self) -> Told {
+        let site = self.site;
         let empty = Vec::new();
-        let order = self.site.order.as_ref().unwrap_or(&empty);
-        for (at, (phase, span)) in order.iter().enumerate() {
-            let letter = letter((*phase).into());
-            if usize::from(*phase) >= self.site.phases.len() {
-                let text = format!("the order has phase {letter}; {}", self.phases());
-                return self.say(*span, text);
-            }
-            if let Some((_, first)) = order[..at].iter().find(|(earlier, _)| earlier == phase) {
-                let missing: Vec<String> = (0..self.site.phases.len())
-                    .filter(|one| order.iter().all(|(listed, _)| usize::from(*listed) != *one))
-                    .map(|one| crate::letter(one).to_string())
-                    .collect();
+        let order = site.order.as_ref().unwrap_or(&empty);
+        let listed = |phase: &usize| order.iter().any(|(one, _)| usize::from(*one) == *phase);
+        let missing = (0..site.phases.len()).find(|phase| !listed(phase));
+        let twice = |at: usize| {
+            order[..at]
+                .iter()
+                .any(|(earlier, _)| *earlier == order[at].0)
+        };
+        let wrong = |at: &usize| usize::from(order[*at].0) >= site.phases.len() || twice(*at);
+        match ((0..order.len()).find(wrong), missing) {
+            (Some(at), Some(missing)) => {
+                let (phase, span) = order[at];
+                let what = if twice(at) {
+                    "twice".to_string()
+                } else {
+                    format!("({})", self.phases())
+                };
+                let (letter, missing_letter) = (letter(phase.into()), letter(missing));
                 let text = format!(
-                    "the order has phase {letter} twice, and phase {} is missing",
-                    missing.join(", ")
+                    "the order has phase {letter} {what}, and phase {missing_letter} is missing"
                 );
-                return self.note(*first, "the first time").say(*span, text);
+                let note = format!("phase {missing_letter} is not in the order");
+                self.note(site.phases[missing].span, note).say(span, text)
             }
+            _ => self.told,
         }
-        self.told
     }
 
     fn uncalled(self) -> Told {
