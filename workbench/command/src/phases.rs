@@ -105,7 +105,7 @@ fn listed(svg: &mut Svg, site: &Site, phase: usize) {
         let y = 16.0 + 12.0 * at as f64;
         let name = group.place.name.as_deref().unwrap_or_default();
         svg.note(8.0, y, &group.name);
-        svg.faint(34.0, y, &crate::svg::shortened(name, 25));
+        svg.faint(34.0, y, &crate::svg::shortened(name, 21));
     }
 }
 
