@@ -12,6 +12,7 @@ set -u -o pipefail
 cd "$(dirname "$0")/.." || exit 2
 
 built=target/targets
+tools=$(python3 targets/module.py tools) || exit 2
 room=$(mktemp -d)
 trap 'rm -rf "$room"' EXIT
 sentence() { echo "targets/check.sh: $*" >&2; return 1; }
@@ -19,7 +20,7 @@ sentence() { echo "targets/check.sh: $*" >&2; return 1; }
 # ── archives ──
 
 exports_of() { # ARCHIVE
-    "$built/tools/llvm-nm" --defined-only --extern-only --format=just-symbols "$1" | grep '^willowera_' | sort
+    "$tools/llvm-nm" --defined-only --extern-only --format=just-symbols "$1" | grep '^willowera_' | sort
 }
 wasm_exports() { node -e '
     const module = new WebAssembly.Module(require("fs").readFileSync(process.argv[1]));
@@ -30,12 +31,12 @@ wasm_exports() { node -e '
 
 # Code for the core registers alone: the attributes of the archive name no floating-point unit, and no instruction is one of it.
 is_soft() { # FOLDER
-    ! "$built/tools/llvm-readelf" --arch-specific "$built/$1/libwillowera.a" | grep -qE 'FP_arch|ABI_VFP_args' &&
-        ! "$built/tools/llvm-objdump" -d --no-show-raw-insn "$built/$1/libwillowera.a" | awk '$2 ~ /^v[a-z]/ { found = 1 } END { exit !found }'
+    ! "$tools/llvm-readelf" --arch-specific "$built/$1/libwillowera.a" | grep -qE 'FP_arch|ABI_VFP_args' &&
+        ! "$tools/llvm-objdump" -d --no-show-raw-insn "$built/$1/libwillowera.a" | awk '$2 ~ /^v[a-z]/ { found = 1 } END { exit !found }'
 }
 # Code that the compiler made under the rule that no access is unaligned.
 is_strict() { # FOLDER
-    ! "$built/tools/llvm-readelf" --arch-specific "$built/$1/libwillowera.a" | grep -A1 CPU_unaligned_access | grep -q v6-style
+    ! "$tools/llvm-readelf" --arch-specific "$built/$1/libwillowera.a" | grep -A1 CPU_unaligned_access | grep -q v6-style
 }
 
 archives() {
@@ -61,7 +62,9 @@ links() { # FOLDER COMPILER WORDS..
     shift 2
     "$compiler" -std=c11 -Wall -Wextra -Wpedantic -Wconversion -Wno-cast-function-type -Werror "$@" -Iinclude "$room/calls.c" \
         "$built/$folder/libwillowera.a" -o "$room/$folder" || sentence "a program with every call does not link for $folder" || return
-    echo "$folder: $("$built/tools/llvm-nm" "$room/$folder" | grep -c ' T willowera_') calls linked by $compiler"
+    linked=$("$tools/llvm-nm" "$room/$folder" | grep -c ' T willowera_')
+    echo "$folder: $linked calls linked by $compiler"
+    [ "$linked" -eq "$(python3 targets/calls.py names | wc -l)" ] || sentence "the program for $folder does not have all calls of the header"
 }
 header() {
     targets/install.sh arm-none-eabi-gcc arm-linux-gnueabihf-gcc aarch64-linux-gnu-gcc riscv64-unknown-elf-gcc || return

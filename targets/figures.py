@@ -80,9 +80,9 @@ def every_call(room):
 # ── Steps ──
 
 
-def measured(program, *words):
+def measured(folder, program, *words):
     """What targets/measure counted: for accepted and for refused calls, the number of calls, mean, most and stack."""
-    said = said_by(ROOT / "targets" / "measure" / "run.sh", "cortex-m4", program, *words)
+    said = said_by(ROOT / "targets" / "measure" / "run.sh", folder, program, *words)
     return {row[0]: [int(word) for word in (row[1], row[3], row[5], row[7])] for row in rows(said) if row[0] in ("accepted", "refused")}
 
 
@@ -91,27 +91,29 @@ def microseconds(instructions):
     return f"{low:.0f} to {high:.0f} µs"
 
 
-def steps():
-    for site in SITES:
-        personality = f"examples/{site}/personality.bin"
-        _, mean, most, stack = measured("examples/c/instructions.c", personality, STEPS)["accepted"]
-        flips = measured("targets/measure/flips.c", personality)
-        count, refused_mean, refused_most, refused_stack = flips["refused"]
-        yield (site, number(mean), number(most), f"{number(refused_mean)} ({number(count)} calls)", number(refused_most),
-               microseconds(max(most, refused_most)), number(max(stack, refused_stack, flips["accepted"][3] if "accepted" in flips else 0)))
+def step(site, folder):
+    """The row of a site: accepted steps with random inputs, and steps from the fresh state with one bit of the personality flipped."""
+    personality = f"examples/{site}/personality.bin"
+    _, mean, most, stack = measured(folder, "examples/c/instructions.c", personality, STEPS)["accepted"]
+    flips = measured(folder, "targets/measure/flips.c", personality)
+    count, refused_mean, refused_most, _ = flips["refused"]
+    deepest = max(stack, *(kind[3] for kind in flips.values()))
+    return (site, f"`{folder}`", number(mean), number(most), number(refused_mean), number(refused_most), number(count), microseconds(most),
+            microseconds(refused_most), number(deepest))
 
 
 def main():
     if sys.argv[1:] not in ([], ["fixed"]):
         raise Refused("usage: figures.py [fixed]")
     table(["Target", "Code, bytes", "Constants", "Together"], sizes())
-    table(["Call, on `cortex-m4`", "Stack, bytes, without helpers", "Helpers it may call"], stacks())
+    table(["Call, on `cortex-m4`", "Stack, bytes", "Helpers it may call, not counted"], stacks())
     if sys.argv[1:] == ["fixed"]:
         return
-    table(["Call, on `cortex-m4`", "Stack, bytes, with the helpers of newlib and libgcc"],
-          ((f"`{name}`", number(full)) for name, (_, _, full) in linked_stacks().items()))
-    table(["Site, on `cortex-m4`", "Instructions of a step: mean", "most seen", "refused: mean", "most seen",
-           f"Longest at {CLOCK_MHZ} MHz (estimate)", "Painted stack, bytes"], steps())
+    table(["Call for which the helpers of newlib and libgcc go deeper", "Stack with them, bytes"],
+          ((f"`{name}`", number(full)) for name, (alone, _, full) in linked_stacks().items() if full > alone))
+    table(["Site", "Target", "Instructions of a step: mean", "most seen", "refused: mean", "most seen", "refused calls",
+           f"Longest seen at {CLOCK_MHZ} MHz (estimate)", "refused", "Painted stack, bytes"],
+          [*(step(site, "cortex-m4") for site in SITES), step("largest", "cortex-m4-strict")])
 
 
 if __name__ == "__main__":
