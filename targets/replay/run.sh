@@ -147,7 +147,7 @@ try_trap() {
 }
 
 seed=1
-calls=40000
+calls=100000
 damaged=''
 while [ $# -gt 0 ]; do
     case "$1" in
