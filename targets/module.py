@@ -164,6 +164,8 @@ BOUND = [
     (re.compile(r"\b(ptrtoint|ptrtoaddr|inttoptr|addrspacecast)\b|\baddrspace\("), "a pointer as a number, or an address space"),
     (re.compile(r"\b(x86_\w+|win64cc|ppc_fp128|fp128|half|bfloat|cc ?\d+)\b"), "a type or calling convention of one processor"),
     (re.compile(r"\b(invoke|landingpad|callbr|indirectbr|blockaddress)\b"), "an exception or an indirect branch"),
+    (re.compile(r"\bgetelementptr (?!((inbounds|nuw|nusw) )*i8,)"), "an offset that is not counted in bytes"),
+    (re.compile(r"\balloca (?!(i8|i16|i32|i64|double|ptr|\[\d+ x i8\]),)"), "a variable that is not a number, a pointer or bytes"),
 ]
 
 NAME = r'[@%](?:"[^"]*"|[\w.$-]+)'
@@ -173,6 +175,8 @@ DECLARED = re.compile(rf"^declare .*?({NAME})\(")
 DEFINED = re.compile(rf"^define (.*?) ({NAME})\((.*)\) [^()]*\{{$")
 CALLED = re.compile(rf"\bcall .*?({NAME})\(")
 ATTRIBUTE = re.compile(r'"[^"]*"(?:="[^"]*")?')
+SLOT = re.compile(rf"^ +({NAME}) = alloca ptr,")
+POINTER_ACCESS = re.compile(rf"= load ptr, ptr {NAME},|^ +store ptr {NAME}, ptr {NAME},")
 PARAMETER = re.compile(r"(ptr|i8|i16|i32|i64|double)( noundef)? @")
 
 
@@ -222,9 +226,23 @@ def line_faults(line):
         yield "it cannot be read as a function or a call"
 
 
+def slot_faults(lines):
+    """A variable for one pointer has 8 bytes on x86-64 and 4 elsewhere: it must only be read and written as a pointer."""
+    slots = set()
+    for number, line in lines:
+        if line.startswith("define "):
+            slots = set()
+        made = SLOT.match(line)
+        if made:
+            slots.add(made[1])
+        elif slots.intersection(re.findall(NAME, line)) and not POINTER_ACCESS.search(line):
+            yield f"line {number}: it uses the place of a pointer as bytes"
+
+
 def faults(text):
     """A sentence for each line that other processors cannot have; empty if the module may be compiled for them."""
-    found = [f"line {number}: {fault}" for number, line in enumerate(text.splitlines(), 1) for fault in line_faults(line)]
+    lines = list(enumerate(text.splitlines(), 1))
+    found = [f"line {number}: {fault}" for number, line in lines for fault in line_faults(line)] + list(slot_faults(lines))
     if not exported(text):
         found.append("it exports no call")
     return found
