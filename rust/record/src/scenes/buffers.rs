@@ -25,8 +25,8 @@ struct Sample {
 /// The upper halves of lengths and numbers.
 const HIGH: [u64; 4] = [1 << 32, 1 << 40, 1 << 63, 0xFFFF_FFFF << 32];
 
-/// Bytes between buffers, at the least, in front of a personality of which the length is
-/// above 32 bits.
+/// At least so many bytes lie between two buffers, so that those behind a personality
+/// are all equal.
 const APART: usize = 16;
 
 impl Recorder {
