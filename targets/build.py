@@ -12,7 +12,9 @@ import shutil
 import subprocess
 import sys
 
-from module import BUILT, ROOT, Alone, Refused, exported, kit, module, said_by, told, tool
+from judge import exported
+from kit import BUILT, ROOT, Alone, Refused, kit, said_by, told, tool
+from module import module
 
 HERE = ROOT / "targets"
 

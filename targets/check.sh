@@ -22,6 +22,7 @@ sentence() { echo "targets/check.sh: $*" >&2; return 1; }
 exports_of() { # ARCHIVE
     "$tools/llvm-nm" --defined-only --extern-only --format=just-symbols "$1" | grep '^willowera_' | sort
 }
+# shellcheck disable=SC2016 # the words are JavaScript
 wasm_exports() { node -e '
     const module = new WebAssembly.Module(require("fs").readFileSync(process.argv[1]));
     const names = WebAssembly.Module.exports(module).map((one) => one.name);
@@ -90,7 +91,7 @@ painted() { # FOLDER PROGRAM WORDS..
 within_bound() { # FOLDER
     targets/measure/run.sh --linked "$1" targets/measure/flips.c "$room/linked" || return
     bound=$(python3 targets/stack.py "$1" "$room/linked" | awk '$1 == "willowera_step" { print $4 }')
-    steps=$(painted "$1" examples/c/instructions.c $largest 2000) && flips=$(painted "$1" targets/measure/flips.c $largest) || return
+    steps=$(painted "$1" examples/c/instructions.c "$largest" 2000) && flips=$(painted "$1" targets/measure/flips.c "$largest") || return
     echo "a step on $1: at most $bound bytes of stack; painted: $steps in 2,000 steps, $flips with each bit flipped"
     { [ "$steps" -gt 0 ] && [ "$steps" -le "$bound" ] && [ "$flips" -gt 0 ] && [ "$flips" -le "$bound" ]; } ||
         sentence "$1: the painted stack is deeper than the bound, or nothing was painted"

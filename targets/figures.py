@@ -7,7 +7,8 @@ from pathlib import Path
 
 import build
 from build import TARGETS
-from module import BUILT, ROOT, Alone, Refused, module, said_by, told, tool
+from kit import BUILT, ROOT, Alone, Refused, said_by, told, tool
+from module import module
 from stack import bounds, own_calls, reached, rows
 
 SITES = ["two_phases", "four_phases", "largest"]

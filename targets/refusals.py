@@ -11,8 +11,11 @@ import tempfile
 from pathlib import Path
 
 import build
-import module
 import stack
+from catch import catch, same_object
+from judge import judge
+from kit import Refused, tool
+from module import PROCESSOR, text_of
 
 GOOD = '''target triple = "x86_64-unknown-linux-gnu"
 @table = private unnamed_addr constant [3 x i8] c"@%\\22", align 1
@@ -91,7 +94,7 @@ def refused(what, sentence, action):
     """Whether the action is refused with the sentence."""
     try:
         action()
-    except module.Refused as refusal:
+    except Refused as refusal:
         if sentence in str(refusal):
             return True
         print(f"{what}: refused, but with another sentence: {refusal}")
@@ -104,21 +107,21 @@ def through_clang(text, room):
     """The text of a module as the kit's clang writes it."""
     path = room / "damaged.ll"
     path.write_text(text)
-    return module.text_of(path)
+    return text_of(path)
 
 
 def judged(text, room):
-    module.judge(through_clang(text, room))
+    judge(through_clang(text, room))
 
 
 def driven(script, room):
-    return module.catch(room / "catch", ["sh", "-c", f"cd {room} && {script}"])
+    return catch(room / "catch", ["sh", "-c", f"cd {room} && {script}"])
 
 
 def compiled(damage, room):
     """An archive for Cortex-M4 of a damaged module that nobody judged."""
     text = room / "damaged.ll"
-    text.write_text(damage(GOOD).replace(' "target-cpu"="x86-64"', ""))
+    text.write_text(damage(GOOD).replace(PROCESSOR, ""))
     return build.archive("cortex-m4", False, text, room)
 
 
@@ -146,7 +149,7 @@ def stacks(room):
 
 def all_of(room):
     (room / "good.ll").write_text(GOOD)
-    subprocess.run([module.tool("clang"), "-c", "-emit-llvm", "-Wno-override-module", "-x", "ir", room / "good.ll", "-o", room / "module.bc"], check=True)
+    subprocess.run([tool("clang"), "-c", "-emit-llvm", "-Wno-override-module", "-x", "ir", room / "good.ll", "-o", room / "module.bc"], check=True)
 
     judged(GOOD, room)
     for what, damage, sentence in MODULES:
@@ -154,8 +157,8 @@ def all_of(room):
         yield refused(what, sentence, lambda: judged(damage(GOOD), room))
 
     caught = driven(f"{CLANG} module.bc -o a.o", room)
-    module.same_object(caught, archive_of(room / "a.o", room))
-    yield refused("an archive with another object", "one was expected", lambda: module.same_object(caught, archive_of(room / "good.ll", room)))
+    same_object(caught, archive_of(room / "a.o", room))
+    yield refused("an archive with another object", "one was expected", lambda: same_object(caught, archive_of(room / "good.ll", room)))
     for what, script, sentence in DRIVERS:
         yield refused(f"a driver that {what}", sentence, lambda: driven(script, room))
 
@@ -166,7 +169,7 @@ def all_of(room):
 def archive_of(member, room):
     made = room / "some.a"
     made.unlink(missing_ok=True)
-    subprocess.run([module.tool("llvm-ar"), "rcsD", made, member], check=True)
+    subprocess.run([tool("llvm-ar"), "rcsD", made, member], check=True)
     return made
 
 

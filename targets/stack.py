@@ -8,7 +8,7 @@ if a linked PROGRAM for Cortex-M is named, the bytes with the helpers as they ar
 The bound is the longest way through the call graph, each function at the size of its frame. The frames are the compiler's own report
 (-fstack-usage, target/targets/TARGET/willowera.su); the calls are the relocations of the object, one section for each function. A graph
 with a cycle, a frame of changing size, and a function whose address is used for anything but a call are refused; that the module makes no
-call through a pointer is judged in targets/module.py. The frames of the helpers, and a second reading of the library's own, are the pushes
+call through a pointer is judged in targets/judge.py. The frames of the helpers, and a second reading of the library's own, are the pushes
 and moves of the stack pointer in the disassembly.
 """
 
@@ -17,7 +17,8 @@ import sys
 from bisect import bisect_right
 
 from build import TARGETS
-from module import BUILT, Refused, calls, exported, said_by, told, tool
+from judge import calls, exported
+from kit import BUILT, Refused, said_by, told, tool
 
 CALLS = re.compile(r"R_(ARM_(THM_)?(CALL|JUMP24)|AARCH64_(CALL|JUMP)26|RISCV_(CALL|CALL_PLT|JAL))$")
 
