@@ -126,7 +126,7 @@ def levels():
         folder.mkdir(parents=True)
         build.archive("cortex-m4", False, BUILT / "module" / "module.ll", folder)
         _, _, mean, most, _, refused, *_ = step("largest", folder.name)
-        yield f"`{level}`", number(sections(folder / "willowera.o")["code"]), number(bounds(folder.name)["willowera_step"][0]), mean, most, refused
+        yield f"`{level}`", number(sections(folder / "willowera.o")["code"]), number(bounds("cortex-m4", folder=folder)["willowera_step"][0]), mean, most, refused
         shutil.rmtree(folder)
 
 

@@ -13,7 +13,6 @@ bound to a machine (targets/judge.py).
 import hashlib
 import shutil
 import sys
-from pathlib import Path
 
 from catch import catch, same_object
 from judge import judge
