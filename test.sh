@@ -99,7 +99,8 @@ check 'vectors/make_reads.py' same_vectors
 rust_tests() { (cd rust && cargo test --quiet --offline --features linked); }
 compare_with_model() { (cd rust && cargo run --quiet --release --offline --features linked -p compare -- "$@"); }
 build_compare() { (cd rust && cargo build --quiet --release --offline --features linked -p compare); }
-check 'rt staticlib willowera' rt staticlib willowera
+# The module for other processors is caught while the static library is made (rt staticlib willowera).
+check 'rt staticlib willowera, and its module' python3 targets/module.py
 check 'the comparison' build_compare
 beside agree compare_with_model 1 50000 &
 agree=$!
@@ -137,6 +138,12 @@ check 'lines of vectors/make_why.py' compare_with_model whys ../vectors/whys
 for part in needs headers conditions steps rust why words power arm settings road cabinet retime yellow; do
     check "examples/c/check.sh $part" examples/c/check.sh "$part"
 done
+
+# The library for other processors: refusals of the build, archives, header, stack and figures; and a firmware on it.
+for part in refusals archives header stack figures; do
+    check "targets/check.sh $part" targets/check.sh "$part"
+done
+check 'examples/cortex-m4/check.sh' examples/cortex-m4/check.sh
 
 # The settings of site sheets against exact arithmetic.
 compare_sheets() { (cd rust && cargo run --quiet --release --offline --features linked -p sheet -- "$@"); }
