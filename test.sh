@@ -1,7 +1,8 @@
 #!/usr/bin/env bash
 # Passes everything: layout; the names in the documents; every crate proved from nothing, every must-fail edit refused and every program
 # run; the edits of the rules that a theorem must refuse; the example sites, their traces and the ways a trace ends; the lines of the table
-# of yellow times; the vectors; the tests of rust/ and the library against the model; cabinets; retimings; the library from C.
+# of yellow times; the vectors; the tests of rust/ and the library against the model; cabinets; retimings; sealed states; the library from
+# C; the archives for other processors.
 # The last line is `N passed, M failed`; the exit status is 0 only where M is 0.
 set -u
 cd "$(dirname "$0")" || exit 2
@@ -144,6 +145,10 @@ for part in refusals archives header stack figures; do
     check "targets/check.sh $part" targets/check.sh "$part"
 done
 check 'examples/cortex-m4/check.sh' examples/cortex-m4/check.sh
+
+# Calls recorded on the host give the same answers and bytes on other processors; damaged recordings are noticed.
+check 'replay on other processors' targets/replay/run.sh cortex-m4 cortex-m4-strict armv7-linux wasm32
+check 'damaged recordings are noticed' targets/replay/run.sh --damaged cortex-m4-strict wasm32
 
 # The settings of site sheets against exact arithmetic.
 compare_sheets() { (cd rust && cargo run --quiet --release --offline --features linked -p sheet -- "$@"); }
