@@ -34,7 +34,7 @@ pub fn report(out: &Out, matches: &ArgMatches) -> Result<(), Stop> {
             "Settings against their limits",
             &settings(&loaded),
         ),
-        section("waits", "Waits", &waits(&loaded)),
+        section("waits", "Waits", &waits(&loaded)?),
     ];
     if !road.streams.is_empty() {
         parts.extend(roads(out, &loaded, &road)?);
@@ -241,7 +241,7 @@ fn settings(loaded: &Loaded) -> String {
     )
 }
 
-fn waits(loaded: &Loaded) -> String {
+fn waits(loaded: &Loaded) -> Result<String, Stop> {
     let bound = bound_of(loaded);
     let share = |share: &Share| {
         let parts = share
@@ -258,16 +258,16 @@ fn waits(loaded: &Loaded) -> String {
         cells.push(cell(&first.join(" ")));
         row(cells)
     };
-    let rows: String = shares(loaded).iter().map(share).collect();
+    let rows: String = shares(loaded)?.iter().map(share).collect();
     let mut names = vec!["Phase"];
     names.extend(PARTS);
     names.extend(["Share", "May come first, each once"]);
-    format!(
+    Ok(format!(
         "<p><strong>{}</strong> ({bound} steps). {COUNTS}</p>\n<p>Start red {}, and for each phase L + M + X + 2 (A + E + Y + R + C), in seconds:</p>\n<table>{}{rows}</table>\n",
         seconds(bound),
         seconds(loaded.site.start_red.steps.into()),
         heads(&names)
-    )
+    ))
 }
 
 /// The road of the streams: a table, the queues and the timeline in strips.
