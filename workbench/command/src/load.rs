@@ -103,8 +103,8 @@ pub fn shown(out: &Out, path: &str, bytes: &[u8]) -> Result<String, Stop> {
                                "text": words, "notShown": not.to_string()}),
             );
         } else {
-            println!("{path}: refused {number} at byte {place}: {words}");
-            println!("{path}: no text has these bytes: {not}");
+            say!("{path}: refused {number} at byte {place}: {words}");
+            say!("{path}: no text has these bytes: {not}");
         }
         Stop::Refused
     })

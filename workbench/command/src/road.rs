@@ -171,17 +171,15 @@ fn print(out: &Out, loaded: &Loaded, road: &Road, queues: &Queues) {
         .map(|at| queues.longest(at))
         .max()
         .unwrap_or(0);
-    println!(
+    say!(
         "{} of the road, looked at {} times",
         seconds(steps.into()),
         queues.steps.len()
     );
-    println!(
-        "detector  group    rate  arrived  queued    gone  longest  queue (highest {highest})"
-    );
+    say!("detector  group    rate  arrived  queued    gone  longest  queue (highest {highest})");
     for (at, stream) in road.streams.iter().enumerate() {
         let (queued, gone) = last.vehicles[at];
-        println!(
+        say!(
             "{:>8}  {:<5} {:>7}  {:>7}  {:>6}  {:>6}  {:>7}  {}",
             stream.detector,
             name(stream.group),

@@ -93,12 +93,12 @@ pub fn waits(out: &Out, matches: &ArgMatches) -> Result<(), Stop> {
         );
         return Ok(());
     }
-    println!("wait bound {} ({bound} steps)\n{COUNTS}\n", seconds(bound));
-    println!("It is start red, and for each phase L + M + X + 2 (A + E + Y + R + C). A is the longest walk with its first");
-    println!("clearance, C the longest second clearance. In seconds:\n");
+    say!("wait bound {} ({bound} steps)\n{COUNTS}\n", seconds(bound));
+    say!("It is start red, and for each phase L + M + X + 2 (A + E + Y + R + C). A is the longest walk with its first");
+    say!("clearance, C the longest second clearance. In seconds:\n");
     let head: String = PARTS.iter().map(|part| format!("{part:>7}")).collect();
-    println!("phase    {head}   share   phases that may come first, each once");
-    println!("start red{:>64.1}", start as f64 / 10.0);
+    say!("phase    {head}   share   phases that may come first, each once");
+    say!("start red{:>64.1}", start as f64 / 10.0);
     for share in &shares {
         let parts = share
             .parts
@@ -109,13 +109,13 @@ pub fn waits(out: &Out, matches: &ArgMatches) -> Result<(), Stop> {
             .iter()
             .map(char::to_string)
             .collect();
-        println!(
+        say!(
             "{:<9}{parts}{:>8.1}   {}",
             letter(share.phase),
             share.sum() as f64 / 10.0,
             first.join(" ")
         );
     }
-    println!("{:<65}{:>8.1}", "sum", bound as f64 / 10.0);
+    say!("{:<65}{:>8.1}", "sum", bound as f64 / 10.0);
     Ok(())
 }

@@ -391,3 +391,25 @@ fn watch_ends_at_an_interrupt() {
         "{text}"
     );
 }
+
+/// A reader that stops early is no fault.
+#[test]
+fn a_closed_pipe_is_no_fault() {
+    let site = root().join("examples/crossings");
+    let command = format!(
+        "'{}' run '{}' --all | head -n 1",
+        env!("CARGO_BIN_EXE_willowera"),
+        shown(&site)
+    );
+    let mut shell = std::process::Command::new("bash");
+    let output = shell
+        .args(["-c", &format!("set -o pipefail; {command}")])
+        .output()
+        .unwrap();
+    assert!(
+        output.status.success(),
+        "{}",
+        String::from_utf8_lossy(&output.stderr)
+    );
+    assert!(output.stdout.starts_with(b"groups: V1"));
+}
