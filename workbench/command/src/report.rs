@@ -12,7 +12,7 @@ use clap::ArgMatches;
 use serde_json::json;
 use site::{
     letter, letters, seconds, Road, Setting, CALLS, EXTENDS, MARKS, MOVEMENT_SETTINGS,
-    PHASE_SETTINGS,
+    PHASE_SETTINGS, ROAD_STEPS,
 };
 
 /// The steps of a strip of the timeline, and from one look at the road to the next.
@@ -308,20 +308,21 @@ fn roads(out: &Out, loaded: &Loaded, road: &Road) -> Result<Vec<String>, Stop> {
     let table = format!("<table>{}{rows}</table>\n", heads(&names));
     let title = format!("Queues over {}", seconds(steps.into()));
     let queued = picture(loaded, road, &queues, &title);
-    let frames = road_frames(loaded, road, 1, steps, STRIDE).map_err(Stop::Unusable)?;
-    let strips = (0..u64::from(steps).div_ceil(STRIP)).map(|strip| {
-        let (from, to) = (strip * STRIP + 1, ((strip + 1) * STRIP).min(steps.into()));
+    let shown = steps.min(ROAD_STEPS);
+    let frames = road_frames(loaded, road, 1, shown, STRIDE).map_err(Stop::Unusable)?;
+    let strips = (0..u64::from(shown).div_ceil(STRIP)).map(|strip| {
+        let (from, to) = (strip * STRIP + 1, ((strip + 1) * STRIP).min(shown.into()));
         let title = format!("Minutes {} to {}", strip * 10, (strip + 1) * 10);
-        let shown = Picture {
+        let strip = Picture {
             title: &title,
             from,
             to,
             stride: STRIDE.into(),
         };
-        timeline(&loaded.site, &frames, &shown)
+        timeline(&loaded.site, &frames, &strip)
     });
     let strips: String = strips.collect();
-    let note = "<p class=\"quiet\">The library's simulated road, looked at every second.</p>\n";
+    let note = "<p class=\"quiet\">The library's simulated road, looked at every second, for an hour at most.</p>\n";
     Ok(vec![
         section("road", "The road", &format!("{table}{queued}")),
         section(
