@@ -1,7 +1,7 @@
 //! `report`: one HTML page for the file of a site.
 
 use crate::check::{bound_of, summary, warnings_of};
-use crate::load::{accepted, refused, road as streams_of, Loaded};
+use crate::load::{accepted, refused, with_streams, Loaded};
 use crate::out::{print_json, write, Out, Stop};
 use crate::phases::diagram;
 use crate::road::{picture, road_frames, Queues};
@@ -11,8 +11,8 @@ use crate::waits::{before, shares, Share, COUNTS, PARTS};
 use clap::ArgMatches;
 use serde_json::json;
 use site::{
-    letter, letters, seconds, Road, Setting, CALLS, EXTENDS, MARKS, MOVEMENT_SETTINGS,
-    PHASE_SETTINGS, ROAD_STEPS,
+    letter, letters, seconds, Setting, CALLS, EXTENDS, MARKS, MOVEMENT_SETTINGS, PHASE_SETTINGS,
+    ROAD_STEPS,
 };
 
 /// The steps of a strip of the timeline, and from one look at the road to the next.
@@ -22,7 +22,7 @@ const STRIDE: u32 = 10;
 pub fn report(out: &Out, matches: &ArgMatches) -> Result<(), Stop> {
     let path: &String = matches.get_one("SITE").expect("required");
     let loaded = accepted(out, path)?;
-    let road = streams_of(out, matches.get_one("streams"), &loaded)?;
+    let told = with_streams(out, matches.get_one("streams"), &loaded)?;
     let mut parts = vec![
         head(&loaded),
         warned(&loaded),
@@ -36,8 +36,8 @@ pub fn report(out: &Out, matches: &ArgMatches) -> Result<(), Stop> {
         ),
         section("waits", "Waits", &waits(&loaded)?),
     ];
-    if !road.streams.is_empty() {
-        parts.extend(roads(out, &loaded, &road)?);
+    if !told.site.road.streams.is_empty() {
+        parts.extend(roads(out, &loaded, &told)?);
     }
     parts.push(section(
         "commands",
@@ -271,10 +271,10 @@ fn waits(loaded: &Loaded) -> Result<String, Stop> {
 }
 
 /// The road of the streams: a table, the queues and the timeline in strips.
-fn roads(out: &Out, loaded: &Loaded, road: &Road) -> Result<Vec<String>, Stop> {
+fn roads(out: &Out, loaded: &Loaded, told: &Loaded) -> Result<Vec<String>, Stop> {
+    let road = &told.site.road;
     let steps = road.steps();
-    let queues =
-        Queues::of(loaded, road, steps).map_err(|refusal| refused(out, loaded, refusal))?;
+    let queues = Queues::of(loaded, road, steps).map_err(|refusal| refused(out, told, refusal))?;
     let last = queues
         .looks
         .last()

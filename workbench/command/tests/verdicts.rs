@@ -314,6 +314,20 @@ fn refused_streams_are_told_at_their_lines() {
     assert!(ended.status == 1 && ended.text().contains("P1 is not a vehicle group"));
 }
 
+#[test]
+fn refused_streams_of_a_road_text_are_told_at_its_lines() {
+    let path = scratch("fast.txt");
+    fs::write(&path, "steps 100\n\ndetector 0 group V1 rate 1801\n").unwrap();
+    let site = root().join("examples/two_phases");
+    let ended = willowera(&["road", shown(&site), "--streams", shown(&path)]);
+    let expected = "fast.txt:3:1: refused: 22 at byte 0: 1801 vehicles per hour; at most 1800";
+    assert!(
+        ended.status == 1 && ended.text().contains(expected),
+        "{}",
+        ended.text()
+    );
+}
+
 /// The lowest and highest value that the library accepts for each setting is the one that
 /// messages and reports show.
 #[test]
