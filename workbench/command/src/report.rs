@@ -195,7 +195,7 @@ fn setting(owner: &str, setting: Setting, steps: u16, edition: u8) -> String {
     row([
         cell(owner),
         cell(&match setting {
-            Setting::StartRed => setting.name().to_string(),
+            Setting::START_RED => setting.name().to_string(),
             _ => format!("{}, {}", setting.symbol(), setting.name()),
         }),
         number(seconds(steps.into())),
@@ -214,7 +214,7 @@ fn setting(owner: &str, setting: Setting, steps: u16, edition: u8) -> String {
 fn settings(loaded: &Loaded) -> String {
     let site = &loaded.site;
     let edition = site.edition;
-    let mut rows = setting("site", Setting::StartRed, site.start_red.steps, edition);
+    let mut rows = setting("site", Setting::START_RED, site.start_red.steps, edition);
     for (at, phase) in site.phases.iter().enumerate() {
         let owner = letter(at).to_string();
         for (time, one) in phase.times.iter().zip(PHASE_SETTINGS) {
@@ -223,7 +223,7 @@ fn settings(loaded: &Loaded) -> String {
         if site.early.is_some() {
             rows.push_str(&setting(
                 &owner,
-                Setting::EarlyCutOff,
+                Setting::EARLY_CUT_OFF,
                 site.early_steps(at),
                 edition,
             ));

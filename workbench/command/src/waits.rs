@@ -57,13 +57,13 @@ fn share(site: &Site, phase: usize, row: &Phase) -> Share {
     Share {
         phase,
         parts: [
-            steps(Setting::LateStart),
-            steps(Setting::MinimumGreen),
-            steps(Setting::MaximumGreen),
+            steps(Setting::LATE_START),
+            steps(Setting::MINIMUM_GREEN),
+            steps(Setting::MAXIMUM_GREEN),
             longest(|times| times[0] + times[1]),
             site.early_steps(phase).into(),
-            steps(Setting::Yellow),
-            steps(Setting::AllRed),
+            steps(Setting::YELLOW),
+            steps(Setting::ALL_RED),
             longest(|times| times[2]),
         ],
     }

@@ -360,7 +360,7 @@ fn limits_are_those_of_the_library() {
             walk(2),
             section(7),
         ];
-        for (setting, place) in site::Setting::ALL.into_iter().zip(places) {
+        for (setting, place) in site::Setting::all().zip(places) {
             let accepts = |value: u16| {
                 let mut tried = bytes.clone();
                 tried[place..place + 2].copy_from_slice(&value.to_le_bytes());

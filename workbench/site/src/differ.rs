@@ -110,7 +110,7 @@ fn all_times(site: &Site) -> Vec<(String, Time)> {
     }
     for (at, time) in site.early.iter().flatten().enumerate() {
         all.push((
-            format!("phase {}, {}", letter(at), Setting::EarlyCutOff.name()),
+            format!("phase {}, {}", letter(at), Setting::EARLY_CUT_OFF.name()),
             *time,
         ));
     }

@@ -3,102 +3,72 @@
 use crate::row::Time;
 use crate::words::Span;
 
-/// The settings of a phase, in the order of the text and of the bytes.
-pub const PHASE_SETTINGS: [Setting; 6] = [
-    Setting::LateStart,
-    Setting::MinimumGreen,
-    Setting::MaximumGreen,
-    Setting::Gap,
-    Setting::Yellow,
-    Setting::AllRed,
-];
-
-/// The settings of a movement, in the order of the text and of the bytes.
-pub const MOVEMENT_SETTINGS: [Setting; 3] = [
-    Setting::Walk,
-    Setting::FirstClearance,
-    Setting::SecondClearance,
-];
-
-/// The time settings (docs/RULES.md, R3.1).
+/// A time setting, by its number in docs/RULES.md, R3.1.
 #[derive(Clone, Copy, Debug, PartialEq, Eq)]
-pub enum Setting {
-    StartRed,
-    LateStart,
-    MinimumGreen,
-    MaximumGreen,
-    Gap,
-    Yellow,
-    AllRed,
-    Walk,
-    FirstClearance,
-    SecondClearance,
-    EarlyCutOff,
-}
+pub struct Setting(usize);
+
+/// For each setting its name, its symbol, the lowest value in edition one and in edition
+/// two, and the highest in both. The values are for messages: the library decides, and a
+/// test asks it for each of them.
+const SETTINGS: [(&str, &str, u16, u16, u16); 11] = [
+    ("start red", "start red", 10, 30, 150),
+    ("late start", "L", 0, 0, 200),
+    ("minimum green", "M", 10, 10, 400),
+    ("maximum green", "X", 10, 10, 1500),
+    ("gap", "G", 0, 0, 100),
+    ("yellow", "Y", 30, 30, 100),
+    ("all-red", "R", 10, 15, 150),
+    ("walk", "W", 10, 10, 400),
+    ("first clearance", "C1", 1, 1, 400),
+    ("second clearance", "C2", 1, 1, 400),
+    ("early cut-off green", "E", 0, 0, 200),
+];
 
 impl Setting {
-    pub const ALL: [Setting; 11] = [
-        Setting::StartRed,
-        Setting::LateStart,
-        Setting::MinimumGreen,
-        Setting::MaximumGreen,
-        Setting::Gap,
-        Setting::Yellow,
-        Setting::AllRed,
-        Setting::Walk,
-        Setting::FirstClearance,
-        Setting::SecondClearance,
-        Setting::EarlyCutOff,
-    ];
+    pub const START_RED: Setting = Setting(0);
+    pub const LATE_START: Setting = Setting(1);
+    pub const MINIMUM_GREEN: Setting = Setting(2);
+    pub const MAXIMUM_GREEN: Setting = Setting(3);
+    pub const GAP: Setting = Setting(4);
+    pub const YELLOW: Setting = Setting(5);
+    pub const ALL_RED: Setting = Setting(6);
+    pub const WALK: Setting = Setting(7);
+    pub const FIRST_CLEARANCE: Setting = Setting(8);
+    pub const SECOND_CLEARANCE: Setting = Setting(9);
+    pub const EARLY_CUT_OFF: Setting = Setting(10);
+
+    /// All settings, in the order of their numbers.
+    pub fn all() -> impl Iterator<Item = Setting> {
+        (0..SETTINGS.len()).map(Setting)
+    }
 
     pub fn name(self) -> &'static str {
-        [
-            "start red",
-            "late start",
-            "minimum green",
-            "maximum green",
-            "gap",
-            "yellow",
-            "all-red",
-            "walk",
-            "first clearance",
-            "second clearance",
-            "early cut-off green",
-        ][self as usize]
+        SETTINGS[self.0].0
     }
 
     pub fn symbol(self) -> &'static str {
-        [
-            "start red",
-            "L",
-            "M",
-            "X",
-            "G",
-            "Y",
-            "R",
-            "W",
-            "C1",
-            "C2",
-            "E",
-        ][self as usize]
+        SETTINGS[self.0].1
     }
 
-    /// The lowest and the highest value in an edition, for messages. The library
-    /// decides; a test asks it for each end.
+    /// The lowest and the highest value in an edition.
     pub fn limits(self, edition: u8) -> (u16, u16) {
-        let second = edition == 2;
-        match self {
-            Setting::StartRed => (if second { 30 } else { 10 }, 150),
-            Setting::LateStart | Setting::EarlyCutOff => (0, 200),
-            Setting::MinimumGreen | Setting::Walk => (10, 400),
-            Setting::MaximumGreen => (10, 1500),
-            Setting::Gap => (0, 100),
-            Setting::Yellow => (30, 100),
-            Setting::AllRed => (if second { 15 } else { 10 }, 150),
-            Setting::FirstClearance | Setting::SecondClearance => (1, 400),
-        }
+        let (_, _, first, second, highest) = SETTINGS[self.0];
+        (if edition == 2 { second } else { first }, highest)
     }
 }
+
+/// The settings of a phase, L, M, X, G, Y and R, in the order of the text and of the bytes.
+pub const PHASE_SETTINGS: [Setting; 6] = [
+    Setting(1),
+    Setting(2),
+    Setting(3),
+    Setting(4),
+    Setting(5),
+    Setting(6),
+];
+
+/// The settings of a movement, W, C1 and C2, in the order of the text and of the bytes.
+pub const MOVEMENT_SETTINGS: [Setting; 3] = [Setting(7), Setting(8), Setting(9)];
 
 /// The words of the marks 0 to 3.
 pub const MARKS: [&str; 4] = ["vehicle", "late-start", "pedestrian", "early-cut-off"];

@@ -163,7 +163,7 @@ impl<'a> Teller<'a> {
         if site.start_red.span == span {
             return Some((
                 "the site".to_string(),
-                Setting::StartRed,
+                Setting::START_RED,
                 site.start_red.steps,
             ));
         }
@@ -186,7 +186,7 @@ impl<'a> Teller<'a> {
         found.map(|(at, time)| {
             (
                 format!("phase {}", letter(at)),
-                Setting::EarlyCutOff,
+                Setting::EARLY_CUT_OFF,
                 time.steps,
             )
         })

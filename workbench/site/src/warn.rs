@@ -175,7 +175,7 @@ impl<'a> List<'a> {
                 continue;
             }
             let own = letters(group.phases);
-            let late = |p: &usize| site.phases[*p].steps(Setting::LateStart) > 0;
+            let late = |p: &usize| site.phases[*p].steps(Setting::LATE_START) > 0;
             if group.mark == LATE_START && !phases().any(|p| group.in_phase(p) && late(&p)) {
                 let text =
                     format!("{name} has the mark `late-start`, but late start is 0 in {own}");
@@ -195,7 +195,7 @@ impl<'a> List<'a> {
     fn detectors(&mut self) {
         for (at, detector) in self.site.detectors.iter().enumerate() {
             let phase = self.site.phases.get(usize::from(detector.phase));
-            let gap = phase.map_or(1, |phase| phase.steps(Setting::Gap));
+            let gap = phase.map_or(1, |phase| phase.steps(Setting::GAP));
             if detector.extends() && gap == 0 {
                 let letter = letter(detector.phase.into());
                 let text =
@@ -211,8 +211,8 @@ impl<'a> List<'a> {
         for (at, phase) in site.phases.iter().enumerate() {
             let letter = letter(at);
             let (least, most) = (
-                phase.steps(Setting::MinimumGreen),
-                phase.time(Setting::MaximumGreen),
+                phase.steps(Setting::MINIMUM_GREEN),
+                phase.time(Setting::MAXIMUM_GREEN),
             );
             if most.steps < least {
                 let text = format!(
@@ -227,7 +227,7 @@ impl<'a> List<'a> {
                     .iter()
                     .any(|group| group.mark == mark && group.in_phase(at))
             };
-            let late = phase.time(Setting::LateStart);
+            let late = phase.time(Setting::LATE_START);
             if late.steps > 0 && !marked(LATE_START) {
                 let text = format!("late start of {letter} has no effect: no group of {letter} has the mark `late-start`");
                 self.warn(Kind::TimeWithoutEffect, late.span, text);
@@ -253,7 +253,7 @@ impl<'a> List<'a> {
         for (at, phase) in site.phases.iter().enumerate() {
             let steps = |setting| u32::from(phase.steps(setting));
             let early = u32::from(site.early_steps(at));
-            let leaving = early + steps(Setting::Yellow) + steps(Setting::AllRed);
+            let leaving = early + steps(Setting::YELLOW) + steps(Setting::ALL_RED);
             for movement in site.movements_of(at) {
                 let second = movement.times[2];
                 if u32::from(second.steps) > leaving {
@@ -284,7 +284,7 @@ impl<'a> List<'a> {
             });
             if let Some((steps, group, approach, speed, grade)) = asked.max_by_key(|asked| asked.0)
             {
-                let written = phase.time(Setting::Yellow);
+                let written = phase.time(Setting::YELLOW);
                 if u64::from(written.steps) < steps {
                     let text = format!(
                         "yellow of {} is {}; {group} on {approach} needs {} at {speed} km/h and {grade} %",

@@ -45,8 +45,8 @@ fn one(old: &str, new: &str, expected: &str) {
 #[test]
 fn the_text_itself_is_read() {
     let site = site::read(TEXT).unwrap();
-    assert_eq!(site.phases[1].steps(site::Setting::MinimumGreen), 20);
-    assert_eq!(site.phases[1].steps(site::Setting::MaximumGreen), 30);
+    assert_eq!(site.phases[1].steps(site::Setting::MINIMUM_GREEN), 20);
+    assert_eq!(site.phases[1].steps(site::Setting::MAXIMUM_GREEN), 30);
     assert_eq!(site.movements[0].times[2].steps, 90);
     assert_eq!(site.road.steps(), 36_000);
     let place = &site.detectors[0].place;

@@ -198,7 +198,7 @@ fn phase_row(line: &Line, phase: usize) -> Result<[Time; 6], Mistake> {
 
 fn early_row(line: &Line, phase: usize) -> Result<Time, Mistake> {
     let mut row = lettered(line, phase)?;
-    let [time] = times(&mut row, [Setting::EarlyCutOff])?;
+    let [time] = times(&mut row, [Setting::EARLY_CUT_OFF])?;
     row.ends()?;
     Ok(time)
 }
