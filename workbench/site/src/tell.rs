@@ -4,7 +4,9 @@
 use crate::build::Built;
 use crate::refusal;
 use crate::seconds;
-use crate::site::{letter, letters, Setting, Site, MARKS, MOVEMENT_SETTINGS, PHASE_SETTINGS};
+use crate::site::{
+    letter, letters, Group, Setting, Site, MARKS, MOVEMENT_SETTINGS, PHASE_SETTINGS,
+};
 use crate::words::Span;
 
 /// A refusal in words. `others` are further places that it is about, each with a note.
@@ -17,78 +19,84 @@ pub struct Told {
     pub others: Vec<(Span, String)>,
 }
 
-/// Puts a refusal of a built site into words.
+/// Puts a refusal of a built site into words. If the site does not show what was refused,
+/// the text is the general sentence of the number.
 pub fn tell(site: &Site, built: &Built, number: u8, place: usize) -> Told {
     let teller = Teller {
         site,
-        told: Told {
-            number,
-            place,
-            span: built.span(place),
-            text: refusal::words(number).to_string(),
-            others: Vec::new(),
-        },
+        place,
+        span: built.span(place),
     };
-    match number {
-        3 => teller.length(),
-        4 => teller.count(),
-        5 => teller.time(),
-        6 => teller.group(),
-        7 => teller.ninth(),
-        8 => teller.empty_phase(),
-        9 => teller.conflict(),
-        10 => teller.shared_phase(),
-        11 => teller.detector(),
-        17 => teller.early_group(),
-        18 => teller.order(),
-        21 => teller.uncalled(),
-        22 => teller.stream(),
-        _ => teller.told,
+    let said = match number {
+        refusal::WRONG_LENGTH => teller.length(),
+        refusal::WRONG_COUNT => teller.count(),
+        refusal::TIME_OUTSIDE => teller.time(),
+        refusal::WRONG_GROUP => teller.group(),
+        refusal::NINTH_PEDESTRIAN => teller.ninth(),
+        refusal::PHASE_WITHOUT_GROUP => teller.empty_phase(),
+        refusal::WRONG_CONFLICT => teller.conflict(),
+        refusal::CONFLICT_IN_PHASE => teller.shared_phase(),
+        refusal::WRONG_DETECTOR => teller.detector(),
+        refusal::NO_EARLY_TIMES => teller.early_group(),
+        refusal::WRONG_ORDER => teller.order(),
+        refusal::UNCALLED_PHASE => teller.uncalled(),
+        refusal::WRONG_STREAMS => teller.stream(),
+        _ => None,
+    };
+    let said = said.unwrap_or_else(|| say(built.span(place), refusal::words(number)));
+    Told {
+        number,
+        place,
+        span: said.span,
+        text: said.text,
+        others: said.others,
     }
 }
 
-/// The sections before the place, from the layout of R2.3.
-struct Layout {
-    groups: usize,
-    conflicts: usize,
-    detectors: usize,
+/// What is said of a refusal.
+struct Said {
+    span: Span,
+    text: String,
+    others: Vec<(Span, String)>,
 }
 
-impl Layout {
-    /// The places of the bodies.
-    fn of(site: &Site) -> Layout {
-        let (phases, groups) = (site.phases.len(), site.groups.len());
-        let third = 16 + 12 * phases;
-        let fourth = third + 2 * groups + 4;
-        Layout {
-            groups: third,
-            conflicts: fourth,
-            detectors: fourth + 4 * groups + 4,
-        }
+fn say(span: Span, text: impl Into<String>) -> Said {
+    Said {
+        span,
+        text: text.into(),
+        others: Vec::new(),
     }
 }
 
+impl Said {
+    fn note(mut self, span: Span, note: impl Into<String>) -> Said {
+        self.others.push((span, note.into()));
+        self
+    }
+}
+
+/// The site, and what was refused: a byte, and the place in the text that made it.
 struct Teller<'a> {
     site: &'a Site,
-    told: Told,
+    place: usize,
+    span: Span,
 }
 
 impl<'a> Teller<'a> {
-    fn say(mut self, span: Span, text: String) -> Told {
-        self.told.span = span;
-        self.told.text = text;
-        self.told
+    /// The place of the body of section 3, by the layout of docs/RULES.md, R2.3.
+    fn groups_body(&self) -> usize {
+        16 + 12 * self.site.phases.len()
     }
 
-    fn note(mut self, span: Span, note: impl Into<String>) -> Teller<'a> {
-        self.told.others.push((span, note.into()));
-        self
+    /// The place of the body of section 4.
+    fn conflicts_body(&self) -> usize {
+        self.groups_body() + 2 * self.site.groups.len() + 4
     }
 
-    /// The record of a section of which this is the place.
-    fn record(&self, body: usize, size: usize, count: usize) -> Option<usize> {
-        let at = self.told.place.checked_sub(body)? / size;
-        Some(at).filter(|at| *at < count)
+    /// The record of a section that was refused.
+    fn record<T>(&self, body: usize, size: usize, records: &'a [T]) -> Option<(usize, &'a T)> {
+        let at = self.place.checked_sub(body)? / size;
+        records.get(at).map(|record| (at, record))
     }
 
     /// The phases of the site in words.
@@ -100,334 +108,252 @@ impl<'a> Teller<'a> {
         }
     }
 
-    fn name(&self, group: usize) -> &'a str {
-        &self.site.groups[group].name
-    }
-
-    fn length(self) -> Told {
-        let (site, span) = (self.site, self.told.span);
+    fn length(&self) -> Option<Said> {
+        let (site, span) = (self.site, self.span);
         if span == site.heading("order") {
-            let count = site.order.as_ref().map_or(0, Vec::len);
-            let phases = site.phases.len();
+            let (count, phases) = (site.order.as_ref()?.len(), site.phases.len());
             let text = format!("the order has {count} letters, and the site {phases} phases");
-            return self.say(span, text);
+            return Some(say(span, text));
         }
-        match site.detectors.get(48) {
-            Some(detector) if span == site.heading("detectors") => {
-                let count = site.detectors.len();
-                self.say(
-                    detector.span,
-                    format!("{count} detectors; at most 48 are allowed"),
-                )
-            }
-            _ => self.told,
-        }
+        let (count, too_many) = (site.detectors.len(), site.detectors.get(48)?);
+        let text = format!("{count} detectors; at most 48 are allowed");
+        Some(say(too_many.span, text)).filter(|_| span == site.heading("detectors"))
     }
 
-    fn count(self) -> Told {
-        let (phases, groups) = (self.site.phases.len(), self.site.groups.len());
-        let (span, text) = if self.told.place == 4 {
-            let eighth = self.site.phases.get(7).map(|phase| phase.span);
-            (eighth, format!("{phases} phases; 2 to 7 are allowed"))
+    fn count(&self) -> Option<Said> {
+        let (phases, groups) = (&self.site.phases, &self.site.groups);
+        let (too_many, text) = if self.place == 4 {
+            let eighth = phases.get(7).map(|phase| phase.span);
+            (
+                eighth,
+                format!("{} phases; 2 to 7 are allowed", phases.len()),
+            )
         } else {
-            let last = self.site.groups.get(32).map(|group| group.span);
-            (last, format!("{groups} groups; 1 to 32 are allowed"))
+            let last = groups.get(32).map(|group| group.span);
+            (
+                last,
+                format!("{} groups; 1 to 32 are allowed", groups.len()),
+            )
         };
-        let span = span.unwrap_or(self.told.span);
-        self.say(span, text)
+        Some(say(too_many.unwrap_or(self.span), text))
     }
 
-    /// Whose time is at the place that was refused, and the limits.
-    fn time(self) -> Told {
-        let span = self.told.span;
-        match self.timed(span) {
-            Some((owner, setting, steps)) => {
-                let edition = self.site.edition;
-                let (low, high) = setting.limits(edition);
-                let text = format!(
-                    "{owner}: {} is {} ({steps} steps); edition {edition} allows {} to {} ({low} to {high} steps)",
-                    setting.name(),
-                    seconds(steps.into()),
-                    seconds(low.into()),
-                    seconds(high.into()),
-                );
-                self.say(span, text)
-            }
-            None => self.told,
-        }
+    /// Whose time was refused, and the limits.
+    fn time(&self) -> Option<Said> {
+        let (owner, setting, steps) = self.timed()?;
+        let edition = self.site.edition;
+        let (low, high) = setting.limits(edition);
+        let text = format!(
+            "{owner}: {} is {} ({steps} steps); edition {edition} allows {} to {} ({low} to {high} steps)",
+            setting.name(),
+            seconds(steps.into()),
+            seconds(low.into()),
+            seconds(high.into()),
+        );
+        Some(say(self.span, text))
     }
 
-    /// The owner, the setting and the value of the time that is written at a place.
-    fn timed(&self, span: Span) -> Option<(String, Setting, u16)> {
-        let site = self.site;
+    /// The owner, the setting and the value of the time that was refused.
+    fn timed(&self) -> Option<(String, Setting, u16)> {
+        let (site, span) = (self.site, self.span);
         if site.start_red.span == span {
-            return Some((
-                "the site".to_string(),
-                Setting::START_RED,
-                site.start_red.steps,
-            ));
+            let steps = site.start_red.steps;
+            return Some(("the site".to_string(), Setting::START_RED, steps));
         }
         for (at, phase) in site.phases.iter().enumerate() {
-            for (time, setting) in phase.times.iter().zip(PHASE_SETTINGS) {
-                if time.span == span {
-                    return Some((format!("phase {}", letter(at)), setting, time.steps));
-                }
+            let mut times = phase.times.iter().zip(PHASE_SETTINGS);
+            if let Some((time, setting)) = times.find(|(time, _)| time.span == span) {
+                return Some((format!("phase {}", letter(at)), setting, time.steps));
             }
         }
         for movement in &site.movements {
-            for (time, setting) in movement.times.iter().zip(MOVEMENT_SETTINGS) {
-                if time.span == span {
-                    return Some((self.name(movement.group).to_string(), setting, time.steps));
-                }
+            let mut times = movement.times.iter().zip(MOVEMENT_SETTINGS);
+            if let Some((time, setting)) = times.find(|(time, _)| time.span == span) {
+                let owner = site.groups[movement.group].name.clone();
+                return Some((owner, setting, time.steps));
             }
         }
         let mut early = site.early.iter().flatten().enumerate();
-        let found = early.find(|(_, time)| time.span == span);
-        found.map(|(at, time)| {
-            (
-                format!("phase {}", letter(at)),
-                Setting::EARLY_CUT_OFF,
-                time.steps,
-            )
-        })
+        let (at, time) = early.find(|(_, time)| time.span == span)?;
+        Some((
+            format!("phase {}", letter(at)),
+            Setting::EARLY_CUT_OFF,
+            time.steps,
+        ))
     }
 
-    fn group(self) -> Told {
-        let body = Layout::of(self.site).groups;
-        let group = match self.record(body, 2, self.site.groups.len()) {
-            Some(group) => &self.site.groups[group],
-            None => return self.told,
-        };
-        let name = &group.name;
+    fn group(&self) -> Option<Said> {
+        let (_, group) = self.record(self.groups_body(), 2, &self.site.groups)?;
+        let (name, count) = (&group.name, group.phases.count_ones());
         let missing = group.phases & !below(self.site.phases.len());
         let text = if missing != 0 {
             format!("{name} has phase {}; {}", letters(missing), self.phases())
+        } else if count == 0 {
+            format!("{name} is a pedestrian group with no phase; it must have exactly one")
         } else {
-            let count = group.phases.count_ones();
-            let has = if count == 0 {
-                "no phase".to_string()
-            } else {
-                format!("{count} phases")
-            };
-            format!("{name} is a pedestrian group with {has}; it must have exactly one")
+            format!("{name} is a pedestrian group with {count} phases; it must have exactly one")
         };
-        self.say(group.phases_span, text)
+        Some(say(group.phases_span, text))
     }
 
-    fn ninth(self) -> Told {
-        let ninth = self
+    fn ninth(&self) -> Option<Said> {
+        let mut walking = self
             .site
             .groups
             .iter()
-            .filter(|group| group.is_pedestrian())
-            .nth(8);
-        match ninth {
-            Some(group) => {
-                let text = format!(
-                    "{} is the ninth pedestrian group; at most 8 are allowed",
-                    group.name
-                );
-                self.say(group.span, text)
-            }
-            None => self.told,
-        }
+            .filter(|group| group.is_pedestrian());
+        let group = walking.nth(8)?;
+        let text = format!(
+            "{} is the ninth pedestrian group; at most 8 are allowed",
+            group.name
+        );
+        Some(say(group.span, text))
     }
 
-    fn empty_phase(self) -> Told {
+    fn empty_phase(&self) -> Option<Said> {
         let site = self.site;
         let served = |phase: &usize| site.groups.iter().any(|group| group.in_phase(*phase));
-        match (0..site.phases.len()).find(|phase| !served(phase)) {
-            Some(phase) => {
-                let span = site.phases[phase].span;
-                let text = format!("phase {} is in the set of no group", letter(phase));
-                self.note(site.heading("groups"), "one of these groups must have it")
-                    .say(span, text)
-            }
-            None => self.told,
-        }
+        let phase = (0..site.phases.len()).find(|phase| !served(phase))?;
+        let text = format!("phase {} is in the set of no group", letter(phase));
+        let said = say(site.phases[phase].span, text);
+        Some(said.note(site.heading("groups"), "one of these groups must have it"))
     }
 
-    /// The row that was refused: with itself, or with a group whose row does not answer.
-    fn conflict(self) -> Told {
-        let (site, body) = (self.site, Layout::of(self.site).conflicts);
-        let group = match self.record(body, 4, site.groups.len()) {
-            Some(group) => group,
-            None => return self.told,
-        };
-        let name = self.name(group);
-        for (other, span) in &site.groups[group].conflicts {
-            if *other == group {
-                return self.say(*span, format!("{name} conflicts with itself"));
-            }
-            if !site.groups[*other].conflicts_with(group) {
-                let named = self.name(*other);
-                let text =
-                    format!("{name} lists {named}, but the row of {named} does not list {name}");
-                let row = site.groups[*other].row;
-                return self
-                    .note(row, format!("{name} is missing here"))
-                    .say(*span, text);
-            }
-        }
-        self.told
+    /// The group of the row of conflicts that was refused.
+    fn conflicting(&self) -> Option<(usize, &'a Group)> {
+        self.record(self.conflicts_body(), 4, &self.site.groups)
     }
 
-    fn shared_phase(self) -> Told {
-        let (site, body) = (self.site, Layout::of(self.site).conflicts);
-        let group = match self.record(body, 4, site.groups.len()) {
-            Some(group) => group,
-            None => return self.told,
+    /// A conflict with itself, or with a group whose row does not answer.
+    fn conflict(&self) -> Option<Said> {
+        let (at, group) = self.conflicting()?;
+        let name = &group.name;
+        let wrong = |(other, _): &&(usize, Span)| {
+            *other == at || !self.site.groups[*other].conflicts_with(at)
         };
-        let one = &site.groups[group];
+        let (other, span) = group.conflicts.iter().find(wrong)?;
+        if *other == at {
+            return Some(say(*span, format!("{name} conflicts with itself")));
+        }
+        let other = &self.site.groups[*other];
+        let named = &other.name;
+        let text = format!("{name} lists {named}, but the row of {named} does not list {name}");
+        Some(say(*span, text).note(other.row, format!("{name} is missing here")))
+    }
+
+    fn shared_phase(&self) -> Option<Said> {
+        let (site, (_, one)) = (self.site, self.conflicting()?);
         let shares = |(other, _): &&(usize, Span)| site.groups[*other].phases & one.phases != 0;
-        match one.conflicts.iter().find(shares) {
-            Some((other, span)) => {
-                let other = &site.groups[*other];
-                let shared = letters(other.phases & one.phases);
-                let many = if shared.len() > 1 { "phases" } else { "phase" };
-                let text = format!(
-                    "{} and {} conflict and are both in {many} {shared}",
-                    one.name, other.name
-                );
-                let first = (other.phases & one.phases).trailing_zeros() as usize;
-                self.note(one.phases_span, format!("the phases of {}", one.name))
-                    .note(other.phases_span, format!("the phases of {}", other.name))
-                    .note(site.phases[first].span, format!("phase {}", letter(first)))
-                    .say(*span, text)
-            }
-            None => self.told,
-        }
+        let (other, span) = one.conflicts.iter().find(shares)?;
+        let two = &site.groups[*other];
+        let shared = letters(one.phases & two.phases);
+        let many = if shared.len() > 1 { "phases" } else { "phase" };
+        let text = format!(
+            "{} and {} conflict and are both in {many} {shared}",
+            one.name, two.name
+        );
+        let first = (one.phases & two.phases).trailing_zeros() as usize;
+        let said = say(*span, text)
+            .note(one.phases_span, format!("the phases of {}", one.name))
+            .note(two.phases_span, format!("the phases of {}", two.name));
+        let phase = site.phases.get(first)?;
+        Some(said.note(phase.span, format!("phase {}", letter(first))))
     }
 
-    fn detector(self) -> Told {
-        let body = Layout::of(self.site).detectors;
-        match self.record(body, 2, self.site.detectors.len()) {
-            Some(at) => {
-                let detector = &self.site.detectors[at];
-                let phase = letter(detector.phase.into());
-                let text = format!("detector {at} is of phase {phase}; {}", self.phases());
-                self.say(detector.phase_span, text)
-            }
-            None => self.told,
-        }
+    fn detector(&self) -> Option<Said> {
+        let body = self.conflicts_body() + 4 * self.site.groups.len() + 4;
+        let (at, detector) = self.record(body, 2, &self.site.detectors)?;
+        let phase = letter(detector.phase.into());
+        let text = format!("detector {at} is of phase {phase}; {}", self.phases());
+        Some(say(detector.phase_span, text))
     }
 
-    fn early_group(self) -> Told {
-        let body = Layout::of(self.site).groups;
-        match self.record(body, 2, self.site.groups.len()) {
-            Some(at) => {
-                let group = &self.site.groups[at];
-                let mark = MARKS[usize::from(group.mark)];
-                let text = format!(
-                    "{} has the mark `{mark}`, but the text has no heading `early-cut-off`",
-                    group.name
-                );
-                self.say(group.mark_span, text)
-            }
-            None => self.told,
-        }
+    fn early_group(&self) -> Option<Said> {
+        let (_, group) = self.record(self.groups_body(), 2, &self.site.groups)?;
+        let (name, mark) = (&group.name, MARKS[usize::from(group.mark)]);
+        let text =
+            format!("{name} has the mark `{mark}`, but the text has no heading `early-cut-off`");
+        Some(say(group.mark_span, text))
     }
 
     /// The letter that the order has twice or that the site does not have, and the first
     /// phase that is missing.
-    fn order(self) -> Told {
-        let site = self.site;
-        let empty = Vec::new();
-        let order = site.order.as_ref().unwrap_or(&empty);
+    fn order(&self) -> Option<Said> {
+        let (site, order) = (self.site, self.site.order.as_ref()?);
         let listed = |phase: &usize| order.iter().any(|(one, _)| usize::from(*one) == *phase);
-        let missing = (0..site.phases.len()).find(|phase| !listed(phase));
+        let missing = (0..site.phases.len()).find(|phase| !listed(phase))?;
         let twice = |at: usize| {
             order[..at]
                 .iter()
                 .any(|(earlier, _)| *earlier == order[at].0)
         };
         let wrong = |at: &usize| usize::from(order[*at].0) >= site.phases.len() || twice(*at);
-        match ((0..order.len()).find(wrong), missing) {
-            (Some(at), Some(missing)) => {
-                let (phase, span) = order[at];
-                let what = if twice(at) {
-                    "twice".to_string()
-                } else {
-                    format!("({})", self.phases())
-                };
-                let (letter, missing_letter) = (letter(phase.into()), letter(missing));
-                let text = format!(
-                    "the order has phase {letter} {what}, and phase {missing_letter} is missing"
-                );
-                let note = format!("phase {missing_letter} is not in the order");
-                self.note(site.phases[missing].span, note).say(span, text)
-            }
-            _ => self.told,
-        }
+        let at = (0..order.len()).find(wrong)?;
+        let (phase, span) = order[at];
+        let what = if twice(at) {
+            "twice".to_string()
+        } else {
+            format!("({})", self.phases())
+        };
+        let (wrong, missed) = (letter(phase.into()), letter(missing));
+        let text = format!("the order has phase {wrong} {what}, and phase {missed} is missing");
+        let note = format!("phase {missed} is not in the order");
+        Some(say(span, text).note(site.phases[missing].span, note))
     }
 
-    fn uncalled(self) -> Told {
+    fn uncalled(&self) -> Option<Said> {
         let site = self.site;
         let called = |phase: &usize| {
-            let by_detector = site
-                .detectors
-                .iter()
-                .any(|one| usize::from(one.phase) == *phase && one.calls());
-            by_detector
-                || site
-                    .groups
-                    .iter()
-                    .any(|group| group.is_pedestrian() && group.in_phase(*phase))
+            let own = |one: &crate::Detector| usize::from(one.phase) == *phase && one.calls();
+            let walk = |group: &Group| group.is_pedestrian() && group.in_phase(*phase);
+            site.detectors.iter().any(own) || site.groups.iter().any(walk)
         };
-        match (0..site.phases.len()).find(|phase| !called(phase)) {
-            Some(phase) => {
-                let text = format!(
-                    "phase {} has no calling detector and no pedestrian group: nobody can call it",
-                    letter(phase)
-                );
-                let silent = site
-                    .detectors
-                    .iter()
-                    .filter(|one| usize::from(one.phase) == phase);
-                let notes =
-                    silent.map(|one| (one.mode_span, "this detector does not call".to_string()));
-                let mut teller = self;
-                teller.told.others.extend(notes);
-                teller.say(site.phases[phase].span, text)
-            }
-            None => self.told,
-        }
+        let phase = (0..site.phases.len()).find(|phase| !called(phase))?;
+        let text = format!(
+            "phase {} has no calling detector and no pedestrian group: nobody can call it",
+            letter(phase)
+        );
+        let silent = site
+            .detectors
+            .iter()
+            .filter(|one| usize::from(one.phase) == phase);
+        let said = say(site.phases[phase].span, text);
+        Some(silent.fold(said, |said, one| {
+            said.note(one.mode_span, "this detector does not call")
+        }))
     }
 
-    fn stream(self) -> Told {
-        let site = self.site;
-        for (at, stream) in site.road.streams.iter().enumerate() {
-            let group = site.groups.get(usize::from(stream.group));
-            let vehicle = group.map_or(false, |group| !group.is_pedestrian());
-            let text = if at >= 48 {
-                "more than 48 streams".to_string()
-            } else if usize::from(stream.detector) >= site.detectors.len() {
-                let count = site.detectors.len();
-                format!(
-                    "there is no detector {}: the site has {count}, counted from 0",
-                    stream.detector
-                )
-            } else if !vehicle {
-                format!(
-                    "{} is not a vehicle group",
-                    group.map_or("this", |group| &group.name)
-                )
-            } else if stream.rate > 1800 {
-                format!(
-                    "{} vehicles per hour; at most 1800 are allowed",
-                    stream.rate
-                )
-            } else {
-                continue;
-            };
-            return self.say(stream.span, text);
+    /// The first stream that the road does not take, or else the number of steps.
+    fn stream(&self) -> Option<Said> {
+        let road = &self.site.road;
+        let mut streams = road.streams.iter().enumerate();
+        let found = streams.find_map(|(at, stream)| Some(say(stream.span, self.wrong(at)?)));
+        let steps = road.steps();
+        let text = format!("{steps} steps are refused; at most 180000 are allowed");
+        Some(found.unwrap_or_else(|| say(self.site.heading("streams"), text)))
+    }
+
+    /// What is wrong with a stream.
+    fn wrong(&self, at: usize) -> Option<String> {
+        let (site, stream) = (self.site, self.site.road.streams[at]);
+        let (detector, count) = (stream.detector, site.detectors.len());
+        let group = &site.groups[usize::from(stream.group)];
+        if at >= 48 {
+            Some("more than 48 streams".to_string())
+        } else if usize::from(detector) >= count {
+            Some(format!(
+                "there is no detector {detector}: the site has {count}, counted from 0"
+            ))
+        } else if group.is_pedestrian() {
+            Some(format!("{} is not a vehicle group", group.name))
+        } else if stream.rate > 1800 {
+            Some(format!(
+                "{} vehicles per hour; at most 1800 are allowed",
+                stream.rate
+            ))
+        } else {
+            None
         }
-        let steps = site.road.steps();
-        let span = site.heading("streams");
-        self.say(
-            span,
-            format!("{steps} steps are refused; at most 180000 are allowed"),
-        )
     }
 }
 
