@@ -279,7 +279,7 @@ impl<'a> Drawing<'a> {
         };
         match demand.waited() {
             Some(waited) => {
-                let (text, end) = (seconds(waited), self.x(to));
+                let (text, end) = (self.wait(waited), self.x(to));
                 self.bar(from, to, style, &text);
                 if end - self.x(from) <= 6.5 * text.chars().count() as f64 + 2.0 {
                     self.svg.note(end + 3.0, self.y + BAR - 3.5, &text);
@@ -289,6 +289,15 @@ impl<'a> Drawing<'a> {
                 self.bar(from, to, style, "");
                 self.tag(from, to, "waits", 38.0);
             }
+        }
+    }
+
+    /// A wait in words; in whole seconds if not every step was looked at.
+    fn wait(&self, steps: u64) -> String {
+        if self.picture.stride == 1 {
+            seconds(steps)
+        } else {
+            format!("{} s", steps / 10)
         }
     }
 
