@@ -79,10 +79,10 @@ module _
       abbrev next : State
       next = stepped site s inputs
 
-      asked-kept : asked next m ≡ true
+      pub asked-kept : asked next m ≡ true
       asked-kept = asked-of site s inputs m button-room ∙ and-both standing (ap not quiet)
 
-      still-kept : inWalk s m ≡ false → inWalk next m ≡ false
+      pub still-kept : inWalk s m ≡ false → inWalk next m ≡ false
       unfolding inWalk moved
       still-kept h =
           ap (λ (k : Movement). isWalk (k .stage)) (moved-on site s inputs m button-room quiet)
@@ -139,7 +139,7 @@ module _
 
     -- ── A step ──
 
-    walk-entered : (s : State) (inputs : ℕ) → begun site s inputs m ≡ true → inWalk (stepped site s inputs) m ≡ true
+    pub walk-entered : (s : State) (inputs : ℕ) → begun site s inputs m ≡ true → inWalk (stepped site s inputs) m ≡ true
     unfolding inWalk
     walk-entered s inputs b = rw (movement-of site s inputs m button-room, b)
 
@@ -185,11 +185,11 @@ module _
     unfolding idles
     button-within s v stands =
         left-within site sound (here site q) (beyond site q) (idles site s m) s v
-        (ahead-most site q sound below (visit site) 0 (omega arith))
+        (λ t l. omega (arith, ahead-most site q sound below (visit site) 0 t l))
         (λ red leaving.
         ⊎-elim
         (λ (same : s .position .phase ≡ q). rw same (omega (arith, onward-own site q sound below (visit site) 0)))
-        (onward-most site q sound below (visit site) 0 (omega arith) (s .position .phase) (v .phase))
+        (λ (other : s .position .phase ≡ q → ⊥). omega (arith, onward-most site q sound below (visit site) 0 (s .position .phase) (v .phase) other))
         (same-or-apart (s .position .phase) q))
         (idle-most site sound (s .position) m (movement s m) (v .movements m button-room))
 

@@ -2,11 +2,17 @@ pub mod Stages
 pub mod Left
 pub mod Falls
 pub mod Moves
+pub mod Between
 pub mod Progress
 pub mod Bound
 pub mod Paths
 pub mod Registers
 pub mod Demand
 pub mod Away
+pub mod Own
 pub mod Locks
 pub mod Buttons
+pub mod Turns
+pub mod Clearing
+pub mod Entered
+pub mod TurnBound

@@ -36,21 +36,14 @@ use Rattle.proof_waits.proofs.Progress.{Standing, Starts, progress}
 use Rattle.proof_waits.proofs.Bound.{visits, visit-most, bound-parts, left-within}
 use Rattle.proof_waits.proofs.Paths.{ringIn, ahead, onward, ahead-own, ahead-apart, ahead-most, onward-most, demanded-another, next-near}
 use Rattle.proof_waits.proofs.Registers.{green-same}
-use Rattle.proof_waits.proofs.Away.{AwayAt, NotBegun, following-away, away-told, away-green, not-begun}
+use Rattle.proof_waits.proofs.Away.{AwayAt, NotBegun, away-told, away-green, not-begun}
+use Rattle.proof_waits.proofs.Own.{late, OwnLate, away-kept, late-starts, late-goes-on}
 use Rattle.proof_waits.proofs.Demand.{Waits}
 
 -- the lock is set, and the phase is not in minimum green or running
 pub record LockStands (q : ℕ) (s : State) : Type 0 where
   pub locked : locked s q ≡ true
   pub away : AwayAt q (s .position)
-
-abbrev late : Site → ℕ → ℕ
-late site q = phaseTimes (site .times) q .late
-
--- only the late start of the phase is left
-abbrev OwnLate : Site → ℕ → Position → ℕ → Type 0
-OwnLate site q position n =
-    (position .interval ≡ LateStart) × (position .phase ≡ q) × (late site q - position .age + 1 + 0 ≤ n)
 
 -- the way to the minimum green of phase q, weighed by the visits
 abbrev here : Site → ℕ → ℕ → ℕ
@@ -78,7 +71,7 @@ module _ (site : Site) (sound : Sound site) (q : ℕ) (below : q < site .size .p
       abbrev next : State
       next = stepped site s inputs
 
-      lock-kept : locked next q ≡ true
+      pub lock-kept : locked next q ≡ true
       unfolding clearsLock
       lock-kept =
           locked-of site s inputs q lock-room
@@ -89,15 +82,6 @@ module _ (site : Site) (sound : Sound site) (q : ℕ) (below : q < site .size .p
           let both = ended site s inputs && isMinimumGreen (now site s inputs .interval) in
           never-both (and-right (ended site s inputs) _ (and-left both (eqb q (now site s inputs .phase)) h))
           ((rw (position-of site s inputs) at none) (sym (eqb-true q (now site s inputs .phase) (and-right both _ h)))))))
-
-      away-kept : AwayAt q (next .position)
-      unfolding staying
-      away-kept =
-          rw (position-of site s inputs)
-          (by-end site s inputs (λ (p : Position). NotBegun q p → AwayAt q p)
-          (λ over. following-away q (s .position .interval) (site .times) (nextDemanded site s inputs) (s .position) refl away)
-          (λ still none. away)
-          (rw (position-of site s inputs) at none))
 
       module _ (v : ValidState site s) (v' : ValidState site next) where
         stand : Standing site (here site q) (beyond site q) q s inputs 0 0
@@ -112,46 +96,14 @@ module _ (site : Site) (sound : Sound site) (q : ℕ) (below : q < site .size .p
               gone = λ other. refl;
             }
 
-        -- the phase starts, with late start
-        late-starts : (n : ℕ) → Starts site (here site q) q s inputs n → OwnLate site q (next .position) n
-        unfolding starting
-        late-starts n starts =
-            rw (starts .position)
-            (step (eqb (late site q) 0) refl (rw (starts .position) at none))
-          where
-            step :
-                (b : Bool) →
-                eqb (late site q) 0 ≡ b →
-                (q ≡ q → isMinimumGreen (if b then MinimumGreen else LateStart) ≡ false) →
-                ((if b then MinimumGreen else LateStart) ≡ LateStart) × (q ≡ q) × (late site q - 1 + 1 + 0 ≤ n)
-            step true e never = absurd (never-both refl (never refl))
-            step false e never = (refl, refl, omega (arith, starts .near, ahead-own (visit site) (ringIn site) q (late site q), eqb-false (late site q) 0 e))
-
-        late-goes-on : (n : ℕ) → OwnLate site q (s .position) (suc n) → OwnLate site q (next .position) n
-        unfolding following entering staying ends
-        late-goes-on n h =
-            ⊎-elim
-            (λ (e : ended site s inputs ≡ true).
-            absurd (never-both refl ((rw (next-in site s inputs LateStart (h .0) true e) at none) (h .1))))
-            (λ (e : ended site s inputs ≡ false).
-            let runs = leb-false _ _ (sym (ended-in site s inputs LateStart (h .0)) ∙ e) in
-            rw (next-in site s inputs LateStart (h .0) false e) (
-              h .0,
-              h .1,
-              timer-falls (late site q) (s .position .age) 0 0 n (phase-timed site sound q below .late)
-                  (subst (λ (p : ℕ). s .position .age < phaseTimes (site .times) p .late) (h .1) runs)
-                  (omega arith)
-                  (h .2),
-            ))
-            (decided (ended site s inputs))
-
         lock-falls : (n : ℕ) → LockLeft site q (suc n) s → LockLeft site q n next
         lock-falls n (inl h) =
             ⊎-elim
-            (λ (starts : Starts site (here site q) q s inputs n). inr (late-starts n starts))
+            (λ (starts : Starts site (here site q) q s inputs n).
+            inr (late-starts site sound q below s inputs none (here site q) (omega (arith, ahead-own (visit site) (ringIn site) q (late site q))) n starts))
             (λ (left : Left site (here site q) (beyond site q) 0 next n). inl left)
             (progress site sound (here site q) (beyond site q) q s inputs v v' 0 0 stand n h)
-        lock-falls n (inr h) = inr (late-goes-on n h)
+        lock-falls n (inr h) = inr (late-goes-on site sound q below s inputs none n h)
 
   -- ── A step ──
 
@@ -176,7 +128,7 @@ module _ (site : Site) (sound : Sound site) (q : ℕ) (below : q < site .size .p
           stands =
               rw (link .taken .after) (record {
                 locked = lock-kept s (step .inputs) standing away none;
-                away = away-kept s (step .inputs) standing away none;
+                away = away-kept site sound q below s (step .inputs) none away;
               });
           falls = λ n left.
               rw (link .taken .after)
@@ -208,7 +160,7 @@ module _ (site : Site) (sound : Sound site) (q : ℕ) (below : q < site .size .p
         isLeaving (s .position .interval) ≡ false →
         visit site (s .position .phase) + beyond site q (s .position .phase) ≤ visits site) →
         LockLeft site q (waitBound site) s
-    whole fits = inl (left-within site sound (here site q) (beyond site q) 0 s v (ahead-most site q sound below (visit site) (late site q) tail-most) fits (omega arith))
+    whole fits = inl (left-within site sound (here site q) (beyond site q) 0 s v (λ t l. omega (arith, tail-most, ahead-most site q sound below (visit site) (late site q) t l)) fits (omega arith))
 
     lock-own : (i : Interval) → s .position .interval ≡ i → s .position .phase ≡ q → LockLeft site q (waitBound site) s
     lock-own StartRed e same = whole (λ red leaving. absurd (never-both (ap isStartRed e) red))
@@ -230,7 +182,7 @@ module _ (site : Site) (sound : Sound site) (q : ℕ) (below : q < site .size .p
       (lock-own s v (stands .away) (s .position .interval) refl)
       (λ (other : s .position .phase ≡ q → ⊥).
       whole s v (stands .away)
-      (λ red leaving. onward-most site q sound below (visit site) (late site q) tail-most (s .position .phase) (v .phase) other))
+      (λ red leaving. omega (arith, tail-most, onward-most site q sound below (visit site) (late site q) (s .position .phase) (v .phase) other)))
       (same-or-apart (s .position .phase) q)
 
 pub lock-never : (site : Site) (q : ℕ) (s : State) → LockLeft site q zero s → ⊥
