@@ -15,8 +15,8 @@ use Rattle.rules.specs.DemandThree.{inMinimumGreen, inWalk, registersLocked, re
 use Rattle.rules.specs.TimedDemandThree.{TimedStep}
 use Rattle.laws.proofs.Booleans.{and-left, and-both}
 use Rattle.proof_waits.proofs.Registers.{lock-same, button-same}
-use Rattle.proof_waits.proofs.Locks.{LockStands}
-use Rattle.proof_waits.proofs.Buttons.{ButtonStands}
+use Rattle.proof_waits.proofs.Locked.{LockStands}
+use Rattle.proof_waits.proofs.Pressed.{ButtonStands}
 use Rattle.proof_timed.proofs.Induction.{plainFrom, TimedLink, SeenReady}
 
 -- in the ready state no movement is in walk

@@ -12,8 +12,10 @@ use Rattle.rules.specs.Laws.{Sound}
 use Rattle.rules.specs.DemandThree.{registersLocked, registersPressed, minimumGreenBegins, walkBegins}
 use Rattle.rules.specs.TimedDemandThree.{TimedStep, MetInTime, TimedDemandsMet}
 use Rattle.proof_runs.proofs.Demanded.{lock-below}
-use Rattle.proof_waits.proofs.Locks.{LockStands, LockLeft, lock-registers, lock-goes, lock-within, lock-never}
-use Rattle.proof_waits.proofs.Buttons.{ButtonStands, ButtonLeft, button-registers, button-goes, button-within, button-never}
+use Rattle.proof_waits.proofs.Locked.{LockStands}
+use Rattle.proof_waits.proofs.Locks.{LockLeft, lock-registers, lock-goes, lock-within, lock-never}
+use Rattle.proof_waits.proofs.Pressed.{ButtonStands}
+use Rattle.proof_waits.proofs.Buttons.{ButtonLeft, button-registers, button-goes, button-within, button-never}
 use Rattle.proof_runs.proofs.Chains.{ValidLink}
 use Rattle.proof_timed.proofs.Induction.{viewed, plainFrom, TimedRun, past, front, met-in-time}
 use Rattle.proof_timed.proofs.Across.{lock-again, button-again, lock-seen, button-seen, lock-from, button-from}

@@ -10,7 +10,9 @@ pub mod Registers
 pub mod Demand
 pub mod Away
 pub mod Own
+pub mod Locked
 pub mod Locks
+pub mod Pressed
 pub mod Buttons
 pub mod Turns
 pub mod Clearing

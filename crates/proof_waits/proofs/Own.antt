@@ -1,8 +1,8 @@
 -- The late start of a demanded phase, for any measure of the way ahead: once the phase starts only that is left before its minimum green.
 use Prim.Native.Nat.{ℕ, suc, _+_, _-_, _≤_, _<_}
-use mathlib.Core.Bool.{Bool, true, false}
-use mathlib.Core.Logic.{⊎-elim}
-use mathlib.Core.Path.{_≡_, refl, sym, subst, _∙_}
+use mathlib.Core.Bool.{Bool, true, false, not}
+use mathlib.Core.Logic.{_⊎_, inl, inr, ⊎-elim}
+use mathlib.Core.Path.{_≡_, refl, sym, ap, subst, _∙_}
 use native.Mathlib.Omega.{arith}
 use lib.Dec.{eqb}
 use borrow.Author.Tests.{leb-false, eqb-false}
@@ -17,13 +17,16 @@ use Rattle.rules.specs.Demands.{nextDemanded}
 use Rattle.rules.specs.Interval.{ends, following, entering, starting, staying}
 use Rattle.rules.specs.Step.{stepped}
 use Rattle.rules.specs.Laws.{Sound}
-use Rattle.laws.proofs.Booleans.{decided, never-both}
+use Rattle.rules.specs.DemandThree.{Taken, inMinimumGreen, inRunning, minimumGreenBegins}
+use Rattle.laws.proofs.Booleans.{and-both, or-false-left, decided, never-both}
 use Rattle.rules.proofs.Settings.{phase-timed}
 use Rattle.proof_runs.proofs.Steps.{ended, position-of}
 use Rattle.proof_runs.proofs.Ends.{by-end, ended-in, next-in}
+use Rattle.proof_runs.proofs.Chains.{ValidLink}
 use Rattle.proof_waits.proofs.Falls.{timer-falls}
 use Rattle.proof_waits.proofs.Progress.{Starts}
-use Rattle.proof_waits.proofs.Away.{AwayAt, NotBegun, following-away}
+use Rattle.proof_waits.proofs.Registers.{green-same}
+use Rattle.proof_waits.proofs.Away.{AwayAt, NotBegun, following-away, away-green, not-begun}
 
 abbrev pub late : Site → ℕ → ℕ
 late site q = phaseTimes (site .times) q .late
@@ -88,3 +91,19 @@ module _
               (h .2),
         ))
         (decided (ended site s inputs))
+
+-- the minimum green begins in the step, or has not begun after it
+pub begins-or-not :
+    (site : Site) (q : ℕ) (s : State) (step : Taken) →
+    ValidLink site s step →
+    AwayAt q (s .position) →
+    (minimumGreenBegins q step ≡ true) ⊎ NotBegun q (stepped site s (step .inputs) .position)
+unfolding minimumGreenBegins
+begins-or-not site q s step link away =
+    let after = stepped site s (step .inputs) in
+    ⊎-elim
+    (λ (m : inMinimumGreen after q ≡ true).
+    let before = or-false-left (inMinimumGreen s q) (inRunning s q) (sym (green-same s q) ∙ away-green s q away) in
+    inl (rw (link .taken .before, link .taken .after) (and-both m (ap not before))))
+    (λ (m : inMinimumGreen after q ≡ false). inr (not-begun after q m))
+    (decided (inMinimumGreen after q))
