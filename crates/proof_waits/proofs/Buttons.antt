@@ -3,34 +3,32 @@
 -- stands m is not in walk: no walk that rests is waited for.
 use Prim.Native.Nat.{ℕ, zero, suc, _<_}
 use mathlib.Core.Bool.{true, false, not}
-use mathlib.Core.Logic.{_⊎_, inl, inr, ⊎-elim}
+use mathlib.Core.Logic.{_⊎_, ⊎-elim}
 use mathlib.Core.Path.{_≡_, sym, ap, _∙_}
 use native.Mathlib.Omega.{arith}
-use borrow.Author.Tests.{not-true}
 use Rattle.rules.specs.declared.site.Site.{Site}
 use Rattle.rules.specs.declared.state.Interval.the-variants.{Running}
-use Rattle.rules.specs.declared.state.Movement.{Movement}
 use Rattle.rules.specs.declared.state.Position.{Position}
 use Rattle.rules.specs.declared.state.State.{State}
 use Rattle.rules.specs.Site.{walkTimes, crosses}
-use Rattle.rules.specs.IntervalTable.{isIdle, isWalk, isRunning}
-use Rattle.rules.specs.State.{asked, movement}
-use Rattle.rules.specs.Demands.{pressed, registersButton}
+use Rattle.rules.specs.IntervalTable.{isIdle, isRunning}
+use Rattle.rules.specs.State.{movement}
+use Rattle.rules.specs.Demands.{registersButton}
 use Rattle.rules.specs.Interval.{ends, starting, staying}
 use Rattle.rules.specs.Step.{stepped}
 use Rattle.rules.specs.WaitBound.{waitBound}
 use Rattle.rules.specs.Laws.{Sound}
 use Rattle.rules.specs.DemandThree.{Taken, inWalk, walkBegins}
-use Rattle.laws.proofs.Booleans.{and-right, and-both, or-left, or-right, decided, never-both, not-false-true}
+use Rattle.laws.proofs.Booleans.{and-both, or-right, decided, never-both, not-false-true}
 use Rattle.laws.proofs.Indices.{same-or-apart}
 use Rattle.proof_runs.proofs.ValidStates.{ValidState}
-use Rattle.proof_runs.proofs.Steps.{another, mayEnd, ended, now, started, moved, askedNow, begun, position-of, asked-of, movement-of}
+use Rattle.proof_runs.proofs.Steps.{another, mayEnd, ended, now, started, moved, askedNow, begun, position-of}
 use Rattle.proof_runs.proofs.Demanded.{button-demands}
 use Rattle.proof_runs.proofs.Ends.{ended-in, now-in}
 use Rattle.proof_runs.proofs.Chains.{ValidLink}
-use Rattle.proof_waits.proofs.Stages.{idles, walk-kept-out, idle-told, idle-none, idle-kept, idle-most}
+use Rattle.proof_waits.proofs.Stages.{idles, idle-told, idle-none, idle-kept, idle-most}
 use Rattle.proof_waits.proofs.Left.{visit, Left, never-none}
-use Rattle.proof_waits.proofs.Moves.{moved-on, idles-fall}
+use Rattle.proof_waits.proofs.Moves.{idles-fall}
 use Rattle.proof_waits.proofs.Progress.{Standing, Starts, progress}
 use Rattle.proof_waits.proofs.Bound.{left-within}
 use Rattle.proof_waits.proofs.Paths.{ringIn, ahead, onward, ahead-apart, ahead-most, onward-most, onward-own, demanded-another, next-near}

@@ -3,16 +3,14 @@
 use Prim.Native.Nat.{ℕ, _+_, _≤_, _<_, min}
 use mathlib.Core.Bool.{Bool, true, false, not, _&&_, _||_}
 use mathlib.Core.Logic.{_⊎_, inl, inr, ⊎-elim}
-use mathlib.Core.Path.{_≡_, refl, sym, ap, subst, _∙_}
+use mathlib.Core.Path.{_≡_, refl, sym, ap, _∙_}
 use native.Mathlib.Omega.{arith}
-use lib.Dec.{leb, ltb, eqb}
+use lib.Dec.{leb, ltb}
 use lib.ListN.{getD-replicate}
-use borrow.Author.Tests.{leb-false, eqb-false, not-true, lt-ltb}
-use Rattle.rules.specs.declared.site.PhaseTimes.{PhaseTimes}
+use borrow.Author.Tests.{not-true, lt-ltb}
 use Rattle.rules.specs.declared.site.Site.{Site}
 use Rattle.rules.specs.declared.site.WalkTimes.{WalkTimes}
 use Rattle.rules.specs.declared.state.Counts.{Counts}
-use Rattle.rules.specs.declared.state.Held.{Held}
 use Rattle.rules.specs.declared.state.Interval.{Interval}
 use Rattle.rules.specs.declared.state.Interval.the-variants.{StartRed, LateStart, MinimumGreen, Running, EarlyCutOff, Yellow, AllRed}
 use Rattle.rules.specs.declared.state.Movement.{Movement}
@@ -20,14 +18,13 @@ use Rattle.rules.specs.declared.state.Position.{Position}
 use Rattle.rules.specs.declared.state.Stage.{Stage}
 use Rattle.rules.specs.declared.state.Stage.the-variants.{Idle, Walk, ClearanceOne, ClearanceTwo}
 use Rattle.rules.specs.declared.state.State.{State}
-use Rattle.laws.specs.Folds.{if_then_else_}
-use Rattle.rules.specs.Site.{phaseTimes, walkTimes}
-use Rattle.rules.specs.IntervalTable.{phaseHeld, isIdle, isWalk, isWalkOrFirst, isSecond, isRunning, isLeaving, isStartRed}
+use Rattle.rules.specs.Site.{walkTimes}
+use Rattle.rules.specs.IntervalTable.{isIdle, isWalk, isWalkOrFirst, isSecond, isRunning, isLeaving}
 use Rattle.rules.specs.State.{idle, fresh, movement}
 use Rattle.rules.specs.Demands.{nextDemanded}
 use Rattle.rules.specs.Movements.{walkMayEnd, lasting, advanced}
 use Rattle.rules.specs.Counts.{countsAfter, maximumAfter}
-use Rattle.rules.specs.Interval.{someMovement, ends, following, entering, starting, staying, countsChanged}
+use Rattle.rules.specs.Interval.{someMovement, ends, following, entering, staying, countsChanged}
 use Rattle.rules.specs.Step.{stepped}
 use Rattle.rules.specs.Laws.{Sound}
 use Rattle.laws.proofs.Booleans.{and-left, and-right, or-left, or-right, decided, never-both}

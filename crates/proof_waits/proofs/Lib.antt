@@ -18,3 +18,7 @@ pub mod Turns
 pub mod Clearing
 pub mod Entered
 pub mod TurnBound
+pub mod PhaseTurns
+pub mod ButtonTurns
+pub mod ButtonBound
+pub mod WithinBound

@@ -1,42 +1,30 @@
 -- A locked demand: while it stands, its phase is not in minimum green or running. So another phase gives way to it, and once the phase
 -- starts only its late start is left before its minimum green.
-use Prim.Native.Nat.{ℕ, zero, suc, _+_, _-_, _≤_, _<_}
-use mathlib.Core.Bool.{Bool, true, false, not, _&&_}
+use Prim.Native.Nat.{ℕ, zero, suc, _+_, _≤_, _<_}
+use mathlib.Core.Bool.{true, false}
 use mathlib.Core.Logic.{_⊎_, inl, inr, ⊎-elim}
-use mathlib.Core.Path.{_≡_, refl, sym, ap, subst, _∙_}
+use mathlib.Core.Path.{_≡_, refl, ap}
 use native.Mathlib.Omega.{arith}
-use lib.Dec.{eqb}
-use borrow.Author.Tests.{leb-false, eqb-true, eqb-false, not-true}
 use Rattle.rules.specs.declared.site.Site.{Site}
 use Rattle.rules.specs.declared.state.Interval.{Interval}
 use Rattle.rules.specs.declared.state.Interval.the-variants.{StartRed, LateStart, MinimumGreen, Running, EarlyCutOff, Yellow, AllRed}
-use Rattle.rules.specs.declared.state.Position.{Position}
 use Rattle.rules.specs.declared.state.State.{State}
-use Rattle.laws.specs.Folds.{if_then_else_}
-use Rattle.rules.specs.Site.{phaseTimes}
-use Rattle.rules.specs.IntervalTable.{isGreen, isMinimumGreen, isLeaving, isStartRed}
-use Rattle.rules.specs.State.{locked}
+use Rattle.rules.specs.IntervalTable.{isGreen, isLeaving, isStartRed}
 use Rattle.rules.specs.Demands.{demanded, registersLock}
-use Rattle.rules.specs.Interval.{ends, following, entering, starting, staying, clearsLock}
 use Rattle.rules.specs.Step.{stepped}
 use Rattle.rules.specs.WaitBound.{waitBound}
 use Rattle.rules.specs.Laws.{Sound}
-use Rattle.rules.specs.DemandThree.{Taken, inMinimumGreen, inRunning, minimumGreenBegins}
-use Rattle.laws.proofs.Booleans.{and-left, and-right, and-both, or-left, or-right, or-false-left, decided, never-both, not-true-false}
+use Rattle.rules.specs.DemandThree.{Taken, minimumGreenBegins}
+use Rattle.laws.proofs.Booleans.{never-both}
 use Rattle.laws.proofs.Indices.{same-or-apart}
 use Rattle.proof_runs.proofs.ValidStates.{ValidState}
-use Rattle.proof_runs.proofs.Steps.{ended, now, lockedNow, position-of, locked-of}
-use Rattle.proof_runs.proofs.Demanded.{lock-demands}
-use Rattle.proof_runs.proofs.Ends.{by-end, ended-in, next-in}
 use Rattle.proof_runs.proofs.Chains.{ValidLink}
-use Rattle.rules.proofs.Settings.{phase-timed, start-timed}
+use Rattle.rules.proofs.Settings.{start-timed}
 use Rattle.proof_waits.proofs.Left.{visit, Left, never-none}
-use Rattle.proof_waits.proofs.Falls.{timer-falls}
 use Rattle.proof_waits.proofs.Progress.{Standing, Starts, progress}
 use Rattle.proof_waits.proofs.Bound.{visits, visit-most, bound-parts, left-within}
 use Rattle.proof_waits.proofs.Paths.{ringIn, ahead, onward, ahead-own, ahead-apart, ahead-most, onward-most, demanded-another, next-near}
-use Rattle.proof_waits.proofs.Registers.{green-same}
-use Rattle.proof_waits.proofs.Away.{AwayAt, NotBegun, away-told, away-green, not-begun}
+use Rattle.proof_waits.proofs.Away.{AwayAt, NotBegun}
 use Rattle.proof_waits.proofs.Own.{late, OwnLate, late-starts, late-goes-on}
 use Rattle.proof_waits.proofs.Locked.{LockStands, lock-registers-by, lock-goes-by}
 use Rattle.proof_waits.proofs.Demand.{Waits}

@@ -1,40 +1,36 @@
 -- One step from a valid state in which a demand of phase q stands: phase q starts, or one step less is left of the wait. By interval,
 -- and by whether the interval ends in the step.
 use Prim.Native.Nat.{ℕ, suc, _+_, _-_, _≤_, _<_}
-use mathlib.Core.Bool.{Bool, true, false, _&&_}
+use mathlib.Core.Bool.{Bool, true, false}
 use mathlib.Core.Logic.{_⊎_, inl, inr, ⊎-elim}
 use mathlib.Core.Path.{_≡_, refl, sym, ap, subst, _∙_}
 use native.Mathlib.Omega.{arith}
-use lib.Dec.{leb}
-use borrow.Author.Tests.{leb-false}
 use Rattle.rules.specs.declared.site.PhaseTimes.{PhaseTimes}
 use Rattle.rules.specs.declared.site.Site.{Site}
 use Rattle.rules.specs.declared.state.Held.{Held}
-use Rattle.rules.specs.declared.state.Held.the-variants.{Nothing, Phase}
+use Rattle.rules.specs.declared.state.Held.the-variants.{Nothing}
 use Rattle.rules.specs.declared.state.Interval.{Interval}
 use Rattle.rules.specs.declared.state.Interval.the-variants.{StartRed, LateStart, MinimumGreen, Running, EarlyCutOff, Yellow, AllRed}
 use Rattle.rules.specs.declared.state.Position.{Position}
 use Rattle.rules.specs.declared.state.State.{State}
-use Rattle.laws.specs.Folds.{if_then_else_}
 use Rattle.rules.specs.Site.{phaseTimes}
-use Rattle.rules.specs.IntervalTable.{phaseHeld, isRunning, isBeforeStart, isLeaving}
-use Rattle.rules.specs.State.{highestAge, movement}
+use Rattle.rules.specs.IntervalTable.{phaseHeld, isLeaving}
+use Rattle.rules.specs.State.{movement}
 use Rattle.rules.specs.Demands.{nextDemanded}
-use Rattle.rules.specs.Movements.{older}
 use Rattle.rules.specs.Interval.{ends, following, entering, starting, staying}
 use Rattle.rules.specs.Step.{stepped}
 use Rattle.rules.specs.Waits.{leavingOf}
 use Rattle.rules.specs.Laws.{Sound}
 use Rattle.laws.proofs.Indices.{same-or-apart}
 use Rattle.proof_runs.proofs.ValidStates.{ValidState}
-use Rattle.proof_runs.proofs.Steps.{timesNow, another, counted, moving, ended, started}
-use Rattle.proof_runs.proofs.Ends.{by-early, ended-in, next-in, started-in, running-ends}
+use Rattle.proof_runs.proofs.Steps.{timesNow, another, ended, started}
+use Rattle.proof_runs.proofs.Ends.{by-early, next-in, running-ends}
 use Rattle.proof_waits.proofs.Stages.{longestWalk, longestClearance, outs, idles, outs-most, clear-most}
-use Rattle.rules.proofs.Settings.{Timed, phase-timed, start-timed}
+use Rattle.rules.proofs.Settings.{Timed, phase-timed}
 use Rattle.proof_waits.proofs.Left.{Each, BetweenIn, between-left, visit, fromLeaving, fromRunning, LeftIn, Left}
-use Rattle.proof_waits.proofs.Falls.{timer-falls, timer-waits, each-falls, running-whole, running-more, running-stays, starts-left}
+use Rattle.proof_waits.proofs.Falls.{running-whole, running-more, running-stays, starts-left}
 use Rattle.proof_waits.proofs.Between.{timer-stays, between-step}
-use Rattle.proof_waits.proofs.Moves.{maximum-rises, outs-fall, running-held, leaving-falls, red-held}
+use Rattle.proof_waits.proofs.Moves.{maximum-rises, outs-fall, running-held}
 
 -- What a demand of phase q gives in a step, where the demanded movement takes `own` steps to be idle before it and `own'` after it.
 pub record Standing (site : Site) (ahead onward : ℕ → ℕ) (q : ℕ) (s : State) (inputs own own' : ℕ) : Type 0 where

@@ -261,6 +261,23 @@ longestWalk site = walkBy (site .crossings) (site .times .walks) (site .size .mo
 abbrev pub longestClearance : Site → ℕ → ℕ
 longestClearance site = clearanceBy (site .crossings) (site .times .walks) (site .size .movements)
 
+-- they are the greatest among the phase's movements
+module _ (site : Site) (p k : ℕ) (l : k < site .size .movements) (c : crosses (site .crossings) k p ≡ true) where
+  greatest-of :
+      (f : WalkTimes → ℕ) →
+      f (walkTimes (site .times) k)
+      ≤ greatestOf (λ k. if crosses (site .crossings) k p then f (walkTimes (site .times) k) else 0) (site .size .movements)
+  greatest-of f =
+      rw c at (greatest-at (λ (k : ℕ). if crosses (site .crossings) k p then f (walkTimes (site .times) k) else 0) (site .size .movements) k l)
+
+  pub longest-walk : walkTimes (site .times) k .walk + walkTimes (site .times) k .first ≤ longestWalk site p
+  unfolding walkBy walkTimes
+  longest-walk = greatest-of (λ (times : WalkTimes). times .walk + times .first)
+
+  pub longest-clearance : walkTimes (site .times) k .second ≤ longestClearance site p
+  unfolding clearanceBy walkTimes
+  longest-clearance = greatest-of (λ (times : WalkTimes). times .second)
+
 module _ (site : Site) (sound : Sound site) (position : Position) (k : ℕ) (m : Movement) (v : ValidMovement site position k m) where
   pub stage-reached : isIdle (m .stage) ≡ false → Reached (walkTimes (site .times) k)
   stage-reached h = walk-reached site sound k (v .ofPhase h .0)
@@ -269,28 +286,13 @@ module _ (site : Site) (sound : Sound site) (position : Position) (k : ℕ) (m :
   unless-idle count limit none most =
       ⊎-elim (λ (h : isIdle (m .stage) ≡ true). omega (arith, none h)) most (decided (isIdle (m .stage)))
 
-  -- what the settings of a movement that is not idle give is at most the greatest among the phase's movements
-  phase-limit :
-      (f : WalkTimes → ℕ) →
-      isIdle (m .stage) ≡ false →
-      f (walkTimes (site .times) k)
-      ≤ greatestOf (λ k. if crosses (site .crossings) k (position .phase) then f (walkTimes (site .times) k) else 0) (site .size .movements)
-  phase-limit f h =
-      rw (v .ofPhase h .1) at (greatest-at
-      (λ (k : ℕ). if crosses (site .crossings) k (position .phase) then f (walkTimes (site .times) k) else 0)
-      (site .size .movements)
-      k
-      (v .ofPhase h .0))
-
   walk-limit :
       isIdle (m .stage) ≡ false →
       walkTimes (site .times) k .walk + walkTimes (site .times) k .first ≤ longestWalk site (position .phase)
-  unfolding walkBy walkTimes
-  walk-limit = phase-limit (λ (times : WalkTimes). times .walk + times .first)
+  walk-limit h = longest-walk site (position .phase) k (v .ofPhase h .0) (v .ofPhase h .1)
 
   clearance-limit : isIdle (m .stage) ≡ false → walkTimes (site .times) k .second ≤ longestClearance site (position .phase)
-  unfolding clearanceBy walkTimes
-  clearance-limit = phase-limit (λ (times : WalkTimes). times .second)
+  clearance-limit h = longest-clearance site (position .phase) k (v .ofPhase h .0) (v .ofPhase h .1)
 
   out-most : (green : ℕ) → untilOut green (m .stage) (walkTimes (site .times) k) (m .age) ≤ green + longestWalk site (position .phase)
   out-most green =

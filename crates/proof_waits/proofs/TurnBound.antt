@@ -1,7 +1,7 @@
 -- At the state in which a demand of phase q comes no more is left than its wait. What is left of the phase now is within its turn, or is a
 -- clearance that comes first; the ring gives one turn of each other phase. The turns may be any that are not below those of the site's times.
 use Prim.Native.Nat.{ℕ, _+_, _-_, _≤_, _<_, max}
-use mathlib.Core.Bool.{Bool, true, false, not, _&&_, _||_}
+use mathlib.Core.Bool.{true, false, not, _&&_, _||_}
 use mathlib.Core.Logic.{⊎-elim}
 use mathlib.Core.Path.{_≡_, refl, ap, subst}
 use native.Mathlib.Omega.{arith}

@@ -32,7 +32,7 @@ use Rattle.rules.proofs.Settings.{Timed, phase-timed}
 use Rattle.proof_runs.proofs.ValidStates.{ValidState}
 use Rattle.proof_runs.proofs.Steps.{timesNow, another, counted, moving, mayEnd, ended, now, started, begun}
 use Rattle.proof_runs.proofs.Ends.{by-early, ended-in, next-in, started-in, running-ends}
-use Rattle.proof_waits.proofs.Stages.{outs, idles, overs, greenLeft, over-none, past-limit, over-idle, over-more, stage-reached, untilOver}
+use Rattle.proof_waits.proofs.Stages.{outs, idles, overs, greenLeft, over-none, past-limit, over-idle, over-more, stage-reached}
 use Rattle.proof_waits.proofs.Left.{Each, BetweenIn}
 use Rattle.proof_waits.proofs.Falls.{timer-falls, each-falls}
 use Rattle.proof_waits.proofs.Moves.{quiet, quiet-in, rests, maximum-rises, running-held, overs-fall}
