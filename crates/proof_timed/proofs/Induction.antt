@@ -20,6 +20,7 @@ use Rattle.rules.specs.TimedLaws.{readyCore}
 use Rattle.rules.specs.Laws.{Sound}
 use Rattle.rules.specs.DemandThree.{Taken, inWalk, someStep}
 use Rattle.rules.specs.TimedDemandThree.{TimedStep, takens, changedWaits, MetInTime}
+use Rattle.rules.specs.PhaseWaits.{ComesBefore}
 use Rattle.laws.proofs.Booleans.{or-false-left, or-false-right, never-both}
 use Rattle.proof_runs.proofs.ValidStates.{ValidState}
 use Rattle.proof_runs.proofs.Chains.{ValidLink}
@@ -64,13 +65,25 @@ ready-link site s ruling step link e = by (step .changed) e (link .plain)
     by true e plain = plain
     by false e plain = absurd (never-both e refl)
 
--- the later steps of a run are linked from the state and the times that the earlier ones lead to
+-- the later steps of a run are linked from the state and the times that the earlier ones lead to, and what each step keeps holds there
+pub past-with :
+    (site : Site) (P : Times → State → Type 0) →
+    ((s : State) (ruling : Times) (step : TimedStep) → TimedLink site s ruling step → P ruling s → P (step .ruling) (step .taken .after)) →
+    (earlier later : List TimedStep) (s : State) (ruling : Times) →
+    P ruling s →
+    TimedRun site s ruling (earlier ++ later) →
+    (t : State) × (r : Times) × P r t × TimedRun site t r later
+past-with site P keeps [] later s ruling p run = (s, ruling, p, run)
+past-with site P keeps (step ∷ earlier) later s ruling p run =
+    past-with site P keeps earlier later (step .taken .after) (step .ruling) (keeps s ruling step (run .0) p) (run .1)
+
 pub past :
     (site : Site) (earlier later : List TimedStep) (s : State) (ruling : Times) →
     TimedRun site s ruling (earlier ++ later) →
     (t : State) × (r : Times) × TimedRun site t r later
-past site [] later s ruling run = (s, ruling, run)
-past site (step ∷ earlier) later s ruling run = past site earlier later (step .taken .after) (step .ruling) (run .1)
+past site earlier later s ruling run =
+    let cut = past-with site (λ times s. Unit {0}) (λ s ruling step link p. tt) earlier later s ruling tt run in
+    (cut .0, cut .1, cut .3)
 
 -- the earlier steps of a run are a run
 pub front :
@@ -132,7 +145,7 @@ module _
   AllFit = Each (λ (step : TimedStep) later. Fits (step .ruling))
 
   -- some step is left
-  pub some-left : (s : State) (ruling : Times) (n : ℕ) → Left ruling n s → (m : ℕ) × (n ≡ suc m)
+  some-left : (s : State) (ruling : Times) (n : ℕ) → Left ruling n s → (m : ℕ) × (n ≡ suc m)
   some-left s ruling zero h = absurd (never ruling s h)
   some-left s ruling (suc n) h = (n, refl)
 
@@ -197,6 +210,54 @@ module _
       lasts later (step .taken .after) (step .ruling) n (run .1) fit
       (standing-after s ruling step n (run .0) first (or-false-left (met (step .taken)) (someStep met (takens later)) none))
       (or-false-right (met (step .taken)) (someStep met (takens later)) none)
+
+-- ── Within a wait ──
+
+-- A change leaves as much as there was.
+module _
+    (site : Site) (met : Taken → Bool) (Fits : Times → Type 0) (Stands : State → Type 0) (Left : Times → ℕ → State → Type 0)
+    (goes :
+    (ruling : Times) →
+    Fits ruling →
+    (s : State) (step : Taken) →
+    ValidLink (under site ruling) s step →
+    Stands s →
+    (met step ≡ true) ⊎ Waits Stands (Left ruling) s step)
+    (never : (ruling : Times) (s : State) → Left ruling zero s → ⊥)
+    (again : (s : State) → Stands s → Stands (readyCore s))
+    (across :
+    (s : State) (ruling : Times) (step : TimedStep) (n : ℕ) →
+    TimedLink site s ruling step →
+    step .changed ≡ true →
+    Left ruling n s →
+    Left (step .ruling) n (readyCore s))
+    (seen : SeenReady met) where
+  -- from the step that registers it on, if no more than the wait is left in the state that it is plain from
+  pub comes-before :
+      (s : State) (ruling : Times) (step : TimedStep) (between : List TimedStep) (wait : ℕ) →
+      TimedRun site s ruling (step ∷ between) →
+      Each (λ (step : TimedStep) later. Fits (step .ruling)) between →
+      (let from = plainFrom (step .changed) s in
+      Left (step .ruling) wait from →
+      (met (viewed from (step .taken)) ≡ true) ⊎ Waits Stands (Left (step .ruling)) from (viewed from (step .taken)) →
+      ComesBefore wait met (step ∷ between))
+  unfolding ComesBefore
+  comes-before s ruling step between zero run fit left first none = absurd (never (step .ruling) (plainFrom (step .changed) s) left)
+  comes-before s ruling step between (suc n) run fit left first none =
+      let rest =
+      from-step site met Fits Stands Left (λ steps. 0) goes never again (λ step later. omega arith)
+      (λ s ruling step later n link changed stands left. (n, omega arith, across s ruling step n link changed left))
+      seen
+      s
+      ruling
+      step
+      between
+      n
+      run
+      fit
+      (waits-on n left first)
+      none in
+      omega (arith, rest)
 
 -- ── Within the wait bound ──
 

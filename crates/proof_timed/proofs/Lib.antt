@@ -7,3 +7,5 @@ pub mod PedestrianClearances
 pub mod Clearances
 pub mod Across
 pub mod Demands
+pub mod TurnsAcross
+pub mod PhaseWaits

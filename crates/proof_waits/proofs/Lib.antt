@@ -22,3 +22,4 @@ pub mod PhaseTurns
 pub mod ButtonTurns
 pub mod ButtonBound
 pub mod WithinBound
+pub mod TurnDemands
