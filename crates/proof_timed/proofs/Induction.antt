@@ -66,7 +66,7 @@ ready-link site s ruling step link e = by (step .changed) e (link .plain)
     by false e plain = absurd (never-both e refl)
 
 -- the later steps of a run are linked from the state and the times that the earlier ones lead to, and what each step keeps holds there
-pub past-with :
+past-with :
     (site : Site) (P : Times → State → Type 0) →
     ((s : State) (ruling : Times) (step : TimedStep) → TimedLink site s ruling step → P ruling s → P (step .ruling) (step .taken .after)) →
     (earlier later : List TimedStep) (s : State) (ruling : Times) →
@@ -86,12 +86,34 @@ past site earlier later s ruling run =
     (cut .0, cut .1, cut .3)
 
 -- the earlier steps of a run are a run
-pub front :
+front :
     (site : Site) (earlier later : List TimedStep) (s : State) (ruling : Times) →
     TimedRun site s ruling (earlier ++ later) →
     TimedRun site s ruling earlier
 front site [] later s ruling run = tt
 front site (step ∷ earlier) later s ruling run = (run .0, front site earlier later (step .taken .after) (step .ruling) (run .1))
+
+-- a part of a run is a run, from a state and times for which holds what each step keeps
+module _ (site : Site) (s : State) (ruling : Times) (steps : List TimedStep) (run : TimedRun site s ruling steps) where
+  pub part-with :
+      (P : Times → State → Type 0) →
+      ((s : State) (ruling : Times) (step : TimedStep) → TimedLink site s ruling step → P ruling s → P (step .ruling) (step .taken .after)) →
+      P ruling s →
+      (earlier between later : List TimedStep) (step : TimedStep) →
+      steps ≡ earlier ++ step ∷ (between ++ later) →
+      (t : State) × (r : Times) × P r t × TimedRun site t r (step ∷ between)
+  part-with P keeps p earlier between later step e =
+      let cut =
+      past-with site P keeps earlier (step ∷ (between ++ later)) s ruling p (subst (λ (l : List TimedStep). TimedRun site s ruling l) e run) in
+      (cut .0, cut .1, cut .2, front site (step ∷ between) later (cut .0) (cut .1) (cut .3))
+
+  pub part :
+      (earlier between later : List TimedStep) (step : TimedStep) →
+      steps ≡ earlier ++ step ∷ (between ++ later) →
+      (t : State) × (r : Times) × TimedRun site t r (step ∷ between)
+  part earlier between later step e =
+      let cut = part-with (λ times s. Unit {0}) (λ s ruling step link p. tt) tt earlier between later step e in
+      (cut .0, cut .1, cut .3)
 
 -- ── A demand of either kind ──
 

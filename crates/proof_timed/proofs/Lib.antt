@@ -9,3 +9,4 @@ pub mod Across
 pub mod Demands
 pub mod TurnsAcross
 pub mod PhaseWaits
+pub mod WaitSums

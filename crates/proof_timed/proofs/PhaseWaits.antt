@@ -4,7 +4,7 @@ use Prim.Native.Nat.{ℕ, _≤_, _<_}
 use mathlib.Core.Bool.{Bool, true, false, not, _||_}
 use mathlib.Core.List.{List, [], _∷_, _++_}
 use mathlib.Core.Logic.{_⊎_}
-use mathlib.Core.Path.{_≡_, refl, ap, subst, _∙_}
+use mathlib.Core.Path.{_≡_, refl, ap, _∙_}
 use native.Mathlib.Omega.{arith}
 use Rattle.rules.specs.declared.site.Site.{Site}
 use Rattle.rules.specs.declared.site.Times.{Times}
@@ -31,7 +31,7 @@ use Rattle.proof_waits.proofs.PhaseTurns.{PhaseLeft, phase-never, phase-within}
 use Rattle.proof_waits.proofs.ButtonTurns.{button-turn-never}
 use Rattle.proof_waits.proofs.ButtonBound.{button-within}
 use Rattle.proof_waits.proofs.TurnDemands.{metOrDropped, Away, lock-turn-registers, lock-turn-goes, lasting-goes, MovementLeft, button-turn-registers, button-turn-goes}
-use Rattle.proof_timed.proofs.Induction.{viewed, plainFrom, TimedRun, SeenReady, past-with, front, comes-before}
+use Rattle.proof_timed.proofs.Induction.{viewed, plainFrom, TimedRun, SeenReady, part-with, comes-before}
 use Rattle.proof_timed.proofs.Across.{away-again, lock-again, button-again, lasting-seen, lock-seen, button-seen, lock-from, button-from}
 use Rattle.proof_timed.proofs.TurnsAcross.{phase-again, button-turn-again, clearing-ready, Kept, kept-plain, kept-after}
 
@@ -234,7 +234,4 @@ waits-met site sound s ruling steps kept run =
         (earlier between later : List TimedStep) (step : TimedStep) →
         steps ≡ earlier ++ step ∷ (between ++ later) →
         (t : State) × (r : Times) × Kept (under site r) t × TimedRun site t r (step ∷ between)
-    from-here earlier between later step e =
-        let whole = subst (λ (l : List TimedStep). TimedRun site s ruling l) e run in
-        let cut = past-with site (λ times. Kept (under site times)) (kept-after site) earlier (step ∷ (between ++ later)) s ruling kept whole in
-        (cut .0, cut .1, cut .2, front site (step ∷ between) later (cut .0) (cut .1) (cut .3))
+    from-here = part-with site s ruling steps run (λ times. Kept (under site times)) (kept-after site) kept

@@ -15,6 +15,8 @@ use Rattle.rules.specs.Site.{phaseTimes, walkTimes}
 use Rattle.rules.specs.IntervalTable.{isIdle, isBeforeStart}
 use Rattle.rules.specs.State.{fresh, movement}
 use Rattle.rules.specs.SiteTimes.{under}
+use Rattle.rules.specs.Kept.{freshKept}
+use Rattle.rules.specs.Timed.{freshTimed}
 use Rattle.rules.specs.TimedLaws.{readyCore}
 use Rattle.rules.specs.TimedDemandThree.{TimedStep}
 use Rattle.laws.proofs.Booleans.{never-both}
@@ -91,8 +93,8 @@ pub clearing-ready : (s : State) → Clearing (readyCore s)
 unfolding isClearing
 clearing-ready s k l off h = absurd (never-both h (ap (λ (m : Movement). isClearing (m .stage)) (ready-idle k l s)))
 
-pub kept-fresh : (site : Site) → Kept site fresh
-unfolding fresh
+pub kept-fresh : (site : Site) → Kept (under site (freshTimed site .ruling)) (freshTimed site .core)
+unfolding freshTimed freshKept fresh
 kept-fresh site = record { entered = tt; clearing = clearing-fresh }
 
 module _ (site : Site) (s : State) (ruling : Times) (step : TimedStep) (link : TimedLink site s ruling step) (kept : Kept (under site ruling) s) where
