@@ -4,9 +4,9 @@ use Rattle.rules.specs.Site.{siteOf}
 use Rattle.rules.specs.Timed.{freshTimed}
 use Rattle.rules.specs.Laws.{AcceptedIsSound}
 use Rattle.rules.specs.TimedDemandThree.{timed, madeFrom, acceptedSteps}
-use Rattle.rules.specs.PhaseWaits.{EveryWaitMetOf, EveryWaitMet, EveryPlainWaitMetOf, EveryPlainWaitMet, WaitsWithinBound, EveryWaitWithinSum}
+use Rattle.rules.specs.PhaseWaits.{EveryWaitMetOf, EveryWaitMet, EveryPlainWaitMetOf, EveryPlainWaitMet, PhaseIsTold, WaitsWithinBound, EveryWaitWithinSum}
 use Rattle.proof_acceptance.proofs.Acceptance.{accepted-is-sound}
-use Rattle.proof_waits.proofs.WithinBound.{phase-wait-within, movement-wait-within}
+use Rattle.proof_waits.proofs.WithinBound.{phase-wait-within, movement-wait-within, phase-of-movement}
 use Rattle.proof_timed.proofs.Runs.{timed-run}
 use Rattle.proof_timed.proofs.TurnsAcross.{kept-fresh}
 use Rattle.proof_timed.proofs.PhaseWaits.{waits-met}
@@ -37,3 +37,7 @@ unfolding EveryWaitWithinSum timed AcceptedIsSound
 every-wait-within-sum b known calls =
     let s = freshTimed (siteOf b) in
     waits-within-sum (siteOf b) (s .core) (s .ruling) (acceptedSteps (madeFrom timed b s calls)) (timed-run b (accepted-is-sound b known) calls s)
+
+pub phase-is-told : PhaseIsTold
+unfolding PhaseIsTold AcceptedIsSound
+phase-is-told b known q m exists crossing = phase-of-movement (siteOf b) (accepted-is-sound b known) q m exists crossing

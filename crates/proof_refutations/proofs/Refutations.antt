@@ -7,7 +7,6 @@ use Rattle.rules.specs.Step.{stepped}
 use Rattle.rules.specs.WaitBound.{waitBound}
 use Rattle.rules.specs.Junctions.{junction, slower, threePhases}
 use Rattle.rules.specs.DemandThree.{ruled, DemandThreeOf}
-use Rattle.rules.specs.Waits.{walkEnding, ending, turnOf, comesAfter, clearingOf, clearsFirst, ownOf, restOf, phaseWaitBy, movementWaitBy}
 use Rattle.rules.specs.PhaseWaits.{noneChanges}
 use Rattle.rules.specs.OnceEach.{isFirst, someStarts, phaseStarts, howMany, untilMet, OnceEachOf}
 use Rattle.rules.specs.TimedScanning.{scanValid, steppedFinding, finding}
@@ -24,13 +23,8 @@ unfolding
     opened passed passesTen moved agesOnly neverAlters leavesTheSite is endsTimed endsOnTimer choosing choosesAgain choosesEarlyAgain clearing
     dropsPresses inventedBound smallBound together starts cut skipped met answers callsFrom crossings shared sharedArrow atOnce walkThenB laterB
     pressedAgain longestWait ruledNow timedStarts cutShort stepsFrom retimedInYellow demandedElse fromTheBeginning backTo goesBack scanValid
-    steppedFinding isFirst someStarts phaseStarts howMany untilMet twice thenA
+    steppedFinding isFirst someStarts phaseStarts howMany untilMet twice thenA noneChanges unwalked setBack longClearance calledAgain
 computing = tt
-
--- and the waits
-unfoldable waiting : Unit {0}
-unfolding walkEnding ending turnOf comesAfter clearingOf clearsFirst ownOf restOf phaseWaitBy movementWaitBy noneChanges unwalked setBack longClearance calledAgain
-waiting = tt
 
 -- Group 1 of the junction is made one of A too: both groups are green in step 10.
 passes-ten : ¬ DemandThreeOf (faulty passesTen stepped waitBound)
@@ -137,5 +131,5 @@ starts-twice = record { fromTheBeginning = from-the-beginning; goesBack = goes-b
 -- The crossing is pressed in step 31, in the first step of its clearances. B's call of step 30 has dropped away, and comes again when the crossing is idle
 -- again, in step 330: then A goes on for its whole maximum green, and no walk begins in steps 31 to 430, as many as the wait.
 pub setting-back-fails : SettingBackFails
-unfolding computing waiting SettingBackFails
+unfolding computing SettingBackFails
 setting-back-fails = refuted-by-walk settingBack longClearance refl (stepsFrom calledAgain 3 1 430) 30 0 0 refl

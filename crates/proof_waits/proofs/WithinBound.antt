@@ -5,13 +5,13 @@ use mathlib.Core.Path.{_≡_, refl}
 use native.Mathlib.Omega.{arith}
 use lib.Dec.{eqb}
 use Rattle.rules.specs.declared.site.Site.{Site}
-use Rattle.laws.specs.Folds.{if_then_else_}
+use Rattle.laws.specs.Folds.{if_then_else_, greatestOf}
 use Rattle.rules.specs.Site.{phaseTimes, walkTimes, crosses}
 use Rattle.rules.specs.WaitBound.{waitBound}
-use Rattle.rules.specs.Waits.{leavingOf, greenOf, walkEnding, ending, turnOf, restOf, comesAfter, clearingOf, clearsFirst, ownOf, phaseWaitBy, movementWaitBy, phaseWait, movementWait}
+use Rattle.rules.specs.Waits.{leavingOf, greenOf, walkEnding, ending, turnOf, restOf, comesAfter, clearingOf, clearsFirst, ownOf, phaseWaitBy, movementWaitBy, phaseWait, movementWait, phaseOfMovement}
 use Rattle.rules.specs.Laws.{Sound}
 use Rattle.laws.proofs.Booleans.{and-left}
-use Rattle.laws.proofs.Sums.{sum-most, sum-but, greatest-most}
+use Rattle.laws.proofs.Sums.{sum-most, sum-but, greatest-at, greatest-most}
 use Rattle.rules.proofs.Settings.{walk-reached}
 use Rattle.proof_waits.proofs.Stages.{longestWalk, longestClearance, longest-walk, longest-clearance}
 use Rattle.proof_waits.proofs.Left.{visit}
@@ -109,3 +109,21 @@ module _ (site : Site) (sound : Sound site) where
       pub movement-wait-within : movementWait site q m ≤ waitBound site
       unfolding movementWaitBy
       movement-wait-within = omega (arith, first-most, rest-visits, own-most, bound-parts site q below)
+
+  -- ── The phase of a movement ──
+
+  -- a movement is of one phase, so the greatest of its phases is that one
+  pub phase-of-movement : (q m : ℕ) → m < site .size .movements → crosses (site .crossings) m q ≡ true → phaseOfMovement site m ≡ q
+  unfolding phaseOfMovement
+  phase-of-movement q m exists crossing =
+      let of = sound .crossing m exists in
+      let same = of .3 q crossing in
+      let each : ℕ → ℕ = λ p. if crosses (site .crossings) m p then p else 0 in
+      let here : of .0 ≤ greatestOf each (site .size .phases) = rw (of .2) at (greatest-at each (site .size .phases) (of .0) (of .1)) in
+      omega (
+        arith,
+        same,
+        here,
+        greatest-most each (site .size .phases) (of .0)
+            (λ p l. chosen-most (crosses (site .crossings) m p) p (of .0) (λ c. omega (arith, of .3 p c))),
+      )

@@ -16,7 +16,7 @@ use Rattle.rules.specs.SiteTimes.{under}
 use Rattle.rules.specs.IntervalTable.{isBeforeStart, isLeaving}
 use Rattle.rules.specs.Demands.{demanded}
 use Rattle.rules.specs.WaitBound.{waitBound}
-use Rattle.rules.specs.Waits.{turnOf, phaseWaitBy, movementWaitBy, phaseWait, movementWait}
+use Rattle.rules.specs.Waits.{turnOf, phaseWaitBy, movementWaitBy, phaseWait, movementWait, phaseOfMovement}
 use Rattle.rules.specs.DemandThree.{Taken, inMinimumGreen, inRunning, registersLocked, registersPressed, minimumGreenBegins, walkBegins, someStep}
 use Rattle.rules.specs.TimedDemandThree.{TimedController, timed, TimedStep, acceptedSteps, takens, siteAfter, changedWaits, OfEveryTimedRun}
 
@@ -128,6 +128,16 @@ EveryPlainWaitMetOf controller = OfEveryTimedRun controller (λ b calls. PlainWa
 
 unfoldable pub EveryPlainWaitMet : Type 0
 EveryPlainWaitMet = EveryPlainWaitMetOf timed
+
+-- `waitsOf` lists a movement with the phase that it is of
+unfoldable pub PhaseIsTold : Type 0
+PhaseIsTold =
+    (b : List ℕ) →
+    verdictOf b ≡ Accepted →
+    (q m : ℕ) →
+    m < siteOf b .size .movements →
+    crosses (siteOf b .crossings) m q ≡ true →
+    phaseOfMovement (siteOf b) m ≡ q
 
 -- ── At most the paper's bound ──
 

@@ -2,11 +2,12 @@
 -- then the own late start. They stand beside the wait bound, which is one number for the whole site.
 use Prim.Native.Nat.{ℕ, _+_, max}
 use mathlib.Core.Bool.{Bool, true, not, _&&_}
+use mathlib.Core.List.{List, _++_}
 use lib.Dec.{eqb}
 use Rattle.rules.specs.declared.site.PhaseTimes.{PhaseTimes}
 use Rattle.rules.specs.declared.site.Site.{Site}
 use Rattle.rules.specs.declared.site.WalkTimes.{WalkTimes}
-use Rattle.laws.specs.Folds.{if_then_else_, sumOf, greatestOf}
+use Rattle.laws.specs.Folds.{if_then_else_, sumOf, greatestOf, listOf}
 use Rattle.rules.specs.Site.{phaseTimes, walkTimes, crosses, ring}
 use Rattle.rules.specs.IntervalTable.{isHeld, phaseHeld}
 use Rattle.rules.specs.Demands.{nextAfter}
@@ -84,3 +85,11 @@ module _ (site : Site) where
   -- of movement m of phase q
   abbrev pub movementWait : (q m : ℕ) → ℕ
   movementWait q m = movementWaitBy turnOf q m
+
+  -- the phase of movement m
+  unfoldable pub phaseOfMovement : ℕ → ℕ
+  phaseOfMovement m = greatestOf (λ p. if crosses (site .crossings) m p then p else 0) (site .size .phases)
+
+  -- the wait of each phase, then that of each movement
+  unfoldable pub waitsOf : List ℕ
+  waitsOf = listOf phaseWait (site .size .phases) ++ listOf (λ m. movementWait (phaseOfMovement m) m) (site .size .movements)
