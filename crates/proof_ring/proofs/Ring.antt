@@ -228,7 +228,7 @@ module _ {n : ℕ} {ring : List ℕ} (ofn : RingOf n ring) where
         (same-or-apart p q))
         (same-or-apart t q)
 
-    -- Where r comes next after q, the way to q leads through r from r only.
+    -- If r comes next after q, the way to q leads through r from r only.
     past :
         {r t : ℕ} (k : List ℕ) →
         turn ring q ≡ k →

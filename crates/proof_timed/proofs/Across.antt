@@ -43,7 +43,7 @@ button-again k l s stands = record { asked = stands .asked; still = idle-still k
 pub away-again : (q : ℕ) (s : State) → Away q s → Away q (readyCore s)
 away-again q s away = away
 
--- where no movement is in walk, the same phases are demanded in the ready state
+-- if no movement is in walk, the same phases are demanded in the ready state
 demanded-same :
     (site : Site) (s : State) (inputs q : ℕ) →
     ((k : ℕ) → k < 8 → inWalk s k ≡ false) →

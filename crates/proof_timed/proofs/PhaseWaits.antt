@@ -56,7 +56,7 @@ all-fit site turn q tail (step ∷ later) whole enough = (
 
 -- ── A run from a step on ──
 
--- where the event has not come, no step has dropped the demand
+-- if the event has not come, no step has dropped the demand
 none-dropped :
     (met held : Taken → Bool) (steps : List Taken) →
     someStep met steps ≡ false →

@@ -58,7 +58,7 @@ module _ (site : Site) (sound : Sound site) (s : State) (inputs : ℕ) (v : Vali
 
   -- ── Timers ──
 
-  -- where the timer alone decides and the interval stays, it has not run out and falls by one
+  -- if the timer alone decides and the interval stays, it has not run out and falls by one
   pub timer-stays :
       (i : Interval) (setting more more' : ℕ) →
       s .position .interval ≡ i →
@@ -73,7 +73,7 @@ module _ (site : Site) (sound : Sound site) (s : State) (inputs : ℕ) (v : Vali
       timer-falls setting (s .position .age) more more' n most
       (leb-false setting (s .position .age) (sym same ∙ sym (ended-in site s inputs i e) ∙ b))
 
-  -- the same where the phase is being left, with the timers that come after it
+  -- the same while the phase is being left, with the timers that come after it
   leaving-stays :
       (i : Interval) (setting later more : ℕ) →
       s .position .interval ≡ i →

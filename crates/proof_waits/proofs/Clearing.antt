@@ -1,5 +1,4 @@
--- Two facts of runs. Where a phase is not being left, a movement is in C1 or C2 in running only, and then the maximum count is above 0. Late
--- start is entered only where its time is above 0.
+-- A fact of runs: if a phase is not being left, its movements are in C1 or C2 in running only, and then the maximum count is above 0.
 use Prim.Native.Nat.{ℕ, _+_, _≤_, _<_, min}
 use mathlib.Core.Bool.{Bool, true, false, not, _&&_, _||_}
 use mathlib.Core.Logic.{_⊎_, inl, inr, ⊎-elim}
@@ -50,7 +49,7 @@ clearing-came false Walk times age h = absurd (never-both h refl)
 clearing-came mayEnd ClearanceOne times age h = inl refl
 clearing-came mayEnd ClearanceTwo times age h = inl refl
 
--- a movement in C1 or C2 is in C2 where it is not in walk or C1
+-- a movement in C1 or C2 is in C2 if it is not in walk or C1
 clearing-second : (stage : Stage) → isClearing stage ≡ true → isWalkOrFirst stage ≡ false → isSecond stage ≡ true
 unfolding isClearing
 clearing-second Idle h out = absurd (never-both h refl)

@@ -136,7 +136,7 @@ module _ (site : Site) (s : State) (inputs : ℕ) where
   -- ── Movements come nearer to be idle ──
 
   module _ (sound : Sound site) (v : ValidState site s) where
-    -- to be over, where none begins and so much is left of the green
+    -- to be over, if none begins and so much is left of the green
     pub overs-fall :
         (green green' leaving : ℕ) →
         green' ≤ green - 1 →

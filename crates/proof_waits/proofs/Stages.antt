@@ -39,7 +39,7 @@ out-of-walk ClearanceTwo h = refl
 
 -- ── The counts ──
 
--- Steps until the movement is past C1 and what comes after it, where so much is left of the maximum green: after C1 comes `more`, and in C2
+-- Steps until the movement is past C1 and what comes after it, if so much is left of the maximum green: after C1 comes `more`, and in C2
 -- what is left of it is counted or not.
 unfoldable pub untilPast : (green more : ℕ) → Bool → Stage → WalkTimes → ℕ → ℕ
 untilPast green more second Idle times age = 0

@@ -1,5 +1,5 @@
--- What is left of the wait for a demand of phase q where what is left of the turn of the phase now is counted as one: of its green, and of
--- each movement until it is over. Then one step from a valid state: phase q starts, or one step less is left.
+-- What is left of the wait for a demand of phase q, if what is left of the turn of the phase now is counted as one: of its green, and of each
+-- movement until it is over. Then one step from a valid state: phase q starts, or one step less is left.
 use Prim.Native.Nat.{ℕ, suc, _+_, _-_, _≤_, _<_, min, max}
 use mathlib.Core.Bool.{Bool, true, false, not, _&&_}
 use mathlib.Core.Logic.{_⊎_, inl, inr, ⊎-elim}

@@ -17,7 +17,7 @@ use Rattle.proof_waits.proofs.Stages.{longestWalk, longestClearance, lo
 use Rattle.proof_waits.proofs.Left.{visit}
 use Rattle.proof_waits.proofs.Bound.{again, visits, bound-parts}
 
--- where it is not one of the phase nothing is counted
+-- what is not of the phase does not count
 chosen-most : (b : Bool) (n most : ℕ) → (b ≡ true → n ≤ most) → (if b then n else 0) ≤ most
 chosen-most true n most h = h refl
 chosen-most false n most h = omega arith
