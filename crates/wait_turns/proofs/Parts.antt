@@ -1,8 +1,8 @@
 -- The walks of a phase that count, one by one: the greatest of them and of what ends without a walk is the ending.
-use Prim.Native.Nat.{ℕ, suc, _+_, _≤_, _<_, max}
+use Prim.Native.Nat.{ℕ, _+_, _≤_, _<_, max}
 use mathlib.Core.Bool.{Bool, true, not, _&&_}
 use mathlib.Core.List.{List}
-use mathlib.Core.Path.{_≡_, refl, ap, _∙_}
+use mathlib.Core.Path.{_≡_, ap, _∙_}
 use native.Mathlib.Numerals.{add-one}
 use native.Mathlib.Omega.{arith}
 use lib.Dec.{eqb}
@@ -32,7 +32,7 @@ pub part-told :
     part ≡ partOf walks crossings p without leaving z b k
 part-told walks crossings p without leaving z b k part has e own = own ∙ rw e
 
--- one movement more
+-- one entry more
 pub greatest-next : (f : ℕ → ℕ) (first most part k : ℕ) → most ≡ max first (greatestOf f k) → part ≡ f k → max most part ≡ max first (greatestOf f (k + 1))
 unfolding greatestOf
 greatest-next f first most part k e own = rw (add-one k) (omega (arith, e, own))
