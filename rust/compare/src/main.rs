@@ -99,7 +99,7 @@ fn watches(seed: u64, steps: u64) -> bool {
             for strategy in watched {
                 println!("{strategy}");
             }
-            println!("no breach of demand 3 or of request fourteen");
+            println!("no breach of demand 3, of request fourteen or of a wait");
             true
         }
         Err((personality, breach)) => {
