@@ -7,10 +7,12 @@ The one module of the library (targets/module.py) is compiled by the kit's clang
 targets/needs.txt; a name that is not there is refused.
 """
 
+import hashlib
+import shutil
 import subprocess
 import sys
 
-from module import BUILT, ROOT, Alone, Refused, exported, module, said_by, told, tool
+from module import BUILT, ROOT, Alone, Refused, exported, kit, module, said_by, told, tool
 
 HERE = ROOT / "targets"
 
@@ -29,9 +31,9 @@ TARGETS = {
     "wasm32": ("wasm32-unknown-unknown", "", None),
 }
 
-# As the kit compiles for x86-64, but for the level (targets/README.md says why) and the processor.
+# As the kit compiles for x86-64, but for the processor.
 COMMON = "-ffunction-sections -fdata-sections -mllvm -trap-unreachable -mllvm -no-trap-after-noreturn --no-default-config -Werror"
-LEVEL = "-O2"
+LEVEL = "-O3"
 
 
 def clang(target, strict, *words):
@@ -66,13 +68,25 @@ def check_needs(path, target):
         raise Refused(f"{target}: the archive needs {', '.join(sorted(stray))}, which targets/needs.txt does not list")
 
 
+def check_list(path, target):
+    """A list that has a name too many would not show when the archive begins to need it."""
+    stale = allowed(target) - needed(path)
+    if stale:
+        raise Refused(f"{target}: targets/needs.txt lists {', '.join(sorted(stale))}, which the archive does not need")
+
+
 def archive(target, strict, text, folder):
     """An ELF archive: the object of the module, and for strict code the copies and fills that make no unaligned access either."""
     objects = [folder / "willowera.o"]
     clang(target, strict, "-c", "-x", "ir", text, "-Wno-override-module", "-fstack-usage", "-o", objects[0])
     if strict:
         objects.append(folder / "strict_memory.o")
-        clang(target, strict, "-std=c11", "-ffreestanding", "-fno-builtin", "-fstack-usage", "-c", HERE / "strict_memory.c", "-o", objects[1])
+        # -fno-builtin: a loop of memcpy is not itself made a call of memcpy; -fshort-enums: as arm-none-eabi-gcc, or its linker warns
+        clang(target, strict, "-std=c11", "-ffreestanding", "-fno-builtin", "-fshort-enums", "-c", HERE / "strict_memory.c", "-o", objects[1])
+    if target.startswith("cortex"):
+        # tables for unwinding the stack: no function needs them, and a linker script without a place for them may put them before the data
+        for path in objects:
+            said_by(tool("llvm-objcopy"), "--wildcard", "--remove-section=*.ARM.exidx*", path)
     made = folder / "libwillowera.a"
     subprocess.run([tool("llvm-ar"), "rcsD", "--format=gnu", made, *objects], check=True)
     check_needs(made, target)
@@ -88,14 +102,30 @@ def web_module(target, text, folder):
     return made
 
 
+def made_of(text):
+    """A checksum of all that an archive is made of."""
+    parts = [text, kit() / "KIT-ID", *(HERE / name for name in ("build.py", "strict_memory.c", "needs.txt"))]
+    return hashlib.sha256(b"".join(part.read_bytes() for part in parts)).hexdigest()
+
+
 def build(target, strict, text):
+    """Builds a target, unless it was built of the same parts before."""
     if strict and TARGETS[target][2] is None:
         raise Refused(f"{target} has no strict build: its code is strict already, or its processors take unaligned accesses")
     folder = BUILT / (target + "-strict" if strict else target)
-    folder.mkdir(parents=True, exist_ok=True)
-    for old in folder.iterdir():
-        old.unlink()
-    return web_module(target, text, folder) if target == "wasm32" else archive(target, strict, text, folder)
+    made, mark = folder / ("willowera.wasm" if target == "wasm32" else "libwillowera.a"), folder / "made_of"
+    if made.exists() and mark.exists() and mark.read_text() == made_of(text):
+        return made
+    shutil.rmtree(folder, ignore_errors=True)
+    folder.mkdir(parents=True)
+    if target == "wasm32":
+        web_module(target, text, folder)
+    else:
+        archive(target, strict, text, folder)
+        if not strict:
+            check_list(made, target)
+    mark.write_text(made_of(text))
+    return made
 
 
 def main():

@@ -1,6 +1,7 @@
 """The library as one module of LLVM, for compilers of other processors.
 
-    python3 targets/module.py        catches the module if the crates changed, judges it, and prints the path of its text
+    python3 targets/module.py          catches the module if the crates changed, judges it, and prints the path of its text
+    python3 targets/module.py tools    prints the folder with the programs that the kit's clang holds (llvm-nm and others)
 
 `rt staticlib` proves the library and hands the kit's clang one module of bitcode. Here it runs with a shadow of the kit: a folder of links
 to the kit, with a script in the place of clang that keeps the module and calls the real clang. The module is kept in target/targets/module
@@ -23,6 +24,7 @@ ROOT = Path(__file__).resolve().parent.parent
 BUILT = ROOT / "target" / "targets"
 KEPT = BUILT / "module"
 LIBRARY = "willowera"
+TOOLS = ["llvm-ar", "llvm-nm", "llvm-objcopy", "llvm-objdump", "llvm-readelf", "wasm-ld"]
 
 
 class Refused(Exception):
@@ -304,8 +306,15 @@ def told(main):
         sys.exit(f"{Path(sys.argv[0]).name}: this command failed: {' '.join(map(str, failed.cmd))}")
 
 
-if __name__ == "__main__":
-    def main():
-        with Alone():
+def main():
+    with Alone():
+        if sys.argv[1:] == ["tools"]:
+            print({tool(name).parent for name in TOOLS}.pop())
+        elif not sys.argv[1:]:
             print(module())
+        else:
+            raise Refused("usage: module.py [tools]")
+
+
+if __name__ == "__main__":
     told(main)

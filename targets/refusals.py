@@ -124,6 +124,7 @@ def needs(room):
     yield refused("an archive that needs puts", "cortex-m4: the archive needs puts, which targets/needs.txt does not list",
                   lambda: compiled(puts, room))
     yield not (room / "libwillowera.a").exists()
+    yield refused("a list with names too many", "which the archive does not need", lambda: build.check_list(compiled(lambda text: text, room), "cortex-m4"))
     wrong = room / "needs.txt"
     wrong.write_text("cortex-m4: memcpy\nmemset\n")
     yield refused("a table without a colon", "needs.txt:2: expected TARGET..: NAME..", lambda: build.allowed("cortex-m4", wrong))

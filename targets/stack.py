@@ -14,6 +14,7 @@ and moves of the stack pointer in the disassembly.
 
 import re
 import sys
+from bisect import bisect_right
 
 from build import TARGETS
 from module import BUILT, Refused, calls, exported, said_by, told, tool
@@ -87,10 +88,10 @@ def rows(text):
 
 # ── The outside helpers, in a linked program for Cortex-M ──
 
-HEAD = re.compile(r"^[0-9a-f]+ <(.*)>:$")
-LIST = re.compile(r"\b(?:push(?:\.w)?|stmdb\s+sp!,|vpush)\s*\{(.*)\}")
-MOVED = re.compile(r"\bsubw?(?:\.w)?\s+sp, (?:sp, )?#(0x[0-9a-f]+|\d+)|\[sp, #-(0x[0-9a-f]+|\d+)\]!")
-BRANCH = re.compile(r"\bb(?:l|l?x)?(?:eq|ne|cs|hs|cc|lo|mi|pl|vs|vc|hi|ls|ge|lt|gt|le)?(?:\.[wn])?\s+(?:0x[0-9a-f]+ <([^>+]*)(?:\+0x[0-9a-f]+)?>|(r\d+|ip))")
+LINE = re.compile(r"^\s*([0-9a-f]+):\s+(\S.*)$")
+LIST = re.compile(r"^(?:push(?:\.w)?|stmdb(?:\.w)?\s+sp!,|vpush)\s*\{(.*)\}")
+MOVED = re.compile(r"^subw?(?:\.w)?\s+sp, (?:sp, )?#(0x[0-9a-f]+|\d+)|\[sp, #-(0x[0-9a-f]+|\d+)\]!")
+BRANCH = re.compile(r"^(?:bl?x?|cbn?z)(?:eq|ne|cs|hs|cc|lo|mi|pl|vs|vc|hi|ls|ge|lt|gt|le)?(?:\.[wn])?\s+(?:r\d+, )?(?:(0x[0-9a-f]+)|r\d+|ip)\b")
 
 
 def registers(words):
@@ -103,24 +104,42 @@ def registers(words):
     return total
 
 
+def functions_of(path):
+    """The functions of a linked program: at each address its names, and the address behind it. A size of 0 reaches to the next function."""
+    names, ends = {}, {}
+    for name, kind, value, size in (row for row in rows(said_by(tool("llvm-nm"), "--format=posix", path)) if len(row) == 4):
+        if kind in "tTwW" and not name.startswith("$"):
+            at = int(value, 16) & ~1
+            names.setdefault(at, set()).add(name)
+            ends[at] = max(ends.get(at, 0), at + int(size, 16))
+    starts = sorted(names)
+    for at, following in zip(starts, starts[1:] + [1 << 32]):
+        ends[at] = ends[at] if ends[at] > at else following
+    return names, ends
+
+
 def disassembled(path):
     """For each function of a program for Cortex-M, the bytes that it pushes, and where it branches to; "*" is a branch to a register."""
-    frames, graph, name = {}, {}, None
-    for line in said_by(tool("llvm-objdump"), "-d", "--no-show-raw-insn", path).splitlines():
-        head = HEAD.match(line)
-        if head:
-            name = head[1]
-            frames.setdefault(name, 0)
-            graph.setdefault(name, set())
+    names, ends = functions_of(path)
+    starts, pushed, branches = sorted(names), dict.fromkeys(names, 0), {at: set() for at in names}
+
+    def at_of(address):
+        start = starts[max(bisect_right(starts, address) - 1, 0)]
+        return start if start <= address < ends[start] else None
+
+    for line in map(LINE.match, said_by(tool("llvm-objdump"), "-d", "--no-show-raw-insn", path).splitlines()):
+        at = line and at_of(int(line[1], 16))
+        if at is None:
             continue
-        pushed, moved, branch = LIST.search(line), MOVED.search(line), BRANCH.search(line)
-        if pushed:
-            frames[name] += registers(pushed[1])
-        if moved:
-            frames[name] += int(moved[1] or moved[2], 0)
-        if branch and branch[1] != name:
-            graph[name].add(branch[1] or "*")
-    return frames, graph
+        several, moved, branch = LIST.search(line[2]), MOVED.search(line[2]), BRANCH.match(line[2])
+        if several or moved:
+            pushed[at] += registers(several[1]) if several else int(moved[1] or moved[2], 0)
+        if branch:
+            branches[at].add(at_of(int(branch[1], 16)) if branch[1] else "*")
+    def named(to):
+        return "*" if to in (None, "*") else min(names[to])
+    graph = {name: {named(to) for to in branches[at] - {at}} for at in names for name in names[at]}
+    return {name: pushed[at] for at in names for name in names[at]}, graph
 
 
 def with_helpers(graph, frames, program):

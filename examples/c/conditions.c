@@ -162,6 +162,7 @@ static void cut_personalities(const struct site *site)
         if (WILLOWERA_NUMBER(answer) == WILLOWERA_ACCEPTED)
             continue;
         need(willowera_wait_bound(cut, length) == answer, "the wait bound of a cut personality");
+        need(willowera_groups(cut, length) == answer, "the groups of a cut personality");
         for (unsigned kind = 0; kind <= MOST_KINDS; kind++)
             need(willowera_section(cut, length, (uint16_t)kind) == answer, "a section of a cut personality");
         need(willowera_step(cut, length, NULL, 0, 0, NULL, 0) == answer, "a step on a cut personality");
@@ -237,6 +238,86 @@ static void refusals_write_nothing(const struct site *site)
     need(willowera_step(bytes, length, state, states, 0, colours, groups) == WILLOWERA_STATE_NOT_VALID, "13 for bytes that are no state");
     for (int i = 0; i < 3; i++)
         free_page(pages[i]);
+}
+
+/* ── Sealed records ── */
+
+/* Sealing and resuming read and write nothing beside their buffers, and write only the record, or only the state. */
+static void seals_between_fences(const struct site *site)
+{
+    const size_t states = WILLOWERA_STATE_BYTES, seals = WILLOWERA_SEALED_BYTES, length = site->length;
+
+    for (int at_end = 0; at_end < 2; at_end++) {
+        uint8_t *pages[4] = {fenced_page(), fenced_page(), fenced_page(), fenced_page()}, colours[WILLOWERA_MOST_GROUPS];
+        struct site fenced = fenced_site(site, pages[0], at_end);
+        uint8_t *state = place(pages[1], states, at_end), *sealed = place(pages[2], seals, at_end), *again = place(pages[3], states, at_end);
+
+        run(&fenced, 6, state, colours);
+        only_read(pages[1]);
+        need(WILLOWERA_GROUPS(willowera_groups(fenced.personality, length)) == site->groups, "the number of groups");
+        need(willowera_seal(fenced.personality, length, state, states, sealed, seals) == 0, "a sealed state");
+        only_read(pages[2]);
+        need(willowera_resume(fenced.personality, length, sealed, seals, again, states) == 0, "a resumed state");
+        need(memcmp(again, state, states) == 0, "the state that was sealed");
+        for (int i = 0; i < 4; i++)
+            free_page(pages[i]);
+    }
+}
+
+/* A refused sealing or resuming writes nothing: record and state cannot be written. */
+static void seal_refusals_write_nothing(const struct site *site)
+{
+    const size_t states = WILLOWERA_STATE_BYTES, seals = WILLOWERA_SEALED_BYTES, length = site->length;
+    uint8_t *pages[2] = {fenced_page(), fenced_page()}, *state = place(pages[0], states, 1), *sealed = place(pages[1], seals + 1, 1);
+    uint8_t other[WILLOWERA_MOST_PERSONALITY_BYTES], older[WILLOWERA_SEALED_BYTES], damaged[WILLOWERA_SEALED_BYTES];
+    const uint8_t *bytes = site->personality;
+
+    put_another(site, other);
+    need(willowera_fresh(bytes, length, state, states) == 0, "a fresh state");
+    need(willowera_seal(bytes, length, state, states, sealed, seals) == 0, "a sealed state");
+    memcpy(older, sealed, seals);
+    memcpy(damaged, sealed, seals);
+    older[0] = WILLOWERA_VERSION - 1;
+    damaged[seals / 2] ^= 1;
+    only_read(pages[0]);
+    only_read(pages[1]);
+    need(willowera_seal(bytes, length - 1, state, states, sealed, seals) % 256 != 0, "a cut personality that is sealed");
+    need(willowera_seal(bytes, length, state, states - 1, sealed, seals) == WILLOWERA_STATE_NOT_VALID, "13 for a short state");
+    need(willowera_seal(bytes, length, bytes, length, sealed, seals) == WILLOWERA_STATE_NOT_VALID, "13 for no state");
+    need(willowera_seal(bytes, length, state, states, sealed, seals - 1) == WILLOWERA_BUFFER_SHORT, "14 for a short record");
+    need(willowera_seal(bytes, length, state, states, sealed, seals + 1) == WILLOWERA_BUFFER_SHORT, "14 for a long record");
+    need(willowera_seal(bytes, length, state, states, NULL, 0) == WILLOWERA_BUFFER_SHORT, "no record to be written");
+    need(willowera_resume(bytes, length - 1, sealed, seals, state, states) % 256 != 0, "a cut personality that is resumed");
+    need(willowera_resume(bytes, length, sealed, seals, state, states - 1) == WILLOWERA_STATE_NOT_VALID, "13 for a short buffer");
+    need(willowera_resume(bytes, length, sealed, seals, NULL, 0) == WILLOWERA_STATE_NOT_VALID, "no state to be written");
+    need(willowera_resume(bytes, length, older, seals, state, states) == WILLOWERA_OTHER_VERSION, "27");
+    need(willowera_resume(bytes, length, damaged, seals, state, states) == WILLOWERA_DAMAGED, "28");
+    need(willowera_resume(bytes, length, sealed, seals - 1, state, states) == WILLOWERA_DAMAGED, "28 for a short record");
+    need(willowera_resume(bytes, length, sealed, seals + 1, state, states) == WILLOWERA_DAMAGED, "28 for a long record");
+    need(willowera_resume(bytes, length, NULL, 0, state, states) == WILLOWERA_DAMAGED, "no record");
+    need(willowera_resume(other, length, sealed, seals, state, states) == WILLOWERA_OTHER_PERSONALITY, "29");
+    for (int i = 0; i < 2; i++)
+        free_page(pages[i]);
+}
+
+/* Any alignment; personality, state, record and resumed state without a byte between. */
+static void seal_alignments(const struct site *site)
+{
+    static uint8_t room[PAGE];
+    const size_t states = WILLOWERA_STATE_BYTES, seals = WILLOWERA_SEALED_BYTES, length = site->length;
+    uint8_t colours[WILLOWERA_MOST_GROUPS];
+
+    for (size_t shift = 0; shift < ALIGNMENTS; shift++) {
+        uint8_t *personality = room + shift, *state = personality + length, *sealed = state + states, *again = sealed + seals;
+
+        memset(room, 0xc5, sizeof room);
+        memcpy(personality, site->personality, length);
+        run(site, 7, state, colours);
+        need(willowera_seal(personality, length, state, states, sealed, seals) == 0 && *again == 0xc5, "a record at any alignment");
+        need(willowera_resume(personality, length, sealed, seals, again, states) == 0, "a state from a record at any alignment");
+        need(memcmp(state, again, states) == 0 && again[states] == 0xc5, "the state that was sealed at any alignment");
+        need(memcmp(personality, site->personality, length) == 0, "the personality stays");
+    }
 }
 
 /* ── Roads ── */
@@ -357,9 +438,9 @@ static void cabinet_refusals_write_nothing(const struct site *site)
     need(willowera_cabinet_place(row, rows, 1, bytes, length - 1, 0, outputs, room) % 256 != 0, "a cut personality");
     need(willowera_cabinet_place(row, rows, 0, bytes, length, 0, outputs, room) == WILLOWERA_WRONG_RECORD, "24 for a record that is not free");
     need(willowera_cabinet_place(row, rows, 4, bytes, length, 0, outputs, room) == WILLOWERA_WRONG_RECORD, "24 for record 4");
-    need(willowera_cabinet_place(row, rows, SIZE_MAX, bytes, length, 0, outputs, room) == WILLOWERA_WRONG_RECORD, "24 for any number");
+    need(willowera_cabinet_place(row, rows, UINT64_MAX, bytes, length, 0, outputs, room) == WILLOWERA_WRONG_RECORD, "24 for any number");
     need(willowera_cabinet_place(row, rows, 1, bytes, length, last + 1, outputs, room) == WILLOWERA_OUTPUTS_TAKEN, "25 past the 32nd");
-    need(willowera_cabinet_place(row, rows, 1, bytes, length, SIZE_MAX, outputs, room) == WILLOWERA_OUTPUTS_TAKEN, "25 for any number");
+    need(willowera_cabinet_place(row, rows, 1, bytes, length, UINT64_MAX, outputs, room) == WILLOWERA_OUTPUTS_TAKEN, "25 for any number");
     need(willowera_cabinet_place(row, rows, 1, bytes, length, last, outputs, room) == WILLOWERA_OUTPUTS_TAKEN, "25 for taken outputs");
     need(willowera_cabinet_step(row, rows, 0, ~site->known, outputs, room - 1) == WILLOWERA_STRAY_INPUT, "15 before 14");
     need(willowera_cabinet_step(row, rows, 0, 0, outputs, room - 1) == WILLOWERA_BUFFER_SHORT, "14 when stepping");
@@ -433,6 +514,7 @@ static void empty_buffers(const struct site *site)
         need(willowera_read(none, 0) == WILLOWERA_CUT_SHORT, "an empty personality");
         need(willowera_wait_bound(none, 0) == WILLOWERA_CUT_SHORT, "the wait bound of an empty personality");
         need(willowera_section(none, 0, 1) == WILLOWERA_CUT_SHORT, "a section of an empty personality");
+        need(willowera_groups(none, 0) == WILLOWERA_CUT_SHORT, "the groups of an empty personality");
         need(willowera_fresh(none, 0, state, sizeof state) == WILLOWERA_CUT_SHORT, "the fresh state of an empty personality");
         need(willowera_fresh(bytes, site->length, none, 0) == WILLOWERA_STATE_NOT_VALID, "a fresh state in an empty buffer");
         need(willowera_retime(bytes, site->length, none, 0, none, 0) == WILLOWERA_STATE_NOT_VALID, "new times for an empty state");
@@ -444,9 +526,11 @@ static void empty_buffers(const struct site *site)
     free_page(page);
 }
 
-/* Lengths are taken whole: one of 2^32 and a little is not taken for a little. Only the first page of each buffer is there. */
+/* Lengths are taken whole: one of 2^32 and a little is not taken for a little. Only the first page of each buffer is there. A 32-bit target
+ * has no such buffers. */
 static void long_lengths(const struct site *site)
 {
+#if SIZE_MAX > UINT32_MAX
     const size_t over = (size_t)1 << 32;
     uint8_t *room = mmap(NULL, over + PAGE, PROT_NONE, MAP_PRIVATE | MAP_ANONYMOUS | MAP_NORESERVE, -1, 0);
     uint8_t state[WILLOWERA_STATE_BYTES];
@@ -463,7 +547,15 @@ static void long_lengths(const struct site *site)
          "a long state");
     uint64_t answer = willowera_step(site->personality, site->length, state, sizeof state, 0, room, over);
     need(WILLOWERA_NUMBER(answer) == WILLOWERA_ACCEPTED, "a long colour buffer");
+    need(willowera_seal(site->personality, site->length, state, sizeof state, room, over + WILLOWERA_SEALED_BYTES) == WILLOWERA_BUFFER_SHORT,
+         "a record in a long buffer");
+    need(willowera_seal(site->personality, site->length, state, sizeof state, room, WILLOWERA_SEALED_BYTES) == 0, "a sealed state");
+    need(willowera_resume(site->personality, site->length, room, over + WILLOWERA_SEALED_BYTES, state, sizeof state) == WILLOWERA_DAMAGED,
+         "a long record");
     munmap(room, over + PAGE);
+#else
+    (void)site;
+#endif
 }
 
 /* ── Threads and signal handlers ── */
@@ -577,6 +669,9 @@ int main(int count, char **paths)
         cut_personalities(&site);
         retimes_between_fences(&site);
         refusals_write_nothing(&site);
+        seals_between_fences(&site);
+        seal_refusals_write_nothing(&site);
+        seal_alignments(&site);
         roads_between_fences(&site);
         cabinets_between_fences(&site);
         cabinet_refusals_write_nothing(&site);

@@ -15,7 +15,7 @@
 
 #include "willowera.h"
 
-enum { STEPS = 320, TO_NIGHT = 20, TO_DAY = 180, STATE_PHASE = 0, STATE_INTERVAL = 1 };
+enum { STEPS = 320, TO_NIGHT = 20, TO_DAY = 180 };
 
 struct personality {
     uint8_t bytes[WILLOWERA_MOST_PERSONALITY_BYTES + 1];
@@ -56,7 +56,7 @@ static uint64_t inputs_of(unsigned step)
 
 static void print_line(unsigned step, const uint8_t *state, const uint8_t *colours, size_t groups, uint32_t wait)
 {
-    printf("%3u %c %c ", step, 'A' + state[STATE_PHASE], "SLMGEYR"[state[STATE_INTERVAL]]);
+    printf("%3u %c %c ", step, 'A' + WILLOWERA_PHASE(state), "SLMGEYR"[WILLOWERA_INTERVAL(state)]);
     for (size_t g = 0; g < groups; g++)
         putchar("RYGF"[colours[g]]);
     printf(" %u%s\n", wait, WILLOWERA_TIMES_WAIT(state) ? " waiting" : "");
@@ -82,9 +82,9 @@ int main(int count, char **paths)
             retime(&day, state, &day, "day");
         uint64_t answer = willowera_step(day.bytes, day.length, state, sizeof state, inputs_of(step), colours, sizeof colours);
         need(WILLOWERA_NUMBER(answer) == WILLOWERA_ACCEPTED, "a step");
-        if (state[STATE_INTERVAL] != shown)
+        if (WILLOWERA_INTERVAL(state) != shown)
             print_line(step, state, colours, groups, WILLOWERA_WAIT(answer));
-        shown = state[STATE_INTERVAL];
+        shown = WILLOWERA_INTERVAL(state);
     }
     return 0;
 }

@@ -22,7 +22,7 @@ trap 'rm -rf "$built"' EXIT
 : "${built_program:=$built/program}"
 
 arm-none-eabi-gcc -std=gnu11 -Wall -Wextra -O2 -mcpu=cortex-m4 -mthumb -mfloat-abi=soft $trap_words --specs=rdimon.specs -Iinclude \
-    -Wl,--wrap=willowera_step -Wl,--section-start=.vectors=0 targets/measure/vectors.c targets/measure/wrap.c "$program" \
+    -Wl,--wrap=willowera_step -Wl,-z,noexecstack -Wl,--section-start=.vectors=0 targets/measure/vectors.c targets/measure/wrap.c "$program" \
     "target/targets/$folder/libwillowera.a" -o "$built_program"
 [ -z "$linked" ] || exit 0
 

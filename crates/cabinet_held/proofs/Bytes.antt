@@ -2,12 +2,11 @@
 use Prim.Native.Nat.{ℕ, zero, suc, _+_, _-_, _≤_}
 use mathlib.Core.List.{List, [], _∷_, _++_, append-nil, append-assoc}
 use mathlib.Core.Path.{_≡_, refl, ap, _∙_}
+use native.Mathlib.Nat.{zero-add}
 use native.Mathlib.Omega.{arith}
-use lib.ListN.{length, getD, take, drop, replicate, length-append, length-drop, length-replicate, take-append-drop, drop-of-length-le}
+use lib.ListN.{length, take, drop, replicate, length-append, length-drop, length-replicate, take-append-drop, drop-of-length-le}
 use lib.Seq.{drop-drop, sets, sets-eq, take-at}
 use Rattle.laws.specs.Folds.{listOf}
-use Rattle.laws.proofs.Arrays.{Filled}
-use Rattle.laws.proofs.Lists.{list-length, listed}
 use Rattle.cabinet_records.specs.Cabinet.{writtenAt}
 
 -- ── Bytes of one value ──
@@ -23,15 +22,8 @@ list-alike x (suc n) = rw (list-alike x n) (snoc-alike x n)
 
 -- ── Bytes that are copied ──
 
-module _ {f : ℕ → ℕ} {old out : List ℕ} {k : ℕ} (filled : Filled f old out k) where
-  pub filled-length : k ≤ length old → length out ≡ length old
-  filled-length l =
-      ap length (filled .told) ∙ length-append (listOf f k) (drop k old) ∙ omega (arith, list-length f k, length-drop k old)
-
-pub copied : (from old out : List ℕ) (k : ℕ) → Filled (λ j. getD from j 0) old out k → k ≤ length from → length from ≤ k → out ≡ from ++ drop (length from) old
-copied from old out k filled a b =
-    let last : k ≡ length from = omega arith in
-    filled .told ∙ rw (last, listed from (length from) 0 refl)
+pub copied : (from old : List ℕ) → length from ≤ length old → sets old 0 from ≡ from ++ drop (length from) old
+copied from old fits = rw (sets-eq from old 0 (omega arith), zero-add (length from)) refl
 
 -- ── A part that is stored back ──
 

@@ -3,9 +3,10 @@
 //! `bench [seed] [rounds]`. A full step call reads and checks the personality,
 //! then steps: by the personality's own times, by others that took over, or while
 //! times wait. An inner step starts from a site already read. A line says why a phase
-//! holds, of a state in running. A road is an hour of steps in one call. Each time is the median of the rounds, with the best round
-//! behind it; a ratio is the median of the rounds' own ratios, with that of the best
-//! rounds behind it.
+//! holds, of a state in running. Such states are sealed, and resumed from their records.
+//! A road is an hour of steps in one call. Each time is the median of the rounds, with
+//! the best round behind it; a ratio is the median of the rounds' own ratios, with that
+//! of the best rounds behind it.
 
 #![forbid(unsafe_code)]
 

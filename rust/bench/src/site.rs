@@ -3,7 +3,7 @@
 use crate::clock::{longest_ns, times_of, Longest, Time, Work};
 use generate::{known_inputs, time_fields, Plan, Rng};
 use model::{packed, step_timed_on, Interval, Site, TimedState};
-use model::{LONGEST_LINE, MAX_GROUPS, STATE_LEN};
+use model::{LONGEST_LINE, MAX_GROUPS, SEALED_LEN, STATE_LEN};
 use std::hint::black_box;
 
 /// Steps before the inputs repeat.
@@ -35,6 +35,8 @@ struct Calls {
     step: fn(&[u8], &mut [u8], u64, &mut [u8]) -> u64,
     retime: fn(&[u8], &mut [u8], &[u8]) -> u64,
     why: fn(&[u8], &[u8], u64, &mut [u8]) -> u64,
+    seal: fn(&[u8], &[u8], &mut [u8]) -> u64,
+    resume: fn(&[u8], &[u8], &mut [u8]) -> u64,
 }
 
 const MODEL: Calls = Calls {
@@ -44,6 +46,8 @@ const MODEL: Calls = Calls {
     step: packed::step,
     retime: packed::retime,
     why: packed::why,
+    seal: packed::seal,
+    resume: packed::resume,
 };
 
 #[cfg(feature = "linked")]
@@ -54,6 +58,8 @@ const LIBRARY: Option<Calls> = Some(Calls {
     step: willowera::packed::step,
     retime: willowera::packed::retime,
     why: willowera::packed::why,
+    seal: willowera::packed::seal,
+    resume: willowera::packed::resume,
 });
 
 #[cfg(not(feature = "linked"))]
@@ -67,6 +73,8 @@ struct Times {
     retimed_step: Time,
     waiting_step: Time,
     why: Time,
+    seal: Time,
+    resume: Time,
     longest_step: Longest,
     longest_damaged: Longest,
 }
@@ -111,13 +119,15 @@ impl Bench {
         println!();
         println!("{}: {} bytes", self.name, self.personality.len());
         println!(
-            "{:8} {:>16} {:>18} {:>16} {:>16} {:>16} {:>24} {:>24}",
+            "{:8} {:>16} {:>18} {:>16} {:>16} {:>16} {:>18} {:>18} {:>24} {:>24}",
             "",
             "read (best)",
             "full step (best)",
             "retimed",
             "times waiting",
             "line (best)",
+            "seal (best)",
+            "resume (best)",
             "longest step (repeated)",
             "of a damaged read"
         );
@@ -145,6 +155,8 @@ impl Bench {
         let mut waiting =
             times_of(rounds, sets.map(|calls| self.waiting_stepper(calls))).into_iter();
         let mut whys = times_of(rounds, sets.map(|calls| self.teller(calls))).into_iter();
+        let mut seals = times_of(rounds, sets.map(|calls| self.sealer(calls))).into_iter();
+        let mut resumes = times_of(rounds, sets.map(|calls| self.resumer(calls))).into_iter();
         sets.map(|calls| Times {
             name: calls.name,
             read: reads.next().expect("a time for each set"),
@@ -152,6 +164,8 @@ impl Bench {
             retimed_step: retimed.next().expect("a time for each set"),
             waiting_step: waiting.next().expect("a time for each set"),
             why: whys.next().expect("a time for each set"),
+            seal: seals.next().expect("a time for each set"),
+            resume: resumes.next().expect("a time for each set"),
             longest_step: longest_ns(INPUTS, || self.stepper(calls)),
             longest_damaged: longest_ns(8 * self.personality.len(), || self.damager(calls)),
         })
@@ -237,6 +251,39 @@ impl Bench {
         })
     }
 
+    /// Seals another state in each call.
+    fn sealer<'a>(&'a self, calls: &'a Calls) -> Work<'a> {
+        let mut sealed = [0; SEALED_LEN];
+        Box::new(move |call| {
+            let (state, _) = &self.holding[call % self.holding.len()];
+            let personality = black_box(self.personality.as_slice());
+            assert_eq!((calls.seal)(personality, black_box(state), &mut sealed), 0);
+            black_box(&sealed);
+        })
+    }
+
+    /// Resumes the state of another record in each call.
+    fn resumer<'a>(&'a self, calls: &'a Calls) -> Work<'a> {
+        let records: Vec<[u8; SEALED_LEN]> = self.records(calls);
+        let mut state = [0; STATE_LEN];
+        Box::new(move |call| {
+            let sealed = black_box(&records[call % records.len()]);
+            let personality = black_box(self.personality.as_slice());
+            assert_eq!((calls.resume)(personality, sealed, &mut state), 0);
+            black_box(&state);
+        })
+    }
+
+    /// The records of the states of which lines are told.
+    fn records(&self, calls: &Calls) -> Vec<[u8; SEALED_LEN]> {
+        let seal = |(state, _): &([u8; STATE_LEN], u64)| {
+            let mut sealed = [0; SEALED_LEN];
+            assert_eq!((calls.seal)(&self.personality, state, &mut sealed), 0);
+            sealed
+        };
+        self.holding.iter().map(seal).collect()
+    }
+
     /// The same from a site already read.
     fn inner_stepper(&self) -> Work<'_> {
         let site = Site::read(&self.personality).expect("an accepted plan");
@@ -255,10 +302,12 @@ impl Times {
     fn print(&self) {
         let [read, step, why] = [&self.read, &self.full_step, &self.why].map(shown);
         let [retimed, waiting] = [&self.retimed_step, &self.waiting_step].map(shown);
+        let [seal, resume] = [&self.seal, &self.resume].map(shown);
         let [longest, damaged] = [self.longest_step, self.longest_damaged]
             .map(|Longest { seen, repeated }| format!("{seen} ({repeated})"));
         println!(
-            "{:8} {read:>16} {step:>18} {retimed:>16} {waiting:>16} {why:>16} {longest:>24} {damaged:>24}",
+            "{:8} {read:>16} {step:>18} {retimed:>16} {waiting:>16} {why:>16} {seal:>18} {resume:>18} \
+             {longest:>24} {damaged:>24}",
             self.name
         );
     }
@@ -274,8 +323,10 @@ impl Times {
         let retimed = ratio(&self.retimed_step, &other.retimed_step);
         let waiting = ratio(&self.waiting_step, &other.waiting_step);
         let why = ratio(&self.why, &other.why);
+        let seal = ratio(&self.seal, &other.seal);
+        let resume = ratio(&self.resume, &other.resume);
         println!(
-            "{:8} {read:>16} {step:>18} {retimed:>16} {waiting:>16} {why:>16}",
+            "{:8} {read:>16} {step:>18} {retimed:>16} {waiting:>16} {why:>16} {seal:>18} {resume:>18}",
             "ratio"
         );
     }

@@ -17,8 +17,8 @@ pub struct Comparison<'a> {
 const FAR_KINDS: [u16; 4] = [255, 256, 257, u16::MAX];
 
 impl Comparison<'_> {
-    /// Reads a personality, asks for its wait bound and looks up every kind;
-    /// gives the answer of reading.
+    /// Reads a personality, asks for its wait bound and its groups and looks up every
+    /// kind; gives the answer of reading.
     pub fn reading(&mut self, personality: &[u8]) -> Result<u64, Box<Difference>> {
         let handed = Handed {
             personality: personality.to_vec(),
@@ -31,6 +31,9 @@ impl Comparison<'_> {
         let expected = Model.wait_bound(personality);
         let found = self.board.wait_bound(guarded.inner());
         same("wait bound: the answer", expected, found, &handed)?;
+        let expected = Model.groups(personality);
+        let found = self.board.groups(guarded.inner());
+        same("groups: the answer", expected, found, &handed)?;
         for kind in (0..=10).chain(FAR_KINDS) {
             let handed = Handed {
                 kind,
@@ -124,6 +127,68 @@ impl Comparison<'_> {
         found_state.holds("retime: the state", state, &handed)?;
         guarded.untouched("retime: the personality", &handed)?;
         guarded_new.untouched("retime: the new personality", &handed)?;
+        self.tally.count_answer(expected);
+        Ok(expected)
+    }
+
+    /// Seals a state into a buffer of a length; gives what is in the buffer then.
+    pub fn seal(
+        &mut self,
+        personality: &[u8],
+        state: &[u8],
+        length: usize,
+    ) -> Result<Vec<u8>, Box<Difference>> {
+        let handed = Handed {
+            personality: personality.to_vec(),
+            state: state.to_vec(),
+            sealed: self.rng.bytes(length),
+            ..Handed::default()
+        };
+        let guarded = Guarded::new(&mut self.rng, personality);
+        let guarded_state = Guarded::new(&mut self.rng, state);
+        let mut found_sealed = Guarded::new(&mut self.rng, &handed.sealed);
+        let mut sealed = handed.sealed.clone();
+        let expected = Model.seal(personality, state, &mut sealed);
+        let found = self.board.seal(
+            guarded.inner(),
+            guarded_state.inner(),
+            found_sealed.inner_mut(),
+        );
+        same("seal: the answer", expected, found, &handed)?;
+        found_sealed.holds("seal: the record", &sealed, &handed)?;
+        guarded_state.untouched("seal: the state", &handed)?;
+        guarded.untouched("seal: the personality", &handed)?;
+        self.tally.count_answer(expected);
+        Ok(sealed)
+    }
+
+    /// Resumes the state of a record; gives the answer, and the state in the buffer
+    /// handed in.
+    pub fn resume(
+        &mut self,
+        personality: &[u8],
+        sealed: &[u8],
+        state: &mut [u8],
+    ) -> Result<u64, Box<Difference>> {
+        let handed = Handed {
+            personality: personality.to_vec(),
+            state: state.to_vec(),
+            sealed: sealed.to_vec(),
+            ..Handed::default()
+        };
+        let guarded = Guarded::new(&mut self.rng, personality);
+        let guarded_sealed = Guarded::new(&mut self.rng, sealed);
+        let mut found_state = Guarded::new(&mut self.rng, state);
+        let expected = Model.resume(personality, sealed, state);
+        let found = self.board.resume(
+            guarded.inner(),
+            guarded_sealed.inner(),
+            found_state.inner_mut(),
+        );
+        same("resume: the answer", expected, found, &handed)?;
+        found_state.holds("resume: the state", state, &handed)?;
+        guarded_sealed.untouched("resume: the record", &handed)?;
+        guarded.untouched("resume: the personality", &handed)?;
         self.tally.count_answer(expected);
         Ok(expected)
     }
@@ -284,7 +349,7 @@ fn words_of(call: &CabinetCall) -> [&'static str; 3] {
     }
 }
 
-fn same(
+pub(crate) fn same(
     what: &'static str,
     expected: u64,
     found: u64,
@@ -295,7 +360,7 @@ fn same(
     same_bytes(what, &bytes(expected), &bytes(found), handed)
 }
 
-fn same_bytes(
+pub(crate) fn same_bytes(
     what: &'static str,
     expected: &[u8],
     found: &[u8],

@@ -5,15 +5,15 @@ use crate::difference::{Difference, Failure};
 use crate::tally::Tally;
 use generate::{
     any_inputs, any_records, broken_state_bytes, damaged, invalid_timed_state, known_inputs,
-    other_edition, scrambled, twice_damaged, unknown_inputs, valid_timed_state, Breakage,
-    CabinetCall, Plan, Rng, RoadDamage, RoadPlan,
+    other_edition, record_of, scrambled, twice_damaged, unknown_inputs, valid_timed_state,
+    Breakage, CabinetCall, Plan, Rng, RoadDamage, RoadPlan,
 };
 use model::packed::Board;
 use model::{
     records_of, row_of, Site, TimedState, OUTPUTS, PLAIN_LEN, RECORDS, RECORD_LEN, RESULT_LEN,
-    ROW_LEN, STATE_LEN, STREAM_LEN,
+    ROW_LEN, SEALED_LEN, STATE_LEN, STREAM_LEN,
 };
-use monitor::{watch, watch_cabinet, watch_retimed, Driver, Strategy};
+use monitor::{watch, watch_cabinet, Among, Driver, Strategy};
 use std::fmt;
 
 /// What a case is about.
@@ -52,10 +52,18 @@ pub enum Kind {
     WhyRun,
     Whys,
     WhyWrongs,
+    SealedRun,
+    Seals,
+    SealWrongs,
+    DamagedSeals,
+    OtherSeals,
+    InvalidSeals,
+    ResumeWrongs,
+    ResumedWatched,
 }
 
 /// The kinds take turns, those that matter most more often.
-const TURNS: [Kind; 52] = [
+const TURNS: [Kind; 61] = [
     Kind::Accepted,
     Kind::Damaged(1),
     Kind::Run,
@@ -108,6 +116,15 @@ const TURNS: [Kind; 52] = [
     Kind::Whys,
     Kind::WhyWrongs,
     Kind::Whys,
+    Kind::SealedRun,
+    Kind::Seals,
+    Kind::SealWrongs,
+    Kind::DamagedSeals,
+    Kind::OtherSeals,
+    Kind::InvalidSeals,
+    Kind::ResumeWrongs,
+    Kind::DamagedSeals,
+    Kind::ResumedWatched,
 ];
 
 impl Kind {
@@ -162,6 +179,16 @@ impl fmt::Display for Kind {
             Kind::WhyRun => "run of steps with the line after each",
             Kind::Whys => "lines of random valid states",
             Kind::WhyWrongs => "several wrongs in one call for a line",
+            Kind::SealedRun => "run of steps with times without power among them",
+            Kind::Seals => "random valid states sealed and resumed",
+            Kind::SealWrongs => "several wrongs in one sealing",
+            Kind::DamagedSeals => "sealed records damaged in every way",
+            Kind::OtherSeals => "sealed records of another personality",
+            Kind::InvalidSeals => "sealed records of states that may be invalid",
+            Kind::ResumeWrongs => "several wrongs in one resuming",
+            Kind::ResumedWatched => {
+                "run with times without power watched for demand 3 and request fourteen"
+            }
         };
         f.write_str(words)
     }
@@ -221,7 +248,7 @@ impl Comparison<'_> {
             Kind::UnknownInputs => self.unknown_inputs(),
             Kind::BufferLength => self.buffer_lengths(),
             Kind::ManyWrongs => self.many_wrongs(),
-            Kind::Watched => self.watched(false),
+            Kind::Watched => self.watched(Among::Nothing),
             Kind::Road => self.roads(),
             Kind::DamagedRoad => self.damaged_roads(),
             Kind::RoadBuffers => self.road_buffers(),
@@ -236,10 +263,18 @@ impl Comparison<'_> {
             Kind::RefusedSecond => self.refused_seconds(),
             Kind::BrokenTimes => self.broken_times(),
             Kind::RetimingWrongs => self.retiming_wrongs(),
-            Kind::RetimedWatched => self.watched(true),
+            Kind::RetimedWatched => self.watched(Among::Retimings),
             Kind::WhyRun => self.why_run(),
             Kind::Whys => self.whys(),
             Kind::WhyWrongs => self.why_wrongs(),
+            Kind::SealedRun => self.sealed_run(),
+            Kind::Seals => self.seals(),
+            Kind::SealWrongs => self.seal_wrongs(),
+            Kind::DamagedSeals => self.damaged_seals(),
+            Kind::OtherSeals => self.other_seals(),
+            Kind::InvalidSeals => self.invalid_seals(),
+            Kind::ResumeWrongs => self.resume_wrongs(),
+            Kind::ResumedWatched => self.watched(Among::PowerDowns),
         }
     }
 
@@ -262,6 +297,10 @@ impl Comparison<'_> {
         self.step(personality, &mut state, inputs, 32)?;
         self.retime(personality, &mut state, &other)?;
         self.why(personality, &state, inputs, 32)?;
+        let sealed = self.seal(personality, &state, SEALED_LEN)?;
+        self.resume(personality, &sealed, &mut state)?;
+        let sealed = record_of(personality, &state);
+        self.resume(personality, &sealed, &mut state)?;
         let length = self.rng.below(400);
         let mut state = self.rng.bytes(length);
         let colours_len = self.rng.below(40);
@@ -396,13 +435,13 @@ impl Comparison<'_> {
     }
 
     /// The board alone under the monitor.
-    fn watched(&mut self, retimed: bool) -> Outcome {
+    fn watched(&mut self, among: Among) -> Outcome {
         let personality = Plan::random(&mut self.rng).bytes();
         let site = site_whole(&personality);
         let strategy = self.rng.pick(&Strategy::ALL);
         let mut driver = Driver::new(strategy, &site, self.rng.clone());
-        let watch = if retimed { watch_retimed } else { watch };
-        let watched = watch(self.board, &personality, &mut driver, &mut self.rng, 1_000);
+        let rng = &mut self.rng;
+        let watched = watch(among, self.board, &personality, &mut driver, rng, 1_000);
         match watched.expect("an accepted plan") {
             Ok(_) => Ok(()),
             Err(breach) => Err(Box::new(Difference::Breach {

@@ -40,6 +40,7 @@ pub struct Handed {
     pub record: usize,
     pub first: usize,
     pub outputs: Vec<u8>,
+    pub sealed: Vec<u8>,
 }
 
 /// A case that fails.
@@ -91,7 +92,8 @@ impl fmt::Display for Handed {
         writeln!(f, "  row         {}", hex(&self.row))?;
         writeln!(f, "  record      {}", self.record)?;
         writeln!(f, "  first       {}", self.first)?;
-        write!(f, "  outputs     {}", hex(&self.outputs))
+        writeln!(f, "  outputs     {}", hex(&self.outputs))?;
+        write!(f, "  sealed      {}", hex(&self.sealed))
     }
 }
 

@@ -13,6 +13,7 @@ mod lists;
 mod retimings;
 mod road_vectors;
 mod seal_vectors;
+mod seals;
 mod tally;
 mod vectors;
 mod watches;
@@ -24,10 +25,11 @@ pub use cases::{run_case, Kind};
 pub use difference::{Difference, Failure};
 #[cfg(feature = "linked")]
 pub use library::Library;
-pub use lists::{run_lists, Lists};
+pub use lists::run_lists;
 pub use road_vectors::run_road_vectors;
-pub use seal_vectors::{run_seal_vectors, Sealings};
+pub use seal_vectors::run_seal_vectors;
 pub use tally::Tally;
+pub use vectors::Lists;
 pub use watches::{run_watches, Watched};
 pub use why_vectors::{run_why_vectors, Asked};
 

@@ -1,15 +1,10 @@
 //! The lists of calls of the Python controller, which `vectors/make_retimes.py`
 //! writes, on a board: every call gets the state that the call before it left.
 
-use crate::vectors::{same, take_array, take_behind_length, take_bytes, CANARY};
+use crate::vectors::{
+    run_each_list, same, take_array, take_behind_length, take_bytes, Lists, CANARY,
+};
 use model::packed::Board;
-
-/// How many lists were run, and how many calls they have.
-#[derive(Clone, Copy, Debug, Default, PartialEq, Eq)]
-pub struct Lists {
-    pub lists: usize,
-    pub calls: usize,
-}
 
 /// One call of a list.
 enum Call<'a> {
@@ -29,15 +24,7 @@ struct Outcome<'a> {
 /// Runs every list on a board. Gives their number and that of the calls, or the
 /// first call that differs.
 pub fn run_lists(board: &dyn Board, file: &[u8]) -> Result<Lists, String> {
-    let mut rest = file;
-    let mut count = Lists::default();
-    while !rest.is_empty() {
-        let calls = run_list(board, &mut rest)
-            .map_err(|(call, what)| format!("list {}, call {call}: {what}", count.lists))?;
-        count.lists += 1;
-        count.calls += calls;
-    }
-    Ok(count)
+    run_each_list(file, |rest| run_list(board, rest))
 }
 
 /// Runs the next list; gives the number of its calls. An error names the call.

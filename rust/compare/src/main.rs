@@ -10,7 +10,7 @@
 
 use compare::{
     board_name, run_cabinet_vectors, run_cases, run_lists, run_road_vectors, run_seal_vectors,
-    run_watches, run_why_vectors, Asked, Lists, Sealings, BOARD,
+    run_watches, run_why_vectors, Asked, Lists, BOARD,
 };
 use model::packed::{Board, Model};
 use std::process::ExitCode;
@@ -131,7 +131,7 @@ fn whys(board: &dyn Board, file: &[u8]) -> Result<String, String> {
 }
 
 fn seals(board: &dyn Board, file: &[u8]) -> Result<String, String> {
-    let Sealings { lists, calls } = run_seal_vectors(board, file)?;
+    let Lists { lists, calls } = run_seal_vectors(board, file)?;
     Ok(format!("{lists:>9}  lists of sealed states, {calls} calls"))
 }
 

@@ -1,16 +1,11 @@
 //! The calls of the Python model that seal states and resume them, which
 //! `vectors/make_seals.py` writes, on a board.
 
-use crate::vectors::CANARY;
-use crate::vectors::{same, same_answer, take_answer, take_array, take_behind_length, take_bytes};
+use crate::vectors::{
+    run_each_list, same, same_answer, take_answer, take_array, take_behind_length, take_bytes,
+    Lists, CANARY,
+};
 use model::packed::Board;
-
-/// How many lists were run, and how many calls they have.
-#[derive(Clone, Copy, Debug, Default, PartialEq, Eq)]
-pub struct Sealings {
-    pub lists: usize,
-    pub calls: usize,
-}
 
 /// What the calls of a list have in common: a state and a record that others are told
 /// by.
@@ -29,16 +24,8 @@ enum Call {
 
 /// Runs every list on a board. Gives their number and that of the calls, or the first
 /// call that differs.
-pub fn run_seal_vectors(board: &dyn Board, file: &[u8]) -> Result<Sealings, String> {
-    let mut rest = file;
-    let mut count = Sealings::default();
-    while !rest.is_empty() {
-        let calls = run_list(board, &mut rest)
-            .map_err(|(call, what)| format!("list {}, call {call}: {what}", count.lists))?;
-        count.lists += 1;
-        count.calls += calls;
-    }
-    Ok(count)
+pub fn run_seal_vectors(board: &dyn Board, file: &[u8]) -> Result<Lists, String> {
+    run_each_list(file, |rest| run_list(board, rest))
 }
 
 /// Runs the next list; gives the number of its calls. An error names the call.
@@ -178,7 +165,7 @@ mod tests {
     #[test]
     fn a_worked_list_agrees() {
         let (list, _) = list();
-        let count = |lists, calls| Ok(Sealings { lists, calls });
+        let count = |lists, calls| Ok(Lists { lists, calls });
         assert_eq!(run_seal_vectors(&Model, &list), count(1, 7));
         assert_eq!(run_seal_vectors(&Model, &list.repeat(2)), count(2, 14));
         assert_eq!(run_seal_vectors(&Model, &[]), count(0, 0));

@@ -22,6 +22,30 @@ pub fn run_each<'a, V>(
     Ok(count)
 }
 
+/// How many lists were run, and how many calls they have.
+#[derive(Clone, Copy, Debug, Default, PartialEq, Eq)]
+pub struct Lists {
+    pub lists: usize,
+    pub calls: usize,
+}
+
+/// Runs every list of a file. What runs the next one gives the number of its calls, or
+/// the call that differs and how.
+pub fn run_each_list<'a>(
+    file: &'a [u8],
+    run: impl Fn(&mut &'a [u8]) -> Result<usize, (usize, String)>,
+) -> Result<Lists, String> {
+    let mut rest = file;
+    let mut count = Lists::default();
+    while !rest.is_empty() {
+        let calls = run(&mut rest)
+            .map_err(|(call, what)| format!("list {}, call {call}: {what}", count.lists))?;
+        count.lists += 1;
+        count.calls += calls;
+    }
+    Ok(count)
+}
+
 pub fn take_bytes<'a>(file: &mut &'a [u8], length: usize) -> Option<&'a [u8]> {
     let (bytes, rest) = file.split_at_checked(length)?;
     *file = rest;

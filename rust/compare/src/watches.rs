@@ -3,7 +3,7 @@
 use generate::{Plan, Rng};
 use model::packed::Board;
 use model::{Site, OUTPUTS, RECORDS};
-use monitor::{watch, watch_cabinet, watch_retimed, Breach, Driver, Report, Strategy};
+use monitor::{watch, watch_cabinet, Among, Breach, Driver, Report, Strategy};
 use std::fmt;
 
 /// What the runs of one strategy, or in cabinets, have shown together.
@@ -17,6 +17,7 @@ pub struct Watched {
     pub demands_met: u64,
     pub retimings: u64,
     pub changes: u64,
+    pub power_downs: u64,
     /// Most phases that started while a demand waited.
     pub most_starts: u32,
     /// The longest wait as a part of what it was allowed.
@@ -28,8 +29,8 @@ const RUN: u64 = 4_000;
 
 /// Watches a board for about so many steps, shared among the strategies and the
 /// cabinets. The first runs of a strategy are on the junction of two phases and
-/// the largest site. Every other run of a strategy has retimings in it, and some sites
-/// of a cabinet are retimed.
+/// the largest site. Of three runs of a strategy one has retimings in it and one times
+/// without power, and some sites of a cabinet are retimed.
 pub fn run_watches(
     board: &dyn Board,
     seed: u64,
@@ -72,16 +73,19 @@ fn run_strategy(
     while left > 0 {
         let calls = left.min(RUN);
         let plan = match watched.runs {
-            0 | 3 => Plan::junction(),
-            1 | 2 => Plan::largest(),
+            0 | 4 | 5 => Plan::junction(),
+            1..=3 => Plan::largest(),
             _ => Plan::random(&mut rng),
         };
-        let retimed = watched.runs % 2 == 1;
-        let watch = if retimed { watch_retimed } else { watch };
+        let among = match watched.runs % 3 {
+            0 => Among::Nothing,
+            1 => Among::Retimings,
+            _ => Among::PowerDowns,
+        };
         let personality = plan.bytes();
         let site = Site::read(&personality).expect("an accepted plan");
         let mut driver = Driver::new(strategy, &site, rng.clone());
-        let report = watch(board, &personality, &mut driver, &mut rng, calls);
+        let report = watch(among, board, &personality, &mut driver, &mut rng, calls);
         match report.expect("an accepted plan") {
             Ok(report) => watched.add(&report),
             Err(breach) => return Err((personality, breach)),
@@ -102,6 +106,7 @@ impl Watched {
             demands_met: 0,
             retimings: 0,
             changes: 0,
+            power_downs: 0,
             most_starts: 0,
             nearest: 0.0,
         }
@@ -115,6 +120,7 @@ impl Watched {
         self.demands_met += report.demands_met;
         self.retimings += report.retimings;
         self.changes += report.changes;
+        self.power_downs += report.power_downs;
         self.most_starts = self.most_starts.max(report.most_starts);
         let (waited, allowed) = report.nearest_wait;
         self.nearest = self.nearest.max(waited as f64 / allowed as f64);
@@ -126,8 +132,8 @@ impl fmt::Display for Watched {
         write!(
             f,
             "{:8} {:>5} runs, {:>9} steps, {:>7} refused calls, {:>7} greens begun, \
-             {:>7} demands met, {:>6} retimings, {:>5} changes, longest wait {:.2} of its bound, \
-             {} phases started in a wait",
+             {:>7} demands met, {:>6} retimings, {:>5} changes, {:>6} times without power, \
+             longest wait {:.2} of its bound, {} phases started in a wait",
             self.name,
             self.runs,
             self.accepted,
@@ -136,6 +142,7 @@ impl fmt::Display for Watched {
             self.demands_met,
             self.retimings,
             self.changes,
+            self.power_downs,
             self.nearest,
             self.most_starts
         )

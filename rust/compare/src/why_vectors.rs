@@ -1,8 +1,10 @@
 //! The calls of the Python model for the line that says why a phase holds, which
 //! `vectors/make_why.py` writes, on a board.
 
-use crate::vectors::CANARY;
-use crate::vectors::{same, same_answer, take_answer, take_array, take_behind_length, take_bytes};
+use crate::vectors::{
+    run_each_list, same, same_answer, take_answer, take_array, take_behind_length, take_bytes,
+    Lists, CANARY,
+};
 use model::packed::Board;
 
 /// How many lists were run, and how many times a line was asked for in them.
@@ -31,15 +33,11 @@ struct Told<'a> {
 /// Runs every list on a board. Gives their number and that of the lines, or the first
 /// that differs.
 pub fn run_why_vectors(board: &dyn Board, file: &[u8]) -> Result<Asked, String> {
-    let mut rest = file;
-    let mut count = Asked::default();
-    while !rest.is_empty() {
-        let lines = run_list(board, &mut rest)
-            .map_err(|(line, what)| format!("list {}, line {line}: {what}", count.lists))?;
-        count.lists += 1;
-        count.lines += lines;
-    }
-    Ok(count)
+    let Lists { lists, calls } = run_each_list(file, |rest| run_list(board, rest))?;
+    Ok(Asked {
+        lists,
+        lines: calls,
+    })
 }
 
 /// Runs the next list; gives the number of its lines. An error names the line.

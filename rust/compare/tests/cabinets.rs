@@ -1,7 +1,10 @@
 //! A plain cabinet over read and step calls agrees with the model, and cabinets
 //! that are wrong in one small thing are noticed.
 
-use compare::{run_cases, Difference, Kind};
+mod faults;
+
+use compare::Kind;
+use faults::{assert_agrees, assert_noticed, cases_of};
 use model::packed::{number, Board, Model};
 use model::{layout, Site, TimedState, Times, PLAIN_LEN, STATE_LEN};
 use std::ops::Range;
@@ -524,37 +527,27 @@ impl Variant for PlainCabinet {
 const SEED: u64 = 10;
 
 /// The cases of cabinets, but for those that are watched.
-fn cases() -> impl Iterator<Item = u64> {
+fn cases() -> Vec<u64> {
     let kinds = [Kind::Cabinet, Kind::CabinetRows, Kind::CabinetBuffers];
-    (0..5_000).filter(move |&index| kinds.contains(&Kind::of(index)))
+    cases_of(&kinds, 5_000)
 }
 
 #[test]
 fn a_plain_cabinet_agrees() {
-    if let Err(failure) = run_cases(&AsBoard(PlainCabinet(Fault::None)), SEED, cases()) {
-        panic!("{failure}");
-    }
+    assert_agrees(&AsBoard(PlainCabinet(Fault::None)), SEED, cases());
 }
 
 #[test]
 fn wrong_cabinets_are_noticed() {
+    let calls = [
+        "place: ",
+        "cabinet step: ",
+        "take out: ",
+        "cabinet retime: ",
+    ];
     for fault in FAULTS {
-        match run_cases(&AsBoard(PlainCabinet(fault)), SEED, cases()) {
-            Ok(_) => panic!("{fault:?} is not noticed"),
-            Err(failure) => match failure.difference {
-                Difference::Call { what, .. } => {
-                    let calls = [
-                        "place: ",
-                        "cabinet step: ",
-                        "take out: ",
-                        "cabinet retime: ",
-                    ];
-                    let of_cabinet = calls.iter().any(|call| what.starts_with(call));
-                    assert!(of_cabinet, "{fault:?}: {what}");
-                }
-                Difference::Breach { breach, .. } => panic!("{fault:?}: {breach}"),
-            },
-        }
+        let board = AsBoard(PlainCabinet(fault));
+        assert_noticed(fault, &board, SEED, cases(), &calls);
     }
 }
 

@@ -2,7 +2,10 @@
 //! times written into their bytes, agrees with the model. Those that are wrong in one
 //! small thing are noticed.
 
-use compare::{run_cases, Difference, Kind};
+mod faults;
+
+use compare::Kind;
+use faults::{assert_agrees, assert_noticed, cases_of};
 use generate::time_fields;
 use model::packed::{number, Board, Model};
 use model::{fresh, layout, read, step, valid, Interval, Site, State, STATE_LEN};
@@ -476,7 +479,7 @@ impl Variant for Plain {
 const SEED: u64 = 12;
 
 /// The cases with retimings, and those with a fresh state, accepted and refused.
-fn cases() -> impl Iterator<Item = u64> {
+fn cases() -> Vec<u64> {
     let kinds = [
         Kind::Accepted,
         Kind::Damaged(5),
@@ -487,31 +490,19 @@ fn cases() -> impl Iterator<Item = u64> {
         Kind::BrokenTimes,
         Kind::RetimingWrongs,
     ];
-    (0..6_000).filter(move |&index| kinds.contains(&Kind::of(index)))
+    cases_of(&kinds, 6_000)
 }
 
 #[test]
 fn a_plain_controller_agrees() {
-    if let Err(failure) = run_cases(&AsBoard(Plain(Fault::None)), SEED, cases()) {
-        panic!("{failure}");
-    }
+    assert_agrees(&AsBoard(Plain(Fault::None)), SEED, cases());
 }
 
 #[test]
 fn wrong_controllers_are_noticed() {
+    let calls = ["fresh: ", "step: ", "retime: "];
     for fault in FAULTS {
-        match run_cases(&AsBoard(Plain(fault)), SEED, cases()) {
-            Ok(_) => panic!("{fault:?} is not noticed"),
-            Err(failure) => match failure.difference {
-                Difference::Call { what, .. } => {
-                    let calls = ["fresh: ", "step: ", "retime: "];
-                    assert!(
-                        calls.iter().any(|call| what.starts_with(call)),
-                        "{fault:?}: {what}"
-                    );
-                }
-                Difference::Breach { breach, .. } => panic!("{fault:?}: {breach}"),
-            },
-        }
+        let board = AsBoard(Plain(fault));
+        assert_noticed(fault, &board, SEED, cases(), &calls);
     }
 }

@@ -1,7 +1,10 @@
 //! A plain road over step calls agrees with the model, and roads that are wrong in
 //! one small thing are noticed.
 
-use compare::{run_cases, Difference, Kind};
+mod faults;
+
+use compare::Kind;
+use faults::{assert_agrees, assert_noticed, cases_of};
 use model::packed::{Board, Model};
 use model::{fresh, step_on, valid, Mark, Site, TimedState, STATE_LEN};
 use variant::{AsBoard, Variant};
@@ -297,34 +300,26 @@ impl Variant for PlainRoad {
 const SEED: u64 = 8;
 
 /// The cases with roads: enough that several are as long as they can be.
-fn cases() -> impl Iterator<Item = u64> {
+fn cases() -> Vec<u64> {
     let kinds = [
         Kind::Road,
         Kind::DamagedRoad,
         Kind::RoadBuffers,
         Kind::RoadWrongs,
     ];
-    (0..12_000).filter(move |&index| kinds.contains(&Kind::of(index)))
+    cases_of(&kinds, 12_000)
 }
 
 #[test]
 fn a_plain_road_agrees() {
-    if let Err(failure) = run_cases(&AsBoard(PlainRoad(Fault::None)), SEED, cases()) {
-        panic!("{failure}");
-    }
+    assert_agrees(&AsBoard(PlainRoad(Fault::None)), SEED, cases());
 }
 
 #[test]
 fn wrong_roads_are_noticed() {
+    let calls = ["road: "];
     for fault in FAULTS {
-        match run_cases(&AsBoard(PlainRoad(fault)), SEED, cases()) {
-            Ok(_) => panic!("{fault:?} is not noticed"),
-            Err(failure) => match failure.difference {
-                Difference::Call { what, .. } => {
-                    assert!(what.starts_with("road: "), "{fault:?}: {what}");
-                }
-                Difference::Breach { breach, .. } => panic!("{fault:?}: {breach}"),
-            },
-        }
+        let board = AsBoard(PlainRoad(fault));
+        assert_noticed(fault, &board, SEED, cases(), &calls);
     }
 }

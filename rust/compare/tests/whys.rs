@@ -1,7 +1,10 @@
 //! Plain lines, read off the bytes of a state, agree with the model's. Those that are
 //! wrong in one small thing are noticed.
 
-use compare::{run_cases, Difference, Kind};
+mod faults;
+
+use compare::Kind;
+use faults::{assert_agrees, assert_noticed, cases_of};
 use model::packed::{number, Board, Model};
 use model::{layout, valid, Interval, Site, TimedState, Times};
 use variant::{AsBoard, Variant};
@@ -400,30 +403,22 @@ impl Variant for Plain {
 const SEED: u64 = 13;
 
 /// The cases with lines.
-fn cases() -> impl Iterator<Item = u64> {
+fn cases() -> Vec<u64> {
     let kinds = [Kind::Damaged(5), Kind::WhyRun, Kind::Whys, Kind::WhyWrongs];
-    (0..5_000).filter(move |&index| kinds.contains(&Kind::of(index)))
+    cases_of(&kinds, 5_000)
 }
 
 #[test]
 fn plain_lines_agree() {
-    if let Err(failure) = run_cases(&AsBoard(Plain(Fault::None)), SEED, cases()) {
-        panic!("{failure}");
-    }
+    assert_agrees(&AsBoard(Plain(Fault::None)), SEED, cases());
 }
 
 #[test]
 fn wrong_lines_are_noticed() {
+    let calls = ["why"];
     for fault in FAULTS {
-        match run_cases(&AsBoard(Plain(fault)), SEED, cases()) {
-            Ok(_) => panic!("{fault:?} is not noticed"),
-            Err(failure) => match failure.difference {
-                Difference::Call { what, .. } => {
-                    assert!(what.starts_with("why"), "{fault:?}: {what}");
-                }
-                Difference::Breach { breach, .. } => panic!("{fault:?}: {breach}"),
-            },
-        }
+        let board = AsBoard(Plain(fault));
+        assert_noticed(fault, &board, SEED, cases(), &calls);
     }
 }
 

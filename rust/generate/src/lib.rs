@@ -1,6 +1,6 @@
 //! Random personalities of every shape, damaged ones, second ones with other times,
-//! states, inputs, the streams of a road and the records of a cabinet. All of it is
-//! decided by a seed.
+//! states, inputs, the streams of a road, the records of a cabinet, and sealed records
+//! good and damaged. All of it is decided by a seed.
 
 #![forbid(unsafe_code)]
 
@@ -10,6 +10,7 @@ mod inputs;
 mod plan;
 mod retimes;
 mod rng;
+mod seals;
 mod states;
 mod streams;
 mod timed;
@@ -20,6 +21,7 @@ pub use inputs::{any_inputs, known_inputs, unknown_inputs};
 pub use plan::{Pace, Plan, Shape, MODES};
 pub use retimes::{any_second, changed_beyond_times, refused_second, retimed, time_fields};
 pub use rng::Rng;
+pub use seals::{damaged_record, record_of, SealDamage};
 pub use states::{broken_state_bytes, invalid_state, running_state, valid_state, Breakage};
 pub use streams::{RoadDamage, RoadPlan};
 pub use timed::{

@@ -31,6 +31,12 @@ fn the_models_agree_on_every_vector() {
     let mut count = 0;
     while let Some(Vector { bytes, answer }) = take(&mut rest) {
         assert_eq!(packed::read(bytes), answer, "vector {count}: {bytes:02x?}");
+        // The second count of the site section, behind its head and the first count.
+        let groups = match answer {
+            0 => u64::from(bytes[5]) << 8,
+            refusal => refusal,
+        };
+        assert_eq!(packed::groups(bytes), groups, "vector {count}");
         count += 1;
     }
     assert!(rest.is_empty() && count > 1_000, "{count} vectors");

@@ -58,6 +58,8 @@ pub enum Breach {
     RefusalWrites { step: u64 },
     /// The bytes handed back are no state, or no longer the state of their site.
     NoState { step: u64 },
+    /// The state that a sealed record gives back is not the one that was sealed.
+    NotResumed { step: u64 },
     /// A call on one site of a cabinet changes another record or output.
     WritesBeside { step: u64 },
 }
@@ -129,6 +131,9 @@ impl fmt::Display for Breach {
             }
             Breach::RefusalWrites { step } => write!(f, "after step {step}: a refusal writes"),
             Breach::NoState { step } => write!(f, "step {step}: no state is handed back"),
+            Breach::NotResumed { step } => {
+                write!(f, "after step {step}: another state is resumed")
+            }
             Breach::WritesBeside { step } => {
                 write!(f, "after step {step}: a call writes beside its site")
             }

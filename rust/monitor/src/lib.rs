@@ -5,9 +5,9 @@
 //! stops early begins its clearance with early cut-off, the phases kept as demanded are
 //! those that are, and times rule from the start on that they waited for.
 //!
-//! [`Monitor`] is told of accepted calls; [`watch`] and [`watch_retimed`] drive a
-//! board with random or adversarial inputs and tell it, [`watch_cabinet`] the sites of
-//! a cabinet.
+//! [`Monitor`] is told of accepted calls; [`watch`] drives a board with random or
+//! adversarial inputs and tells it, [`watch_cabinet`] the sites of a cabinet. Retimings
+//! or times without power may be among the calls.
 
 #![forbid(unsafe_code)]
 
@@ -25,7 +25,7 @@ pub use breach::Breach;
 pub use cabinet::watch_cabinet;
 pub use demands::Demand;
 pub use drivers::{Driver, Strategy};
-pub use watching::{watch, watch_retimed, Report};
+pub use watching::{watch, Among, Report};
 
 use clearances::Clearances;
 use model::{Site, State, TimedState, Times};

@@ -3,7 +3,7 @@
 use crate::{Breach, Driver, Monitor, Seen};
 use generate::{any_second, unknown_inputs, Rng};
 use model::packed::{self, number, rest, Board};
-use model::{times_alone_differ, Number, Refusal, Site, TimedState, Times, STATE_LEN};
+use model::{times_alone_differ, Number, Refusal, Site, TimedState, Times, SEALED_LEN, STATE_LEN};
 
 /// What a run without a breach has shown.
 #[derive(Clone, Copy, Debug, Default, PartialEq, Eq)]
@@ -23,6 +23,8 @@ pub struct Report {
     /// Accepted retimings, and changes to the times that waited.
     pub retimings: u64,
     pub changes: u64,
+    /// Times without power.
+    pub power_downs: u64,
 }
 
 impl Report {
@@ -39,6 +41,7 @@ impl Report {
             bound: site.wait_bound().into(),
             retimings,
             changes: monitor.changes(),
+            power_downs: 0,
         }
     }
 
@@ -60,6 +63,7 @@ impl Report {
             bound: other.bound,
             retimings: self.retimings + other.retimings,
             changes: self.changes + other.changes,
+            power_downs: self.power_downs + other.power_downs,
         }
     }
 }
@@ -68,10 +72,24 @@ impl Report {
 const WRONG_CALLS: usize = 3;
 /// Of a hundred retimings so many are followed by another one at once.
 pub(crate) const TWO_IN_A_ROW: usize = 20;
+/// Of a hundred times without power so many also try a damaged record.
+const DAMAGED_RECORDS: usize = 30;
+
+/// What is among the steps of a run, besides wrong calls.
+#[derive(Clone, Copy, Debug, PartialEq, Eq)]
+pub enum Among {
+    Nothing,
+    /// Retimings, accepted and refused ones: in some runs many, in others few.
+    Retimings,
+    /// Times without power: the state is sealed, forgotten and resumed. Some of these
+    /// runs have retimings too.
+    PowerDowns,
+}
 
 /// Runs a board on a personality from its fresh state for so many calls, wrong
 /// calls among them. The outer error is a refused personality.
 pub fn watch(
+    among: Among,
     board: &dyn Board,
     personality: &[u8],
     driver: &mut Driver,
@@ -79,20 +97,14 @@ pub fn watch(
     calls: u64,
 ) -> Result<Result<Report, Breach>, Refusal> {
     let mut run = Run::new(board, personality)?;
-    Ok(run.go(driver, rng, calls))
-}
-
-/// The same with retimings among the calls, accepted and refused ones: in some runs
-/// many, in others few.
-pub fn watch_retimed(
-    board: &dyn Board,
-    personality: &[u8],
-    driver: &mut Driver,
-    rng: &mut Rng,
-    calls: u64,
-) -> Result<Result<Report, Breach>, Refusal> {
-    let mut run = Run::new(board, personality)?;
-    run.calls_a_retiming = Some(rng.pick(&[10, 60, 300, 1_000]));
+    match among {
+        Among::Nothing => {}
+        Among::Retimings => run.calls_a_retiming = Some(rng.pick(&[10, 60, 300, 1_000])),
+        Among::PowerDowns => {
+            run.calls_a_retiming = rng.pick(&[None, Some(10), Some(60), Some(300)]);
+            run.calls_a_power_down = Some(rng.pick(&[1, 10, 100]));
+        }
+    }
     Ok(run.go(driver, rng, calls))
 }
 
@@ -104,8 +116,11 @@ struct Run<'a> {
     state: [u8; STATE_LEN],
     refused: u64,
     retimings: u64,
+    power_downs: u64,
     /// One call of about so many is a retiming, if any is.
     calls_a_retiming: Option<usize>,
+    /// Before one call of about so many the power goes down, if ever.
+    calls_a_power_down: Option<usize>,
 }
 
 impl<'a> Run<'a> {
@@ -118,7 +133,9 @@ impl<'a> Run<'a> {
             state: [0; STATE_LEN],
             refused: 0,
             retimings: 0,
+            power_downs: 0,
             calls_a_retiming: None,
+            calls_a_power_down: None,
             site,
         })
     }
@@ -132,6 +149,11 @@ impl<'a> Run<'a> {
             return Err(Breach::WrongTimes { step: 0 });
         }
         for _ in 0..calls {
+            if let Some(calls) = self.calls_a_power_down {
+                if rng.below(calls) == 0 {
+                    self.power_down(rng)?;
+                }
+            }
             match self.calls_a_retiming {
                 Some(calls) if rng.below(calls) == 0 => self.retimings(rng)?,
                 _ if rng.percent(WRONG_CALLS) => self.wrong_call(rng)?,
@@ -139,7 +161,62 @@ impl<'a> Run<'a> {
             }
         }
         let (refused, retimings) = (self.refused, self.retimings);
-        Ok(Report::of(&self.monitor, refused, retimings, &self.site))
+        Ok(Report {
+            power_downs: self.power_downs,
+            ..Report::of(&self.monitor, refused, retimings, &self.site)
+        })
+    }
+
+    /// A time without power: nothing is left but the record, which gives back the state
+    /// as it was.
+    fn power_down(&mut self, rng: &mut Rng) -> Result<(), Breach> {
+        let before = self.state;
+        let mut sealed = [0xEE; SEALED_LEN];
+        let answer = self.board.seal(self.personality, &before, &mut sealed);
+        if answer != 0 {
+            return Err(self.wrong_answer(answer));
+        }
+        self.state.fill_with(|| rng.byte());
+        if rng.percent(DAMAGED_RECORDS) {
+            self.damaged_record(rng, sealed)?;
+        }
+        let answer = self
+            .board
+            .resume(self.personality, &sealed, &mut self.state);
+        if answer != 0 {
+            return Err(self.wrong_answer(answer));
+        }
+        if self.state != before {
+            let step = self.monitor.accepted();
+            return Err(Breach::NotResumed { step });
+        }
+        self.power_downs += 1;
+        Ok(())
+    }
+
+    /// A record with one bit turned over: it is refused, as one of another version if
+    /// the bit is in the first byte.
+    fn damaged_record(&mut self, rng: &mut Rng, sealed: [u8; SEALED_LEN]) -> Result<(), Breach> {
+        let mut damaged = sealed;
+        let anywhere = rng.below(SEALED_LEN);
+        let at = rng.pick(&[0, anywhere, anywhere]);
+        damaged[at] ^= 1 << rng.below(8);
+        let expected = match at {
+            0 => Number::OtherVersion,
+            _ => Number::Damaged,
+        };
+        let left = self.state;
+        let answer = self
+            .board
+            .resume(self.personality, &damaged, &mut self.state);
+        if answer != expected as u64 {
+            return Err(self.wrong_answer(answer));
+        }
+        if self.state != left {
+            return Err(self.refusal_writes());
+        }
+        self.refused += 1;
+        Ok(())
     }
 
     /// A call that is to be accepted.

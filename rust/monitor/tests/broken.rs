@@ -5,7 +5,7 @@ use model::packed::{self, number, Board, Model};
 use model::{
     layout, Edition, Interval, Mark, MovementState, Site, Stage, State, TimedState, MAX_AGE,
 };
-use monitor::{watch, Breach, Driver, Strategy};
+use monitor::{watch, Among, Breach, Driver, Strategy};
 use variant::{AsBoard, Variant};
 
 /// The model with its accepted steps spoilt.
@@ -52,9 +52,16 @@ fn breach_of(board: &dyn Board, plan: &Plan, strategy: Strategy, seed: u64) -> O
     let site = Site::read(&personality).unwrap();
     let mut driver = Driver::new(strategy, &site, Rng::new(seed));
     let mut rng = Rng::new(!seed);
-    watch(board, &personality, &mut driver, &mut rng, 3_000)
-        .unwrap()
-        .err()
+    watch(
+        Among::Nothing,
+        board,
+        &personality,
+        &mut driver,
+        &mut rng,
+        3_000,
+    )
+    .unwrap()
+    .err()
 }
 
 /// A site with overlaps, and with second clearances that may outlast the yellow.

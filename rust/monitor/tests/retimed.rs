@@ -1,26 +1,14 @@
 //! Runs with retimings among the calls: the model without a breach, controllers that
 //! handle new times wrongly, and the waits that changes allow.
 
-use generate::{Pace, Plan, Rng, Shape};
-use model::packed::{self, number, Board, Model};
-use model::{Interval, Number, Site, State, TimedState, Times};
-use monitor::{watch_retimed, Breach, Driver, Monitor, Report, Seen, Strategy};
-use variant::{AsBoard, Variant};
+mod runs;
 
-/// A retimed run of a board.
-fn watched(
-    board: &dyn Board,
-    plan: &Plan,
-    strategy: Strategy,
-    seed: u64,
-    calls: u64,
-) -> Result<Report, Breach> {
-    let personality = plan.bytes();
-    let site = Site::read(&personality).unwrap();
-    let mut driver = Driver::new(strategy, &site, Rng::new(seed));
-    let mut rng = Rng::new(!seed);
-    watch_retimed(board, &personality, &mut driver, &mut rng, calls).unwrap()
-}
+use generate::{Pace, Plan, Rng, Shape};
+use model::packed::{self, number, Model};
+use model::{Interval, Number, Site, State, TimedState, Times};
+use monitor::{Among, Breach, Monitor, Seen, Strategy};
+use runs::{first_breach, watched};
+use variant::{AsBoard, Variant};
 
 /// A site with short times, so that a run sees many changes.
 fn quick_site(rng: &mut Rng) -> Plan {
@@ -45,7 +33,7 @@ fn the_model_breaks_nothing() {
             _ => Plan::random(&mut rng),
         };
         for strategy in Strategy::ALL {
-            let report = watched(&Model, &plan, strategy, seed, 1_000)
+            let report = watched(Among::Retimings, &Model, &plan, strategy, seed, 1_000)
                 .unwrap_or_else(|breach| panic!("{strategy:?}, seed {seed}: {breach}\n{plan:?}"));
             retimings += report.retimings;
             changes += report.changes;
@@ -84,24 +72,9 @@ impl Variant for Odd {
     }
 }
 
-/// The first breach on some site under some strategy.
-fn first_breach(odd: Odd) -> Breach {
-    let board = AsBoard(odd);
-    let mut rng = Rng::new(7);
-    for seed in 0..30 {
-        let plan = quick_site(&mut rng);
-        for strategy in Strategy::ALL {
-            if let Err(breach) = watched(&board, &plan, strategy, seed, 3_000) {
-                return breach;
-            }
-        }
-    }
-    panic!("the monitor notices nothing");
-}
-
 macro_rules! assert_breach {
     ($board:expr, $breach:pat) => {
-        let breach = first_breach($board);
+        let breach = first_breach(Among::Retimings, &AsBoard($board), quick_site);
         assert!(matches!(breach, $breach), "{breach}");
     };
 }

@@ -3,7 +3,7 @@
 use generate::{Pace, Plan, Rng, Shape};
 use model::packed::Model;
 use model::Stage;
-use monitor::{watch, Driver, Report, Strategy};
+use monitor::{watch, Among, Driver, Report, Strategy};
 
 const SEED: u64 = 20_260_101;
 
@@ -13,6 +13,7 @@ fn watched(plan: &Plan, strategy: Strategy, seed: u64, calls: u64) -> Report {
     let site = model::Site::read(&personality).unwrap();
     let mut driver = Driver::new(strategy, &site, Rng::new(seed));
     let watched = watch(
+        Among::Nothing,
         &Model,
         &personality,
         &mut driver,

@@ -8,7 +8,7 @@ use model::{
     RECORDS, RECORD_LEN,
 };
 use monitor::{
-    watch, watch_cabinet, watch_retimed, Breach, Demand, Driver, Monitor, Report, Seen, Strategy,
+    watch, watch_cabinet, Among, Breach, Demand, Driver, Monitor, Report, Seen, Strategy,
 };
 use variant::{AsBoard, Variant};
 
@@ -107,9 +107,13 @@ fn watched(
     let personality = plan.bytes();
     let site = Site::read(&personality).unwrap();
     let mut driver = Driver::new(strategy, &site, Rng::new(seed));
-    let watch = if retimed { watch_retimed } else { watch };
+    let among = if retimed {
+        Among::Retimings
+    } else {
+        Among::Nothing
+    };
     let mut rng = Rng::new(!seed);
-    let watched = watch(board, &personality, &mut driver, &mut rng, 4_000);
+    let watched = watch(among, board, &personality, &mut driver, &mut rng, 4_000);
     watched.unwrap()
 }
 

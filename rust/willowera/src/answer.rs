@@ -1,17 +1,29 @@
 //! The packed answers of the library.
 
+use crate::refusal;
 use std::fmt;
 
-/// A refusal: its number, and the byte of the personality it is about.
+/// A refusal: its number, one of [`crate::refusal`], and the byte of the personality it
+/// is about.
 #[derive(Clone, Copy, Debug, PartialEq, Eq)]
 pub struct Refusal {
     pub number: u8,
     pub place: u64,
 }
 
+impl Refusal {
+    /// What the number means, without a full stop. It names no group and no phase: for
+    /// that see `willowera_explain` of include/willowera_words.h.
+    pub fn words(&self) -> &'static str {
+        refusal::words(self.number)
+    }
+}
+
+/// The number, the place and the words: `refused 12 68: bytes follow the last section`.
 impl fmt::Display for Refusal {
     fn fmt(&self, f: &mut fmt::Formatter<'_>) -> fmt::Result {
-        write!(f, "refused {} {}", self.number, self.place)
+        let Refusal { number, place } = self;
+        write!(f, "refused {number} {place}: {}", self.words())
     }
 }
 
@@ -80,7 +92,8 @@ mod tests {
     fn a_refusal_has_a_number_and_a_place() {
         let refusal = wait_bound_or_refusal(68 << 8 | 12).unwrap_err();
         assert_eq!((refusal.number, refusal.place), (12, 68));
-        assert_eq!(refusal.to_string(), "refused 12 68");
+        let words = "refused 12 68: bytes follow the last section";
+        assert_eq!(refusal.to_string(), words);
         let without_place = wait_bound_or_refusal(15).unwrap_err();
         assert_eq!((without_place.number, without_place.place), (15, 0));
     }

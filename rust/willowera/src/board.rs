@@ -1,7 +1,7 @@
 //! The calls of the library with their answers taken apart.
 
 use crate::answer::{part, sheet_settings, wait_bound_or_refusal, Refusal, Settings};
-use crate::{packed, STATE_LEN};
+use crate::{packed, Fields, SEALED_LEN, STATE_LEN, VERSION};
 
 /// Accepts or refuses a personality.
 pub fn read(personality: &[u8]) -> Result<(), Refusal> {
@@ -11,6 +11,11 @@ pub fn read(personality: &[u8]) -> Result<(), Refusal> {
 /// The longest wait of a demand in steps.
 pub fn wait_bound(personality: &[u8]) -> Result<u64, Refusal> {
     wait_bound_or_refusal(packed::wait_bound(personality))
+}
+
+/// The number of signal groups: a step writes as many colours.
+pub fn groups(personality: &[u8]) -> Result<usize, Refusal> {
+    wait_bound_or_refusal(packed::groups(personality)).map(|groups| groups as usize)
 }
 
 /// The body of the section of a kind, a part of the personality itself.
@@ -113,30 +118,116 @@ pub fn version() -> u32 {
     packed::version()
 }
 
+/// Whether the linked archive has the version of the interface that these wrappers are
+/// for. With another one the calls may have other arguments, and may touch memory that is
+/// not theirs: a program must not go on. A [`Controller`] checks it; a program that uses
+/// only a [`crate::Cabinet`] or [`crate::packed`] must check it once.
+pub fn version_fits() -> bool {
+    version() == VERSION
+}
+
 /// A controller running on one personality.
+///
+/// ```
+/// use willowera::{colour, interval, refusal, Controller};
+///
+/// let personality = std::fs::read("../../examples/two_phases/personality.bin").unwrap();
+/// let mut controller = Controller::new(&personality)?;
+/// let mut colours = vec![colour::RED; controller.groups()];
+/// for _ in 0..10 {
+///     controller.step(0, &mut colours)?;
+/// }
+/// assert_eq!(colours, [colour::GREEN, colour::RED]);
+/// assert_eq!(controller.fields().interval(), interval::MINIMUM_GREEN);
+///
+/// // Over the time without power.
+/// let sealed = controller.seal()?;
+/// let resumed = Controller::resume(&personality, &sealed)?;
+/// assert_eq!(resumed.state(), controller.state());
+///
+/// // The junction has two detectors: input bit 2 is stray, and nothing changes.
+/// let refused = controller.step(1 << 2, &mut colours).unwrap_err();
+/// assert_eq!(refused.number, refusal::STRAY_INPUT);
+/// # Ok::<(), willowera::Refusal>(())
+/// ```
 #[derive(Clone, Debug)]
 pub struct Controller<'a> {
     personality: &'a [u8],
+    groups: usize,
     state: [u8; STATE_LEN],
 }
 
 impl<'a> Controller<'a> {
     /// A controller in the fresh state, on a personality that is accepted.
+    ///
+    /// # Panics
+    ///
+    /// If the linked archive is of another version ([`version_fits`]).
     pub fn new(personality: &'a [u8]) -> Result<Controller<'a>, Refusal> {
-        let mut state = [0; STATE_LEN];
-        wait_bound_or_refusal(packed::fresh(personality, &mut state))?;
-        Ok(Controller { personality, state })
+        Controller::with(personality, |state| packed::fresh(personality, state))
     }
 
     /// A controller that goes on from the bytes of a state, on the personality that
     /// it ran on. Bytes that are no valid state there are refused with 13.
-    pub fn from_bytes(personality: &'a [u8], state: &[u8]) -> Result<Controller<'a>, Refusal> {
-        // A personality may be retimed with itself from every valid state. The copy
-        // that then waits is not kept.
-        let mut checked = state.to_vec();
-        wait_bound_or_refusal(packed::retime(personality, &mut checked, personality))?;
-        let state = state.try_into().expect("a valid state has this length");
-        Ok(Controller { personality, state })
+    ///
+    /// # Panics
+    ///
+    /// If the linked archive is of another version ([`version_fits`]).
+    pub fn from_state(personality: &'a [u8], state: &[u8]) -> Result<Controller<'a>, Refusal> {
+        Controller::with(personality, |own| {
+            // Without inputs this call refuses the personality or the state alone, and
+            // writes nothing.
+            let answer = packed::why_length(personality, state, 0);
+            if wait_bound_or_refusal(answer).is_ok() {
+                own.copy_from_slice(state);
+            }
+            answer
+        })
+    }
+
+    /// A controller that goes on from a record that [`Controller::seal`] wrote, on the
+    /// personality that it ran on. After 27, 28 or 29 start from the fresh state.
+    ///
+    /// # Panics
+    ///
+    /// If the linked archive is of another version ([`version_fits`]).
+    pub fn resume(personality: &'a [u8], sealed: &[u8]) -> Result<Controller<'a>, Refusal> {
+        Controller::with(personality, |state| {
+            packed::resume(personality, sealed, state)
+        })
+    }
+
+    /// A controller in the state that a call writes.
+    fn with(
+        personality: &'a [u8],
+        write: impl FnOnce(&mut [u8; STATE_LEN]) -> u64,
+    ) -> Result<Controller<'a>, Refusal> {
+        assert!(
+            version_fits(),
+            "the linked archive has version {} of the interface, and these wrappers are for {VERSION}",
+            version()
+        );
+        let mut state = [0; STATE_LEN];
+        wait_bound_or_refusal(write(&mut state))?;
+        Ok(Controller {
+            personality,
+            groups: groups(personality)?,
+            state,
+        })
+    }
+
+    /// The number of signal groups: a step writes as many colours.
+    pub fn groups(&self) -> usize {
+        self.groups
+    }
+
+    /// Seals the state for the time without power: a record for [`Controller::resume`].
+    /// The library refuses it for a wrong personality or state only, which a controller
+    /// does not have.
+    pub fn seal(&self) -> Result<[u8; SEALED_LEN], Refusal> {
+        let mut sealed = [0; SEALED_LEN];
+        let answer = packed::seal(self.personality, &self.state, &mut sealed);
+        wait_bound_or_refusal(answer).map(|_| sealed)
     }
 
     /// One step of 0.1 s: the colours of the groups are written, and the wait
@@ -170,5 +261,10 @@ impl<'a> Controller<'a> {
     /// The bytes of the state.
     pub fn state(&self) -> &[u8; STATE_LEN] {
         &self.state
+    }
+
+    /// The fields of the state.
+    pub fn fields(&self) -> Fields<'_> {
+        Fields::of(&self.state)
     }
 }

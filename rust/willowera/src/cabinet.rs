@@ -2,7 +2,7 @@
 
 use crate::answer::{wait_bound_or_refusal, Refusal};
 use crate::board::{line_length, line_of};
-use crate::{packed, RECORD_LEN, ROW_LEN, STATE_LEN};
+use crate::{packed, refusal, Fields, RECORD_LEN, ROW_LEN, STATE_LEN};
 use std::ops::Range;
 
 /// A cabinet of [`crate::RECORDS`] records, each free or with a site. The outputs
@@ -82,6 +82,14 @@ impl Cabinet {
         wait_bound_or_refusal(answer).map(|_| ())
     }
 
+    /// The fields of the state of a record. A record that is free, or that the cabinet
+    /// lacks, is refused with 24 as in a step.
+    pub fn fields(&self, record: usize) -> Result<Fields<'_>, Refusal> {
+        let (_, state) = parts_in(&self.row, record).ok_or(NO_SITE)?;
+        let state = self.row[state].try_into();
+        Ok(Fields::of(state.expect("a record has room for a state")))
+    }
+
     /// The bytes of the row.
     pub fn row(&self) -> &[u8; ROW_LEN] {
         &self.row
@@ -89,7 +97,7 @@ impl Cabinet {
 }
 
 const NO_SITE: Refusal = Refusal {
-    number: 24,
+    number: refusal::WRONG_RECORD,
     place: 0,
 };
 

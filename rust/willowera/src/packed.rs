@@ -3,101 +3,102 @@
 //! refusal; the rest is the wait bound, the length of a line or the place.
 
 mod ffi {
+    // A length, a record and a first output have 64 bits on every target.
     unsafe extern "C" {
-        pub fn willowera_read(personality: *const u8, personality_len: usize) -> u64;
-        pub fn willowera_wait_bound(personality: *const u8, personality_len: usize) -> u64;
+        pub fn willowera_read(personality: *const u8, personality_len: u64) -> u64;
+        pub fn willowera_wait_bound(personality: *const u8, personality_len: u64) -> u64;
         pub fn willowera_fresh(
             personality: *const u8,
-            personality_len: usize,
+            personality_len: u64,
             state: *mut u8,
-            state_len: usize,
+            state_len: u64,
         ) -> u64;
         pub fn willowera_step(
             personality: *const u8,
-            personality_len: usize,
+            personality_len: u64,
             state: *mut u8,
-            state_len: usize,
+            state_len: u64,
             inputs: u64,
             colours: *mut u8,
-            colours_len: usize,
+            colours_len: u64,
         ) -> u64;
         pub fn willowera_retime(
             personality: *const u8,
-            personality_len: usize,
+            personality_len: u64,
             state: *mut u8,
-            state_len: usize,
+            state_len: u64,
             new_personality: *const u8,
-            new_personality_len: usize,
+            new_personality_len: u64,
         ) -> u64;
-        pub fn willowera_section(personality: *const u8, personality_len: usize, kind: u16) -> u64;
-        pub fn willowera_groups(personality: *const u8, personality_len: usize) -> u64;
+        pub fn willowera_section(personality: *const u8, personality_len: u64, kind: u16) -> u64;
+        pub fn willowera_groups(personality: *const u8, personality_len: u64) -> u64;
         pub fn willowera_seal(
             personality: *const u8,
-            personality_len: usize,
+            personality_len: u64,
             state: *const u8,
-            state_len: usize,
+            state_len: u64,
             sealed: *mut u8,
-            sealed_len: usize,
+            sealed_len: u64,
         ) -> u64;
         pub fn willowera_resume(
             personality: *const u8,
-            personality_len: usize,
+            personality_len: u64,
             sealed: *const u8,
-            sealed_len: usize,
+            sealed_len: u64,
             state: *mut u8,
-            state_len: usize,
+            state_len: u64,
         ) -> u64;
         pub fn willowera_why_length(
             personality: *const u8,
-            personality_len: usize,
+            personality_len: u64,
             state: *const u8,
-            state_len: usize,
+            state_len: u64,
             inputs: u64,
         ) -> u64;
         pub fn willowera_why(
             personality: *const u8,
-            personality_len: usize,
+            personality_len: u64,
             state: *const u8,
-            state_len: usize,
+            state_len: u64,
             inputs: u64,
             line: *mut u8,
-            line_len: usize,
+            line_len: u64,
         ) -> u64;
         pub fn willowera_road(
             personality: *const u8,
-            personality_len: usize,
+            personality_len: u64,
             streams: *const u8,
-            streams_len: usize,
+            streams_len: u64,
             steps: u32,
             state: *mut u8,
-            state_len: usize,
+            state_len: u64,
             results: *mut u8,
-            results_len: usize,
+            results_len: u64,
         ) -> u64;
         pub fn willowera_cabinet_place(
             row: *mut u8,
-            row_len: usize,
-            record: usize,
+            row_len: u64,
+            record: u64,
             personality: *const u8,
-            personality_len: usize,
-            first: usize,
+            personality_len: u64,
+            first: u64,
             outputs: *mut u8,
-            outputs_len: usize,
+            outputs_len: u64,
         ) -> u64;
         pub fn willowera_cabinet_step(
             row: *mut u8,
-            row_len: usize,
-            record: usize,
+            row_len: u64,
+            record: u64,
             inputs: u64,
             outputs: *mut u8,
-            outputs_len: usize,
+            outputs_len: u64,
         ) -> u64;
         pub fn willowera_cabinet_take_out(
             row: *mut u8,
-            row_len: usize,
-            record: usize,
+            row_len: u64,
+            record: u64,
             outputs: *mut u8,
-            outputs_len: usize,
+            outputs_len: u64,
         ) -> u64;
         pub fn willowera_settings(speed: u32, detector: u32, metres: f64) -> u64;
         pub fn willowera_yellow(speed: u32, grade: i32) -> u64;
@@ -108,13 +109,13 @@ mod ffi {
 /// Reads a personality.
 pub fn read(personality: &[u8]) -> u64 {
     // SAFETY: the pointer and the length are those of one slice, only read.
-    unsafe { ffi::willowera_read(personality.as_ptr(), personality.len()) }
+    unsafe { ffi::willowera_read(personality.as_ptr(), personality.len() as u64) }
 }
 
 /// The wait bound of a personality.
 pub fn wait_bound(personality: &[u8]) -> u64 {
     // SAFETY: the pointer and the length are those of one slice, only read.
-    unsafe { ffi::willowera_wait_bound(personality.as_ptr(), personality.len()) }
+    unsafe { ffi::willowera_wait_bound(personality.as_ptr(), personality.len() as u64) }
 }
 
 /// Writes the fresh state of a personality into a buffer of [`crate::STATE_LEN`]
@@ -125,9 +126,9 @@ pub fn fresh(personality: &[u8], state: &mut [u8]) -> u64 {
     unsafe {
         ffi::willowera_fresh(
             personality.as_ptr(),
-            personality.len(),
+            personality.len() as u64,
             state.as_mut_ptr(),
-            state.len(),
+            state.len() as u64,
         )
     }
 }
@@ -139,12 +140,12 @@ pub fn step(personality: &[u8], state: &mut [u8], inputs: u64, colours: &mut [u8
     unsafe {
         ffi::willowera_step(
             personality.as_ptr(),
-            personality.len(),
+            personality.len() as u64,
             state.as_mut_ptr(),
-            state.len(),
+            state.len() as u64,
             inputs,
             colours.as_mut_ptr(),
-            colours.len(),
+            colours.len() as u64,
         )
     }
 }
@@ -157,11 +158,11 @@ pub fn retime(personality: &[u8], state: &mut [u8], new_personality: &[u8]) -> u
     unsafe {
         ffi::willowera_retime(
             personality.as_ptr(),
-            personality.len(),
+            personality.len() as u64,
             state.as_mut_ptr(),
-            state.len(),
+            state.len() as u64,
             new_personality.as_ptr(),
-            new_personality.len(),
+            new_personality.len() as u64,
         )
     }
 }
@@ -170,28 +171,28 @@ pub fn retime(personality: &[u8], state: &mut [u8], new_personality: &[u8]) -> u
 /// bits 40 to 63.
 pub fn section(personality: &[u8], kind: u16) -> u64 {
     // SAFETY: the pointer and the length are those of one slice, only read.
-    unsafe { ffi::willowera_section(personality.as_ptr(), personality.len(), kind) }
+    unsafe { ffi::willowera_section(personality.as_ptr(), personality.len() as u64, kind) }
 }
 
 /// The number of signal groups of a personality.
 pub fn groups(personality: &[u8]) -> u64 {
     // SAFETY: the pointer and the length are those of one slice, only read.
-    unsafe { ffi::willowera_groups(personality.as_ptr(), personality.len()) }
+    unsafe { ffi::willowera_groups(personality.as_ptr(), personality.len() as u64) }
 }
 
-/// Seals a state for the time without power: writes a record into a buffer of exactly
-/// 347 bytes, unless it is refused.
+/// Seals a state for the time without power: writes a record into a buffer of
+/// [`crate::SEALED_LEN`] bytes, unless it is refused.
 pub fn seal(personality: &[u8], state: &[u8], sealed: &mut [u8]) -> u64 {
     // SAFETY: each pointer and length are those of one slice; the one lent for
     // writing overlaps neither of the two that are only read.
     unsafe {
         ffi::willowera_seal(
             personality.as_ptr(),
-            personality.len(),
+            personality.len() as u64,
             state.as_ptr(),
-            state.len(),
+            state.len() as u64,
             sealed.as_mut_ptr(),
-            sealed.len(),
+            sealed.len() as u64,
         )
     }
 }
@@ -203,11 +204,11 @@ pub fn resume(personality: &[u8], sealed: &[u8], state: &mut [u8]) -> u64 {
     unsafe {
         ffi::willowera_resume(
             personality.as_ptr(),
-            personality.len(),
+            personality.len() as u64,
             sealed.as_ptr(),
-            sealed.len(),
+            sealed.len() as u64,
             state.as_mut_ptr(),
-            state.len(),
+            state.len() as u64,
         )
     }
 }
@@ -218,9 +219,9 @@ pub fn why_length(personality: &[u8], state: &[u8], inputs: u64) -> u64 {
     unsafe {
         ffi::willowera_why_length(
             personality.as_ptr(),
-            personality.len(),
+            personality.len() as u64,
             state.as_ptr(),
-            state.len(),
+            state.len() as u64,
             inputs,
         )
     }
@@ -234,12 +235,12 @@ pub fn why(personality: &[u8], state: &[u8], inputs: u64, line: &mut [u8]) -> u6
     unsafe {
         ffi::willowera_why(
             personality.as_ptr(),
-            personality.len(),
+            personality.len() as u64,
             state.as_ptr(),
-            state.len(),
+            state.len() as u64,
             inputs,
             line.as_mut_ptr(),
-            line.len(),
+            line.len() as u64,
         )
     }
 }
@@ -258,14 +259,14 @@ pub fn road(
     unsafe {
         ffi::willowera_road(
             personality.as_ptr(),
-            personality.len(),
+            personality.len() as u64,
             streams.as_ptr(),
-            streams.len(),
+            streams.len() as u64,
             steps,
             state.as_mut_ptr(),
-            state.len(),
+            state.len() as u64,
             results.as_mut_ptr(),
-            results.len(),
+            results.len() as u64,
         )
     }
 }
@@ -284,13 +285,13 @@ pub fn cabinet_place(
     unsafe {
         ffi::willowera_cabinet_place(
             row.as_mut_ptr(),
-            row.len(),
-            record,
+            row.len() as u64,
+            record as u64,
             personality.as_ptr(),
-            personality.len(),
-            first,
+            personality.len() as u64,
+            first as u64,
             outputs.as_mut_ptr(),
-            outputs.len(),
+            outputs.len() as u64,
         )
     }
 }
@@ -303,11 +304,11 @@ pub fn cabinet_step(row: &mut [u8], record: usize, inputs: u64, outputs: &mut [u
     unsafe {
         ffi::willowera_cabinet_step(
             row.as_mut_ptr(),
-            row.len(),
-            record,
+            row.len() as u64,
+            record as u64,
             inputs,
             outputs.as_mut_ptr(),
-            outputs.len(),
+            outputs.len() as u64,
         )
     }
 }
@@ -319,10 +320,10 @@ pub fn cabinet_take_out(row: &mut [u8], record: usize, outputs: &mut [u8]) -> u6
     unsafe {
         ffi::willowera_cabinet_take_out(
             row.as_mut_ptr(),
-            row.len(),
-            record,
+            row.len() as u64,
+            record as u64,
             outputs.as_mut_ptr(),
-            outputs.len(),
+            outputs.len() as u64,
         )
     }
 }

@@ -3,7 +3,8 @@
 #![cfg(feature = "linked")]
 
 use willowera::{
-    packed, read, section, version, wait_bound, Controller, Refusal, STATE_LEN, VERSION,
+    colour, interval, packed, read, refusal, section, stage, version, version_fits, wait_bound,
+    Controller, Movement, Refusal, SEALED_LEN, STATE_LEN, VERSION,
 };
 
 /// The junction of two phases of document 01.
@@ -28,6 +29,20 @@ fn reads_and_waits() {
     assert_eq!(read(&JUNCTION[..66]), Err(cut));
     assert_eq!(wait_bound(&JUNCTION[..66]), Err(cut));
     assert_eq!(version(), VERSION);
+    assert!(version_fits());
+}
+
+#[test]
+fn groups_of_a_personality() {
+    use willowera::groups;
+    assert_eq!(groups(&JUNCTION), Ok(2));
+    assert_eq!(Controller::new(&JUNCTION).unwrap().groups(), 2);
+    let left_over = Refusal {
+        number: refusal::LEFT_OVER,
+        place: 68,
+    };
+    let longer: Vec<u8> = JUNCTION.iter().copied().chain([0]).collect();
+    assert_eq!(groups(&longer), Err(left_over));
 }
 
 #[test]
@@ -226,7 +241,7 @@ fn a_controller_from_the_bytes_of_a_state() {
     let mut controller = Controller::new(&JUNCTION).unwrap();
     controller.retime(&longer()).unwrap();
     let mut stored = *controller.state();
-    let mut again = Controller::from_bytes(&JUNCTION, &stored).unwrap();
+    let mut again = Controller::from_state(&JUNCTION, &stored).unwrap();
     assert_eq!(again.state(), controller.state());
     for _ in 0..30 {
         let (mut one, mut other) = ([9; 2], [9; 2]);
@@ -234,13 +249,156 @@ fn a_controller_from_the_bytes_of_a_state() {
         assert_eq!((again.state(), one), (controller.state(), other));
     }
     let number = |personality: &[u8], state: &[u8]| {
-        let refused = Controller::from_bytes(personality, state);
+        let refused = Controller::from_state(personality, state);
         refused.unwrap_err().number
     };
     assert_eq!(number(&JUNCTION, &stored[1..]), 13);
     assert_eq!(number(&[], &stored), 1);
     stored[187] = 2;
     assert_eq!(number(&JUNCTION, &stored), 13);
+}
+
+#[test]
+fn every_call_agrees_on_which_states_are_valid() {
+    let mut controller = Controller::new(&JUNCTION).unwrap();
+    for step in 1..=40 {
+        let called = if step == 12 { 2 } else { 0 };
+        controller.step(called, &mut [0; 2]).unwrap();
+    }
+    let mut refused = 0;
+    for at in 0..STATE_LEN {
+        for change in [1, 2, 128] {
+            let mut state = *controller.state();
+            state[at] ^= change;
+            let from_state = Controller::from_state(&JUNCTION, &state);
+            let sealed = packed::seal(&JUNCTION, &state, &mut [0; SEALED_LEN]);
+            let stepped = packed::step(&JUNCTION, &mut state.clone(), 0, &mut [0; 2]);
+            let number = from_state.map_or_else(|refusal| refusal.number, |_| 0);
+            assert_eq!(u64::from(number), sealed, "{at} {change}");
+            assert_eq!(number, stepped as u8, "{at} {change}");
+            refused += u32::from(number == refusal::STATE_NOT_VALID);
+        }
+    }
+    assert!(refused > 0);
+}
+
+#[test]
+fn over_the_time_without_power() {
+    let mut controller = Controller::new(&JUNCTION).unwrap();
+    controller.retime(&longer()).unwrap();
+    for _ in 0..5 {
+        controller.step(2, &mut [0; 2]).unwrap();
+    }
+    let sealed = controller.seal().unwrap();
+    assert_eq!(sealed[..3], [VERSION as u8, JUNCTION.len() as u8, 0]);
+    assert_eq!(sealed[7..343], *controller.state());
+    let mut resumed = Controller::resume(&JUNCTION, &sealed).unwrap();
+    assert_eq!(resumed.groups(), 2);
+    for _ in 0..200 {
+        let (mut one, mut other) = ([9; 2], [9; 2]);
+        assert_eq!(resumed.step(1, &mut one), controller.step(1, &mut other));
+        assert_eq!((resumed.state(), one), (controller.state(), other));
+    }
+}
+
+#[test]
+fn sealed_records_refused() {
+    let controller = Controller::new(&JUNCTION).unwrap();
+    let sealed = controller.seal().unwrap();
+    let number = |personality: &[u8], sealed: &[u8]| {
+        let refused = Controller::resume(personality, sealed).unwrap_err();
+        assert_eq!(
+            (refused.place, refused.number == 1),
+            (0, personality.is_empty())
+        );
+        refused.number
+    };
+    let mut older = sealed;
+    older[0] -= 1;
+    assert_eq!(number(&JUNCTION, &older), refusal::OTHER_VERSION);
+    for at in 1..SEALED_LEN {
+        let mut damaged = sealed;
+        damaged[at] ^= 16;
+        assert_eq!(number(&JUNCTION, &damaged), refusal::DAMAGED, "{at}");
+    }
+    assert_eq!(number(&JUNCTION, &sealed[..346]), refusal::DAMAGED);
+    assert_eq!(number(&JUNCTION, &[]), refusal::DAMAGED);
+    assert_eq!(number(&longer(), &sealed), refusal::OTHER_PERSONALITY);
+    assert_eq!(number(&[], &sealed), refusal::CUT_SHORT);
+    let (mut state, mut short) = (*controller.state(), [9; SEALED_LEN - 1]);
+    assert_eq!(packed::seal(&JUNCTION, &state, &mut short), 14);
+    assert_eq!(short, [9; SEALED_LEN - 1]);
+    assert_eq!(packed::resume(&JUNCTION, &sealed, &mut state[1..]), 13);
+    assert_eq!(packed::seal(&JUNCTION, &state[1..], &mut short), 13);
+}
+
+#[test]
+fn fields_of_a_state() {
+    let mut controller = Controller::new(&JUNCTION).unwrap();
+    let idle = Movement {
+        stage: stage::IDLE,
+        age: 1,
+    };
+    for step in 1..=31 {
+        let inputs = match step {
+            12 => 2,
+            30.. => 1,
+            _ => 0,
+        };
+        controller.step(inputs, &mut [0; 2]).unwrap();
+        let fields = controller.fields();
+        assert_eq!((fields.phase(), fields.came_from()), (0, None));
+        assert_eq!(fields.locked_demands(), if step < 12 { 0 } else { 2 });
+        assert_eq!(fields.kept_set(), fields.locked_demands());
+        assert_eq!(fields.button_demands(), 0);
+        assert_eq!(fields.movements(), [idle; 8]);
+        let (kind, first) = match step {
+            ..10 => (interval::START_RED, 0),
+            10..30 => (interval::MINIMUM_GREEN, 10),
+            _ => (interval::RUNNING, 30),
+        };
+        let age = if first == 0 {
+            step + 1
+        } else {
+            step - first + 1
+        };
+        assert_eq!((fields.interval(), fields.age()), (kind, age), "{step}");
+    }
+    // Detector 0 set the gap count in this step, and phase B is demanded.
+    assert_eq!(controller.fields().gap_count(), 5);
+    assert_eq!(controller.fields().maximum_count(), 1);
+    assert_eq!(controller.fields().target(), None);
+    assert!(!controller.fields().times_wait());
+    controller.retime(&longer()).unwrap();
+    assert!(controller.fields().times_wait());
+    while controller.fields().interval() == interval::RUNNING {
+        controller.step(0, &mut [0; 2]).unwrap();
+    }
+    let fields = controller.fields();
+    assert_eq!((fields.phase(), fields.target()), (0, Some(1)));
+    while controller.fields().phase() == 0 {
+        controller.step(0, &mut [0; 2]).unwrap();
+    }
+    assert_eq!(controller.fields().came_from(), Some(0));
+    assert!(!controller.fields().times_wait());
+}
+
+#[test]
+fn fields_of_a_site_of_a_cabinet() {
+    use willowera::{Cabinet, OUTPUTS};
+    let mut cabinet = Cabinet::new();
+    let mut outputs = [0; OUTPUTS];
+    cabinet.place(1, &JUNCTION, 4, &mut outputs).unwrap();
+    for _ in 0..10 {
+        cabinet.step(1, 0, &mut outputs).unwrap();
+    }
+    let fields = cabinet.fields(1).unwrap();
+    assert_eq!(fields.interval(), interval::MINIMUM_GREEN);
+    assert_eq!(outputs[4..6], [colour::GREEN, colour::RED]);
+    for record in [0, 4] {
+        let refused = cabinet.fields(record).unwrap_err();
+        assert_eq!(refused.number, refusal::WRONG_RECORD);
+    }
 }
 
 #[test]

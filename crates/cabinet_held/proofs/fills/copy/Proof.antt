@@ -1,9 +1,7 @@
 -- `cabinet_held::fills::copy` meets its contract: the bytes are stored from the start of the buffer on.
 use mathlib.Core.Path.{_∙_}
-use native.Mathlib.Omega.{arith}
-use lib.ListN.{length}
-use lib.Seq.{sets-eq}
 use borrow.Author.Needs.{needs}
+use Rattle.cabinet_held.proofs.Bytes.{copied}
 use Rattle.cabinet_held.proofs.fills.copy.Statement.{statement}
 use Rattle.cabinet_held.proofs.fills.copy.Tie as tie
 
@@ -15,8 +13,9 @@ same-length c = search needs
 
 returns : tie.Need-returns
 returns c =
-    let a = c .before .before .args in
-    c .put-all .ensures ∙ sets-eq (a .from .now) (a .to .now) 0 (omega arith)
+    let made = c .before .before in
+    let start = made .before .before .before .before in
+    made .put-all .ensures ∙ copied (start .args .from .now) (start .args .to .now) (start .pre)
 
 pub copy-spec : {M : Type 1} → statement M
 copy-spec = tie.close (tie.spec put-all-requires same-length returns)
