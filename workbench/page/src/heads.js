@@ -5,6 +5,8 @@
 const HEAD = { width: 22, height: 54 };
 const WALKER = { width: 22, height: 40 };
 
+const sizeOf = group => group.mark === "pedestrian" ? WALKER : HEAD;
+
 /** The style goes into the picture itself, so that a saved picture has it too. */
 const PICTURE_STYLE = `
   text { font: 10px var(--sans); fill: var(--ink); }
@@ -17,12 +19,15 @@ const PICTURE_STYLE = `
   [data-colour=Y] .yellow .lamp { fill: var(--yellow); }
   [data-colour=G] .green .lamp { fill: var(--green); }
   [data-colour=R] .red .sign, [data-colour=F] .red .sign, [data-colour=Y] .yellow .sign, [data-colour=G] .green .sign { visibility: visible; }
-  .figure { fill: none; stroke: #555c66; stroke-width: 1.8; stroke-linecap: round; stroke-linejoin: round; }
-  [data-colour=R] .red .figure, [data-colour=F] .red .figure { stroke: #fff; }
-  [data-colour=G] .green .figure { stroke: #111; }
+  .figure { color: #626b76; fill: currentColor; }
+  .limbs { fill: none; stroke: currentColor; stroke-width: 1.9; stroke-linecap: round; stroke-linejoin: round; }
+  [data-colour=R] .red .figure, [data-colour=F] .red .figure { color: #fff; }
+  [data-colour=G] .green .figure { color: #111; }
+  .flashing { visibility: hidden; font: 700 10px var(--sans); text-anchor: middle; fill: #fff; }
+  [data-colour=F] .flashing { visibility: visible; } [data-colour=F] .green .figure { visibility: hidden; }
   [data-colour=F] .red { animation: flash 1s steps(2, jump-none) infinite; }
   @keyframes flash { from { opacity: 1; } to { opacity: .25; } }
-  @media (prefers-reduced-motion: reduce) { [data-colour=F] .red { animation: none; stroke: #fff; stroke-dasharray: 3 2; } }
+  @media (prefers-reduced-motion: reduce) { [data-colour=F] .red { animation: none; } }
   .input { cursor: pointer; outline: none; }
   .input rect, .input circle { fill: var(--panel); stroke: var(--faint); stroke-width: 1.2; }
   .input text { text-anchor: middle; font-size: 9px; font-weight: 600; }
@@ -35,18 +40,19 @@ const PICTURE_STYLE = `
 `;
 
 const ARROW_SIGNS = { left: "↰", straight: "↑", right: "↱", "u-turn": "↶" };
-const arrowsOf = group => group.arrows.map(arrow => ARROW_SIGNS[arrow]).join("");
+const arrowsOf = group => group.arrows.length > 0 ? " " + group.arrows.map(arrow => ARROW_SIGNS[arrow]).join("") : "";
 
 /** A lamp with its letter: colours are told apart by place and letter too. */
 const lamp = (colour, letter, x, y) =>
   `<g class="${colour}"><circle class="lamp" cx="${x}" cy="${y}" r="7"/><text class="sign" x="${x}" y="${y + 3.6}">${letter}</text></g>`;
 
-const STANDING = "M0,-3.4 V2.2 M-1.5,6.6 V1.5 M1.5,6.6 V1.5 M-2.8,2 V-2.6 H2.8 V2";
-const WALKING = "M0,-3.2 V1.4 L-3,6.4 M0,1.4 L2.8,6.4 M-3.2,1.4 L0,-2.2 L3.4,0.6";
+const HEAD_OF_FIGURE = `<circle cy="-5.6" r="1.7"/>`;
+const STANDING = `${HEAD_OF_FIGURE}<path d="M-2.6,-3 h5.2 v5 h-0.9 v5 h-1.4 v-4.4 h-0.6 v4.4 h-1.4 v-5 h-0.9 Z"/>`;
+const WALKING = `${HEAD_OF_FIGURE}<path class="limbs" d="M0,-2.6 L-0.4,1.6 L-3,6.6 M-0.4,1.6 L1.8,3.6 L2.6,6.6 M-3.4,1 L0,-2.4 L3.2,0.6"/>`;
 
 /** A lamp of a pedestrian head: a standing or a walking figure. */
-const walkerLamp = (colour, figure, x, y) => `<g class="${colour}"><rect class="lamp" x="${x - 8}" y="${y - 8}" width="16" height="16" rx="3"/>` +
-  `<g class="figure" transform="translate(${x} ${y})"><circle cy="-5.2" r="0.9"/><path d="${figure}"/></g></g>`;
+const walkerLamp = (colour, figure, x, y) => `<g class="${colour}"><rect class="lamp" x="${x - 8.5}" y="${y - 8.5}" width="17" height="17" rx="3"/>` +
+  `<g class="figure" transform="translate(${x} ${y})">${figure}</g></g>`;
 
 function titleOf(group) {
   const label = group.label ? `: ${group.label}` : "";
@@ -55,11 +61,10 @@ function titleOf(group) {
 
 /** The head of a group with its top left corner at a place. Its name is below it. */
 function headOf(group, at, x, y) {
-  const walker = group.mark === "pedestrian";
-  const { width, height } = walker ? WALKER : HEAD;
+  const { width, height } = sizeOf(group);
   const middle = width / 2;
-  const lamps = walker
-    ? walkerLamp("red", STANDING, middle, 11) + walkerLamp("green", WALKING, middle, 29)
+  const lamps = group.mark === "pedestrian"
+    ? walkerLamp("red", STANDING, middle, 11) + walkerLamp("green", WALKING, middle, 29) + `<text class="flashing" x="${middle}" y="32.6">F</text>`
     : lamp("red", "R", middle, 10) + lamp("yellow", "Y", middle, 27) + lamp("green", "G", middle, 44);
   return `<g data-group="${at}" data-colour="R" transform="translate(${x} ${y})"><title>${escaped(titleOf(group))}</title>` +
     `<rect class="box" width="${width}" height="${height}" rx="5"/>${lamps}` +

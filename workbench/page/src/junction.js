@@ -20,20 +20,30 @@ function bearingOf(site, thing) {
 // ── The grid ──
 
 const COLUMN_GAP = 8;
+const COLUMN_WIDTHS = [56, 84, 121, 158, 195];
+const GRID_HEIGHTS = [120, 150, 180, 210, 240, 280, 320, 380, 440, 520];
 
-/** A column for each phase: the heads, detectors and buttons that belong to it. */
+/** A column for each phase, with the heads, detectors and buttons that belong to it: the grid that can be drawn largest. */
 function gridOf(site, room) {
-  const count = site.phases.length;
-  const columns = site.phases.map(phase => columnOf(site, phase.letter));
-  const width = Math.max(118, Math.min(210, (room.width - COLUMN_GAP * (count - 1)) / count));
-  const drawn = columns.map((column, at) => drawColumn(site, site.phases[at], column, width));
+  const columns = site.phases.map(phase => COLUMN_WIDTHS.map(width => drawColumn(phase, columnOf(site, phase.letter), width)));
   const rest = columnOf(site, "-");
-  if (rest.groups.length > 0) drawn.push(drawColumn(site, { letter: "–", label: "no phase" }, rest, width));
-  const height = Math.max(...drawn.map(column => column.height));
-  const body = drawn.map((column, at) =>
-    `<g transform="translate(${at * (width + COLUMN_GAP)} 0)"><rect class="column" data-phase="${at}" x=".5" y=".5" width="${width - 1}" height="${height - 1}" rx="6"/>${column.body}</g>`);
+  if (rest.groups.length > 0) columns.push(COLUMN_WIDTHS.map(width => drawColumn({ letter: "–", label: "no phase" }, rest, width)));
+  const grids = GRID_HEIGHTS.map(height => columns.map(drawn => drawn.find(column => column.height <= height) ?? drawn.at(-1)));
+  const widthOf = grid => grid.reduce((sum, column) => sum + column.width + COLUMN_GAP, -COLUMN_GAP);
+  const heightOf = grid => Math.max(...grid.map(column => column.height));
+  const scaleOf = grid => Math.min(2, room.width / widthOf(grid), room.height / heightOf(grid));
+  const best = grids.reduce((best, grid) => scaleOf(grid) > scaleOf(best) ? grid : best);
+  return { ...besideEachOther(best, heightOf(best)), left: 0, top: 0, width: widthOf(best), height: heightOf(best) };
+}
+
+function besideEachOther(columns, height) {
+  let left = 0;
+  const body = columns.map(({ body, width }, at) => {
+    left += width + COLUMN_GAP;
+    return `<g transform="translate(${left - width - COLUMN_GAP} 0)"><rect class="column" data-phase="${at}" x="1" y="1" width="${width - 2}" height="${height - 2}" rx="6"/>${body}</g>`;
+  });
   const style = "<style>.column { fill: none; stroke: var(--line); } .column.now { stroke: var(--accent); stroke-width: 2; }</style>";
-  return { body: style + body.join(""), left: 0, top: 0, width: drawn.length * (width + COLUMN_GAP) - COLUMN_GAP, height };
+  return { body: style + body.join("") };
 }
 
 /** What stands in the column of a phase. A group of several phases stands in its first. */
@@ -47,7 +57,7 @@ function columnOf(site, letter) {
   };
 }
 
-function drawColumn(site, phase, { groups, detectors, buttons }, width) {
+function drawColumn(phase, { groups, detectors, buttons }, width) {
   let body = `<text class="name" x="14" y="17" style="font-size:13px">${phase.letter}</text>` + clipped(phase.label ?? "", 26, 17, width - 30);
   let top = 28;
   const place = (list, cell, draw) => {
@@ -58,18 +68,15 @@ function drawColumn(site, phase, { groups, detectors, buttons }, width) {
     });
     top += Math.ceil(list.length / across) * cell.height;
   };
-  const onlyWalkers = groups.every(({ one }) => one.mark === "pedestrian");
-  const cell = { width: 34, height: (onlyWalkers ? WALKER.height : HEAD.height) + 30 };
-  place(groups, cell, ({ one, at }, x, y) => headOf(one, at, x - HEAD.width / 2, y) + phasesBelow(one, x, y));
+  const tall = Math.max(WALKER.height, ...groups.map(({ one }) => sizeOf(one).height));
+  const several = groups.some(({ one }) => one.phases.length > 1);
+  place(groups, { width: 37, height: tall + (several ? 28 : 18) }, ({ one, at }, x, y) =>
+    headOf(one, at, x - HEAD.width / 2, y + tall - sizeOf(one).height) +
+    (one.phases.length > 1 ? `<text class="faint" text-anchor="middle" x="${x}" y="${y + tall + 21}">${one.phases}</text>` : ""));
   top += 4;
-  place(detectors, { width: 27, height: 22 }, ({ one, at }, x, y) => detectorAt(one, at, x, y + 10));
-  place(buttons, { width: 27, height: 24 }, ({ one, at }, x, y) => buttonAt(one, at, x, y + 11));
-  return { body, height: top + 6 };
-}
-
-function phasesBelow(group, x, y) {
-  const height = group.mark === "pedestrian" ? WALKER.height : HEAD.height;
-  return group.phases.length > 1 ? `<text class="faint" text-anchor="middle" x="${x}" y="${y + height + 22}">${group.phases}</text>` : "";
+  place(detectors, { width: 27, height: 21 }, ({ one, at }, x, y) => detectorAt(one, at, x, y + 10));
+  place(buttons, { width: 27, height: 23 }, ({ one, at }, x, y) => buttonAt(one, at, x, y + 11));
+  return { body, width, height: top + 5 };
 }
 
 /** A text that ends with dots if it is wider than there is room. */
@@ -81,25 +88,41 @@ function clipped(text, x, y, room) {
 
 // ── The plan ──
 
-const LANE = 17;
-const ARM = 150;
-const CROSSING = 16;
+const LANE = 18;
+const CORNER = 14;
+const CROSSING = 18;
+
+const PLAN_STYLE = `
+  .road { fill: var(--road); }
+  .stop { stroke: var(--mark); stroke-width: 3; }
+  .dash { stroke: var(--mark); stroke-width: 1; stroke-dasharray: 6 6; }
+  .zebra { stroke: var(--mark); stroke-width: 12; stroke-dasharray: 4 4; }
+  .way { fill: none; stroke: var(--mark); stroke-width: 1.6; stroke-linecap: round; stroke-linejoin: round; }
+  .arm { text-anchor: middle; fill: var(--faint); }
+`;
 
 /** An arm: directions outward and to the right of outward, and its sizes. */
 function armOf(site, approach) {
   const angle = approach.bearing * Math.PI / 180;
   const things = [...site.groups, ...site.detectors].filter(thing => thing.approach === approach.name);
-  const most = Math.max(approach.lanes ?? 1, ...things.map(thing => thing.lanes?.[1] ?? 1));
+  const lanes = Math.max(approach.lanes ?? 1, ...things.map(thing => thing.lanes?.[1] ?? 1));
+  const out = [Math.sin(angle), -Math.cos(angle)];
   return {
-    approach, lanes: most, half: most * LANE,
-    out: [Math.sin(angle), -Math.cos(angle)],
+    approach, lanes, out, angle, half: lanes * LANE,
     right: [Math.cos(angle), Math.sin(angle)],
     side: site.traffic === "left" ? 1 : -1,
+    length: Math.abs(out[0]) > 0.7 ? 190 : 118,
   };
 }
 
-/** The point of an arm at a distance from the middle and to the side of the lanes that lead in. */
-const pointOf = (arm, u, v) => [0, 1].map(axis => arm.out[axis] * u + arm.right[axis] * v * arm.side);
+/** How far from the middle the kerbs of an arm begin: beyond the arms beside it. */
+function beginOf(arm, arms) {
+  const beside = arms.map(other => ({ other, turn: Math.abs(Math.sin(other.angle - arm.angle)) })).filter(({ turn }) => turn > 0.3);
+  return Math.max(arm.half / 2, ...beside.map(({ other, turn }) => other.half / turn)) + CORNER;
+}
+
+/** The point of an arm at a distance from the middle; the lanes that lead in have a positive side. */
+const pointOf = (arm, u, v) => [0, 1].map(axis => Number((arm.out[axis] * u + arm.right[axis] * v * arm.side).toFixed(2)));
 
 /** The sides of the lanes from first to last; lane 1 is at the kerb. */
 function sideOf(arm, lanes) {
@@ -108,75 +131,93 @@ function sideOf(arm, lanes) {
 }
 
 function planOf(site) {
-  const arms = site.approaches.filter(approach => approach.bearing !== null).map(approach => armOf(site, approach));
-  const radius = Math.max(...arms.map(arm => arm.half)) + 8;
+  const arms = site.approaches.filter(approach => approach.bearing !== null).map(approach => armOf(site, approach))
+    .sort((one, two) => one.approach.bearing - two.approach.bearing);
+  for (const arm of arms) arm.begin = beginOf(arm, arms);
   const parts = { road: "", marks: "", things: "" };
   const shown = { groups: new Set(), detectors: new Set(), buttons: new Set() };
-  for (const arm of arms) drawArm(site, arm, radius, parts, shown);
-  const size = radius + ARM;
-  const tray = trayOf(site, shown, size);
-  const style = "<style>.road { fill: var(--road); } .stop { stroke: var(--mark); stroke-width: 3; } .dash { stroke: var(--mark); stroke-width: 1; stroke-dasharray: 6 6; } .zebra { stroke: var(--mark); stroke-width: 12; stroke-dasharray: 4 4; } .way { text-anchor: middle; fill: var(--mark); font-size: 15px; } .arm { text-anchor: middle; fill: var(--faint); }</style>";
-  const middle = `<polygon class="road" points="${arms.length > 1 ? cornersOf(arms, radius) : ""}"/>`;
+  for (const arm of arms) drawArm(site, arm, parts, shown);
+  const across = Math.max(...arms.map(arm => Math.abs(arm.out[0]) * (arm.begin + arm.length)), ...arms.map(arm => Math.abs(arm.right[0]) * arm.half + 110));
+  const up = Math.max(...arms.map(arm => Math.abs(arm.out[1]) * (arm.begin + arm.length)), ...arms.map(arm => Math.abs(arm.right[1]) * arm.half + 84));
+  const tray = trayOf(site, shown, across, up);
   return {
-    body: style + parts.road + middle + parts.marks + parts.things + tray.body,
-    left: -size, top: -size, width: 2 * size + tray.width, height: Math.max(2 * size, tray.height),
+    body: `<style>${PLAN_STYLE}</style>${parts.road}<path class="road" d="${middleOf(arms)}"/>${parts.marks}${parts.things}${tray.body}`,
+    left: -across, top: -up, width: 2 * across + tray.width, height: Math.max(2 * up, tray.height),
   };
 }
 
-/** The edge of the middle: the two kerbs of each arm, in the order of the bearings. */
-function cornersOf(arms, radius) {
-  const sorted = [...arms].sort((one, two) => one.approach.bearing - two.approach.bearing);
-  return sorted.flatMap(arm => [-1, 1].map(side => pointOf(arm, radius, side * arm.half * arm.side).map(n => n.toFixed(1)).join(","))).join(" ");
+/** The edge of the middle: round corners from the right kerb of an arm to the left kerb of the next one. */
+function middleOf(arms) {
+  const kerb = (arm, side) => pointOf(arm, arm.begin, side * arm.half * arm.side);
+  const pieces = arms.map((arm, at) => {
+    const next = arms[(at + 1) % arms.length];
+    const [from, to] = [kerb(arm, 1), kerb(next, -1)];
+    const turn = arm.out[0] * next.out[1] - arm.out[1] * next.out[0];
+    const far = ((to[0] - from[0]) * next.out[1] - (to[1] - from[1]) * next.out[0]) / turn;
+    const corner = Math.abs(turn) < 0.2 ? from : [from[0] + arm.out[0] * far, from[1] + arm.out[1] * far];
+    return `L${kerb(arm, -1)} L${from} Q${corner.map(Math.round)} ${to}`;
+  });
+  return `M${kerb(arms[0], -1)} ${pieces.join(" ")} Z`;
 }
 
-function drawArm(site, arm, radius, parts, shown) {
+function drawArm(site, arm, parts, shown) {
   const line = (u1, v1, u2, v2, kind) => {
-    const [a, b] = [pointOf(arm, u1, v1), pointOf(arm, u2, v2)];
-    return `<line class="${kind}" x1="${a[0]}" y1="${a[1]}" x2="${b[0]}" y2="${b[1]}"/>`;
+    const [[x1, y1], [x2, y2]] = [pointOf(arm, u1, v1), pointOf(arm, u2, v2)];
+    return `<line class="${kind}" x1="${x1}" y1="${y1}" x2="${x2}" y2="${y2}"/>`;
   };
-  const end = radius + ARM;
-  const kerbs = [[radius - 1, -arm.half], [radius - 1, arm.half], [end, arm.half], [end, -arm.half]];
-  parts.road += `<polygon class="road" points="${kerbs.map(([u, v]) => pointOf(arm, u, v).join(",")).join(" ")}"/>`;
+  const { begin, half } = arm;
+  const end = begin + arm.length;
+  const kerbs = [[begin - 1, -half], [begin - 1, half], [end, half], [end, -half]];
+  parts.road += `<polygon class="road" points="${kerbs.map(([u, v]) => pointOf(arm, u, v)).join(" ")}"/>`;
   const walkers = numberedOf(site.groups, arm).filter(({ one }) => one.mark === "pedestrian");
-  const stop = radius + 8 + CROSSING * Math.max(1, walkers.length);
-  parts.marks += line(stop, 1, stop, arm.half - 1, "stop") + line(stop, 0, end, 0, "dash");
+  const stop = begin + 6 + CROSSING * walkers.length;
+  parts.marks += line(stop, 1, stop, half - 1, "stop") + line(stop, 0, end, 0, "dash");
   for (let lane = 1; lane < arm.lanes; lane++) parts.marks += line(stop, lane * LANE, end, lane * LANE, "dash");
   walkers.forEach(({ one, at }, index) => {
-    const u = radius + 6 + CROSSING * (index + 0.5);
-    parts.marks += line(u, -arm.half + 2, u, arm.half - 2, "zebra");
+    const u = begin + CROSSING * (index + 0.5);
+    parts.marks += line(u, -half + 2, u, half - 2, "zebra");
     drawWalker(site, arm, one, at, u, parts, shown);
   });
   drawHeads(site, arm, stop, parts, shown);
   drawDetectors(site, arm, stop, parts, shown);
-  const [x, y] = pointOf(arm, end - 8, -arm.half / 2);
+  const [x, y] = pointOf(arm, end - 18, -half / 2);
   parts.things += `<text class="arm" x="${x}" y="${y + 3}">${escaped(arm.approach.name)}</text>`;
 }
 
 const numberedOf = (list, arm) => list.map((one, at) => ({ one, at })).filter(({ one }) => one.approach === arm.approach.name);
 
+/** Arrows of a lane, as seen by a driver who goes up. */
+const WAYS = {
+  straight: "M0,7 V-8 M-3,-5 L0,-8 L3,-5",
+  left: "M0,7 V1 Q0,-2 -4,-2 M-3,-5 L-6,-2 L-3,1",
+  right: "M0,7 V1 Q0,-2 4,-2 M3,-5 L6,-2 L3,1",
+  "u-turn": "M2,7 V-3 Q2,-6 -1,-6 Q-4,-6 -4,-3 V1 M-7,-2 L-4,1 L-1,-2",
+};
+
 /** The heads of an arm stand in a row beside its kerb, from the road outwards. */
 function drawHeads(site, arm, stop, parts, shown) {
   const heads = numberedOf(site.groups, arm).filter(({ one }) => one.mark !== "pedestrian");
-  const [x, y] = pointOf(arm, stop + 2, arm.half + 8);
-  const step = 30 * (x < 0 ? -1 : 1);
+  const [x, y] = pointOf(arm, stop + 22, arm.half + 8);
   heads.forEach(({ one, at }, index) => {
-    const left = x + step * index - (x < 0 ? HEAD.width : 0);
-    parts.things += headOf(one, at, left, y < 0 ? y - HEAD.height - 12 : y);
+    const left = x < 0 ? x - 40 * index - HEAD.width - 6 : x + 40 * index + 6;
+    parts.things += headOf(one, at, left, y < 0 ? y - HEAD.height - 14 : y + 2);
     shown.groups.add(at);
-    if (one.lanes && one.arrows.length > 0) {
-      const [ax, ay] = pointOf(arm, stop + 14, sideOf(arm, one.lanes).middle);
-      parts.marks += `<text class="way" transform="translate(${ax} ${ay}) rotate(${arm.approach.bearing + 180})" y="5">${arrowsOf(one)}</text>`;
+    for (let lane = one.lanes?.[0] ?? 1; lane <= (one.lanes?.[1] ?? 0); lane++) {
+      const [ax, ay] = pointOf(arm, stop + 16, sideOf(arm, [lane, lane]).middle);
+      parts.marks += `<path class="way" transform="translate(${ax} ${ay}) rotate(${arm.approach.bearing + 180})" d="${one.arrows.map(arrow => WAYS[arrow]).join(" ")}"/>`;
     }
   });
 }
 
-/** Head and button of a crossing stand at its end beyond the lanes that lead out. */
+/** Head and button of a crossing stand at its two ends. */
 function drawWalker(site, arm, group, at, u, parts, shown) {
-  const [x, y] = pointOf(arm, u, -arm.half - 18);
-  parts.things += headOf(group, at, x - WALKER.width / 2, y - WALKER.height / 2);
+  const tall = WALKER.height + 14;
+  const far = 5 + Math.abs(arm.right[0]) * WALKER.width / 2 + Math.abs(arm.right[1]) * tall / 2;
+  const [x, y] = pointOf(arm, u, -arm.half - far);
+  parts.things += headOf(group, at, x - WALKER.width / 2, y - tall / 2);
   shown.groups.add(at);
   const button = site.movements.findIndex(movement => movement.group === at);
-  const [bx, by] = pointOf(arm, u, arm.half + 13);
+  const [bx, by] = pointOf(arm, u, arm.half + 14);
   parts.things += buttonAt(site.movements[button], button, bx, by);
   shown.buttons.add(button);
 }
@@ -184,11 +225,11 @@ function drawWalker(site, arm, group, at, u, parts, shown) {
 /** Metres before the stop line become a distance in the picture; without them detectors follow each other. */
 function drawDetectors(site, arm, stop, parts, shown) {
   const used = new Map();
+  const most = arm.begin + arm.length - 12;
   for (const { one, at } of numberedOf(site.detectors, arm)) {
     const { middle, wide } = sideOf(arm, one.lanes);
-    const least = used.get(middle) ?? stop + 36;
-    const wanted = one.metres === null ? least : stop + 36 + one.metres * 1.4;
-    const u = Math.min(Math.max(least, wanted), stop + ARM - 40);
+    const least = used.get(middle) ?? stop + 38;
+    const u = Math.min(Math.max(least, stop + 36 + (one.metres ?? 0)), most);
     used.set(middle, u + 20);
     const [x, y] = pointOf(arm, u, middle);
     parts.things += detectorAt(one, at, x, y, arm.approach.bearing, Math.max(15, wide - 4), 15);
@@ -197,7 +238,7 @@ function drawDetectors(site, arm, stop, parts, shown) {
 }
 
 /** What the text gives no place stands beside the plan. */
-function trayOf(site, shown, size) {
+function trayOf(site, shown, across, up) {
   const left = (list, set) => list.map((one, at) => ({ one, at })).filter(({ at }) => !set.has(at));
   const rest = {
     groups: left(site.groups, shown.groups),
@@ -205,7 +246,7 @@ function trayOf(site, shown, size) {
     buttons: left(site.movements, shown.buttons),
   };
   if (rest.groups.length + rest.detectors.length + rest.buttons.length === 0) return { body: "", width: 0, height: 0 };
-  const width = 190;
-  const column = drawColumn(site, { letter: "", label: "without a place" }, rest, width);
-  return { body: `<g transform="translate(${size} ${-size})">${column.body}</g>`, width, height: column.height };
+  const width = 165;
+  const column = drawColumn({ letter: "", label: "without a place" }, rest, width);
+  return { body: `<g transform="translate(${across} ${-up})">${column.body}</g>`, width, height: column.height };
 }

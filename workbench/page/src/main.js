@@ -13,6 +13,7 @@ const page = {
   view: "junction",
   playing: false, fast: false, hold: false,
   behind: 0,         // milliseconds that the run is behind the clock
+  frame: 0,          // the next call of tick
   road: null,        // queues of the road, once they are asked for
 };
 
@@ -75,17 +76,17 @@ function play(on) {
   page.playing = on && page.run !== null;
   page.behind = 0;
   byId("play").textContent = page.playing ? "❚❚ Pause" : "▶ Play";
-  if (page.playing) requestAnimationFrame(first => tick(first, first));
+  cancelAnimationFrame(page.frame);
+  if (page.playing) page.frame = requestAnimationFrame(first => tick(first, first));
 }
 
 /** Makes the steps that are due and shows the last one. */
 function tick(now, before) {
-  if (!page.playing) return;
   page.behind = Math.min(page.behind + (now - before) * (page.fast ? 10 : 1), 20 * STEP_MILLISECONDS);
   const due = Math.floor(page.behind / STEP_MILLISECONDS);
   page.behind -= due * STEP_MILLISECONDS;
+  page.frame = requestAnimationFrame(next => tick(next, now));
   steps(due);
-  requestAnimationFrame(next => tick(next, now));
 }
 
 function steps(count) {
@@ -103,6 +104,7 @@ function refresh() {
   showLamps(run);
   showAside(run);
   showTimeline(run);
+  if (page.view === "waits") byId("seen").innerHTML = longestWaits(run);
 }
 
 function showClock(run) {
@@ -156,7 +158,7 @@ function showTimeline(run) {
   const from = Number(back.value);
   const width = byId("lines").clientWidth;
   const left = width > 1000 ? 210 : 132;
-  byId("lines").innerHTML = timelinePicture(run, { from, to: from + span, width, left });
+  byId("lines").innerHTML = timelinePicture(run, { from, to: from + span, width, left, room: byId("lines").clientHeight - 6 });
 }
 
 // ── The views ──
@@ -193,7 +195,7 @@ function drawRoad() {
   const view = byId("view");
   const site = { site: page.run.site, bytes: page.run.wanted };
   if (site.site.streams.length === 0) {
-    view.innerHTML = `<p class="note">The text has no streams. Add the heading <b>streams</b> at its end with rows such as <code>detector 0 group V1 rate 400</code>, and the road is simulated for them.</p>`;
+    view.innerHTML = `<p class="hint">The text has no streams. Add the heading <b>streams</b> at its end with rows such as <code>detector 0 group V1 rate 400</code>, and the road is simulated for them.</p>`;
     return;
   }
   if (page.road) return showRoad(site.site, page.road);
@@ -210,13 +212,12 @@ function showRoad(site, { number, points, part }) {
   const view = byId("view");
   if (number) {
     const told = page.texts.tell(page.editor.text, number, 0);
-    view.innerHTML = `<p class="note">The library refuses the road (${number}): ${escaped(told?.text ?? "")}</p>`;
+    view.innerHTML = `<p class="hint">The library refuses the road (${number}): ${escaped(told?.text ?? "")}</p>`;
     return;
   }
   if (points.length === 0) return;
   const progress = part < 1 ? `<progress max="1" value="${part}" aria-label="Simulated part">${part}</progress>` : "";
-  view.innerHTML = `<p class="key">Vehicles queued in each stream over ${seconds(site.steps)} s of the simulated road. Rates are below <b>streams</b> in the text. ${progress}</p>` +
-    roadPicture(site, points, view.clientWidth - 24, Math.max(120, view.clientHeight - 90 - 26 * site.streams.length)) + roadTable(site, points);
+  view.innerHTML = `<p class="hint">The simulated road of the library with the streams of the text. Change their rates below the heading streams. ${progress}</p>${roadTable(site, points)}`;
 }
 
 // ── Detectors and buttons ──
@@ -289,14 +290,14 @@ function withColours(svg) {
 function picture() {
   const { run } = page;
   if (page.view === "road" && page.road?.points.length > 0) {
-    return withColours(roadPicture(run.site, page.road.points, 1000, 400));
+    return withColours(roadPicture(run.site, page.road.points));
   }
   const shown = document.createElement("div");
   shown.innerHTML = junctionPicture(run.site, { width: 1000, height: 420 });
   for (const head of shown.querySelectorAll("[data-colour]")) head.dataset.colour = COLOUR_LETTERS[run.colours[head.dataset.group]];
   const top = shown.firstChild;
   const width = Math.max(1000, 220 + run.now);
-  const lines = timelinePicture(run, { from: 0, to: Math.max(run.now, 300), width, left: 210 });
+  const lines = timelinePicture(run, { from: 0, to: Math.max(run.now, 300), width, left: 210, room: 0 });
   const tall = Number(top.getAttribute("height"));
   const all = tall + 16 + Number(/height="([\d.]+)"/.exec(lines)[1]);
   const moved = lines.replace("<svg ", `<svg y="${tall + 16}" `);

@@ -98,12 +98,17 @@ class Run {
     this.bounds.put(step, this.bound);
   }
 
+  /** How long a demand waited that was there from a first to a last step: it is met in the step behind the last. */
+  waited(first, last) {
+    return Math.min(last + 1, this.now) - first;
+  }
+
   /** The demands that wait: what, since which step, and the bound that the library gave in that step. */
   get demands() {
     const one = (name, track) => {
       if (track.values.at(-1) !== 1) return [];
       const since = track.starts.at(-1);
-      return [{ name, since, waited: this.now - since, bound: this.bounds.at(since) }];
+      return [{ name, since, waited: this.waited(since, this.now), bound: this.bounds.at(since) }];
     };
     const { phases, movements } = this.site;
     return [

@@ -95,16 +95,15 @@ function waitsTable(library, run) {
     `<tr><th scope="row">start red</th><td colspan="${span}" class="left">${cell(start, "start red").replace(/<\/?td[^>]*>/g, "")}</td>${share(sumOf(start))}</tr>${body.join("")}` +
     (rest === 0 ? "" : `<tr><th scope="row">other</th><td colspan="${span}"></td>${share(rest)}</tr>`) +
     `<tr class="total"><th scope="row">bound</th><td colspan="${span}"></td><td class="sum">${seconds(bound)}</td><td></td></tr></tbody></table>` +
-    `<p class="note">Each factor is asked of the library: by how much the bound grows if this time is one step longer. Of several walks in a phase the longest counts. A time in grey does not count.</p>` +
-    `<h3>Longest waits of this run</h3>${longestWaits(run)}`;
+    `<p class="hint">Each factor is asked of the library: by how much the bound grows if this time is one step longer. Of several walks in a phase the longest counts. A time in grey does not count.</p>` +
+    `<h3>Longest waits of this run</h3><div id="seen">${longestWaits(run)}</div>`;
 }
 
 /** For each phase and movement the longest wait that this run has seen, from registered to met. */
 function longestWaits(run) {
   const { site } = run;
-  const longest = track => track.spans(1, run.now, run.now).filter(([, , on]) => on).map(([first, last]) => last - first + 1);
   const row = (name, track) => {
-    const waits = longest(track);
+    const waits = track.spans(1, run.now, run.now).filter(([, , on]) => on).map(([first, last]) => run.waited(first, last));
     const most = Math.max(0, ...waits);
     return `<tr><th scope="row">${name}</th><td>${waits.length}</td><td>${waits.length ? seconds(most) : "–"}</td><td>${seconds(run.bound)}</td>` +
       `<td class="bar"><meter min="0" max="${run.bound}" value="${most}" aria-label="longest wait of ${name} as a share of the bound">${most}</meter></td></tr>`;
@@ -116,11 +115,11 @@ function longestWaits(run) {
 
 // ── The road ──
 
-const ROAD_POINTS = 120;
+const ROAD_POINTS = 240;
 
 /** The queues of the streams of a site at rising numbers of steps. `done` gets them as they come; it may stop the work. */
 async function roadQueues(library, { site, bytes }, done) {
-  const points = [];
+  const points = Object.assign([], { whole: Math.max(1, site.steps) });
   for (let point = 0; point <= ROAD_POINTS; point++) {
     const steps = Math.round(site.steps * point / ROAD_POINTS);
     const { number, counts } = library.road(bytes, site.streams, steps);
@@ -135,36 +134,45 @@ async function roadQueues(library, { site, bytes }, done) {
 
 const streamName = (site, { detector, group }) => `D${detector} → ${site.groups[group].name}`;
 
-/** The lines are told apart by colour and by dashes. */
-const strokeOf = at => `stroke="var(--series-${at % 8})" stroke-dasharray="${["none", "7 3", "2 3", "9 3 2 3", "12 4"][at % 5]}"`;
-
-function roadTable(site, points) {
-  const last = points.at(-1);
-  const rows = site.streams.map((stream, at) => {
-    const { queued, gone } = last.counts[at];
-    const longest = Math.max(...points.map(point => point.counts[at].queued));
-    return `<tr><th scope="row"><svg width="30" height="8" aria-hidden="true"><line x1="0" x2="30" y1="4" y2="4" ${strokeOf(at)} stroke-width="2"/></svg>${streamName(site, stream)}</th>` +
-      `<td>${stream.rate}</td><td>${queued + gone}</td><td>${gone}</td><td>${queued}</td><td>${longest}</td><td class="about">${escaped(site.detectors[stream.detector]?.label ?? "")}</td></tr>`;
-  });
-  return `<table class="waits"><caption>After ${seconds(last.steps)} s</caption><thead><tr><th scope="col">stream</th><th scope="col">rate, veh/h</th><th scope="col">arrived</th><th scope="col">gone</th><th scope="col">queued</th><th scope="col">longest seen</th><td></td></tr></thead><tbody>${rows.join("")}</tbody></table>`;
+/** The queue of a stream over time as a filled line, in a box of a width and a height. */
+function strip(points, at, most, width, height) {
+  const x = steps => (width * steps / points.whole).toFixed(1);
+  const y = queued => (height - 1 - (height - 3) * queued / most).toFixed(1);
+  const line = points.map(({ steps, counts }) => `${x(steps)},${y(counts[at].queued)}`).join(" L");
+  const end = x(points.at(-1).steps);
+  return `<path d="M0,${height - 1} L${line} L${end},${height - 1} Z" fill="var(--queue)" opacity=".35"/>` +
+    `<path d="M${line}" fill="none" stroke="var(--queue)" stroke-width="1.3" vector-effect="non-scaling-stroke"/>` +
+    `<line x1="0" x2="${width}" y1="${height - 1}" y2="${height - 1}" stroke="var(--line)" vector-effect="non-scaling-stroke"/>`;
 }
 
-/** The queues over time as SVG text. */
-function roadPicture(site, points, width, height) {
-  const [left, bottom, top] = [40, 22, 8];
-  const most = Math.max(4, ...points.flatMap(point => point.counts.map(count => count.queued)));
-  const x = steps => left + (width - left - 12) * steps / site.steps;
-  const y = queued => height - bottom - (height - bottom - top) * queued / most;
-  const every = [1, 2, 5, 10, 20, 50, 100, 200, 500].find(every => most / every <= 6) ?? 1000;
-  let grid = "";
-  for (let queued = 0; queued <= most; queued += every) {
-    grid += `<line x1="${left}" x2="${width - 12}" y1="${y(queued)}" y2="${y(queued)}" stroke="var(--line)"/><text class="number" x="${left - 5}" y="${y(queued) + 3}">${queued}</text>`;
-  }
-  for (let part = 0; part <= 6; part++) {
-    grid += `<text class="time" x="${x(site.steps * part / 6)}" y="${height - 7}">${Math.round(site.steps * part / 60)} s</text>`;
-  }
-  const lines = site.streams.map((_, at) =>
-    `<polyline fill="none" ${strokeOf(at)} stroke-width="1.8" points="${points.map(point => `${x(point.steps).toFixed(1)},${y(point.counts[at].queued).toFixed(1)}`).join(" ")}"/>`);
-  return `<svg xmlns="http://www.w3.org/2000/svg" viewBox="0 0 ${width} ${height}" width="${width}" height="${height}" role="img" aria-label="Vehicles queued in each stream over time">` +
-    `<style>text { font: 10px var(--sans); fill: var(--faint); } .number { text-anchor: end; } .time { text-anchor: middle; }</style>${grid}${lines.join("")}</svg>`;
+const longestOf = (points, at) => Math.max(...points.map(point => point.counts[at].queued));
+const tallest = (site, points) => Math.max(4, ...site.streams.map((_, at) => longestOf(points, at)));
+
+/** One row for each stream: its numbers, and its queue over time. All rows have the same scale. */
+function roadTable(site, points) {
+  const last = points.at(-1);
+  const most = tallest(site, points);
+  const rows = site.streams.map((stream, at) => {
+    const { queued, gone } = last.counts[at];
+    const picture = `<svg viewBox="0 0 600 34" preserveAspectRatio="none" role="img" aria-label="Queue of ${streamName(site, stream)} over time">${strip(points, at, most, 600, 34)}</svg>`;
+    return `<tr title="${escaped(site.detectors[stream.detector]?.label ?? "")}"><th scope="row">${streamName(site, stream)}</th>` +
+      `<td>${stream.rate}</td><td>${queued + gone}</td><td>${gone}</td><td>${queued}</td><td>${longestOf(points, at)}</td><td class="strip">${picture}</td></tr>`;
+  });
+  return `<table class="waits road"><thead><tr><th scope="col">stream</th><th scope="col">veh/h</th><th scope="col">arrived</th><th scope="col">gone</th><th scope="col">queued</th><th scope="col">longest</th>` +
+    `<th scope="col" class="strip">queue over ${site.steps / 10} s, full height ${most} vehicles</th></tr></thead><tbody>${rows.join("")}</tbody></table>`;
+}
+
+/** The queues as a picture of its own, for saving. */
+function roadPicture(site, points) {
+  const most = tallest(site, points);
+  const height = 30 + 56 * site.streams.length;
+  const rows = site.streams.map((stream, at) => {
+    const { queued, gone } = points.at(-1).counts[at];
+    return `<g transform="translate(0 ${26 + 56 * at})"><text x="10" y="20" font-weight="600">${streamName(site, stream)}</text>` +
+      `<text x="10" y="36">${stream.rate} veh/h, ${gone} gone, ${queued} queued, longest ${longestOf(points, at)}</text>` +
+      `<g transform="translate(260 0)">${strip(points, at, most, 720, 48)}</g></g>`;
+  });
+  return `<svg xmlns="http://www.w3.org/2000/svg" viewBox="0 0 1000 ${height}" width="1000" height="${height}">` +
+    `<style>text { font: 12px var(--sans); fill: var(--ink); }</style><rect width="1000" height="${height}" fill="var(--panel)"/>` +
+    `<text x="10" y="16">Queues over ${site.steps / 10} s, full height ${most} vehicles</text>${rows.join("")}</svg>`;
 }
