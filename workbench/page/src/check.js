@@ -22,7 +22,14 @@ function checkText(library, texts, text) {
   const yellows = speeds.map(([speed, grade]) => [speed, grade, library.yellow(speed, grade)])
     .filter(([, , yellow]) => yellow.number === 0)
     .map(([speed, grade, yellow]) => `${speed} ${grade} ${yellow.value}\n`);
-  const messages = texts.warnings(text, bound, yellows.join(""));
+  const messages = [...roadMessages(library, texts, text, site, bytes), ...texts.warnings(text, bound, yellows.join(""))];
   const status = `accepted · ${bytes.length} bytes · wait bound ${seconds(bound)} s`;
   return { messages, site, bytes, bound, status, fine: true };
+}
+
+/** The refusal of the road, if the text has streams and the library refuses them. */
+function roadMessages(library, texts, text, site, bytes) {
+  if (site.streams.length === 0) return [];
+  const { number } = library.road(bytes, site.streams, site.steps);
+  return number === 0 ? [] : [texts.tell(text, number, 0)];
 }

@@ -25,8 +25,14 @@ function textChanged() {
   byId("status").textContent = page.check.status;
   byId("status").className = page.check.fine ? "" : "bad";
   byId("save-bytes").disabled = !page.check.fine;
-  byId("stale").textContent = page.check.fine || !page.run ? "" : "The junction runs the last accepted text.";
+  document.title = `${page.check.site?.name ?? page.example.name} · Willowera workbench`;
   if (page.check.fine) adopt();
+  else say(page.run ? "The junction runs the last accepted text." : "");
+}
+
+/** One line beside the tabs about the run. */
+function say(text) {
+  byId("stale").textContent = text;
 }
 
 /** Runs the accepted text: goes on with new times if only times differ, else starts anew. */
@@ -54,9 +60,8 @@ const sameBytes = (one, two) => one.length === two.length && one.every((byte, at
 function restart() {
   const { check } = page;
   if (!check.fine && !page.run) return;
-  const { site, bytes, bound } = check.fine ? check : { ...page.run, bytes: page.run.wanted };
-  page.run = new Run(page.library, site, bytes, check.fine ? bound : page.library.waitBound(bytes).value);
-  page.run.wanted = bytes;
+  const { site, bytes } = check.fine ? check : { site: page.run.site, bytes: page.run.wanted };
+  page.run = new Run(page.library, site, bytes);
   page.road = null;
   readScript();
   drawView();
@@ -65,9 +70,17 @@ function restart() {
 
 /** The inputs of the chosen script for the steps to come. */
 function readScript() {
-  const script = page.example?.inputs.find(inputs => inputs.name === byId("script").value);
-  const read = script ? page.texts.inputs(page.editor.text, script.text) : { inputs: [] };
-  page.run.script = read.inputs.map(BigInt);
+  const script = page.example.inputs.find(inputs => inputs.name === byId("script").value);
+  const { mistakes, inputs } = script ? page.texts.inputs(page.editor.text, script.text) : { mistakes: [], inputs: [] };
+  page.run.script = inputs.map(BigInt);
+  say(mistakes.length === 0 ? "" : `${script.name}, line ${mistakes[0].span.line}: ${mistakes[0].text}`);
+}
+
+/** The names of the scripts to choose from. */
+function listScripts(chosen) {
+  const names = ["by hand", ...page.example.inputs.map(inputs => inputs.name)];
+  byId("script").innerHTML = names.map(name => `<option>${escaped(name)}</option>`).join("");
+  byId("script").value = chosen;
 }
 
 // ── Time ──
@@ -166,6 +179,7 @@ function showTimeline(run) {
 function drawView() {
   const view = byId("view");
   view.className = page.view;
+  byId("stage").className = page.view === "junction" ? "" : "wide";
   const { run } = page;
   if (!run) return;
   if (page.view === "junction") {
@@ -266,17 +280,22 @@ function save(name, content, kind) {
   setTimeout(() => URL.revokeObjectURL(link.href), 1000);
 }
 
-/** A text, or the bytes of a personality, which are shown as a text. */
+/** Opens a site text, an input script, which begins with `steps`, or the bytes of a personality, which are shown as a text. */
 async function openFile(file) {
   const bytes = new Uint8Array(await file.arrayBuffer());
+  const name = file.name.replace(/\.\w+$/, "");
   const text = bytes.includes(0) ? page.texts.show(bytes) : new TextDecoder().decode(bytes);
   if (text.startsWith("! ")) {
     byId("status").textContent = `${file.name} is not shown: ${text.slice(2)}`;
     byId("status").className = "bad";
-    return;
+  } else if (/^(\s*(#.*)?\n)*\s*steps\s/.test(text)) {
+    page.example.inputs = [...page.example.inputs.filter(inputs => inputs.name !== name), { name, text }];
+    listScripts(name);
+    restart();
+  } else {
+    load({ name, text, inputs: [] });
+    byId("example").value = "";
   }
-  load({ name: file.name.replace(/\.\w+$/, ""), text, inputs: [] });
-  byId("example").value = "";
 }
 
 /** Colours of the light scheme in place of the variables, so that a saved picture needs no page. */
@@ -308,11 +327,11 @@ function picture() {
 // ── Examples ──
 
 function load(example) {
-  page.example = example;
+  page.example = { ...example };
   page.run = null;
   play(false);
-  byId("script").innerHTML = ["by hand", ...example.inputs.map(inputs => inputs.name)].map(name => `<option>${escaped(name)}</option>`).join("");
-  if (example.inputs.length > 0) byId("script").value = (example.inputs.find(inputs => inputs.text.length > 200) ?? example.inputs[0]).name;
+  const longest = [...example.inputs].sort((one, two) => two.text.length - one.text.length)[0];
+  listScripts(longest?.name ?? "by hand");
   page.editor.text = example.text;
   textChanged();
 }
@@ -340,6 +359,7 @@ function listen() {
   on("file", "change", event => { openFile(event.target.files[0]); event.target.value = ""; });
   on("save-text", "click", () => save(`${page.example.name}.txt`, page.editor.text, "text/plain"));
   on("save-bytes", "click", () => save(`${page.example.name}.bin`, page.check.bytes, "application/octet-stream"));
+  on("save-inputs", "click", () => save(`${page.example.name}_inputs.txt`, page.run.inputScript, "text/plain"));
   on("save-picture", "click", () => save(`${page.example.name}.svg`, picture(), "image/svg+xml"));
   on("scheme", "change", event => { document.documentElement.dataset.scheme = event.target.value; });
   on("span", "change", () => { byId("back").value = byId("back").max; refresh(); });
@@ -353,6 +373,11 @@ function listen() {
     const next = { ArrowRight: "nextElementSibling", ArrowLeft: "previousElementSibling" }[event.key];
     const tab = next && event.target[next];
     if (tab?.role === "tab") { tab.focus(); tab.click(); }
+  });
+  document.addEventListener("dragover", event => event.preventDefault());
+  document.addEventListener("drop", event => {
+    event.preventDefault();
+    if (event.dataTransfer.files.length > 0) openFile(event.dataTransfer.files[0]);
   });
   listenToInputs();
   new ResizeObserver(() => { drawView(); refresh(); }).observe(byId("stage"));

@@ -43,8 +43,10 @@ const tracks = count => Array.from({ length: count }, () => new Track());
 
 class Run {
   /** A run of accepted bytes, before its first step. */
-  constructor(library, site, bytes, bound) {
-    Object.assign(this, { library, site, bytes, bound });
+  constructor(library, site, bytes) {
+    Object.assign(this, { library, site, bytes });
+    this.wanted = bytes;  // the bytes of the last text that was adopted; they differ from `bytes` in times only
+    this.bound = library.waitBound(bytes).value;
     this.state = library.fresh(bytes);
     this.colours = new Uint8Array(site.groups.length);
     this.now = 0;
@@ -115,6 +117,19 @@ class Run {
       ...this.locks.flatMap((track, at) => one(`phase ${phases[at].letter}`, track)),
       ...this.presses.flatMap((track, at) => one(`${movements[at].name} walk`, track)),
     ];
+  }
+
+  /** What was occupied and pressed, as an input script. */
+  get inputScript() {
+    const rows = [`steps ${this.now}`];
+    const add = (list, word) => list.forEach((track, at) => {
+      for (const [first, last, on] of track.spans(1, this.now, this.now)) {
+        if (on) rows.push(`${first === last ? first : `${first}..${last}`} ${word} ${at}`);
+      }
+    });
+    add(this.detectors, "detector");
+    add(this.buttons, "button");
+    return rows.join("\n") + "\n";
   }
 
   /** The trace as the trace program prints it. */

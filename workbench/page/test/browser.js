@@ -57,7 +57,7 @@ class Browser {
   async open(url, width, height) {
     const { targetId } = await this.send("Target.createTarget", { url: "about:blank" });
     this.session = (await this.send("Target.attachToTarget", { targetId, flatten: true })).sessionId;
-    for (const domain of ["Page", "Runtime", "Accessibility", "Log"]) await this.send(`${domain}.enable`);
+    for (const domain of ["Page", "Runtime", "Accessibility", "Log", "Network", "DOM"]) await this.send(`${domain}.enable`);
     await this.size(width, height);
     await this.send("Page.navigate", { url });
     await this.until("document.body?.dataset.ready === 'yes'");
@@ -97,6 +97,31 @@ class Browser {
     for (const type of ["mousePressed", "mouseReleased"]) await this.send("Input.dispatchMouseEvent", { type, x, y, button: "left", clickCount: 1 });
   }
 
+  /** Types a text where the cursor is. */
+  type(text) {
+    return this.send("Input.insertText", { text });
+  }
+
+  /** Chooses a file in a file input, as the dialogue of the system does. */
+  async chooseFile(selector, file) {
+    const { root } = await this.send("DOM.getDocument");
+    const { nodeId } = await this.send("DOM.querySelector", { nodeId: root.nodeId, selector });
+    await this.send("DOM.setFileInputFiles", { nodeId, files: [file] });
+  }
+
+  /** Clicks on an element that saves a file; the content of the file. */
+  async saved(selector, name, folder) {
+    const file = path.join(folder, name);
+    fs.rmSync(file, { force: true });
+    const session = this.session;
+    this.session = undefined;
+    await this.send("Browser.setDownloadBehavior", { behavior: "allow", downloadPath: folder });
+    this.session = session;
+    await this.click(selector);
+    for (const end = Date.now() + 5000; Date.now() < end && !fs.existsSync(file);) await new Promise(resolve => setTimeout(resolve, 30));
+    return fs.readFileSync(file);
+  }
+
   async screenshot(file) {
     const { data } = await this.send("Page.captureScreenshot", { format: "png" });
     fs.writeFileSync(file, Buffer.from(data, "base64"));
@@ -107,6 +132,11 @@ class Browser {
     const exception = ({ method, params }) => method === "Runtime.exceptionThrown" ? [params.exceptionDetails.exception?.description ?? params.exceptionDetails.text] : [];
     const logged = ({ method, params }) => method === "Log.entryAdded" && params.entry.level === "error" ? [params.entry.text] : [];
     return this.events.flatMap(event => [...exception(event), ...logged(event)]);
+  }
+
+  /** The addresses that the page asked for. */
+  get requests() {
+    return this.events.flatMap(({ method, params }) => method === "Network.requestWillBeSent" ? [params.request.url] : []);
   }
 
   async close() {

@@ -209,12 +209,50 @@ const tests = {
     assert.equal(await browser.value("byId('stale').textContent"), "");
   },
 
-  /** The saved bytes open as a text with the same bytes, and the saved picture is XML without outside colours. */
+  /** A word typed into the text is checked at once, and a message leads back to it. */
+  async typingIsChecked(browser) {
+    await load(browser, "two_phases");
+    await browser.value("byId('text').focus(), byId('text').setSelectionRange(page.editor.text.indexOf('V1: V2') + 6, page.editor.text.indexOf('V1: V2') + 6)");
+    await browser.type(" V9");
+    const line = await browser.value("page.editor.text.split('\\n').indexOf('V1: V2 V9') + 1");
+    assert.match(await browser.value("byId('status').textContent"), /^1 mistake/);
+    assert.equal(await browser.value("document.querySelector('#messages button').getAttribute('aria-label')"),
+      await browser.value(`"Line ${line}, mistake: " + page.check.messages[0].text`));
+    for (let count = 0; count < 3; count++) await browser.key("Backspace", 8);
+    assert.match(await browser.value("byId('status').textContent"), /^accepted/);
+    await browser.value("page.editor.area.value = page.editor.text.replace('V2 rate 1800', 'V2 rate 1801'), page.editor.area.dispatchEvent(new Event('input'))");
+    const road = await browser.value("Array.from(byId('messages').querySelectorAll('.refusal'), button => button.textContent).join()");
+    assert.match(road, /1801/, "a stream that the road refuses");
+  },
+
+  /** What is saved is what is shown: text, bytes, picture, and inputs that make the same trace again. */
+  async filesAreSaved(browser) {
+    const folder = fs.mkdtempSync(path.join(ROOT, "target/page/saved-"));
+    await load(browser, "crossings", "inputs");
+    await browser.value("steps(900)");
+    assert.equal((await browser.saved("#save-text", "crossings.txt", folder)).toString(), fs.readFileSync(path.join(EXAMPLES, "crossings/site.txt"), "utf8"));
+    assert.deepEqual(await browser.saved("#save-bytes", "crossings.bin", folder), fs.readFileSync(path.join(EXAMPLES, "crossings/personality.bin")));
+    assert.match((await browser.saved("#save-picture", "crossings.svg", folder)).toString(), /^<svg .*<\/svg>$/s);
+    const trace = await browser.value("page.run.trace");
+    await browser.saved("#save-inputs", "crossings_inputs.txt", folder);
+    await load(browser, "crossings");
+    await browser.chooseFile("#file", path.join(folder, "crossings_inputs.txt"));
+    await browser.until("byId('script').value === 'crossings_inputs'");
+    await browser.value("steps(900)");
+    assert.equal(await browser.value("page.run.trace"), trace);
+    await browser.value(`openFile(new File(["steps 5\\n3 detector 9\\n"], "others.txt"))`);
+    assert.match(await browser.value("byId('stale').textContent"), /^others, line 2: found `9`/, "inputs that do not fit");
+    fs.rmSync(folder, { recursive: true });
+  },
+
+  /** Saved bytes open as a text with the same bytes, other bytes are refused in words, and a picture is XML with its own colours. */
   async filesRoundTrip(browser) {
     for (const folder of folders) {
-      await load(browser, folder);
-      const same = await browser.value(`(async () => { const bytes = page.check.bytes; await openFile(new File([bytes], "site.bin")); return page.check.fine && sameBytes(bytes, page.check.bytes) && page.example.name === "site"; })()`);
-      assert.ok(same, folder);
+      await browser.value("page.example = null");
+      await browser.chooseFile("#file", path.join(EXAMPLES, folder, "personality.bin"));
+      await browser.until("page.example?.name === 'personality'", 3);
+      const stored = [...fs.readFileSync(path.join(EXAMPLES, folder, "personality.bin"))];
+      assert.deepEqual(await browser.value("[page.check.fine, ...page.check.bytes]"), [true, ...stored], folder);
     }
     await browser.value(`openFile(new File([new Uint8Array([1, 0, 3])], "other.bin"))`);
     assert.match(await browser.value("byId('status').textContent"), /^other.bin is not shown/);
@@ -222,6 +260,7 @@ const tests = {
     await browser.value("steps(500)");
     const error = await browser.value("(() => { const read = new DOMParser().parseFromString(picture(), 'image/svg+xml'); return read.querySelector('parsererror')?.textContent ?? (/var\\(|light-dark/.exec(picture())?.[0] ?? ''); })()");
     assert.equal(error, "", "the picture");
+    assert.deepEqual(browser.requests.filter(url => !/^(file|data|blob):/.test(url)), [], "nothing is asked of a network");
   },
 };
 
@@ -253,6 +292,10 @@ const FAULTS = [
   ["tabsOpen", "const steps = Math.round(site.steps * point / ROAD_POINTS);", "const steps = Math.round(site.steps * point / (ROAD_POINTS + 1));"],
   ["tabsOpen", "groups[row].conflicts.includes(column)", "groups[column].conflicts.includes(column - 1)"],
   ["textIsAdopted", "page.library.retime(run.bytes, run.state, check.bytes).number === 0", "false"],
+  ["typingIsChecked", `this.area.addEventListener("input", () => changed(this.area.value));`, ""],
+  ["typingIsChecked", "return number === 0 ? [] : [texts.tell(text, number, 0)];", "return [];"],
+  ["filesAreSaved", "this.buttons, \"button\");", "this.buttons, \"detector\");"],
+  ["filesAreSaved", "page.check.bytes, \"application/octet-stream\"", "page.run.state, \"application/octet-stream\""],
   ["filesRoundTrip", "bytes.includes(0) ? page.texts.show(bytes)", "bytes.includes(0) ? page.texts.show(bytes.slice(0, -1))"],
   ["filesRoundTrip", "return withColours(`<svg", "return (`<svg"],
 ];
