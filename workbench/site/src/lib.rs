@@ -14,6 +14,10 @@ mod build;
 mod inputs;
 pub mod json;
 mod parse;
+/// The numbers of the refusals and their general sentences, as the Rust wrappers of the
+/// library have them.
+#[path = "../../../rust/willowera/src/refusal.rs"]
+pub mod refusal;
 mod row;
 mod show;
 mod site;
@@ -31,7 +35,7 @@ pub use site::{
     Stream, ARROWS, CALLS, EARLY_CUT_OFF, EXTENDS, FIRST_BUTTON, HEADINGS, LATE_START, MARKS,
     MOVEMENT_SETTINGS, PEDESTRIAN, PHASE_SETTINGS, ROAD_STEPS,
 };
-pub use tell::{differences, sentence, tell, Told};
+pub use tell::{differences, tell, Told};
 pub use warn::{speeds, warnings, Kind, Warning};
 pub use words::{Mistake, Span};
 

@@ -2,6 +2,7 @@
 //! looks in the site for what the library found; it refuses nothing itself.
 
 use crate::build::Built;
+use crate::refusal;
 use crate::seconds;
 use crate::site::{letter, letters, Setting, Site, MARKS, MOVEMENT_SETTINGS, PHASE_SETTINGS};
 use crate::words::Span;
@@ -16,43 +17,6 @@ pub struct Told {
     pub others: Vec<(Span, String)>,
 }
 
-/// The general sentence of a number.
-pub fn sentence(number: u8) -> &'static str {
-    match number {
-        0 => "the call is accepted",
-        1 => "the personality ends before the end of a section",
-        2 => "a section is of another kind than the expected one",
-        3 => "the length of a section does not fit the counts",
-        4 => "the number of phases or signal groups is out of range",
-        5 => "a time is outside the limits of the edition",
-        6 => "a group has an unknown phase or mark, or is a pedestrian group without exactly one phase",
-        7 => "there are more than eight pedestrian groups",
-        8 => "a phase has no signal group",
-        9 => "a group conflicts with itself, with a missing group, or with a group that does not list it",
-        10 => "two conflicting groups share a phase",
-        11 => "a detector has an unknown phase or mode",
-        12 => "bytes follow the last section",
-        13 => "the bytes are not a valid state of this personality",
-        14 => "a buffer for the results of the call has the wrong length",
-        15 => "an input bit is set that has no detector and no button",
-        16 => "the input of the trace program ends too early",
-        17 => "a group stops early, but there are no early cut-off times",
-        18 => "the running order does not have each phase exactly once",
-        19 => "speed, metres or detector of the site sheet are out of range",
-        20 => "minimum green or passage time of the site sheet are above the limit",
-        21 => "a phase has no calling detector and no pedestrian group",
-        22 => "streams or steps of the road are out of range, or a detector or vehicle group is not in the site",
-        23 => "speed or grade of the yellow time are out of range",
-        24 => "there is no such record of the cabinet, or it is not free, or it is free",
-        25 => "an output of the cabinet is past the 32nd, or belongs to another site",
-        26 => "the new personality differs from the first in more than times",
-        27 => "the record was sealed under another version of the interface",
-        28 => "the sealed record is damaged",
-        29 => "the record was sealed with another personality",
-        _ => "no refusal has this number",
-    }
-}
-
 /// Puts a refusal of a built site into words.
 pub fn tell(site: &Site, built: &Built, number: u8, place: usize) -> Told {
     let teller = Teller {
@@ -61,7 +25,7 @@ pub fn tell(site: &Site, built: &Built, number: u8, place: usize) -> Told {
             number,
             place,
             span: built.span(place),
-            text: sentence(number).to_string(),
+            text: refusal::words(number).to_string(),
             others: Vec::new(),
         },
     };

@@ -91,8 +91,9 @@ impl<'a> List<'a> {
         }
     }
 
-    /// Groups that share no phase and do not conflict. Two crossings never conflict, and
-    /// a group in no phase has a warning of its own.
+    /// Groups that are red in a phase although they conflict with no group of it: a
+    /// conflict is missing, or the group could be green there. Two crossings never
+    /// conflict, and a group in no phase has a warning of its own.
     fn conflicts(&mut self) {
         let site = self.site;
         if site.groups.iter().all(|group| group.conflicts.is_empty()) {
@@ -101,24 +102,52 @@ impl<'a> List<'a> {
             return self.warn(Kind::NoConflicts, span, text);
         }
         for (at, group) in site.groups.iter().enumerate() {
-            let others = site.groups.iter().enumerate().skip(at + 1);
-            let never = others.filter(|(other, two)| {
-                let known = group.apart.iter().any(|(one, _)| one == other);
-                let known = known || two.apart.iter().any(|(one, _)| *one == at);
-                let crossings = group.is_pedestrian() && two.is_pedestrian();
-                let phases = group.phases != 0 && two.phases != 0 && group.phases & two.phases == 0;
-                phases && !crossings && !known && !group.conflicts_with(*other)
-            });
-            let names: Vec<&str> = never.map(|(_, two)| two.name.as_str()).collect();
+            if group.phases == 0 {
+                continue;
+            }
+            let (mut phases, mut names) = (String::new(), Vec::new());
+            for phase in (0..site.phases.len()).filter(|phase| !group.in_phase(*phase)) {
+                let others = self.kept_apart(at, phase);
+                phases.extend(others.first().map(|_| letter(phase)));
+                names.extend(others.iter().map(|one| site.groups[*one].name.as_str()));
+            }
             if !names.is_empty() {
+                let mut seen = Vec::new();
+                names.retain(|name| {
+                    !seen.contains(name) && {
+                        seen.push(*name);
+                        true
+                    }
+                });
                 let text = format!(
-                    "{} shares no phase with {names} and does not conflict: if that is meant, add `not {names}`",
+                    "{} is red in {phases} but conflicts with no group of {phases}: if that is meant, add `not {}`",
                     group.name,
-                    names = names.join(" "),
+                    names.join(" ")
                 );
                 self.warn(Kind::NeverConflict, group.row, text);
             }
         }
+    }
+
+    /// The groups of a phase that never conflict with a group, if none of the phase does;
+    /// without those that are named behind `not`.
+    fn kept_apart(&self, at: usize, phase: usize) -> Vec<usize> {
+        let site = self.site;
+        let group = &site.groups[at];
+        let others = site.groups.iter().enumerate().filter(|(_, other)| {
+            let crossings = group.is_pedestrian() && other.is_pedestrian();
+            other.in_phase(phase) && other.phases & group.phases == 0 && !crossings
+        });
+        let others: Vec<usize> = others.map(|(other, _)| other).collect();
+        let known = |other: &usize| {
+            let names =
+                |list: &[(usize, Span)], one: usize| list.iter().any(|(group, _)| *group == one);
+            names(&group.apart, *other) || names(&site.groups[*other].apart, at)
+        };
+        if others.iter().any(|other| group.conflicts_with(*other)) {
+            return Vec::new();
+        }
+        others.into_iter().filter(|other| !known(other)).collect()
     }
 
     /// Vehicle groups in no phase, and marks without effect.
