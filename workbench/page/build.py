@@ -3,6 +3,7 @@
 
 import base64
 import json
+import re
 from pathlib import Path
 
 HERE = Path(__file__).resolve().parent
@@ -10,10 +11,11 @@ ROOT = HERE.parent.parent
 SCRIPTS = ["library", "check", "run", "editor", "heads", "junction", "timeline", "tabs", "main"]
 
 
-def title_of(folder, variant):
-    """The first heading of the note, and the plan if it is not the first one."""
-    first = (folder / "NOTE.md").read_text().splitlines()[0].lstrip("# ")
-    return f"{first}, {variant}" if variant else first
+def title_of(folder, text, variant):
+    """The name that the text gives, or else the first heading of the note; and the plan if it is not the first one."""
+    named = re.search(r'^name\s+"(.*)"', text, re.MULTILINE)
+    title = named[1] if named else (folder / "NOTE.md").read_text().splitlines()[0].lstrip("# ")
+    return f"{title}, {variant}" if variant else title
 
 
 def text_of(folder, site):
@@ -26,15 +28,15 @@ def text_of(folder, site):
 
 
 def examples():
-    """The page's own sites first, then those of examples/."""
+    """The sites of the workbench first, then those of examples/."""
     found = []
-    folders = sorted((HERE / "sites").iterdir()) + sorted(path.parent for path in (ROOT / "examples").glob("*/site.txt"))
-    for folder in folders:
+    for folder in [path.parent for home in (HERE.parent, ROOT) for path in sorted(home.glob("examples/*/site.txt"))]:
         scripts = [{"name": script.stem, "text": script.read_text()} for script in sorted(folder.glob("inputs*.txt"))]
         for site in sorted(folder.glob("site*.txt")):
             variant = site.stem.partition("_")[2]
             name = folder.name + ("_" + variant if variant else "")
-            found.append({"name": name, "title": title_of(folder, variant), "text": text_of(folder, site), "inputs": scripts})
+            text = text_of(folder, site)
+            found.append({"name": name, "title": title_of(folder, text, variant), "text": text, "inputs": scripts})
     return found
 
 

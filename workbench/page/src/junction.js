@@ -98,6 +98,8 @@ const PLAN_STYLE = `
   .dash { stroke: var(--mark); stroke-width: 1; stroke-dasharray: 6 6; }
   .zebra { stroke: var(--mark); stroke-width: 12; stroke-dasharray: 4 4; }
   .way { fill: none; stroke: var(--mark); stroke-width: 1.6; stroke-linecap: round; stroke-linejoin: round; }
+  .way[data-shown=G] { stroke: var(--green); stroke-width: 2.2; }
+  .way[data-shown=Y] { stroke: var(--yellow); stroke-width: 2.2; }
   .arm { text-anchor: middle; fill: var(--faint); }
 `;
 
@@ -134,16 +136,26 @@ function planOf(site) {
   const arms = site.approaches.filter(approach => approach.bearing !== null).map(approach => armOf(site, approach))
     .sort((one, two) => one.approach.bearing - two.approach.bearing);
   for (const arm of arms) arm.begin = beginOf(arm, arms);
-  const parts = { road: "", marks: "", things: "" };
+  const parts = { road: "", marks: "", things: "", boxes: [] };
   const shown = { groups: new Set(), detectors: new Set(), buttons: new Set() };
   for (const arm of arms) drawArm(site, arm, parts, shown);
-  const across = Math.max(...arms.map(arm => Math.abs(arm.out[0]) * (arm.begin + arm.length)), ...arms.map(arm => Math.abs(arm.right[0]) * arm.half + 110));
-  const up = Math.max(...arms.map(arm => Math.abs(arm.out[1]) * (arm.begin + arm.length)), ...arms.map(arm => Math.abs(arm.right[1]) * arm.half + 84));
+  for (const arm of arms) drawHeads(site, arm, parts, shown);
+  const far = axis => Math.max(...arms.map(arm => Math.abs(arm.out[axis]) * (arm.begin + arm.length)),
+    ...parts.boxes.map(box => Math.max(Math.abs(box.at[axis]), Math.abs(box.at[axis] + box.size[axis]))));
+  const [across, up] = [far(0), far(1)];
   const tray = trayOf(site, shown, across, up);
   return {
     body: `<style>${PLAN_STYLE}</style>${parts.road}<path class="road" d="${middleOf(arms)}"/>${parts.marks}${parts.things}${tray.body}`,
     left: -across, top: -up, width: 2 * across + tray.width, height: Math.max(2 * up, tray.height),
   };
+}
+
+/** A place for a head with its name: as wanted, or further along a direction until it covers no other head. */
+function freePlace(parts, at, size, direction) {
+  const covers = box => [0, 1].every(axis => at[axis] < box.at[axis] + box.size[axis] && box.at[axis] < at[axis] + size[axis]);
+  for (let tries = 0; tries < 60 && parts.boxes.some(covers); tries++) at = at.map((value, axis) => value + 4 * direction[axis]);
+  parts.boxes.push({ at, size });
+  return at;
 }
 
 /** The edge of the middle: round corners from the right kerb of an arm to the left kerb of the next one. */
@@ -170,7 +182,7 @@ function drawArm(site, arm, parts, shown) {
   const kerbs = [[begin - 1, -half], [begin - 1, half], [end, half], [end, -half]];
   parts.road += `<polygon class="road" points="${kerbs.map(([u, v]) => pointOf(arm, u, v)).join(" ")}"/>`;
   const walkers = numberedOf(site.groups, arm).filter(({ one }) => one.mark === "pedestrian");
-  const stop = begin + 6 + CROSSING * walkers.length;
+  const stop = arm.stop = begin + 6 + CROSSING * walkers.length;
   parts.marks += line(stop, 1, stop, half - 1, "stop") + line(stop, 0, end, 0, "dash");
   for (let lane = 1; lane < arm.lanes; lane++) parts.marks += line(stop, lane * LANE, end, lane * LANE, "dash");
   walkers.forEach(({ one, at }, index) => {
@@ -178,8 +190,7 @@ function drawArm(site, arm, parts, shown) {
     parts.marks += line(u, -half + 2, u, half - 2, "zebra");
     drawWalker(site, arm, one, at, u, parts, shown);
   });
-  drawHeads(site, arm, stop, parts, shown);
-  drawDetectors(site, arm, stop, parts, shown);
+  drawDetectors(site, arm, parts, shown);
   const [x, y] = pointOf(arm, end - 18, -half / 2);
   parts.things += `<text class="arm" x="${x}" y="${y + 3}">${escaped(arm.approach.name)}</text>`;
 }
@@ -194,36 +205,46 @@ const WAYS = {
   "u-turn": "M2,7 V-3 Q2,-6 -1,-6 Q-4,-6 -4,-3 V1 M-7,-2 L-4,1 L-1,-2",
 };
 
+const NAME = 14;
+
 /** The heads of an arm stand in a row beside its kerb, from the road outwards. */
-function drawHeads(site, arm, stop, parts, shown) {
+function drawHeads(site, arm, parts, shown) {
   const heads = numberedOf(site.groups, arm).filter(({ one }) => one.mark !== "pedestrian");
-  const [x, y] = pointOf(arm, stop + 22, arm.half + 8);
+  const size = [HEAD.width + 18, HEAD.height + NAME];
+  const [x, y] = pointOf(arm, arm.stop + 8, arm.half + 4);
   heads.forEach(({ one, at }, index) => {
-    const left = x < 0 ? x - 40 * index - HEAD.width - 6 : x + 40 * index + 6;
-    parts.things += headOf(one, at, left, y < 0 ? y - HEAD.height - 14 : y + 2);
+    const wanted = [x < 0 ? x - size[0] * (index + 1) : x + size[0] * index, y < 0 ? y - size[1] : y];
+    const place = freePlace(parts, wanted, size, arm.out);
+    parts.things += headOf(one, at, place[0] + 9, place[1]);
     shown.groups.add(at);
-    for (let lane = one.lanes?.[0] ?? 1; lane <= (one.lanes?.[1] ?? 0); lane++) {
-      const [ax, ay] = pointOf(arm, stop + 16, sideOf(arm, [lane, lane]).middle);
-      parts.marks += `<path class="way" transform="translate(${ax} ${ay}) rotate(${arm.approach.bearing + 180})" d="${one.arrows.map(arrow => WAYS[arrow]).join(" ")}"/>`;
-    }
+    drawWays(arm, one, at, parts);
   });
 }
 
-/** Head and button of a crossing stand at its two ends. */
+/** The arrows of a group on each of its lanes. */
+function drawWays(arm, { lanes, arrows }, at, parts) {
+  for (let lane = lanes?.[0] ?? 1; lane <= (lanes?.[1] ?? 0); lane++) {
+    const [x, y] = pointOf(arm, arm.stop + 16, sideOf(arm, [lane, lane]).middle);
+    parts.marks += `<path class="way" data-way="${at}" transform="translate(${x} ${y}) rotate(${arm.approach.bearing + 180})" d="${arrows.map(arrow => WAYS[arrow]).join(" ")}"/>`;
+  }
+}
+
+/** The head of a crossing stands at its end beyond the lanes that lead out, its button is drawn in its middle. */
 function drawWalker(site, arm, group, at, u, parts, shown) {
-  const tall = WALKER.height + 14;
-  const far = 5 + Math.abs(arm.right[0]) * WALKER.width / 2 + Math.abs(arm.right[1]) * tall / 2;
-  const [x, y] = pointOf(arm, u, -arm.half - far);
-  parts.things += headOf(group, at, x - WALKER.width / 2, y - tall / 2);
+  const size = [WALKER.width, WALKER.height + NAME];
+  const away = arm.right.map(part => -part * arm.side);
+  const far = arm.half + 5 + Math.abs(away[0]) * size[0] / 2 + Math.abs(away[1]) * size[1] / 2;
+  const place = freePlace(parts, pointOf(arm, u, -far).map((value, axis) => value - size[axis] / 2), size, away);
+  parts.things += headOf(group, at, ...place);
   shown.groups.add(at);
   const button = site.movements.findIndex(movement => movement.group === at);
-  const [bx, by] = pointOf(arm, u, arm.half + 14);
-  parts.things += buttonAt(site.movements[button], button, bx, by);
+  parts.things += buttonAt(site.movements[button], button, ...pointOf(arm, u, 0));
   shown.buttons.add(button);
 }
 
 /** Metres before the stop line become a distance in the picture; without them detectors follow each other. */
-function drawDetectors(site, arm, stop, parts, shown) {
+function drawDetectors(site, arm, parts, shown) {
+  const { stop } = arm;
   const used = new Map();
   const most = arm.begin + arm.length - 12;
   for (const { one, at } of numberedOf(site.detectors, arm)) {

@@ -131,6 +131,9 @@ function showLamps(run) {
   for (const head of document.querySelectorAll("#view [data-group][data-colour]")) {
     head.dataset.colour = COLOUR_LETTERS[run.colours[head.dataset.group]];
   }
+  for (const way of document.querySelectorAll("#view [data-way]")) {
+    way.dataset.shown = COLOUR_LETTERS[run.colours[way.dataset.way]];
+  }
   for (const cell of document.querySelectorAll("#view [data-shows]")) {
     const letter = COLOUR_LETTERS[run.colours[cell.dataset.shows]];
     cell.dataset.colour = cell.textContent = letter;
@@ -162,16 +165,36 @@ function showAside(run) {
   byId("walks").innerHTML = walks.length ? `<table>${walks.join("")}</table>` : "";
 }
 
+/** Which steps the timeline shows, and how wide its parts are. */
+function timelineRange() {
+  const [from, span] = [Number(byId("back").value), Number(byId("span").value)];
+  const width = byId("lines").clientWidth;
+  return { from, to: from + span, width, left: width > 1000 ? 210 : 132, room: byId("lines").clientHeight - 6 };
+}
+
 function showTimeline(run) {
   const back = byId("back");
   const follows = Number(back.value) === Number(back.max);
-  const span = Number(byId("span").value);
-  back.max = Math.max(0, run.now - span);
+  back.max = Math.max(0, run.now - Number(byId("span").value));
   if (follows) back.value = back.max;
-  const from = Number(back.value);
-  const width = byId("lines").clientWidth;
-  const left = width > 1000 ? 210 : 132;
-  byId("lines").innerHTML = timelinePicture(run, { from, to: from + span, width, left, room: byId("lines").clientHeight - 6 });
+  byId("rows").innerHTML = timelinePicture(run, timelineRange());
+}
+
+/** What was shown in the step under the pointer. */
+function showCross(event) {
+  const { from, to, width, left } = timelineRange();
+  const { run } = page;
+  const part = (event.offsetX - left) / (width - left - 16);
+  const step = from + Math.ceil(part * (to - from));
+  const cross = byId("cross");
+  cross.hidden = !run || part <= 0 || step < 1 || step > run.now;
+  if (cross.hidden) return;
+  const position = run.position.at(step);
+  const green = run.site.groups.filter((_, at) => COLOUR_LETTERS[run.groups[at].at(step)] === "G").map(group => group.name);
+  cross.innerHTML = `<span>${seconds(step)} s · ${letterOf(position >> 3)} ${INTERVAL_NAMES[position & 7]} · green: ${green.join(" ") || "none"}</span>`;
+  cross.className = part > 0.6 ? "left" : "";
+  cross.style.left = `${event.offsetX}px`;
+  cross.style.height = `${byId("rows").offsetHeight}px`;
 }
 
 // ── The views ──
@@ -364,6 +387,8 @@ function listen() {
   on("scheme", "change", event => { document.documentElement.dataset.scheme = event.target.value; });
   on("span", "change", () => { byId("back").value = byId("back").max; refresh(); });
   on("back", "input", refresh);
+  on("rows", "pointermove", showCross);
+  on("rows", "pointerleave", () => { byId("cross").hidden = true; });
   toggle("fast", "fast");
   toggle("hold", "hold");
   for (const tab of document.querySelectorAll("[role=tab]")) {

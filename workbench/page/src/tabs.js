@@ -16,7 +16,7 @@ function conflictTable({ site, colours }) {
   const rows = groups.map((group, at) => `<tr><th scope="row">${group.name}</th><td class="show" data-shows="${at}">${COLOUR_LETTERS[colours[at]]}</td>` +
     `<td class="phases">${group.phases}</td>${groups.map((_, other) => cell(at, other)).join("")}<td class="about">${escaped(group.label ?? "")}</td></tr>`);
   return `<p class="key"><b class="conflict">✕</b> conflict: never green together <b class="together">A</b> green together in these phases <b class="apart">·</b> no conflict and no phase together</p>` +
-    `<table class="matrix"><caption>Conflicts of the signal groups</caption><thead><tr><td></td><th scope="col">now</th><th scope="col">phases</th>${head.join("")}<td></td></tr></thead><tbody>${rows.join("")}</tbody></table>`;
+    `<table class="matrix" style="--cell: ${groups.length > 14 ? 20 : 28}px"><caption>Conflicts of the signal groups</caption><thead><tr><td></td><th scope="col">now</th><th scope="col">phases</th>${head.join("")}<td></td></tr></thead><tbody>${rows.join("")}</tbody></table>`;
 }
 
 // ── Waits ──
@@ -90,13 +90,13 @@ function waitsTable(library, run) {
   const share = steps => `<td class="sum">${seconds(steps)}</td><td class="bar"><meter min="0" max="${bound}" value="${steps}" aria-label="share of the bound">${steps}</meter></td>`;
   const body = rows.map(({ phase, times, sum }) => `<tr><th scope="row">${phase.letter}</th>${names.map(name => cell(times, name)).join("")}${share(sum)}</tr>`);
   const span = names.length;
-  return `<p class="lead">Whoever calls with lock or presses is served within <b>${seconds(bound)} s</b> (${bound} steps).</p>` +
+  return `<p class="lead">Whoever calls with lock or presses is served within <b>${seconds(bound)} s</b> (${bound} steps).</p><div class="columns"><div>` +
     `<table class="waits"><caption>The wait bound and its parts, in seconds</caption><thead><tr><th scope="col">phase</th>${names.map(name => `<th scope="col">${name}</th>`).join("")}<th scope="col">part</th><td></td></tr></thead><tbody>` +
     `<tr><th scope="row">start red</th><td colspan="${span}" class="left">${cell(start, "start red").replace(/<\/?td[^>]*>/g, "")}</td>${share(sumOf(start))}</tr>${body.join("")}` +
     (rest === 0 ? "" : `<tr><th scope="row">other</th><td colspan="${span}"></td>${share(rest)}</tr>`) +
     `<tr class="total"><th scope="row">bound</th><td colspan="${span}"></td><td class="sum">${seconds(bound)}</td><td></td></tr></tbody></table>` +
     `<p class="hint">Each factor is asked of the library: by how much the bound grows if this time is one step longer. Of several walks in a phase the longest counts. A time in grey does not count.</p>` +
-    `<h3>Longest waits of this run</h3><div id="seen">${longestWaits(run)}</div>`;
+    `</div><div id="seen">${longestWaits(run)}</div></div>`;
 }
 
 /** For each phase and movement the longest wait that this run has seen, from registered to met. */
@@ -108,7 +108,7 @@ function longestWaits(run) {
     return `<tr><th scope="row">${name}</th><td>${waits.length}</td><td>${waits.length ? seconds(most) : "–"}</td><td>${seconds(run.bound)}</td>` +
       `<td class="bar"><meter min="0" max="${run.bound}" value="${most}" aria-label="longest wait of ${name} as a share of the bound">${most}</meter></td></tr>`;
   };
-  return `<table class="waits seen"><thead><tr><th scope="col">demand of</th><th scope="col">times</th><th scope="col">longest, s</th><th scope="col">bound, s</th><td></td></tr></thead><tbody>` +
+  return `<table class="waits"><caption>Longest waits of this run</caption><thead><tr><th scope="col">demand of</th><th scope="col">times</th><th scope="col">longest, s</th><th scope="col">bound, s</th><td></td></tr></thead><tbody>` +
     site.phases.map((phase, at) => row(`phase ${phase.letter}`, run.locks[at])).join("") +
     site.movements.map((movement, at) => row(`${movement.name} walk`, run.presses[at])).join("") + `</tbody></table>`;
 }

@@ -84,8 +84,8 @@ const tests = {
       ["two_phases", "A    0   20", "A    0   5", ["refusal", "A    0   5"]],
       ["crossings", "P1: V2 V5 V7", "P1: V2 V5 V77", ["error", "P1: V2 V5 V77"]],
       ["t_junction", "1     B      non-locking", "1     Q      non-locking", ["refusal", "1     Q"]],
-      ["four_arms", "5.0 s   12.0 s", "5.0 s   1.5 s", ["warning", "5.0 s   1.5 s"]],
-      ["four_arms", "start red   4.0 s", "start red   4.05 s", ["error", "start red"]],
+      ["four_arms", "5.0 s   15 s", "5.0 s   1.5 s", ["warning", "5.0 s   1.5 s"]],
+      ["four_arms", "start red   4 s", "start red   4.05 s", ["error", "start red"]],
     ];
     for (const [site, before, after, [severity, row]] of cases) {
       await load(browser, site);
@@ -192,6 +192,24 @@ const tests = {
     }
   },
 
+  /** The timeline has a row for each thing, and tells what was shown in the step under the pointer. */
+  async timelineTells(browser) {
+    await load(browser, "crossings", "inputs");
+    await browser.value("steps(700)");
+    const labels = await browser.value("Array.from(document.querySelectorAll('#rows .label'), label => label.textContent)");
+    const wanted = await browser.value("['phase', ...page.run.site.groups.map(group => group.name), 'A', 'D', ...page.run.site.movements.map(movement => movement.name), ...page.run.site.movements.map((_, at) => 'B' + at), ...page.run.site.detectors.map((_, at) => 'D' + at)]");
+    assert.deepEqual(labels, wanted);
+    const place = await browser.value("(() => { const { left, top } = byId('rows').getBoundingClientRect(), range = timelineRange(); return { x: left + range.left + (600 - range.from) / (range.to - range.from) * (range.width - range.left - 16), y: top + 60 }; })()");
+    await browser.send("Input.dispatchMouseEvent", { type: "mouseMoved", ...place });
+    const [told, step] = await browser.value("[byId('cross').textContent, Math.round(10 * parseFloat(byId('cross').textContent))]");
+    assert.ok(Math.abs(step - 600) <= 3, told);
+    const [, phase, interval, colours] = fs.readFileSync(path.join(EXAMPLES, "crossings/trace.txt"), "utf8").split("\n")[step].split(" ");
+    const names = await browser.value("page.run.site.groups.map(group => group.name)");
+    const green = names.filter((_, at) => colours[at] === "G");
+    const intervalName = await browser.value(`INTERVAL_NAMES[INTERVAL_LETTERS.indexOf("${interval}")]`);
+    assert.equal(told.split(" · ").slice(1).join(" · "), `${phase} ${intervalName} · green: ${green.join(" ")}`);
+  },
+
   /** New times are handed to the running site; anything else starts a new run. */
   async textIsAdopted(browser) {
     await load(browser, "two_phases");
@@ -291,6 +309,8 @@ const FAULTS = [
   ["tabsOpen", "return more - bound;", "return more - bound + 1;"],
   ["tabsOpen", "const steps = Math.round(site.steps * point / ROAD_POINTS);", "const steps = Math.round(site.steps * point / (ROAD_POINTS + 1));"],
   ["tabsOpen", "groups[row].conflicts.includes(column)", "groups[column].conflicts.includes(column - 1)"],
+  ["timelineTells", "return this.values[this.placeOf(step)];", "return this.values[this.placeOf(step - 80)];"],
+  ["timelineTells", "add(run.buttons, drawMark,", "add([], drawMark,"],
   ["textIsAdopted", "page.library.retime(run.bytes, run.state, check.bytes).number === 0", "false"],
   ["typingIsChecked", `this.area.addEventListener("input", () => changed(this.area.value));`, ""],
   ["typingIsChecked", "return number === 0 ? [] : [texts.tell(text, number, 0)];", "return [];"],
