@@ -8,7 +8,7 @@ from pathlib import Path
 
 HERE = Path(__file__).resolve().parent
 ROOT = HERE.parent.parent
-SCRIPTS = ["library", "check", "run", "editor", "heads", "junction", "timeline", "tabs", "main"]
+SCRIPTS = ["library", "check", "run", "editor", "heads", "junction", "timeline", "tabs", "page", "show", "views", "files", "main"]
 
 
 def title_of(folder, text, variant):
