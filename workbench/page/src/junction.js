@@ -191,8 +191,9 @@ function drawArm(site, arm, parts, shown) {
     drawWalker(site, arm, one, at, u, parts, shown);
   });
   drawDetectors(site, arm, parts, shown);
-  const [x, y] = pointOf(arm, end - 18, -half / 2);
-  parts.things += `<text class="arm" x="${x}" y="${y + 3}">${escaped(arm.approach.name)}</text>`;
+  const { name } = arm.approach;
+  const [x, y] = pointOf(arm, end - 18, -half - 8 - Math.abs(arm.right[0]) * 2.7 * name.length);
+  parts.things += `<text class="arm" x="${x}" y="${y + 3}">${escaped(name)}</text>`;
 }
 
 const numberedOf = (list, arm) => list.map((one, at) => ({ one, at })).filter(({ one }) => one.approach === arm.approach.name);

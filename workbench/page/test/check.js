@@ -195,6 +195,20 @@ const tests = {
     }
   },
 
+  /** Nothing is wider than the window, no control is cut off or covered, and no head covers another. */
+  async layoutFits(browser) {
+    for (const [width, height] of [[1280, 800], [1920, 1080]]) {
+      await browser.size(width, height);
+      for (const site of ["four_arms", ...folders]) {
+        await load(browser, site);
+        await browser.value("steps(5), new Promise(resolve => requestAnimationFrame(() => setTimeout(resolve)))");
+        const faults = await browser.value(`(${misplaced})()`);
+        assert.deepEqual(faults, [], `${site} at ${width}`);
+      }
+    }
+    await browser.size(1280, 800);
+  },
+
   /** The timeline has a row for each thing, and tells what was shown in the step under the pointer. */
   async timelineTells(browser) {
     await load(browser, "crossings", "inputs");
@@ -285,6 +299,26 @@ const tests = {
   },
 };
 
+/** Runs in the page: what is cut off, covered or over something else. */
+function misplaced() {
+  const faults = [];
+  const root = document.documentElement;
+  if (root.scrollWidth > innerWidth || root.scrollHeight > innerHeight) faults.push("the page is larger than the window");
+  const inside = box => box.left >= 0 && box.top >= 0 && box.right <= innerWidth && box.bottom <= innerHeight;
+  for (const one of document.querySelectorAll("header button, header select, #controls > *, #controls select, #tabs button, #timebar select, #back, #text, #view .input")) {
+    const box = one.getBoundingClientRect();
+    const name = one.id || one.getAttribute("aria-label") || one.tagName;
+    if (!inside(box)) faults.push(name + " is cut off");
+    const top = document.elementFromPoint(box.x + box.width / 2, box.y + box.height / 2);
+    if (!one.contains(top)) faults.push(name + " is covered by " + (top?.outerHTML ?? "nothing").slice(0, 60));
+  }
+  for (const one of document.querySelectorAll("header output, #clock, #tabs span")) if (one.scrollWidth > one.clientWidth + 1) faults.push(one.id + " is cut off");
+  const heads = Array.from(document.querySelectorAll("#view [data-group]"), head => head.getBoundingClientRect());
+  const over = (a, b) => a.left < b.right - 1 && b.left < a.right - 1 && a.top < b.bottom - 1 && b.top < a.bottom - 1;
+  heads.forEach((head, at) => heads.slice(at + 1).forEach((other, next) => { if (over(head, other)) faults.push("head " + at + " is over head " + (at + 1 + next)); }));
+  return faults;
+}
+
 /** What has the focus in a round of the Tab key. */
 async function tabRound(browser) {
   const reached = new Set();
@@ -312,6 +346,9 @@ const FAULTS = [
   ["tabsOpen", "return more - bound;", "return more - bound + 1;"],
   ["tabsOpen", "const steps = Math.round(site.steps * point / ROAD_POINTS);", "const steps = Math.round(site.steps * point / (ROAD_POINTS + 1));"],
   ["tabsOpen", "groups[row].conflicts.includes(column)", "groups[column].conflicts.includes(column - 1)"],
+  ["layoutFits", "tries < 60 && parts.boxes.some(covers)", "false"],
+  ["layoutFits", "#right { grid-template: auto auto minmax(0, 52fr) minmax(0, 48fr) / minmax(0, 1fr);", "#right { grid-template: auto auto minmax(0, 52fr) minmax(0, 48fr) / 900px;"],
+  ["layoutFits", "parts.things += buttonAt(site.movements[button], button, ...pointOf(arm, u, 0));", "parts.things = buttonAt(site.movements[button], button, ...pointOf(arm, u, -arm.half - 20)) + parts.things;"],
   ["timelineTells", "return this.values[this.placeOf(step)];", "return this.values[this.placeOf(step - 80)];"],
   ["timelineTells", "add(run.buttons, drawMark,", "add([], drawMark,"],
   ["textIsAdopted", "page.library.retime(run.bytes, run.state, check.bytes).number === 0", "false"],
