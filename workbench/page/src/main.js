@@ -81,6 +81,7 @@ function listen() {
   on("save-text", "click", () => save(`${page.example.name}.txt`, page.editor.text, "text/plain"));
   on("save-bytes", "click", () => save(`${page.example.name}.bin`, page.check.bytes, "application/octet-stream"));
   on("save-inputs", "click", () => save(`${page.example.name}_inputs.txt`, page.run.inputScript, "text/plain"));
+  on("save-trace", "click", () => save(`${page.example.name}_trace.txt`, page.run.trace, "text/plain"));
   on("save-picture", "click", () => save(`${page.example.name}.svg`, picture(), "image/svg+xml"));
   on("scheme", "change", event => { document.documentElement.dataset.scheme = event.target.value; });
   on("span", "change", () => { byId("back").value = byId("back").max; refresh(); });

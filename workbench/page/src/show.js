@@ -48,8 +48,11 @@ function showAside(run) {
   const why = run.why;
   byId("why").textContent = why || `${letterOf(run.phase)} is in ${INTERVAL_NAMES[run.interval]}`;
   byId("why").className = why ? "" : "quiet";
-  const demands = run.demands.map(({ name, waited, bound }) =>
-    `<tr><th scope="row">${escaped(name)}</th><td>${seconds(waited)} of ${seconds(bound)} s</td><td><meter min="0" max="${bound}" value="${waited}" aria-label="${escaped(name)}: waited ${seconds(waited)} of at most ${seconds(bound)} seconds"></meter></td></tr>`);
+  const demands = run.demands.map(({ name, waited, bound }) => {
+    const told = `${name}: waited ${seconds(waited)} of at most ${seconds(bound)} seconds`;
+    const meter = `<meter min="0" max="${bound}" value="${waited}" aria-label="${escaped(told)}"></meter>`;
+    return `<tr><th scope="row">${escaped(name)}</th><td>${seconds(waited)} of ${seconds(bound)} s</td><td>${meter}</td></tr>`;
+  });
   byId("demands").innerHTML = demands.length ? `<table>${demands.join("")}</table>` : `<span class="none">nobody waits</span>`;
   const walks = run.site.movements.map((movement, at) =>
     `<tr><th scope="row">${escaped(movement.name)}</th><td class="${run.stage(at) ? "" : "none"}">${STAGE_NAMES[run.stage(at)]}</td></tr>`);

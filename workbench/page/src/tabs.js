@@ -15,8 +15,10 @@ function conflictTable({ site, colours }) {
   };
   const rows = groups.map((group, at) => `<tr><th scope="row">${group.name}</th><td class="show" data-shows="${at}">${COLOUR_LETTERS[colours[at]]}</td>` +
     `<td class="phases">${group.phases}</td>${groups.map((_, other) => cell(at, other)).join("")}<td class="about">${escaped(group.label ?? "")}</td></tr>`);
-  return `<p class="key"><b class="conflict">✕</b> conflict: never green together <b class="together">A</b> green together in these phases <b class="apart">·</b> no conflict and no phase together</p>` +
-    `<table class="matrix" style="--cell: ${groups.length > 14 ? 20 : 28}px"><caption>Conflicts of the signal groups</caption><thead><tr><td></td><th scope="col">now</th><th scope="col">phases</th>${head.join("")}<td></td></tr></thead><tbody>${rows.join("")}</tbody></table>`;
+  return `<p class="key"><b class="conflict">✕</b> conflict: never green together <b class="together">A</b> green together in these phases ` +
+    `<b class="apart">·</b> no conflict and no phase together</p>` +
+    `<table class="matrix" style="--cell: ${groups.length > 14 ? 20 : 28}px"><caption>Conflicts of the signal groups</caption>` +
+    `<thead><tr><td></td><th scope="col">now</th><th scope="col">phases</th>${head.join("")}<td></td></tr></thead><tbody>${rows.join("")}</tbody></table>`;
 }
 
 // ── Waits ──
@@ -77,26 +79,38 @@ function boundParts(library, site, bytes) {
 
 const sumOf = times => times.reduce((sum, { value, weight }) => sum + value * weight, 0);
 
+const BOUND_COLUMNS = ["L", "M", "X", "G", "E", "Y", "R", "W", "C1", "C2"];
+
+/** A time with its factor, and whose it is if it is that of a walk. */
+function timeCell(times, name) {
+  const time = times.find(time => time.name === name);
+  if (!time) return "<td></td>";
+  if (time.weight === 0) return `<td class="faint" title="does not count">${seconds(time.value)}</td>`;
+  const factor = time.weight > 1 ? `${time.weight} × ` : "";
+  const of = time.of ? ` <small>${time.of}</small>` : "";
+  return `<td title="one step more adds ${time.weight} to the bound">${factor}${seconds(time.value)}${of}</td>`;
+}
+
+/** A row of the table: its times, and what they are of the bound. */
+function partRow(name, times, part, bound) {
+  const first = times.some(time => time.name === name) ? timeCell(times, name) + `<td colspan="${BOUND_COLUMNS.length - 1}"></td>` : null;
+  return `<tr><th scope="row">${name}</th>${first ?? BOUND_COLUMNS.map(column => timeCell(times, column)).join("")}<td class="sum">${seconds(part)}</td>` +
+    `<td class="bar"><meter min="0" max="${bound}" value="${part}" aria-label="${name}, share of the bound">${part}</meter></td></tr>`;
+}
+
 function waitsTable(library, run) {
   const { bound, start, rows, rest } = boundParts(library, run.site, run.wanted);
-  const names = ["L", "M", "X", "G", "E", "Y", "R", "W", "C1", "C2"];
-  const cell = (times, name) => {
-    const time = times.find(time => time.name === name);
-    if (!time) return "<td></td>";
-    if (time.weight === 0) return `<td class="faint" title="does not count">${seconds(time.value)}</td>`;
-    const of = time.of ? ` <small>${time.of}</small>` : "";
-    return `<td title="one step more adds ${time.weight} to the bound">${time.weight > 1 ? time.weight + " × " : ""}${seconds(time.value)}${of}</td>`;
-  };
-  const share = steps => `<td class="sum">${seconds(steps)}</td><td class="bar"><meter min="0" max="${bound}" value="${steps}" aria-label="share of the bound">${steps}</meter></td>`;
-  const body = rows.map(({ phase, times, sum }) => `<tr><th scope="row">${phase.letter}</th>${names.map(name => cell(times, name)).join("")}${share(sum)}</tr>`);
-  const span = names.length;
+  const head = ["phase", ...BOUND_COLUMNS, "part"].map(name => `<th scope="col">${name}</th>`).join("");
+  const body = [
+    partRow("start red", start, sumOf(start), bound),
+    ...rows.map(({ phase, times, sum }) => partRow(phase.letter, times, sum, bound)),
+    ...(rest === 0 ? [] : [partRow("other", [], rest, bound)]),
+  ];
   return `<p class="lead">Whoever calls with lock or presses is served within <b>${seconds(bound)} s</b> (${bound} steps).</p><div class="columns"><div>` +
-    `<table class="waits"><caption>The wait bound and its parts, in seconds</caption><thead><tr><th scope="col">phase</th>${names.map(name => `<th scope="col">${name}</th>`).join("")}<th scope="col">part</th><td></td></tr></thead><tbody>` +
-    `<tr><th scope="row">start red</th><td colspan="${span}" class="left">${cell(start, "start red").replace(/<\/?td[^>]*>/g, "")}</td>${share(sumOf(start))}</tr>${body.join("")}` +
-    (rest === 0 ? "" : `<tr><th scope="row">other</th><td colspan="${span}"></td>${share(rest)}</tr>`) +
-    `<tr class="total"><th scope="row">bound</th><td colspan="${span}"></td><td class="sum">${seconds(bound)}</td><td></td></tr></tbody></table>` +
-    `<p class="hint">Each factor is asked of the library: by how much the bound grows if this time is one step longer. Of several walks in a phase the longest counts. A time in grey does not count.</p>` +
-    `</div><div id="seen">${longestWaits(run)}</div></div>`;
+    `<table class="waits"><caption>The wait bound and its parts, in seconds</caption><thead><tr>${head}<td></td></tr></thead><tbody>${body.join("")}` +
+    `<tr class="total"><th scope="row">bound</th><td colspan="${BOUND_COLUMNS.length}"></td><td class="sum">${seconds(bound)}</td><td></td></tr></tbody></table>` +
+    `<p class="hint">Each factor is asked of the library: by how much the bound grows if this time is one step longer. Of several walks in a phase the longest counts. ` +
+    `A time in grey does not count.</p></div><div id="seen">${longestWaits(run)}</div></div>`;
 }
 
 /** For each phase and movement the longest wait that this run has seen, from registered to met. */
@@ -108,9 +122,12 @@ function longestWaits(run) {
     return `<tr><th scope="row">${name}</th><td>${waits.length}</td><td>${waits.length ? seconds(most) : "–"}</td><td>${seconds(run.bound)}</td>` +
       `<td class="bar"><meter min="0" max="${run.bound}" value="${most}" aria-label="longest wait of ${name} as a share of the bound">${most}</meter></td></tr>`;
   };
-  return `<table class="waits"><caption>Longest waits of this run</caption><thead><tr><th scope="col">demand of</th><th scope="col">times</th><th scope="col">longest, s</th><th scope="col">bound, s</th><td></td></tr></thead><tbody>` +
-    site.phases.map((phase, at) => row(`phase ${phase.letter}`, run.locks[at])).join("") +
-    site.movements.map((movement, at) => row(`${movement.name} walk`, run.presses[at])).join("") + `</tbody></table>`;
+  const head = ["demand of", "times", "longest, s", "bound, s"].map(name => `<th scope="col">${name}</th>`).join("");
+  const rows = [
+    ...site.phases.map((phase, at) => row(`phase ${phase.letter}`, run.locks[at])),
+    ...site.movements.map((movement, at) => row(`${movement.name} walk`, run.presses[at])),
+  ];
+  return `<table class="waits"><caption>Longest waits of this run</caption><thead><tr>${head}<td></td></tr></thead><tbody>${rows.join("")}</tbody></table>`;
 }
 
 // ── The road ──
@@ -154,12 +171,14 @@ function roadTable(site, points) {
   const most = tallest(site, points);
   const rows = site.streams.map((stream, at) => {
     const { queued, gone } = last.counts[at];
-    const picture = `<svg viewBox="0 0 600 34" preserveAspectRatio="none" role="img" aria-label="Queue of ${streamName(site, stream)} over time">${strip(points, at, most, 600, 34)}</svg>`;
+    const told = `Queue of ${streamName(site, stream)} over time, at most ${longestOf(points, at)}`;
+    const picture = `<svg viewBox="0 0 600 34" preserveAspectRatio="none" role="img" aria-label="${told}">${strip(points, at, most, 600, 34)}</svg>`;
     return `<tr title="${escaped(site.detectors[stream.detector]?.label ?? "")}"><th scope="row">${streamName(site, stream)}</th>` +
       `<td>${stream.rate}</td><td>${queued + gone}</td><td>${gone}</td><td>${queued}</td><td>${longestOf(points, at)}</td><td class="strip">${picture}</td></tr>`;
   });
-  return `<table class="waits road"><thead><tr><th scope="col">stream</th><th scope="col">veh/h</th><th scope="col">arrived</th><th scope="col">gone</th><th scope="col">queued</th><th scope="col">longest</th>` +
-    `<th scope="col" class="strip">queue over ${site.steps / 10} s, full height ${most} vehicles</th></tr></thead><tbody>${rows.join("")}</tbody></table>`;
+  const head = ["stream", "veh/h", "arrived", "gone", "queued", "longest"].map(name => `<th scope="col">${name}</th>`).join("");
+  return `<table class="waits road"><thead><tr>${head}<th scope="col" class="strip">queue over ${site.steps / 10} s, full height ${most} vehicles</th></tr></thead>` +
+    `<tbody>${rows.join("")}</tbody></table>`;
 }
 
 /** The queues as a picture of its own, for saving. */

@@ -34,7 +34,8 @@ function drawRoad() {
   const view = byId("view");
   const site = { site: page.run.site, bytes: page.run.wanted };
   if (site.site.streams.length === 0) {
-    view.innerHTML = `<p class="hint">The text has no streams. Add the heading <b>streams</b> at its end with rows such as <code>detector 0 group V1 rate 400</code>, and the road is simulated for them.</p>`;
+    view.innerHTML = `<p class="hint">The text has no streams. Add the heading <b>streams</b> at its end with rows such as ` +
+      `<code>detector 0 group V1 rate 400</code>, and the road is simulated for them.</p>`;
     return;
   }
   if (page.road) return showRoad(site.site, page.road);
@@ -56,5 +57,6 @@ function showRoad(site, { number, points, part }) {
   }
   if (points.length === 0) return;
   const progress = part < 1 ? `<progress max="1" value="${part}" aria-label="Simulated part">${part}</progress>` : "";
-  view.innerHTML = `<p class="hint">The simulated road of the library with the streams of the text. Change their rates below the heading streams. ${progress}</p>${roadTable(site, points)}`;
+  view.innerHTML = `<p class="hint">The simulated road of the library with the streams of the text. Change their rates below the heading streams. ` +
+    `${progress}</p>${roadTable(site, points)}`;
 }

@@ -114,11 +114,11 @@ const tests = {
   async controlsHaveNames(browser) {
     await load(browser, "four_arms", "inputs");
     await browser.value("document.activeElement.blur()");
-    const { nodes } = await browser.send("Accessibility.getFullAXTree");
-    const shown = kinds => nodes.filter(node => !node.ignored && kinds.includes(node.role?.value));
-    const controls = shown(["button", "combobox", "textbox", "slider", "tab", "checkbox", "link", "spinbutton", "menuitem"]);
-    for (const node of [...controls, ...shown(["image", "meter", "progressbar", "tabpanel", "toolbar", "tablist", "region"])]) {
-      assert.ok(node.name?.value?.trim(), `a ${node.role.value} without a name`);
+    let controls;
+    for (const view of ["conflicts", "waits", "road", "junction"]) {
+      await browser.value(`choose("${view}")`);
+      if (view === "road") await browser.until("page.road?.part > 0");
+      controls = await namedControls(browser, view);
     }
     const list = "button:not(:disabled), select, textarea, input:not([hidden]), [role=button], a[href]";
     const wanted = await browser.value(`Array.from(document.querySelectorAll("${list}"), one => one.id || one.dataset.bit || one.textContent)`);
@@ -148,6 +148,22 @@ const tests = {
     await browser.until("page.run.now >= 12");
     await browser.key("Enter", 13, 0, "\r");
     assert.equal(await browser.value("page.playing"), false);
+  },
+
+  /** A detector is occupied for as long as the mouse is pressed on it, and with Hold until the next click. */
+  async mouseHolds(browser) {
+    await load(browser, "four_arms");
+    await browser.send("Input.dispatchMouseEvent", { type: "mousePressed", ...await browser.middle("#view .input[data-bit='4']"), button: "left", clickCount: 1 });
+    await browser.value("steps(3)");
+    await browser.send("Input.dispatchMouseEvent", { type: "mouseReleased", ...await browser.middle("#view .input[data-bit='4']"), button: "left", clickCount: 1 });
+    await browser.value("steps(2)");
+    await browser.click("#hold");
+    await browser.click("#view .input[data-bit='4']");
+    await browser.value("steps(2)");
+    await browser.click("#view .input[data-bit='4']");
+    await browser.value("steps(1)");
+    await browser.click("#hold");
+    assert.deepEqual(await browser.value("page.run.detectors[4].spans(1, 8, 8)"), [[1, 3, 1], [4, 5, 0], [6, 7, 1], [8, 8, 0]]);
   },
 
   /** Play makes ten steps in a second, and a hundred with × 10. A busy machine loses some, so the best of three counts. */
@@ -268,7 +284,8 @@ const tests = {
     assert.equal((await browser.saved("#save-text", "crossings.txt", folder)).toString(), fs.readFileSync(path.join(EXAMPLES, "crossings/site.txt"), "utf8"));
     assert.deepEqual(await browser.saved("#save-bytes", "crossings.bin", folder), fs.readFileSync(path.join(EXAMPLES, "crossings/personality.bin")));
     assert.match((await browser.saved("#save-picture", "crossings.svg", folder)).toString(), /^<svg .*<\/svg>$/s);
-    const trace = await browser.value("page.run.trace");
+    const trace = (await browser.saved("#save-trace", "crossings_trace.txt", folder)).toString();
+    assert.ok(fs.readFileSync(path.join(EXAMPLES, "crossings/trace.txt"), "utf8").startsWith(trace) && trace.split("\n").length === 902, "the trace");
     await browser.saved("#save-inputs", "crossings_inputs.txt", folder);
     await load(browser, "crossings");
     await browser.chooseFile("#file", path.join(folder, "crossings_inputs.txt"));
@@ -298,6 +315,17 @@ const tests = {
     assert.deepEqual(browser.requests.filter(url => !/^(file|data|blob):/.test(url)), [], "nothing is asked of a network");
   },
 };
+
+/** The controls of the accessibility tree. Each has a name, and so has everything else that is told by its name alone. */
+async function namedControls(browser, view) {
+  const { nodes } = await browser.send("Accessibility.getFullAXTree");
+  const shown = kinds => nodes.filter(node => !node.ignored && kinds.includes(node.role?.value));
+  const controls = shown(["button", "combobox", "textbox", "slider", "tab", "checkbox", "link", "spinbutton", "menuitem"]);
+  for (const node of [...controls, ...shown(["image", "meter", "progressbar", "tabpanel", "toolbar", "tablist", "region"])]) {
+    assert.ok(node.name?.value?.trim(), `${view}: a ${node.role.value} without a name`);
+  }
+  return controls;
+}
 
 /** Runs in the page: what is cut off, covered or over something else. */
 function misplaced() {
@@ -342,6 +370,7 @@ const FAULTS = [
   ["controlsHaveNames", `role="button" tabindex="0"`, `role="button"`],
   ["controlsHaveNames", `<label>Shows <select id="span">`, `<label><select id="span">`],
   ["keysWork", `event.key !== "Enter" && event.key !== " "`, `event.key !== "x"`],
+  ["mouseHolds", "page.run.down |= bit;", ""],
   ["playKeepsTime", "(page.fast ? 10 : 1)", "(page.fast ? 3 : 1)"],
   ["tabsOpen", "return more - bound;", "return more - bound + 1;"],
   ["tabsOpen", "const steps = Math.round(site.steps * point / ROAD_POINTS);", "const steps = Math.round(site.steps * point / (ROAD_POINTS + 1));"],
