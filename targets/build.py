@@ -12,7 +12,9 @@ import shutil
 import subprocess
 import sys
 
-from module import BUILT, ROOT, Alone, Refused, exported, kit, module, said_by, told, tool
+from judge import exported
+from kit import BUILT, ROOT, Alone, Refused, kit, said_by, told, tool
+from module import module
 
 HERE = ROOT / "targets"
 
@@ -94,11 +96,12 @@ def archive(target, strict, text, folder):
 
 
 def web_module(target, text, folder):
-    """A module for WebAssembly: every call of the library, its memory and the first free byte of it. An outside name is an error."""
+    """A module for WebAssembly: every call of the library, its memory and the first free byte of it. An outside name is an error. The
+    memory has 64 KiB for the stack and 64 KiB for buffers."""
     compiled, made = folder / "willowera.o", folder / "willowera.wasm"
     clang(target, False, "-c", "-x", "ir", text, "-Wno-override-module", "-o", compiled)
     names = [f"--export={name}" for name in (*exported(text.read_text()), "__heap_base")]
-    said_by(tool("wasm-ld"), "--no-entry", *names, compiled, "-o", made)
+    said_by(tool("wasm-ld"), "--no-entry", "-zstack-size=65536", "--initial-memory=131072", *names, compiled, "-o", made)
     return made
 
 

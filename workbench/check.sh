@@ -51,9 +51,27 @@ pictures() {
     echo "$(ls "$room"/*.svg | wc -l) pictures (one of them damaged and noticed) and a report"
 }
 
+# The Python builder, which shares nothing with the site library, makes the same bytes of the workbench's own examples.
+same_as_python() {
+    willowera=${CARGO_TARGET_DIR:-../target/workbench}/debug/willowera
+    for text in examples/*/site.txt; do
+        "$willowera" build "$text" --out "$room/built.bin"
+        python3 - "$text" "$room/built.bin" <<'PYTHON'
+import sys
+from pathlib import Path
+sys.dont_write_bytecode = True
+sys.path.insert(0, "../examples")
+import build
+site, stated = build.site_of(Path(sys.argv[1]))
+if build.personality_of(site) != Path(sys.argv[2]).read_bytes() or build.wait_bound(site) != stated:
+    sys.exit(f"{sys.argv[1]}: the Python builder makes other bytes or another wait bound")
+PYTHON
+    done
+}
+
 case ${1:-} in
 site) ./cargo.sh test --quiet -p site ;;
-command) ./cargo.sh test --quiet -p workbench ;;
+command) ./cargo.sh test --quiet -p workbench && same_as_python ;;
 pictures) pictures ;;
 wasm)
     ./setup.sh browser

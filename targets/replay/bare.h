@@ -23,7 +23,7 @@ _Noreturn void leave(int status);
 
 /* ── Given by the file of the processor ── */
 
-/* From now on every unaligned access of a word faults: whether it does, tried with one. */
+/* From now on every unaligned access of a word or half word faults: whether it does, tried with each kind. */
 int trap_unaligned(void);
 
 #endif

@@ -16,15 +16,15 @@ enum { UNALIGN_TRP = 1 << 3, UNALIGNED = 1 << 24, FPU = 0xF << 20 };
 
 static volatile int probing, trapped;
 
-/* The frame has the address of the instruction in word 6. A fault that trap_unaligned tries is noted, and its instruction of 2 bytes is passed
- * over; any other ends the player. */
+/* The frame has the address of the instruction in word 6. A fault that trap_unaligned tries is counted, and its instruction of 2 bytes is
+ * passed over; any other ends the player. */
 void faulted(uint32_t *frame);
 void faulted(uint32_t *frame)
 {
     uint32_t cause = CFSR;
 
     if (probing && (cause & UNALIGNED) != 0) {
-        trapped = 1;
+        trapped++;
         CFSR = cause;
         frame[6] += 2;
         return;
@@ -38,17 +38,19 @@ __attribute__((naked)) static void fault(void)
     __asm__ volatile("mov r0, sp\n b faulted");
 }
 
+/* Words and half words, loaded and stored. */
 int trap_unaligned(void)
 {
     static uint32_t two_words[2];
-    uint32_t word;
+    uintptr_t odd = (uintptr_t)two_words + 1;
+    uint32_t word = 0;
 
     CCR |= UNALIGN_TRP;
     __asm__ volatile("dsb\n isb" ::: "memory");
     probing = 1;
-    __asm__ volatile("ldr %0, [%1]" : "=l"(word) : "l"((uintptr_t)two_words + 1) : "memory");
+    __asm__ volatile("ldr %0, [%1]\n ldrh %0, [%1]\n str %0, [%1]\n strh %0, [%1]" : "+l"(word) : "l"(odd) : "memory");
     probing = 0;
-    return trapped;
+    return trapped == 4;
 }
 
 static void start(void)

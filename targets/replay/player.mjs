@@ -2,7 +2,7 @@
 //
 //     node player.mjs willowera.wasm RECORDING
 //
-// README.md has the format. Exits with 0 if every call agrees, 1 if one differs, 2 if the recording is not whole.
+// README.md has the format. Exits with 0 if every call agrees, 1 if one differs, 2 if the recording is not whole, 3 if a call traps.
 import { readFileSync } from 'node:fs';
 
 const HEADER = 32, CHECK = 4, FILL = 0, PUT = 1, FIRST_CALL = 2, ALIGNMENT = 16, PAGE = 65536;
@@ -174,9 +174,10 @@ function main(module, recording) {
     player = new Player(readFileSync(module), open(recording));
     player.replay();
   } catch (error) {
-    if (!(error instanceof NotWhole)) throw error;
-    console.log(`the recording is not whole: ${error.message}`);
-    status = 2;
+    // Anything else is a trap of the module, or of no module.
+    const damaged = error instanceof NotWhole;
+    console.log(damaged ? `the recording is not whole: ${error.message}` : `call ${player?.replayed ?? 0}: ${error}`);
+    status = damaged ? 2 : 3;
   }
   const { replayed = 0, differed = 0 } = player ?? {};
   console.log(`${replayed} calls replayed, ${differed} differed`);

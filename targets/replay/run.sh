@@ -10,7 +10,7 @@
 set -u -o pipefail
 cd "$(dirname "$0")/../.." || exit 2
 
-targets='host cortex-m4 cortex-m4-strict cortex-m4f cortex-m0plus armv7-linux aarch64-linux riscv32 wasm32'
+targets='host cortex-m4 cortex-m4-strict cortex-m4f cortex-m4f-strict cortex-m0plus armv7-linux aarch64-linux riscv32 wasm32'
 here=targets/replay
 built=target/replay
 library=target/staticlib/libwillowera.a
@@ -39,7 +39,7 @@ words() {
     case "$1" in
     host) echo "$here/hosted.c" ;;
     *-linux) echo "-static $here/hosted.c" ;;
-    cortex-m4f) cortex -mcpu=cortex-m4 -mno-unaligned-access -mfloat-abi=hard -mfpu=fpv4-sp-d16 ;;
+    cortex-m4f*) cortex -mcpu=cortex-m4 -mno-unaligned-access -mfloat-abi=hard -mfpu=fpv4-sp-d16 ;;
     cortex-m4*) cortex -mcpu=cortex-m4 -mno-unaligned-access -mfloat-abi=soft ;;
     cortex-m0plus) cortex -mcpu=cortex-m0plus -mfloat-abi=soft ;;
     riscv32) echo "-march=rv32imac -mabi=ilp32 --specs=picolibc.specs -Wl,--no-relax $(bare riscv)" ;;
@@ -100,7 +100,7 @@ play_on_cortex() { # TARGET RECORDING [trap]
 
 play() { # TARGET RECORDING
     case "$1" in
-    cortex-m4-strict | cortex-m0plus) play_on_cortex "$1" "$2" trap ;;
+    *-strict | cortex-m0plus) play_on_cortex "$1" "$2" trap ;;
     cortex-*) play_on_cortex "$1" "$2" ;;
     host) timeout "$seconds" "$built/host" "$2" </dev/null 2>&1 ;;
     wasm32) timeout "$seconds" node "$here/player.mjs" "$(archive wasm32)" "$2" </dev/null 2>&1 ;;
@@ -112,7 +112,7 @@ replay() { # TARGET
     local said status
     said=$(play "$1" "$built/recording")
     status=$?
-    printf '%-17s%s\n' "$1" "$(tail -n 1 <<<"$said")"
+    printf '%-18s%s\n' "$1" "$(tail -n 1 <<<"$said")"
     [ "$status" -eq 0 ] || { head -n -1 <<<"$said" && echo "exit status $status"; }
     return "$status"
 }
@@ -129,7 +129,7 @@ try_damage() { # TARGET
             printf '%s: %s: expected status %s, "%s" and "%s", got status %s and: %s\n' "$1" "$name" "$status" "$one" "$other" "$got" "$said"
         fi
     done <"$built/damaged/expected"
-    printf '%-17s%s\n' "$1" "$count damaged recordings, $wrong not noticed"
+    printf '%-18s%s\n' "$1" "$count damaged recordings, $wrong not noticed"
     [ "$count" -gt 0 ] && [ "$wrong" -eq 0 ] && { [ "$1" != cortex-m4-strict ] || try_trap; }
 }
 
@@ -139,15 +139,15 @@ try_trap() {
     build_player cortex-m4 || return 1
     said=$(play_on_cortex cortex-m4 "$built/short" trap)
     if [ $? -eq 3 ] && [[ "$said" = *'fault: an unaligned access'* ]]; then
-        echo 'cortex-m4        with the trap: an unaligned access is noticed'
+        echo 'cortex-m4         with the trap: an unaligned access is noticed'
     else
-        echo "cortex-m4        with the trap: expected a fault, got: $said"
+        echo "cortex-m4         with the trap: expected a fault, got: $said"
         return 1
     fi
 }
 
 seed=1
-calls=40000
+calls=100000
 damaged=''
 while [ $# -gt 0 ]; do
     case "$1" in

@@ -25,8 +25,8 @@ struct Sample {
 /// The upper halves of lengths and numbers.
 const HIGH: [u64; 4] = [1 << 32, 1 << 40, 1 << 63, 0xFFFF_FFFF << 32];
 
-/// Bytes between buffers, at the least, in front of a personality of which the length is
-/// above 32 bits.
+/// At least so many bytes lie between two buffers, so that those behind a personality
+/// are all equal.
 const APART: usize = 16;
 
 impl Recorder {
@@ -82,7 +82,7 @@ impl Recorder {
         for sample in samples(&mut self.rng) {
             for chosen in 0..sample.parts.len() {
                 for high in HIGH {
-                    self.far_part(&sample, chosen, |low| high + low);
+                    self.far_part(&sample, chosen, |low| high | (low & 0xFFFF_FFFF));
                     self.far_part(&sample, chosen, |_| high);
                 }
             }

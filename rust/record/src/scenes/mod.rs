@@ -48,6 +48,7 @@ impl Recorder {
         for number in AIMED {
             self.site_damaged_by(number);
         }
+        self.every_code();
         self.every_alignment();
         self.empty_buffers();
         self.far_lengths();

@@ -8,7 +8,8 @@ use generate::{
     invalid_timed_state, known_inputs, refused_second, retimed, running_timed_state,
     unknown_inputs, valid_timed_state, Breakage, Plan, Rng, TimesBreakage,
 };
-use model::{Site, LONGEST_LINE, MAX_GROUPS, PLAIN_LEN, SEALED_LEN, STATE_LEN};
+use model::layout::FLAG;
+use model::{Site, TimedState, LONGEST_LINE, MAX_GROUPS, PLAIN_LEN, SEALED_LEN, STATE_LEN};
 
 /// The states of a scene.
 const STATES: usize = 20;
@@ -89,6 +90,26 @@ impl Recorder {
             self.call("retime", &[words[0], words[1], words[0]]);
             self.call("seal", &[words[0], words[1], rest.into()]);
             self.call("resume", &[words[0], rest.into(), words[1]]);
+        }
+    }
+
+    /// Every byte of the plain state and the flag with every small number, in the fresh
+    /// state and in one in running: the codes that there are, and those next to them.
+    pub(super) fn every_code(&mut self) {
+        let personality = Plan::largest().bytes();
+        let site = Site::read(&personality).expect("an accepted plan");
+        let running = running_timed_state(&mut self.rng, &personality, &site);
+        self.begin();
+        let first = self.laid(&personality);
+        let state = self.room(STATE_LEN);
+        for bytes in [TimedState::fresh(&site), running].map(|timed| timed.to_bytes()) {
+            for place in (0..PLAIN_LEN).chain([FLAG]) {
+                for code in 0..=8 {
+                    self.put(state, &bytes);
+                    self.put(state.part(place, 1), &[code]);
+                    self.call("why_length", &[first.into(), state.into(), 0.into()]);
+                }
+            }
         }
     }
 
