@@ -136,24 +136,40 @@ function planOf(site) {
   const arms = site.approaches.filter(approach => approach.bearing !== null).map(approach => armOf(site, approach))
     .sort((one, two) => one.approach.bearing - two.approach.bearing);
   for (const arm of arms) arm.begin = beginOf(arm, arms);
-  const parts = { road: "", marks: "", things: "", boxes: [] };
+  const parts = { road: "", marks: "", things: "", boxes: [], arms };
   const shown = { groups: new Set(), detectors: new Set(), buttons: new Set() };
   for (const arm of arms) drawArm(site, arm, parts, shown);
   for (const arm of arms) drawHeads(site, arm, parts, shown);
-  const far = axis => Math.max(...arms.map(arm => Math.abs(arm.out[axis]) * (arm.begin + arm.length)),
-    ...parts.boxes.map(box => Math.max(Math.abs(box.at[axis]), Math.abs(box.at[axis] + box.size[axis]))));
-  const [across, up] = [far(0), far(1)];
-  const tray = trayOf(site, shown, across, up);
+  const [[left, top], [right, bottom]] = edgesOf(arms, parts.boxes);
+  const tray = trayOf(site, shown, right, top);
   return {
     body: `<style>${PLAN_STYLE}</style>${parts.road}<path class="road" d="${middleOf(arms)}"/>${parts.marks}${parts.things}${tray.body}`,
-    left: -across, top: -up, width: 2 * across + tray.width, height: Math.max(2 * up, tray.height),
+    left, top, width: right - left + tray.width, height: Math.max(bottom - top, tray.height),
   };
 }
 
-/** A place for a head with its name: as wanted, or further along a direction until it covers no other head. */
-function freePlace(parts, at, size, direction) {
-  const covers = box => [0, 1].every(axis => at[axis] < box.at[axis] + box.size[axis] && box.at[axis] < at[axis] + size[axis]);
-  for (let tries = 0; tries < 60 && parts.boxes.some(covers); tries++) at = at.map((value, axis) => value + 4 * direction[axis]);
+/** The least and the greatest coordinates of the arms and the heads. */
+function edgesOf(arms, boxes) {
+  const ends = arms.flatMap(arm => [-arm.half, arm.half].map(v => pointOf(arm, arm.begin + arm.length, v)));
+  const points = [...ends, ...boxes.flatMap(({ at, size }) => [at, at.map((value, axis) => value + size[axis])])];
+  const along = axis => points.map(point => point[axis]);
+  return [[0, 1].map(axis => Math.min(...along(axis)) - 2), [0, 1].map(axis => Math.max(...along(axis)) + 2)];
+}
+
+/** Offsets away from the road and along it, the nearest first. */
+const OFFSETS = Array.from({ length: 900 }, (_, at) => [at % 30, Math.floor(at / 30)]).sort((one, two) => one[0] + one[1] - two[0] - two[1]);
+
+/** A place for a head with its name: as wanted, or the nearest one that covers no other head and no road. */
+function freePlace(parts, wanted, size, away, along) {
+  const covers = (at, box) => [0, 1].every(axis => at[axis] < box.at[axis] + box.size[axis] && box.at[axis] < at[axis] + size[axis]);
+  const points = [0, 0.5, 1].flatMap(x => [0, 0.5, 1].map(y => [x * size[0], y * size[1]]));
+  const onRoad = (at, arm) => points.some(([x, y]) => {
+    const along = (at[0] + x) * arm.out[0] + (at[1] + y) * arm.out[1];
+    const beside = (at[0] + x) * arm.right[0] + (at[1] + y) * arm.right[1];
+    return along > 0 && Math.abs(beside) < arm.half + 3;
+  });
+  const places = OFFSETS.map(([far, on]) => wanted.map((value, axis) => value + 5 * (far * away[axis] + on * along[axis])));
+  const at = places.find(at => !parts.boxes.some(box => covers(at, box)) && !parts.arms.some(arm => onRoad(at, arm))) ?? wanted;
   parts.boxes.push({ at, size });
   return at;
 }
@@ -178,11 +194,12 @@ function drawArm(site, arm, parts, shown) {
     return `<line class="${kind}" x1="${x1}" y1="${y1}" x2="${x2}" y2="${y2}"/>`;
   };
   const { begin, half } = arm;
+  const walkers = numberedOf(site.groups, arm).filter(({ one }) => one.mark === "pedestrian");
+  const stop = arm.stop = begin + 6 + CROSSING * walkers.length;
+  drawDetectors(site, arm, parts, shown);
   const end = begin + arm.length;
   const kerbs = [[begin - 1, -half], [begin - 1, half], [end, half], [end, -half]];
   parts.road += `<polygon class="road" points="${kerbs.map(([u, v]) => pointOf(arm, u, v)).join(" ")}"/>`;
-  const walkers = numberedOf(site.groups, arm).filter(({ one }) => one.mark === "pedestrian");
-  const stop = arm.stop = begin + 6 + CROSSING * walkers.length;
   parts.marks += line(stop, 1, stop, half - 1, "stop") + line(stop, 0, end, 0, "dash");
   for (let lane = 1; lane < arm.lanes; lane++) parts.marks += line(stop, lane * LANE, end, lane * LANE, "dash");
   walkers.forEach(({ one, at }, index) => {
@@ -190,7 +207,6 @@ function drawArm(site, arm, parts, shown) {
     parts.marks += line(u, -half + 2, u, half - 2, "zebra");
     drawWalker(site, arm, one, at, u, parts, shown);
   });
-  drawDetectors(site, arm, parts, shown);
   const { name } = arm.approach;
   const [x, y] = pointOf(arm, end - 18, -half - 8 - Math.abs(arm.right[0]) * 2.7 * name.length);
   parts.things += `<text class="arm" x="${x}" y="${y + 3}">${escaped(name)}</text>`;
@@ -212,10 +228,11 @@ const NAME = 14;
 function drawHeads(site, arm, parts, shown) {
   const heads = numberedOf(site.groups, arm).filter(({ one }) => one.mark !== "pedestrian");
   const size = [HEAD.width + 18, HEAD.height + NAME];
+  const away = arm.right.map(part => part * arm.side);
   const [x, y] = pointOf(arm, arm.stop + 8, arm.half + 4);
   heads.forEach(({ one, at }, index) => {
     const wanted = [x < 0 ? x - size[0] * (index + 1) : x + size[0] * index, y < 0 ? y - size[1] : y];
-    const place = freePlace(parts, wanted, size, arm.out);
+    const place = freePlace(parts, wanted, size, away, arm.out);
     parts.things += headOf(one, at, place[0] + 9, place[1]);
     shown.groups.add(at);
     drawWays(arm, one, at, parts);
@@ -235,7 +252,7 @@ function drawWalker(site, arm, group, at, u, parts, shown) {
   const size = [WALKER.width, WALKER.height + NAME];
   const away = arm.right.map(part => -part * arm.side);
   const far = arm.half + 5 + Math.abs(away[0]) * size[0] / 2 + Math.abs(away[1]) * size[1] / 2;
-  const place = freePlace(parts, pointOf(arm, u, -far).map((value, axis) => value - size[axis] / 2), size, away);
+  const place = freePlace(parts, pointOf(arm, u, -far).map((value, axis) => value - size[axis] / 2), size, away, arm.out);
   parts.things += headOf(group, at, ...place);
   shown.groups.add(at);
   const button = site.movements.findIndex(movement => movement.group === at);
@@ -245,22 +262,21 @@ function drawWalker(site, arm, group, at, u, parts, shown) {
 
 /** Metres before the stop line become a distance in the picture; without them detectors follow each other. */
 function drawDetectors(site, arm, parts, shown) {
-  const { stop } = arm;
   const used = new Map();
-  const most = arm.begin + arm.length - 12;
-  for (const { one, at } of numberedOf(site.detectors, arm)) {
+  const metres = ({ one }) => one.metres ?? 0;
+  for (const { one, at } of numberedOf(site.detectors, arm).sort((a, b) => metres(a) - metres(b))) {
     const { middle, wide } = sideOf(arm, one.lanes);
-    const least = used.get(middle) ?? stop + 38;
-    const u = Math.min(Math.max(least, stop + 36 + (one.metres ?? 0)), most);
+    const most = arm.begin + arm.length - 12;
+    const u = Math.max(used.get(middle) ?? 0, Math.min(arm.stop + 38 + metres({ one }), most));
     used.set(middle, u + 20);
-    const [x, y] = pointOf(arm, u, middle);
-    parts.things += detectorAt(one, at, x, y, arm.approach.bearing, Math.max(15, wide - 4), 15);
+    arm.length = Math.max(arm.length, u + 12 - arm.begin);
+    parts.things += detectorAt(one, at, ...pointOf(arm, u, middle), arm.approach.bearing, Math.max(15, wide - 4), 15);
     shown.detectors.add(at);
   }
 }
 
 /** What the text gives no place stands beside the plan. */
-function trayOf(site, shown, across, up) {
+function trayOf(site, shown, x, y) {
   const left = (list, set) => list.map((one, at) => ({ one, at })).filter(({ at }) => !set.has(at));
   const rest = {
     groups: left(site.groups, shown.groups),
@@ -270,5 +286,5 @@ function trayOf(site, shown, across, up) {
   if (rest.groups.length + rest.detectors.length + rest.buttons.length === 0) return { body: "", width: 0, height: 0 };
   const width = 165;
   const column = drawColumn({ letter: "", label: "without a place" }, rest, width);
-  return { body: `<g transform="translate(${across} ${-up})">${column.body}</g>`, width, height: column.height };
+  return { body: `<g transform="translate(${x} ${y})">${column.body}</g>`, width, height: column.height };
 }

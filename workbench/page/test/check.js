@@ -218,8 +218,11 @@ const tests = {
       for (const site of ["four_arms", ...folders]) {
         await load(browser, site);
         await browser.value("steps(5), new Promise(resolve => requestAnimationFrame(() => setTimeout(resolve)))");
-        const faults = await browser.value(`(${misplaced})()`);
-        assert.deepEqual(faults, [], `${site} at ${width}`);
+        assert.deepEqual(await browser.value(`(${misplaced})()`), [], `${site} at ${width}`);
+      }
+      for (const text of slanted()) {
+        await browser.value(`load({ name: "slanted", text: ${JSON.stringify(text)}, inputs: [] }), steps(1)`);
+        assert.deepEqual(await browser.value(`(${misplaced})()`), [], `${text.split("\n")[1]} at ${width}`);
       }
     }
     await browser.size(1280, 800);
@@ -316,6 +319,13 @@ const tests = {
   },
 };
 
+/** A site of three arms and one of four, with slanted arms, two crossings on one arm and things without a place. */
+function slanted() {
+  const three = fs.readFileSync(path.join(__dirname, "slanted.txt"), "utf8");
+  const four = three.replace("traffic right", "traffic left").replace("bearing 200", "bearing 170\nbus bearing 45").replace("pedestrian \"", "pedestrian approach bus \"");
+  return [three, four];
+}
+
 /** The controls of the accessibility tree. Each has a name, and so has everything else that is told by its name alone. */
 async function namedControls(browser, view) {
   const { nodes } = await browser.send("Accessibility.getFullAXTree");
@@ -375,7 +385,8 @@ const FAULTS = [
   ["tabsOpen", "return more - bound;", "return more - bound + 1;"],
   ["tabsOpen", "const steps = Math.round(site.steps * point / ROAD_POINTS);", "const steps = Math.round(site.steps * point / (ROAD_POINTS + 1));"],
   ["tabsOpen", "groups[row].conflicts.includes(column)", "groups[column].conflicts.includes(column - 1)"],
-  ["layoutFits", "tries < 60 && parts.boxes.some(covers)", "false"],
+  ["layoutFits", "!parts.boxes.some(box => covers(at, box))", "true"],
+  ["layoutFits", "!parts.arms.some(arm => onRoad(at, arm))", "true"],
   ["layoutFits", "#right { grid-template: auto auto minmax(0, 52fr) minmax(0, 48fr) / minmax(0, 1fr);", "#right { grid-template: auto auto minmax(0, 52fr) minmax(0, 48fr) / 900px;"],
   ["layoutFits", "parts.things += buttonAt(site.movements[button], button, ...pointOf(arm, u, 0));", "parts.things = buttonAt(site.movements[button], button, ...pointOf(arm, u, -arm.half - 20)) + parts.things;"],
   ["timelineTells", "return this.values[this.placeOf(step)];", "return this.values[this.placeOf(step - 80)];"],
