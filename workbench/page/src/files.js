@@ -43,7 +43,7 @@ function picture() {
   }
   const shown = document.createElement("div");
   shown.innerHTML = junctionPicture(run.site, { width: 1000, height: 420 });
-  for (const head of shown.querySelectorAll("[data-colour]")) head.dataset.colour = COLOUR_LETTERS[run.colours[head.dataset.group]];
+  colour(shown, run);
   const top = shown.firstChild;
   const width = Math.max(1000, 220 + run.now);
   const lines = timelinePicture(run, { from: 0, to: Math.max(run.now, 300), width, left: 210, room: 0 });

@@ -18,17 +18,21 @@ function showClock(run) {
   byId("clock").innerHTML = `${letterOf(run.phase)} ${INTERVAL_NAMES[run.interval]}${target}, ${seconds(run.age)} s${times} · step ${run.now} · <b>${seconds(run.now)} s</b>`;
 }
 
-function showLamps(run) {
-  if (run.now === 0) return;
-  for (const head of document.querySelectorAll("#view [data-group][data-colour]")) {
+/** Gives heads and lanes of a picture the colours of the last step. */
+function colour(picture, run) {
+  for (const head of picture.querySelectorAll("[data-group][data-colour]")) {
     head.dataset.colour = COLOUR_LETTERS[run.colours[head.dataset.group]];
   }
-  for (const way of document.querySelectorAll("#view [data-way]")) {
+  for (const way of picture.querySelectorAll("[data-way]")) {
     way.dataset.shown = COLOUR_LETTERS[run.colours[way.dataset.way]];
   }
+}
+
+function showLamps(run) {
+  if (run.now === 0) return;
+  colour(byId("view"), run);
   for (const cell of document.querySelectorAll("#view [data-shows]")) {
-    const letter = COLOUR_LETTERS[run.colours[cell.dataset.shows]];
-    cell.dataset.colour = cell.textContent = letter;
+    cell.dataset.colour = cell.textContent = COLOUR_LETTERS[run.colours[cell.dataset.shows]];
   }
   for (const column of document.querySelectorAll("#view .column")) {
     column.classList.toggle("now", Number(column.dataset.phase) === run.phase);

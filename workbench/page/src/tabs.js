@@ -176,7 +176,7 @@ function roadTable(site, points) {
     return `<tr title="${escaped(site.detectors[stream.detector]?.label ?? "")}"><th scope="row">${streamName(site, stream)}</th>` +
       `<td>${stream.rate}</td><td>${queued + gone}</td><td>${gone}</td><td>${queued}</td><td>${longestOf(points, at)}</td><td class="strip">${picture}</td></tr>`;
   });
-  const head = ["stream", "veh/h", "arrived", "gone", "queued", "longest"].map(name => `<th scope="col">${name}</th>`).join("");
+  const head = ["stream", "veh/h", "arrived", "gone", "queued", "longest seen"].map(name => `<th scope="col">${name}</th>`).join("");
   return `<table class="waits road"><thead><tr>${head}<th scope="col" class="strip">queue over ${site.steps / 10} s, full height ${most} vehicles</th></tr></thead>` +
     `<tbody>${rows.join("")}</tbody></table>`;
 }
@@ -188,7 +188,7 @@ function roadPicture(site, points) {
   const rows = site.streams.map((stream, at) => {
     const { queued, gone } = points.at(-1).counts[at];
     return `<g transform="translate(0 ${26 + 56 * at})"><text x="10" y="20" font-weight="600">${streamName(site, stream)}</text>` +
-      `<text x="10" y="36">${stream.rate} veh/h, ${gone} gone, ${queued} queued, longest ${longestOf(points, at)}</text>` +
+      `<text x="10" y="36">${stream.rate} veh/h, ${gone} gone, ${queued} queued, longest seen ${longestOf(points, at)}</text>` +
       `<g transform="translate(260 0)">${strip(points, at, most, 720, 48)}</g></g>`;
   });
   return `<svg xmlns="http://www.w3.org/2000/svg" viewBox="0 0 1000 ${height}" width="1000" height="${height}">` +

@@ -374,7 +374,7 @@ const FAULTS = [
   ["examplesLoad", "const bytes = new Uint8Array(built.bytes);", "const bytes = new Uint8Array(built.bytes); bytes[6] += 1;"],
   ["examplesLoad", "function detectorAt(detector, at, x, y, turned = 0, wide = 22, long = 16) {", "function detectorAt(detector, at, x, y, turned = 0, wide = 22, long = 16) { if (at === 7) return '';"],
   ["tracesAreEqual", "this.inputs = inputs;\n", "this.inputs = inputs; if (this.now === 2) this.colours[0] = 2;\n"],
-  ["tracesAreEqual", "head.dataset.colour = COLOUR_LETTERS[run.colours[head.dataset.group]];\n  }", "head.dataset.colour = 'R';\n  }"],
+  ["tracesAreEqual", "head.dataset.colour = COLOUR_LETTERS[run.colours[head.dataset.group]];", "head.dataset.colour = 'R';"],
   ["pressesLeadToWalks", "if (holds) run.held ^= bit;\n  else run.clicked |= bit;", "if (holds) run.held ^= bit;"],
   ["errorsAreAtTheirLines", "gutterLine(at + 1, byLine.get(at + 1))", "gutterLine(at + 1, byLine.get(at + 2))"],
   ["controlsHaveNames", `role="button" tabindex="0"`, `role="button"`],
