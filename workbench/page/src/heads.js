@@ -66,7 +66,8 @@ function headOf(group, at, x, y) {
   const lamps = group.mark === "pedestrian"
     ? walkerLamp("red", STANDING, middle, 11) + walkerLamp("green", WALKING, middle, 29) + `<text class="flashing" x="${middle}" y="32.6">F</text>`
     : lamp("red", "R", middle, 10) + lamp("yellow", "Y", middle, 27) + lamp("green", "G", middle, 44);
-  return `<g data-group="${at}" data-colour="R" transform="translate(${x} ${y})"><title>${escaped(titleOf(group))}</title>` +
+  const title = escaped(titleOf(group));
+  return `<g role="img" aria-label="${title}: red" data-name="${title}" data-group="${at}" data-colour="R" transform="translate(${x} ${y})"><title>${title}</title>` +
     `<rect class="box" width="${width}" height="${height}" rx="5"/>${lamps}` +
     `<text class="name" x="${middle}" y="${height + 11}">${escaped(group.name)}${arrowsOf(group)}</text></g>`;
 }

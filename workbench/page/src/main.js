@@ -72,9 +72,9 @@ function toggle(id, field) {
 function listen() {
   const on = (id, event, does) => byId(id).addEventListener(event, does);
   on("play", "click", () => play(!page.playing));
-  on("step", "click", () => { play(false); if (page.run) steps(1); });
+  on("step", "click", () => { play(false); steps(1); });
   on("restart", "click", restart);
-  on("script", "change", () => { if (page.run) restart(); });
+  on("script", "change", restart);
   on("example", "change", event => loadExample(event.target.value));
   on("open", "click", () => byId("file").click());
   on("file", "change", event => { openFile(event.target.files[0]); event.target.value = ""; });

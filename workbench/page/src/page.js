@@ -22,56 +22,57 @@ function textChanged() {
   page.editor.show(page.check.messages);
   byId("status").textContent = page.check.status;
   byId("status").className = page.check.fine ? "" : "bad";
-  byId("save-bytes").disabled = !page.check.fine;
   document.title = `${page.check.site?.name ?? page.example.name} · Willowera workbench`;
   if (page.check.fine) adopt();
-  else say(page.run ? "The junction runs the last accepted text." : "");
+  byId("save-bytes").disabled = !page.check.fine;
+  for (const id of ["play", "step", "restart", "save-inputs", "save-trace", "save-picture"]) byId(id).disabled = !page.run;
+  if (!page.run) drawView();
+  showNotice();
 }
 
-/** One line beside the tabs about the run. */
-function say(text) {
-  byId("stale").textContent = text;
+/** One line beside the tabs, if the run is not that of the text or the script does not fit. */
+function showNotice() {
+  const { check, run } = page;
+  const mistake = run?.scriptMistake;
+  if (run && !check.fine) byId("notice").textContent = "The junction runs the last accepted text.";
+  else byId("notice").textContent = mistake ? `${byId("script").value}, line ${mistake.span.line}: ${mistake.text}` : "";
 }
 
 /** Runs the accepted text: goes on with new times if only times differ, else starts anew. */
 function adopt() {
   const { run, check } = page;
-  if (run && run.now > 0 && !sameBytes(run.wanted, check.bytes) &&
-      page.library.retime(run.bytes, run.state, check.bytes).number === 0) {
-    run.site = check.site;
-    run.wanted = check.bytes;
-  } else if (!run || !sameBytes(run.wanted, check.bytes)) {
-    restart();
-    return;
-  } else {
-    run.site = check.site;
-  }
-  page.road = null;
-  readScript();
-  drawView();
-  refresh();
+  const same = run && sameBytes(run.wanted, check.bytes);
+  const goesOn = same || (run?.now > 0 && page.library.retime(run.bytes, run.state, check.bytes).number === 0);
+  if (!goesOn) return restart();
+  Object.assign(run, { site: check.site, text: page.editor.text, wanted: check.bytes });
+  shownAnew();
 }
 
 const sameBytes = (one, two) => one.length === two.length && one.every((byte, at) => byte === two[at]);
 
 /** A new run of the last accepted text, from the fresh state. */
 function restart() {
-  const { check } = page;
-  if (!check.fine && !page.run) return;
-  const { site, bytes } = check.fine ? check : { site: page.run.site, bytes: page.run.wanted };
-  page.run = new Run(page.library, site, bytes);
+  const { check, run } = page;
+  if (check.fine) page.run = new Run(page.library, check.site, check.bytes, page.editor.text);
+  else if (run) page.run = new Run(page.library, run.site, run.wanted, run.text);
+  if (page.run) shownAnew();
+}
+
+/** Reads the script again and draws everything for the run. */
+function shownAnew() {
   page.road = null;
   readScript();
   drawView();
   refresh();
+  showNotice();
 }
 
 /** The inputs of the chosen script for the steps to come. */
 function readScript() {
   const script = page.example.inputs.find(inputs => inputs.name === byId("script").value);
-  const { mistakes, inputs } = script ? page.texts.inputs(page.editor.text, script.text) : { mistakes: [], inputs: [] };
+  const { mistakes, inputs } = script ? page.texts.inputs(page.run.text, script.text) : { mistakes: [], inputs: [] };
   page.run.script = inputs.map(BigInt);
-  say(mistakes.length === 0 ? "" : `${script.name}, line ${mistakes[0].span.line}: ${mistakes[0].text}`);
+  page.run.scriptMistake = mistakes[0];
 }
 
 /** The names of the scripts to choose from. */

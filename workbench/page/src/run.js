@@ -43,8 +43,8 @@ const tracks = count => Array.from({ length: count }, () => new Track());
 
 class Run {
   /** A run of accepted bytes, before its first step. */
-  constructor(library, site, bytes) {
-    Object.assign(this, { library, site, bytes });
+  constructor(library, site, bytes, text) {
+    Object.assign(this, { library, site, bytes, text });
     this.wanted = bytes;  // the bytes of the last text that was adopted; they differ from `bytes` in times only
     this.bound = library.waitBound(bytes).value;
     this.state = library.fresh(bytes);

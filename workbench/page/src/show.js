@@ -21,7 +21,10 @@ function showClock(run) {
 /** Gives heads and lanes of a picture the colours of the last step. */
 function colour(picture, run) {
   for (const head of picture.querySelectorAll("[data-group][data-colour]")) {
-    head.dataset.colour = COLOUR_LETTERS[run.colours[head.dataset.group]];
+    const shown = run.colours[head.dataset.group];
+    if (head.dataset.colour === COLOUR_LETTERS[shown]) continue;
+    head.dataset.colour = COLOUR_LETTERS[shown];
+    head.setAttribute("aria-label", `${head.dataset.name}: ${COLOUR_NAMES[shown]}`);
   }
   for (const way of picture.querySelectorAll("[data-way]")) {
     way.dataset.shown = COLOUR_LETTERS[run.colours[way.dataset.way]];

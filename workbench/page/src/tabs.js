@@ -6,14 +6,14 @@
 /** The conflict matrix, with the colour that each group shows now. */
 function conflictTable({ site, colours }) {
   const { groups } = site;
-  const head = groups.map((group, at) => `<th scope="col" data-group="${at}" title="${escaped(titleOf(group))}">${group.name}</th>`);
+  const head = groups.map((group, at) => `<th scope="col" data-group="${at}" title="${escaped(titleOf(group))}">${escaped(group.name)}</th>`);
   const cell = (row, column) => {
     if (row === column) return `<td class="self"></td>`;
     if (groups[row].conflicts.includes(column)) return `<td class="conflict">✕</td>`;
     const shared = [...groups[row].phases].filter(letter => letter !== "-" && groups[column].phases.includes(letter));
     return shared.length > 0 ? `<td class="together">${shared.join("")}</td>` : `<td class="apart">·</td>`;
   };
-  const rows = groups.map((group, at) => `<tr><th scope="row">${group.name}</th><td class="show" data-shows="${at}">${COLOUR_LETTERS[colours[at]]}</td>` +
+  const rows = groups.map((group, at) => `<tr><th scope="row">${escaped(group.name)}</th><td class="show" data-shows="${at}">${COLOUR_LETTERS[colours[at]]}</td>` +
     `<td class="phases">${group.phases}</td>${groups.map((_, other) => cell(at, other)).join("")}<td class="about">${escaped(group.label ?? "")}</td></tr>`);
   return `<p class="key"><b class="conflict">✕</b> conflict: never green together <b class="together">A</b> green together in these phases ` +
     `<b class="apart">·</b> no conflict and no phase together</p>` +
@@ -87,7 +87,7 @@ function timeCell(times, name) {
   if (!time) return "<td></td>";
   if (time.weight === 0) return `<td class="faint" title="does not count">${seconds(time.value)}</td>`;
   const factor = time.weight > 1 ? `${time.weight} × ` : "";
-  const of = time.of ? ` <small>${time.of}</small>` : "";
+  const of = time.of ? ` <small>${escaped(time.of)}</small>` : "";
   return `<td title="one step more adds ${time.weight} to the bound">${factor}${seconds(time.value)}${of}</td>`;
 }
 
@@ -119,8 +119,8 @@ function longestWaits(run) {
   const row = (name, track) => {
     const waits = track.spans(1, run.now, run.now).filter(([, , on]) => on).map(([first, last]) => run.waited(first, last));
     const most = Math.max(0, ...waits);
-    return `<tr><th scope="row">${name}</th><td>${waits.length}</td><td>${waits.length ? seconds(most) : "–"}</td><td>${seconds(run.bound)}</td>` +
-      `<td class="bar"><meter min="0" max="${run.bound}" value="${most}" aria-label="longest wait of ${name} as a share of the bound">${most}</meter></td></tr>`;
+    return `<tr><th scope="row">${escaped(name)}</th><td>${waits.length}</td><td>${waits.length ? seconds(most) : "–"}</td><td>${seconds(run.bound)}</td>` +
+      `<td class="bar"><meter min="0" max="${run.bound}" value="${most}" aria-label="longest wait of ${escaped(name)} as a share of the bound">${most}</meter></td></tr>`;
   };
   const head = ["demand of", "times", "longest, s", "bound, s"].map(name => `<th scope="col">${name}</th>`).join("");
   const rows = [
@@ -149,7 +149,7 @@ async function roadQueues(library, { site, bytes }, done) {
   }
 }
 
-const streamName = (site, { detector, group }) => `D${detector} → ${site.groups[group].name}`;
+const streamName = (site, { detector, group }) => escaped(`D${detector} → ${site.groups[group].name}`);
 
 /** The queue of a stream over time as a filled line, in a box of a width and a height. */
 function strip(points, at, most, width, height) {

@@ -6,8 +6,10 @@ function drawView() {
   view.className = page.view;
   byId("stage").className = page.view === "junction" ? "" : "wide";
   const { run } = page;
-  if (!run) return;
-  if (page.view === "junction") {
+  if (!run) {
+    view.innerHTML = `<p class="hint">The text is not accepted, so there is no junction yet.</p>`;
+    for (const id of ["rows", "clock", "why", "demands", "walks"]) byId(id).textContent = "";
+  } else if (page.view === "junction") {
     view.innerHTML = junctionPicture(run.site, { width: view.clientWidth - 20, height: view.clientHeight - 20 });
   } else if (page.view === "conflicts") {
     view.innerHTML = conflictTable(run);
@@ -51,7 +53,7 @@ function drawRoad() {
 function showRoad(site, { number, points, part }) {
   const view = byId("view");
   if (number) {
-    const told = page.texts.tell(page.editor.text, number, 0);
+    const told = page.texts.tell(page.run.text, number, 0);
     view.innerHTML = `<p class="hint">The library refuses the road (${number}): ${escaped(told?.text ?? "")}</p>`;
     return;
   }

@@ -53,9 +53,12 @@ class Browser {
     });
   }
 
-  /** Opens a page of a size and waits until it is ready. */
+  /** Opens a page of a size in place of the last one and waits until it is ready. */
   async open(url, width, height) {
+    this.session = undefined;
+    if (this.target) await this.send("Target.closeTarget", { targetId: this.target });
     const { targetId } = await this.send("Target.createTarget", { url: "about:blank" });
+    this.target = targetId;
     this.session = (await this.send("Target.attachToTarget", { targetId, flatten: true })).sessionId;
     for (const domain of ["Page", "Runtime", "Accessibility", "Log", "Network", "DOM"]) await this.send(`${domain}.enable`);
     await this.size(width, height);

@@ -257,10 +257,16 @@ const tests = {
     await change("1     B      locking", "1     B      non-locking");
     assert.deepEqual(await browser.value("[page.run.now, page.run.timesWait]"), [0, false], "another site begins anew");
     await change("V2: V1", "V2:");
-    assert.ok((await browser.value("byId('stale').textContent")).length > 0, "a refused text is said to be stale");
+    assert.ok((await browser.value("byId('notice').textContent")).length > 0, "a refused text is said to be stale");
     assert.equal(await browser.value("byId('save-bytes').disabled"), true);
+    await browser.click("#restart");
+    assert.ok((await browser.value("byId('notice').textContent")).length > 0, "also after a restart");
     await change("V2:\n", "V2: V1\n");
-    assert.equal(await browser.value("byId('stale').textContent"), "");
+    assert.equal(await browser.value("byId('notice').textContent"), "");
+    await browser.value(`load({ name: "none", text: "site\\n", inputs: [] })`);
+    assert.deepEqual(await browser.value("[page.run, byId('play').disabled, byId('save-trace').disabled, document.querySelectorAll('#view .input, #rows svg').length]"), [null, true, true, 0], "no junction without a text");
+    await load(browser, "two_phases");
+    assert.equal(await browser.value("byId('play').disabled"), false);
   },
 
   /** A word typed into the text is checked at once, and a message leads back to it. */
@@ -277,6 +283,22 @@ const tests = {
     await browser.value("page.editor.area.value = page.editor.text.replace('V2 rate 1800', 'V2 rate 1801'), page.editor.area.dispatchEvent(new Event('input'))");
     const road = await browser.value("Array.from(byId('messages').querySelectorAll('.refusal'), button => button.textContent).join()");
     assert.match(road, /1801/, "a stream that the road refuses");
+  },
+
+  /** Names of a text are shown as they are, and never become part of the page. */
+  async namesAreOnlyText(browser) {
+    const name = "<img/src/onerror=document.body.dataset.bad=1>";
+    const text = fs.readFileSync(path.join(ROOT, "workbench/examples/four_arms/site.txt"), "utf8").replace(/\b(V1|P1)\b/g, word => name + word).replace("High Street and Mill Lane", name);
+    await browser.value(`load({ name: ${JSON.stringify(name)}, text: ${JSON.stringify(text)}, inputs: [{ name: ${JSON.stringify(name)}, text: "steps 50\\n10 button 0\\n" }] }), steps(60)`);
+    assert.match(await browser.value("byId('status').textContent"), /^accepted/);
+    for (const view of ["junction", "conflicts", "waits", "road"]) {
+      await browser.value(`choose("${view}"), steps(1)`);
+      if (view === "road") await browser.until("page.road?.part === 1", 30);
+      assert.equal(await browser.value("document.querySelectorAll('img').length + ' ' + document.body.dataset.bad"), "0 undefined", view);
+      assert.ok((await browser.value("document.body.innerText")).includes(name + "V1"), view);
+    }
+    await browser.value("page.editor.area.value = page.editor.text.replace('V1: V4', 'V1: '), textChanged()");
+    assert.equal(await browser.value("document.querySelectorAll('img').length + ' ' + document.body.dataset.bad"), "0 undefined", "messages");
   },
 
   /** What is saved is what is shown: text, bytes, picture, and inputs that make the same trace again. */
@@ -296,7 +318,7 @@ const tests = {
     await browser.value("steps(900)");
     assert.equal(await browser.value("page.run.trace"), trace);
     await browser.value(`openFile(new File(["steps 5\\n3 detector 9\\n"], "others.txt"))`);
-    assert.match(await browser.value("byId('stale').textContent"), /^others, line 2: found `9`/, "inputs that do not fit");
+    assert.match(await browser.value("byId('notice').textContent"), /^others, line 2: found `9`/, "inputs that do not fit");
     fs.rmSync(folder, { recursive: true });
   },
 
@@ -374,13 +396,13 @@ const FAULTS = [
   ["examplesLoad", "const bytes = new Uint8Array(built.bytes);", "const bytes = new Uint8Array(built.bytes); bytes[6] += 1;"],
   ["examplesLoad", "function detectorAt(detector, at, x, y, turned = 0, wide = 22, long = 16) {", "function detectorAt(detector, at, x, y, turned = 0, wide = 22, long = 16) { if (at === 7) return '';"],
   ["tracesAreEqual", "this.inputs = inputs;\n", "this.inputs = inputs; if (this.now === 2) this.colours[0] = 2;\n"],
-  ["tracesAreEqual", "head.dataset.colour = COLOUR_LETTERS[run.colours[head.dataset.group]];", "head.dataset.colour = 'R';"],
+  ["tracesAreEqual", "head.dataset.colour = COLOUR_LETTERS[shown];", "head.dataset.colour = 'R';"],
   ["pressesLeadToWalks", "if (holds) run.held ^= bit;\n  else run.clicked |= bit;", "if (holds) run.held ^= bit;"],
   ["errorsAreAtTheirLines", "gutterLine(at + 1, byLine.get(at + 1))", "gutterLine(at + 1, byLine.get(at + 2))"],
   ["controlsHaveNames", `role="button" tabindex="0"`, `role="button"`],
   ["controlsHaveNames", `<label>Shows <select id="span">`, `<label><select id="span">`],
   ["keysWork", `event.key !== "Enter" && event.key !== " "`, `event.key !== "x"`],
-  ["mouseHolds", "page.run.down |= bit;", ""],
+  ["mouseHolds", "page.run.down |= bit;", "page.run.down |= 0n;"],
   ["playKeepsTime", "(page.fast ? 10 : 1)", "(page.fast ? 3 : 1)"],
   ["tabsOpen", "return more - bound;", "return more - bound + 1;"],
   ["tabsOpen", "const steps = Math.round(site.steps * point / ROAD_POINTS);", "const steps = Math.round(site.steps * point / (ROAD_POINTS + 1));"],
@@ -394,17 +416,18 @@ const FAULTS = [
   ["textIsAdopted", "page.library.retime(run.bytes, run.state, check.bytes).number === 0", "false"],
   ["typingIsChecked", `this.area.addEventListener("input", () => changed(this.area.value));`, ""],
   ["typingIsChecked", "return number === 0 ? [] : [texts.tell(text, number, 0)];", "return [];"],
+  ["namesAreOnlyText", "${escaped(group.name)}</th><td class", "${group.name}</th><td class"],
   ["filesAreSaved", "this.buttons, \"button\");", "this.buttons, \"detector\");"],
   ["filesAreSaved", "page.check.bytes, \"application/octet-stream\"", "page.run.state, \"application/octet-stream\""],
   ["filesRoundTrip", "bytes.includes(0) ? page.texts.show(bytes)", "bytes.includes(0) ? page.texts.show(bytes.slice(0, -1))"],
   ["filesRoundTrip", "return withColours(`<svg", "return (`<svg"],
 ];
 
-/** Runs a test on a page; null, or why it failed. */
+/** Runs a test on a page; null, or why it failed. A page that does not open is thrown, because then no test has run. */
 async function tried(browser, name, file) {
   browser.events.length = 0;
+  await browser.open("file://" + file, 1280, 800);
   try {
-    await browser.open("file://" + file, 1280, 800);
     await tests[name](browser);
     assert.deepEqual(browser.errors, [], "errors of the page");
     return null;
