@@ -83,14 +83,14 @@ function rowSpans({ track, draw }, y, { run, from, to, left, scale, row }) {
 function timelinePicture(run, { from, to, width, left, room }) {
   const rows = timelineRows(run);
   const kinds = rows.filter(row => row.first).length;
-  const row = Math.max(13, Math.min(20, Math.floor((room - AXIS - kinds * ROWS_APART) / rows.length)));
+  const row = Math.max(12, Math.min(20, Math.floor((room - AXIS - kinds * ROWS_APART) / rows.length)));
   const scale = (width - left - 16) / (to - from);
   const drawn = [];
   let y = AXIS - ROWS_APART;
   for (const one of rows) {
     if (one.first) y += ROWS_APART;
     const base = y + row / 2 + 3.6;
-    drawn.push(`<text class="label" x="38" y="${base}">${escaped(one.label)}</text><text class="faint" x="44" y="${base}">${escaped(shortened(one.about, Math.floor((left - 50) / 5)))}</text>` +
+    drawn.push(`<text class="label" x="38" y="${base}">${escaped(one.label)}</text><text class="faint" x="44" y="${base}">${escaped(shortened(one.about, Math.floor((left - 50) / 5.4)))}</text>` +
       rowSpans(one, y, { run, from, to, left, scale, row }));
     y += row;
   }

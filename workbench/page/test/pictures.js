@@ -27,9 +27,14 @@ async function pictures(browser) {
       }
     }
   }
-  await browser.value("loadExample('two_phases'), choose('junction')");
-  await browser.value("page.editor.text = page.editor.text.replace('V2: V1', 'V2:'), textChanged()");
-  await browser.screenshot(path.join(OUT, "refused-light-1920.png"));
+  await browser.scheme("light");
+  await browser.size(1280, 800);
+  await browser.value("loadExample('four_phases'), choose('junction'), steps(300)");
+  await browser.value("page.editor.text = page.editor.text.replace('V5:  V2 V9', 'V5:  V2').replace('240   95   35   43', '240   95   35   4x'), textChanged()");
+  await browser.screenshot(path.join(OUT, "mistake-light-1280.png"));
+  await browser.value("page.editor.text = page.editor.text.replace('4x', '43'), textChanged()");
+  await browser.value("document.querySelector('#messages .refusal').click()");
+  await browser.screenshot(path.join(OUT, "refused-light-1280.png"));
 }
 
 (async () => {
