@@ -15,7 +15,7 @@ const TIMELINE_STYLE = `
 /** The rows from top to bottom: label, what it is, its track and how a span of it is drawn. `first` begins a new kind. */
 function timelineRows(run) {
   const { site } = run;
-  const rows = [{ label: "phase", about: "and its interval", track: run.position, draw: drawInterval, first: true }];
+  const rows = [{ label: "phase", about: "interval", track: run.position, draw: drawInterval, first: true }];
   const add = (list, draw, label, about) => list.forEach((track, at) =>
     rows.push({ label: label(at), about: about(at) ?? "", track, draw, first: at === 0 }));
   const locking = site.phases.map(({ letter }) => site.detectors.some(detector => detector.phase === letter && detector.call === "locking"));
