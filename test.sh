@@ -124,13 +124,17 @@ check 'lists of cabinet calls' python3 vectors/cabinet_lists.py ./target/bin/run
 same_retimes() { python3 vectors/make_retimes.py "$log" && compare_with_model retimes "$log"; }
 check 'retimings of vectors/make_retimes.py' same_retimes
 
+# Sealed states of the model in Python, for the library and for the model in rust/.
+same_seals() { python3 vectors/make_seals.py "$log" && compare_with_model seals "$log"; }
+check 'sealed states of vectors/make_seals.py' same_seals
+
 # Lines for the panel: the vectors are those that the model in Python makes, and the library and the model in rust/ tell the same lines.
 same_whys() { python3 vectors/make_why.py "$log" && cmp "$log" vectors/whys; }
 check 'vectors/make_why.py' same_whys
 check 'lines of vectors/make_why.py' compare_with_model whys ../vectors/whys
 
 # The library from C: what it needs, the conditions that its header states, and the example program.
-for part in needs conditions steps why settings road cabinet retime yellow; do
+for part in needs headers conditions steps rust why words power arm settings road cabinet retime yellow; do
     check "examples/c/check.sh $part" examples/c/check.sh "$part"
 done
 

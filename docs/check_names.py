@@ -23,11 +23,11 @@ The rules. In backticks:
  4. `File.name`: a definition of File.antt in specs/ or proofs/, or a field of the type File; in `rules`, in `laws` or in a crate
     that the section names.
  5. `willowera_name`: an exported function, in each of the three places of rule 15; or a function of another header in include/.
- 6. `snake_case`: a crate, a must-fail edit, an example, a package of rust/, or something declared in the code. In a document beside .edit
+ 6. `snake_case`: a crate, a must-fail edit, an example, a package of rust/, or something declared in the code or in a file of the document's folder. In a document beside .edit
     files: an edit of that folder, a crate or a function. `prefix_` and `prefix_*`: at least one of these begins with it. C types (`_t`) are
     not checked.
  7. `camelCase`, `Capital`: a definition, a type, a variant, a field or a file of any crate, or a name that a crate takes from the libraries.
- 8. `kebab-case`: a theorem, a folder, or a word of a site's text (in quotes in examples/build.py).
+ 8. `kebab-case`: a theorem, a folder, a word of a site's text (in quotes in examples/build.py), or a word of a script in targets/.
  9. `WILLOWERA_NAME`: it stands in a header of include/ or in rust/.
 10. `word`, of small letters alone: it occurs in the code of a crate or of rust/ outside comments, or in a script or a text of the repository.
 11. Of several words in one pair of backticks, those after `rt check`, `rt dev` and the like are crates, one after `cargo .. -p` is a package
@@ -99,7 +99,7 @@ def declared_in_rust(text):
     """Names that a file in Rattle or Rust declares, and the members of its types."""
     names = set(re.findall(r'\b(?:fn|struct|enum|const|static|type|mod|trait)\s+([A-Za-z_]\w*)', text))
     members = defaultdict(set)
-    for m in re.finditer(r'(?ms)^(?:pub(?:\([a-z]+\))?\s+)?(struct|enum|impl)\s+(\w+)[^{;]*\{(.*?)^\}', text):
+    for m in re.finditer(r'(?ms)^(?:pub(?:\([a-z]+\))?\s+)?(struct|enum|impl)(?:<[^>]*>)?\s+(\w+)[^{;]*\{(.*?)^\}', text):
         parts = r'\b(?:fn|const)\s+([A-Za-z_]\w*)' if m.group(1) == 'impl' else r'(?m)^    (?:pub\s+)?([A-Za-z_]\w*)\s*(?=[:,({])'
         members[m.group(2)].update(re.findall(parts, m.group(3)))
     return names, members
@@ -166,6 +166,8 @@ class Tree:
         self.capitals = set(re.findall(r'WILLOWERA_[A-Z0-9_]+', header + beside + sources('rust/')))
         self.beside = set(re.findall(r'\b(willowera_\w+)\s*\(', re.sub(r'(?s)/\*.*?\*/', '', beside)))
         self.site_words = set(re.findall(r'["\']([a-z]+(?:-[a-z]+)+)["\']', self.text('examples/build.py')))
+        scripts = [f for f in self.files if f.startswith('targets/') and f.endswith(('.py', '.sh', '.txt'))]
+        self.target_words = {w for f in scripts for w in re.findall(r'[a-z][a-z0-9]*(?:-[a-z0-9]+)*', self.text(f))}
 
     def text(self, path):
         return read(os.path.join(self.root, path))
@@ -260,6 +262,8 @@ def find_definition(tree, file, name, scope):
 def find_snake(tree, word, folder):
     beside = {os.path.basename(f)[:-5] for f in tree.edits if os.path.dirname(f) == folder}
     labels = beside or tree.edit_labels
+    if any(word in names for f, names in tree.declared.items() if os.path.dirname(f) == folder):
+        return None
     if word in tree.crates or word in labels or word in tree.packages or word in tree.examples or word in tree.anywhere or word in tree.modules:
         return None
     return f'an edit in {folder}/, a crate or a function' if beside else 'a crate, a function, a must-fail edit or an example'
@@ -305,7 +309,8 @@ def find_word(tree, word, folder, scope):
     if SMALL.match(word):
         return None if word in tree.in_code or word in tree.in_scripts or word in tree.names else 'a word of the code, of a script or of a text'
     if KEBAB.match(word):
-        return None if word in tree.theorems or word in tree.names or word in tree.site_words else 'a theorem, a folder or a word of a site'
+        known = word in tree.theorems or word in tree.names or word in tree.site_words or word in tree.target_words
+        return None if known else 'a theorem, a folder, a word of a site or of targets/'
     return None
 
 

@@ -7,10 +7,14 @@ The one module of the library (targets/module.py) is compiled by the kit's clang
 targets/needs.txt; a name that is not there is refused.
 """
 
+import hashlib
+import shutil
 import subprocess
 import sys
 
-from module import BUILT, ROOT, Alone, Refused, exported, module, said_by, told, tool
+from judge import exported
+from kit import BUILT, ROOT, Alone, Refused, kit, said_by, told, tool
+from module import module
 
 HERE = ROOT / "targets"
 
@@ -29,9 +33,9 @@ TARGETS = {
     "wasm32": ("wasm32-unknown-unknown", "", None),
 }
 
-# As the kit compiles for x86-64, but for the level (targets/README.md says why) and the processor.
+# As the kit compiles for x86-64, but for the processor.
 COMMON = "-ffunction-sections -fdata-sections -mllvm -trap-unreachable -mllvm -no-trap-after-noreturn --no-default-config -Werror"
-LEVEL = "-O2"
+LEVEL = "-O3"
 
 
 def clang(target, strict, *words):
@@ -79,7 +83,8 @@ def archive(target, strict, text, folder):
     clang(target, strict, "-c", "-x", "ir", text, "-Wno-override-module", "-fstack-usage", "-o", objects[0])
     if strict:
         objects.append(folder / "strict_memory.o")
-        clang(target, strict, "-std=c11", "-ffreestanding", "-fno-builtin", "-fstack-usage", "-c", HERE / "strict_memory.c", "-o", objects[1])
+        # -fno-builtin: a loop of memcpy is not itself made a call of memcpy; -fshort-enums: as arm-none-eabi-gcc, or its linker warns
+        clang(target, strict, "-std=c11", "-ffreestanding", "-fno-builtin", "-fshort-enums", "-c", HERE / "strict_memory.c", "-o", objects[1])
     if target.startswith("cortex"):
         # tables for unwinding the stack: no function needs them, and a linker script without a place for them may put them before the data
         for path in objects:
@@ -91,26 +96,38 @@ def archive(target, strict, text, folder):
 
 
 def web_module(target, text, folder):
-    """A module for WebAssembly: every call of the library, its memory and the first free byte of it. An outside name is an error."""
+    """A module for WebAssembly: every call of the library, its memory and the first free byte of it. An outside name is an error. The
+    memory has 64 KiB for the stack and 64 KiB for buffers."""
     compiled, made = folder / "willowera.o", folder / "willowera.wasm"
     clang(target, False, "-c", "-x", "ir", text, "-Wno-override-module", "-o", compiled)
     names = [f"--export={name}" for name in (*exported(text.read_text()), "__heap_base")]
-    said_by(tool("wasm-ld"), "--no-entry", *names, compiled, "-o", made)
+    said_by(tool("wasm-ld"), "--no-entry", "-zstack-size=65536", "--initial-memory=131072", *names, compiled, "-o", made)
     return made
 
 
+def made_of(text):
+    """A checksum of all that an archive is made of."""
+    parts = [text, kit() / "KIT-ID", *(HERE / name for name in ("build.py", "strict_memory.c", "needs.txt"))]
+    return hashlib.sha256(b"".join(part.read_bytes() for part in parts)).hexdigest()
+
+
 def build(target, strict, text):
+    """Builds a target, unless it was built of the same parts before."""
     if strict and TARGETS[target][2] is None:
         raise Refused(f"{target} has no strict build: its code is strict already, or its processors take unaligned accesses")
     folder = BUILT / (target + "-strict" if strict else target)
-    folder.mkdir(parents=True, exist_ok=True)
-    for old in folder.iterdir():
-        old.unlink()
+    made, mark = folder / ("willowera.wasm" if target == "wasm32" else "libwillowera.a"), folder / "made_of"
+    if made.exists() and mark.exists() and mark.read_text() == made_of(text):
+        return made
+    shutil.rmtree(folder, ignore_errors=True)
+    folder.mkdir(parents=True)
     if target == "wasm32":
-        return web_module(target, text, folder)
-    made = archive(target, strict, text, folder)
-    if not strict:
-        check_list(made, target)
+        web_module(target, text, folder)
+    else:
+        archive(target, strict, text, folder)
+        if not strict:
+            check_list(made, target)
+    mark.write_text(made_of(text))
     return made
 
 

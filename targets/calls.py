@@ -17,9 +17,10 @@ def names():
 
 
 def program():
+    """The index is not known before the program runs, so that no compiler or linker can drop a call."""
     table = "".join(f"    (call){name},\n" for name in names())
-    return ('#include "willowera.h"\n\ntypedef void (*call)(void);\nextern const call calls[];\nconst call calls[] = {\n' + table +
-            "};\n\nint main(void)\n{\n    return sizeof calls / sizeof *calls == 0;\n}\n")
+    return ('#include "willowera.h"\n\ntypedef void (*call)(void);\nstatic const call calls[] = {\n' + table +
+            "};\n\nint main(void)\n{\n    volatile unsigned index = 0;\n    return calls[index] == 0;\n}\n")
 
 
 if __name__ == "__main__":

@@ -4,7 +4,8 @@
 #     check.sh refusals      every refusal of the build is made, with its sentence
 #     check.sh archives      builds all targets; they export the calls of the header, and the code is of the kind that the target says
 #     check.sh header        a C program that names every call of include/willowera.h compiles and links on each target with a compiler
-#     check.sh stack         steps under qemu: the painted stack is within the bound; only strict code runs if unaligned accesses are trapped
+#     check.sh stack         every target has a bound of its stack; steps under qemu: the painted stack is within it; only strict code runs if
+#                            unaligned accesses are trapped
 #     check.sh figures       code sizes and bounds of the stack are those in figures.txt
 #
 # The parts after `archives` take what it built. What is missing is installed (targets/install.sh).
@@ -12,6 +13,7 @@ set -u -o pipefail
 cd "$(dirname "$0")/.." || exit 2
 
 built=target/targets
+tools=$(python3 targets/module.py tools) || exit 2
 room=$(mktemp -d)
 trap 'rm -rf "$room"' EXIT
 sentence() { echo "targets/check.sh: $*" >&2; return 1; }
@@ -19,8 +21,9 @@ sentence() { echo "targets/check.sh: $*" >&2; return 1; }
 # ── archives ──
 
 exports_of() { # ARCHIVE
-    "$built/tools/llvm-nm" --defined-only --extern-only --format=just-symbols "$1" | grep '^willowera_' | sort
+    "$tools/llvm-nm" --defined-only --extern-only --format=just-symbols "$1" | grep '^willowera_' | sort
 }
+# shellcheck disable=SC2016 # the words are JavaScript
 wasm_exports() { node -e '
     const module = new WebAssembly.Module(require("fs").readFileSync(process.argv[1]));
     const names = WebAssembly.Module.exports(module).map((one) => one.name);
@@ -30,12 +33,12 @@ wasm_exports() { node -e '
 
 # Code for the core registers alone: the attributes of the archive name no floating-point unit, and no instruction is one of it.
 is_soft() { # FOLDER
-    ! "$built/tools/llvm-readelf" --arch-specific "$built/$1/libwillowera.a" | grep -qE 'FP_arch|ABI_VFP_args' &&
-        ! "$built/tools/llvm-objdump" -d --no-show-raw-insn "$built/$1/libwillowera.a" | awk '$2 ~ /^v[a-z]/ { found = 1 } END { exit !found }'
+    ! "$tools/llvm-readelf" --arch-specific "$built/$1/libwillowera.a" | grep -qE 'FP_arch|ABI_VFP_args' &&
+        ! "$tools/llvm-objdump" -d --no-show-raw-insn "$built/$1/libwillowera.a" | awk '$2 ~ /^v[a-z]/ { found = 1 } END { exit !found }'
 }
 # Code that the compiler made under the rule that no access is unaligned.
 is_strict() { # FOLDER
-    ! "$built/tools/llvm-readelf" --arch-specific "$built/$1/libwillowera.a" | grep -A1 CPU_unaligned_access | grep -q v6-style
+    ! "$tools/llvm-readelf" --arch-specific "$built/$1/libwillowera.a" | grep -A1 CPU_unaligned_access | grep -q v6-style
 }
 
 archives() {
@@ -61,7 +64,9 @@ links() { # FOLDER COMPILER WORDS..
     shift 2
     "$compiler" -std=c11 -Wall -Wextra -Wpedantic -Wconversion -Wno-cast-function-type -Werror "$@" -Iinclude "$room/calls.c" \
         "$built/$folder/libwillowera.a" -o "$room/$folder" || sentence "a program with every call does not link for $folder" || return
-    echo "$folder: $("$built/tools/llvm-nm" "$room/$folder" | grep -c ' T willowera_') calls linked by $compiler"
+    linked=$("$tools/llvm-nm" "$room/$folder" | grep -c ' T willowera_')
+    echo "$folder: $linked calls linked by $compiler"
+    [ "$linked" -eq "$(python3 targets/calls.py names | wc -l)" ] || sentence "the program for $folder does not have all calls of the header"
 }
 header() {
     targets/install.sh arm-none-eabi-gcc arm-linux-gnueabihf-gcc aarch64-linux-gnu-gcc riscv64-unknown-elf-gcc || return
@@ -81,17 +86,24 @@ header() {
 
 # The deepest stack that a run counted, of accepted and refused calls.
 painted() { # FOLDER PROGRAM WORDS..
-    targets/measure/run.sh "$@" | awk '$7 == "stack" && $8 > deepest { deepest = $8 } END { print deepest }'
+    targets/measure/run.sh "$@" | awk '$7 == "stack" && $8 > deepest { deepest = $8 } END { print deepest + 0 }'
+}
+# The painted stack of steps of the largest example site is within the bound.
+within_bound() { # FOLDER
+    targets/measure/run.sh --linked "$1" targets/measure/flips.c "$room/linked" || return
+    bound=$(python3 targets/stack.py "$1" "$room/linked" | awk '$1 == "willowera_step" { print $4 }') || return
+    steps=$(painted "$1" examples/c/instructions.c "$largest" 2000) && flips=$(painted "$1" targets/measure/flips.c "$largest") || return
+    echo "a step on $1: at most $bound bytes of stack; painted: $steps in 2,000 steps, $flips with each bit flipped"
+    { [ "$steps" -gt 0 ] && [ "$steps" -le "$bound" ] && [ "$flips" -gt 0 ] && [ "$flips" -le "$bound" ]; } ||
+        sentence "$1: the painted stack is deeper than the bound, or nothing was painted"
 }
 stack() {
-    targets/measure/run.sh --linked cortex-m4 targets/measure/flips.c "$room/linked" || return
-    bound=$(python3 targets/stack.py cortex-m4 "$room/linked" | awk '$1 == "willowera_step" { print $4 }')
     largest=examples/largest/personality.bin
-    steps=$(painted cortex-m4 examples/c/instructions.c $largest 2000) && flips=$(painted cortex-m4 targets/measure/flips.c $largest) || return
-    echo "a step on cortex-m4: at most $bound bytes of stack; painted: $steps in 2,000 steps, $flips with every bit flipped"
-    { [ "$steps" -gt 0 ] && [ "$steps" -le "$bound" ] && [ "$flips" -le "$bound" ]; } || sentence 'the painted stack is deeper than the bound' || return
+    for object in "$built"/*/willowera.su; do python3 targets/stack.py "$(basename "$(dirname "$object")")" >/dev/null || return; done
+    within_bound cortex-m4 && within_bound cortex-m4-strict || return
     targets/measure/run.sh --trap cortex-m4-strict targets/measure/flips.c $largest >/dev/null || sentence 'the strict archive makes an unaligned access' || return
-    if targets/measure/run.sh --trap cortex-m4 targets/measure/flips.c $largest >/dev/null 2>&1; then sentence 'unaligned accesses are not trapped: the trial shows nothing'; fi
+    targets/measure/run.sh --trap cortex-m4 targets/measure/flips.c $largest >/dev/null 2>&1
+    [ $? -eq 3 ] || sentence 'the other archive ran, too: unaligned accesses were not trapped'
 }
 
 case "${1:-}" in
@@ -99,7 +111,7 @@ refusals) python3 targets/refusals.py ;;
 archives | header | stack) "$1" ;;
 figures) targets/figures.sh fixed | diff targets/figures.txt - || sentence 'targets/figures.txt is not what targets/figures.sh fixed prints' ;;
 *)
-    sed -n '2,11s/^# \{0,1\}//p' "$0"
+    sed -n '2,12s/^# \{0,1\}//p' "$0"
     exit 2
     ;;
 esac

@@ -11,8 +11,11 @@ import tempfile
 from pathlib import Path
 
 import build
-import module
 import stack
+from catch import catch, same_object
+from judge import judge
+from kit import Refused, tool
+from module import PROCESSOR, text_of
 
 GOOD = '''target triple = "x86_64-unknown-linux-gnu"
 @table = private unnamed_addr constant [3 x i8] c"@%\\22", align 1
@@ -59,6 +62,10 @@ MODULES = [
     ("an intrinsic of x86", before_call("  call void @llvm.x86.sse2.pause()", "declare void @llvm.x86.sse2.pause()"),
      "the intrinsic llvm.x86.sse2.pause is not on the list"),
     ("a call through a pointer", before_call("  call void %a0()"), "it calls through a pointer"),
+    ("a step over a struct", before_call("  %v = getelementptr { ptr, i64 }, ptr %a0, i64 0, i32 1"), "it has an offset that is not counted in bytes"),
+    ("a struct as a variable", before_call("  %v = alloca { ptr, i64 }"), "it has a variable that is not a number, a pointer or bytes"),
+    ("a pointer of 8 bytes", before_call("  %v = alloca ptr\n  call void @llvm.memcpy.p0.p0.i64(ptr %v, ptr %a0, i64 8, i1 false)"),
+     "it uses the place of a pointer as bytes"),
     ("a short answer", before_call("", "define i8 @willowera_two() {\n  ret i8 1\n}"), "willowera_two answers i8"),
     ("a struct as an argument", before_call("", "define i32 @willowera_two(ptr byval([8 x i8]) %a) {\n  ret i32 1\n}"), "willowera_two takes ptr byval"),
     ("features of a processor", instead('"target-cpu"', '"target-features"="+avx2" "target-cpu"'), 'the attribute "target-features"="+avx2"'),
@@ -87,7 +94,7 @@ def refused(what, sentence, action):
     """Whether the action is refused with the sentence."""
     try:
         action()
-    except module.Refused as refusal:
+    except Refused as refusal:
         if sentence in str(refusal):
             return True
         print(f"{what}: refused, but with another sentence: {refusal}")
@@ -100,21 +107,21 @@ def through_clang(text, room):
     """The text of a module as the kit's clang writes it."""
     path = room / "damaged.ll"
     path.write_text(text)
-    return module.text_of(path)
+    return text_of(path)
 
 
 def judged(text, room):
-    module.judge(through_clang(text, room))
+    judge(through_clang(text, room))
 
 
 def driven(script, room):
-    return module.catch(room / "catch", ["sh", "-c", f"cd {room} && {script}"])
+    return catch(room / "catch", ["sh", "-c", f"cd {room} && {script}"])
 
 
 def compiled(damage, room):
     """An archive for Cortex-M4 of a damaged module that nobody judged."""
     text = room / "damaged.ll"
-    text.write_text(damage(GOOD).replace(' "target-cpu"="x86-64"', ""))
+    text.write_text(damage(GOOD).replace(PROCESSOR, ""))
     return build.archive("cortex-m4", False, text, room)
 
 
@@ -142,7 +149,7 @@ def stacks(room):
 
 def all_of(room):
     (room / "good.ll").write_text(GOOD)
-    subprocess.run([module.tool("clang"), "-c", "-emit-llvm", "-Wno-override-module", "-x", "ir", room / "good.ll", "-o", room / "module.bc"], check=True)
+    subprocess.run([tool("clang"), "-c", "-emit-llvm", "-Wno-override-module", "-x", "ir", room / "good.ll", "-o", room / "module.bc"], check=True)
 
     judged(GOOD, room)
     for what, damage, sentence in MODULES:
@@ -150,8 +157,8 @@ def all_of(room):
         yield refused(what, sentence, lambda: judged(damage(GOOD), room))
 
     caught = driven(f"{CLANG} module.bc -o a.o", room)
-    module.same_object(caught, archive_of(room / "a.o", room))
-    yield refused("an archive with another object", "one was expected", lambda: module.same_object(caught, archive_of(room / "good.ll", room)))
+    same_object(caught, archive_of(room / "a.o", room))
+    yield refused("an archive with another object", "one was expected", lambda: same_object(caught, archive_of(room / "good.ll", room)))
     for what, script, sentence in DRIVERS:
         yield refused(f"a driver that {what}", sentence, lambda: driven(script, room))
 
@@ -162,7 +169,7 @@ def all_of(room):
 def archive_of(member, room):
     made = room / "some.a"
     made.unlink(missing_ok=True)
-    subprocess.run([module.tool("llvm-ar"), "rcsD", made, member], check=True)
+    subprocess.run([tool("llvm-ar"), "rcsD", made, member], check=True)
     return made
 
 

@@ -8,15 +8,17 @@ if a linked PROGRAM for Cortex-M is named, the bytes with the helpers as they ar
 The bound is the longest way through the call graph, each function at the size of its frame. The frames are the compiler's own report
 (-fstack-usage, target/targets/TARGET/willowera.su); the calls are the relocations of the object, one section for each function. A graph
 with a cycle, a frame of changing size, and a function whose address is used for anything but a call are refused; that the module makes no
-call through a pointer is judged in targets/module.py. The frames of the helpers, and a second reading of the library's own, are the pushes
+call through a pointer is judged in targets/judge.py. The frames of the helpers, and a second reading of the library's own, are the pushes
 and moves of the stack pointer in the disassembly.
 """
 
 import re
 import sys
+from bisect import bisect_right
 
-from build import TARGETS
-from module import BUILT, Refused, calls, exported, said_by, told, tool
+from build import TARGETS, allowed
+from judge import calls, exported
+from kit import BUILT, Refused, said_by, told, tool
 
 CALLS = re.compile(r"R_(ARM_(THM_)?(CALL|JUMP24)|AARCH64_(CALL|JUMP)26|RISCV_(CALL|CALL_PLT|JAL))$")
 
@@ -66,17 +68,21 @@ def reported(path):
 
 
 def own_calls(path):
-    """For each function of an object, the functions that its section has relocations to."""
+    """For each function of an object, the functions that its section has relocations to. A target is named by its function, by the section of
+    its function, or by a local label, which is a jump within the function. The address of its own section is that of a table of jumps."""
     functions = {row[7] for row in rows(said_by(tool("llvm-readelf"), "-sW", path)) if len(row) == 8 and row[3] == "FUNC"}
     graph, section = {name: set() for name in functions}, None
     for row in rows(said_by(tool("llvm-readelf"), "-rW", path)):
         if row[:2] == ["Relocation", "section"]:
-            section = re.sub(r"^'\.rela?\.text\.(.*)'$", r"\1", row[2])
+            section = re.sub(r"^'\.rela?(.*)'$", r"\1", row[2])
+            if section.startswith(".text") and section.removeprefix(".text.") not in functions:
+                raise Refused(f"the section {section} does not have the name of a function")
+            section = section.removeprefix(".text.")
         elif section in graph and len(row) > 4 and row[2].startswith("R_"):
-            name = row[4]
-            if CALLS.match(row[2]):
+            name = row[4].removeprefix(".text.")
+            if CALLS.match(row[2]) and not name.startswith(".L"):
                 graph[section].add(name)
-            elif name in functions:
+            elif name in functions and name != section:
                 raise Refused(f"{section} uses the address of {name} by {row[2]}: a call through it would not be seen")
     return graph
 
@@ -87,10 +93,10 @@ def rows(text):
 
 # ── The outside helpers, in a linked program for Cortex-M ──
 
-HEAD = re.compile(r"^[0-9a-f]+ <(.*)>:$")
-LIST = re.compile(r"\b(?:push(?:\.w)?|stmdb\s+sp!,|vpush)\s*\{(.*)\}")
-MOVED = re.compile(r"\bsubw?(?:\.w)?\s+sp, (?:sp, )?#(0x[0-9a-f]+|\d+)|\[sp, #-(0x[0-9a-f]+|\d+)\]!")
-BRANCH = re.compile(r"\bb(?:l|l?x)?(?:eq|ne|cs|hs|cc|lo|mi|pl|vs|vc|hi|ls|ge|lt|gt|le)?(?:\.[wn])?\s+(?:0x[0-9a-f]+ <([^>+]*)(?:\+0x[0-9a-f]+)?>|(r\d+|ip))")
+LINE = re.compile(r"^\s*([0-9a-f]+):\s+(\S.*)$")
+LIST = re.compile(r"^(?:push(?:\.w)?|stmdb(?:\.w)?\s+sp!,|vpush)\s*\{(.*)\}")
+MOVED = re.compile(r"^subw?(?:\.w)?\s+sp, (?:sp, )?#(0x[0-9a-f]+|\d+)|\[sp, #-(0x[0-9a-f]+|\d+)\]!")
+BRANCH = re.compile(r"^(?:bl?x?|cbn?z)(?:eq|ne|cs|hs|cc|lo|mi|pl|vs|vc|hi|ls|ge|lt|gt|le)?(?:\.[wn])?\s+(?:r\d+, )?(?:(0x[0-9a-f]+)|r\d+|ip)\b")
 
 
 def registers(words):
@@ -103,24 +109,42 @@ def registers(words):
     return total
 
 
+def functions_of(path):
+    """The functions of a linked program: at each address its names, and the address behind it. A size of 0 reaches to the next function."""
+    names, ends = {}, {}
+    for name, kind, value, size in (row for row in rows(said_by(tool("llvm-nm"), "--format=posix", path)) if len(row) == 4):
+        if kind in "tTwW" and not name.startswith("$"):
+            at = int(value, 16) & ~1
+            names.setdefault(at, set()).add(name)
+            ends[at] = max(ends.get(at, 0), at + int(size, 16))
+    starts = sorted(names)
+    for at, following in zip(starts, starts[1:] + [1 << 32]):
+        ends[at] = ends[at] if ends[at] > at else following
+    return names, ends
+
+
 def disassembled(path):
     """For each function of a program for Cortex-M, the bytes that it pushes, and where it branches to; "*" is a branch to a register."""
-    frames, graph, name = {}, {}, None
-    for line in said_by(tool("llvm-objdump"), "-d", "--no-show-raw-insn", path).splitlines():
-        head = HEAD.match(line)
-        if head:
-            name = head[1]
-            frames.setdefault(name, 0)
-            graph.setdefault(name, set())
+    names, ends = functions_of(path)
+    starts, pushed, branches = sorted(names), dict.fromkeys(names, 0), {at: set() for at in names}
+
+    def at_of(address):
+        start = starts[max(bisect_right(starts, address) - 1, 0)]
+        return start if start <= address < ends[start] else None
+
+    for line in map(LINE.match, said_by(tool("llvm-objdump"), "-d", "--no-show-raw-insn", path).splitlines()):
+        at = line and at_of(int(line[1], 16))
+        if at is None:
             continue
-        pushed, moved, branch = LIST.search(line), MOVED.search(line), BRANCH.search(line)
-        if pushed:
-            frames[name] += registers(pushed[1])
-        if moved:
-            frames[name] += int(moved[1] or moved[2], 0)
-        if branch and branch[1] != name:
-            graph[name].add(branch[1] or "*")
-    return frames, graph
+        several, moved, branch = LIST.search(line[2]), MOVED.search(line[2]), BRANCH.match(line[2])
+        if several or moved:
+            pushed[at] += registers(several[1]) if several else int(moved[1] or moved[2], 0)
+        if branch:
+            branches[at].add(at_of(int(branch[1], 16)) if branch[1] else "*")
+    def named(to):
+        return "*" if to in (None, "*") else min(names[to])
+    graph = {name: {named(to) for to in branches[at] - {at}} for at in names for name in names[at]}
+    return {name: pushed[at] for at in names for name in names[at]}, graph
 
 
 def with_helpers(graph, frames, program):
@@ -137,13 +161,15 @@ def with_helpers(graph, frames, program):
     return {**graph, **{name: linked_graph[name] for name in helpers}}, {**frames, **{name: linked_frames[name] for name in helpers}}
 
 
-def bounds(target, program=None):
+def bounds(target, program=None, folder=None):
     """For each exported call: the bytes without helpers, the helpers, and the bytes with them (None without a program)."""
-    folder = BUILT / target
+    folder = folder or BUILT / target
     text = (BUILT / "module" / "module.ll").read_text()
     depths(calls(text), dict.fromkeys(calls(text), 0))  # the module itself has no cycle
     graph, frames = own_calls(folder / "willowera.o"), reported(folder / "willowera.su")
     outside = set().union(*graph.values()) - set(graph)
+    if not outside <= allowed(target.removesuffix("-strict")):
+        raise Refused(f"{target}: {', '.join(sorted(outside))}: not all of these are names that targets/needs.txt lists")
     alone = depths({**graph, **{name: set() for name in outside}}, {**frames, **dict.fromkeys(outside, 0)})
     full = depths(*with_helpers(graph, frames, program)) if program else {}
     return {name: (alone[name], sorted(reached(graph, name) & outside), full.get(name)) for name in exported(text)}

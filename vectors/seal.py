@@ -2,7 +2,6 @@
 Python and independent of the proved code. The check value is the one of zlib."""
 from zlib import crc32
 
-from model import verdict
 from retime import STATE_BYTES, site_of, taken_apart, verdict_of
 
 VERSION = 5
@@ -46,7 +45,7 @@ def fault_of(personality, sealed):
 
 def groups(personality):
     """Number, and the place or the number of groups."""
-    found, place = verdict(personality)
+    found, place = verdict_of(personality)
     return (found, place) if found else (0, len(site_of(personality).groups))
 
 

@@ -8,6 +8,7 @@
 #     check.sh rust          rust/willowera/examples/steps.rs prints the same colours, and refuses a wrong word and an archive of another version
 #     check.sh why           steps.c prints why the phases of two sites hold, as it is kept in why.txt
 #     check.sh words         words.c: the refusals in words are those kept in words.txt, and fit every personality of the reader's vectors
+#     check.sh power         power.c prints what is kept in power.txt
 #     check.sh arm           conditions.c, steps.c and words.c do the same with the archive for 32-bit ARM Linux, under qemu
 #     check.sh settings      settings.c prints the answers that the data sheet's table of site sheets has
 #     check.sh road          road.c prints what the tables of the example roads have, but for the longest queue
@@ -123,6 +124,9 @@ words)
 why)
     { run steps --why examples/two_phases/personality.bin 110 12-12:1 1-110:0 && built steps --why examples/crossings/personality.bin 700 60-60:48 61-61:50; } |
         diff - examples/c/why.txt
+    ;;
+power)
+    run power examples/two_phases/personality.bin examples/t_junction/personality.bin | diff - examples/c/power.txt
     ;;
 arm)
     targets/install.sh arm-linux-gnueabihf-gcc qemu-arm && targets/build.sh armv7-linux || exit 1

@@ -6,7 +6,7 @@
  * is compiled without them. What the library touches is seen by pages that cannot be read or written, right beside each buffer: a byte
  * too far is a fault. valgrind watches both sides, and bytes that were never written, in a build without sanitizers:
  *
- *     cc -g -pthread -Iinclude examples/c/conditions.c target/staticlib/libwillowera.a -o conditions
+ *     cc -g -pthread -Iinclude examples/c/conditions.c target/staticlib/libwillowera.a -o target/conditions
  *     valgrind --error-exitcode=1 ./conditions examples/largest/personality.bin
  */
 #define _DEFAULT_SOURCE

@@ -1,6 +1,6 @@
 /* How much stack a step call takes: a thread on a painted stack steps a site, and the deepest byte that lost its paint is found.
  *
- *     cc -O2 -pthread -Iinclude examples/c/stack.c target/staticlib/libwillowera.a -o stack
+ *     cc -O2 -pthread -Iinclude examples/c/stack.c target/staticlib/libwillowera.a -o target/stack
  *     ./stack examples/largest/personality.bin 2000
  */
 #define _DEFAULT_SOURCE

@@ -9,8 +9,8 @@
  *     SITE CHANGE.. | NUMBER PLACE: SENTENCE
  *
  * with the personality of examples/SITE and these changes of it, in their order: AT=VALUE a byte, cut=N only the first N bytes, add=VALUE one
- * more byte. The answer is that of willowera_read; after lookup=KIND it is that of willowera_section; after answer=NUMBER it is that number
- * at place 0. A line that begins with # is a comment. Every number that has a sentence has a case.
+ * more byte. The answer is that of willowera_read; after lookup=KIND it is that of willowera_section; after answer=NUMBER@PLACE it is that
+ * one. A line that begins with # is a comment. Every number that has a sentence has a case.
  *
  * Every personality and every text is in a buffer of exactly its length, so that the sanitizer sees each byte too far.
  */
@@ -89,7 +89,7 @@ static unsigned print_case(char *line, size_t number)
 {
     struct personality site = {{0}, 0};
     char path[256], text[WILLOWERA_MOST_WORDS_BYTES], *words = strchr(line, '|');
-    unsigned long kind = 0, given = 0;
+    unsigned long kind = 0, given = 0, given_place = 0;
 
     need(words != NULL, "a line without |", number);
     *words = '\0';
@@ -110,10 +110,11 @@ static unsigned print_case(char *line, size_t number)
         else if (sscanf(word, "%lu=%lu", &at, &value) == 2 && at < site.length)
             site.bytes[at] = (uint8_t)value;
         else
-            need(sscanf(word, "lookup=%lu", &kind) == 1 || sscanf(word, "answer=%lu", &given) == 1, "a wrong change in line", number);
+            need(sscanf(word, "lookup=%lu", &kind) == 1 || sscanf(word, "answer=%lu@%lu", &given, &given_place) == 2, "a wrong change in line",
+                 number);
         printf(" %s", word);
     }
-    uint64_t answer = given != 0  ? given
+    uint64_t answer = given != 0  ? given | (uint64_t)given_place << 8
                       : kind != 0 ? willowera_section(site.bytes, site.length, (uint16_t)kind)
                                   : willowera_read(site.bytes, site.length);
     explain(&site, answer, text);

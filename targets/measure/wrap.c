@@ -5,10 +5,13 @@
  *
  * Before a call the stack below is painted; afterwards the lowest word without paint shows how deep the call went.
  *
+ * At the start a loop of a known number of instructions is counted, and the program ends with status 4 if the count is another.
+ *
  * At the end of the program it prints, for accepted calls and for refused ones, how many there were, the mean and the greatest number of
  * instructions, and the deepest stack in bytes.
  */
 #include <stdio.h>
+#include <unistd.h>
 
 #include "willowera.h"
 
@@ -35,6 +38,11 @@ static inline volatile uint32_t *stack_pointer(void)
     return now;
 }
 
+static inline uint32_t instructions(uint32_t began, uint32_t ended)
+{
+    return (uint32_t)((((began - ended) & TICKS) * (uint64_t)TICK_NS + INSTRUCTION_NS / 2) / INSTRUCTION_NS);
+}
+
 uint64_t __wrap_willowera_step(const uint8_t *personality, uint64_t personality_length, uint8_t *state, uint64_t state_length,
                                uint64_t inputs, uint8_t *colours, uint64_t colours_length)
 {
@@ -56,15 +64,29 @@ uint64_t __wrap_willowera_step(const uint8_t *personality, uint64_t personality_
         lowest++;
 
     struct counted *kind = &counted[WILLOWERA_NUMBER(answer) != WILLOWERA_ACCEPTED];
-    uint32_t instructions = (uint32_t)((((began - ended) & TICKS) * (uint64_t)TICK_NS + INSTRUCTION_NS / 2) / INSTRUCTION_NS);
+    uint32_t made = instructions(began, ended);
     uint32_t depth = (uint32_t)(top - lowest) * 4;
     kind->calls++;
-    kind->all += instructions;
-    if (instructions > kind->most)
-        kind->most = instructions;
+    kind->all += made;
+    if (made > kind->most)
+        kind->most = made;
     if (depth > kind->deepest)
         kind->deepest = depth;
     return answer;
+}
+
+/* The loop makes two instructions a turn; reading the clock and setting the count are a few more. */
+static void try_the_clock(void)
+{
+    uint32_t turns = 1000, left = turns;
+    uint32_t began = SYSTICK_NOW;
+    __asm__ volatile("1: subs %0, #1\n\tbne 1b" : "+l"(left) : : "cc");
+    uint32_t made = instructions(began, SYSTICK_NOW);
+
+    if (made < 2 * turns || made > 2 * turns + 8) {
+        fprintf(stderr, "wrap.c: a loop of %lu instructions was counted as %lu\n", (unsigned long)(2 * turns), (unsigned long)made);
+        _exit(4);
+    }
 }
 
 __attribute__((constructor)) static void start_counting(void)
@@ -72,6 +94,7 @@ __attribute__((constructor)) static void start_counting(void)
     SYSTICK_RELOAD = TICKS;
     SYSTICK_NOW = 0;
     SYSTICK_CONTROL = 5; /* on, the processor's clock, no interrupt */
+    try_the_clock();
 }
 
 __attribute__((destructor)) static void print(void)

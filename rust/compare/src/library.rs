@@ -3,9 +3,10 @@
 use model::packed::Board;
 use willowera::packed;
 
-// The model's states and rows have the library's layout.
+// The model's states, rows and sealed records have the library's layout.
 const _: () = assert!(model::STATE_LEN == willowera::STATE_LEN);
 const _: () = assert!(model::ROW_LEN == willowera::ROW_LEN);
+const _: () = assert!(model::SEALED_LEN == willowera::SEALED_LEN);
 
 /// The linked library.
 #[derive(Clone, Copy, Debug, Default)]

@@ -1,0 +1,139 @@
+//! Cabinets: lists of calls from free records on, and single calls on rows of any
+//! content.
+
+use super::MOST_PERSONALITY;
+use crate::recorder::{Buffer, Recorder};
+use generate::{any_records, CabinetCall};
+use model::{records_of, row_of, Record, OUTPUTS, RECORDS, RECORD_LEN, ROOM, ROW_LEN, STATE_LEN};
+
+/// The calls of a list.
+const LIST: usize = 80;
+
+/// The longest row.
+const MOST_ROW: usize = 5 * RECORD_LEN;
+
+/// The longest output buffer.
+const MOST_OUTPUTS: usize = 2 * OUTPUTS;
+
+/// The buffers of a cabinet.
+struct Buffers {
+    row: Buffer,
+    personality: Buffer,
+    outputs: Buffer,
+}
+
+impl Recorder {
+    pub(super) fn cabinet_list(&mut self) {
+        let buffers = self.begin_cabinet(ROW_LEN, 0);
+        for _ in 0..LIST {
+            let records = self.records(buffers.row);
+            let call = CabinetCall::random(&mut self.rng, &records);
+            let length = match self.rng.percent(3) {
+                true => self.rng.below(OUTPUTS),
+                false => OUTPUTS,
+            };
+            let outputs = buffers.outputs.with_length(length);
+            self.cabinet(&Buffers { outputs, ..buffers }, &call);
+        }
+    }
+
+    /// Calls on a row of any content, each on the row as it was.
+    pub(super) fn cabinet_rows(&mut self) {
+        let byte = self.rng.byte();
+        let buffers = self.begin_cabinet(ROW_LEN, byte);
+        let records = any_records(&mut self.rng);
+        for _ in 0..10 {
+            self.put(buffers.row, &row_of(&records));
+            let call = CabinetCall::random(&mut self.rng, &records);
+            let anywhere = self.rng.below(MOST_OUTPUTS);
+            let length = self.rng.pick(&[OUTPUTS, OUTPUTS, OUTPUTS + 1, anywhere]);
+            let outputs = buffers.outputs.with_length(length);
+            self.cabinet(&Buffers { outputs, ..buffers }, &call);
+        }
+    }
+
+    /// Calls on rows and outputs of other lengths.
+    pub(super) fn cabinet_buffers(&mut self) {
+        let buffers = self.begin_cabinet(MOST_ROW, 0);
+        let records = any_records(&mut self.rng);
+        for _ in 0..10 {
+            self.put(buffers.row, &row_of(&records));
+            let call = CabinetCall::random_of_cabinet(&mut self.rng, &records);
+            let anywhere = self.rng.below(MOST_ROW);
+            let whole = self.rng.below(6) * RECORD_LEN;
+            let lengths = [ROW_LEN, ROW_LEN - 1, ROW_LEN + 1, whole, anywhere];
+            let row = buffers.row.with_length(self.rng.pick(&lengths));
+            let anywhere = self.rng.below(MOST_OUTPUTS);
+            let lengths = [0, OUTPUTS - 1, OUTPUTS, OUTPUTS + 1, anywhere];
+            let outputs = buffers.outputs.with_length(self.rng.pick(&lengths));
+            self.cabinet(
+                &Buffers {
+                    row,
+                    outputs,
+                    ..buffers
+                },
+                &call,
+            );
+        }
+    }
+
+    fn begin_cabinet(&mut self, row: usize, byte: u8) -> Buffers {
+        self.begin_with(byte);
+        Buffers {
+            row: self.room(row),
+            personality: self.room(MOST_PERSONALITY),
+            outputs: self.room(MOST_OUTPUTS),
+        }
+    }
+
+    fn records(&self, row: Buffer) -> [Record; RECORDS] {
+        records_of(self.bytes(row)).expect("a whole row")
+    }
+
+    /// Makes a call that has room. A retiming is that of a site alone, on the
+    /// personality and the state in the row.
+    fn cabinet(&mut self, buffers: &Buffers, call: &CabinetCall) {
+        let Buffers {
+            row,
+            personality,
+            outputs,
+        } = *buffers;
+        let handed = call.personality();
+        if handed.len() > MOST_PERSONALITY {
+            return;
+        }
+        self.put(personality, handed);
+        let personality = personality.with_length(handed.len());
+        let record = call.record();
+        let number = (record as u64).into();
+        match *call {
+            CabinetCall::Place { first, .. } => {
+                let first = (first as u64).into();
+                let words = [
+                    row.into(),
+                    number,
+                    personality.into(),
+                    first,
+                    outputs.into(),
+                ];
+                self.call("cabinet_place", &words);
+            }
+            CabinetCall::Step { inputs, .. } => {
+                let words = [row.into(), number, inputs.into(), outputs.into()];
+                self.call("cabinet_step", &words);
+            }
+            CabinetCall::TakeOut { .. } => {
+                self.call("cabinet_take_out", &[row.into(), number, outputs.into()]);
+            }
+            CabinetCall::Retime { .. } => {
+                let length = self.records(row)[record].personality().len();
+                let at = record * RECORD_LEN + RECORD_LEN - STATE_LEN;
+                let own = row.part(at - ROOM, length);
+                let state = row.part(at, STATE_LEN);
+                self.call("retime", &[own.into(), state.into(), personality.into()]);
+                self.call("section", &[own.into(), 2.into()]);
+                self.call("why_length", &[own.into(), state.into(), 0.into()]);
+            }
+        }
+    }
+}
