@@ -12,15 +12,29 @@ pub fn check(out: &Out, matches: &ArgMatches) -> Result<(), Stop> {
     let bound = bound_of(&loaded);
     let warnings = warnings_of(&loaded);
     if out.json {
-        let list: Vec<_> = warnings.iter().map(|one| value(&site::json::warning(one))).collect();
+        let list: Vec<_> = warnings
+            .iter()
+            .map(|one| value(&site::json::warning(one)))
+            .collect();
         print_json(&json!({
             "accepted": true, "path": loaded.path, "bytes": loaded.bytes().len(),
             "waitBound": bound, "messages": list, "site": value(&site::json::site(&loaded.site)),
         }));
     } else {
-        println!("{}: {}, {}", loaded.path, out.good("accepted"), summary(&loaded, bound));
+        println!(
+            "{}: {}, {}",
+            loaded.path,
+            out.good("accepted"),
+            summary(&loaded, bound)
+        );
         for one in &warnings {
-            out.message(Severity::Warning, &loaded.path, &loaded.text, one.span, &one.text);
+            out.message(
+                Severity::Warning,
+                &loaded.path,
+                &loaded.text,
+                one.span,
+                &one.text,
+            );
         }
         if !warnings.is_empty() {
             println!("{} warnings", warnings.len());

@@ -32,12 +32,17 @@ fn part(name: &'static str, about: &'static str) -> Command {
 }
 
 fn with_site(name: &'static str, about: &'static str) -> Command {
-    let site = Arg::new("SITE").required(true).help("The site text or the personality");
+    let site = Arg::new("SITE")
+        .required(true)
+        .help("The site text or the personality");
     part(name, about).arg(site)
 }
 
 fn flag(name: &'static str, help: &'static str) -> Arg {
-    Arg::new(name).long(name).action(ArgAction::SetTrue).help(help)
+    Arg::new(name)
+        .long(name)
+        .action(ArgAction::SetTrue)
+        .help(help)
 }
 
 fn file(name: &'static str, help: &'static str) -> Arg {
@@ -53,14 +58,22 @@ fn number(name: &'static str, help: &'static str) -> Arg {
 }
 
 fn check() -> Command {
-    with_site("check", "Accepted, or the refusal in words with its line; then warnings")
-        .arg(flag("strict", "Exit status 1 if there are warnings"))
+    with_site(
+        "check",
+        "Accepted, or the refusal in words with its line; then warnings",
+    )
+    .arg(flag("strict", "Exit status 1 if there are warnings"))
 }
 
 fn build() -> Command {
     with_site("build", "Writes the personality of a site text")
         .arg(file("out", "The file; standard output without it").short('o'))
-        .arg(Arg::new("c").long("c").value_name("NAME").help("Writes a C array of this name"))
+        .arg(
+            Arg::new("c")
+                .long("c")
+                .value_name("NAME")
+                .help("Writes a C array of this name"),
+        )
         .arg(flag("anyway", "Also if the library refuses it"))
 }
 
@@ -72,7 +85,10 @@ fn show() -> Command {
 }
 
 fn waits() -> Command {
-    with_site("waits", "The wait bound with its parts, and the phases before one's own")
+    with_site(
+        "waits",
+        "The wait bound with its parts, and the phases before one's own",
+    )
 }
 
 fn run() -> Command {
@@ -85,26 +101,53 @@ fn run() -> Command {
 }
 
 fn road() -> Command {
-    with_site("road", "The simulated road for the site's streams: a table, and the queues as they grow")
-        .arg(file("streams", "A road text in place of the site's own streams"))
-        .arg(number("steps", "The number of steps; those of the streams without it"))
-        .arg(file("svg", "Writes the queues as a picture"))
-        .arg(file("timeline", "Writes a timeline of the first 3000 steps as a picture"))
+    with_site(
+        "road",
+        "The simulated road for the site's streams: a table, and the queues as they grow",
+    )
+    .arg(file(
+        "streams",
+        "A road text in place of the site's own streams",
+    ))
+    .arg(number(
+        "steps",
+        "The number of steps; those of the streams without it",
+    ))
+    .arg(file("svg", "Writes the queues as a picture"))
+    .arg(file(
+        "timeline",
+        "Writes a timeline of the first 3000 steps as a picture",
+    ))
 }
 
 fn watch() -> Command {
-    with_site("watch", "Adversarial and random inputs against the library, with the monitor of demand 3 watching")
-        .arg(number("steps", "The number of steps").default_value("1000000"))
-        .arg(number("seed", "The seed of the random inputs").default_value("1"))
+    with_site(
+        "watch",
+        "Adversarial and random inputs against the library, with the monitor of demand 3 watching",
+    )
+    .arg(number("steps", "The number of steps").default_value("1000000"))
+    .arg(number("seed", "The seed of the random inputs").default_value("1"))
 }
 
 fn retime() -> Command {
-    let new = Arg::new("NEW").required(true).help("The site with the new times");
-    with_site("retime", "Whether one may follow the other while running, and what differs").arg(new)
+    let new = Arg::new("NEW")
+        .required(true)
+        .help("The site with the new times");
+    with_site(
+        "retime",
+        "Whether one may follow the other while running, and what differs",
+    )
+    .arg(new)
 }
 
 fn report() -> Command {
-    with_site("report", "One HTML page: phases, conflicts, settings, waits, an hour of the site's streams")
-        .arg(file("out", "The file; standard output without it").short('o'))
-        .arg(file("streams", "A road text in place of the site's own streams"))
+    with_site(
+        "report",
+        "One HTML page: phases, conflicts, settings, waits, an hour of the site's streams",
+    )
+    .arg(file("out", "The file; standard output without it").short('o'))
+    .arg(file(
+        "streams",
+        "A road text in place of the site's own streams",
+    ))
 }

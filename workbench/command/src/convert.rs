@@ -41,7 +41,9 @@ fn c_array(name: &str, bytes: &[u8]) -> Result<String, Stop> {
     };
     let rows: String = bytes.chunks(16).map(row).collect();
     let count = bytes.len();
-    Ok(format!("static const unsigned char {name}[{count}] = {{\n{rows}}};\n"))
+    Ok(format!(
+        "static const unsigned char {name}[{count}] = {{\n{rows}}};\n"
+    ))
 }
 
 pub fn show(out: &Out, matches: &ArgMatches) -> Result<(), Stop> {

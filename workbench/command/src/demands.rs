@@ -48,7 +48,12 @@ impl Waiting {
         let stages = state.movements();
         let mut met = Vec::new();
         for (phase, since) in self.phases.iter_mut().enumerate() {
-            met.extend(turn(since, locked >> phase & 1 != 0, step, Who::Phase(phase)));
+            met.extend(turn(
+                since,
+                locked >> phase & 1 != 0,
+                step,
+                Who::Phase(phase),
+            ));
         }
         for (movement, since) in self.movements.iter_mut().enumerate() {
             let walk = stages[movement].stage == stage::WALK && stages[movement].age == 1;
@@ -60,8 +65,18 @@ impl Waiting {
 
     /// The demands that still wait.
     pub fn rest(&self) -> Vec<Demand> {
-        let demand = |who, since: &Option<u64>| since.map(|from| Demand { who, from, to: None });
-        let phases = self.phases.iter().enumerate().map(|(at, since)| demand(Who::Phase(at), since));
+        let demand = |who, since: &Option<u64>| {
+            since.map(|from| Demand {
+                who,
+                from,
+                to: None,
+            })
+        };
+        let phases = self
+            .phases
+            .iter()
+            .enumerate()
+            .map(|(at, since)| demand(Who::Phase(at), since));
         let movements = self.movements.iter().enumerate();
         let movements = movements.map(|(at, since)| demand(Who::Movement(at), since));
         phases.chain(movements).flatten().collect()
@@ -77,7 +92,11 @@ fn turn(since: &mut Option<u64>, waits: bool, step: u64, who: Who) -> Option<Dem
         }
         (Some(from), false) => {
             *since = None;
-            Some(Demand { who, from, to: Some(step) })
+            Some(Demand {
+                who,
+                from,
+                to: Some(step),
+            })
         }
         _ => None,
     }
@@ -86,8 +105,10 @@ fn turn(since: &mut Option<u64>, waits: bool, step: u64, who: Who) -> Option<Dem
 /// All demands of a run.
 pub fn demands(frames: &[Frame], phases: usize, movements: usize) -> Vec<Demand> {
     let mut waiting = Waiting::new(phases, movements);
-    let mut all: Vec<Demand> =
-        frames.iter().flat_map(|frame| waiting.step(frame.step.into(), &frame.fields())).collect();
+    let mut all: Vec<Demand> = frames
+        .iter()
+        .flat_map(|frame| waiting.step(frame.step.into(), &frame.fields()))
+        .collect();
     all.extend(waiting.rest());
     all
 }

@@ -1,7 +1,7 @@
 //! What a site shows, step by step, by the library's calls.
 
 use site::Road;
-use willowera::{interval, packed, Controller, Fields, Refusal, LONGEST_LINE, STATE_LEN};
+use willowera::{packed, Controller, Fields, Refusal, LONGEST_LINE, STATE_LEN};
 
 /// A step: its inputs, the state and the colours after it, and the panel's line.
 pub struct Frame {
@@ -14,8 +14,15 @@ pub struct Frame {
 }
 
 /// The names of the intervals, by their codes.
-pub const INTERVALS: [&str; 7] =
-    ["start red", "late start", "minimum green", "running", "early cut-off", "yellow", "all-red"];
+pub const INTERVALS: [&str; 7] = [
+    "start red",
+    "late start",
+    "minimum green",
+    "running",
+    "early cut-off",
+    "yellow",
+    "all-red",
+];
 
 /// The letters of the intervals in a trace, by their codes.
 pub const INTERVAL_LETTERS: [char; 7] = ['S', 'L', 'M', 'G', 'E', 'Y', 'R'];
@@ -37,18 +44,15 @@ impl Frame {
     pub fn letters(&self) -> impl Iterator<Item = char> + '_ {
         self.colours.iter().map(|colour| colour_letter(*colour))
     }
-
-    /// Whether the minimum green of a phase begins with this step.
-    pub fn begins_green(&self, phase: usize) -> bool {
-        let fields = self.fields();
-        usize::from(fields.phase()) == phase
-            && fields.interval() == interval::MINIMUM_GREEN
-            && fields.age() == 1
-    }
 }
 
 /// Makes a step and takes down what it shows.
-fn step_of(controller: &mut Controller, groups: usize, step: u32, inputs: u64) -> Result<Frame, Refusal> {
+fn step_of(
+    controller: &mut Controller,
+    groups: usize,
+    step: u32,
+    inputs: u64,
+) -> Result<Frame, Refusal> {
     let mut colours = vec![0; groups];
     controller.step(inputs, &mut colours)?;
     let mut buffer = [0; LONGEST_LINE];
@@ -67,7 +71,9 @@ pub fn frames(personality: &[u8], inputs: &[u64]) -> Result<Vec<Frame>, Refusal>
     let groups = willowera::groups(personality)? as usize;
     let mut controller = Controller::new(personality)?;
     let steps = inputs.iter().zip(1..);
-    steps.map(|(inputs, step)| step_of(&mut controller, groups, step, *inputs)).collect()
+    steps
+        .map(|(inputs, step)| step_of(&mut controller, groups, step, *inputs))
+        .collect()
 }
 
 /// The state of a road after so many steps, and for each stream the vehicles queued and
@@ -85,7 +91,10 @@ pub fn road_at(personality: &[u8], road: &Road, steps: u32) -> Result<RoadAt, Re
     let answer = packed::road(personality, &streams, steps, &mut state, &mut results);
     willowera::wait_bound_or_refusal(answer)?;
     let two = |bytes: &[u8]| u16::from_le_bytes([bytes[0], bytes[1]]);
-    let vehicles = results.chunks(4).map(|one| (two(one), two(&one[2..]))).collect();
+    let vehicles = results
+        .chunks(4)
+        .map(|one| (two(one), two(&one[2..])))
+        .collect();
     Ok(RoadAt { state, vehicles })
 }
 
@@ -100,7 +109,11 @@ pub fn road_frame(
     step: u32,
 ) -> Result<Frame, String> {
     let mut inputs = 0;
-    for (stream, (old, new)) in road.streams.iter().zip(before.vehicles.iter().zip(&after.vehicles)) {
+    for (stream, (old, new)) in road
+        .streams
+        .iter()
+        .zip(before.vehicles.iter().zip(&after.vehicles))
+    {
         let arrived = (new.0 + new.1) - (old.0 + old.1);
         if old.0 + arrived > 0 {
             inputs |= 1 << stream.detector;
@@ -111,7 +124,9 @@ pub fn road_frame(
     let mut controller = Controller::from_state(personality, &before.state).map_err(told)?;
     let frame = step_of(&mut controller, groups, step, inputs).map_err(told)?;
     if frame.state != after.state {
-        return Err(format!("step {step} of the road does not follow from its queues"));
+        return Err(format!(
+            "step {step} of the road does not follow from its queues"
+        ));
     }
     Ok(frame)
 }

@@ -24,25 +24,41 @@ impl Loaded {
     pub fn name(&self) -> String {
         let path = Path::new(&self.path);
         let file = || match path.file_stem().map(|name| name.to_string_lossy()) {
-            Some(name) if name == "site" => path.parent().and_then(Path::file_name).map(|name| name.to_string_lossy().into_owned()),
+            Some(name) if name == "site" => path
+                .parent()
+                .and_then(Path::file_name)
+                .map(|name| name.to_string_lossy().into_owned()),
             other => other.map(|name| name.into_owned()),
         };
-        self.site.name.clone().or_else(file).unwrap_or_else(|| self.path.clone())
+        self.site
+            .name
+            .clone()
+            .or_else(file)
+            .unwrap_or_else(|| self.path.clone())
     }
 }
 
 /// The bytes of a file, or of the site.txt in a folder, and the path.
 fn bytes_of(path: &str) -> Result<(String, Vec<u8>), Stop> {
     let inside = Path::new(path).join("site.txt");
-    let path = if Path::new(path).is_dir() { inside } else { path.into() };
+    let path = if Path::new(path).is_dir() {
+        inside
+    } else {
+        path.into()
+    };
     let shown = path.display().to_string();
-    let bytes = fs::read(&path).map_err(|why| Stop::Unusable(format!("cannot read {shown}: {why}")))?;
+    let bytes =
+        fs::read(&path).map_err(|why| Stop::Unusable(format!("cannot read {shown}: {why}")))?;
     Ok((shown, bytes))
 }
 
 fn text_of(path: &str, bytes: Vec<u8>) -> Result<String, Stop> {
     let text = String::from_utf8(bytes);
-    text.map_err(|_| Stop::Unusable(format!("{path} is neither a text (UTF-8) nor a personality")))
+    text.map_err(|_| {
+        Stop::Unusable(format!(
+            "{path} is neither a text (UTF-8) nor a personality"
+        ))
+    })
 }
 
 /// A personality has zero bytes, and a text has none.
@@ -80,8 +96,10 @@ pub fn shown(out: &Out, path: &str, bytes: &[u8]) -> Result<String, Stop> {
         let (number, place) = refusal.map_or((0, 0), |refusal| (refusal.number, refusal.place));
         let words = site::refusal::words(number);
         if out.json {
-            print_json(&json!({"accepted": false, "path": path, "number": number, "place": place,
-                               "text": words, "notShown": not.to_string()}));
+            print_json(
+                &json!({"accepted": false, "path": path, "number": number, "place": place,
+                               "text": words, "notShown": not.to_string()}),
+            );
         } else {
             println!("{path}: refused {number} at byte {place}: {words}");
             println!("{path}: no text has these bytes: {not}");
@@ -93,7 +111,10 @@ pub fn shown(out: &Out, path: &str, bytes: &[u8]) -> Result<String, Stop> {
 /// Prints the mistakes of a text.
 fn told(out: &Out, path: &str, text: &str, mistakes: &[Mistake]) -> Stop {
     if out.json {
-        let list: Vec<_> = mistakes.iter().map(|one| value(&site::json::mistake(one))).collect();
+        let list: Vec<_> = mistakes
+            .iter()
+            .map(|one| value(&site::json::mistake(one)))
+            .collect();
         print_json(&json!({"accepted": false, "path": path, "messages": list}));
     } else {
         for one in mistakes {
@@ -105,14 +126,25 @@ fn told(out: &Out, path: &str, text: &str, mistakes: &[Mistake]) -> Stop {
 
 /// Prints a refusal of the library with its lines.
 pub fn refused(out: &Out, loaded: &Loaded, refusal: Refusal) -> Stop {
-    let told = site::tell(&loaded.site, &loaded.built, refusal.number, refusal.place as usize);
+    let told = site::tell(
+        &loaded.site,
+        &loaded.built,
+        refusal.number,
+        refusal.place as usize,
+    );
     if out.json {
         let message = value(&site::json::told(&told));
         print_json(&json!({"accepted": false, "path": loaded.path, "messages": [message]}));
         return Stop::Refused;
     }
     let text = format!("{} at byte {}: {}", told.number, told.place, told.text);
-    out.message(Severity::Refusal, &loaded.path, &loaded.text, told.span, &text);
+    out.message(
+        Severity::Refusal,
+        &loaded.path,
+        &loaded.text,
+        told.span,
+        &text,
+    );
     for (span, note) in &told.others {
         out.message(Severity::Note, &loaded.path, &loaded.text, *span, note);
     }

@@ -14,6 +14,7 @@ mod demands;
 mod frames;
 mod load;
 mod out;
+mod phases;
 mod report;
 mod retime;
 mod road;

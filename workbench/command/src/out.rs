@@ -73,11 +73,17 @@ impl Out {
         let place = format!("{path}:{}:{}:", span.line, span.column);
         let name = self.paint(severity.colour(), severity.name());
         println!("{place} {name}: {text}");
-        let line = span.line.checked_sub(1).and_then(|at| source.lines().nth(at));
+        let line = span
+            .line
+            .checked_sub(1)
+            .and_then(|at| source.lines().nth(at));
         if let Some(line) = line {
             let number = format!("{:>5}", span.line);
             let before: String = line.chars().take(span.column.saturating_sub(1)).collect();
-            let before: String = before.chars().map(|c| if c == '\t' { c } else { ' ' }).collect();
+            let before: String = before
+                .chars()
+                .map(|c| if c == '\t' { c } else { ' ' })
+                .collect();
             let mark = "^".repeat(span.length.max(1));
             println!("{number} | {line}");
             println!("      | {before}{}", self.paint(severity.colour(), &mark));

@@ -20,9 +20,9 @@ pub fn retime(out: &Out, matches: &ArgMatches) -> Result<(), Stop> {
     let refusal = answer(&first, &second).err();
     let differences = site::differences(&first.site, &second.site);
     if out.json {
-        let list = differences.iter().map(|(text, span, time)| {
-            json!({"text": text, "line": span.line, "time": time})
-        });
+        let list = differences
+            .iter()
+            .map(|(text, span, time)| json!({"text": text, "line": span.line, "time": time}));
         print_json(&json!({
             "accepted": refusal.is_none(), "number": refusal.map_or(0, |refusal| refusal.number),
             "differences": list.collect::<Vec<_>>(),
@@ -30,23 +30,35 @@ pub fn retime(out: &Out, matches: &ArgMatches) -> Result<(), Stop> {
         }));
     } else {
         match refusal {
-            None => println!("{}: {} may follow while {} runs", out.good("accepted"), second.path, first.path),
+            None => println!(
+                "{}: {} may follow while {} runs",
+                out.good("accepted"),
+                second.path,
+                first.path
+            ),
             Some(refusal) => {
                 let words = site::refusal::words(refusal.number);
                 println!("{}: refused {}: {words}", second.path, refusal.number);
             }
         }
         for (text, span, time) in &differences {
-            let wrong = refusal.is_some() && !time;
-            let severity = if wrong { Severity::Refusal } else { Severity::Note };
-            let text = if *time { text.clone() } else { format!("{text} differ") };
-            out.message(severity, &second.path, &second.text, *span, &text);
+            if *time {
+                println!("{}:{}: {text}", second.path, span.line);
+            } else {
+                let text = format!("{text} differ");
+                out.message(Severity::Refusal, &second.path, &second.text, *span, &text);
+            }
         }
         if differences.is_empty() {
             println!("nothing differs");
         }
         let (old, new) = (bound_of(&first), bound_of(&second));
-        println!("wait bound {} before, {} after; {} through the change", seconds(old), seconds(new), seconds(old + new));
+        println!(
+            "wait bound {} before, {} after; {} through the change",
+            seconds(old),
+            seconds(new),
+            seconds(old + new)
+        );
     }
     refusal.map_or(Ok(()), |_| Err(Stop::Refused))
 }

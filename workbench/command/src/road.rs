@@ -3,7 +3,7 @@
 use crate::frames::{road_at, road_frame, Frame, RoadAt};
 use crate::load::{accepted, refused, road as streams_of, Loaded};
 use crate::out::{print_json, write, Out, Stop};
-use crate::svg::{clock, tick, time_tick, Anchor, Svg};
+use crate::svg::{clock, shortened, time_tick, Svg};
 use crate::timeline::{timeline, Picture};
 use clap::ArgMatches;
 use indicatif::{ProgressBar, ProgressStyle};
@@ -53,7 +53,10 @@ impl Queues {
 
     /// The queues of a stream at each look.
     pub fn queue(&self, stream: usize) -> Vec<u16> {
-        self.looks.iter().map(|look| look.vehicles[stream].0).collect()
+        self.looks
+            .iter()
+            .map(|look| look.vehicles[stream].0)
+            .collect()
     }
 
     pub fn longest(&self, stream: usize) -> u16 {
@@ -71,30 +74,50 @@ pub fn road(out: &Out, matches: &ArgMatches) -> Result<(), Stop> {
     }
     // A refusal is told with the lines of these streams.
     loaded.site.road = road.clone();
-    let steps = matches.get_one::<u64>("steps").copied().unwrap_or(road.steps().into());
+    let steps = matches
+        .get_one::<u64>("steps")
+        .copied()
+        .unwrap_or(road.steps().into());
     let steps = u32::try_from(steps).unwrap_or(u32::MAX);
     loaded.site.road.steps = Some(steps);
     if let Err(refusal) = road_at(loaded.bytes(), &road, steps) {
         return Err(refused(out, &loaded, refusal));
     }
-    let queues = Queues::of(&loaded, &road, steps).map_err(|refusal| refused(out, &loaded, refusal))?;
+    let queues =
+        Queues::of(&loaded, &road, steps).map_err(|refusal| refused(out, &loaded, refusal))?;
     if let Some(file) = matches.get_one::<String>("svg") {
         let title = format!("{}: queues", loaded.name());
-        write(Some(file), picture(&loaded, &road, &queues, &title).as_bytes())?;
+        write(
+            Some(file),
+            picture(&loaded, &road, &queues, &title).as_bytes(),
+        )?;
     }
     if let Some(file) = matches.get_one::<String>("timeline") {
         let last = steps.clamp(1, SHOWN);
         let frames = road_frames(&loaded, &road, 1, last, 1).map_err(Stop::Unusable)?;
-        let title = format!("{}: the first {} of its streams", loaded.name(), seconds(last.into()));
+        let title = format!(
+            "{}: the first {} of its streams",
+            loaded.name(),
+            seconds(last.into())
+        );
         let shown = Picture::whole(&title, last.into());
-        write(Some(file), timeline(&loaded.site, &frames, &shown).as_bytes())?;
+        write(
+            Some(file),
+            timeline(&loaded.site, &frames, &shown).as_bytes(),
+        )?;
     }
     print(out, &loaded, &road, &queues);
     Ok(())
 }
 
 /// The frames of a road from one step to another, at every so many steps.
-pub fn road_frames(loaded: &Loaded, road: &Road, from: u32, to: u32, stride: u32) -> Result<Vec<Frame>, String> {
+pub fn road_frames(
+    loaded: &Loaded,
+    road: &Road,
+    from: u32,
+    to: u32,
+    stride: u32,
+) -> Result<Vec<Frame>, String> {
     let at = |steps| road_at(loaded.bytes(), road, steps).map_err(|refusal| refusal.to_string());
     let bar = progress(u64::from((to + 1 - from) / stride), "timeline");
     let mut frames = Vec::new();
@@ -119,13 +142,18 @@ fn sparkline(queue: &[u16], highest: u16) -> String {
     let size = queue.len().div_ceil(60).max(1);
     let block = |part: &[u16]| {
         let most = part.iter().max().copied().unwrap_or(0);
-        BLOCKS[(usize::from(most) * 7).div_ceil(usize::from(highest.max(1))).min(7)]
+        BLOCKS[(usize::from(most) * 7)
+            .div_ceil(usize::from(highest.max(1)))
+            .min(7)]
     };
     queue.chunks(size).map(block).collect()
 }
 
 fn print(out: &Out, loaded: &Loaded, road: &Road, queues: &Queues) {
-    let last = queues.looks.last().expect("a road is looked at once at least");
+    let last = queues
+        .looks
+        .last()
+        .expect("a road is looked at once at least");
     let steps = *queues.steps.last().expect("as many as looks");
     let name = |group: u8| loaded.site.groups[usize::from(group)].name.as_str();
     if out.json {
@@ -139,9 +167,18 @@ fn print(out: &Out, loaded: &Loaded, road: &Road, queues: &Queues) {
         print_json(&json!({"steps": steps, "looks": queues.steps, "streams": streams}));
         return;
     }
-    let highest = (0..road.streams.len()).map(|at| queues.longest(at)).max().unwrap_or(0);
-    println!("{} of the road, looked at {} times", seconds(steps.into()), queues.steps.len());
-    println!("detector  group    rate  arrived  queued    gone  longest  queue (highest {highest})");
+    let highest = (0..road.streams.len())
+        .map(|at| queues.longest(at))
+        .max()
+        .unwrap_or(0);
+    println!(
+        "{} of the road, looked at {} times",
+        seconds(steps.into()),
+        queues.steps.len()
+    );
+    println!(
+        "detector  group    rate  arrived  queued    gone  longest  queue (highest {highest})"
+    );
     for (at, stream) in road.streams.iter().enumerate() {
         let (queued, gone) = last.vehicles[at];
         println!(
@@ -158,51 +195,57 @@ fn print(out: &Out, loaded: &Loaded, road: &Road, queues: &Queues) {
     }
 }
 
-const LINES: [&str; 10] = [
-    "#3f6fc4", "#d64545", "#3aa76d", "#b7791f", "#7048a8", "#0e7c86", "#c2477f", "#52606d", "#8a6d3b", "#2f4858",
-];
+/// The height of a stream's row in the picture.
+const ROW: f64 = 46.0;
 
-/// The queues of all streams over time, as a picture.
+/// The queue of each stream over time, one row for each, all to the same scale.
 pub fn picture(loaded: &Loaded, road: &Road, queues: &Queues, title: &str) -> String {
-    let (left, top, width, height) = (52.0, 44.0, 1100.0, 240.0);
+    let (left, top, width) = (230.0, 56.0, 1100.0);
     let steps = f64::from(*queues.steps.last().unwrap_or(&1)).max(1.0);
-    let highest = (0..road.streams.len()).map(|at| queues.longest(at)).max().unwrap_or(0).max(1);
-    let highest = f64::from(highest);
+    let longest = (0..road.streams.len()).map(|at| queues.longest(at)).max();
+    let highest = f64::from(longest.unwrap_or(0).max(1));
+    let bottom = top + ROW * road.streams.len() as f64;
     let mut svg = Svg::default();
-    svg.text(12.0, 22.0, Anchor::Start, "font-size=\"15\" font-weight=\"bold\" fill=\"#1f2933\"", title);
-    let y_step = tick(highest, 5.0).max(1.0);
+    let title = format!("{title} (vehicles; a row is {highest:.0} vehicles high)");
+    svg.title(12.0, 22.0, &title);
+    let length = steps / 10.0;
+    let step = time_tick(length, 14.0);
     let mut at = 0.0;
-    while at <= highest + 1e-9 {
-        let y = top + height - at / highest * height;
-        svg.line((left, y), (left + width, y), "stroke=\"#e4e7eb\"");
-        svg.text(left - 6.0, y + 4.0, Anchor::End, "font-size=\"10\" fill=\"#52606d\"", &format!("{at:.0}"));
-        at += y_step;
+    while at <= length + 1e-9 {
+        let x = left + at / length * width;
+        svg.line((x, top - 8.0), (x, bottom), "stroke=\"#e4e7eb\"");
+        svg.mark(x, top - 12.0, &clock(at, length));
+        at += step;
     }
-    let x_step = time_tick(steps / 10.0, 14.0);
-    let mut at = 0.0;
-    while at <= steps / 10.0 + 1e-9 {
-        let x = left + at * 10.0 / steps * width;
-        svg.line((x, top), (x, top + height), "stroke=\"#f0f2f4\"");
-        svg.text(x, top + height + 15.0, Anchor::Middle, "font-size=\"10\" fill=\"#52606d\"", &clock(at));
-        at += x_step;
-    }
-    svg.text(left, top - 8.0, Anchor::Start, "font-size=\"10\" fill=\"#52606d\"", "vehicles queued");
     for (at, stream) in road.streams.iter().enumerate() {
-        let colour = LINES[at % LINES.len()];
-        let dash = ["", " stroke-dasharray=\"6 3\"", " stroke-dasharray=\"2 2\""][at / LINES.len() % 3];
-        let points = queues.steps.iter().zip(queues.queue(at)).map(|(steps_at, queued)| {
+        let base = top + ROW * (at + 1) as f64 - 6.0;
+        let group = &loaded.site.groups[usize::from(stream.group)];
+        svg.label(12.0, base - 18.0, &group.name);
+        let words = format!("detector {}, {} per hour", stream.detector, stream.rate);
+        svg.note(48.0, base - 18.0, &words);
+        let (longest, name) = (
+            queues.longest(at),
+            group.place.name.as_deref().unwrap_or_default(),
+        );
+        let words = format!("longest {longest}, {name}");
+        svg.faint(48.0, base - 5.0, &shortened(&words, 30));
+        let looks = queues.steps.iter().zip(queues.queue(at));
+        let point = |(steps_at, queued): (&u32, u16)| {
             let x = left + f64::from(*steps_at) / steps * width;
-            (x, top + height - f64::from(queued) / highest * height)
-        });
-        let style = format!("stroke=\"{colour}\" stroke-width=\"1.6\"{dash}");
-        svg.polyline(&points.collect::<Vec<_>>(), &style);
-        let (column, row) = (at % 5, at / 5);
-        let (x, y) = (left + column as f64 * 220.0, top + height + 36.0 + row as f64 * 18.0);
-        svg.line((x, y - 4.0), (x + 22.0, y - 4.0), &style);
-        let group = &loaded.site.groups[usize::from(stream.group)].name;
-        let text = format!("{group}, detector {}, {} per hour", stream.detector, stream.rate);
-        svg.text(x + 28.0, y, Anchor::Start, "font-size=\"10\" fill=\"#323f4b\"", &text);
+            (x, base - f64::from(queued) / highest * (ROW - 10.0))
+        };
+        let mut points: Vec<(f64, f64)> = vec![(left, base)];
+        points.extend(looks.map(point));
+        points.push((left + width, base));
+        svg.polygon(
+            &points,
+            "fill=\"#a9c5f5\" stroke=\"#3f6fc4\" stroke-width=\"1\" stroke-linejoin=\"round\"",
+        );
+        svg.line(
+            (left, base),
+            (left + width, base),
+            "stroke=\"#9aa5b1\" stroke-width=\"0.8\"",
+        );
     }
-    let rows = road.streams.len().div_ceil(5) as f64;
-    svg.end(left + width + 24.0, top + height + 36.0 + rows * 18.0, title)
+    svg.end(left + width + 28.0, bottom + 10.0, &title)
 }

@@ -22,21 +22,31 @@ pub fn run(out: &Out, matches: &ArgMatches) -> Result<(), Stop> {
     };
     if let Some(&steps) = matches.get_one::<u64>("steps") {
         if steps > MOST_STEPS {
-            return Err(Stop::Unusable(format!("{steps} steps; at most {MOST_STEPS}")));
+            return Err(Stop::Unusable(format!(
+                "{steps} steps; at most {MOST_STEPS}"
+            )));
         }
         inputs.resize(steps as usize, 0);
     }
-    let frames = frames(loaded.bytes(), &inputs).map_err(|refusal| refused(out, &loaded, refusal))?;
+    let frames =
+        frames(loaded.bytes(), &inputs).map_err(|refusal| refused(out, &loaded, refusal))?;
     if let Some(file) = matches.get_one::<String>("svg") {
         let title = format!("{}: {} steps", loaded.name(), frames.len());
-        let picture = timeline(&loaded.site, &frames, &Picture::whole(&title, frames.len() as u64));
+        let picture = timeline(
+            &loaded.site,
+            &frames,
+            &Picture::whole(&title, frames.len() as u64),
+        );
         write(Some(file), picture.as_bytes())?;
     }
     if matches.get_flag("trace") {
         write(None, trace(&frames).as_bytes())
     } else {
         let all = matches.get_flag("all");
-        let chosen = frames.iter().enumerate().filter(|(at, _)| all || changes(&frames, *at));
+        let chosen = frames
+            .iter()
+            .enumerate()
+            .filter(|(at, _)| all || changes(&frames, *at));
         let chosen: Vec<&Frame> = chosen.map(|(_, frame)| frame).collect();
         print(out, &loaded, &chosen)
     }
@@ -60,11 +70,20 @@ fn changes(frames: &[Frame], at: usize) -> bool {
         let fields = frame.fields();
         let demands = (fields.locked_demands(), fields.button_demands());
         let held = frame.line.contains("no other demand");
-        (fields.phase(), fields.interval(), fields.target(), demands, frame.inputs, held)
+        (
+            fields.phase(),
+            fields.interval(),
+            fields.target(),
+            demands,
+            frame.inputs,
+            held,
+        )
     };
     let last = at + 1 == frames.len();
-    let new = |before: &Frame| seen(before) != seen(&frames[at]) || before.colours != frames[at].colours;
-    at.checked_sub(1).map_or(true, |before| last || new(&frames[before]))
+    let new =
+        |before: &Frame| seen(before) != seen(&frames[at]) || before.colours != frames[at].colours;
+    at.checked_sub(1)
+        .map_or(true, |before| last || new(&frames[before]))
 }
 
 /// The demands of a state: locked phases, and the groups of demanded movements.
@@ -76,7 +95,11 @@ fn demanded(loaded: &Loaded, frame: &Frame) -> String {
     }
     let pressed = |at: &usize| fields.button_demands() >> at & 1 != 0;
     let movements = (0..loaded.site.movements.len()).filter(pressed);
-    words.extend(movements.map(|at| loaded.site.groups[loaded.site.movements[at].group].name.clone()));
+    words.extend(movements.map(|at| {
+        loaded.site.groups[loaded.site.movements[at].group]
+            .name
+            .clone()
+    }));
     if words.is_empty() {
         "-".to_string()
     } else {
@@ -86,9 +109,13 @@ fn demanded(loaded: &Loaded, frame: &Frame) -> String {
 
 /// The detectors that are occupied and the buttons that are pressed.
 fn inputs(frame: &Frame) -> String {
-    let detectors = (0..48).filter(|bit| frame.inputs >> bit & 1 != 0).map(|bit| format!("d{bit}"));
+    let detectors = (0..48)
+        .filter(|bit| frame.inputs >> bit & 1 != 0)
+        .map(|bit| format!("d{bit}"));
     let buttons = (0..8).filter(|bit| frame.inputs >> (48 + bit) & 1 != 0);
-    let words: Vec<String> = detectors.chain(buttons.map(|bit| format!("b{bit}"))).collect();
+    let words: Vec<String> = detectors
+        .chain(buttons.map(|bit| format!("b{bit}")))
+        .collect();
     words.join(" ")
 }
 
@@ -109,7 +136,12 @@ fn print(out: &Out, loaded: &Loaded, frames: &[&Frame]) -> Result<(), Stop> {
         return Ok(());
     }
     let width = loaded.site.groups.len().max(6);
-    let names: Vec<&str> = loaded.site.groups.iter().map(|group| group.name.as_str()).collect();
+    let names: Vec<&str> = loaded
+        .site
+        .groups
+        .iter()
+        .map(|group| group.name.as_str())
+        .collect();
     println!("groups: {}", names.join(" "));
     println!(
         "{:>6} {:>9}  ph interval       {:<width$}  to  gap  max  {:<10} {:<14} panel",

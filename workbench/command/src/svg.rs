@@ -12,7 +12,10 @@ pub struct Svg {
 
 /// A text for XML.
 pub fn escaped(text: &str) -> String {
-    let text = text.replace('&', "&amp;").replace('<', "&lt;").replace('>', "&gt;");
+    let text = text
+        .replace('&', "&amp;")
+        .replace('<', "&lt;")
+        .replace('>', "&gt;");
     text.replace('"', "&quot;")
 }
 
@@ -30,7 +33,6 @@ pub fn shortened(text: &str, most: usize) -> String {
 pub enum Anchor {
     Start,
     Middle,
-    End,
 }
 
 impl Svg {
@@ -56,7 +58,6 @@ impl Svg {
         let anchor = match anchor {
             Anchor::Start => "start",
             Anchor::Middle => "middle",
-            Anchor::End => "end",
         };
         let text = escaped(text);
         self.put(&format!(
@@ -64,9 +65,76 @@ impl Svg {
         ));
     }
 
-    pub fn polyline(&mut self, points: &[(f64, f64)], style: &str) {
-        let points: Vec<String> = points.iter().map(|(x, y)| format!("{x:.1},{y:.1}")).collect();
-        self.put(&format!("<polyline points=\"{}\" fill=\"none\" {style}/>", points.join(" ")));
+    /// The title of a picture.
+    pub fn title(&mut self, x: f64, y: f64, text: &str) {
+        let style = "font-size=\"15\" font-weight=\"bold\" fill=\"#1f2933\"";
+        self.text(x, y, Anchor::Start, style, text);
+    }
+
+    /// The name of a row.
+    pub fn label(&mut self, x: f64, y: f64, text: &str) {
+        self.text(
+            x,
+            y,
+            Anchor::Start,
+            "font-weight=\"bold\" fill=\"#323f4b\"",
+            text,
+        );
+    }
+
+    /// A small text.
+    pub fn note(&mut self, x: f64, y: f64, text: &str) {
+        self.text(
+            x,
+            y,
+            Anchor::Start,
+            "font-size=\"10\" fill=\"#52606d\"",
+            text,
+        );
+    }
+
+    /// A small text that matters less.
+    pub fn faint(&mut self, x: f64, y: f64, text: &str) {
+        self.text(
+            x,
+            y,
+            Anchor::Start,
+            "font-size=\"10\" fill=\"#7b8794\"",
+            text,
+        );
+    }
+
+    /// A mark of an axis.
+    pub fn mark(&mut self, x: f64, y: f64, text: &str) {
+        self.text(
+            x,
+            y,
+            Anchor::Middle,
+            "font-size=\"10\" fill=\"#52606d\"",
+            text,
+        );
+    }
+
+    /// A text in the middle of a bar.
+    pub fn inside(&mut self, x: f64, y: f64, text: &str) {
+        self.text(
+            x,
+            y,
+            Anchor::Middle,
+            "font-size=\"10\" fill=\"#1f2933\"",
+            text,
+        );
+    }
+
+    pub fn polygon(&mut self, points: &[(f64, f64)], style: &str) {
+        let points: Vec<String> = points
+            .iter()
+            .map(|(x, y)| format!("{x:.1},{y:.1}"))
+            .collect();
+        self.put(&format!(
+            "<polygon points=\"{}\" {style}/>",
+            points.join(" ")
+        ));
     }
 
     /// The whole picture, with a name for whoever cannot see it.
@@ -82,25 +150,19 @@ impl Svg {
     }
 }
 
-/// A step between the marks of an axis: 1, 2 or 5 times a power of ten, so that there are
-/// about so many marks.
-pub fn tick(length: f64, count: f64) -> f64 {
-    let raw = (length / count).max(0.1);
-    let power = 10_f64.powf(raw.log10().floor());
-    let times = [1.0, 2.0, 5.0, 10.0].into_iter().find(|times| times * power >= raw * 0.999);
-    times.unwrap_or(10.0) * power
-}
-
 /// A step in seconds between the marks of a time axis.
 pub fn time_tick(seconds: f64, count: f64) -> f64 {
-    let nice = [0.5, 1.0, 2.0, 5.0, 10.0, 20.0, 30.0, 60.0, 120.0, 300.0, 600.0, 1200.0, 3600.0];
+    let nice = [
+        0.5, 1.0, 2.0, 5.0, 10.0, 20.0, 30.0, 60.0, 120.0, 300.0, 600.0, 1200.0, 3600.0,
+    ];
     let found = nice.into_iter().find(|step| seconds / step <= count);
     found.unwrap_or(7200.0)
 }
 
-/// Seconds as `12.5 s`, or `3:05` from two minutes on.
-pub fn clock(seconds: f64) -> String {
-    if seconds >= 120.0 {
+/// A time on an axis of so many seconds: `12.5 s`, or `3:05` on one of two minutes and
+/// more.
+pub fn clock(seconds: f64, length: f64) -> String {
+    if length >= 120.0 {
         let whole = seconds.round() as u64;
         return format!("{}:{:02}", whole / 60, whole % 60);
     }

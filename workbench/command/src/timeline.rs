@@ -28,13 +28,14 @@ impl<'a> Picture<'a> {
     }
 }
 
-const LEFT: f64 = 190.0;
+const LEFT: f64 = 230.0;
 const RIGHT: f64 = 24.0;
 const ROW: f64 = 20.0;
 const BAR: f64 = 14.0;
 
-const INTERVAL_FILLS: [&str; 7] =
-    ["#cbd2d9", "#bfd7f5", "#8fd0a5", "#c4ead0", "#dfeaa0", "#f8dc7e", "#efb4b4"];
+const INTERVAL_FILLS: [&str; 7] = [
+    "#cbd2d9", "#bfd7f5", "#8fd0a5", "#c4ead0", "#dfeaa0", "#f8dc7e", "#efb4b4",
+];
 
 /// Draws the frames of a run.
 pub fn timeline(site: &Site, frames: &[Frame], picture: &Picture) -> String {
@@ -49,7 +50,7 @@ pub fn timeline(site: &Site, frames: &[Frame], picture: &Picture) -> String {
         y: 34.0,
     };
     drawing.svg.put(PATTERNS);
-    drawing.svg.text(12.0, 22.0, Anchor::Start, "font-size=\"15\" font-weight=\"bold\" fill=\"#1f2933\"", picture.title);
+    drawing.svg.title(12.0, 22.0, picture.title);
     let top = drawing.y;
     drawing.y += 18.0;
     drawing.intervals();
@@ -103,7 +104,11 @@ impl<'a> Drawing<'a> {
             let (value, to) = (value(frame), step + self.picture.stride);
             match all.last_mut() {
                 Some(last) if last.value == value => last.to = to,
-                _ => all.push(Stretch { from: step, to, value }),
+                _ => all.push(Stretch {
+                    from: step,
+                    to,
+                    value,
+                }),
             }
         }
         all
@@ -112,17 +117,23 @@ impl<'a> Drawing<'a> {
     fn heading(&mut self, text: &str) {
         self.y += 8.0;
         let style = "font-size=\"10\" fill=\"#7b8794\" letter-spacing=\"0.6\"";
-        self.svg.text(12.0, self.y + 10.0, Anchor::Start, style, &text.to_uppercase());
+        self.svg.text(
+            12.0,
+            self.y + 10.0,
+            Anchor::Start,
+            style,
+            &text.to_uppercase(),
+        );
         self.y += 16.0;
     }
 
     /// The name of a row, with a note in grey behind it.
     fn label(&mut self, name: &str, note: &str) {
         let y = self.y + BAR - 3.0;
-        self.svg.text(12.0, y, Anchor::Start, "font-weight=\"bold\" fill=\"#323f4b\"", name);
+        self.svg.label(12.0, y, name);
         let x = 12.0 + 8.0 * name.chars().count() as f64 + 4.0;
         let room = ((LEFT - x - 6.0) / 5.6).max(4.0) as usize;
-        self.svg.text(x, y, Anchor::Start, "font-size=\"10\" fill=\"#7b8794\"", &shortened(note, room));
+        self.svg.faint(x, y, &shortened(note, room));
     }
 
     /// A bar, and a text in it if it is wide enough.
@@ -131,7 +142,19 @@ impl<'a> Drawing<'a> {
         self.svg.rect(x, self.y, end - x, BAR, style);
         if end - x > 6.5 * text.chars().count() as f64 + 2.0 && !text.is_empty() {
             let (middle, y) = ((x + end) / 2.0, self.y + BAR - 3.5);
-            self.svg.text(middle, y, Anchor::Middle, "font-size=\"10\" fill=\"#1f2933\"", text);
+            self.svg.inside(middle, y, text);
+        }
+    }
+
+    /// A text on white in the middle of a bar, if the bar is wide enough.
+    fn tag(&mut self, from: u64, to: u64, text: &str, width: f64) {
+        let (x, end) = (self.x(from), self.x(to));
+        if end - x > width + 2.0 {
+            let (middle, y) = ((x + end) / 2.0, self.y + BAR - 3.5);
+            let style = "fill=\"#ffffff\" rx=\"2\"";
+            self.svg
+                .rect(middle - width / 2.0, self.y + 1.5, width, BAR - 3.0, style);
+            self.svg.inside(middle, y, text);
         }
     }
 
@@ -141,16 +164,27 @@ impl<'a> Drawing<'a> {
         self.label("phase", "");
         for one in phases {
             let style = "fill=\"#e4e7eb\" stroke=\"#ffffff\" stroke-width=\"0.5\"";
-            self.bar(one.from, one.to, style, &letter(one.value.into()).to_string());
+            self.bar(
+                one.from,
+                one.to,
+                style,
+                &letter(one.value.into()).to_string(),
+            );
         }
         self.y += ROW;
         self.label("interval", "");
         for one in self.stretches(|frame| (frame.fields().phase(), frame.interval())) {
             let code = one.value.1;
             let style = format!("fill=\"{}\"", INTERVAL_FILLS[code]);
-            let wide = (one.to - one.from) as f64 * self.scale > 6.5 * INTERVALS[code].len() as f64 + 4.0;
+            let wide =
+                (one.to - one.from) as f64 * self.scale > 6.5 * INTERVALS[code].len() as f64 + 4.0;
             let letter = INTERVAL_LETTERS[code].to_string();
-            self.bar(one.from, one.to, &style, if wide { INTERVALS[code] } else { &letter });
+            self.bar(
+                one.from,
+                one.to,
+                &style,
+                if wide { INTERVALS[code] } else { &letter },
+            );
         }
         self.y += ROW;
     }
@@ -173,22 +207,30 @@ impl<'a> Drawing<'a> {
             2 => self.bar(from, to, "fill=\"#3aa76d\"", "G"),
             1 => self.bar(from, to, "fill=\"#f4c20d\"", "Y"),
             3 => {
-                self.bar(from, to, "fill=\"url(#flash)\" stroke=\"#d64545\" stroke-width=\"0.6\"", "");
-                let (x, end) = (self.x(from), self.x(to));
-                if end - x > 12.0 {
-                    let (middle, y) = ((x + end) / 2.0, self.y + BAR - 3.5);
-                    self.svg.rect(middle - 5.0, self.y + 1.5, 10.0, BAR - 3.0, "fill=\"#ffffff\" rx=\"2\"");
-                    self.svg.text(middle, y, Anchor::Middle, "font-size=\"10\" fill=\"#1f2933\"", "F");
-                }
+                self.bar(
+                    from,
+                    to,
+                    "fill=\"url(#flash)\" stroke=\"#d64545\" stroke-width=\"0.6\"",
+                    "",
+                );
+                self.tag(from, to, "F", 10.0);
             }
             _ => {
                 let y = self.y + BAR / 2.0;
                 let (x, end) = (self.x(from), self.x(to));
-                self.svg.line((x, y), (end, y), "stroke=\"#d64545\" stroke-width=\"1.6\"");
+                self.svg
+                    .line((x, y), (end, y), "stroke=\"#d64545\" stroke-width=\"1.6\"");
                 if end - x > 26.0 {
                     let middle = (x + end) / 2.0;
-                    self.svg.rect(middle - 6.0, y - 6.0, 12.0, 12.0, "fill=\"#ffffff\"");
-                    self.svg.text(middle, y + 3.5, Anchor::Middle, "font-size=\"10\" fill=\"#b03030\"", "R");
+                    self.svg
+                        .rect(middle - 6.0, y - 6.0, 12.0, 12.0, "fill=\"#ffffff\"");
+                    self.svg.text(
+                        middle,
+                        y + 3.5,
+                        Anchor::Middle,
+                        "font-size=\"10\" fill=\"#b03030\"",
+                        "R",
+                    );
                 }
             }
         }
@@ -198,13 +240,17 @@ impl<'a> Drawing<'a> {
         let (phases, movements) = (self.site.phases.len(), self.site.movements.len());
         let all = demands(self.frames, phases, movements);
         let end = self.picture.to + 1;
-        let shown = |one: &&Demand| one.from <= self.picture.to && one.to.map_or(true, |to| to > self.picture.from);
+        let shown = |one: &&Demand| {
+            one.from <= self.picture.to && one.to.map_or(true, |to| to > self.picture.from)
+        };
         let all: Vec<Demand> = all.iter().filter(shown).copied().collect();
         if all.is_empty() {
             return;
         }
         self.heading("Demands, from registered to met");
-        let everybody = (0..phases).map(Who::Phase).chain((0..movements).map(Who::Movement));
+        let everybody = (0..phases)
+            .map(Who::Phase)
+            .chain((0..movements).map(Who::Movement));
         for who in everybody {
             let own: Vec<&Demand> = all.iter().filter(|one| one.who == who).collect();
             if own.is_empty() {
@@ -231,13 +277,27 @@ impl<'a> Drawing<'a> {
             Some(_) => "fill=\"#a9c5f5\" stroke=\"#3f6fc4\" stroke-width=\"0.8\" rx=\"2\"",
             None => "fill=\"url(#open)\" stroke=\"#3f6fc4\" stroke-width=\"0.8\" stroke-dasharray=\"3 2\"",
         };
-        let text = demand.waited().map_or("waits".to_string(), seconds);
-        self.bar(from, to, style, &text);
+        match demand.waited() {
+            Some(waited) => {
+                let (text, end) = (seconds(waited), self.x(to));
+                self.bar(from, to, style, &text);
+                if end - self.x(from) <= 6.5 * text.chars().count() as f64 + 2.0 {
+                    self.svg.note(end + 3.0, self.y + BAR - 3.5, &text);
+                }
+            }
+            None => {
+                self.bar(from, to, style, "");
+                self.tag(from, to, "waits", 38.0);
+            }
+        }
     }
 
     /// The detectors that are occupied at all, and the buttons that are pressed.
     fn inputs(&mut self) {
-        let used = self.frames.iter().fold(0, |used, frame| used | frame.inputs);
+        let used = self
+            .frames
+            .iter()
+            .fold(0, |used, frame| used | frame.inputs);
         if used == 0 {
             return;
         }
@@ -252,7 +312,13 @@ impl<'a> Drawing<'a> {
             for one in self.stretches(|frame| frame.inputs >> at & 1 != 0) {
                 if one.value {
                     let (x, end) = (self.x(one.from), self.x(one.to));
-                    self.svg.rect(x, self.y + 3.0, (end - x).max(1.5), BAR - 6.0, "fill=\"#52606d\"");
+                    self.svg.rect(
+                        x,
+                        self.y + 3.0,
+                        (end - x).max(1.5),
+                        BAR - 6.0,
+                        "fill=\"#52606d\"",
+                    );
                 }
             }
             self.y += ROW;
@@ -275,20 +341,30 @@ impl<'a> Drawing<'a> {
     /// A press: a triangle at its first step, and a line while it lasts.
     fn press(&mut self, from: u64, to: u64) {
         let (x, end, y) = (self.x(from), self.x(to), self.y + BAR);
-        let points = format!("{x:.1},{y:.1} {:.1},{:.1} {:.1},{:.1}", x - 4.0, y - 8.0, x + 4.0, y - 8.0);
-        self.svg.put(&format!("<polygon points=\"{points}\" fill=\"#7048a8\"/>"));
-        self.svg.line((x, y), (end, y), "stroke=\"#7048a8\" stroke-width=\"2\"");
+        self.svg.polygon(
+            &[(x, y), (x - 4.0, y - 8.0), (x + 4.0, y - 8.0)],
+            "fill=\"#7048a8\"",
+        );
+        self.svg
+            .line((x, y), (end, y), "stroke=\"#7048a8\" stroke-width=\"2\"");
     }
 
     fn axis(&mut self, top: f64, bottom: f64) {
-        let (first, last) = ((self.picture.from - 1) as f64 / 10.0, self.picture.to as f64 / 10.0);
+        let (first, last) = (
+            (self.picture.from - 1) as f64 / 10.0,
+            self.picture.to as f64 / 10.0,
+        );
         let width = (last - first) * 10.0 * self.scale;
         let step = time_tick(last - first, (width / 70.0).max(2.0));
         let mut at = (first / step).ceil() * step;
         while at <= last + 1e-9 {
             let x = LEFT + (at - first) * 10.0 * self.scale;
-            self.svg.line((x, top + 14.0), (x, bottom), "stroke=\"#1f2933\" stroke-opacity=\"0.12\" stroke-width=\"1\"");
-            self.svg.text(x, top + 10.0, Anchor::Middle, "font-size=\"10\" fill=\"#52606d\"", &clock(at));
+            self.svg.line(
+                (x, top + 14.0),
+                (x, bottom),
+                "stroke=\"#1f2933\" stroke-opacity=\"0.12\" stroke-width=\"1\"",
+            );
+            self.svg.mark(x, top + 10.0, &clock(at, last));
             at += step;
         }
     }
@@ -301,21 +377,28 @@ impl<'a> Drawing<'a> {
             ("fill=\"#3aa76d\"", "G green"),
             ("fill=\"#f4c20d\"", "Y yellow"),
             ("fill=\"url(#flash)\" stroke=\"#d64545\"", "F flashing red"),
-            ("fill=\"#a9c5f5\" stroke=\"#3f6fc4\"", "demand, with its wait"),
+            (
+                "fill=\"#a9c5f5\" stroke=\"#3f6fc4\"",
+                "demand, with its wait",
+            ),
             ("fill=\"url(#open)\" stroke=\"#3f6fc4\"", "not met yet"),
             ("fill=\"#52606d\"", "occupied"),
         ];
-        self.svg.line((x, y + 6.0), (x + 18.0, y + 6.0), "stroke=\"#d64545\" stroke-width=\"1.6\"");
-        self.svg.text(x + 23.0, y + 10.0, Anchor::Start, "font-size=\"10\" fill=\"#52606d\"", "R red");
+        self.svg.line(
+            (x, y + 6.0),
+            (x + 18.0, y + 6.0),
+            "stroke=\"#d64545\" stroke-width=\"1.6\"",
+        );
+        self.svg.note(x + 23.0, y + 10.0, "R red");
         x += 66.0;
         for (style, text) in entries {
             self.svg.rect(x, y + 1.0, 14.0, 10.0, style);
-            self.svg.text(x + 19.0, y + 10.0, Anchor::Start, "font-size=\"10\" fill=\"#52606d\"", text);
+            self.svg.note(x + 19.0, y + 10.0, text);
             x += 36.0 + 6.0 * text.chars().count() as f64;
         }
-        self.svg.put(&format!("<polygon points=\"{x:.1},{:.1} {:.1},{:.1} {:.1},{:.1}\" fill=\"#7048a8\"/>",
-            y + 11.0, x - 4.0, y + 3.0, x + 4.0, y + 3.0));
-        self.svg.text(x + 8.0, y + 10.0, Anchor::Start, "font-size=\"10\" fill=\"#52606d\"", "pressed");
+        let points = [(x, y + 11.0), (x - 4.0, y + 3.0), (x + 4.0, y + 3.0)];
+        self.svg.polygon(&points, "fill=\"#7048a8\"");
+        self.svg.note(x + 8.0, y + 10.0, "pressed");
         self.y += 16.0;
     }
 }

@@ -34,7 +34,9 @@ pub fn shares(loaded: &Loaded) -> Vec<Share> {
     let site = &loaded.site;
     let share = |(phase, row): (usize, &site::Phase)| {
         let steps = |setting| u64::from(row.steps(setting));
-        let walks = site.movements_of(phase).map(|one| one.times.map(|time| u64::from(time.steps)));
+        let walks = site
+            .movements_of(phase)
+            .map(|one| one.times.map(|time| u64::from(time.steps)));
         let walks: Vec<[u64; 3]> = walks.collect();
         let longest = |of: fn(&[u64; 3]) -> u64| walks.iter().map(of).max().unwrap_or(0);
         Share {
@@ -77,8 +79,10 @@ pub fn waits(out: &Out, matches: &ArgMatches) -> Result<(), Stop> {
             json!({"phase": letter(share.phase).to_string(), "share": share.sum(), "parts": share.parts,
                    "before": before(&loaded, share.phase).iter().collect::<String>()})
         };
-        print_json(&json!({"waitBound": bound, "startRed": start, "parts": PARTS,
-                           "phases": shares.iter().map(phase).collect::<Vec<_>>(), "counts": COUNTS}));
+        print_json(
+            &json!({"waitBound": bound, "startRed": start, "parts": PARTS,
+                           "phases": shares.iter().map(phase).collect::<Vec<_>>(), "counts": COUNTS}),
+        );
         return Ok(());
     }
     println!("wait bound {} ({bound} steps)\n{COUNTS}\n", seconds(bound));
@@ -88,9 +92,15 @@ pub fn waits(out: &Out, matches: &ArgMatches) -> Result<(), Stop> {
     println!("phase    {head}   share   phases that may come first, each once");
     println!("start red{:>64.1}", start as f64 / 10.0);
     for share in &shares {
-        let parts = share.parts.iter().map(|part| format!("{:>7.1}", *part as f64 / 10.0));
+        let parts = share
+            .parts
+            .iter()
+            .map(|part| format!("{:>7.1}", *part as f64 / 10.0));
         let parts: String = parts.collect();
-        let first: Vec<String> = before(&loaded, share.phase).iter().map(char::to_string).collect();
+        let first: Vec<String> = before(&loaded, share.phase)
+            .iter()
+            .map(char::to_string)
+            .collect();
         println!(
             "{:<9}{parts}{:>8.1}   {}",
             letter(share.phase),

@@ -40,7 +40,9 @@ struct Seeing {
 
 impl Seeing {
     fn new(phases: usize, movements: usize) -> Seeing {
-        let everybody = (0..phases).map(Who::Phase).chain((0..movements).map(Who::Movement));
+        let everybody = (0..phases)
+            .map(Who::Phase)
+            .chain((0..movements).map(Who::Movement));
         let none = |who| Longest {
             who,
             wait: 0,
@@ -83,7 +85,9 @@ fn watch_run(
     if Library.fresh(personality, &mut state) != 0 {
         return Err("the fresh state is refused".to_string());
     }
-    let decoded = |state: &[u8; STATE_LEN]| TimedState::from_bytes(state).ok_or("no state is handed back".to_string());
+    let decoded = |state: &[u8; STATE_LEN]| {
+        TimedState::from_bytes(state).ok_or("no state is handed back".to_string())
+    };
     let mut before = decoded(&state)?;
     for step in 1..=steps {
         let inputs = driver.inputs(&site, &before.state);
@@ -100,7 +104,9 @@ fn watch_run(
             colours: &colours,
             wait: answer >> 8,
         };
-        monitor.accepted_step(&site, &seen).map_err(|breach| breach.to_string())?;
+        monitor
+            .accepted_step(&site, &seen)
+            .map_err(|breach| breach.to_string())?;
         for demand in waiting.step(step, &Fields::of(&state)) {
             seeing.met(&demand, strategy);
         }
@@ -115,7 +121,8 @@ fn watch_run(
 pub fn watch(out: &Out, matches: &ArgMatches) -> Result<(), Stop> {
     let path: &String = matches.get_one("SITE").expect("required");
     let loaded = accepted(out, path)?;
-    let [steps, seed] = ["steps", "seed"].map(|name| *matches.get_one::<u64>(name).expect("a default"));
+    let [steps, seed] =
+        ["steps", "seed"].map(|name| *matches.get_one::<u64>(name).expect("a default"));
     let stopped = Arc::new(AtomicBool::new(false));
     let flag = Arc::clone(&stopped);
     ctrlc::set_handler(move || flag.store(true, Ordering::SeqCst))
@@ -127,13 +134,27 @@ pub fn watch(out: &Out, matches: &ArgMatches) -> Result<(), Stop> {
     while seeing.steps < steps && breach.is_none() && !stopped.load(Ordering::SeqCst) {
         let strategy = Strategy::ALL[run as usize % Strategy::ALL.len()];
         let length = RUN.min(steps - seeing.steps);
-        let told = watch_run(loaded.bytes(), strategy, Rng::of_case(seed, run), length, &mut seeing);
-        breach = told.err().map(|what| format!("{what} (seed {seed}, run {run}, {strategy:?})"));
+        let told = watch_run(
+            loaded.bytes(),
+            strategy,
+            Rng::of_case(seed, run),
+            length,
+            &mut seeing,
+        );
+        breach = told
+            .err()
+            .map(|what| format!("{what} (seed {seed}, run {run}, {strategy:?})"));
         bar.set_position(seeing.steps);
         run += 1;
     }
     bar.finish_and_clear();
-    print(out, &loaded, &seeing, breach.as_deref(), stopped.load(Ordering::SeqCst));
+    print(
+        out,
+        &loaded,
+        &seeing,
+        breach.as_deref(),
+        stopped.load(Ordering::SeqCst),
+    );
     breach.map_or(Ok(()), |_| Err(Stop::Refused))
 }
 
@@ -141,7 +162,9 @@ pub fn watch(out: &Out, matches: &ArgMatches) -> Result<(), Stop> {
 fn name(loaded: &Loaded, who: Who) -> String {
     match who {
         Who::Phase(phase) => format!("phase {}", letter(phase)),
-        Who::Movement(at) => loaded.site.groups[loaded.site.movements[at].group].name.clone(),
+        Who::Movement(at) => loaded.site.groups[loaded.site.movements[at].group]
+            .name
+            .clone(),
     }
 }
 
@@ -159,19 +182,31 @@ fn print(out: &Out, loaded: &Loaded, seeing: &Seeing, breach: Option<&str>, stop
         return;
     }
     let end = if stopped { ", stopped by Ctrl-C" } else { "" };
-    println!("{} steps{end}, {} greens begun, at most {} phases started while a demand waited", seeing.steps, seeing.greens, seeing.most_starts);
+    println!(
+        "{} steps{end}, {} greens begun, at most {} phases started while a demand waited",
+        seeing.steps, seeing.greens, seeing.most_starts
+    );
     match breach {
         Some(breach) => println!("{}: {breach}", out.paint("31;1", "breach")),
-        None => println!("{}: no conflicting greens, full clearances, every demand within its bound", out.good("no breach")),
+        None => println!(
+            "{}: no conflicting greens, full clearances, every demand within its bound",
+            out.good("no breach")
+        ),
     }
     println!("\nwho       demands met  longest wait       bound  part  inputs that made it");
     for one in &seeing.longest {
-        let strategy = one.strategy.map_or("-".to_string(), |strategy| format!("{strategy:?}"));
+        let strategy = one
+            .strategy
+            .map_or("-".to_string(), |strategy| format!("{strategy:?}"));
         println!(
             "{:<10}{:>11}  {:>12}  {:>10}  {:.2}  {strategy}",
             name(loaded, one.who),
             one.met,
-            seconds(one.wait),
+            if one.met == 0 {
+                "-".to_string()
+            } else {
+                seconds(one.wait)
+            },
             seconds(bound),
             one.wait as f64 / bound as f64
         );

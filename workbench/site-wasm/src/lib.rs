@@ -62,7 +62,10 @@ unsafe fn text(address: *const u8, length: usize) -> String {
 }
 
 fn mistakes(list: &[site::Mistake]) -> (&'static str, String) {
-    ("mistakes", site::json::list(list.iter().map(site::json::mistake)))
+    (
+        "mistakes",
+        site::json::list(list.iter().map(site::json::mistake)),
+    )
 }
 
 /// # Safety
@@ -76,7 +79,10 @@ pub unsafe extern "C" fn site_parse(address: *const u8, length: usize) -> usize 
                 mistakes(&[]),
                 ("site", site::json::site(&read)),
                 ("built", site::json::built(&read.build())),
-                ("speeds", site::json::list(speeds.map(|(speed, grade)| format!("[{speed},{grade}]")))),
+                (
+                    "speeds",
+                    site::json::list(speeds.map(|(speed, grade)| format!("[{speed},{grade}]"))),
+                ),
             ])
         }
         Err(list) => site::json::object(&[
@@ -145,8 +151,13 @@ pub unsafe extern "C" fn site_inputs(
         Ok(script) => (Vec::new(), script.inputs),
         Err(list) => (list, Vec::new()),
     };
-    let inputs = inputs.iter().map(|bits| site::json::string(&bits.to_string()));
-    answer(site::json::object(&[mistakes(&list), ("inputs", site::json::list(inputs))]))
+    let inputs = inputs
+        .iter()
+        .map(|bits| site::json::string(&bits.to_string()));
+    answer(site::json::object(&[
+        mistakes(&list),
+        ("inputs", site::json::list(inputs)),
+    ]))
 }
 
 /// # Safety

@@ -105,18 +105,26 @@ impl<'a> List<'a> {
             if group.phases == 0 {
                 continue;
             }
+            let (mut phases, mut names) = (String::new(), Vec::new());
             for phase in (0..site.phases.len()).filter(|phase| !group.in_phase(*phase)) {
                 let others = self.kept_apart(at, phase);
-                if !others.is_empty() {
-                    let names: Vec<&str> = others.iter().map(|one| site.groups[*one].name.as_str()).collect();
-                    let text = format!(
-                        "{} is red in phase {letter} but conflicts with no group of it: if that is meant, add `not {}`",
-                        group.name,
-                        names.join(" "),
-                        letter = letter(phase),
-                    );
-                    self.warn(Kind::NeverConflict, group.row, text);
-                }
+                phases.extend(others.first().map(|_| letter(phase)));
+                names.extend(others.iter().map(|one| site.groups[*one].name.as_str()));
+            }
+            if !names.is_empty() {
+                let mut seen = Vec::new();
+                names.retain(|name| {
+                    !seen.contains(name) && {
+                        seen.push(*name);
+                        true
+                    }
+                });
+                let text = format!(
+                    "{} is red in {phases} but conflicts with no group of {phases}: if that is meant, add `not {}`",
+                    group.name,
+                    names.join(" ")
+                );
+                self.warn(Kind::NeverConflict, group.row, text);
             }
         }
     }
@@ -132,7 +140,8 @@ impl<'a> List<'a> {
         });
         let others: Vec<usize> = others.map(|(other, _)| other).collect();
         let known = |other: &usize| {
-            let names = |list: &[(usize, Span)], one: usize| list.iter().any(|(group, _)| *group == one);
+            let names =
+                |list: &[(usize, Span)], one: usize| list.iter().any(|(group, _)| *group == one);
             names(&group.apart, *other) || names(&site.groups[*other].apart, at)
         };
         let conflict = others.iter().any(|other| group.conflicts_with(*other));
