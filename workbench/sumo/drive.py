@@ -16,7 +16,7 @@ import traci  # noqa: E402  (Debian's sumo-tools)
 import traci.constants as names  # noqa: E402
 
 SECOND = 10  # steps
-LONGEST = 20  # wait bounds after the last arrival, until a run that does not end is given up
+PATIENCE = 1200  # seconds after the last arrival, until a run that does not end is given up
 
 
 class Fault(Exception):
@@ -74,8 +74,8 @@ class Drive:
         lanes = set(range(detector["lanes"][0], detector["lanes"][1] + 1))
         return {path[0] for path in self.network.paths if path[1] == detector["approach"] and path[2] in lanes}
 
-    def run(self, seconds):
-        """Runs until everybody has left."""
+    def run(self, seconds, patience=PATIENCE):
+        """Runs until everybody has left: the number of steps."""
         try:
             self.subscribe()
             step, buttons, inputs = 0, 0, 0
@@ -90,7 +90,7 @@ class Drive:
                 self.judge(step, occupied, buttons)
                 if step % SECOND == 0:
                     self.look()
-                if step > seconds * SECOND + LONGEST * (self.watch.bound or 2000):
+                if step > (seconds + patience) * SECOND:
                     raise Fault(f"not everybody has left at step {step}: {traci.vehicle.getIDList() + traci.person.getIDList()}")
             return step
         finally:

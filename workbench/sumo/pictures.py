@@ -23,8 +23,11 @@ class Picture:
         look = {"fill": "none", "stroke": colour, "stroke-width": f"{width:.2f}", "stroke-dasharray": dash or "none", "stroke-linecap": cap}
         xml.SubElement(self.root, "polyline", points=" ".join(f"{x:.1f},{y:.1f}" for x, y in points), **look)
 
-    def box(self, x, y, width, height, colour):
-        xml.SubElement(self.root, "rect", x=f"{x:.1f}", y=f"{y:.1f}", width=f"{width:.1f}", height=f"{height:.1f}", fill=colour)
+    def bar(self, x, y, width, height, key):
+        """A bar of a control: solid, or hollow with the control's dashes."""
+        fill = "#ffffff" if DASHES[key] else COLOURS[key]
+        look = {"fill": fill, "stroke": COLOURS[key], "stroke-width": "2", "stroke-dasharray": DASHES[key] or "none"}
+        xml.SubElement(self.root, "rect", x=f"{x:.1f}", y=f"{y:.1f}", width=f"{width:.1f}", height=f"{height:.1f}", **look)
 
     def legend(self, x, y, labels):
         for key, label in labels.items():
@@ -82,8 +85,8 @@ def network(net, file, title):
         x, y = seen([back(metres + length / 2)])[0]
         picture.text(x, y + 4, str(at), size=11, anchor="middle", fill="#ffffff", weight="bold")
     for name in net.arms:
-        points = seen(inside(lanes[f"{name}_in_{net.pavement}"]))
-        picture.text(min(max(points[0][0], 40), size - 40), min(max(points[0][1], top + 12), size + top - 8), name, anchor="middle", weight="bold")
+        x, y = seen(inside(lanes[f"{name}_in_{net.pavement}"]))[0]
+        picture.text(min(max(x, 30), size - 30), min(max(y + 4, top + 24), size + top - 16), name, anchor="middle", weight="bold", fill="#ffffff")
     picture.write(file)
 
 
@@ -125,7 +128,7 @@ def delays(means, labels, file, title):
         x = left + wide * at + 12
         for row, key in enumerate(labels):
             tall = height * means[key][group] / highest
-            picture.box(x + row * 30, 70 + height - tall, 26, tall, COLOURS[key])
+            picture.bar(x + row * 30, 70 + height - tall, 26, tall, key)
             picture.text(x + row * 30 + 13, 66 + height - tall, f"{means[key][group]:.0f}", size=9, anchor="middle")
         picture.text(x + 28, 70 + height + 16, group, anchor="middle")
     picture.write(file)
