@@ -5,7 +5,9 @@
     build.py --check    builds every site in memory and compares it with the files that are kept
 
 README.md describes both text forms. A mistake is told with its file and line, and that site is not written."""
+import re
 import sys
+from itertools import takewhile
 from pathlib import Path
 from typing import NamedTuple
 
@@ -15,7 +17,9 @@ sys.path.insert(0, str(HERE.parent / "vectors"))
 from model import EDITIONS, PHASE_FIELDS, WALK_FIELDS, verdict
 
 SITE_KIND = {1: 1, 2: 8}  # the kind of the site section, by edition
-SECTIONS = ("site", "phases", "groups", "conflicts", "detectors", "pedestrians", "early-cut-off", "order")
+SECTIONS = ("site", "phases", "groups", "conflicts", "detectors", "pedestrians", "early-cut-off", "order", "approaches", "streams")
+WORKBENCH_ROWS = {"name", "traffic"}  # in section site; only the workbench reads them, the last two sections, and what follows these words:
+WORKBENCH_WORDS = {"approach", "lane", "lanes", "arrow", "metres", "length", "not"}
 NEEDED = 6  # the sections after these need not be there
 LETTERS = tuple("ABCDEFG")
 MARKS = {"vehicle": 0, "late-start": 1, "pedestrian": 2, "early-cut-off": 3}
@@ -59,12 +63,19 @@ def need(truth, place, what):
 
 # ── Reading lines ──
 
+def words_of(text):
+    """The words of a line, without its comment and its names in quotation marks. A time in seconds (`4.5 s`) is turned into steps."""
+    text = re.sub(r"(?<!\S)(\d+)(?:\.(\d))?\s*s(?!\S)", lambda time: str(10 * int(time[1]) + int(time[2] or 0)), text)
+    words = [word for word in re.findall(r'"[^"]*"|#.*|[^\s#"]+', text) if word[0] not in '"#']
+    return list(takewhile(lambda word: word not in WORKBENCH_WORDS, words))
+
+
 def lines_of(path):
-    """The lines that hold words, without comments."""
+    """The lines that hold words, without what only the workbench reads."""
     found = []
     for number, text in enumerate(path.read_text(encoding="utf-8").splitlines(), 1):
-        words = text.split("#")[0].split()
-        if words:
+        words = words_of(text)
+        if words and words[0] not in WORKBENCH_ROWS:
             found.append(Line(f"{path.parent.name}/{path.name}:{number}", words))
     return found
 

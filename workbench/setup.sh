@@ -3,12 +3,12 @@
 #
 #   setup.sh crates     the Rust libraries that the command uses
 #   setup.sh wasm       rustc and its library for WebAssembly
-#   setup.sh pictures   a renderer, to look at pictures
+#   setup.sh browser    a browser
 set -eu
 case ${1:-} in
 crates) packages='librust-clap-dev librust-indicatif-dev librust-serde-json-dev librust-ctrlc-dev' ;;
 wasm) packages='rustc libstd-rust-dev-wasm32 lld' ;;
-pictures) packages='librsvg2-bin fonts-dejavu-core' ;;
+browser) packages='chromium' ;;
 *)
     sed -n '2,6s/^# \{0,1\}//p' "$0" >&2
     exit 2

@@ -8,9 +8,11 @@ if ! { [ -x "$compiler" ] && [ -d /usr/lib/rustlib/wasm32-unknown-unknown ] && c
     ../setup.sh wasm
 fi
 out=../../target/workbench/wasm
+made=../../target/workbench/site.wasm
 mkdir -p "$out"
+if [ -e "$made" ] && [ -z "$(find src ../site/src ../../rust/willowera/src/refusal.rs build.sh -newer "$made")" ]; then exit 0; fi
 flags=(--edition 2021 --target wasm32-unknown-unknown -C opt-level=s -C panic=abort -C lto=fat -C embed-bitcode=yes)
 "$compiler" "${flags[@]:0:4}" -C opt-level=s -C panic=abort --crate-type rlib --crate-name site ../site/src/lib.rs --out-dir "$out"
 "$compiler" "${flags[@]}" --crate-type cdylib --crate-name site_wasm src/lib.rs --extern "site=$out/libsite.rlib" \
     -C linker=wasm-ld -C strip=symbols --out-dir "$out"
-mv "$out/site_wasm.wasm" ../../target/workbench/site.wasm
+mv "$out/site_wasm.wasm" "$made"

@@ -130,7 +130,7 @@ impl<'a> List<'a> {
     }
 
     /// The groups of a phase that never conflict with a group, if none of the phase does;
-    /// nothing if all of them are named behind `not`.
+    /// without those that are named behind `not`.
     fn kept_apart(&self, at: usize, phase: usize) -> Vec<usize> {
         let site = self.site;
         let group = &site.groups[at];
@@ -144,12 +144,10 @@ impl<'a> List<'a> {
                 |list: &[(usize, Span)], one: usize| list.iter().any(|(group, _)| *group == one);
             names(&group.apart, *other) || names(&site.groups[*other].apart, at)
         };
-        let conflict = others.iter().any(|other| group.conflicts_with(*other));
-        if conflict || others.iter().all(known) {
-            Vec::new()
-        } else {
-            others
+        if others.iter().any(|other| group.conflicts_with(*other)) {
+            return Vec::new();
         }
+        others.into_iter().filter(|other| !known(other)).collect()
     }
 
     /// Vehicle groups in no phase, and marks without effect.
