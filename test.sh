@@ -1,7 +1,8 @@
 #!/usr/bin/env bash
 # Passes everything: layout; the names in the documents; every crate proved from nothing, every must-fail edit refused and every program
 # run; the edits of the rules that a theorem must refuse; the example sites, their traces and the ways a trace ends; the lines of the table
-# of yellow times; the vectors; the tests of rust/ and the library against the model; cabinets; retimings; the library from C.
+# of yellow times; the vectors; the tests of rust/ and the library against the model; cabinets; retimings; sealed states; the library from
+# C; the archives for other processors.
 # The last line is `N passed, M failed`; the exit status is 0 only where M is 0.
 set -u
 cd "$(dirname "$0")" || exit 2
@@ -99,7 +100,8 @@ check 'vectors/make_reads.py' same_vectors
 rust_tests() { (cd rust && cargo test --quiet --offline --features linked); }
 compare_with_model() { (cd rust && cargo run --quiet --release --offline --features linked -p compare -- "$@"); }
 build_compare() { (cd rust && cargo build --quiet --release --offline --features linked -p compare); }
-check 'rt staticlib willowera' rt staticlib willowera
+# The module for other processors is caught while the static library is made (rt staticlib willowera).
+check 'rt staticlib willowera, and its module' python3 targets/module.py
 check 'the comparison' build_compare
 beside agree compare_with_model 1 50000 &
 agree=$!
@@ -137,6 +139,16 @@ check 'lines of vectors/make_why.py' compare_with_model whys ../vectors/whys
 for part in needs headers conditions steps rust why words power arm settings road cabinet retime yellow; do
     check "examples/c/check.sh $part" examples/c/check.sh "$part"
 done
+
+# The library for other processors: refusals of the build, archives, header, stack and figures; and a firmware on it.
+for part in refusals archives header stack figures; do
+    check "targets/check.sh $part" targets/check.sh "$part"
+done
+check 'examples/cortex-m4/check.sh' examples/cortex-m4/check.sh
+
+# Calls recorded on the host give the same answers and bytes on other processors; damaged recordings are noticed.
+check 'replay on other processors' targets/replay/run.sh cortex-m4 cortex-m4-strict armv7-linux wasm32
+check 'damaged recordings are noticed' targets/replay/run.sh --damaged cortex-m4-strict wasm32
 
 # The settings of site sheets against exact arithmetic.
 compare_sheets() { (cd rust && cargo run --quiet --release --offline --features linked -p sheet -- "$@"); }

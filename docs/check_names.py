@@ -27,7 +27,7 @@ The rules. In backticks:
     files: an edit of that folder, a crate or a function. `prefix_` and `prefix_*`: at least one of these begins with it. C types (`_t`) are
     not checked.
  7. `camelCase`, `Capital`: a definition, a type, a variant, a field or a file of any crate, or a name that a crate takes from the libraries.
- 8. `kebab-case`: a theorem, a folder, a word of a site's text (in quotes in examples/build.py), or a word of a script in targets/.
+ 8. `kebab-case`: a theorem, a folder, a word of a site's text (in quotes in examples/build.py or workbench/site), or a word of a script in targets/.
  9. `WILLOWERA_NAME`: it stands in a header of include/ or in rust/.
 10. `word`, of small letters alone: it occurs in the code of a crate or of rust/ outside comments, or in a script or a text of the repository.
 11. Of several words in one pair of backticks, those after `rt check`, `rt dev` and the like are crates, one after `cargo .. -p` is a package
@@ -165,7 +165,7 @@ class Tree:
         }
         self.capitals = set(re.findall(r'WILLOWERA_[A-Z0-9_]+', header + beside + sources('rust/')))
         self.beside = set(re.findall(r'\b(willowera_\w+)\s*\(', re.sub(r'(?s)/\*.*?\*/', '', beside)))
-        self.site_words = set(re.findall(r'["\']([a-z]+(?:-[a-z]+)+)["\']', self.text('examples/build.py')))
+        self.site_words = set(re.findall(r'["\']([a-z]+(?:-[a-z]+)+)["\']', self.text('examples/build.py') + sources('workbench/site/src/')))
         scripts = [f for f in self.files if f.startswith('targets/') and f.endswith(('.py', '.sh', '.txt'))]
         self.target_words = {w for f in scripts for w in re.findall(r'[a-z][a-z0-9]*(?:-[a-z0-9]+)*', self.text(f))}
 

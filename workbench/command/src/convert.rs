@@ -32,7 +32,7 @@ pub fn build(out: &Out, matches: &ArgMatches) -> Result<(), Stop> {
 fn c_array(name: &str, bytes: &[u8]) -> Result<String, Stop> {
     let letter = |c: char| c.is_ascii_alphanumeric() || c == '_';
     let begins = |c: char| !c.is_ascii_digit();
-    if !name.chars().all(letter) || !name.chars().next().map_or(false, begins) {
+    if !name.chars().all(letter) || !name.chars().next().is_some_and(begins) {
         return Err(Stop::Unusable(format!("{name} is not a name in C")));
     }
     let row = |row: &[u8]| {

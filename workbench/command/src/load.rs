@@ -69,10 +69,12 @@ fn is_personality(bytes: &[u8]) -> bool {
 /// Reads a site. Its mistakes are printed.
 pub fn load(out: &Out, path: &str) -> Result<Loaded, Stop> {
     let (path, bytes) = bytes_of(path)?;
-    let text = if is_personality(&bytes) {
-        shown(out, &path, &bytes)?
+    let (path, text) = if is_personality(&bytes) {
+        let text = shown(out, &path, &bytes)?;
+        (format!("{path} (as shown)"), text)
     } else {
-        text_of(&path, bytes)?
+        let text = text_of(&path, bytes)?;
+        (path, text)
     };
     let site = site::read(&text).map_err(|mistakes| told(out, &path, &text, &mistakes))?;
     let built = site.build();

@@ -71,7 +71,9 @@ fn card(svg: &mut Svg, site: &Site, phase: usize) {
     for bearing in &bearings {
         arm(svg, *bearing);
     }
-    if !bearings.is_empty() {
+    if bearings.is_empty() {
+        listed(svg, site, phase);
+    } else {
         svg.rect(
             MIDDLE - ARM,
             MIDDLE - ARM,
@@ -93,6 +95,17 @@ fn card(svg: &mut Svg, site: &Site, phase: usize) {
             "font-size=\"11\" fill=\"#323f4b\"",
             line,
         );
+    }
+}
+
+/// The groups of a phase with their names, if the text does not say where they are.
+fn listed(svg: &mut Svg, site: &Site, phase: usize) {
+    let own = site.groups.iter().filter(|group| group.in_phase(phase));
+    for (at, group) in own.enumerate().take(13) {
+        let y = 16.0 + 12.0 * at as f64;
+        let name = group.place.name.as_deref().unwrap_or_default();
+        svg.note(8.0, y, &group.name);
+        svg.faint(34.0, y, &crate::svg::shortened(name, 21));
     }
 }
 

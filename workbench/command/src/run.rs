@@ -83,7 +83,7 @@ fn changes(frames: &[Frame], at: usize) -> bool {
     let new =
         |before: &Frame| seen(before) != seen(&frames[at]) || before.colours != frames[at].colours;
     at.checked_sub(1)
-        .map_or(true, |before| last || new(&frames[before]))
+        .is_none_or(|before| last || new(&frames[before]))
 }
 
 /// The demands of a state: locked phases, and the groups of demanded movements.

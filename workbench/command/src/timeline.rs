@@ -241,7 +241,7 @@ impl<'a> Drawing<'a> {
         let all = demands(self.frames, phases, movements);
         let end = self.picture.to + 1;
         let shown = |one: &&Demand| {
-            one.from <= self.picture.to && one.to.map_or(true, |to| to > self.picture.from)
+            one.from <= self.picture.to && one.to.is_none_or(|to| to > self.picture.from)
         };
         let all: Vec<Demand> = all.iter().filter(shown).copied().collect();
         if all.is_empty() {

@@ -363,3 +363,31 @@ fn limits_are_those_of_the_library() {
         }
     }
 }
+
+/// Ctrl-C ends `watch` with what was found.
+#[test]
+fn watch_ends_at_an_interrupt() {
+    use std::process::{Command, Stdio};
+    let site = root().join("examples/two_phases");
+    let mut watch = Command::new(env!("CARGO_BIN_EXE_willowera"));
+    let watch = watch.args(["watch", shown(&site), "--steps", "1000000000000"]);
+    let running = watch
+        .stdin(Stdio::null())
+        .stdout(Stdio::piped())
+        .stderr(Stdio::null())
+        .spawn()
+        .unwrap();
+    std::thread::sleep(std::time::Duration::from_millis(500));
+    let pid = running.id().to_string();
+    assert!(Command::new("kill")
+        .args(["-INT", &pid])
+        .status()
+        .unwrap()
+        .success());
+    let output = running.wait_with_output().unwrap();
+    let text = String::from_utf8(output.stdout).unwrap();
+    assert!(
+        output.status.success() && text.contains("stopped by Ctrl-C"),
+        "{text}"
+    );
+}

@@ -11,6 +11,7 @@
 #![forbid(unsafe_code)]
 
 mod build;
+mod differ;
 mod inputs;
 pub mod json;
 mod parse;
@@ -26,6 +27,7 @@ mod warn;
 mod words;
 
 pub use build::Built;
+pub use differ::differences;
 pub use inputs::{read_inputs, Script};
 pub use parse::{read, read_road};
 pub use row::{listed, Time};
@@ -35,7 +37,7 @@ pub use site::{
     Stream, ARROWS, CALLS, EARLY_CUT_OFF, EXTENDS, FIRST_BUTTON, HEADINGS, LATE_START, MARKS,
     MOVEMENT_SETTINGS, PEDESTRIAN, PHASE_SETTINGS, ROAD_STEPS,
 };
-pub use tell::{differences, tell, Told};
+pub use tell::{tell, Told};
 pub use warn::{speeds, warnings, Kind, Warning};
 pub use words::{Mistake, Span};
 

@@ -181,8 +181,8 @@ impl<'a> Teller<'a> {
                 }
             }
         }
-        let early = site.early.iter().flatten().enumerate();
-        let found = early.filter(|(_, time)| time.span == span).next();
+        let mut early = site.early.iter().flatten().enumerate();
+        let found = early.find(|(_, time)| time.span == span);
         found.map(|(at, time)| {
             (
                 format!("phase {}", letter(at)),
@@ -289,9 +289,10 @@ impl<'a> Teller<'a> {
                     "{} and {} conflict and are both in {many} {shared}",
                     one.name, other.name
                 );
-                let noted = self.note(one.phases_span, format!("the phases of {}", one.name));
-                noted
+                let first = (other.phases & one.phases).trailing_zeros() as usize;
+                self.note(one.phases_span, format!("the phases of {}", one.name))
                     .note(other.phases_span, format!("the phases of {}", other.name))
+                    .note(site.phases[first].span, format!("phase {}", letter(first)))
                     .say(*span, text)
             }
             None => self.told,
@@ -327,28 +328,37 @@ impl<'a> Teller<'a> {
         }
     }
 
+    /// The letter that the order has twice or that the site does not have, and the first
+    /// phase that is missing.
     fn order(self) -> Told {
+        let site = self.site;
         let empty = Vec::new();
-        let order = self.site.order.as_ref().unwrap_or(&empty);
-        for (at, (phase, span)) in order.iter().enumerate() {
-            let letter = letter((*phase).into());
-            if usize::from(*phase) >= self.site.phases.len() {
-                let text = format!("the order has phase {letter}; {}", self.phases());
-                return self.say(*span, text);
-            }
-            if let Some((_, first)) = order[..at].iter().find(|(earlier, _)| earlier == phase) {
-                let missing: Vec<String> = (0..self.site.phases.len())
-                    .filter(|one| order.iter().all(|(listed, _)| usize::from(*listed) != *one))
-                    .map(|one| crate::letter(one).to_string())
-                    .collect();
+        let order = site.order.as_ref().unwrap_or(&empty);
+        let listed = |phase: &usize| order.iter().any(|(one, _)| usize::from(*one) == *phase);
+        let missing = (0..site.phases.len()).find(|phase| !listed(phase));
+        let twice = |at: usize| {
+            order[..at]
+                .iter()
+                .any(|(earlier, _)| *earlier == order[at].0)
+        };
+        let wrong = |at: &usize| usize::from(order[*at].0) >= site.phases.len() || twice(*at);
+        match ((0..order.len()).find(wrong), missing) {
+            (Some(at), Some(missing)) => {
+                let (phase, span) = order[at];
+                let what = if twice(at) {
+                    "twice".to_string()
+                } else {
+                    format!("({})", self.phases())
+                };
+                let (letter, missing_letter) = (letter(phase.into()), letter(missing));
                 let text = format!(
-                    "the order has phase {letter} twice, and phase {} is missing",
-                    missing.join(", ")
+                    "the order has phase {letter} {what}, and phase {missing_letter} is missing"
                 );
-                return self.note(*first, "the first time").say(*span, text);
+                let note = format!("phase {missing_letter} is not in the order");
+                self.note(site.phases[missing].span, note).say(span, text)
             }
+            _ => self.told,
         }
-        self.told
     }
 
     fn uncalled(self) -> Told {
@@ -424,116 +434,4 @@ impl<'a> Teller<'a> {
 /// The bits of the first phases.
 fn below(phases: usize) -> u8 {
     ((1_u32 << phases.min(8)) - 1) as u8
-}
-
-/// What two sites differ in, in the order of their bytes: a sentence, the place in the
-/// second text, and whether it is a time.
-pub fn differences(first: &Site, second: &Site) -> Vec<(String, Span, bool)> {
-    let mut found = Vec::new();
-    let mut other = |differs: bool, what: &str, span: Span| {
-        if differs {
-            found.push((what.to_string(), span, false));
-        }
-    };
-    let numbers = |site: &Site| (site.phases.len(), site.groups.len(), site.movements.len());
-    let same_shape = numbers(first) == numbers(second);
-    let sets = |site: &Site| -> Vec<(u8, u8)> {
-        site.groups
-            .iter()
-            .map(|group| (group.phases, group.mark))
-            .collect()
-    };
-    let modes = |site: &Site| -> Vec<(u8, u8)> {
-        site.detectors
-            .iter()
-            .map(|one| (one.phase, one.mode))
-            .collect()
-    };
-    let conflicts = |site: &Site| -> Vec<Vec<usize>> {
-        let row = |group: &crate::Group| {
-            let mut row: Vec<usize> = group.conflicts.iter().map(|(other, _)| *other).collect();
-            row.sort_unstable();
-            row.dedup();
-            row
-        };
-        site.groups.iter().map(row).collect()
-    };
-    let heading = |name| second.heading(name);
-    other(
-        first.edition != second.edition,
-        "the edition",
-        heading("site"),
-    );
-    other(
-        first.phases.len() != second.phases.len(),
-        "the number of phases",
-        heading("phases"),
-    );
-    other(sets(first) != sets(second), "the groups", heading("groups"));
-    other(
-        conflicts(first) != conflicts(second),
-        "the conflicts",
-        heading("conflicts"),
-    );
-    other(
-        modes(first) != modes(second),
-        "the detectors",
-        heading("detectors"),
-    );
-    other(
-        first.early.is_some() != second.early.is_some(),
-        "the heading `early-cut-off`",
-        heading("early-cut-off"),
-    );
-    let orders = |site: &Site| site.order.as_ref().map(|_| site.running_order());
-    other(
-        orders(first) != orders(second),
-        "the running order",
-        heading("order"),
-    );
-    if same_shape {
-        found.extend(times_that_differ(first, second));
-    }
-    found
-}
-
-/// The times of two sites with the same phases and movements that differ.
-fn times_that_differ(first: &Site, second: &Site) -> Vec<(String, Span, bool)> {
-    let pairs = all_times(first).into_iter().zip(all_times(second));
-    let differ = pairs.filter(|((_, one), (_, two))| one.steps != two.steps);
-    let told = differ.map(|((what, one), (_, two))| {
-        let (old, new) = (seconds(one.steps.into()), seconds(two.steps.into()));
-        (format!("{what}: {old} becomes {new}"), two.span, true)
-    });
-    told.collect()
-}
-
-fn all_times(site: &Site) -> Vec<(String, crate::Time)> {
-    let mut all = vec![("start red".to_string(), site.start_red)];
-    for (at, phase) in site.phases.iter().enumerate() {
-        let named = |setting: Setting| format!("phase {}, {}", letter(at), setting.name());
-        all.extend(
-            PHASE_SETTINGS
-                .iter()
-                .zip(phase.times)
-                .map(|(one, time)| (named(*one), time)),
-        );
-    }
-    for movement in &site.movements {
-        let name = &site.groups[movement.group].name;
-        let named = |setting: Setting| format!("{name}, {}", setting.name());
-        all.extend(
-            MOVEMENT_SETTINGS
-                .iter()
-                .zip(movement.times)
-                .map(|(one, time)| (named(*one), time)),
-        );
-    }
-    for (at, time) in site.early.iter().flatten().enumerate() {
-        all.push((
-            format!("phase {}, {}", letter(at), Setting::EarlyCutOff.name()),
-            *time,
-        ));
-    }
-    all
 }

@@ -20,6 +20,19 @@ pub enum Kind {
 }
 
 impl Kind {
+    pub const ALL: [Kind; 10] = [
+        Kind::StatedBound,
+        Kind::NoConflicts,
+        Kind::NeverConflict,
+        Kind::NoPhase,
+        Kind::GapZero,
+        Kind::LongClearance,
+        Kind::MarkWithoutEffect,
+        Kind::MaximumBelowMinimum,
+        Kind::ShortYellow,
+        Kind::TimeWithoutEffect,
+    ];
+
     /// The name of the kind for programs.
     pub fn name(self) -> &'static str {
         match self {

@@ -179,7 +179,7 @@ fn conflicts() {
         &[("V2 B", "V2 AB")],
         10,
         "13:5 V1 and V2 conflict and are both in phase A",
-        &[8, 9],
+        &[8, 9, 4],
     );
 }
 
@@ -195,13 +195,13 @@ fn detectors_order_and_callers() {
         &[("A C B", "A C A")],
         18,
         "28:5 the order has phase A twice, and phase B is missing",
-        &[28],
+        &[5],
     );
     refused(
         &[("A C B", "A C D")],
         18,
-        "28:5 the order has phase D; the site has phases A to C",
-        &[],
+        "28:5 the order has phase D (the site has phases A to C), and phase B is missing",
+        &[5],
     );
     refused(
         &[("2 C locking", "2 C no-call extending")],
