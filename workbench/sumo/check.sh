@@ -3,6 +3,8 @@
 set -eu
 here=$(cd "$(dirname "$0")" && pwd)
 "$here/install.sh"
-"$here/../cargo.sh" build --quiet --release -p workbench
-python3 "$here/wrong_controls.py" "$here/../tutorial/site.txt"
-python3 "$here/compare.py" "$here/../tutorial/site.txt" --seconds 240 --seeds 1 --walkers 90
+"$here/../cargo.sh" build --quiet -p workbench
+willowera=${CARGO_TARGET_DIR:-$here/../../target/workbench}/debug/willowera
+site=$here/../tutorial/site.txt
+python3 -B "$here/wrong_controls.py" "$site" "$willowera"
+python3 -B "$here/compare.py" "$site" --seconds 240 --seeds 1 --walkers 90 --command "$willowera"

@@ -19,7 +19,6 @@ import network
 import pictures
 
 ROOT = pathlib.Path(__file__).resolve().parents[2]
-COMMAND = ROOT / "target/workbench/release/willowera"
 LABELS = {"library": "proved library", "sumo": "SUMO actuated"}
 
 
@@ -30,7 +29,7 @@ def options():
     parser.add_argument("--seeds", type=int, nargs="+", default=[1, 2, 3])
     parser.add_argument("--walkers", type=int, default=60, help="for each crossing in an hour")
     parser.add_argument("--out", default=ROOT / "target/sumo", help="the folder of the network, the runs and the pictures")
-    parser.add_argument("--command", default=COMMAND, help="the program `willowera`")
+    parser.add_argument("--command", default=ROOT / "target/workbench/release/willowera", help="the program `willowera`")
     return parser.parse_args()
 
 

@@ -1,6 +1,6 @@
 """Each watch over a run finds its fault: wrong controls in SUMO, on the network of a site text.
 
-    wrong_controls.py SITE
+    wrong_controls.py SITE WILLOWERA
 
 The exit status is 1 if a wrong control is not found."""
 
@@ -37,7 +37,7 @@ def found(net, files, control, patience):
 def main():
     with tempfile.TemporaryDirectory() as folder:
         folder = pathlib.Path(folder)
-        site, _ = compare.read(compare.COMMAND, sys.argv[1], folder)
+        site, _ = compare.read(sys.argv[2], sys.argv[1], folder)
         net = network.Network(site, folder)
         files = {name: folder / f"{name}.xml" for name in ("routes", "extra", "trips")}
         demand.write(net, 1, 60, 0, files["routes"])
