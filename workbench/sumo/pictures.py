@@ -1,6 +1,9 @@
 """Pictures of a comparison, as SVG: the network with its detectors, queues over time, delays."""
 
 import xml.etree.ElementTree as xml
+from math import dist
+
+from network import JUNCTION
 
 TEXT, GRID = "#1f2933", "#e4e7eb"
 COLOURS = {"library": "#3f6fc4", "sumo": "#d64545"}
@@ -43,51 +46,71 @@ def shape(text):
     return [tuple(float(one) for one in point.split(",")[:2]) for point in text.split()]
 
 
+class Plan:
+    """The middle of a network, drawn."""
+
+    SIZE, REACH, TOP = 620, 62.0, 34  # points, metres from the middle to the border, points above
+
+    def __init__(self, net, title):
+        self.root = xml.parse(net.file).getroot()
+        self.middle = next(one for one in self.root.iter("junction") if one.get("id") == JUNCTION)
+        self.centre = float(self.middle.get("x")), float(self.middle.get("y"))
+        self.scale = self.SIZE / (2 * self.REACH)
+        self.picture = Picture(self.SIZE, self.SIZE + self.TOP, title)
+        self.lanes = {lane.get("id"): shape(lane.get("shape")) for lane in self.root.iter("lane")}
+
+    def seen(self, points):
+        """Points of the network in the picture; far ones at its border."""
+        def near(value, middle):
+            return min(max(value - middle, -self.REACH + 2), self.REACH - 2)
+        flat = [(near(x, self.centre[0]), near(y, self.centre[1])) for x, y in points]
+        return [((x + self.REACH) * self.scale, self.TOP + (self.REACH - y) * self.scale) for x, y in flat]
+
+    def draw(self, function):
+        """The lanes of all edges with a function of SUMO; roads have none."""
+        for edge in (one for one in self.root.iter("edge") if one.get("function") == function):
+            for lane in edge.iter("lane"):
+                points = self.seen(self.lanes[lane.get("id")])
+                width = float(lane.get("width") or 3.2) * self.scale * 0.94
+                if function == "internal":
+                    self.picture.line(points, "#dfe7ef", 1.5)
+                elif function == "crossing":
+                    self.picture.line(points, "#ffffff", width, "4 4")
+                else:
+                    self.picture.line(points, "#d9e2ec" if lane.get("allow") == "pedestrian" else "#9fb3c8", width)
+
+    def loop(self, number, lane, metres, length):
+        """A detector with its number."""
+        start, end = self.lanes[lane][0], self.lanes[lane][-1]
+        far = dist(start, end)
+        back = [tuple(b + (a - b) * metre / far for a, b in zip(start, end)) for metre in (metres + 0.2, metres + length)]
+        points = self.seen(back)
+        self.picture.line(points, COLOURS["library"], 1.7 * self.scale)
+        x, y = (sum(one) / 2 for one in zip(*points))
+        self.picture.text(x, y + 4, str(number), anchor="middle", fill="#ffffff", weight="bold")
+
+    def name(self, text, lane):
+        """The name of an arm, on the far side of its first lane from the middle of the road."""
+        (x, y), (along, down) = self.seen(self.lanes[lane])[0], self.seen(self.lanes[lane])[-1]
+        upright = abs(x - along) < abs(y - down)
+        side = 1 if (x > self.SIZE / 2 if upright else y - self.TOP > self.SIZE / 2) else -1
+        x, y = (x + side * 34, min(max(y, self.TOP + 16), self.SIZE + self.TOP - 12)) if upright else (min(max(x, 30), self.SIZE - 30), y + side * 24 + 4)
+        self.picture.text(x, y, text, anchor="middle", weight="bold")
+
+
 def network(net, file, title):
-    """The middle of the network as SUMO has it, with the site's detectors in blue and the names of the arms."""
-    size, reach, top = 620, 62.0, 34
-    root = xml.parse(net.file).getroot()
-    middle = next(one for one in root.iter("junction") if one.get("id") == "junction")
-    centre = float(middle.get("x")), float(middle.get("y"))
-    scale = size / (2 * reach)
-
-    def seen(points):
-        return [((x - centre[0] + reach) * scale, top + (reach - y + centre[1]) * scale) for x, y in points]
-
-    def inside(points):
-        """The part of a lane that the picture shows."""
-        (ax, ay), (bx, by) = points[0], points[-1]
-        along = max(abs(bx - ax), abs(by - ay))
-        limit = reach - 2
-        clip = lambda value, mid: min(max(value, mid - limit), mid + limit)
-        return points if along < 2 * limit and len(points) > 2 else [(clip(x, centre[0]), clip(y, centre[1])) for x, y in points]
-
-    picture = Picture(size, size + top, title)
-    lanes = {}
-    for edge in root.iter("edge"):
-        kind = edge.get("function") or "road"
-        for lane in edge.iter("lane"):
-            lanes[lane.get("id")] = points = shape(lane.get("shape"))
-            if kind == "internal" or kind == "walkingarea" or abs(points[0][0] - centre[0]) + abs(points[0][1] - centre[1]) > 400:
-                continue
-            foot = lane.get("allow") == "pedestrian"
-            width = float(lane.get("width") or 3.2) * scale * 0.94
-            if kind == "crossing":
-                picture.line(seen(points), "#7b8794", width, "3 3")
-            else:
-                picture.line(seen(inside(points)), "#d9e2ec" if foot else "#9fb3c8", width)
-    picture.line(seen(shape(middle.get("shape")) + shape(middle.get("shape"))[:1]), "#9fb3c8", 1)
-    for name, at, lane, metres, length in net.loops():
-        end, start = lanes[lane][-1], lanes[lane][0]
-        far = ((end[0] - start[0]) ** 2 + (end[1] - start[1]) ** 2) ** 0.5
-        back = lambda metre: (end[0] + (start[0] - end[0]) * metre / far, end[1] + (start[1] - end[1]) * metre / far)
-        picture.line(seen([back(metres + 0.2), back(metres + length)]), COLOURS["library"], 1.6 * scale)
-        x, y = seen([back(metres + length / 2)])[0]
-        picture.text(x, y + 4, str(at), size=11, anchor="middle", fill="#ffffff", weight="bold")
-    for name in net.arms:
-        x, y = seen(inside(lanes[f"{name}_in_{net.pavement}"]))[0]
-        picture.text(min(max(x, 30), size - 30), min(max(y + 4, top + 24), size + top - 16), name, anchor="middle", weight="bold", fill="#ffffff")
-    picture.write(file)
+    """The middle of the network as SUMO has it, with the site's detectors and the names of the arms."""
+    plan = Plan(net, title)
+    area = " ".join(f"{x:.1f},{y:.1f}" for x, y in plan.seen(shape(plan.middle.get("shape"))))
+    plan.draw(None)
+    xml.SubElement(plan.picture.root, "polygon", points=area, fill="#9fb3c8")
+    plan.draw("internal")
+    plan.draw("crossing")
+    for _, number, lane, metres, length in net.loops():
+        plan.loop(number, lane, metres, length)
+    for arm in net.arms:
+        plan.name(arm, f"{arm}_in_0")
+    plan.picture.write(file)
 
 
 def queues(looks, labels, file, title):
