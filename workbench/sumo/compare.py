@@ -3,8 +3,8 @@
     compare.py SITE [--seconds 1800] [--seeds 1 2 3] [--walkers 60] [--out FOLDER]
 
 It prints delays, waits and queues, and writes pictures. It is an example of use and no evidence: the proofs do not rest on it, and one
-site with assumed traffic says nothing about others. The exit status is 1 if a run shows conflicting greens, a wait above the bound, a
-collision, or somebody who never leaves."""
+site with assumed traffic says nothing about others. The exit status is 1 if a run shows conflicting greens, a wait above the bound, or
+somebody who never leaves."""
 
 import argparse
 import json
@@ -118,7 +118,8 @@ def main():
     pictures.queues(looks, LABELS, args.out / "queues.svg", f"{name}: queues, seed {args.seeds[0]}")
     means = {key: {group: mean(result.delays[group]) for group in sorted(results["library"].delays)} for key, result in results.items()}
     pictures.delays(means, LABELS, args.out / "delays.svg", f"{name}: mean delay of each group")
-    print(f"\nno conflicting greens, no wait above the bound, no collision, nobody left behind. An example, not evidence.\npictures: {args.out}/network.svg queues.svg delays.svg")
+    print("\nno conflicting greens, no wait above the bound, nobody left behind. An example, not evidence.")
+    print(f"pictures: {args.out}/network.svg queues.svg delays.svg")
     return 0
 
 

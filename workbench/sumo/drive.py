@@ -29,7 +29,7 @@ class Watch:
     def __init__(self, site, bound):
         self.site = site
         self.bound = bound
-        self.waiting = {}  # who: the step since which he waits
+        self.waiting = {}  # a detector or a crossing, and the step since which somebody waits there
         self.longest = {}
 
     def greens(self, state, links):
@@ -63,8 +63,7 @@ class Drive:
         self.queues = {arm: [] for arm in network.arms}
         self.loops = {name: detector for name, detector, *_ in network.loops()}
         self.locking = {at: self.groups_at(one) for at, one in enumerate(self.site["detectors"]) if one["call"] == "locking"}
-        options = ["--step-length", "0.1", "--seed", str(seed), "--time-to-teleport", "-1", "--collision.check-junctions",
-                   "--collision.action", "warn", "--no-step-log", "--no-warnings", "--duration-log.disable"]
+        options = ["--step-length", "0.1", "--seed", str(seed), "--time-to-teleport", "-1", "--no-step-log", "--no-warnings", "--duration-log.disable"]
         inputs = ["-n", str(network.file), "-r", str(files["routes"]), "-a", str(files["extra"])]
         with contextlib.redirect_stdout(io.StringIO()):  # TraCI says how often it tries to connect
             traci.start(["sumo", *inputs, *options, "--tripinfo-output", str(files["trips"])], stdout=subprocess.DEVNULL)
@@ -79,7 +78,7 @@ class Drive:
         try:
             self.subscribe()
             step, buttons, inputs = 0, 0, 0
-            while step == 0 or traci.simulation.getMinExpectedNumber() > 0:
+            while step == 0 or traci.simulation.getSubscriptionResults()[names.VAR_MIN_EXPECTED_VEHICLES] > 0:
                 if self.control:
                     traci.trafficlight.setRedYellowGreenState(JUNCTION, self.network.state(self.control.step(inputs)))
                 traci.simulationStep()
@@ -100,6 +99,7 @@ class Drive:
         for name in self.loops:
             traci.lanearea.subscribe(name, [names.LAST_STEP_VEHICLE_NUMBER])
         traci.trafficlight.subscribe(JUNCTION, [names.TL_RED_YELLOW_GREEN_STATE])
+        traci.simulation.subscribe([names.VAR_MIN_EXPECTED_VEHICLES])
 
     def occupied(self):
         results = traci.lanearea.getAllSubscriptionResults()
@@ -109,10 +109,10 @@ class Drive:
         """The buttons of the crossings in front of which somebody stands."""
         bits = 0
         for at, movement in enumerate(self.site["movements"]):
-            crossing = self.network.crossing_edges[movement["group"]]
-            for corner in self.network.corners[crossing]:
+            for corner in self.network.corners[movement["group"]]:
                 for walker in traci.edge.getLastStepPersonIDs(corner):
-                    if traci.person.getNextEdge(walker) == crossing and traci.person.getWaitingTime(walker) > 0:
+                    crossing = self.network.crossed.get(traci.person.getNextEdge(walker))
+                    if crossing == movement["group"] and traci.person.getWaitingTime(walker) > 0:
                         bits |= 1 << at
         return bits
 
@@ -127,8 +127,6 @@ class Drive:
     def look(self):
         for arm, queue in self.queues.items():
             queue.append(traci.edge.getLastStepHaltingNumber(f"{arm}_in"))
-        if traci.simulation.getCollidingVehiclesNumber():
-            raise Fault(f"vehicles collide: {traci.simulation.getCollidingVehiclesIDList()}")
 
 
 def delays(file):

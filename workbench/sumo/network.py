@@ -103,7 +103,7 @@ class Network:
             if arm not in self.arms:
                 raise SystemExit(f"group {group['name']}, line {group['line']}: SUMO needs the `approach` that the crossing leads over")
             xml.SubElement(paths, "crossing", node=JUNCTION, edges=f"{arm}_in {arm}_out", width="3")
-        return {"nod": nodes, "edg": edges, "con": paths}
+        return {"node": nodes, "edge": edges, "connection": paths}
 
     def lane(self, lane):
         """The number of a lane in SUMO, which counts from 0 at the kerb."""
@@ -116,34 +116,36 @@ class Network:
         return self.lanes_out(leads) - own[::-1].index(lane) if across else 1 + own.index(lane)
 
     def convert(self):
+        """Lets netconvert write the network."""
         files = []
         for kind, root in self.plain().items():
             file = self.folder / f"junction.{kind}.xml"
             xml.ElementTree(root).write(file)
-            files.append(f"--{ {'nod': 'node', 'edg': 'edge', 'con': 'connection'}[kind] }-files={file}")
+            files.append(f"--{kind}-files={file}")
         side = ["--lefthand"] if self.site["traffic"] == "left" else []
-        command = ["netconvert", *files, *side, f"--output-file={self.file}", "--no-turnarounds", "--no-internal-links=false"]
-        done = subprocess.run(command, capture_output=True, text=True)
+        done = subprocess.run(["netconvert", *files, *side, f"--output-file={self.file}", "--no-turnarounds"], capture_output=True, text=True)
         if done.returncode:
             raise SystemExit(f"netconvert: {done.stderr}")
 
+    def read_crossings(self, net):
+        """The crossings of SUMO: for each its group, and the corners from which it is walked."""
+        over = {group["approach"]: at for at, group in self.crossings.items()}
+        crossed = {edge.get("id"): edge.get("crossingEdges") for edge in net.iter("edge") if edge.get("crossingEdges")}
+        self.crossed = {edge: over[roads.split()[0].rsplit("_", 1)[0]] for edge, roads in crossed.items()}
+        ends = [(one.get("from"), one.get("to")) for one in net.iter("connection")]
+        self.corners = {at: [one for pair in ends if edge in pair for one in pair if one != edge] for edge, at in self.crossed.items()}
+
     def links_of(self):
         """The links in the order of SUMO's state, read from the network."""
-        groups = {(f"{arm}_in", self.lane(lane), f"{leads}_out"): (at, arrow) for at, arm, lane, leads, arrow in self.paths}
-        over = {group["approach"]: at for at, group in self.crossings.items()}
         net = xml.parse(self.file).getroot()
-        crossed = {edge.get("id"): over[edge.get("crossingEdges").split()[0].rsplit("_", 1)[0]] for edge in net.iter("edge") if edge.get("crossingEdges")}
-        self.crossing_edges = {at: edge for edge, at in crossed.items()}
-        self.corners = {edge: [one.get("from") for one in net.iter("connection") if one.get("to") == edge]
-                        + [one.get("to") for one in net.iter("connection") if one.get("from") == edge] for edge in crossed}
+        self.read_crossings(net)
+        ways = {(f"{arm}_in", self.lane(lane), f"{leads}_out"): (at, arrow) for at, arm, lane, leads, arrow in self.paths}
         links = {}
-        for one in net.iter("connection"):
-            if one.get("tl") != JUNCTION:
-                continue
-            if one.get("to") in crossed:
-                link = Link(crossed[one.get("to")], False)
+        for one in (one for one in net.iter("connection") if one.get("tl") == JUNCTION):
+            if one.get("to") in self.crossed:
+                link = Link(self.crossed[one.get("to")], False)
             else:
-                at, arrow = groups[one.get("from"), one.get("fromLane"), one.get("to")]
+                at, arrow = ways[one.get("from"), one.get("fromLane"), one.get("to")]
                 link = Link(at, arrow != "straight" and "straight" in self.site["groups"][at]["arrows"])
             links[int(one.get("linkIndex"))] = link
         return [links[at] for at in range(len(links))]

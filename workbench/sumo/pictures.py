@@ -94,7 +94,10 @@ class Plan:
         (x, y), (along, down) = self.seen(self.lanes[lane])[0], self.seen(self.lanes[lane])[-1]
         upright = abs(x - along) < abs(y - down)
         side = 1 if (x > self.SIZE / 2 if upright else y - self.TOP > self.SIZE / 2) else -1
-        x, y = (x + side * 34, min(max(y, self.TOP + 16), self.SIZE + self.TOP - 12)) if upright else (min(max(x, 30), self.SIZE - 30), y + side * 24 + 4)
+        if upright:
+            x, y = x + side * 34, min(max(y, self.TOP + 16), self.SIZE + self.TOP - 12)
+        else:
+            x, y = min(max(x, 30), self.SIZE - 30), y + side * 24 + 4
         self.picture.text(x, y, text, anchor="middle", weight="bold")
 
 
