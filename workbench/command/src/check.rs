@@ -21,7 +21,7 @@ pub fn check(out: &Out, matches: &ArgMatches) -> Result<(), Stop> {
             "waitBound": bound, "messages": list, "site": value(&site::json::site(&loaded.site)),
         }));
     } else {
-        println!(
+        say!(
             "{}: {}, {}",
             loaded.path,
             out.good("accepted"),
@@ -37,7 +37,7 @@ pub fn check(out: &Out, matches: &ArgMatches) -> Result<(), Stop> {
             );
         }
         if !warnings.is_empty() {
-            println!("{} warnings", warnings.len());
+            say!("{} warnings", warnings.len());
         }
     }
     if matches.get_flag("strict") && !warnings.is_empty() {

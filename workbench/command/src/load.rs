@@ -2,7 +2,7 @@
 
 use crate::out::{print_json, value, Out, Severity, Stop};
 use serde_json::json;
-use site::{Built, Mistake, Road, Script, Site};
+use site::{Built, Mistake, Script, Site};
 use std::fs;
 use std::path::Path;
 use willowera::Refusal;
@@ -103,8 +103,8 @@ pub fn shown(out: &Out, path: &str, bytes: &[u8]) -> Result<String, Stop> {
                                "text": words, "notShown": not.to_string()}),
             );
         } else {
-            println!("{path}: refused {number} at byte {place}: {words}");
-            println!("{path}: no text has these bytes: {not}");
+            say!("{path}: refused {number} at byte {place}: {words}");
+            say!("{path}: no text has these bytes: {not}");
         }
         Stop::Refused
     })
@@ -169,12 +169,22 @@ pub fn script(out: &Out, path: &str, site: &Site) -> Result<Script, Stop> {
     site::read_inputs(&text, site).map_err(|mistakes| told(out, &path, &text, &mistakes))
 }
 
-/// A road text for a site, or the site's own streams.
-pub fn road(out: &Out, path: Option<&String>, loaded: &Loaded) -> Result<Road, Stop> {
-    let Some(path) = path else {
-        return Ok(loaded.site.road.clone());
+/// The site with the streams of a road text in place of its own. Messages about them then
+/// have the path and the lines of that text.
+pub fn with_streams(out: &Out, path: Option<&String>, loaded: &Loaded) -> Result<Loaded, Stop> {
+    let mut with = Loaded {
+        path: loaded.path.clone(),
+        text: loaded.text.clone(),
+        site: loaded.site.clone(),
+        built: loaded.built.clone(),
     };
-    let (path, bytes) = bytes_of(path)?;
-    let text = text_of(&path, bytes)?;
-    site::read_road(&text, &loaded.site).map_err(|mistakes| told(out, &path, &text, &mistakes))
+    if let Some(path) = path {
+        let (path, bytes) = bytes_of(path)?;
+        let text = text_of(&path, bytes)?;
+        let road = site::read_road(&text, &loaded.site);
+        with.site.road = road.map_err(|mistakes| told(out, &path, &text, &mistakes))?;
+        with.path = path;
+        with.text = text;
+    }
+    Ok(with)
 }

@@ -7,13 +7,15 @@
 
 #![forbid(unsafe_code)]
 
+#[macro_use]
+mod out;
+
 mod check;
 mod cli;
 mod convert;
 mod demands;
 mod frames;
 mod load;
-mod out;
 mod phases;
 mod report;
 mod retime;

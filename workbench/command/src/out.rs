@@ -3,6 +3,14 @@
 use site::Span;
 use std::io::IsTerminal;
 
+/// Prints a line. Nobody may be reading any more (as with `head`); that is no fault.
+macro_rules! say {
+    ($($words:tt)*) => {{
+        use std::io::Write;
+        let _ = writeln!(std::io::stdout(), $($words)*);
+    }};
+}
+
 /// Why a command ends without success. What is refused is printed already.
 #[derive(Debug)]
 pub enum Stop {
@@ -72,7 +80,7 @@ impl Out {
     pub fn message(&self, severity: Severity, path: &str, source: &str, span: Span, text: &str) {
         let place = format!("{path}:{}:{}:", span.line, span.column);
         let name = self.paint(severity.colour(), severity.name());
-        println!("{place} {name}: {text}");
+        say!("{place} {name}: {text}");
         let line = span
             .line
             .checked_sub(1)
@@ -85,8 +93,8 @@ impl Out {
                 .map(|c| if c == '\t' { c } else { ' ' })
                 .collect();
             let mark = "^".repeat(span.length.max(1));
-            println!("{number} | {line}");
-            println!("      | {before}{}", self.paint(severity.colour(), &mark));
+            say!("{number} | {line}");
+            say!("      | {before}{}", self.paint(severity.colour(), &mark));
         }
     }
 }
@@ -96,7 +104,10 @@ pub fn write(path: Option<&String>, bytes: &[u8]) -> Result<(), Stop> {
     use std::io::Write;
     let result = match path {
         Some(path) => std::fs::write(path, bytes),
-        None => std::io::stdout().write_all(bytes),
+        None => match std::io::stdout().write_all(bytes) {
+            Err(why) if why.kind() == std::io::ErrorKind::BrokenPipe => Ok(()),
+            end => end,
+        },
     };
     let name = path.map_or("standard output", |path| path);
     result.map_err(|why| Stop::Unusable(format!("cannot write {name}: {why}")))
@@ -109,5 +120,5 @@ pub fn value(json: &str) -> serde_json::Value {
 
 /// Prints a value for programs.
 pub fn print_json(value: &serde_json::Value) {
-    println!("{value:#}");
+    say!("{value:#}");
 }

@@ -1,7 +1,7 @@
 //! `report`: one HTML page for the file of a site.
 
 use crate::check::{bound_of, summary, warnings_of};
-use crate::load::{accepted, refused, road as streams_of, Loaded};
+use crate::load::{accepted, refused, with_streams, Loaded};
 use crate::out::{print_json, write, Out, Stop};
 use crate::phases::diagram;
 use crate::road::{picture, road_frames, Queues};
@@ -11,8 +11,8 @@ use crate::waits::{before, shares, Share, COUNTS, PARTS};
 use clap::ArgMatches;
 use serde_json::json;
 use site::{
-    letter, letters, seconds, Road, Setting, CALLS, EXTENDS, MARKS, MOVEMENT_SETTINGS,
-    PHASE_SETTINGS,
+    letter, letters, seconds, Setting, CALLS, EXTENDS, MARKS, MOVEMENT_SETTINGS, PHASE_SETTINGS,
+    ROAD_STEPS,
 };
 
 /// The steps of a strip of the timeline, and from one look at the road to the next.
@@ -22,7 +22,7 @@ const STRIDE: u32 = 10;
 pub fn report(out: &Out, matches: &ArgMatches) -> Result<(), Stop> {
     let path: &String = matches.get_one("SITE").expect("required");
     let loaded = accepted(out, path)?;
-    let road = streams_of(out, matches.get_one("streams"), &loaded)?;
+    let told = with_streams(out, matches.get_one("streams"), &loaded)?;
     let mut parts = vec![
         head(&loaded),
         warned(&loaded),
@@ -34,10 +34,10 @@ pub fn report(out: &Out, matches: &ArgMatches) -> Result<(), Stop> {
             "Settings against their limits",
             &settings(&loaded),
         ),
-        section("waits", "Waits", &waits(&loaded)),
+        section("waits", "Waits", &waits(&loaded)?),
     ];
-    if !road.streams.is_empty() {
-        parts.extend(roads(out, &loaded, &road)?);
+    if !told.site.road.streams.is_empty() {
+        parts.extend(roads(out, &loaded, &told)?);
     }
     parts.push(section(
         "commands",
@@ -241,7 +241,7 @@ fn settings(loaded: &Loaded) -> String {
     )
 }
 
-fn waits(loaded: &Loaded) -> String {
+fn waits(loaded: &Loaded) -> Result<String, Stop> {
     let bound = bound_of(loaded);
     let share = |share: &Share| {
         let parts = share
@@ -258,23 +258,23 @@ fn waits(loaded: &Loaded) -> String {
         cells.push(cell(&first.join(" ")));
         row(cells)
     };
-    let rows: String = shares(loaded).iter().map(share).collect();
+    let rows: String = shares(loaded)?.iter().map(share).collect();
     let mut names = vec!["Phase"];
     names.extend(PARTS);
     names.extend(["Share", "May come first, each once"]);
-    format!(
+    Ok(format!(
         "<p><strong>{}</strong> ({bound} steps). {COUNTS}</p>\n<p>Start red {}, and for each phase L + M + X + 2 (A + E + Y + R + C), in seconds:</p>\n<table>{}{rows}</table>\n",
         seconds(bound),
         seconds(loaded.site.start_red.steps.into()),
         heads(&names)
-    )
+    ))
 }
 
 /// The road of the streams: a table, the queues and the timeline in strips.
-fn roads(out: &Out, loaded: &Loaded, road: &Road) -> Result<Vec<String>, Stop> {
+fn roads(out: &Out, loaded: &Loaded, told: &Loaded) -> Result<Vec<String>, Stop> {
+    let road = &told.site.road;
     let steps = road.steps();
-    let queues =
-        Queues::of(loaded, road, steps).map_err(|refusal| refused(out, loaded, refusal))?;
+    let queues = Queues::of(loaded, road, steps).map_err(|refusal| refused(out, told, refusal))?;
     let last = queues
         .looks
         .last()
@@ -308,20 +308,21 @@ fn roads(out: &Out, loaded: &Loaded, road: &Road) -> Result<Vec<String>, Stop> {
     let table = format!("<table>{}{rows}</table>\n", heads(&names));
     let title = format!("Queues over {}", seconds(steps.into()));
     let queued = picture(loaded, road, &queues, &title);
-    let frames = road_frames(loaded, road, 1, steps, STRIDE).map_err(Stop::Unusable)?;
-    let strips = (0..u64::from(steps).div_ceil(STRIP)).map(|strip| {
-        let (from, to) = (strip * STRIP + 1, ((strip + 1) * STRIP).min(steps.into()));
+    let shown = steps.min(ROAD_STEPS);
+    let frames = road_frames(loaded, road, 1, shown, STRIDE).map_err(Stop::Unusable)?;
+    let strips = (0..u64::from(shown).div_ceil(STRIP)).map(|strip| {
+        let (from, to) = (strip * STRIP + 1, ((strip + 1) * STRIP).min(shown.into()));
         let title = format!("Minutes {} to {}", strip * 10, (strip + 1) * 10);
-        let shown = Picture {
+        let strip = Picture {
             title: &title,
             from,
             to,
             stride: STRIDE.into(),
         };
-        timeline(&loaded.site, &frames, &shown)
+        timeline(&loaded.site, &frames, &strip)
     });
     let strips: String = strips.collect();
-    let note = "<p class=\"quiet\">The library's simulated road, looked at every second.</p>\n";
+    let note = "<p class=\"quiet\">The library's simulated road, looked at every second, for an hour at most.</p>\n";
     Ok(vec![
         section("road", "The road", &format!("{table}{queued}")),
         section(

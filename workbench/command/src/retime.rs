@@ -30,7 +30,7 @@ pub fn retime(out: &Out, matches: &ArgMatches) -> Result<(), Stop> {
         }));
     } else {
         match refusal {
-            None => println!(
+            None => say!(
                 "{}: {} may follow while {} runs",
                 out.good("accepted"),
                 second.path,
@@ -38,22 +38,22 @@ pub fn retime(out: &Out, matches: &ArgMatches) -> Result<(), Stop> {
             ),
             Some(refusal) => {
                 let words = site::refusal::words(refusal.number);
-                println!("{}: refused {}: {words}", second.path, refusal.number);
+                say!("{}: refused {}: {words}", second.path, refusal.number);
             }
         }
         for (text, span, time) in &differences {
             if *time {
-                println!("{}:{}: {text}", second.path, span.line);
+                say!("{}:{}: {text}", second.path, span.line);
             } else {
                 let text = format!("{text} differ");
                 out.message(Severity::Refusal, &second.path, &second.text, *span, &text);
             }
         }
         if differences.is_empty() {
-            println!("nothing differs");
+            say!("nothing differs");
         }
         let (old, new) = (bound_of(&first), bound_of(&second));
-        println!(
+        say!(
             "wait bound {} before, {} after; {} through the change",
             seconds(old),
             seconds(new),

@@ -1,7 +1,7 @@
 //! `road`: the simulated road of the library for a site's streams.
 
 use crate::frames::{road_at, road_frame, Frame, RoadAt};
-use crate::load::{accepted, refused, road as streams_of, Loaded};
+use crate::load::{accepted, refused, with_streams, Loaded};
 use crate::out::{print_json, write, Out, Stop};
 use crate::svg::{clock, shortened, time_tick, Svg};
 use crate::timeline::{timeline, Picture};
@@ -66,35 +66,31 @@ impl Queues {
 
 pub fn road(out: &Out, matches: &ArgMatches) -> Result<(), Stop> {
     let path: &String = matches.get_one("SITE").expect("required");
-    let mut loaded = accepted(out, path)?;
-    let road = streams_of(out, matches.get_one("streams"), &loaded)?;
-    if road.streams.is_empty() {
+    let loaded = accepted(out, path)?;
+    let mut told = with_streams(out, matches.get_one("streams"), &loaded)?;
+    if told.site.road.streams.is_empty() {
         let why = "the site has no streams: add the heading `streams`, or name a road text with --streams";
         return Err(Stop::Unusable(why.to_string()));
     }
-    // A refusal is told with the lines of these streams.
-    loaded.site.road = road.clone();
-    let steps = matches
-        .get_one::<u64>("steps")
-        .copied()
-        .unwrap_or(road.steps().into());
-    let steps = u32::try_from(steps).unwrap_or(u32::MAX);
-    loaded.site.road.steps = Some(steps);
-    if let Err(refusal) = road_at(loaded.bytes(), &road, steps) {
-        return Err(refused(out, &loaded, refusal));
+    if let Some(&steps) = matches.get_one::<u64>("steps") {
+        told.site.road.steps = Some(u32::try_from(steps).unwrap_or(u32::MAX));
     }
+    let road = &told.site.road;
+    let steps = road.steps();
+    // A refusal comes before the first look.
+    road_at(loaded.bytes(), road, steps).map_err(|refusal| refused(out, &told, refusal))?;
     let queues =
-        Queues::of(&loaded, &road, steps).map_err(|refusal| refused(out, &loaded, refusal))?;
+        Queues::of(&loaded, road, steps).map_err(|refusal| refused(out, &told, refusal))?;
     if let Some(file) = matches.get_one::<String>("svg") {
         let title = format!("{}: queues", loaded.name());
         write(
             Some(file),
-            picture(&loaded, &road, &queues, &title).as_bytes(),
+            picture(&loaded, road, &queues, &title).as_bytes(),
         )?;
     }
     if let Some(file) = matches.get_one::<String>("timeline") {
         let last = steps.clamp(1, SHOWN);
-        let frames = road_frames(&loaded, &road, 1, last, 1).map_err(Stop::Unusable)?;
+        let frames = road_frames(&loaded, road, 1, last, 1).map_err(Stop::Unusable)?;
         let title = format!(
             "{}: the first {} of its streams",
             loaded.name(),
@@ -106,7 +102,7 @@ pub fn road(out: &Out, matches: &ArgMatches) -> Result<(), Stop> {
             timeline(&loaded.site, &frames, &shown).as_bytes(),
         )?;
     }
-    print(out, &loaded, &road, &queues);
+    print(out, &loaded, road, &queues);
     Ok(())
 }
 
@@ -171,17 +167,15 @@ fn print(out: &Out, loaded: &Loaded, road: &Road, queues: &Queues) {
         .map(|at| queues.longest(at))
         .max()
         .unwrap_or(0);
-    println!(
+    say!(
         "{} of the road, looked at {} times",
         seconds(steps.into()),
         queues.steps.len()
     );
-    println!(
-        "detector  group    rate  arrived  queued    gone  longest  queue (highest {highest})"
-    );
+    say!("detector  group    rate  arrived  queued    gone  longest  queue (highest {highest})");
     for (at, stream) in road.streams.iter().enumerate() {
         let (queued, gone) = last.vehicles[at];
-        println!(
+        say!(
             "{:>8}  {:<5} {:>7}  {:>7}  {:>6}  {:>6}  {:>7}  {}",
             stream.detector,
             name(stream.group),

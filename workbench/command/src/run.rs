@@ -142,10 +142,14 @@ fn print(out: &Out, loaded: &Loaded, frames: &[&Frame]) -> Result<(), Stop> {
         .iter()
         .map(|group| group.name.as_str())
         .collect();
-    println!("groups: {}", names.join(" "));
-    println!(
+    say!("groups: {}", names.join(" "));
+    say!(
         "{:>6} {:>9}  ph interval       {:<width$}  to  gap  max  {:<10} {:<14} panel",
-        "step", "time", "groups", "demands", "inputs"
+        "step",
+        "time",
+        "groups",
+        "demands",
+        "inputs"
     );
     for frame in frames {
         let fields = frame.fields();
@@ -164,7 +168,7 @@ fn print(out: &Out, loaded: &Loaded, frames: &[&Frame]) -> Result<(), Stop> {
             inputs(frame),
             frame.line,
         );
-        println!("{}", row.trim_end());
+        say!("{}", row.trim_end());
     }
     Ok(())
 }

@@ -5,7 +5,7 @@ use crate::load::{accepted, Loaded};
 use crate::out::{print_json, Out, Stop};
 use clap::ArgMatches;
 use serde_json::json;
-use site::{letter, seconds, Setting};
+use site::{letter, seconds, Phase, Setting, Site};
 
 /// What the bound counts, for whoever reads it.
 pub const COUNTS: &str =
@@ -28,32 +28,45 @@ impl Share {
     }
 }
 
-/// The parts of each phase. The settings are those of the text; that they add up to the
-/// library's bound is checked by the caller.
-pub fn shares(loaded: &Loaded) -> Vec<Share> {
-    let site = &loaded.site;
-    let share = |(phase, row): (usize, &site::Phase)| {
-        let steps = |setting| u64::from(row.steps(setting));
-        let walks = site
-            .movements_of(phase)
-            .map(|one| one.times.map(|time| u64::from(time.steps)));
-        let walks: Vec<[u64; 3]> = walks.collect();
-        let longest = |of: fn(&[u64; 3]) -> u64| walks.iter().map(of).max().unwrap_or(0);
-        Share {
-            phase,
-            parts: [
-                steps(Setting::LateStart),
-                steps(Setting::MinimumGreen),
-                steps(Setting::MaximumGreen),
-                longest(|times| times[0] + times[1]),
-                site.early_steps(phase).into(),
-                steps(Setting::Yellow),
-                steps(Setting::AllRed),
-                longest(|times| times[2]),
-            ],
-        }
-    };
-    site.phases.iter().enumerate().map(share).collect()
+/// The parts of each phase, from the settings of the text. They must add up to the
+/// library's bound.
+pub fn shares(loaded: &Loaded) -> Result<Vec<Share>, Stop> {
+    let phases = loaded.site.phases.iter().enumerate();
+    let shares: Vec<Share> = phases
+        .map(|(at, phase)| share(&loaded.site, at, phase))
+        .collect();
+    let start = u64::from(loaded.site.start_red.steps);
+    let (sum, bound) = (
+        start + shares.iter().map(Share::sum).sum::<u64>(),
+        bound_of(loaded),
+    );
+    if sum == bound {
+        return Ok(shares);
+    }
+    let why = format!("the parts of the wait bound add up to {sum}, the library gives {bound}");
+    Err(Stop::Unusable(why))
+}
+
+fn share(site: &Site, phase: usize, row: &Phase) -> Share {
+    let steps = |setting| u64::from(row.steps(setting));
+    let walks = site
+        .movements_of(phase)
+        .map(|one| one.times.map(|time| u64::from(time.steps)));
+    let walks: Vec<[u64; 3]> = walks.collect();
+    let longest = |of: fn(&[u64; 3]) -> u64| walks.iter().map(of).max().unwrap_or(0);
+    Share {
+        phase,
+        parts: [
+            steps(Setting::LateStart),
+            steps(Setting::MinimumGreen),
+            steps(Setting::MaximumGreen),
+            longest(|times| times[0] + times[1]),
+            site.early_steps(phase).into(),
+            steps(Setting::Yellow),
+            steps(Setting::AllRed),
+            longest(|times| times[2]),
+        ],
+    }
 }
 
 /// The phases that can come before one's own, in running order.
@@ -67,13 +80,8 @@ pub fn before(loaded: &Loaded, phase: usize) -> Vec<char> {
 pub fn waits(out: &Out, matches: &ArgMatches) -> Result<(), Stop> {
     let path: &String = matches.get_one("SITE").expect("required");
     let loaded = accepted(out, path)?;
-    let (bound, shares) = (bound_of(&loaded), shares(&loaded));
+    let (bound, shares) = (bound_of(&loaded), shares(&loaded)?);
     let start = u64::from(loaded.site.start_red.steps);
-    let sum = start + shares.iter().map(Share::sum).sum::<u64>();
-    if sum != bound {
-        let why = format!("the parts of the wait bound add up to {sum}, the library gives {bound}");
-        return Err(Stop::Unusable(why));
-    }
     if out.json {
         let phase = |share: &Share| {
             json!({"phase": letter(share.phase).to_string(), "share": share.sum(), "parts": share.parts,
@@ -85,12 +93,12 @@ pub fn waits(out: &Out, matches: &ArgMatches) -> Result<(), Stop> {
         );
         return Ok(());
     }
-    println!("wait bound {} ({bound} steps)\n{COUNTS}\n", seconds(bound));
-    println!("It is start red, and for each phase L + M + X + 2 (A + E + Y + R + C). A is the longest walk with its first");
-    println!("clearance, C the longest second clearance. In seconds:\n");
+    say!("wait bound {} ({bound} steps)\n{COUNTS}\n", seconds(bound));
+    say!("It is start red, and for each phase L + M + X + 2 (A + E + Y + R + C). A is the longest walk with its first");
+    say!("clearance, C the longest second clearance. In seconds:\n");
     let head: String = PARTS.iter().map(|part| format!("{part:>7}")).collect();
-    println!("phase    {head}   share   phases that may come first, each once");
-    println!("start red{:>64.1}", start as f64 / 10.0);
+    say!("phase    {head}   share   phases that may come first, each once");
+    say!("start red{:>64.1}", start as f64 / 10.0);
     for share in &shares {
         let parts = share
             .parts
@@ -101,13 +109,13 @@ pub fn waits(out: &Out, matches: &ArgMatches) -> Result<(), Stop> {
             .iter()
             .map(char::to_string)
             .collect();
-        println!(
+        say!(
             "{:<9}{parts}{:>8.1}   {}",
             letter(share.phase),
             share.sum() as f64 / 10.0,
             first.join(" ")
         );
     }
-    println!("{:<65}{:>8.1}", "sum", bound as f64 / 10.0);
+    say!("{:<65}{:>8.1}", "sum", bound as f64 / 10.0);
     Ok(())
 }

@@ -182,23 +182,25 @@ fn print(out: &Out, loaded: &Loaded, seeing: &Seeing, breach: Option<&str>, stop
         return;
     }
     let end = if stopped { ", stopped by Ctrl-C" } else { "" };
-    println!(
+    say!(
         "{} steps{end}, {} greens begun, at most {} phases started while a demand waited",
-        seeing.steps, seeing.greens, seeing.most_starts
+        seeing.steps,
+        seeing.greens,
+        seeing.most_starts
     );
     match breach {
-        Some(breach) => println!("{}: {breach}", out.paint("31;1", "breach")),
-        None => println!(
+        Some(breach) => say!("{}: {breach}", out.paint("31;1", "breach")),
+        None => say!(
             "{}: no conflicting greens, full clearances, every demand within its bound",
             out.good("no breach")
         ),
     }
-    println!("\nwho       demands met  longest wait       bound  part  inputs that made it");
+    say!("\nwho       demands met  longest wait       bound  part  inputs that made it");
     for one in &seeing.longest {
         let strategy = one
             .strategy
             .map_or("-".to_string(), |strategy| format!("{strategy:?}"));
-        println!(
+        say!(
             "{:<10}{:>11}  {:>12}  {:>10}  {:.2}  {strategy}",
             name(loaded, one.who),
             one.met,

@@ -314,6 +314,20 @@ fn refused_streams_are_told_at_their_lines() {
     assert!(ended.status == 1 && ended.text().contains("P1 is not a vehicle group"));
 }
 
+#[test]
+fn refused_streams_of_a_road_text_are_told_at_its_lines() {
+    let path = scratch("fast.txt");
+    fs::write(&path, "steps 100\n\ndetector 0 group V1 rate 1801\n").unwrap();
+    let site = root().join("examples/two_phases");
+    let ended = willowera(&["road", shown(&site), "--streams", shown(&path)]);
+    let expected = "fast.txt:3:1: refused: 22 at byte 0: 1801 vehicles per hour; at most 1800";
+    assert!(
+        ended.status == 1 && ended.text().contains(expected),
+        "{}",
+        ended.text()
+    );
+}
+
 /// The lowest and highest value that the library accepts for each setting is the one that
 /// messages and reports show.
 #[test]
@@ -390,4 +404,26 @@ fn watch_ends_at_an_interrupt() {
         output.status.success() && text.contains("stopped by Ctrl-C"),
         "{text}"
     );
+}
+
+/// A reader that stops early is no fault.
+#[test]
+fn a_closed_pipe_is_no_fault() {
+    let site = root().join("examples/crossings");
+    let command = format!(
+        "'{}' run '{}' --all | head -n 1",
+        env!("CARGO_BIN_EXE_willowera"),
+        shown(&site)
+    );
+    let mut shell = std::process::Command::new("bash");
+    let output = shell
+        .args(["-c", &format!("set -o pipefail; {command}")])
+        .output()
+        .unwrap();
+    assert!(
+        output.status.success(),
+        "{}",
+        String::from_utf8_lossy(&output.stderr)
+    );
+    assert!(output.stdout.starts_with(b"groups: V1"));
 }
