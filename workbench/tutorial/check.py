@@ -201,7 +201,7 @@ def check(text, folder, program):
     noticed += refuses(changed, (folder / "site.txt").read_text(), ["-no such row", "+another"], 0)
     (folder / "night.txt").write_text("other\n")
     noticed += refuses(files_stand, folder)
-    print(f"{len(done)} commands; {MISTAKES} mistakes: {kinds[0]} error, {kinds[1]} refusals, {kinds[2]} warnings; {noticed} damaged expectations noticed")
+    print(f"{len(done)} commands; {MISTAKES} mistakes: {kinds[0]} error, {kinds[1]} refusals, {kinds[2]} warnings; {noticed} damages noticed")
 
 
 def main():
