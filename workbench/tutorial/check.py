@@ -87,8 +87,8 @@ def blocks(text):
 
 
 def changed(text, lines, where):
-    """A text with the lines behind - replaced by those behind +."""
-    for old, new in zip(lines[::2], lines[1::2]):
+    """A text with each line behind - replaced by the one behind + that follows it."""
+    for old, new in itertools.zip_longest(lines[::2], lines[1::2], fillvalue=" "):
         if old[0] != "-" or new[0] != "+" or text.count(f"{old[1:]}\n") != 1:
             raise Wrong(f"{DOCUMENT.name}:{where}: `{old}`, `{new}` is not a change of one line of the site")
         text = text.replace(f"{old[1:]}\n", f"{new[1:]}\n")
