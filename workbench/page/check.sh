@@ -4,7 +4,6 @@
 set -eu
 cd "$(dirname "$0")"
 ../setup.sh browser
-command -v node >/dev/null || apt-get install -y -qq --no-install-recommends nodejs </dev/null
 ./build.sh
 if [ "${1:-}" = --pictures ]; then
     shift
