@@ -1,30 +1,31 @@
 -- No wait is more than the wait bound, which two bytes hold, and so is no sum on the way. The phase after q is found by a search for any phase.
 use Prim.Native.Nat.{ℕ, _+_, _≤_, _<_, max}
 use mathlib.Core.Bool.{Bool, true, _&&_}
-use mathlib.Core.List.{List}
-use mathlib.Core.Path.{_≡_, refl, ap, _∙_}
-use native.Mathlib.Nat.{le-trans}
+use mathlib.Core.List.{List, [], _∷_, _++_}
+use mathlib.Core.Path.{_≡_, refl, sym, ap, _∙_}
+use native.Mathlib.Nat.{le-trans, zero-add, suc-add}
 use native.Mathlib.Omega.{arith}
 use lib.Dec.{eqb}
-use lib.ListN.{getD}
+use lib.ListN.{length, getD, List·getD-append}
 use Rattle.rules.specs.declared.site.PhaseTimes.{PhaseTimes}
 use Rattle.rules.specs.declared.site.Site.{Site}
 use Rattle.rules.specs.declared.state.Held.{Held}
 use Rattle.laws.specs.Bytes.{bit}
-use Rattle.laws.specs.Folds.{if_then_else_, sumOf, greatestOf}
+use Rattle.laws.specs.Folds.{if_then_else_, sumOf, greatestOf, listOf}
 use Rattle.rules.specs.Site.{noPhaseTimes, phaseTimes, walkTimes, crosses, ring}
 use Rattle.rules.specs.IntervalTable.{isHeld, phaseHeld}
 use Rattle.rules.specs.Demands.{nextAfter}
 use Rattle.rules.specs.WaitBound.{longestClearance}
-use Rattle.rules.specs.Waits.{leavingOf, turnOf, restOf, comesAfter, clearingOf, clearsFirst, phaseWaitBy, phaseWait, movementWait}
+use Rattle.rules.specs.Waits.{leavingOf, turnOf, restOf, comesAfter, clearingOf, clearsFirst, phaseWaitBy, phaseWait, movementWait, phaseOfMovement, waitsOf}
 use Rattle.rules.specs.Laws.{Sound}
 use Rattle.laws.proofs.BitRanges.{full-each}
+use Rattle.laws.proofs.Lists.{list-length, list-at}
 use Rattle.laws.proofs.Sums.{sum-part, greatest-same}
 use Rattle.rules.proofs.Settings.{walk-reached}
 use Rattle.proof_ring.proofs.Turns.{turn}
 use Rattle.proof_ring.proofs.Ring.{found-same}
 use Rattle.proof_ring.proofs.RunningOrder.{ring-of}
-use Rattle.proof_waits.proofs.WithinBound.{phase-wait-within, movement-wait-within}
+use Rattle.proof_waits.proofs.WithinBound.{phase-wait-within, movement-wait-within, phase-of-movement}
 use Rattle.wait_bound.proofs.Sums.{bound-fits}
 
 -- the turn of phase p, unless it is q
@@ -88,3 +89,57 @@ all-clearings site sound q below next longest most r found each e same =
 
 pub walks-fit : (site : Site) → Sound site → (k : ℕ) → k < site .size .movements → walkTimes (site .times) k .walk + walkTimes (site .times) k .first ≤ 65535
 walks-fit site sound k l = let reached = walk-reached site sound k l in omega (arith, reached .walk, reached .first)
+
+-- ── The phase of a movement ──
+
+abbrev pub phaseIn : ℕ → ℕ → ℕ
+phaseIn set p = if bit p set then p else 0
+
+-- as the code counts it
+pub phase-told : (set p part : ℕ) (has : Bool) → has ≡ bit p set → part ≡ (if has then p else 0) → part ≡ phaseIn set p
+phase-told set p part has e own = own ∙ rw e
+
+pub all-phases :
+    (site : Site) (m most p : ℕ) →
+    most ≡ max 0 (greatestOf (phaseIn (getD (site .crossings) m 0)) p) →
+    p ≡ site .size .phases →
+    most ≡ phaseOfMovement site m
+unfolding phaseOfMovement crosses
+all-phases site m most p e same =
+    e ∙ ap (λ (n : ℕ). max 0 (greatestOf (phaseIn (getD (site .crossings) m 0)) n)) same ∙ omega arith
+
+-- it is a phase of the site, and the movement is of it
+pub phase-fits :
+    (site : Site) → Sound site → (m : ℕ) → m < site .size .movements →
+    (phaseOfMovement site m < site .size .phases) × (crosses (site .crossings) m (phaseOfMovement site m) ≡ true)
+phase-fits site sound m exists =
+    let of = sound .crossing m exists in
+    rw (phase-of-movement site sound (of .0) m exists (of .2)) (of .1, of .2)
+
+-- ── All of them ──
+
+pub wait-of-phase : (site : Site) (i : ℕ) → i < site .size .phases → getD (waitsOf site) i 0 ≡ phaseWait site i
+unfolding waitsOf
+wait-of-phase site i l =
+    let waits : ℕ → ℕ = phaseWait site in
+    List·getD-append (listOf waits (site .size .phases)) (listOf (λ m. movementWait site (phaseOfMovement site m) m) (site .size .movements)) 0 i
+    (omega (arith, list-length waits (site .size .phases)))
+    ∙ list-at waits (site .size .phases) i 0 l
+
+pub wait-of-movement :
+    (site : Site) (m i : ℕ) →
+    m < site .size .movements →
+    i ≡ site .size .phases + m →
+    getD (waitsOf site) i 0 ≡ movementWait site (phaseOfMovement site m) m
+unfolding waitsOf
+wait-of-movement site m i l e =
+    let waits : ℕ → ℕ = phaseWait site in
+    let others : ℕ → ℕ = λ m. movementWait site (phaseOfMovement site m) m in
+    rw e
+    (ap (λ (n : ℕ). getD (listOf waits (site .size .phases) ++ listOf others (site .size .movements)) (n + m) 0) (sym (list-length waits (site .size .phases)))
+    ∙ behind (listOf waits (site .size .phases)) (listOf others (site .size .movements)) m
+    ∙ list-at others (site .size .movements) m 0 l)
+  where
+    behind : (l more : List ℕ) (m : ℕ) → getD (l ++ more) (length l + m) 0 ≡ getD more m 0
+    behind [] more m = ap (λ (n : ℕ). getD more n 0) (zero-add m)
+    behind (x ∷ l) more m = ap (λ (n : ℕ). getD (x ∷ (l ++ more)) n 0) (suc-add (length l) m) ∙ behind l more m

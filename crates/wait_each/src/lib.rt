@@ -1,12 +1,13 @@
 // The wait of each phase and of each movement, by the times of a site. No wait is more than the wait bound, so every sum here fits in two bytes.
-ghost use Prim.Native.Nat.{_≤_, _<_, max};
+ghost use Prim.Native.Nat.{_+_, _<_, max};
 ghost use mathlib.Core.Bool.{true, _&&_};
 ghost use mathlib.Core.Path.{_≡_};
 ghost use lib.Dec.{eqb};
+ghost use lib.ListN.{getD};
 ghost use Rattle.laws.specs.Folds.{if_then_else_};
 ghost use Rattle.rules.specs.Site.{crosses};
 ghost use Rattle.rules.specs.IntervalTable.{isHeld, phaseHeld};
-ghost use Rattle.rules.specs.Waits.{leavingOf, turnOf, restOf, clearsFirst, ownOf, phaseWait, movementWait, phaseOfMovement};
+ghost use Rattle.rules.specs.Waits.{leavingOf, turnOf, restOf, clearsFirst, ownOf, phaseWait, movementWait, phaseOfMovement, waitsOf};
 ghost use Rattle.rules.specs.Laws.{Sound};
 use rules::site::PhaseTimes;
 use rules::site::Site;
@@ -123,4 +124,45 @@ pub fn movement_wait(site: Site, q: u8, m: u8) -> u32
     ensures { λ r. ⌜ r ≡ movementWait site q m ⌝ }
 {
     greater(clears_first(site, q), own_of(site, q, m)) + rest_of(site, q)
+}
+
+// ---- All of them ----
+
+fn phase_if(has: bool, p: u8) -> u32
+    ensures { λ r. ⌜ r ≡ (if has then p else 0) ⌝ }
+{
+    if has { p as u32 } else { 0 }
+}
+
+// The phase of movement m.
+fn phase_of_movement(site: Site, m: u8) -> u8
+    requires { ⌜ Sound site × (m < site .size .movements) ⌝ }
+    ensures { λ r. ⌜ r ≡ phaseOfMovement site m ⌝ }
+{
+    let crossings = site.crossings;
+    let set = crossings[m as usize];
+    let phases = site.size.phases;
+    let mut most: u32 = 0;
+    let mut p: u8 = 0;
+    while p < phases {
+        let has = base_bytes::bit8(p, set);
+        most = greater(most, phase_if(has, p));
+        p += 1;
+    }
+    most as u8
+}
+
+// The wait with this number: the phases come first, then the movements.
+pub fn wait_at(site: Site, i: u8) -> u16
+    requires { ⌜ Sound site × (i < site .size .phases + site .size .movements) ⌝ }
+    ensures { λ r. ⌜ r ≡ getD (waitsOf site) i 0 ⌝ }
+{
+    let phases = site.size.phases;
+    if i < phases {
+        phase_wait(site, i) as u16
+    } else {
+        let m = i - phases;
+        let q = phase_of_movement(site, m);
+        movement_wait(site, q, m) as u16
+    }
 }
