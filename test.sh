@@ -1,8 +1,8 @@
 #!/usr/bin/env bash
 # Passes everything: layout; the names in the documents; every crate proved from nothing, every must-fail edit refused and every program
 # run; the edits of the rules that a theorem must refuse; the example sites, their traces and the ways a trace ends; the lines of the table
-# of yellow times; the vectors; the tests of rust/ and the library against the model; cabinets; retimings; sealed states; the library from
-# C; the archives for other processors.
+# of yellow times; the vectors; the tests of rust/ and the library against the model; cabinets; retimings; sealed states; waits; the library
+# from C and for other processors; the workbench.
 # The last line is `N passed, M failed`; the exit status is 0 only where M is 0.
 set -u
 cd "$(dirname "$0")" || exit 2
@@ -48,6 +48,14 @@ try_edits() {
 try_edits &
 edits=$!
 
+# What later checks need is installed meanwhile. A check installs what it needs itself, too.
+install_all() {
+    targets/install.sh node qemu-system-arm qemu-arm arm-none-eabi-gcc arm-linux-gnueabihf-gcc aarch64-linux-gnu-gcc riscv64-unknown-elf-gcc
+    for part in crates wasm browser sumo; do workbench/setup.sh "$part"; done
+}
+beside install install_all &
+installing=$!
+
 # rt ci counts crates, edits and programs itself; its last line has the counts.
 rt ci 2>&1 | tee "$log"
 status=${PIPESTATUS[0]}
@@ -92,63 +100,59 @@ same_yellow() (
 check 'table of yellow times as generated' same_yellow
 
 # The vectors of the reader are those that the script makes.
-same_vectors() { python3 vectors/make_reads.py "$log" && cmp "$log" crates/run_reads/data/reads; }
-check 'vectors/make_reads.py' same_vectors
+same_reads() { python3 vectors/make_reads.py "$log" && cmp "$log" crates/run_reads/data/reads; }
+check 'vectors/make_reads.py' same_reads
 
-# The Rust side's own tests; the static library against the independent model, and demand 3 watched from outside: seeds and counts
-# are printed.
+# The static library. Its module for other processors is caught while it is made.
+check 'rt staticlib willowera, and its module' python3 targets/module.py
+wait "$installing"
+
+# Two rows of checks beside each other: the library from C, on other processors and in the workbench; and the library against the models.
+#
+# From C: what it needs, the conditions that its header states, and the example programs. On other processors: refusals of the build, archives,
+# header, stack and figures; a firmware; calls recorded on the host give the same answers and bytes, and damaged recordings are noticed. In the
+# workbench: site texts, the command, pictures, the page in a browser, the tutorial, and SUMO beside the library.
+in_c='needs headers conditions steps rust why words power arm settings road cabinet retime yellow'
+for_targets='refusals archives header stack figures'
+in_workbench='site command pictures wasm'
+built_for_use() {
+    for part in $for_targets; do beside "targets-$part" targets/check.sh "$part"; done
+    beside firmware examples/cortex-m4/check.sh
+    beside replay targets/replay/run.sh cortex-m4 cortex-m4-strict armv7-linux wasm32
+    beside damaged targets/replay/run.sh --damaged cortex-m4-strict wasm32
+    for part in $in_c; do beside "c-$part" examples/c/check.sh "$part"; done
+    for part in $in_workbench; do beside "workbench-$part" workbench/check.sh "$part"; done
+    beside page workbench/page/check.sh
+    beside tutorial workbench/tutorial/check.sh
+    beside sumo workbench/sumo/check.sh
+}
+built_for_use &
+use=$!
+
+# The Rust side's own tests; the static library against the independent model, and demand 3 and the waits watched from outside: seeds and
+# counts are printed.
 rust_tests() { (cd rust && cargo test --quiet --offline --features linked); }
 compare_with_model() { (cd rust && cargo run --quiet --release --offline --features linked -p compare -- "$@"); }
 build_compare() { (cd rust && cargo build --quiet --release --offline --features linked -p compare); }
-# The module for other processors is caught while the static library is made (rt staticlib willowera).
-check 'rt staticlib willowera, and its module' python3 targets/module.py
 check 'the comparison' build_compare
-beside agree compare_with_model 1 50000 &
-agree=$!
-beside watch compare_with_model 1 watch 4000000 &
-watch=$!
+check 'library and model agree' compare_with_model 1 50000
+check 'demand 3 watched' compare_with_model 1 watch 4000000
 check 'tests of rust/' rust_tests
-wait "$agree" "$watch"
-check 'library and model agree' passed_beside agree
-check 'demand 3 watched' passed_beside watch
 
-# Simulated roads of a model in Python, for the library and for the model in rust/.
-same_roads() { python3 vectors/make_roads.py "$log" && compare_with_model roads "$log"; }
-check 'roads of vectors/make_roads.py' same_roads
+# Vectors of a model in Python, for the library and for the model in rust/: simulated roads, cabinets, lists of calls with new times among
+# them, sealed states, waits.
+same_vectors() { python3 "vectors/make_$1.py" "$log" && compare_with_model "$1" "$log"; }
+for what in roads cabinets retimes seals waits; do
+    check "vectors/make_$what.py" same_vectors "$what"
+done
 
-# Cabinets of the model in Python, for the library and for the model in rust/; and the lists of calls for the proved program over a slice
-# of records and for the model's.
-same_cabinets() { python3 vectors/make_cabinets.py "$log" && compare_with_model cabinets "$log"; }
-check 'cabinets of vectors/make_cabinets.py' same_cabinets
+# The lists of calls for the proved program over a slice of records and for the model's.
 check 'lists of cabinet calls' python3 vectors/cabinet_lists.py ./target/bin/run_cabinet ./rust/target/release/cabinet
-
-# Lists of calls with new times among them, of the model in Python, for the library and for the model in rust/.
-same_retimes() { python3 vectors/make_retimes.py "$log" && compare_with_model retimes "$log"; }
-check 'retimings of vectors/make_retimes.py' same_retimes
-
-# Sealed states of the model in Python, for the library and for the model in rust/.
-same_seals() { python3 vectors/make_seals.py "$log" && compare_with_model seals "$log"; }
-check 'sealed states of vectors/make_seals.py' same_seals
 
 # Lines for the panel: the vectors are those that the model in Python makes, and the library and the model in rust/ tell the same lines.
 same_whys() { python3 vectors/make_why.py "$log" && cmp "$log" vectors/whys; }
 check 'vectors/make_why.py' same_whys
 check 'lines of vectors/make_why.py' compare_with_model whys ../vectors/whys
-
-# The library from C: what it needs, the conditions that its header states, and the example program.
-for part in needs headers conditions steps rust why words power arm settings road cabinet retime yellow; do
-    check "examples/c/check.sh $part" examples/c/check.sh "$part"
-done
-
-# The library for other processors: refusals of the build, archives, header, stack and figures; and a firmware on it.
-for part in refusals archives header stack figures; do
-    check "targets/check.sh $part" targets/check.sh "$part"
-done
-check 'examples/cortex-m4/check.sh' examples/cortex-m4/check.sh
-
-# Calls recorded on the host give the same answers and bytes on other processors; damaged recordings are noticed.
-check 'replay on other processors' targets/replay/run.sh cortex-m4 cortex-m4-strict armv7-linux wasm32
-check 'damaged recordings are noticed' targets/replay/run.sh --damaged cortex-m4-strict wasm32
 
 # The settings of site sheets against exact arithmetic.
 compare_sheets() { (cd rust && cargo run --quiet --release --offline --features linked -p sheet -- "$@"); }
@@ -159,6 +163,17 @@ compare_yellow() { (cd rust && cargo run --quiet --release --offline --features 
 check 'yellow times agree' compare_yellow
 exact_yellow() { yellow_lines | grep -v '//' >"$log" && python3 vectors/yellow.py "$log"; }
 check 'table of yellow times by vectors/yellow.py' exact_yellow
+
+wait "$use"
+for part in $for_targets; do check "targets/check.sh $part" passed_beside "targets-$part"; done
+check 'examples/cortex-m4/check.sh' passed_beside firmware
+check 'replay on other processors' passed_beside replay
+check 'damaged recordings are noticed' passed_beside damaged
+for part in $in_c; do check "examples/c/check.sh $part" passed_beside "c-$part"; done
+for part in $in_workbench; do check "workbench/check.sh $part" passed_beside "workbench-$part"; done
+check 'the page in a browser' passed_beside page
+check 'the tutorial' passed_beside tutorial
+check 'SUMO beside the library' passed_beside sumo
 
 wait "$edits"
 for edit in must-fail-rules/*.edit; do

@@ -7,10 +7,10 @@
  *
  * - A pointer has as many bytes behind it as the length next to it says. All 64 bits of a length count: bytes after a whole
  *   personality are refused with 12, and a state of any length other than WILLOWERA_STATE_BYTES with 13.
- * - During a call nobody else writes a buffer of the call, or reads the state, the colours, the line, the sealed record, the results, the
- *   row or the outputs.
- * - State, colours, line, sealed record and results do not overlap each other, a personality or the streams. They may be adjacent. The two
- *   personalities of willowera_retime may be the same buffer.
+ * - During a call nobody else writes a buffer of the call, or reads the state, the colours, the line, the waits, the sealed record, the
+ *   results, the row or the outputs.
+ * - State, colours, line, waits, sealed record and results do not overlap each other, a personality or the streams. They may be adjacent.
+ *   The two personalities of willowera_retime may be the same buffer.
  * - The row and the outputs of a cabinet do not overlap each other or the personality that is placed. They may be adjacent.
  * - willowera_settings is called in the default floating-point environment: round to nearest, subnormal numbers on.
  *
@@ -19,14 +19,14 @@
  * - A valid pointer for length 0. The pointer may be anything, also null; the buffer is empty and is not accessed.
  * - Alignment, of any buffer.
  * - A writable personality. It may be in read-only memory.
- * - Initial values in the colour buffer, in the buffers for a fresh or resumed state, for a sealed record and for a line, or in the outputs
- *   of a cabinet.
+ * - Initial values in the colour buffer, in the buffers for a fresh or resumed state, for a sealed record, for a line and for waits, or in the
+ *   outputs of a cabinet.
  *
  * What a call does to memory:
  *
  * - It reads the personalities, the state, the streams, the sealed record and the row. An accepted step writes the state and one colour
- *   byte for each group, an accepted retiming or resuming the state, willowera_why the line, willowera_seal the sealed record, an accepted
- *   road the state and the results. An accepted call of a cabinet writes its own record and its own outputs. A refused call writes nothing.
+ *   byte for each group, an accepted retiming or resuming the state, willowera_why the line, willowera_waits the waits, willowera_seal the sealed
+ *   record, an accepted road the state and the results. An accepted call of a cabinet writes its own record and its own outputs. A refused call writes nothing.
  *   Otherwise a call uses only its stack.
  * - The library has no variables, no heap and no locks. Calls with their own state and colours may run at the same time, in several
  *   threads or in a signal handler that interrupts another call, and may share a personality. Calls on one row may not.
@@ -66,6 +66,7 @@ extern "C" {
 #define WILLOWERA_MOST_MOVEMENTS 8
 
 #define WILLOWERA_MOST_LINE_BYTES 107 /* the longest line of willowera_why */
+#define WILLOWERA_MOST_WAIT_BYTES 30  /* willowera_waits: two for each phase and each movement */
 
 #define WILLOWERA_MOST_STREAMS 48
 #define WILLOWERA_MOST_RATE 1800
@@ -200,7 +201,7 @@ extern "C" {
 #define WILLOWERA_WRONG_DETECTOR 11     /* unknown phase or mode; place: the record */
 #define WILLOWERA_LEFT_OVER 12          /* bytes follow the last section; place: the first of them */
 #define WILLOWERA_STATE_NOT_VALID 13    /* state not valid, or not a state; place 0 */
-#define WILLOWERA_BUFFER_SHORT 14       /* colour, line, result or output buffer too short, or sealed buffer not 347 bytes; place 0 */
+#define WILLOWERA_BUFFER_SHORT 14       /* colour, line, wait, result or output buffer too short, or sealed buffer not 347 bytes; place 0 */
 #define WILLOWERA_STRAY_INPUT 15        /* an input bit is set that has no detector and no button; place 0 */
 #define WILLOWERA_NO_EARLY_TIMES 17     /* a group stops early, but section 7 is missing; place: the first such record */
 #define WILLOWERA_WRONG_ORDER 18        /* section 9 does not list each phase once; place: its head */
@@ -236,6 +237,7 @@ extern "C" {
 #define WILLOWERA_WAIT(answer) ((uint32_t)((answer) >> 8))
 #define WILLOWERA_GROUPS(answer) ((size_t)((answer) >> 8))
 #define WILLOWERA_LINE_LENGTH(answer) ((size_t)((answer) >> 8))
+#define WILLOWERA_WAITS_LENGTH(answer) ((size_t)((answer) >> 8))
 #define WILLOWERA_OFFSET(answer) ((size_t)((answer) >> 8 & 0xffffffff))
 #define WILLOWERA_LENGTH(answer) ((size_t)((answer) >> 40))
 #define WILLOWERA_MINIMUM_GREEN_SETTING(answer) ((uint16_t)((answer) >> 8))
@@ -249,6 +251,18 @@ uint64_t willowera_read(const uint8_t *personality, uint64_t personality_length)
 
 /* The wait bound of a personality in steps (WILLOWERA_WAIT), or its refusal. */
 uint64_t willowera_wait_bound(const uint8_t *personality, uint64_t personality_length);
+
+/* Writes the wait of each phase in letter order, then of each movement, in steps (2 bytes each, the low one first), by the times of the
+ * personality, and answers the number of bytes (WILLOWERA_WAITS_LENGTH), at most WILLOWERA_MOST_WAIT_BYTES; or a refusal. Bytes behind them
+ * stay.
+ *
+ * The wait of a phase: a demand of the phase that lasts (a locked demand, a call without lock in every step, or a button of a movement of the
+ * phase) has its minimum green in the step that registers it, or in fewer than this many further accepted steps. A call without lock that drops
+ * away has no such promise. The wait of a movement: its walk begins in the step that registers its button, or in fewer than this many
+ * further accepted steps. No wait is above the wait bound.
+ *
+ * The checks: the personality; then 14 (waits_length is less than 2 for each phase and each movement). */
+uint64_t willowera_waits(const uint8_t *personality, uint64_t personality_length, uint8_t *waits, uint64_t waits_length);
 
 /* The number of signal groups of a personality (WILLOWERA_GROUPS), or its refusal. A step writes as many colours. */
 uint64_t willowera_groups(const uint8_t *personality, uint64_t personality_length);

@@ -21,6 +21,7 @@ qemu-aarch64 qemu-user
 qemu-riscv32 qemu-user
 node nodejs
 valgrind valgrind
+g++ g++
 '
 
 packages_of() { printf '%s' "$table" | awk -v command="$1" '$1 == command { $1 = ""; print }'; }

@@ -162,6 +162,7 @@ static void cut_personalities(const struct site *site)
         if (WILLOWERA_NUMBER(answer) == WILLOWERA_ACCEPTED)
             continue;
         need(willowera_wait_bound(cut, length) == answer, "the wait bound of a cut personality");
+        need(willowera_waits(cut, length, NULL, 0) == answer, "the waits of a cut personality");
         need(willowera_groups(cut, length) == answer, "the groups of a cut personality");
         for (unsigned kind = 0; kind <= MOST_KINDS; kind++)
             need(willowera_section(cut, length, (uint16_t)kind) == answer, "a section of a cut personality");
@@ -241,6 +242,26 @@ static void refusals_write_nothing(const struct site *site)
 }
 
 /* ── Sealed records ── */
+
+/* The waits are written to a buffer that is just long enough, and nothing beside it is read or written. */
+static void waits_between_fences(const struct site *site)
+{
+    for (int at_end = 0; at_end < 2; at_end++) {
+        uint8_t *pages[2] = {fenced_page(), fenced_page()}, most[WILLOWERA_MOST_WAIT_BYTES];
+        struct site fenced = fenced_site(site, pages[0], at_end);
+        uint64_t answer = willowera_waits(site->personality, site->length, most, sizeof most);
+        size_t length = WILLOWERA_WAITS_LENGTH(answer);
+        uint8_t *waits = place(pages[1], length, at_end);
+
+        need(WILLOWERA_NUMBER(answer) == WILLOWERA_ACCEPTED && length <= sizeof most, "the waits of a site");
+        need(willowera_waits(fenced.personality, fenced.length, waits, length) == answer, "the waits in a buffer of their length");
+        need(memcmp(waits, most, length) == 0, "the same waits");
+        need(willowera_waits(fenced.personality, fenced.length, waits, length - 1) == WILLOWERA_BUFFER_SHORT, "a buffer too short");
+        need(memcmp(waits, most, length) == 0, "waits after a refusal");
+        for (int i = 0; i < 2; i++)
+            free_page(pages[i]);
+    }
+}
 
 /* Sealing and resuming read and write nothing beside their buffers, and write only the record, or only the state. */
 static void seals_between_fences(const struct site *site)
@@ -514,6 +535,8 @@ static void empty_buffers(const struct site *site)
         need(willowera_read(none, 0) == WILLOWERA_CUT_SHORT, "an empty personality");
         need(willowera_wait_bound(none, 0) == WILLOWERA_CUT_SHORT, "the wait bound of an empty personality");
         need(willowera_section(none, 0, 1) == WILLOWERA_CUT_SHORT, "a section of an empty personality");
+        need(willowera_waits(none, 0, none, 0) == WILLOWERA_CUT_SHORT, "the waits of an empty personality");
+        need(willowera_waits(bytes, site->length, none, 0) == WILLOWERA_BUFFER_SHORT, "waits in an empty buffer");
         need(willowera_groups(none, 0) == WILLOWERA_CUT_SHORT, "the groups of an empty personality");
         need(willowera_fresh(none, 0, state, sizeof state) == WILLOWERA_CUT_SHORT, "the fresh state of an empty personality");
         need(willowera_fresh(bytes, site->length, none, 0) == WILLOWERA_STATE_NOT_VALID, "a fresh state in an empty buffer");
@@ -669,6 +692,7 @@ int main(int count, char **paths)
         cut_personalities(&site);
         retimes_between_fences(&site);
         refusals_write_nothing(&site);
+        waits_between_fences(&site);
         seals_between_fences(&site);
         seal_refusals_write_nothing(&site);
         seal_alignments(&site);

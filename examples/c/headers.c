@@ -32,7 +32,7 @@ const struct calls calls[] = {
      willowera_settings, willowera_road, willowera_yellow, willowera_section, willowera_cabinet_place, willowera_cabinet_step,
      willowera_cabinet_take_out, willowera_version, willowera_explain},
     {willowera_wait_bound, NULL, NULL, NULL, willowera_resume, NULL, NULL, NULL, NULL, NULL, NULL, NULL, NULL, NULL, NULL, NULL},
-    {willowera_groups, NULL, NULL, NULL, NULL, NULL, NULL, NULL, NULL, NULL, NULL, NULL, NULL, NULL, NULL, NULL},
+    {willowera_groups, willowera_waits, NULL, NULL, NULL, NULL, NULL, NULL, NULL, NULL, NULL, NULL, NULL, NULL, NULL, NULL},
 };
 
 /* A condition that is decided when the file is compiled, in C99 too: an array of -1 entries is an error. */
@@ -45,6 +45,7 @@ MUST(have_waiting_times_last, WILLOWERA_STATE_WAITING + WILLOWERA_TIMES_BYTES ==
 MUST(have_times_of_phases, WILLOWERA_TIMES_PHASES + 12 * WILLOWERA_MOST_PHASES == WILLOWERA_TIMES_MOVEMENTS);
 MUST(have_times_of_movements, WILLOWERA_TIMES_MOVEMENTS + 6 * WILLOWERA_MOST_MOVEMENTS == WILLOWERA_TIMES_EARLY);
 MUST(have_early_times_last, WILLOWERA_TIMES_EARLY + 2 * WILLOWERA_MOST_PHASES == WILLOWERA_TIMES_BYTES);
+MUST(write_two_bytes_for_each_wait, WILLOWERA_MOST_WAIT_BYTES == 2 * (WILLOWERA_MOST_PHASES + WILLOWERA_MOST_MOVEMENTS));
 MUST(seal_a_state, WILLOWERA_SEALED_BYTES == 1 + 2 + 4 + WILLOWERA_STATE_BYTES + 4);
 
 /* Every accessor of a state, against the bytes that docs/DATA-SHEET.md gives the field. Byte i of the state is 7 i + 1, modulo 256. */

@@ -55,6 +55,7 @@ static double real(uint64_t bits)
 CALL(version, "", ())
 CALL(read, "pl", (P(0), N(1)))
 CALL(wait_bound, "pl", (P(0), N(1)))
+CALL(waits, "plpl", (P(0), N(1), P(2), N(3)))
 CALL(groups, "pl", (P(0), N(1)))
 CALL(section, "plh", (P(0), N(1), (uint16_t)N(2)))
 CALL(fresh, "plpl", (P(0), N(1), P(2), N(3)))
@@ -75,6 +76,7 @@ static const struct call *const known[] = {
     &call_version, &call_read,     &call_wait_bound, &call_groups,        &call_section,      &call_fresh,
     &call_step,    &call_retime,   &call_why_length, &call_why,           &call_seal,         &call_resume,
     &call_settings, &call_yellow,  &call_road,       &call_cabinet_place, &call_cabinet_step, &call_cabinet_take_out,
+    &call_waits,
 };
 
 /* The calls of the recording, by their numbers in it. */

@@ -5,7 +5,7 @@
 --   Indices     last-or-below, below-or-past, same-or-apart; eqb-turned, in-range; passes-below, upto-more
 --   Folds       any fold: fold-same (f = g below n), fold-at (each entry); any-found, any-at, any-none, any-past, all-at, all-each; Tested (a loop)
 --   Tables      a rule shown by one computation: table-holds, table-same, table-equal, grid-holds, grid-same
---   Sums        sumOf and greatestOf: sum-same, sum-at, sum-within, greatest-at, greatest-most, greatest-with
+--   Sums        sumOf and greatestOf: sum-same, sum-at, sum-within, sum-most, sum-but, greatest-at, greatest-most, greatest-with
 --   Counting    countOf and indicesOf: count-before, count-apart, count-within, count-one, count-only, indices-at, listed-once
 --   Lists       listOf, rowOf and any list: list-at, list-same, list-told, listed, list-set, row-at, row-past, row-told; entry-same (the default)
 --   Arrays      an array that a loop fills: Filled, fill-set, fill-skip, fill-done, fill-kept; or writes part behind part: Stored

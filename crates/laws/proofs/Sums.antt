@@ -4,9 +4,11 @@ use mathlib.Core.Logic.{⊎-elim}
 use mathlib.Core.Path.{_≡_, refl, sym, ap, _∙_}
 use native.Mathlib.Nat.{not-suc-le-zero, suc-mul}
 use native.Mathlib.Omega.{arith}
-use Rattle.laws.specs.Folds.{sumOf, greatestOf}
+use lib.Dec.{eqb}
+use borrow.Author.Tests.{eq-eqb, ne-eqb}
+use Rattle.laws.specs.Folds.{if_then_else_, sumOf, greatestOf}
 use Rattle.laws.proofs.Folds.{fold-same, fold-at}
-use Rattle.laws.proofs.Indices.{last-or-below}
+use Rattle.laws.proofs.Indices.{last-or-below, same-or-apart}
 
 -- ── Sums ──
 
@@ -40,6 +42,27 @@ pub sum-both : (f g h : ℕ → ℕ) (n : ℕ) → ((i : ℕ) → h i ≡ f i + 
 unfolding sumOf
 sum-both f g h zero e = refl
 sum-both f g h (suc n) e = omega (arith, sum-both f g h n e, e n)
+
+-- each share at most another one
+pub sum-most : (f g : ℕ → ℕ) (n : ℕ) → ((i : ℕ) → i < n → f i ≤ g i) → sumOf f n ≤ sumOf g n
+unfolding sumOf
+sum-most f g zero h = omega arith
+sum-most f g (suc n) h = omega (arith, sum-most f g n (λ i l. h i (omega arith)), h n (omega arith))
+
+-- without the share of one index
+sum-past : (f : ℕ → ℕ) (n q : ℕ) → n ≤ q → sumOf (λ i. if eqb i q then 0 else f i) n ≡ sumOf f n
+unfolding sumOf
+sum-past f zero q h = refl
+sum-past f (suc n) q h = rw (ne-eqb n q (omega arith)) (omega (arith, sum-past f n q (omega arith)))
+
+pub sum-but : (f : ℕ → ℕ) (n q : ℕ) → q < n → sumOf (λ i. if eqb i q then 0 else f i) n + f q ≡ sumOf f n
+unfolding sumOf
+sum-but f zero q h = absurd (not-suc-le-zero h)
+sum-but f (suc n) q h =
+    ⊎-elim
+    (λ (e : n ≡ q). rw (eq-eqb n q e) (omega (arith, sum-past f n q (omega arith), ap f e)))
+    (λ (ne : n ≡ q → ⊥). rw (ne-eqb n q ne) (omega (arith, sum-but f n q (omega arith))))
+    (same-or-apart n q)
 
 -- n shares of at least 1 each, of which one is known
 sum-least : (f : ℕ → ℕ) (n : ℕ) → ((i : ℕ) → i < n → 1 ≤ f i) → n ≤ sumOf f n

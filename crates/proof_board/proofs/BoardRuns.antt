@@ -21,6 +21,7 @@ use Rattle.rules.specs.TimedLaws.{FreshTimedIsValid, TimedStepKeepsValid, Retim
 use Rattle.rules.specs.DemandThree.{Call, Taken, takenFrom, SafeRun, DemandThreeOf}
 use Rattle.rules.specs.TimedDemandThree.{TimedController, timed, Given, stepCall, retimeCall, Made, stepMade, retimeMade, nextOf, stepOf, madeFrom, acceptedSteps, takens, TimedSafeRun, TimedDemandThreeOf, TimedDemandThree, BeforeFollows}
 use Rattle.rules.specs.OnceEach.{OnceEach, OnceEachOf, RunsStartOnceEach}
+use Rattle.rules.specs.PhaseWaits.{WaitsMet, PlainWaitsMet, EveryWaitMetOf, EveryWaitMet, EveryPlainWaitMetOf, EveryPlainWaitMet}
 use Rattle.state_timed.specs.TimedLayout.{timedBytes, timedEncoded, timedDecoded, ProperTimed}
 use Rattle.state_timed.proofs.TimedRoundTrips.{encoded-is-timed, decoded-encoded}
 use Rattle.board_answers.specs.Answers.{packed, packedVerdict}
@@ -32,7 +33,8 @@ use Rattle.proof_guarantees.proofs.TimedAccepted.{fresh-timed-is-valid, timed-s
 use Rattle.proof_guarantees.proofs.TimedDemandThree.{timed-demand-three}
 use Rattle.proof_guarantees.proofs.WithoutRetimings.{before-follows}
 use Rattle.proof_guarantees.proofs.OnceEach.{runs-start-once-each}
-use Rattle.proof_board.specs.BoardRuns.{outcomeIn, verdictIn, board, FreshAccepts, BoardRunsAlike, BoardRunsHold, BoardDemandThree, BoardDemandThreeBefore, BoardOnceEach}
+use Rattle.proof_guarantees.proofs.PhaseWaits.{every-wait-met, every-plain-wait-met}
+use Rattle.proof_board.specs.BoardRuns.{outcomeIn, verdictIn, board, FreshAccepts, BoardRunsAlike, BoardRunsHold, BoardDemandThree, BoardDemandThreeBefore, BoardOnceEach, BoardWaitsMet, BoardPlainWaitsMet}
 use Rattle.proof_board.specs.ProperStates.{FreshTimedIsProper, TimedStepIsProper, RetimeIsProper}
 use Rattle.proof_board.proofs.Answers.{read-back, outcome-back, retime-back}
 use Rattle.proof_board.proofs.Proper.{fresh-timed-is-proper, timed-step-is-proper, retime-is-proper}
@@ -186,6 +188,14 @@ board-demand-three = board-runs-hold TimedSafeRun timed-demand-three
 pub board-once-each : BoardOnceEach
 unfolding BoardOnceEach BoardRunsHold RunsStartOnceEach OnceEachOf
 board-once-each = board-runs-hold (λ b calls. OnceEach (siteOf b) (takens (acceptedSteps calls))) runs-start-once-each
+
+pub board-waits-met : BoardWaitsMet
+unfolding BoardWaitsMet BoardRunsHold EveryWaitMet EveryWaitMetOf
+board-waits-met = board-runs-hold (λ b calls. WaitsMet (siteOf b) (acceptedSteps calls)) every-wait-met
+
+pub board-plain-waits-met : BoardPlainWaitsMet
+unfolding BoardPlainWaitsMet BoardRunsHold EveryPlainWaitMet EveryPlainWaitMetOf
+board-plain-waits-met = board-runs-hold (λ b calls. PlainWaitsMet (siteOf b) (acceptedSteps calls)) every-plain-wait-met
 
 -- ── Step calls alone ──
 

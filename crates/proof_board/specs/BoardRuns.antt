@@ -14,6 +14,7 @@ use Rattle.rules.specs.Personality.{verdictOf}
 use Rattle.rules.specs.DemandThree.{DemandThreeOf}
 use Rattle.rules.specs.TimedDemandThree.{TimedController, timed, Given, Made, madeFrom, OfEveryTimedRun, TimedDemandThreeOf}
 use Rattle.rules.specs.OnceEach.{OnceEachOf}
+use Rattle.rules.specs.PhaseWaits.{EveryWaitMetOf, EveryPlainWaitMetOf}
 use Rattle.state_timed.specs.TimedLayout.{timedBytes, timedDecoded}
 use Rattle.board_answers.specs.Answers.{packedVerdict}
 use Rattle.board_fresh.specs.FreshCall.{freshAnswer, freshAfter}
@@ -92,3 +93,10 @@ BoardDemandThreeBefore = OfEveryBuffer (λ library. DemandThreeOf (library .step
 -- while a demand waits, no phase starts twice
 unfoldable pub BoardOnceEach : Type 0
 BoardOnceEach = OfEveryBuffer (λ library. OnceEachOf library)
+
+-- every wait of a phase and of a movement is met, through changes of times and through none
+unfoldable pub BoardWaitsMet : Type 0
+BoardWaitsMet = OfEveryBuffer (λ library. EveryWaitMetOf library)
+
+unfoldable pub BoardPlainWaitsMet : Type 0
+BoardPlainWaitsMet = OfEveryBuffer (λ library. EveryPlainWaitMetOf library)

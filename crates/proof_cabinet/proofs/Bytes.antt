@@ -13,8 +13,10 @@ use Rattle.rules.specs.Site.{siteOf}
 use Rattle.rules.specs.Colours.{red}
 use Rattle.rules.specs.TimedDemandThree.{Made, acceptedSteps, takens, TimedSafeRun, TimedDemandThree, TimedDemandThreeOf}
 use Rattle.rules.specs.OnceEach.{OnceEach, OnceEachOf, RunsStartOnceEach}
+use Rattle.rules.specs.PhaseWaits.{WaitsMet, PlainWaitsMet, EveryWaitMetOf, EveryWaitMet, EveryPlainWaitMetOf, EveryPlainWaitMet}
 use Rattle.proof_guarantees.proofs.TimedDemandThree.{timed-demand-three}
 use Rattle.proof_guarantees.proofs.OnceEach.{runs-start-once-each}
+use Rattle.proof_guarantees.proofs.PhaseWaits.{every-wait-met, every-plain-wait-met}
 use Rattle.cabinet_records.specs.declared.Record.{Record}
 use Rattle.cabinet_records.specs.Cabinet.{isFree, personalityOf, recordOf, outputsOf, outputsIn, freshBytes, Act, placeSite, doing}
 use Rattle.cabinet_records.specs.CabinetLaws.{recordNamed, OthersStay}
@@ -24,7 +26,7 @@ use Rattle.cabinet_records.proofs.RowRoundTrips.{decoded-encoded-row}
 use Rattle.cabinet_records.proofs.RowBytes.{row-length, row-shape}
 use Rattle.proof_cabinet.specs.Operations.{retiming, retimingBytes, Operation, cabinetAct, retimeSite, operating, operatingBytes, BytesFollowRecords}
 use Rattle.proof_cabinet.specs.CabinetAnswers.{ShapeStays}
-use Rattle.proof_cabinet.specs.CabinetRuns.{onRecords, onBytes, CabinetCall, callOn, seenFor, aloneAt, stateAlone, lastShown, Apart, seenAt, StaysIn, rowAfter, linked, outputsAfter, CabinetRuns, CabinetRunsHold, CabinetDemandThree, CabinetOnceEach, PlacedHolds, PlacedApart, PlacedShows}
+use Rattle.proof_cabinet.specs.CabinetRuns.{onRecords, onBytes, CabinetCall, callOn, seenFor, aloneAt, stateAlone, lastShown, Apart, seenAt, StaysIn, rowAfter, linked, outputsAfter, CabinetRuns, CabinetRunsHold, CabinetDemandThree, CabinetOnceEach, CabinetWaitsMet, PlacedHolds, PlacedApart, PlacedShows}
 use Rattle.proof_cabinet.proofs.Retimings.{retimed-follows}
 use Rattle.proof_cabinet.proofs.Shapes.{shape-stays}
 use Rattle.proof_cabinet.proofs.Runs.{cabinet-runs, cabinet-runs-hold}
@@ -170,6 +172,12 @@ cabinet-demand-three-on-bytes = cabinet-runs-hold-on-bytes TimedSafeRun timed-de
 pub cabinet-once-each-on-bytes : CabinetOnceEach onBytes
 unfolding CabinetOnceEach CabinetRunsHold RunsStartOnceEach OnceEachOf
 cabinet-once-each-on-bytes = cabinet-runs-hold-on-bytes (λ b made. OnceEach (siteOf b) (takens (acceptedSteps made))) runs-start-once-each
+
+pub cabinet-waits-met-on-bytes : CabinetWaitsMet onBytes
+unfolding CabinetWaitsMet CabinetRunsHold EveryWaitMet EveryWaitMetOf EveryPlainWaitMet EveryPlainWaitMetOf
+cabinet-waits-met-on-bytes =
+    cabinet-runs-hold-on-bytes (λ b made. WaitsMet (siteOf b) (acceptedSteps made) × PlainWaitsMet (siteOf b) (acceptedSteps made))
+    (λ b known calls. (every-wait-met b known calls, every-plain-wait-met b known calls))
 
 pub placed-holds-on-bytes : PlacedHolds onBytes
 unfolding PlacedHolds onBytes onRecords operating operatingBytes doingBytes inBytes

@@ -14,6 +14,7 @@ use Rattle.rules.specs.Personality.{verdictOf}
 use Rattle.rules.specs.Site.{siteOf}
 use Rattle.rules.specs.TimedDemandThree.{timed, Given, Made, stepMade, retimeMade, madeFrom, acceptedSteps, takens, TimedSafeRun, TimedDemandThree, TimedDemandThreeOf}
 use Rattle.rules.specs.OnceEach.{OnceEach, OnceEachOf, RunsStartOnceEach}
+use Rattle.rules.specs.PhaseWaits.{WaitsMet, PlainWaitsMet, EveryWaitMetOf, EveryWaitMet, EveryPlainWaitMetOf, EveryPlainWaitMet}
 use Rattle.state_timed.specs.TimedLayout.{timedBytes, timedDecoded}
 use Rattle.board_answers.specs.Answers.{packed, packedVerdict}
 use Rattle.board_step.specs.StepCall.{coloursAfter}
@@ -21,6 +22,7 @@ use Rattle.proof_acceptance.proofs.Refusals.{Refusals, if-refusals, or-refusals
 use Rattle.proof_acceptance.proofs.Places.{number-fits}
 use Rattle.proof_guarantees.proofs.TimedDemandThree.{timed-demand-three}
 use Rattle.proof_guarantees.proofs.OnceEach.{runs-start-once-each}
+use Rattle.proof_guarantees.proofs.PhaseWaits.{every-wait-met, every-plain-wait-met}
 use Rattle.proof_board.specs.BoardRuns.{outcomeIn, verdictIn, board, BoardRunsAlike}
 use Rattle.proof_board.proofs.BoardRuns.{fresh-bytes, board-runs-alike}
 use Rattle.cabinet_records.specs.declared.Record.{Record}
@@ -28,7 +30,7 @@ use Rattle.cabinet_records.specs.Cabinet.{freeRecord, holding, recordOf, output
 use Rattle.cabinet_records.proofs.Checks.{row-length, record-below, placing-read, placing-there, placing-within}
 use Rattle.cabinet_records.proofs.Outputs.{colours-length, shown-written}
 use Rattle.proof_cabinet.specs.Operations.{operating}
-use Rattle.proof_cabinet.specs.CabinetRuns.{onRecords, CabinetCall, OwnCall, steps, retimes, nothing, callOn, aloneFor, aloneAt, seenFor, seenAt, StaysIn, CabinetRuns, CabinetRunsHold, CabinetDemandThree, CabinetOnceEach}
+use Rattle.proof_cabinet.specs.CabinetRuns.{onRecords, CabinetCall, OwnCall, steps, retimes, nothing, callOn, aloneFor, aloneAt, seenFor, seenAt, StaysIn, CabinetRuns, CabinetRunsHold, CabinetDemandThree, CabinetOnceEach, CabinetWaitsMet}
 use Rattle.proof_cabinet.proofs.Placed.{Did, did, Placed, nextFor, own-outputs, own-state, own-stepped, own-retimed, placed-next}
 
 -- ── An accepted placing ──
@@ -177,3 +179,9 @@ cabinet-demand-three = cabinet-runs-hold TimedSafeRun timed-demand-three
 pub cabinet-once-each : CabinetOnceEach onRecords
 unfolding CabinetOnceEach CabinetRunsHold RunsStartOnceEach OnceEachOf
 cabinet-once-each = cabinet-runs-hold (λ b made. OnceEach (siteOf b) (takens (acceptedSteps made))) runs-start-once-each
+
+pub cabinet-waits-met : CabinetWaitsMet onRecords
+unfolding CabinetWaitsMet CabinetRunsHold EveryWaitMet EveryWaitMetOf EveryPlainWaitMet EveryPlainWaitMetOf
+cabinet-waits-met =
+    cabinet-runs-hold (λ b made. WaitsMet (siteOf b) (acceptedSteps made) × PlainWaitsMet (siteOf b) (acceptedSteps made))
+    (λ b known calls. (every-wait-met b known calls, every-plain-wait-met b known calls))

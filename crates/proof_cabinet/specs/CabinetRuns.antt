@@ -11,6 +11,7 @@ use Rattle.rules.specs.Site.{siteOf}
 use Rattle.rules.specs.Colours.{red}
 use Rattle.rules.specs.TimedDemandThree.{timed, Given, stepCall, retimeCall, TimedStep, Made, stepMade, retimeMade, madeFrom, acceptedSteps, takens, TimedSafeRun, OfEveryTimedRun}
 use Rattle.rules.specs.OnceEach.{OnceEach}
+use Rattle.rules.specs.PhaseWaits.{WaitsMet, PlainWaitsMet}
 use Rattle.state_timed.specs.TimedLayout.{timedDecoded}
 use Rattle.board_step.specs.StepCall.{stateAfter}
 use Rattle.board_retime.specs.RetimeCall.{retimeAfter}
@@ -202,6 +203,16 @@ module _ {Row : Type 0} (cabinet : Cabinet Row) where
       (calls : List CabinetCall) →
       StaysIn k (placed .row) calls →
       OnceEach (siteOf b) (takens (acceptedSteps (seenAt k (placed .row) calls))))
+
+  -- Every wait of a phase and of a movement is met, through changes of times and through none.
+  unfoldable pub CabinetWaitsMet : Type 0
+  CabinetWaitsMet =
+      OfEveryPlacing
+      (λ b k first placed.
+      (calls : List CabinetCall) →
+      StaysIn k (placed .row) calls →
+      let steps = acceptedSteps (seenAt k (placed .row) calls) in
+      WaitsMet (siteOf b) steps × PlainWaitsMet (siteOf b) steps)
 
   -- The record holds what was placed, with the bytes of the state that the calls alone would have left.
   unfoldable pub PlacedHolds : Type 0

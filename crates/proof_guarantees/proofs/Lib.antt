@@ -8,4 +8,5 @@ pub mod AsBefore
 pub mod WithoutRetimings
 pub mod DemandThree
 pub mod OnceEach
+pub mod PhaseWaits
 pub mod Junction

@@ -22,7 +22,8 @@ use Rattle.proof_runs.proofs.Chains.{ValidLink}
 use Rattle.proof_runs.proofs.Demanded.{button-demands}
 use Rattle.proof_runs.proofs.Ends.{next-in, started-in}
 use Rattle.proof_runs.proofs.Steps.{ended, started, askedNow, begun, position-of, asked-of}
-use Rattle.proof_waits.proofs.Buttons.{ButtonStands, ButtonLeft, not-started, button-registers, button-goes}
+use Rattle.proof_waits.proofs.Pressed.{ButtonStands, not-started}
+use Rattle.proof_waits.proofs.Buttons.{ButtonLeft, button-registers, button-goes}
 use Rattle.proof_waits.proofs.Demand.{Waits, standing-on}
 use Rattle.proof_waits.proofs.Paths.{ringIn}
 use Rattle.proof_once.proofs.Ways.{startsBetween, none-stays, startsLeft, step-way}
@@ -69,7 +70,7 @@ module _ (site : Site) (q m : ℕ) where
           let inputs = step .inputs in
           let kept : (askedNow site s inputs m && not (begun site s inputs m)) ≡ true =
           sym (asked-of site s inputs m room) ∙ (rw (link .taken .after) at (stands .asked)) in
-          not-started site sound q m below exists crossing only s inputs (and-left (askedNow site s inputs m) _ kept)
+          not-started site sound q m exists crossing s inputs (and-left (askedNow site s inputs m) _ kept)
           (not-true (begun site s inputs m) (and-right (askedNow site s inputs m) _ kept))
           (start-told site s step link h)
           (sym (ap (λ (p : Position). p .phase) (position-of site s inputs)) ∙ (rw (link .taken .after) at same))

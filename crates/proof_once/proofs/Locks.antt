@@ -24,7 +24,8 @@ use Rattle.proof_runs.proofs.Ends.{next-in}
 use Rattle.proof_runs.proofs.Steps.{ended, lockedNow}
 use Rattle.proof_waits.proofs.Away.{AwayAt}
 use Rattle.proof_waits.proofs.Demand.{Waits, standing-on}
-use Rattle.proof_waits.proofs.Locks.{LockStands, LockLeft, lock-registers, lock-goes}
+use Rattle.proof_waits.proofs.Locked.{LockStands}
+use Rattle.proof_waits.proofs.Locks.{LockLeft, lock-registers, lock-goes}
 use Rattle.proof_waits.proofs.Paths.{ringIn}
 use Rattle.proof_once.proofs.Ways.{startsLeft, step-way}
 use Rattle.proof_once.proofs.Nears.{Near, Nears, last-nears, way-nears}

@@ -21,8 +21,8 @@ use Rattle.laws.proofs.Booleans.{decided, never-both}
 use Rattle.proof_runs.proofs.Chains.{ValidLink}
 use Rattle.proof_runs.proofs.Demanded.{lock-below}
 use Rattle.proof_runs.proofs.Each.{Each, each-at}
-use Rattle.proof_waits.proofs.Buttons.{ButtonStands}
-use Rattle.proof_waits.proofs.Locks.{LockStands}
+use Rattle.proof_waits.proofs.Pressed.{ButtonStands}
+use Rattle.proof_waits.proofs.Locked.{LockStands}
 use Rattle.proof_waits.proofs.Paths.{ringIn}
 use Rattle.proof_timed.proofs.Induction.{viewed, plainFrom, TimedLink, TimedRun, SeenReady, truly}
 use Rattle.proof_timed.proofs.Across.{lock-again, button-again, lock-seen, button-seen, lock-from, button-from}

@@ -157,7 +157,7 @@ module _ (site : Site) (q : ℕ) (sound : Sound site) (below : q < site .size .p
   start-most t l =
       omega (
         arith,
-        ahead-most site q sound below one 1 (omega arith) t l,
+        ahead-most site q sound below one 1 t l,
         sum-within one (site .size .phases) 1 (λ i h. omega arith),
       )
 
@@ -166,7 +166,7 @@ module _ (site : Site) (q : ℕ) (sound : Sound site) (below : q < site .size .p
       let phases = sum-within one (site .size .phases) 1 (λ i h. omega arith) in
       ⊎-elim
       (λ (same : p ≡ q). rw same (omega (arith, onward-own site q sound below one 1, phases)))
-      (λ (other : p ≡ q → ⊥). omega (arith, onward-most site q sound below one 1 (omega arith) p l other, phases))
+      (λ (other : p ≡ q → ⊥). omega (arith, onward-most site q sound below one 1 p l other, phases))
       (same-or-apart p q)
 
   pub starts-most : (s : State) → ValidState site s → startsLeft (ringIn site) q (s .position) ≤ site .size .phases

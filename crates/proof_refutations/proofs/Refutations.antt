@@ -7,14 +7,15 @@ use Rattle.rules.specs.Step.{stepped}
 use Rattle.rules.specs.WaitBound.{waitBound}
 use Rattle.rules.specs.Junctions.{junction, slower, threePhases}
 use Rattle.rules.specs.DemandThree.{ruled, DemandThreeOf}
+use Rattle.rules.specs.PhaseWaits.{noneChanges}
 use Rattle.rules.specs.OnceEach.{isFirst, someStarts, phaseStarts, howMany, untilMet, OnceEachOf}
 use Rattle.rules.specs.TimedScanning.{scanValid, steppedFinding, finding}
 use Rattle.rules.proofs.Opened.{opened}
-use Rattle.proof_refutations.specs.Faults.{faulty, passed, passesTen, moved, is, agesOnly, neverAlters, leavesTheSite, endsTimed, endsOnTimer, choosing, choosesAgain, choosesEarlyAgain, clearing, dropsPresses, inventedBound, smallBound, ruledNow, retiming, demandedElse, fromTheBeginning, backTo, goesBack}
-use Rattle.proof_refutations.specs.Refutations.{Refutations, SmallBoundFails, RulesAtOnceFails, StartsTwice}
+use Rattle.proof_refutations.specs.Faults.{faulty, passed, passesTen, moved, is, agesOnly, neverAlters, leavesTheSite, endsTimed, endsOnTimer, choosing, choosesAgain, choosesEarlyAgain, clearing, dropsPresses, inventedBound, smallBound, ruledNow, retiming, demandedElse, fromTheBeginning, backTo, goesBack, setBack, settingBack}
+use Rattle.proof_refutations.specs.Refutations.{Refutations, SmallBoundFails, RulesAtOnceFails, StartsTwice, SettingBackFails}
 use Rattle.proof_refutations.proofs.Violations.{together, starts, cut, skipped, met, answers, refuted-by-greens, refuted-by-clearance, refuted-by-yellow, unmet-by-lock, unmet-by-button, refuted-by-wait, refuted-by-refusal, refuted-by-bound}
-use Rattle.proof_refutations.proofs.TimedViolations.{timedStarts, cutShort, refuted-by-cut, twice, refuted-by-start}
-use Rattle.proof_refutations.proofs.Witnesses.{callsFrom, crossings, shared, sharedArrow, atOnce, walkThenB, laterB, pressedAgain, longestWait, thenA, stepsFrom, retimedInYellow}
+use Rattle.proof_refutations.proofs.TimedViolations.{timedStarts, cutShort, refuted-by-cut, twice, refuted-by-start, unwalked, refuted-by-walk}
+use Rattle.proof_refutations.proofs.Witnesses.{callsFrom, crossings, longClearance, shared, sharedArrow, atOnce, walkThenB, laterB, pressedAgain, longestWait, calledAgain, thenA, stepsFrom, retimedInYellow}
 
 -- what the runs compute with
 unfoldable computing : Unit {0}
@@ -22,7 +23,7 @@ unfolding
     opened passed passesTen moved agesOnly neverAlters leavesTheSite is endsTimed endsOnTimer choosing choosesAgain choosesEarlyAgain clearing
     dropsPresses inventedBound smallBound together starts cut skipped met answers callsFrom crossings shared sharedArrow atOnce walkThenB laterB
     pressedAgain longestWait ruledNow timedStarts cutShort stepsFrom retimedInYellow demandedElse fromTheBeginning backTo goesBack scanValid
-    steppedFinding isFirst someStarts phaseStarts howMany untilMet twice thenA
+    steppedFinding isFirst someStarts phaseStarts howMany untilMet twice thenA noneChanges unwalked setBack longClearance calledAgain
 computing = tt
 
 -- Group 1 of the junction is made one of A too: both groups are green in step 10.
@@ -126,3 +127,9 @@ goes-back = refuted-by-start (finding goesBack) threePhases refl (stepsFrom then
 
 pub starts-twice : StartsTwice
 starts-twice = record { fromTheBeginning = from-the-beginning; goesBack = goes-back }
+
+-- The crossing is pressed in step 31, in the first step of its clearances. B's call of step 30 has dropped away, and comes again when the crossing is idle
+-- again, in step 330: then A goes on for its whole maximum green, and no walk begins in steps 31 to 430, as many as the wait.
+pub setting-back-fails : SettingBackFails
+unfolding computing SettingBackFails
+setting-back-fails = refuted-by-walk settingBack longClearance refl (stepsFrom calledAgain 3 1 430) 30 0 0 refl

@@ -1,8 +1,9 @@
--- How a computed run refutes a claim about lists of step and retiming calls, part b of the demand or that no phase starts twice while a demand waits:
+-- How a computed run refutes a claim about lists of step and retiming calls, part b of the demand, that no phase starts twice while a demand waits, or that every wait is
+-- met:
 -- facts of one list of calls that no list has if the claim holds. Places in a list count from 0.
 use Prim.Native.Nat.{ℕ, suc, _<_}
 use mathlib.Core.Bool.{Bool, true, false}
-use mathlib.Core.List.{List, _∷_, _++_}
+use mathlib.Core.List.{List, [], _∷_, _++_, append-nil}
 use mathlib.Core.Path.{_≡_, sym, subst, ap, _∙_}
 use native.Mathlib.Omega.{arith}
 use borrow.Author.Tests.{ltb-true, leb-true}
@@ -10,11 +11,13 @@ use lib.Dec.{leb, ltb, eqb}
 use lib.ListN.{length, getD, take, drop, replicate, length-replicate, getD-replicate, List·getD-append}
 use lib.Seq.{split-at}
 use Rattle.rules.specs.declared.answer.Verdict.the-variants.{Accepted}
-use Rattle.rules.specs.Site.{siteOf, phaseTimes, isPedestrian, conflict}
+use Rattle.rules.specs.Site.{siteOf, phaseTimes, crosses, isPedestrian, conflict}
 use Rattle.rules.specs.SiteTimes.{noTimes}
 use Rattle.rules.specs.Colours.{red, yellow, green}
-use Rattle.rules.specs.DemandThree.{Taken, shows, shownBy, lastGreen, StartsGreen, VehicleCleared, Cleared, registersLocked, minimumGreenBegins, someStep}
-use Rattle.rules.specs.TimedDemandThree.{TimedController, Given, TimedStep, madeFrom, acceptedSteps, takens, TimedClearances, TimedDemandThreeOf}
+use Rattle.rules.specs.DemandThree.{Taken, shows, shownBy, lastGreen, StartsGreen, VehicleCleared, Cleared, registersLocked, registersPressed, minimumGreenBegins, walkBegins, someStep}
+use Rattle.rules.specs.TimedDemandThree.{TimedController, Given, TimedStep, madeFrom, acceptedSteps, takens, siteAfter, TimedClearances, TimedDemandThreeOf}
+use Rattle.rules.specs.Waits.{movementWait}
+use Rattle.rules.specs.PhaseWaits.{noneChanges, ComesBefore, PlainWaitsMet, EveryPlainWaitMetOf}
 use Rattle.rules.specs.OnceEach.{phaseStarts, howMany, untilMet, OnceEach, OnceEachOf}
 use Rattle.proof_refutations.proofs.Violations.{nowhere, never-green}
 
@@ -101,3 +104,36 @@ module _ {S : Type 0} (controller : TimedController S) (b : List ℕ) (known : c
       let split = split-at (takens steps) n nowhere (ltb-true n (length (takens steps)) (λ i. facts i .0)) in
       let many = leb-true 2 (howMany (phaseStarts r) (untilMet (minimumGreenBegins p) (step ∷ later))) (λ i. facts i .2) in
       omega (arith, many, holds b known calls (take n (takens steps)) later step split .0 p (λ i. facts i .1) r)
+
+  -- ── Waits ──
+
+  -- of step n and those after it: it is there, movement m is one of phase q, and the step registers its demand; no walk of m begins in them, none of the
+  -- later ones is a change, and they are as many as the wait
+  unfoldable pub unwalked : ℕ → ℕ → ℕ → Bool × Bool × Bool × Bool × Bool × Bool × Bool
+  unwalked n q m =
+      let step = getD steps n noStep in
+      let later = drop (suc n) steps in (
+        ltb n (length steps),
+        ltb m (siteOf b .size .movements),
+        crosses (siteOf b .crossings) m q,
+        registersPressed (step .taken) m,
+        someStep (walkBegins m) (takens (step ∷ later)),
+        noneChanges later,
+        leb (movementWait (siteAfter (siteOf b) step) q m) (length (step ∷ later)),
+      )
+
+  pub refuted-by-walk : (n q m : ℕ) → unwalked n q m ≡ (true, true, true, true, false, true, true) → ¬ EveryPlainWaitMetOf controller
+  unfolding unwalked EveryPlainWaitMetOf PlainWaitsMet ComesBefore
+  refuted-by-walk n q m facts holds =
+      let step = getD steps n noStep in
+      let later = drop (suc n) steps in
+      let split = split-at steps n noStep (ltb-true n (length steps) (λ i. facts i .0)) in
+      let all = split ∙ ap (λ (rest : List TimedStep). take n steps ++ step ∷ rest) (sym (append-nil later)) in
+      let wait = movementWait (siteAfter (siteOf b) step) q m in
+      let fewer =
+      holds b known calls .buttons (take n steps) later [] step all q m (ltb-true m (siteOf b .size .movements) (λ i. facts i .1))
+      (λ i. facts i .2)
+      (λ i. facts i .3)
+      (λ i. facts i .5)
+      (λ i. facts i .4) in
+      omega (arith, fewer, leb-true wait (length (step ∷ later)) (λ i. facts i .6))

@@ -31,6 +31,18 @@ crossings clearance =
     (1 ∷ 5 ∷ [])
     (walk ++ walk)
 
+-- A with a crossing of W 10, C1 200 and C2 100, group 2, and with a detector that only extends, detector 1; B with a detector that calls without lock.
+-- A has M 10, X 100, G 5, and B has M 10, X 10, G 0.
+unfoldable pub longClearance : List ℕ
+longClearance =
+    sections
+    (2 ∷ 3 ∷ two 10)
+    (twos (0 ∷ 10 ∷ 100 ∷ 5 ∷ 30 ∷ 10 ∷ []) ++ twos (0 ∷ 10 ∷ 10 ∷ 0 ∷ 30 ∷ 10 ∷ []))
+    (1 ∷ 0 ∷ 2 ∷ 0 ∷ 1 ∷ 2 ∷ [])
+    (fours (2 ∷ 5 ∷ 2 ∷ []))
+    (1 ∷ 1 ∷ 0 ∷ 4 ∷ [])
+    (twos (10 ∷ 200 ∷ 100 ∷ []))
+
 -- A, B and C: group 0, with a mark that is given, is of A and C, group 1 of B; detector 0 is of B, detector 1 of C,
 -- detector 2 of A
 unfoldable pub shared : ℕ → List ℕ
@@ -68,6 +80,10 @@ pressedAgain step = if eqb step 1 || eqb step 31 then 2 ^ 48 else if eqb step 30
 -- the same; the second crossing in step 229, the last of the first one's clearances, so that it walks; B from then on
 unfoldable pub longestWait : ℕ → ℕ
 longestWait step = if eqb step 229 then 2 ^ 49 else if leb 230 step then 1 else pressedAgain step
+
+-- the same; B is called again from step 330 on, in which the crossing is idle again, and A is extended from then on
+unfoldable pub calledAgain : ℕ → ℕ
+calledAgain step = if leb 330 step then 3 else pressedAgain step
 
 -- the detectors of B and C in step 1, and that of A in step 40, when A is being left for B
 unfoldable pub thenA : ℕ → ℕ

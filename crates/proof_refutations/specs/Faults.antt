@@ -1,6 +1,6 @@
 -- Controllers that must not pass: each is the controller of the scanning rules with its verdict, its step or its wait replaced. For the same
--- calls the scanning rules answer as the rules do (`RunForgets`). The last three are the controller of the timed rules with its retiming replaced,
--- and that of the scanning timed rules (`TimedRunForgets`) with its search for the next phase replaced.
+-- calls the scanning rules answer as the rules do (`RunForgets`). The last four are the controller of the timed rules with its retiming replaced,
+-- and that of the scanning timed rules (`TimedRunForgets`) with its search for the next phase or its counts replaced.
 use Prim.Native.Nat.{ℕ, _+_, _-_, _^_}
 use mathlib.Core.Bool.{Bool, not, _&&_, _||_}
 use mathlib.Core.List.{List}
@@ -21,7 +21,7 @@ use Rattle.rules.specs.declared.state.State.{State}
 use Rattle.rules.specs.declared.state.TimedState.{TimedState}
 use Rattle.laws.specs.Folds.{if_then_else_, sumOf}
 use Rattle.rules.specs.Site.{phaseTimes, ring}
-use Rattle.rules.specs.IntervalTable.{intervalRow, isIdle, isWalk, isStartRed}
+use Rattle.rules.specs.IntervalTable.{intervalRow, isIdle, isWalk, isStartRed, isHeld}
 use Rattle.rules.specs.Personality.{verdictOf}
 use Rattle.rules.specs.State.{movement}
 use Rattle.rules.specs.Demands.{pressed, demanded, firstIn, nextDemanded}
@@ -31,8 +31,9 @@ use Rattle.rules.specs.WaitBound.{phaseShare, longestWalk, longestClearance}
 use Rattle.rules.specs.DemandThree.{Controller, controllerOf}
 use Rattle.rules.specs.Scanning.{withoutKept}
 use Rattle.rules.specs.Timed.{noneWaiting}
-use Rattle.rules.specs.TimedCall.{timedParts}
+use Rattle.rules.specs.TimedCall.{timedParts, retimed}
 use Rattle.rules.specs.TimedDemandThree.{TimedController, timedControllerOf}
+use Rattle.rules.specs.TimedScanning.{partsFinding}
 
 -- `scanning` is `faulty verdictOf stepped waitBound`
 abbrev pub faulty : (List ℕ → Verdict) → (Site → State → ℕ → State) → (Site → ℕ) → Controller State
@@ -145,3 +146,35 @@ backTo (Phase p) site s inputs = if demandedElse site s inputs p then Phase p el
 
 unfoldable pub goesBack : Site → State → ℕ → Held
 goesBack site s inputs = backTo (s .position .previous) site s inputs
+
+-- ── Counts that are wrong ──
+
+-- the maximum count is set back when no other phase is demanded, so when a call without lock drops away
+unfoldable pub setBack : Site → TimedState → ℕ → TimedState
+setBack site s inputs =
+    let core = s .core in
+    let counts : Counts =
+    if isHeld (nextDemanded site core inputs) then core .counts else record { gap = core .counts .gap; maximum = 0 } in
+    record {
+      core = record { position = core .position; counts = counts; demands = core .demands; movements = core .movements };
+      kept = s .kept;
+      ruling = s .ruling;
+      waiting = s .waiting;
+    }
+
+-- each step is that of the scanning timed rules from such a state
+abbrev pub settingBack : TimedController TimedState
+settingBack =
+    let parts = partsFinding nextDemanded in
+    timedControllerOf
+    (record {
+      verdict = parts .verdict;
+      fresh = parts .fresh;
+      valid = parts .valid;
+      step = λ site s inputs. parts .step site (setBack site s inputs) inputs;
+      wait = parts .wait;
+      seen = parts .seen;
+      ruling = parts .ruling;
+    })
+    (λ s. s .waiting .present)
+    retimed

@@ -1,4 +1,5 @@
--- What is shown of the controllers that must not pass: demand 3, or that no phase starts twice while a demand waits, is false of each.
+-- What is shown of the controllers that must not pass: demand 3, or that no phase starts twice while a demand waits, or that every wait is met, is
+-- false of each.
 use Prim.Native.Nat.{ℕ}
 use mathlib.Core.List.{List}
 use mathlib.Core.Path.{_≡_}
@@ -11,11 +12,13 @@ use Rattle.rules.specs.WaitBound.{waitBound}
 use Rattle.rules.specs.DemandThree.{ruled, Call, takenFrom, accepted, DemandsMet, DemandThreeOf}
 use Rattle.rules.specs.TimedDemandThree.{TimedDemandThreeOf}
 use Rattle.rules.specs.OnceEach.{OnceEachOf}
+use Rattle.rules.specs.PhaseWaits.{EveryPlainWaitMetOf}
 use Rattle.rules.specs.TimedScanning.{finding}
-use Rattle.proof_refutations.specs.Faults.{faulty, passesTen, agesOnly, neverAlters, leavesTheSite, endsOnTimer, choosesAgain, choosesEarlyAgain, dropsPresses, inventedBound, smallBound, ruledNow, retiming, fromTheBeginning, goesBack}
+use Rattle.proof_refutations.specs.Faults.{faulty, passesTen, agesOnly, neverAlters, leavesTheSite, endsOnTimer, choosesAgain, choosesEarlyAgain, dropsPresses, inventedBound, smallBound, ruledNow, retiming, fromTheBeginning, goesBack, settingBack}
 
 -- Ten controllers. One that sets the maximum count back when a non-locking demand drops away is not among them: demand 3 does not see it,
--- since it speaks of locked and button demands, which never drop away. Demand 2 shuts it out: the contract of a step gives the count.
+-- since its bound leaves room for a count that begins again. The waits see it, below; and demand 2 shuts it out: the contract of a step gives the
+-- count.
 pub record Refutations : Type 0 where
   -- part a
   pub passesTen : ¬ DemandThreeOf (faulty passesTen stepped waitBound)
@@ -49,3 +52,8 @@ RulesAtOnceFails = ¬ TimedDemandThreeOf (retiming ruledNow)
 pub record StartsTwice : Type 0 where
   pub fromTheBeginning : ¬ OnceEachOf (finding fromTheBeginning)
   pub goesBack : ¬ OnceEachOf (finding goesBack)
+
+-- A controller that sets the maximum count back when a call without lock drops away lets a button wait longer than the wait of its movement: 489
+-- further steps where fewer than 400 are promised. The wait bound of the site is 920, so demand 3 does not see it.
+unfoldable pub SettingBackFails : Type 0
+SettingBackFails = ¬ EveryPlainWaitMetOf settingBack

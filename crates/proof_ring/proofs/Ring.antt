@@ -2,19 +2,19 @@
 -- so nothing else does, and a sum over the entries is the sum by index. Where the search for a demanded phase stops at t, another demanded
 -- phase is still ahead with the same phases before it.
 use Prim.Native.Nat.{ℕ, zero, suc, _+_, _≤_, _<_}
-use mathlib.Core.Bool.{Bool, true, false}
+use mathlib.Core.Bool.{Bool, true, false, _||_}
 use mathlib.Core.List.{List, [], _∷_, _++_}
 use mathlib.Core.Logic.{⊎-elim}
 use mathlib.Core.Path.{_≡_, refl, sym, ap, _∙_}
 use native.Mathlib.Omega.{arith}
-use borrow.Author.Tests.{eq-eqb, ne-eqb}
+use borrow.Author.Tests.{eqb-true, eqb-false, eq-eqb, ne-eqb}
 use lib.Dec.{eqb}
 use lib.ListN.{length}
 use Rattle.rules.specs.declared.state.Held.the-variants.{Phase}
 use Rattle.laws.specs.Folds.{if_then_else_, sumOf}
 use Rattle.rules.specs.IntervalTable.{isHeld}
 use Rattle.rules.specs.Demands.{after, before, firstIn}
-use Rattle.laws.proofs.Booleans.{decided, never-both}
+use Rattle.laws.proofs.Booleans.{or-right, decided, never-both}
 use Rattle.laws.proofs.Indices.{below-or-past, same-or-apart}
 use Rattle.laws.proofs.Entries.{total, one, places, In, one-own, one-other, total-ones, sum-of-one, in-none, in-first, in-later, later-in}
 use Rattle.proof_ring.proofs.Entries.{around, in-front, uncut}
@@ -121,6 +121,19 @@ stops-before f d {q} {t} (x ∷ l) m i h e ne =
     (omega (arith, stops-before f d l m (later-in i other) h further ne)))
     (decided (d x))
 
+-- of two phases, one of which stands in the first list and the other does not, the search finds that one
+first-of :
+    (t q : ℕ) (l m : List ℕ) → In t l → places q l ≡ 0 → firstIn (λ x. eqb x t || eqb x q) (l ++ m) ≡ Phase t
+unfolding firstIn total
+first-of t q [] m i none = absurd (in-none i)
+first-of t q (x ∷ l) m i none =
+    ⊎-elim
+    (λ (e : eqb x t ≡ true). rw e (ap Phase (eqb-true x t e)))
+    (λ (e : eqb x t ≡ false).
+    rw (e, ne-eqb x q (λ r. omega (arith, one-own q, ap (one q) r)))
+    (first-of t q l m (later-in i (eqb-false x t e)) (omega arith)))
+    (decided (eqb x t))
+
 module _ {n : ℕ} {ring : List ℕ} (ofn : RingOf n ring) where
   stands : {p : ℕ} → p < n → In p ring
   stands {p} h = record { found = omega (arith, ofn .each p h) }
@@ -213,4 +226,45 @@ module _ {n : ℕ} {ring : List ℕ} (ofn : RingOf n ring) where
         (λ (own : p ≡ q). rw own (omega (arith, from-most (found-other d e .0), rest-own)))
         (λ (ne : p ≡ q → ⊥). omega (arith, from-other f ring apart, jump hp ne d h e apart))
         (same-or-apart p q))
+        (same-or-apart t q)
+
+    -- If r comes next after q, the way to q leads through r from r only.
+    past :
+        {r t : ℕ} (k : List ℕ) →
+        turn ring q ≡ k →
+        firstIn (λ x. true) k ≡ Phase r →
+        r < n →
+        (r ≡ q → ⊥) →
+        t < n →
+        (t ≡ r → ⊥) →
+        (t ≡ q → ⊥) →
+        firstIn (λ x. eqb x t || eqb x q) (turn ring r) ≡ Phase t
+    unfolding firstIn total after before
+    past [] same e hr rq ht ne apart = absurd (let z : _≡_ {A = ℕ} 0 1 = cc in omega arith)
+    past {r} {t} (x ∷ l) same e hr rq ht ne apart =
+        let first : x ≡ r = cc in
+        let own : places q (x ∷ l) ≡ 0 = rw same at (own-gone hq) in
+        let found : In t (x ∷ l) = rw same at (turn-in {q = t} {p = q} (stands ht) apart) in
+        rw (turn-on (stands hq) (ofn .each r hr) rq, same, eq-eqb x r first)
+        (first-of t q l (q ∷ []) (later-in found (λ d. ne (sym d ∙ first))) (omega (arith, own)))
+
+    pub from-past :
+        {r t : ℕ} →
+        firstIn (λ x. true) (turn ring q) ≡ Phase r →
+        t < n →
+        (t ≡ r → ⊥) →
+        f r + from f ring q t + f q ≤ sumOf f n
+    from-past {r} {t} e ht ne =
+        let other = found-other (λ x. true) e in
+        let whole = rest-other (other .0) (other .1) in
+        ⊎-elim
+        (λ (same : t ≡ q). rw same (omega (arith, whole, from-own f ring q)))
+        (λ (apart : t ≡ q → ⊥).
+        let test : ℕ → Bool = λ x. eqb x t || eqb x q in
+        omega (
+          arith,
+          whole,
+          nearer (other .0) test (or-right (eqb q t) (eq-eqb q q refl))
+              (past (turn ring q) refl e (other .0) (other .1) ht ne apart),
+        ))
         (same-or-apart t q)

@@ -1,28 +1,36 @@
 -- A demand across a change of times: what stands stands in the ready state too, a step that meets it is seen to from there, and so is one that
 -- registers it.
 use Prim.Native.Nat.{ℕ, _<_}
-use mathlib.Core.Bool.{Bool, true, false, not}
+use mathlib.Core.Bool.{Bool, true, false, not, _&&_, _||_}
 use mathlib.Core.Path.{_≡_, refl, sym, ap, _∙_}
 use lib.ListN.{getD-replicate}
 use Rattle.rules.specs.declared.site.Site.{Site}
 use Rattle.rules.specs.declared.site.Times.{Times}
 use Rattle.rules.specs.declared.state.State.{State}
+use Rattle.laws.specs.Bytes.{bit}
 use Rattle.rules.specs.State.{idle, locked, asked, movement}
-use Rattle.rules.specs.Demands.{detected, inGreen, pressed, registersLock, registersButton}
+use Rattle.rules.specs.Demands.{pressed, detected, inGreen, registersLock, registersButton, calls, locksAfter, buttonsAfter, demandsAfter, stands, demanded}
 use Rattle.rules.specs.SiteTimes.{under}
 use Rattle.rules.specs.TimedLaws.{readyCore}
 use Rattle.rules.specs.DemandThree.{inMinimumGreen, inWalk, registersLocked, registersPressed, minimumGreenBegins, walkBegins}
 use Rattle.rules.specs.TimedDemandThree.{TimedStep}
+use Rattle.rules.specs.PhaseWaits.{hasStarted, demandedIn}
 use Rattle.laws.proofs.Booleans.{and-left, and-both}
+use Rattle.laws.proofs.ByteSets.{set-same}
 use Rattle.proof_waits.proofs.Registers.{lock-same, button-same}
-use Rattle.proof_waits.proofs.Locks.{LockStands}
-use Rattle.proof_waits.proofs.Buttons.{ButtonStands}
+use Rattle.proof_waits.proofs.Locked.{LockStands}
+use Rattle.proof_waits.proofs.Pressed.{ButtonStands}
+use Rattle.proof_waits.proofs.TurnDemands.{metOrDropped, Away}
 use Rattle.proof_timed.proofs.Induction.{plainFrom, TimedLink, SeenReady}
 
--- in the ready state no movement is in walk
+-- in the ready state every movement is idle, and none is in walk
+pub ready-idle : (k : ℕ) → k < 8 → (s : State) → movement (readyCore s) k ≡ idle
+unfolding movement
+ready-idle k l s = getD-replicate 8 k idle idle l
+
 idle-still : (k : ℕ) → k < 8 → (s : State) → inWalk (readyCore s) k ≡ false
-unfolding inWalk movement
-idle-still k l s = rw (getD-replicate 8 k idle idle l)
+unfolding inWalk
+idle-still k l s = rw (ready-idle k l s)
 
 pub lock-again : (p : ℕ) (s : State) → LockStands p s → LockStands p (readyCore s)
 unfolding locked
@@ -31,6 +39,25 @@ lock-again p s stands = record { locked = stands .locked; away = stands .away }
 pub button-again : (k : ℕ) → k < 8 → (s : State) → ButtonStands k s → ButtonStands k (readyCore s)
 unfolding asked
 button-again k l s stands = record { asked = stands .asked; still = idle-still k l s }
+
+pub away-again : (q : ℕ) (s : State) → Away q s → Away q (readyCore s)
+away-again q s away = away
+
+-- if no movement is in walk, the same phases are demanded in the ready state
+demanded-same :
+    (site : Site) (s : State) (inputs q : ℕ) →
+    ((k : ℕ) → k < 8 → inWalk s k ≡ false) →
+    demanded site (readyCore s) inputs q ≡ demanded site s inputs q
+unfolding demanded calls demandsAfter locksAfter buttonsAfter registersLock registersButton inGreen locked inWalk movement
+demanded-same site s inputs q still =
+    ap (λ (set : ℕ). stands (site .crossings) (site .size .movements) (record { locks = locksAfter site s inputs; buttons = set }) q || calls site s inputs q)
+    (set-same (λ k. bit k (s .demands .buttons) || registersButton (readyCore s .movements) inputs k)
+    (λ k. bit k (s .demands .buttons) || registersButton (s .movements) inputs k)
+    (λ k l. ap (λ (walks : Bool). bit k (s .demands .buttons) || (pressed inputs k && not walks)) (idle-still k l s ∙ sym (still k l))))
+
+pub lasting-seen : (site : Site) (q : ℕ) → SeenReady (metOrDropped site q)
+unfolding minimumGreenBegins inMinimumGreen demandedIn hasStarted
+lasting-seen site q step still h = rw (demanded-same site (step .before) (step .inputs) q still) at h
 
 pub lock-seen : (p : ℕ) → SeenReady (minimumGreenBegins p)
 unfolding minimumGreenBegins inMinimumGreen

@@ -1,8 +1,8 @@
 -- Locked and button demands are met in time, through changes of times too.
 use Prim.Native.Nat.{ℕ, _<_}
 use mathlib.Core.Bool.{true}
-use mathlib.Core.List.{List, _∷_, _++_}
-use mathlib.Core.Path.{_≡_, subst}
+use mathlib.Core.List.{List, _∷_}
+use mathlib.Core.Path.{_≡_}
 use native.Mathlib.Omega.{arith}
 use Rattle.rules.specs.declared.site.Site.{Site}
 use Rattle.rules.specs.declared.site.Times.{Times}
@@ -12,10 +12,12 @@ use Rattle.rules.specs.Laws.{Sound}
 use Rattle.rules.specs.DemandThree.{registersLocked, registersPressed, minimumGreenBegins, walkBegins}
 use Rattle.rules.specs.TimedDemandThree.{TimedStep, MetInTime, TimedDemandsMet}
 use Rattle.proof_runs.proofs.Demanded.{lock-below}
-use Rattle.proof_waits.proofs.Locks.{LockStands, LockLeft, lock-registers, lock-goes, lock-within, lock-never}
-use Rattle.proof_waits.proofs.Buttons.{ButtonStands, ButtonLeft, button-registers, button-goes, button-within, button-never}
+use Rattle.proof_waits.proofs.Locked.{LockStands}
+use Rattle.proof_waits.proofs.Locks.{LockLeft, lock-registers, lock-goes, lock-within, lock-never}
+use Rattle.proof_waits.proofs.Pressed.{ButtonStands}
+use Rattle.proof_waits.proofs.Buttons.{ButtonLeft, button-registers, button-goes, button-within, button-never}
 use Rattle.proof_runs.proofs.Chains.{ValidLink}
-use Rattle.proof_timed.proofs.Induction.{viewed, plainFrom, TimedRun, past, front, met-in-time}
+use Rattle.proof_timed.proofs.Induction.{viewed, plainFrom, TimedRun, part, met-in-time}
 use Rattle.proof_timed.proofs.Across.{lock-again, button-again, lock-seen, button-seen, lock-from, button-from}
 
 module _
@@ -66,9 +68,7 @@ pub timed-demands-met :
     (site : Site) → Sound site → (s : State) (ruling : Times) (steps : List TimedStep) → TimedRun site s ruling steps → TimedDemandsMet site steps
 unfolding TimedDemandsMet
 timed-demands-met site sound s ruling steps run earlier between later step e =
-    let whole = subst (λ (l : List TimedStep). TimedRun site s ruling l) e run in
-    let cut = past site earlier (step ∷ (between ++ later)) s ruling whole in
-    let here = front site (step ∷ between) later (cut .0) (cut .1) (cut .2) in (
-      λ p r. lock-in-time site sound (cut .0) (cut .1) step between here p r,
-      λ k l r. button-in-time site sound (cut .0) (cut .1) step between here k l r,
+    let cut = part site s ruling steps run earlier between later step e in (
+      λ p r. lock-in-time site sound (cut .0) (cut .1) step between (cut .2) p r,
+      λ k l r. button-in-time site sound (cut .0) (cut .1) step between (cut .2) k l r,
     )

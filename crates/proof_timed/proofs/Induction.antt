@@ -1,9 +1,9 @@
 -- Accepted steps with changes of times among them, and induction over them: a plain link under the times that rule, or, where others take over,
--- a plain link under those from the ready state. At a change the bound is set anew.
+-- a plain link under those from the ready state.
 use Prim.Native.Nat.{ℕ, zero, suc, _+_, _≤_, _<_}
 use mathlib.Core.Bool.{Bool, true, false}
 use mathlib.Core.List.{List, [], _∷_, _++_}
-use mathlib.Core.Logic.{_⊎_, ⊎-elim}
+use mathlib.Core.Logic.{_⊎_, inl, inr, ⊎-elim}
 use mathlib.Core.Path.{_≡_, refl, sym, ap, subst, _∙_}
 use native.Mathlib.Omega.{arith}
 use lib.ListN.{length}
@@ -20,10 +20,12 @@ use Rattle.rules.specs.TimedLaws.{readyCore}
 use Rattle.rules.specs.Laws.{Sound}
 use Rattle.rules.specs.DemandThree.{Taken, inWalk, someStep}
 use Rattle.rules.specs.TimedDemandThree.{TimedStep, takens, changedWaits, MetInTime}
+use Rattle.rules.specs.PhaseWaits.{ComesBefore}
 use Rattle.laws.proofs.Booleans.{or-false-left, or-false-right, never-both}
 use Rattle.proof_runs.proofs.ValidStates.{ValidState}
 use Rattle.proof_runs.proofs.Chains.{ValidLink}
-use Rattle.proof_waits.proofs.Demand.{Waits}
+use Rattle.proof_runs.proofs.Each.{Each}
+use Rattle.proof_waits.proofs.Demand.{Waits, waits-on}
 
 -- the step, seen as one from such a state
 abbrev pub viewed : State → Taken → Taken
@@ -47,21 +49,71 @@ abbrev pub TimedRun : Site → State → Times → List TimedStep → Type 0
 TimedRun site s ruling [] = Unit {0}
 TimedRun site s ruling (step ∷ later) = TimedLink site s ruling step × TimedRun site (step .taken .after) (step .ruling) later
 
--- the later steps of a run are linked from the state and the times that the earlier ones lead to
+-- a change is plain from the ready state
+pub ready-link :
+    (site : Site) (s : State) (ruling : Times) (step : TimedStep) →
+    TimedLink site s ruling step →
+    step .changed ≡ true →
+    ValidLink (under site (step .ruling)) (readyCore s) (viewed (readyCore s) (step .taken))
+ready-link site s ruling step link e = by (step .changed) e (link .plain)
+  where
+    by :
+        (c : Bool) →
+        c ≡ true →
+        ValidLink (under site (step .ruling)) (plainFrom c s) (viewed (plainFrom c s) (step .taken)) →
+        ValidLink (under site (step .ruling)) (readyCore s) (viewed (readyCore s) (step .taken))
+    by true e plain = plain
+    by false e plain = absurd (never-both e refl)
+
+-- the later steps of a run are linked from the state and the times that the earlier ones lead to, and what each step keeps holds there
+past-with :
+    (site : Site) (P : Times → State → Type 0) →
+    ((s : State) (ruling : Times) (step : TimedStep) → TimedLink site s ruling step → P ruling s → P (step .ruling) (step .taken .after)) →
+    (earlier later : List TimedStep) (s : State) (ruling : Times) →
+    P ruling s →
+    TimedRun site s ruling (earlier ++ later) →
+    (t : State) × (r : Times) × P r t × TimedRun site t r later
+past-with site P keeps [] later s ruling p run = (s, ruling, p, run)
+past-with site P keeps (step ∷ earlier) later s ruling p run =
+    past-with site P keeps earlier later (step .taken .after) (step .ruling) (keeps s ruling step (run .0) p) (run .1)
+
 pub past :
     (site : Site) (earlier later : List TimedStep) (s : State) (ruling : Times) →
     TimedRun site s ruling (earlier ++ later) →
     (t : State) × (r : Times) × TimedRun site t r later
-past site [] later s ruling run = (s, ruling, run)
-past site (step ∷ earlier) later s ruling run = past site earlier later (step .taken .after) (step .ruling) (run .1)
+past site earlier later s ruling run =
+    let cut = past-with site (λ times s. Unit {0}) (λ s ruling step link p. tt) earlier later s ruling tt run in
+    (cut .0, cut .1, cut .3)
 
 -- the earlier steps of a run are a run
-pub front :
+front :
     (site : Site) (earlier later : List TimedStep) (s : State) (ruling : Times) →
     TimedRun site s ruling (earlier ++ later) →
     TimedRun site s ruling earlier
 front site [] later s ruling run = tt
 front site (step ∷ earlier) later s ruling run = (run .0, front site earlier later (step .taken .after) (step .ruling) (run .1))
+
+-- a part of a run is a run, from a state and times for which holds what each step keeps
+module _ (site : Site) (s : State) (ruling : Times) (steps : List TimedStep) (run : TimedRun site s ruling steps) where
+  pub part-with :
+      (P : Times → State → Type 0) →
+      ((s : State) (ruling : Times) (step : TimedStep) → TimedLink site s ruling step → P ruling s → P (step .ruling) (step .taken .after)) →
+      P ruling s →
+      (earlier between later : List TimedStep) (step : TimedStep) →
+      steps ≡ earlier ++ step ∷ (between ++ later) →
+      (t : State) × (r : Times) × P r t × TimedRun site t r (step ∷ between)
+  part-with P keeps p earlier between later step e =
+      let cut =
+      past-with site P keeps earlier (step ∷ (between ++ later)) s ruling p (subst (λ (l : List TimedStep). TimedRun site s ruling l) e run) in
+      (cut .0, cut .1, cut .2, front site (step ∷ between) later (cut .0) (cut .1) (cut .3))
+
+  pub part :
+      (earlier between later : List TimedStep) (step : TimedStep) →
+      steps ≡ earlier ++ step ∷ (between ++ later) →
+      (t : State) × (r : Times) × TimedRun site t r (step ∷ between)
+  part earlier between later step e =
+      let cut = part-with (λ times s. Unit {0}) (λ s ruling step link p. tt) tt earlier between later step e in
+      (cut .0, cut .1, cut .3)
 
 -- ── A demand of either kind ──
 
@@ -85,6 +137,153 @@ truly site met seen s ruling step link = by (step .changed) refl
         seen (step .taken) (λ k l. ap (λ (b : State). inWalk b k) (link .before) ∙ link .still e k l)
         (ap (λ (b : State). met (viewed (readyCore b) (step .taken))) (link .before) ∙ h)
 
+-- Each step meets the demand, or leaves it standing with one step less of what is left. A change may set what is left anew, at the cost of `more`.
+module _
+    (site : Site) (met : Taken → Bool) (Fits : Times → Type 0) (Stands : State → Type 0) (Left : Times → ℕ → State → Type 0)
+    (more : List TimedStep → ℕ)
+    (goes :
+    (ruling : Times) →
+    Fits ruling →
+    (s : State) (step : Taken) →
+    ValidLink (under site ruling) s step →
+    Stands s →
+    (met step ≡ true) ⊎ Waits Stands (Left ruling) s step)
+    (never : (ruling : Times) (s : State) → Left ruling zero s → ⊥)
+    (again : (s : State) → Stands s → Stands (readyCore s))
+    (costs : (step : TimedStep) (later : List TimedStep) → more later ≤ more (step ∷ later))
+    (across :
+    (s : State) (ruling : Times) (step : TimedStep) (later : List TimedStep) (n : ℕ) →
+    TimedLink site s ruling step →
+    step .changed ≡ true →
+    Stands s →
+    Left ruling n s →
+    (m : ℕ) × (m + more later ≤ n + more (step ∷ later)) × Left (step .ruling) m (readyCore s))
+    (seen : SeenReady met) where
+  -- the demand stands, and so many steps are left at most
+  abbrev Holds : Times → ℕ → State → Type 0
+  Holds ruling n s = Stands s × Left ruling n s
+
+  abbrev AllFit : List TimedStep → Type 0
+  AllFit = Each (λ (step : TimedStep) later. Fits (step .ruling))
+
+  -- some step is left
+  some-left : (s : State) (ruling : Times) (n : ℕ) → Left ruling n s → (m : ℕ) × (n ≡ suc m)
+  some-left s ruling zero h = absurd (never ruling s h)
+  some-left s ruling (suc n) h = (n, refl)
+
+  -- what is left in the state that a step is plain from
+  plain-holds :
+      (s : State) (ruling : Times) (step : TimedStep) (later : List TimedStep) (n : ℕ) →
+      TimedLink site s ruling step →
+      Holds ruling n s →
+      (m : ℕ) × (m + more later ≤ n + more (step ∷ later)) × Holds (step .ruling) m (plainFrom (step .changed) s)
+  plain-holds s ruling step later n link w = by (step .changed) refl
+    where
+      by : (c : Bool) → step .changed ≡ c → (m : ℕ) × (m + more later ≤ n + more (step ∷ later)) × Holds (step .ruling) m (plainFrom c s)
+      by true e = let over = across s ruling step later n link e (w .0) (w .1) in (over .0, over .1, (again s (w .0), over .2))
+      by false e = (n, omega (arith, costs step later), (w .0, subst (λ (r : Times). Left r n s) (sym (link .kept e)) (w .1)))
+
+  -- a step that does not meet the demand leaves it standing
+  standing-after :
+      (s : State) (ruling : Times) (step : TimedStep) (n : ℕ) →
+      TimedLink site s ruling step →
+      (met (viewed (plainFrom (step .changed) s) (step .taken)) ≡ true) ⊎ Holds (step .ruling) n (step .taken .after) →
+      met (step .taken) ≡ false →
+      Holds (step .ruling) n (step .taken .after)
+  standing-after s ruling step n link first none =
+      ⊎-elim
+      (λ (e : met (viewed (plainFrom (step .changed) s) (step .taken)) ≡ true). absurd (never-both (truly site met seen s ruling step link e) none))
+      (λ (holds : Holds (step .ruling) n (step .taken .after)). holds)
+      first
+
+  lasts :
+      (steps : List TimedStep) (s : State) (ruling : Times) (n : ℕ) →
+      TimedRun site s ruling steps →
+      AllFit steps →
+      Holds ruling n s →
+      someStep met (takens steps) ≡ false →
+      length steps < n + more steps
+  unfolding someStep
+  lasts [] s ruling n run fit w none = omega (arith, some-left s ruling n (w .1) .1)
+  lasts (step ∷ later) s ruling n run fit w none =
+      let from = plainFrom (step .changed) s in
+      let plain = plain-holds s ruling step later n (run .0) w in
+      let left = some-left from (step .ruling) (plain .0) (plain .2 .1) in
+      let after =
+      standing-after s ruling step (left .0) (run .0)
+      (waits-on (left .0) (subst (λ (k : ℕ). Left (step .ruling) k from) (left .1) (plain .2 .1))
+      (goes (step .ruling) (fit .0) from (viewed from (step .taken)) (run .0 .plain) (plain .2 .0)))
+      (or-false-left (met (step .taken)) (someStep met (takens later)) none) in
+      let rest =
+      lasts later (step .taken .after) (step .ruling) (left .0) (run .1) (fit .1) after
+      (or-false-right (met (step .taken)) (someStep met (takens later)) none) in
+      omega (arith, rest, left .1, plain .1)
+
+  -- from a step on that meets the demand or leaves it standing
+  pub from-step :
+      (s : State) (ruling : Times) (step : TimedStep) (later : List TimedStep) (n : ℕ) →
+      TimedRun site s ruling (step ∷ later) →
+      AllFit later →
+      (met (viewed (plainFrom (step .changed) s) (step .taken)) ≡ true) ⊎ Holds (step .ruling) n (step .taken .after) →
+      someStep met (takens (step ∷ later)) ≡ false →
+      length later < n + more later
+  unfolding someStep
+  from-step s ruling step later n run fit first none =
+      lasts later (step .taken .after) (step .ruling) n (run .1) fit
+      (standing-after s ruling step n (run .0) first (or-false-left (met (step .taken)) (someStep met (takens later)) none))
+      (or-false-right (met (step .taken)) (someStep met (takens later)) none)
+
+-- ── Within a wait ──
+
+-- A change leaves as much as there was.
+module _
+    (site : Site) (met : Taken → Bool) (Fits : Times → Type 0) (Stands : State → Type 0) (Left : Times → ℕ → State → Type 0)
+    (goes :
+    (ruling : Times) →
+    Fits ruling →
+    (s : State) (step : Taken) →
+    ValidLink (under site ruling) s step →
+    Stands s →
+    (met step ≡ true) ⊎ Waits Stands (Left ruling) s step)
+    (never : (ruling : Times) (s : State) → Left ruling zero s → ⊥)
+    (again : (s : State) → Stands s → Stands (readyCore s))
+    (across :
+    (s : State) (ruling : Times) (step : TimedStep) (n : ℕ) →
+    TimedLink site s ruling step →
+    step .changed ≡ true →
+    Left ruling n s →
+    Left (step .ruling) n (readyCore s))
+    (seen : SeenReady met) where
+  -- from the step that registers it on, if no more than the wait is left in the state that it is plain from
+  pub comes-before :
+      (s : State) (ruling : Times) (step : TimedStep) (between : List TimedStep) (wait : ℕ) →
+      TimedRun site s ruling (step ∷ between) →
+      Each (λ (step : TimedStep) later. Fits (step .ruling)) between →
+      (let from = plainFrom (step .changed) s in
+      Left (step .ruling) wait from →
+      (met (viewed from (step .taken)) ≡ true) ⊎ Waits Stands (Left (step .ruling)) from (viewed from (step .taken)) →
+      ComesBefore wait met (step ∷ between))
+  unfolding ComesBefore
+  comes-before s ruling step between zero run fit left first none = absurd (never (step .ruling) (plainFrom (step .changed) s) left)
+  comes-before s ruling step between (suc n) run fit left first none =
+      let rest =
+      from-step site met Fits Stands Left (λ steps. 0) goes never again (λ step later. omega arith)
+      (λ s ruling step later n link changed stands left. (n, omega arith, across s ruling step n link changed left))
+      seen
+      s
+      ruling
+      step
+      between
+      n
+      run
+      fit
+      (waits-on n left first)
+      none in
+      omega (arith, rest)
+
+-- ── Within the wait bound ──
+
+-- At a change the bound is set anew.
 module _
     (site : Site) (met : Taken → Bool) (Stands : State → Type 0) (Left : Times → ℕ → State → Type 0)
     (goes :
@@ -102,80 +301,50 @@ module _
     (never : (ruling : Times) (s : State) → Left ruling zero s → ⊥)
     (again : (s : State) → Stands s → Stands (readyCore s))
     (seen : SeenReady met) where
-  -- the demand waits on, seen from the state that the step is plain from
-  abbrev WaitsFrom : Bool → State → TimedStep → Type 0
-  WaitsFrom changed s step = Waits Stands (Left (step .ruling)) (plainFrom changed s) (viewed (plainFrom changed s) (step .taken))
+  costs : (step : TimedStep) (later : List TimedStep) → changedWaits site later ≤ changedWaits site (step ∷ later)
+  unfolding changedWaits
+  costs step later = omega arith
 
-  -- the demand stands, and so many steps are left at most
-  abbrev Holds : State → Times → ℕ → Type 0
-  Holds s ruling n = Stands s × Left ruling n s
-
-  -- some step is left
-  some-left : (s : State) (ruling : Times) (n : ℕ) → Left ruling n s → (m : ℕ) × (n ≡ suc m)
-  some-left s ruling zero h = absurd (never ruling s h)
-  some-left s ruling (suc n) h = (n, refl)
-
-  -- what is left after a step that is plain, or a change
-  one-step :
-      (s : State) (ruling : Times) (step : TimedStep) (n : ℕ) →
+  anew :
+      (s : State) (ruling : Times) (step : TimedStep) (later : List TimedStep) (n : ℕ) →
       TimedLink site s ruling step →
-      met (step .taken) ≡ false →
-      Holds s ruling n →
-      (m : ℕ) × (suc m ≤ n + (if step .changed then waitBound (under site (step .ruling)) else 0)) × Holds (step .taken .after) (step .ruling) m
-  one-step s ruling step n link none w =
-      let from = plainFrom (step .changed) s in
-      decide (step .changed) refl (link .plain)
-      (⊎-elim
-      (λ (e : met (viewed from (step .taken)) ≡ true). absurd (never-both (truly site met seen s ruling step link e) none))
-      (λ (waits : WaitsFrom (step .changed) s step). waits)
-      (goes (step .ruling) from (viewed from (step .taken)) (link .plain) (stands-from (step .changed))))
-    where
-      stands-from : (changed : Bool) → Stands (plainFrom changed s)
-      stands-from true = again s (w .0)
-      stands-from false = w .0
-
-      decide :
-          (changed : Bool) →
-          step .changed ≡ changed →
-          ValidLink (under site (step .ruling)) (plainFrom changed s) (viewed (plainFrom changed s) (step .taken)) →
-          WaitsFrom changed s step →
-          (m : ℕ) × (suc m ≤ n + (if changed then waitBound (under site (step .ruling)) else 0)) × Holds (step .taken .after) (step .ruling) m
-      decide false e plain waits =
-          let left = some-left s ruling n (w .1) in
-          let here = subst (λ (r : Times). Left r (suc (left .0)) s) (sym (link .kept e)) (subst (λ (k : ℕ). Left ruling k s) (left .1) (w .1)) in
-          (left .0, omega (arith, left .1), (waits .stands, waits .falls (left .0) here))
-      decide true e plain waits =
-          let anew = within (step .ruling) (plain .sound) (readyCore s) (plain .here) (stands-from true) in
-          let left = some-left (readyCore s) (step .ruling) (waitBound (under site (step .ruling))) anew in
-          let here = subst (λ (k : ℕ). Left (step .ruling) k (readyCore s)) (left .1) anew in
-          (left .0, omega (arith, left .1), (waits .stands, waits .falls (left .0) here))
-
-  lasts :
-      (between : List TimedStep) (s : State) (ruling : Times) (n : ℕ) →
-      TimedRun site s ruling between →
-      Holds s ruling n →
-      someStep met (takens between) ≡ false →
-      length between < n + changedWaits site between
-  unfolding changedWaits someStep
-  lasts [] s ruling n run w none = omega (arith, some-left s ruling n (w .1) .1)
-  lasts (step ∷ later) s ruling n run w none =
-      let one = one-step s ruling step n (run .0) (or-false-left (met (step .taken)) (someStep met (takens later)) none) w in
-      let rest = or-false-right (met (step .taken)) (someStep met (takens later)) none in
-      omega (arith, one .1, lasts later (step .taken .after) (step .ruling) (one .0) (run .1) (one .2) rest)
+      step .changed ≡ true →
+      Stands s →
+      Left ruling n s →
+      (m : ℕ) × (m + changedWaits site later ≤ n + changedWaits site (step ∷ later)) × Left (step .ruling) m (readyCore s)
+  unfolding changedWaits
+  anew s ruling step later n link e stands left =
+      let plain = ready-link site s ruling step link e in (
+        waitBound (under site (step .ruling)),
+        rw e (omega arith),
+        within (step .ruling) (plain .sound) (readyCore s) (plain .here) (again s stands),
+      )
 
   -- from the step that registers it on
   pub met-in-time :
       (s : State) (ruling : Times) (step : TimedStep) (between : List TimedStep) →
       TimedRun site s ruling (step ∷ between) →
-      (met (viewed (plainFrom (step .changed) s) (step .taken)) ≡ true) ⊎ WaitsFrom (step .changed) s step →
+      (let from = plainFrom (step .changed) s in
+      (met (viewed from (step .taken)) ≡ true) ⊎ Waits Stands (Left (step .ruling)) from (viewed from (step .taken))) →
       MetInTime site met step between
-  unfolding MetInTime someStep
-  met-in-time s ruling step between run first none =
-      ⊎-elim
-      (λ (e : met (viewed (plainFrom (step .changed) s) (step .taken)) ≡ true).
-      absurd (never-both (truly site met seen s ruling step (run .0) e) (or-false-left (met (step .taken)) (someStep met (takens between)) none)))
-      (λ (waits : WaitsFrom (step .changed) s step).
-      lasts between (step .taken .after) (step .ruling) (waitBound (under site (step .ruling))) (run .1)
-      (waits .stands, within (step .ruling) (run .0 .plain .sound) (step .taken .after) (run .0 .plain .there) (waits .stands))
-      (or-false-right (met (step .taken)) (someStep met (takens between)) none))
-      first
+  unfolding MetInTime
+  met-in-time s ruling step between run first =
+      from-step site met (λ times. Unit {0}) Stands Left (changedWaits site) (λ times fits. goes times) never again costs anew seen s ruling step between
+      (waitBound (under site (step .ruling)))
+      run
+      (all-fit between)
+      (holds first)
+    where
+      all-fit : (steps : List TimedStep) → Each (λ (step : TimedStep) later. Unit {0}) steps
+      all-fit [] = tt
+      all-fit (step ∷ later) = (tt, all-fit later)
+
+      holds :
+          {b : Bool} →
+          (b ≡ true) ⊎ Waits Stands (Left (step .ruling)) (plainFrom (step .changed) s) (viewed (plainFrom (step .changed) s) (step .taken)) →
+          (b ≡ true) ⊎ (Stands (step .taken .after) × Left (step .ruling) (waitBound (under site (step .ruling))) (step .taken .after))
+      holds (inl e) = inl e
+      holds (inr waits) = inr (
+        waits .stands,
+        within (step .ruling) (run .0 .plain .sound) (step .taken .after) (run .0 .plain .there) (waits .stands),
+      )

@@ -7,3 +7,6 @@ pub mod PedestrianClearances
 pub mod Clearances
 pub mod Across
 pub mod Demands
+pub mod TurnsAcross
+pub mod PhaseWaits
+pub mod WaitSums

@@ -14,20 +14,21 @@ use Rattle.rules.specs.Site.{phaseTimes}
 use Rattle.rules.specs.IntervalTable.{phaseHeld, isLeaving, isStartRed}
 use Rattle.rules.specs.State.{movement}
 use Rattle.rules.specs.WaitBound.{phaseShare, waitBound, waitBoundBy}
+use Rattle.rules.specs.Waits.{leavingOf}
 use Rattle.rules.specs.Laws.{Sound}
 use Rattle.laws.proofs.Sums.{sum-at, sum-both}
 use Rattle.proof_runs.proofs.ValidStates.{ValidState, leaving-target}
 use Rattle.proof_runs.proofs.Steps.{timesNow}
 use Rattle.proof_waits.proofs.Stages.{longestWalk, longestClearance, outs, idles, outs-most, clear-most}
 use Rattle.rules.proofs.Settings.{Timed, phase-timed, start-timed}
-use Rattle.proof_waits.proofs.Left.{Each, leavingTime, visit, fromLeaving, fromRunning, LeftIn, Left}
+use Rattle.proof_waits.proofs.Left.{Each, visit, fromLeaving, fromRunning, LeftIn, Left}
 use Rattle.proof_waits.proofs.Falls.{running-whole}
 
 -- ── The bound's two parts ──
 
 -- what the bound counts a second time
-pub again : Site → ℕ → ℕ
-again site p = longestWalk site p + leavingTime (phaseTimes (site .times) p) + longestClearance site p
+unfoldable pub again : Site → ℕ → ℕ
+again site p = longestWalk site p + leavingOf (phaseTimes (site .times) p) + longestClearance site p
 
 -- all visits
 abbrev pub visits : Site → ℕ
@@ -87,7 +88,7 @@ module _
     leaving-within :
         isLeaving (s .position .interval) ≡ true →
         (timer : ℕ) →
-        timer ≤ site .times .start + leavingTime (timesNow site s) →
+        timer ≤ site .times .start + leavingOf (timesNow site s) →
         Each timer (ahead (phaseHeld (s .position .target))) (idles site s) (waitBound site)
     unfolding again
     leaving-within h timer most = (omega (arith, bound, target-far h), λ k l. omega (arith, bound, target-far h, idles-clear h k l))

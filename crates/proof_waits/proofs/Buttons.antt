@@ -1,45 +1,39 @@
 -- A button demand of a movement m of phase q: its walk begins when phase q starts. While phase q has a movement m that is idle and
 -- demanded, running either begins the walk or goes on to another phase, and while m is not idle the steps until it is fall. While the demand
--- stands m is not in walk, for a press in walk is not registered and the beginning of a walk clears the demand: no walk that rests is waited for.
+-- stands m is not in walk: no walk that rests is waited for.
 use Prim.Native.Nat.{ℕ, zero, suc, _<_}
 use mathlib.Core.Bool.{true, false, not}
-use mathlib.Core.Logic.{_⊎_, inl, inr, ⊎-elim}
+use mathlib.Core.Logic.{_⊎_, ⊎-elim}
 use mathlib.Core.Path.{_≡_, sym, ap, _∙_}
 use native.Mathlib.Omega.{arith}
-use borrow.Author.Tests.{not-true}
 use Rattle.rules.specs.declared.site.Site.{Site}
 use Rattle.rules.specs.declared.state.Interval.the-variants.{Running}
-use Rattle.rules.specs.declared.state.Movement.{Movement}
 use Rattle.rules.specs.declared.state.Position.{Position}
 use Rattle.rules.specs.declared.state.State.{State}
 use Rattle.rules.specs.Site.{walkTimes, crosses}
-use Rattle.rules.specs.IntervalTable.{isIdle, isWalk, isRunning}
-use Rattle.rules.specs.State.{asked, movement}
-use Rattle.rules.specs.Demands.{pressed, registersButton}
+use Rattle.rules.specs.IntervalTable.{isIdle, isRunning}
+use Rattle.rules.specs.State.{movement}
+use Rattle.rules.specs.Demands.{registersButton}
 use Rattle.rules.specs.Interval.{ends, starting, staying}
 use Rattle.rules.specs.Step.{stepped}
 use Rattle.rules.specs.WaitBound.{waitBound}
 use Rattle.rules.specs.Laws.{Sound}
 use Rattle.rules.specs.DemandThree.{Taken, inWalk, walkBegins}
-use Rattle.laws.proofs.Booleans.{and-right, and-both, or-left, or-right, decided, never-both, not-false-true}
+use Rattle.laws.proofs.Booleans.{and-both, or-right, decided, never-both, not-false-true}
 use Rattle.laws.proofs.Indices.{same-or-apart}
 use Rattle.proof_runs.proofs.ValidStates.{ValidState}
-use Rattle.proof_runs.proofs.Steps.{another, mayEnd, ended, now, started, moved, askedNow, begun, position-of, asked-of, movement-of}
+use Rattle.proof_runs.proofs.Steps.{another, mayEnd, ended, now, started, moved, askedNow, begun, position-of}
 use Rattle.proof_runs.proofs.Demanded.{button-demands}
 use Rattle.proof_runs.proofs.Ends.{ended-in, now-in}
 use Rattle.proof_runs.proofs.Chains.{ValidLink}
-use Rattle.proof_waits.proofs.Stages.{idles, walk-kept-out, idle-told, idle-none, idle-kept, idle-most}
+use Rattle.proof_waits.proofs.Stages.{idles, idle-told, idle-none, idle-kept, idle-most}
 use Rattle.proof_waits.proofs.Left.{visit, Left, never-none}
-use Rattle.proof_waits.proofs.Moves.{moved-on, idles-fall}
+use Rattle.proof_waits.proofs.Moves.{idles-fall}
 use Rattle.proof_waits.proofs.Progress.{Standing, Starts, progress}
 use Rattle.proof_waits.proofs.Bound.{left-within}
 use Rattle.proof_waits.proofs.Paths.{ringIn, ahead, onward, ahead-apart, ahead-most, onward-most, onward-own, demanded-another, next-near}
+use Rattle.proof_waits.proofs.Pressed.{ButtonStands, button-room, not-started, button-registers-by, button-goes-by}
 use Rattle.proof_waits.proofs.Demand.{Waits}
-
--- the button is set, and the movement is not in walk
-pub record ButtonStands (m : ℕ) (s : State) : Type 0 where
-  pub asked : asked s m ≡ true
-  pub still : inWalk s m ≡ false
 
 -- the way to phase q, weighed by the visits
 abbrev here : Site → ℕ → ℕ → ℕ
@@ -60,8 +54,8 @@ module _
     (crossing : crosses (site .crossings) m q ≡ true)
     (only : (p : ℕ) → crosses (site .crossings) m p ≡ true → p ≡ q)
   where
-    button-room : m < 8
-    button-room = omega (arith, sound .movements)
+    room : m < 8
+    room = button-room site sound q m exists crossing
 
     -- a movement of another phase is idle
     gone : (s : State) → ValidState site s → (s .position .phase ≡ q → ⊥) → idles site s m ≡ 0
@@ -70,7 +64,7 @@ module _
         ⊎-elim
         (idle-none (walkTimes (site .times) m) (movement s m .age) (movement s m .stage))
         (λ (h : isIdle (movement s m .stage) ≡ false).
-        absurd (other (only (s .position .phase) (v .movements m button-room .ofPhase h .1))))
+        absurd (other (only (s .position .phase) (v .movements m room .ofPhase h .1))))
         (decided (isIdle (movement s m .stage)))
 
     -- ── A step in which its walk does not begin ──
@@ -79,21 +73,7 @@ module _
       abbrev next : State
       next = stepped site s inputs
 
-      asked-kept : asked next m ≡ true
-      asked-kept = asked-of site s inputs m button-room ∙ and-both standing (ap not quiet)
-
-      still-kept : inWalk s m ≡ false → inWalk next m ≡ false
-      unfolding inWalk moved
-      still-kept h =
-          ap (λ (k : Movement). isWalk (k .stage)) (moved-on site s inputs m button-room quiet)
-          ∙ walk-kept-out (mayEnd site s inputs) (walkTimes (site .times) m) (movement s m .age) (movement s m .stage) h
-
-      -- the phase does not start: the walk would begin
-      pub not-started : started site s inputs ≡ true → now site s inputs .phase ≡ q → ⊥
-      unfolding begun
-      not-started h e = never-both (and-both (and-both standing (ap (crosses (site .crossings) m) e ∙ crossing)) (or-left _ h)) quiet
-
-      -- nor does it run with the movement idle and no other phase demanded
+      -- the phase does not run with the movement idle and no other phase demanded
       not-alone : s .position .interval ≡ Running → s .position .phase ≡ q → idles site s m ≡ 0 → another site s inputs ≡ false → ⊥
       unfolding begun ends staying moved idles
       not-alone i e z a =
@@ -114,7 +94,7 @@ module _
         stand : Standing site (here site q) (beyond site q) q s inputs (idles site s m) (idles site next m)
         unfolding inWalk
         stand =
-            let demanded = button-demands site s inputs m q button-room exists crossing standing in
+            let demanded = button-demands site s inputs m q room exists crossing standing in
             record {
               apart = ahead-apart (visit site) (ringIn site) q 0;
               found = next-near site q sound below s inputs demanded (visit site) 0 (v .phase);
@@ -123,7 +103,7 @@ module _
                   (λ (same : s .position .phase ≡ q). not-false-true (another site s inputs) (not-alone i same z))
                   (demanded-another site q sound below s inputs demanded)
                   (same-or-apart (s .position .phase) q);
-              fewer = idles-fall site s inputs sound v m button-room still quiet;
+              fewer = idles-fall site s inputs sound v m room still quiet;
               gone = gone next v';
             }
 
@@ -132,52 +112,30 @@ module _
         button-falls n h =
             ⊎-elim
             (λ (starts : Starts site (here site q) q s inputs n).
-            absurd (not-started (starts .starts)
+            absurd (not-started site sound q m exists crossing s inputs standing quiet (starts .starts)
             (ap (λ (p : Position). p .phase) (sym (position-of site s inputs) ∙ starts .position))))
             (λ (left : ButtonLeft site q m n next). left)
             (progress site sound (here site q) (beyond site q) q s inputs v v' (idles site s m) (idles site next m) stand n h)
 
     -- ── A step ──
 
-    walk-entered : (s : State) (inputs : ℕ) → begun site s inputs m ≡ true → inWalk (stepped site s inputs) m ≡ true
-    unfolding inWalk
-    walk-entered s inputs b = rw (movement-of site s inputs m button-room, b)
-
     module _ (s : State) (step : Taken) (link : ValidLink site s step) where
-      -- the step begins the walk, or the demand waits on
-      button-step :
+      falls-on :
           askedNow site s (step .inputs) m ≡ true →
+          begun site s (step .inputs) m ≡ false →
           inWalk s m ≡ false →
-          (walkBegins m step ≡ true) ⊎ Waits (ButtonStands m) (ButtonLeft site q m) s step
-      unfolding walkBegins
-      button-step standing still =
-          ⊎-elim
-          (λ (b : begun site s (step .inputs) m ≡ true).
-          inl (rw (link .taken .before, link .taken .after) (and-both (walk-entered s (step .inputs) b) (ap not still))))
-          (λ (b : begun site s (step .inputs) m ≡ false).
-          inr (record {
-            stands =
-                rw (link .taken .after) (record {
-                  asked = asked-kept s (step .inputs) standing b;
-                  still = still-kept s (step .inputs) standing b still;
-                });
-            falls = λ n left.
-                rw (link .taken .after)
-                (button-falls s (step .inputs) standing b (link .here) (rw (link .taken .after) at (link .there)) still n left);
-          }))
-          (decided (begun site s (step .inputs) m))
+          (n : ℕ) →
+          ButtonLeft site q m (suc n) s →
+          ButtonLeft site q m n (stepped site s (step .inputs))
+      falls-on standing quiet = button-falls s (step .inputs) standing quiet (link .here) (rw (link .taken .after) at (link .there))
 
       pub button-registers :
           registersButton (s .movements) (step .inputs) m ≡ true →
           (walkBegins m step ≡ true) ⊎ Waits (ButtonStands m) (ButtonLeft site q m) s step
-      unfolding registersButton askedNow inWalk movement
-      button-registers r =
-          button-step (or-right (asked s m) r)
-          (not-true (isWalk (movement s m .stage)) (and-right (pressed (step .inputs) m) _ r))
+      button-registers = button-registers-by site sound q m exists crossing (ButtonLeft site q m) s step link falls-on
 
       pub button-goes : ButtonStands m s → (walkBegins m step ≡ true) ⊎ Waits (ButtonStands m) (ButtonLeft site q m) s step
-      unfolding askedNow
-      button-goes stands = button-step (or-left (registersButton (s .movements) (step .inputs) m) (stands .asked)) (stands .still)
+      button-goes = button-goes-by site sound q m exists crossing (ButtonLeft site q m) s step link falls-on
 
     -- ── No more is left than the wait bound ──
 
@@ -185,13 +143,13 @@ module _
     unfolding idles
     button-within s v stands =
         left-within site sound (here site q) (beyond site q) (idles site s m) s v
-        (ahead-most site q sound below (visit site) 0 (omega arith))
+        (λ t l. omega (arith, ahead-most site q sound below (visit site) 0 t l))
         (λ red leaving.
         ⊎-elim
         (λ (same : s .position .phase ≡ q). rw same (omega (arith, onward-own site q sound below (visit site) 0)))
-        (onward-most site q sound below (visit site) 0 (omega arith) (s .position .phase) (v .phase))
+        (λ (other : s .position .phase ≡ q → ⊥). omega (arith, onward-most site q sound below (visit site) 0 (s .position .phase) (v .phase) other))
         (same-or-apart (s .position .phase) q))
-        (idle-most site sound (s .position) m (movement s m) (v .movements m button-room))
+        (idle-most site sound (s .position) m (movement s m) (v .movements m room))
 
 pub button-never : (site : Site) (q m : ℕ) (s : State) → ButtonLeft site q m zero s → ⊥
 button-never site q m s h = never-none site (here site q) (beyond site q) (idles site s m) s h

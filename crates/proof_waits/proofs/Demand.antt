@@ -19,3 +19,12 @@ pub standing-on :
     (met ≡ true) ⊎ Stands (step .after)
 standing-on (inl e) = inl e
 standing-on (inr waits) = inr (waits .stands)
+
+-- and how many steps are left
+pub waits-on :
+    {met : Bool} {Stands : State → Type 0} {Left : ℕ → State → Type 0} {s : State} {step : Taken} (n : ℕ) →
+    Left (suc n) s →
+    (met ≡ true) ⊎ Waits Stands Left s step →
+    (met ≡ true) ⊎ (Stands (step .after) × Left n (step .after))
+waits-on n left (inl e) = inl e
+waits-on n left (inr waits) = inr (waits .stands, waits .falls n left)

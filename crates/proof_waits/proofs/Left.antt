@@ -10,6 +10,7 @@ use Rattle.rules.specs.declared.state.Position.{Position}
 use Rattle.rules.specs.declared.state.State.{State}
 use Rattle.rules.specs.Site.{phaseTimes}
 use Rattle.rules.specs.IntervalTable.{phaseHeld}
+use Rattle.rules.specs.Waits.{leavingOf}
 use Rattle.proof_waits.proofs.Stages.{longestWalk, longestClearance, outs, idles}
 
 -- a timer, and the count of each movement, each with what follows it
@@ -23,21 +24,34 @@ abbrev pub RunningLeft : (own maximum count walk more : ℕ) → (ℕ → ℕ) �
 RunningLeft zero maximum count walk more out n = (1 + more ≤ n) × Each (maximum - count) more out n
 RunningLeft (suc own) maximum count walk more out n = suc own + (maximum + walk + more) ≤ n
 
--- the timers of a phase that is being left: early cut-off green, then yellow, then all-red
-abbrev pub leavingTime : PhaseTimes → ℕ
-leavingTime times = times .early + times .yellow + times .red
+-- Before a start, and while a phase is being left: `ahead t` is the most that passes from the start of phase t until the demand is met, and
+-- `idle` has the steps until each movement is idle.
+abbrev pub BetweenIn : Site → (ahead : ℕ → ℕ) → Interval → Position → (idle : ℕ → ℕ) → ℕ → Type 0
+BetweenIn site ahead StartRed position idle n = site .times .start - position .age + 1 + ahead (position .phase) ≤ n
+BetweenIn site ahead LateStart position idle n = ⊥
+BetweenIn site ahead MinimumGreen position idle n = ⊥
+BetweenIn site ahead Running position idle n = ⊥
+BetweenIn site ahead EarlyCutOff position idle n =
+    let times = phaseTimes (site .times) (position .phase) in
+    Each (times .early - position .age + 1 + (times .yellow + times .red)) (ahead (phaseHeld (position .target))) idle n
+BetweenIn site ahead Yellow position idle n =
+    let times = phaseTimes (site .times) (position .phase) in
+    Each (times .yellow - position .age + 1 + times .red) (ahead (phaseHeld (position .target))) idle n
+BetweenIn site ahead AllRed position idle n =
+    let times = phaseTimes (site .times) (position .phase) in
+    Each (times .red - position .age + 1) (ahead (phaseHeld (position .target))) idle n
 
 -- the most that passes from the phase's start to the next start
 unfoldable pub visit : Site → ℕ → ℕ
 visit site p =
     let times = phaseTimes (site .times) p in
-    times .late + times .minimum + times .maximum + longestWalk site p + leavingTime times + longestClearance site p
+    times .late + times .minimum + times .maximum + longestWalk site p + leavingOf times + longestClearance site p
 
 -- `ahead t` is the most that passes from the start of phase t until the demand is met, and `onward p` that from the end of phase p.
 module _ (site : Site) (ahead onward : ℕ → ℕ) where
   -- from where the phase begins to be left
   unfoldable pub fromLeaving : ℕ → ℕ
-  fromLeaving p = leavingTime (phaseTimes (site .times) p) + longestClearance site p + onward p
+  fromLeaving p = leavingOf (phaseTimes (site .times) p) + longestClearance site p + onward p
 
   -- from running of the phase on, if all of its walks begin there
   unfoldable pub fromRunning : ℕ → ℕ
@@ -48,7 +62,7 @@ module _ (site : Site) (ahead onward : ℕ → ℕ) where
 
   -- In a position with such a maximum count, and with the steps until each movement is out of walk and C1, and until it is idle.
   abbrev pub LeftIn : Interval → (own : ℕ) → Position → (count : ℕ) → (out idle : ℕ → ℕ) → ℕ → Type 0
-  LeftIn StartRed own position count out idle n = site .times .start - position .age + 1 + ahead (position .phase) ≤ n
+  LeftIn StartRed own position count out idle n = BetweenIn site ahead StartRed position idle n
   LeftIn LateStart own position count out idle n =
       settings position .late - position .age
       + 1
@@ -61,20 +75,21 @@ module _ (site : Site) (ahead onward : ℕ → ℕ) where
       (fromLeaving (position .phase))
       out
       n
-  LeftIn EarlyCutOff own position count out idle n =
-      Each
-      (settings position .early - position .age + 1 + (settings position .yellow + settings position .red))
-      (ahead (phaseHeld (position .target)))
-      idle
-      n
-  LeftIn Yellow own position count out idle n =
-      Each
-      (settings position .yellow - position .age + 1 + settings position .red)
-      (ahead (phaseHeld (position .target)))
-      idle
-      n
-  LeftIn AllRed own position count out idle n =
-      Each (settings position .red - position .age + 1) (ahead (phaseHeld (position .target))) idle n
+  LeftIn EarlyCutOff own position count out idle n = BetweenIn site ahead EarlyCutOff position idle n
+  LeftIn Yellow own position count out idle n = BetweenIn site ahead Yellow position idle n
+  LeftIn AllRed own position count out idle n = BetweenIn site ahead AllRed position idle n
+
+  pub between-left :
+      (i : Interval) (own : ℕ) (position : Position) (count : ℕ) (out idle : ℕ → ℕ) (n : ℕ) →
+      BetweenIn site ahead i position idle n →
+      LeftIn i own position count out idle n
+  between-left StartRed own position count out idle n h = h
+  between-left LateStart own position count out idle n h = absurd h
+  between-left MinimumGreen own position count out idle n h = absurd h
+  between-left Running own position count out idle n h = absurd h
+  between-left EarlyCutOff own position count out idle n h = h
+  between-left Yellow own position count out idle n h = h
+  between-left AllRed own position count out idle n h = h
 
   -- in a state
   abbrev pub Left : (own : ℕ) → State → ℕ → Type 0

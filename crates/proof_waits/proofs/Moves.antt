@@ -1,5 +1,5 @@
 -- What one step from a valid state does to the interval, the maximum count and the movements, in the terms in which the wait is counted.
-use Prim.Native.Nat.{ℕ, _+_, _-_, _≤_, _<_, min}
+use Prim.Native.Nat.{ℕ, _+_, _-_, _≤_, _<_, min, max}
 use mathlib.Core.Bool.{Bool, true, false, not, _&&_, _||_}
 use mathlib.Core.Logic.{_⊎_, inl, inr, ⊎-elim}
 use mathlib.Core.Path.{_≡_, refl, sym, ap, _∙_}
@@ -29,14 +29,14 @@ use Rattle.laws.proofs.Booleans.{and-false-left, and-false-right, and-false-cas
 use Rattle.proof_runs.proofs.ValidStates.{ValidState}
 use Rattle.proof_runs.proofs.Steps.{timesNow, another, counted, mayEnd, moving, ended, now, started, moved, askedNow, begun, counts-of, movement-of}
 use Rattle.proof_runs.proofs.Ends.{ended-in, now-in, next-in, started-in, some-moved}
-use Rattle.proof_waits.proofs.Stages.{greenLeft, outs, idles, out-of-walk, untilOut, untilIdle, out-falls, idle-falls, out-some, idle-some, stage-reached}
+use Rattle.proof_waits.proofs.Stages.{greenLeft, outs, idles, overs, out-of-walk, untilOut, untilIdle, past-falls, idle-falls, out-some, idle-some, stage-reached}
 
 rises : (times : PhaseTimes) (count : ℕ) → maximumAfter Running times true count ≡ min (count + 1) (times .maximum)
 unfolding maximumAfter
 rises times count = refl
 
 -- where a walk that has lasted may not end, the maximum count is not reached
-rests : (times : PhaseTimes) (counts : Counts) → walkMayEnd Running times true counts ≡ false → counts .maximum ≡ times .maximum → ⊥
+pub rests : (times : PhaseTimes) (counts : Counts) → walkMayEnd Running times true counts ≡ false → counts .maximum ≡ times .maximum → ⊥
 unfolding walkMayEnd
 rests times counts h = eqb-false _ _ (or-false-right (eqb (counts .gap) 0) (eqb (counts .maximum) (times .maximum)) h)
 
@@ -44,7 +44,7 @@ module _ (site : Site) (s : State) (inputs : ℕ) where
   -- ── Walks that begin ──
 
   -- no walk begins where no phase starts, unless the interval is now running and no other phase is demanded
-  quiet :
+  pub quiet :
       started site s inputs ≡ false →
       (isRunning (now site s inputs .interval) && not (another site s inputs)) ≡ false →
       (k : ℕ) →
@@ -55,7 +55,7 @@ module _ (site : Site) (s : State) (inputs : ℕ) where
       (or-false-both h (and-false-left (isIdle (moved site s inputs k .stage)) r))
 
   -- in a known interval: none where no phase starts and the interval is not running now
-  quiet-in :
+  pub quiet-in :
       (i : Interval) (e : s .position .interval ≡ i) (t : Bool) (h : ended site s inputs ≡ t) →
       (t && isBeforeStart i) ≡ false →
       isRunning ((if t then following i (site .times) (nextDemanded site s inputs) (s .position) else staying (s .position)) .interval) ≡ false →
@@ -109,10 +109,13 @@ module _ (site : Site) (s : State) (inputs : ℕ) where
     unfolding outs moved
     outs-fall sound v k l =
         rw (moved-on k l (quiet-demanded k))
-        (out-falls (mayEnd site s inputs) (walkTimes (site .times) k) (movement s k .age) (greenLeft site s)
+        (past-falls (mayEnd site s inputs) (walkTimes (site .times) k) (movement s k .age) (greenLeft site s)
         (greenLeft site (stepped site s inputs))
+        0
+        false
         green-falls
         (λ rest. omega (arith, v .maximum, rests (timesNow site s) (s .counts) (rw (a, e) at rest)))
+        (omega arith)
         (movement s k .stage)
         (stage-reached site sound (s .position) k (movement s k) (v .movements k l)))
 
@@ -133,6 +136,27 @@ module _ (site : Site) (s : State) (inputs : ℕ) where
   -- ── Movements come nearer to be idle ──
 
   module _ (sound : Sound site) (v : ValidState site s) where
+    -- to be over, if none begins and so much is left of the green
+    pub overs-fall :
+        (green green' leaving : ℕ) →
+        green' ≤ green - 1 →
+        (mayEnd site s inputs ≡ false → 1 ≤ green) →
+        (k : ℕ) →
+        k < 8 →
+        begun site s inputs k ≡ false →
+        overs site (stepped site s inputs) green' leaving k ≤ overs site s green leaving k - 1
+    unfolding overs moved
+    overs-fall green green' leaving less held k l b =
+        rw (moved-on k l b)
+        (past-falls (mayEnd site s inputs) (walkTimes (site .times) k) (movement s k .age) green green'
+        (max leaving (walkTimes (site .times) k .second))
+        true
+        less
+        held
+        (omega arith)
+        (movement s k .stage)
+        (stage-reached site sound (s .position) k (movement s k) (v .movements k l)))
+
     -- out of walk, where none begins
     pub idles-fall :
         (k : ℕ) →

@@ -1,5 +1,6 @@
 -- The way to a demanded phase along the ring: the sum of a weight over the phases that may start before it. The search for the next phase never
--- jumps over a demanded one, so each start leaves no more than the way that was left. A wait weighs a phase by its visit, a count of starts by 1.
+-- jumps over a demanded one, so each start leaves no more than the way that was left. The wait bound weighs a phase by its visit, the waits by its turn, a count
+-- of starts by 1.
 use Prim.Native.Nat.{ℕ, _+_, _≤_, _<_}
 use mathlib.Core.Bool.{true}
 use mathlib.Core.List.{List}
@@ -17,7 +18,7 @@ use Rattle.rules.specs.Laws.{Sound}
 use Rattle.laws.proofs.Booleans.{never-both}
 use Rattle.proof_runs.proofs.Steps.{another}
 use Rattle.proof_ring.proofs.Turns.{turn}
-use Rattle.proof_ring.proofs.Ring.{rest, from, from-own, from-other, other-found, rest-own, rest-other, from-most, nearer}
+use Rattle.proof_ring.proofs.Ring.{rest, from, from-own, from-other, other-found, rest-own, rest-other, from-most, nearer, from-past}
 use Rattle.proof_ring.proofs.RunningOrder.{ring-of}
 
 -- the ring of a site
@@ -51,21 +52,29 @@ module _ (weight : ℕ → ℕ) (phases : List ℕ) (q tail : ℕ) where
 
 module _ (site : Site) (q : ℕ) (sound : Sound site) (below : q < site .size .phases) where
   module _ (weight : ℕ → ℕ) (tail : ℕ) where
-    pub ahead-most : tail ≤ weight q → (t : ℕ) → t < site .size .phases → ahead weight (ringIn site) q tail t ≤ sumOf weight (site .size .phases)
-    unfolding ahead
-    ahead-most h t l = omega (arith, from-most (ring-of site sound) weight below l)
+    abbrev whole : ℕ
+    whole = sumOf weight (site .size .phases) + tail
 
-    pub onward-most :
-        tail ≤ weight q →
-        (p : ℕ) →
-        p < site .size .phases →
-        (p ≡ q → ⊥) →
-        weight p + onward weight (ringIn site) q tail p ≤ sumOf weight (site .size .phases)
+    pub ahead-most : (t : ℕ) → t < site .size .phases → ahead weight (ringIn site) q tail t + weight q ≤ whole
+    unfolding ahead
+    ahead-most t l = omega (arith, from-most (ring-of site sound) weight below l)
+
+    pub onward-most : (p : ℕ) → p < site .size .phases → (p ≡ q → ⊥) → weight p + onward weight (ringIn site) q tail p + weight q ≤ whole
     unfolding onward
-    onward-most h p l other = omega (arith, rest-other (ring-of site sound) weight below l other)
+    onward-most p l other = omega (arith, rest-other (ring-of site sound) weight below l other)
+
+    -- the way from another phase does not lead through the one that comes next after q
+    pub ahead-past :
+        (r t : ℕ) →
+        nextAfter (ringIn site) q (λ p. true) ≡ Phase r →
+        t < site .size .phases →
+        (t ≡ r → ⊥) →
+        weight r + ahead weight (ringIn site) q tail t + weight q ≤ whole
+    unfolding ahead nextAfter turn
+    ahead-past r t e l other = omega (arith, from-past (ring-of site sound) weight below e l other)
 
     -- the ring once round
-    pub onward-own : weight q + onward weight (ringIn site) q tail q ≤ sumOf weight (site .size .phases) + tail
+    pub onward-own : weight q + onward weight (ringIn site) q tail q ≤ whole
     unfolding onward
     onward-own = omega (arith, rest-own (ring-of site sound) weight below)
 

@@ -1,38 +1,36 @@
 -- One step from a valid state in which a demand of phase q stands: phase q starts, or one step less is left of the wait. By interval,
 -- and by whether the interval ends in the step.
 use Prim.Native.Nat.{ℕ, suc, _+_, _-_, _≤_, _<_}
-use mathlib.Core.Bool.{Bool, true, false, _&&_}
+use mathlib.Core.Bool.{Bool, true, false}
 use mathlib.Core.Logic.{_⊎_, inl, inr, ⊎-elim}
 use mathlib.Core.Path.{_≡_, refl, sym, ap, subst, _∙_}
 use native.Mathlib.Omega.{arith}
-use lib.Dec.{leb}
-use borrow.Author.Tests.{leb-false}
 use Rattle.rules.specs.declared.site.PhaseTimes.{PhaseTimes}
 use Rattle.rules.specs.declared.site.Site.{Site}
 use Rattle.rules.specs.declared.state.Held.{Held}
-use Rattle.rules.specs.declared.state.Held.the-variants.{Nothing, Phase}
+use Rattle.rules.specs.declared.state.Held.the-variants.{Nothing}
 use Rattle.rules.specs.declared.state.Interval.{Interval}
 use Rattle.rules.specs.declared.state.Interval.the-variants.{StartRed, LateStart, MinimumGreen, Running, EarlyCutOff, Yellow, AllRed}
 use Rattle.rules.specs.declared.state.Position.{Position}
 use Rattle.rules.specs.declared.state.State.{State}
-use Rattle.laws.specs.Folds.{if_then_else_}
 use Rattle.rules.specs.Site.{phaseTimes}
-use Rattle.rules.specs.IntervalTable.{phaseHeld, isRunning, isBeforeStart, isLeaving}
-use Rattle.rules.specs.State.{highestAge, movement}
+use Rattle.rules.specs.IntervalTable.{phaseHeld, isLeaving}
+use Rattle.rules.specs.State.{movement}
 use Rattle.rules.specs.Demands.{nextDemanded}
-use Rattle.rules.specs.Movements.{older}
 use Rattle.rules.specs.Interval.{ends, following, entering, starting, staying}
 use Rattle.rules.specs.Step.{stepped}
+use Rattle.rules.specs.Waits.{leavingOf}
 use Rattle.rules.specs.Laws.{Sound}
 use Rattle.laws.proofs.Indices.{same-or-apart}
 use Rattle.proof_runs.proofs.ValidStates.{ValidState}
-use Rattle.proof_runs.proofs.Steps.{timesNow, another, counted, moving, ended, started}
-use Rattle.proof_runs.proofs.Ends.{by-early, ended-in, next-in, started-in, running-ends}
+use Rattle.proof_runs.proofs.Steps.{timesNow, another, ended, started}
+use Rattle.proof_runs.proofs.Ends.{by-early, next-in, running-ends}
 use Rattle.proof_waits.proofs.Stages.{longestWalk, longestClearance, outs, idles, outs-most, clear-most}
-use Rattle.rules.proofs.Settings.{Timed, phase-timed, start-timed}
-use Rattle.proof_waits.proofs.Left.{Each, leavingTime, visit, fromLeaving, fromRunning, LeftIn, Left}
-use Rattle.proof_waits.proofs.Falls.{timer-falls, timer-waits, each-falls, running-whole, running-more, running-stays, starts-left}
-use Rattle.proof_waits.proofs.Moves.{maximum-rises, outs-fall, running-held, leaving-falls, red-held}
+use Rattle.rules.proofs.Settings.{Timed, phase-timed}
+use Rattle.proof_waits.proofs.Left.{Each, BetweenIn, between-left, visit, fromLeaving, fromRunning, LeftIn, Left}
+use Rattle.proof_waits.proofs.Falls.{running-whole, running-more, running-stays, starts-left}
+use Rattle.proof_waits.proofs.Between.{timer-stays, between-step}
+use Rattle.proof_waits.proofs.Moves.{maximum-rises, outs-fall, running-held}
 
 -- What a demand of phase q gives in a step, where the demanded movement takes `own` steps to be idle before it and `own'` after it.
 pub record Standing (site : Site) (ahead onward : ℕ → ℕ) (q : ℕ) (s : State) (inputs own own' : ℕ) : Type 0 where
@@ -152,7 +150,7 @@ module _
         ahead (phaseHeld target) ≤ onward (s .position .phase) →
         after ≤ n →
         (timer : ℕ) →
-        timer ≤ leavingTime settings →
+        timer ≤ leavingOf settings →
         Each timer (ahead (phaseHeld target)) (idles site next) n
     unfolding entering idles fromLeaving
     leaves i target leaving e near h timer most = (
@@ -169,54 +167,17 @@ module _
           ),
     )
 
-    -- while it goes on being left no walk begins, so they come nearer to be idle, and the timers are given
-    leaves-on :
-        (i : Interval) (e : s .position .interval ≡ i) (t : Bool) (b : ended site s inputs ≡ t) →
-        isLeaving i ≡ true →
-        (t && isBeforeStart i) ≡ false →
-        isRunning ((if t then following i (site .times) (nextDemanded site s inputs) (s .position) else staying (s .position)) .interval) ≡ false →
-        (timer timer' more : ℕ) →
-        timer' + more ≤ n →
-        Each timer more (idles site s) (suc n) →
-        Each timer' more (idles site next) n
-    leaves-on i e t b leaving none stops timer timer' more h =
-        each-falls timer timer' more n (idles site s) (idles site next) h (omega arith)
-        (leaving-falls site s inputs sound v i e t b leaving none stops)
-
-    -- ── Timers ──
-
-    -- where the timer alone decides and the interval stays, it has not run out and falls by one
-    timer-stays :
-        (i : Interval) (setting more more' : ℕ) →
+    between :
+        (i : Interval) (b : Bool) →
         s .position .interval ≡ i →
-        ended site s inputs ≡ false →
-        ends i (site .times .start) settings (s .position .age) (another site s inputs) (moving site s inputs) (counted site s inputs)
-        ≡ leb setting (s .position .age) →
-        setting ≤ highestAge →
-        more' ≤ more →
-        setting - s .position .age + 1 + more ≤ suc n →
-        setting - older (s .position .age) + 1 + more' ≤ n
-    timer-stays i setting more more' e b same most =
-        timer-falls setting (s .position .age) more more' n most
-        (leb-false setting (s .position .age) (sym same ∙ sym (ended-in site s inputs i e) ∙ b))
-
-    -- the same where the phase is being left, with the timers that come after it
-    leaving-stays :
-        (i : Interval) (setting later : ℕ) →
-        s .position .interval ≡ i →
-        ended site s inputs ≡ false →
-        ends i (site .times .start) settings (s .position .age) (another site s inputs) (moving site s inputs) (counted site s inputs)
-        ≡ leb setting (s .position .age) →
-        isLeaving i ≡ true →
-        isRunning i ≡ false →
-        setting ≤ highestAge →
-        Each (setting - s .position .age + 1 + later) (ahead (phaseHeld (s .position .target))) (idles site s) (suc n) →
-        Each (setting - older (s .position .age) + 1 + later) (ahead (phaseHeld (s .position .target))) (idles site next) n
-    unfolding staying
-    leaving-stays i setting later e b same leaving stops most h =
-        let more = later + ahead (phaseHeld (s .position .target)) in
-        let falls = timer-stays i setting more more e b same most (omega arith) (omega (arith, h .0)) in
-        leaves-on i e false b leaving refl (ap isRunning e ∙ stops) _ _ (ahead (phaseHeld (s .position .target))) (omega (arith, falls)) h
+        ended site s inputs ≡ b →
+        BetweenIn site ahead i (s .position) (idles site s) (suc n) →
+        Outcome
+    between =
+        between-step site sound s inputs v n ahead Outcome begins
+        (λ position e h.
+        inr (becomes position e
+        (between-left site ahead onward (position .interval) own' position (next .counts .maximum) (outs site next) (idles site next) n h)))
 
     -- ── By interval ──
 
@@ -227,16 +188,11 @@ module _
         LeftIn site ahead onward i own (s .position) (s .counts .maximum) (outs site s) (idles site s) (suc n) →
         Outcome
     unfolding following entering staying ends fromRunning fromLeaving
-    step StartRed true e b h =
-        begins (s .position .phase) (s .position .previous) (started-in site s inputs StartRed e true b)
-        (next-in site s inputs StartRed e true b)
-        (omega arith)
-    step StartRed false e b h =
-        stays StartRed e b (timer-stays StartRed (site .times .start) _ _ e b refl (start-timed site sound .1) (omega arith) h)
+    step StartRed b e h l = between StartRed b e h l
     step LateStart true e b h =
         enters MinimumGreen Nothing (next-in site s inputs LateStart e true b) (omega (arith, stand .fewer, times .minimum))
     step LateStart false e b h =
-        stays LateStart e b (timer-stays LateStart (settings .late) _ _ e b refl (times .late) (omega (arith, stand .fewer)) h)
+        stays LateStart e b (timer-stays site sound s inputs v n LateStart (settings .late) _ _ e b refl (times .late) (omega (arith, stand .fewer)) h)
     step MinimumGreen true e b h =
         let entered = next-in site s inputs MinimumGreen e true b in
         enters Running Nothing entered
@@ -245,7 +201,7 @@ module _
         (omega (arith, stand .fewer)))
     step MinimumGreen false e b h =
         stays MinimumGreen e b
-        (timer-stays MinimumGreen (settings .minimum) _ _ e b refl (times .minimum .1) (omega (arith, stand .fewer)) h)
+        (timer-stays site sound s inputs v n MinimumGreen (settings .minimum) _ _ e b refl (times .minimum .1) (omega (arith, stand .fewer)) h)
     step Running true e b h =
         let target = nextDemanded site s inputs in
         let near = stand .found (running-ends site s inputs e b) in
@@ -265,38 +221,9 @@ module _
         (λ z. outs-fall site s inputs e (stand .held e z) b sound v)
         (λ z. running-held site s inputs e (stand .held e z) b)
         h)
-    step EarlyCutOff true e b h =
-        enters Yellow (s .position .target) (next-in site s inputs EarlyCutOff e true b)
-        (leaves-on EarlyCutOff e true b refl refl refl _ _ (ahead (phaseHeld (s .position .target))) (omega (arith, h .0, times .yellow)) h)
-    step EarlyCutOff false e b h =
-        stays EarlyCutOff e b (leaving-stays EarlyCutOff (settings .early) (settings .yellow + settings .red) e b refl refl refl (times .early) h)
-    step Yellow true e b h =
-        enters AllRed (s .position .target) (next-in site s inputs Yellow e true b)
-        (leaves-on Yellow e true b refl refl refl _ _ (ahead (phaseHeld (s .position .target))) (omega (arith, h .0, times .red)) h)
-    step Yellow false e b h =
-        stays Yellow e b (leaving-stays Yellow (settings .yellow) (settings .red) e b refl refl refl (times .yellow .1) h)
-    step AllRed true e b h =
-        begins (phaseHeld (s .position .target)) (Phase (s .position .phase)) (started-in site s inputs AllRed e true b)
-        (next-in site s inputs AllRed e true b)
-        (omega (arith, h .0))
-    step AllRed false e b h =
-        let more = ahead (phaseHeld (s .position .target)) in
-        stays AllRed e b
-        (leaves-on AllRed e false b refl refl (ap isRunning e) _ _ more
-        (⊎-elim
-        (λ (w : s .position .age < settings .red).
-        timer-falls (settings .red) (s .position .age) more more n (times .red .1) w (omega arith) (h .0))
-        (λ (w : (k : ℕ) × (k < 8) × (1 ≤ idles site next k)).
-        timer-waits (settings .red) (s .position .age) more n (times .red .1)
-        (omega (
-          arith,
-          w .2,
-          leaving-falls site s inputs sound v AllRed e false b refl refl (ap isRunning e) (w .0) (w .1),
-          h .1 (w .0) (w .1),
-        ))
-        (h .0))
-        (red-held site s inputs e b))
-        h)
+    step EarlyCutOff b e h l = between EarlyCutOff b e h l
+    step Yellow b e h l = between Yellow b e h l
+    step AllRed b e h l = between AllRed b e h l
 
     pub progress : Left site ahead onward own s (suc n) → Outcome
     progress h = step (s .position .interval) (ended site s inputs) refl refl h

@@ -39,12 +39,21 @@ out-of-walk ClearanceTwo h = refl
 
 -- ── The counts ──
 
--- steps until the movement is out of walk and C1, where so much is left of the maximum green
-unfoldable pub untilOut : ℕ → Stage → WalkTimes → ℕ → ℕ
-untilOut green Idle times age = 0
-untilOut green Walk times age = max (times .walk - age) green + 1 + times .first
-untilOut green ClearanceOne times age = times .first - age + 1 + 0
-untilOut green ClearanceTwo times age = 0
+-- Steps until the movement is past C1 and what comes after it, if so much is left of the maximum green: after C1 comes `more`, and in C2
+-- what is left of it is counted or not.
+unfoldable pub untilPast : (green more : ℕ) → Bool → Stage → WalkTimes → ℕ → ℕ
+untilPast green more second Idle times age = 0
+untilPast green more second Walk times age = max (times .walk - age) green + 1 + (times .first + more)
+untilPast green more second ClearanceOne times age = times .first - age + 1 + more
+untilPast green more second ClearanceTwo times age = if second then times .second - age + 1 + 0 else 0
+
+-- steps until the movement is out of walk and C1
+abbrev pub untilOut : ℕ → Stage → WalkTimes → ℕ → ℕ
+untilOut green = untilPast green 0 false
+
+-- steps until its phase may start another one: it is idle, and after C1 the timers of leaving have run too
+abbrev pub untilOver : (green leaving : ℕ) → Stage → WalkTimes → ℕ → ℕ
+untilOver green leaving stage times = untilPast green (max leaving (times .second)) true stage times
 
 -- steps until the movement is idle; in walk, from its last step on
 unfoldable pub untilIdle : Stage → WalkTimes → ℕ → ℕ
@@ -60,7 +69,7 @@ lasting-falls :
     (count : Stage → ℕ → ℕ) (setting more : ℕ) (stage next : Stage) (age : ℕ) →
     Aged setting →
     ((a : ℕ) → count stage a ≡ setting - a + 1 + more) →
-    count next 1 ≡ more →
+    count next 1 ≤ more →
     count (lasting true setting stage next age .stage) (lasting true setting stage next age .age) ≤ setting - age + 1 + more - 1
 unfolding older
 lasting-falls count setting more stage next age r now later =
@@ -77,18 +86,22 @@ greater-falls : (a a' b b' : ℕ) → a' ≤ a - 1 → b' ≤ b - 1 → 1 ≤ ma
 greater-falls a a' b b' p q some = omega arith
 
 module _ (mayEnd : Bool) (times : WalkTimes) (age : ℕ) where
-  pub out-falls :
-      (green green' : ℕ) →
+  pub past-falls :
+      (green green' more : ℕ) (second : Bool) →
       green' ≤ green - 1 →
       (mayEnd ≡ false → 1 ≤ green) →
+      (if second then times .second else 0) ≤ more →
       (stage : Stage) →
       (isIdle stage ≡ false → Reached times) →
-      untilOut green' (advanced mayEnd stage times age .stage) times (advanced mayEnd stage times age .age)
-      ≤ untilOut green stage times age - 1
-  unfolding untilOut advanced
-  out-falls green green' less held Idle r = omega arith
-  out-falls green green' less held Walk r =
-      lasting-cases (λ (m : Movement). untilOut green' (m .stage) times (m .age) ≤ untilOut green Walk times age - 1) mayEnd (times .walk) Walk
+      untilPast green' more second (advanced mayEnd stage times age .stage) times (advanced mayEnd stage times age .age)
+      ≤ untilPast green more second stage times age - 1
+  unfolding untilPast advanced
+  past-falls green green' more second less held fits Idle r = omega arith
+  past-falls green green' more second less held fits Walk r =
+      lasting-cases (λ (m : Movement). untilPast green' more second (m .stage) times (m .age) ≤ untilPast green more second Walk times age - 1)
+      mayEnd
+      (times .walk)
+      Walk
       ClearanceOne
       age
       (λ over. omega (arith, r refl .first))
@@ -99,12 +112,20 @@ module _ (mayEnd : Bool) (times : WalkTimes) (age : ℕ) where
       (λ (rests : mayEnd ≡ false). omega (arith, held rests))
       (decided mayEnd) in
       omega (arith, greater-falls _ _ green green' (age-falls (times .walk) age (r refl .walk .1)) less some))
-  out-falls green green' less held ClearanceOne r =
-      lasting-falls (λ stage a. untilOut green' stage times a) (times .first) 0 ClearanceOne ClearanceTwo age (r refl .first)
+  past-falls green green' more true less held fits ClearanceOne r =
+      lasting-falls (λ stage a. untilPast green' more true stage times a) (times .first) more ClearanceOne ClearanceTwo age (r refl .first)
       (λ a. refl)
-      refl
-  out-falls green green' less held ClearanceTwo r =
-      lasting-cases (λ (m : Movement). untilOut green' (m .stage) times (m .age) ≤ 0) true (times .second) ClearanceTwo Idle age
+      (omega (arith, fits, r refl .second))
+  past-falls green green' more false less held fits ClearanceOne r =
+      lasting-falls (λ stage a. untilPast green' more false stage times a) (times .first) more ClearanceOne ClearanceTwo age (r refl .first)
+      (λ a. refl)
+      (omega arith)
+  past-falls green green' more true less held fits ClearanceTwo r =
+      lasting-falls (λ stage a. untilPast green' more true stage times a) (times .second) 0 ClearanceTwo Idle age (r refl .second)
+      (λ a. refl)
+      (omega arith)
+  past-falls green green' more false less held fits ClearanceTwo r =
+      lasting-cases (λ (m : Movement). untilPast green' more false (m .stage) times (m .age) ≤ 0) true (times .second) ClearanceTwo Idle age
       (λ over. omega arith)
       (λ still. omega arith)
 
@@ -122,7 +143,7 @@ module _ (mayEnd : Bool) (times : WalkTimes) (age : ℕ) where
       (λ a. refl)
       (omega (arith, r refl .second))
   idle-falls ClearanceTwo h r =
-      lasting-falls (λ stage a. untilIdle stage times a) (times .second) 0 ClearanceTwo Idle age (r refl .second) (λ a. refl) refl
+      lasting-falls (λ stage a. untilIdle stage times a) (times .second) 0 ClearanceTwo Idle age (r refl .second) (λ a. refl) (omega arith)
 
   -- a movement that is not in walk does not enter it in part 2
   pub walk-kept-out : (stage : Stage) → isWalk stage ≡ false → isWalk (advanced mayEnd stage times age .stage) ≡ false
@@ -143,7 +164,7 @@ module _ (times : WalkTimes) (age : ℕ) where
   -- ── What a count tells of the stage ──
 
   pub out-some : (green : ℕ) (stage : Stage) → isWalkOrFirst stage ≡ true → 1 ≤ untilOut green stage times age
-  unfolding untilOut
+  unfolding untilPast
   out-some green Idle h = absurd (never-both h refl)
   out-some green Walk h = omega arith
   out-some green ClearanceOne h = omega arith
@@ -156,8 +177,12 @@ module _ (times : WalkTimes) (age : ℕ) where
   idle-some ClearanceOne h = absurd (never-both h refl)
   idle-some ClearanceTwo h = omega arith
 
+  pub over-none : (green leaving : ℕ) (stage : Stage) → isIdle stage ≡ true → untilOver green leaving stage times age ≡ 0
+  unfolding untilPast
+  over-none green leaving stage h = rw (idle-only stage h)
+
   idle-out : (green : ℕ) (stage : Stage) → isIdle stage ≡ true → untilOut green stage times age ≡ 0
-  unfolding untilOut
+  unfolding untilPast
   idle-out green stage h = rw (idle-only stage h)
 
   pub idle-none : (stage : Stage) → isIdle stage ≡ true → untilIdle stage times age ≡ 0
@@ -173,16 +198,36 @@ module _ (times : WalkTimes) (age : ℕ) where
 
   -- ── What bounds them ──
 
-  out-limit :
-      (green : ℕ) (stage : Stage) →
+  pub past-limit :
+      (green more : ℕ) (second : Bool) (stage : Stage) →
       1 ≤ age →
-      (isIdle stage ≡ false → Reached times) →
-      untilOut green stage times age ≤ green + (times .walk + times .first)
-  unfolding untilOut
-  out-limit green Idle a r = omega arith
-  out-limit green Walk a r = omega (arith, r refl .walk)
-  out-limit green ClearanceOne a r = omega (arith, r refl .first)
-  out-limit green ClearanceTwo a r = omega arith
+      Reached times →
+      (if second then times .second else 0) ≤ more →
+      untilPast green more second stage times age ≤ max (times .walk) (green + 1) + times .first + more
+  unfolding untilPast
+  past-limit green more second Idle a r fits = omega arith
+  past-limit green more second Walk a r fits = omega (arith, r .walk)
+  past-limit green more second ClearanceOne a r fits = omega (arith, r .first)
+  past-limit green more true ClearanceTwo a r fits = omega (arith, r .second)
+  past-limit green more false ClearanceTwo a r fits = omega arith
+
+  -- out of walk and C1 what is left until it is over is what is left until it is idle
+  pub over-idle :
+      (green leaving : ℕ) (stage : Stage) → isWalkOrFirst stage ≡ false → untilIdle stage times age ≡ untilOver green leaving stage times age
+  unfolding untilPast untilIdle
+  over-idle green leaving Idle h = refl
+  over-idle green leaving Walk h = absurd (never-both refl h)
+  over-idle green leaving ClearanceOne h = absurd (never-both refl h)
+  over-idle green leaving ClearanceTwo h = refl
+
+  -- in walk and C1 the timers of leaving come after it
+  pub over-more :
+      (green green' leaving : ℕ) (stage : Stage) → 1 ≤ untilOut green stage times age → 1 + leaving ≤ untilOver green' leaving stage times age
+  unfolding untilPast
+  over-more green green' leaving Idle h = absurd (omega arith)
+  over-more green green' leaving Walk h = omega arith
+  over-more green green' leaving ClearanceOne h = omega arith
+  over-more green green' leaving ClearanceTwo h = absurd (omega arith)
 
   idle-limit :
       (stage : Stage) →
@@ -216,6 +261,23 @@ longestWalk site = walkBy (site .crossings) (site .times .walks) (site .size .mo
 abbrev pub longestClearance : Site → ℕ → ℕ
 longestClearance site = clearanceBy (site .crossings) (site .times .walks) (site .size .movements)
 
+-- they are the greatest among the phase's movements
+module _ (site : Site) (p k : ℕ) (l : k < site .size .movements) (c : crosses (site .crossings) k p ≡ true) where
+  greatest-of :
+      (f : WalkTimes → ℕ) →
+      f (walkTimes (site .times) k)
+      ≤ greatestOf (λ k. if crosses (site .crossings) k p then f (walkTimes (site .times) k) else 0) (site .size .movements)
+  greatest-of f =
+      rw c at (greatest-at (λ (k : ℕ). if crosses (site .crossings) k p then f (walkTimes (site .times) k) else 0) (site .size .movements) k l)
+
+  pub longest-walk : walkTimes (site .times) k .walk + walkTimes (site .times) k .first ≤ longestWalk site p
+  unfolding walkBy walkTimes
+  longest-walk = greatest-of (λ (times : WalkTimes). times .walk + times .first)
+
+  pub longest-clearance : walkTimes (site .times) k .second ≤ longestClearance site p
+  unfolding clearanceBy walkTimes
+  longest-clearance = greatest-of (λ (times : WalkTimes). times .second)
+
 module _ (site : Site) (sound : Sound site) (position : Position) (k : ℕ) (m : Movement) (v : ValidMovement site position k m) where
   pub stage-reached : isIdle (m .stage) ≡ false → Reached (walkTimes (site .times) k)
   stage-reached h = walk-reached site sound k (v .ofPhase h .0)
@@ -224,33 +286,23 @@ module _ (site : Site) (sound : Sound site) (position : Position) (k : ℕ) (m :
   unless-idle count limit none most =
       ⊎-elim (λ (h : isIdle (m .stage) ≡ true). omega (arith, none h)) most (decided (isIdle (m .stage)))
 
-  -- what the settings of a movement that is not idle give is at most the greatest among the phase's movements
-  phase-limit :
-      (f : WalkTimes → ℕ) →
-      isIdle (m .stage) ≡ false →
-      f (walkTimes (site .times) k)
-      ≤ greatestOf (λ k. if crosses (site .crossings) k (position .phase) then f (walkTimes (site .times) k) else 0) (site .size .movements)
-  phase-limit f h =
-      rw (v .ofPhase h .1) at (greatest-at
-      (λ (k : ℕ). if crosses (site .crossings) k (position .phase) then f (walkTimes (site .times) k) else 0)
-      (site .size .movements)
-      k
-      (v .ofPhase h .0))
-
   walk-limit :
       isIdle (m .stage) ≡ false →
       walkTimes (site .times) k .walk + walkTimes (site .times) k .first ≤ longestWalk site (position .phase)
-  unfolding walkBy walkTimes
-  walk-limit = phase-limit (λ (times : WalkTimes). times .walk + times .first)
+  walk-limit h = longest-walk site (position .phase) k (v .ofPhase h .0) (v .ofPhase h .1)
 
   clearance-limit : isIdle (m .stage) ≡ false → walkTimes (site .times) k .second ≤ longestClearance site (position .phase)
-  unfolding clearanceBy walkTimes
-  clearance-limit = phase-limit (λ (times : WalkTimes). times .second)
+  clearance-limit h = longest-clearance site (position .phase) k (v .ofPhase h .0) (v .ofPhase h .1)
 
   out-most : (green : ℕ) → untilOut green (m .stage) (walkTimes (site .times) k) (m .age) ≤ green + longestWalk site (position .phase)
   out-most green =
       unless-idle _ _ (idle-out (walkTimes (site .times) k) (m .age) green (m .stage))
-      (λ h. omega (arith, out-limit (walkTimes (site .times) k) (m .age) green (m .stage) (v .age .0) stage-reached, walk-limit h))
+      (λ h. omega (
+        arith,
+        past-limit (walkTimes (site .times) k) (m .age) green 0 false (m .stage) (v .age .0) (stage-reached h) (omega arith),
+        stage-reached h .walk,
+        walk-limit h,
+      ))
 
   pub idle-most :
       untilIdle (m .stage) (walkTimes (site .times) k) (m .age)
@@ -285,6 +337,9 @@ outs site s k = untilOut (greenLeft site s) (movement s k .stage) (walkTimes (si
 
 unfoldable pub idles : Site → State → ℕ → ℕ
 idles site s k = untilIdle (movement s k .stage) (walkTimes (site .times) k) (movement s k .age)
+
+unfoldable pub overs : Site → State → (green leaving : ℕ) → ℕ → ℕ
+overs site s green leaving k = untilOver green leaving (movement s k .stage) (walkTimes (site .times) k) (movement s k .age)
 
 -- the maximum green and the longest walk bound the first
 pub outs-most :

@@ -1,21 +1,41 @@
--- Internal: no promise cites this file. Numbers 9 and 10 of kind 4 as one test, which takes the number.
-use Prim.Native.Nat.{ℕ}
-use mathlib.Core.Bool.{Bool, not, _&&_}
+-- Internal: no promise cites this file. Numbers 9 and 10 of kind 4 as one test, which takes the number, and what the sets hold that a record
+-- is compared with.
+use Prim.Native.Nat.{ℕ, _/_, _%_, _^_, _<_}
+use mathlib.Core.Bool.{Bool, false, _&&_, _||_}
 use mathlib.Core.List.{List}
+use mathlib.Core.Path.{_≡_}
 use lib.Dec.{eqb}
+use lib.ListN.{getD}
 use Rattle.rules.specs.declared.answer.Verdict.{Verdict}
 use Rattle.laws.specs.Bytes.{bit}
-use Rattle.rules.specs.Personality.{recordAt, groupCount, conflictsHead, conflictSet, badConflict, sharePhase, conflictInPhase}
-use Rattle.laws.specs.Folds.{if_then_else_, anyOf}
+use Rattle.rules.specs.Personality.{recordAt, groupCount, groupSet, conflictsHead, conflictSet, badConflict, conflictInPhase}
+use Rattle.laws.specs.Folds.{if_then_else_}
 use Rattle.rules.specs.Verdicts.{refuseIf, firstOf}
+use Rattle.read_conflicts_turned.specs.Turned.{Turned}
 
--- a conflict of group g with group j is refused: with 9 if the set of j lacks g, with 10 if the two share a phase
-unfoldable pub refusedPair : List ℕ → ℕ → ℕ → ℕ → Bool
-refusedPair b number g j = if eqb number 9 then not (bit g (conflictSet b j)) else sharePhase b g j
+-- ── What is compared ──
 
--- some conflict of group g
-unfoldable pub refusedConflict : List ℕ → ℕ → ℕ → Bool
-refusedConflict b number g = anyOf (λ j. bit j (conflictSet b g) && refusedPair b number g j) (groupCount b)
+-- a set has the groups that name group g
+pub record Named (b : List ℕ) (g set : ℕ) : Type 0 where
+  pub told : (j : ℕ) → j < groupCount b → bit j set ≡ bit g (conflictSet b j)
+
+-- set p has the groups that are in phase p
+pub record Members (b : List ℕ) (sets : List ℕ) : Type 0 where
+  pub told : (p j : ℕ) → p < 8 → j < groupCount b → bit j (getD sets p 0) ≡ bit p (groupSet b j)
+
+-- the sets for the record of group g are those of its band
+abbrev pub Compared : List ℕ → ℕ → ℕ → List ℕ → Type 0
+Compared b number g rows = Turned b number (g / 8) rows
+
+-- they are made anew for group g: with 9 for each eight groups, with 10 once
+abbrev pub renewedAt : ℕ → ℕ → Bool
+renewedAt number g = eqb g 0 || (eqb number 9 && eqb (g % 8) 0)
+
+-- once 9 has refused no record, no set has a bit at or above N
+abbrev pub SetsBelow : List ℕ → ℕ → Type 0
+SetsBelow b number = eqb number 9 ≡ false → (g : ℕ) → g < groupCount b → conflictSet b g < 2 ^ groupCount b
+
+-- ── What is refused ──
 
 -- the record of group g
 unfoldable pub refusedRecord : List ℕ → ℕ → ℕ → Bool

@@ -4,7 +4,7 @@ ghost use mathlib.Core.Path.{_≡_};
 ghost use Rattle.rules.specs.declared.answer.Verdict.the-variants.{Accepted};
 ghost use Rattle.rules.specs.Personality.{siteSection, groupsSection, conflictsSection};
 ghost use Rattle.read_layout.specs.LayoutOf.{LayoutOf};
-use crate::records::first_refused;
+use crate::records::searched;
 use read_conflicts_quick::surely_right;
 use read_layout::Layout;
 use read_sections::sized_section;
@@ -24,9 +24,5 @@ pub fn conflicts_section(s: &[u8], layout: Layout) -> Verdict
     if surely_right(s, layout) {
         return Verdict::Accepted;
     }
-    let records = first_refused(s, layout, 9);
-    if let Verdict::Refused { .. } = records {
-        return records;
-    }
-    first_refused(s, layout, 10)
+    searched(s, layout)
 }

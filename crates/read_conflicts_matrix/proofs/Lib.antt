@@ -1,2 +1,3 @@
 pub mod TileBits
 pub mod MatrixRows
+pub mod Kept

@@ -16,11 +16,13 @@ pub mod Kept
 pub mod Timed
 pub mod Colours
 pub mod WaitBound
+pub mod Waits
 pub mod Call
 pub mod TimedCall
 pub mod DemandThree
 pub mod TimedDemandThree
 pub mod OnceEach
+pub mod PhaseWaits
 pub mod Laws
 pub mod TimedLaws
 pub mod Scanning

@@ -5,6 +5,7 @@ use crate::difference::{Difference, Handed};
 use crate::tally::Tally;
 use generate::{CabinetCall, Rng, RoadPlan};
 use model::packed::{Board, Model};
+use model::MOST_WAIT_BYTES;
 
 /// A board, the tally of its answers, and where randomness comes from.
 pub struct Comparison<'a> {
@@ -13,12 +14,16 @@ pub struct Comparison<'a> {
     pub tally: &'a mut Tally,
 }
 
+/// The waits are asked for in buffers of every length up to this one, past the most that
+/// they take.
+const WAITS_LENGTHS: usize = MOST_WAIT_BYTES + 3;
+
 /// Kinds that are looked up besides 0 to 10.
 const FAR_KINDS: [u16; 4] = [255, 256, 257, u16::MAX];
 
 impl Comparison<'_> {
-    /// Reads a personality, asks for its wait bound and its groups and looks up every
-    /// kind; gives the answer of reading.
+    /// Reads a personality, asks for its wait bound, its groups and its waits and looks up
+    /// every kind; gives the answer of reading.
     pub fn reading(&mut self, personality: &[u8]) -> Result<u64, Box<Difference>> {
         let handed = Handed {
             personality: personality.to_vec(),
@@ -45,7 +50,29 @@ impl Comparison<'_> {
         }
         guarded.untouched("read: the personality", &handed)?;
         self.tally.count_answer(read);
+        for length in 0..=WAITS_LENGTHS {
+            self.waits(personality, length)?;
+        }
         Ok(read)
+    }
+
+    /// Asks for the waits of a personality in a buffer of a length.
+    fn waits(&mut self, personality: &[u8], length: usize) -> Result<(), Box<Difference>> {
+        let handed = Handed {
+            personality: personality.to_vec(),
+            waits: self.rng.bytes(length),
+            ..Handed::default()
+        };
+        let guarded = Guarded::new(&mut self.rng, personality);
+        let mut expected_waits = handed.waits.clone();
+        let mut waits = Guarded::new(&mut self.rng, &handed.waits);
+        let expected = Model.waits(personality, &mut expected_waits);
+        let found = self.board.waits(guarded.inner(), waits.inner_mut());
+        same("waits: the answer", expected, found, &handed)?;
+        waits.holds("waits: the waits", &expected_waits, &handed)?;
+        guarded.untouched("waits: the personality", &handed)?;
+        self.tally.count_answer(expected);
+        Ok(())
     }
 
     /// Makes a fresh state of a personality in a buffer of a length.

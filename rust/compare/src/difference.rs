@@ -41,6 +41,7 @@ pub struct Handed {
     pub first: usize,
     pub outputs: Vec<u8>,
     pub sealed: Vec<u8>,
+    pub waits: Vec<u8>,
 }
 
 /// A case that fails.
@@ -93,7 +94,8 @@ impl fmt::Display for Handed {
         writeln!(f, "  record      {}", self.record)?;
         writeln!(f, "  first       {}", self.first)?;
         writeln!(f, "  outputs     {}", hex(&self.outputs))?;
-        write!(f, "  sealed      {}", hex(&self.sealed))
+        writeln!(f, "  sealed      {}", hex(&self.sealed))?;
+        write!(f, "  waits       {}", hex(&self.waits))
     }
 }
 

@@ -16,6 +16,7 @@ mod seal_vectors;
 mod seals;
 mod tally;
 mod vectors;
+mod wait_vectors;
 mod watches;
 mod why_vectors;
 mod whys;
@@ -30,6 +31,7 @@ pub use road_vectors::run_road_vectors;
 pub use seal_vectors::run_seal_vectors;
 pub use tally::Tally;
 pub use vectors::Lists;
+pub use wait_vectors::run_wait_vectors;
 pub use watches::{run_watches, Watched};
 pub use why_vectors::{run_why_vectors, Asked};
 

@@ -21,6 +21,10 @@ impl Board for Library {
         packed::wait_bound(personality)
     }
 
+    fn waits(&self, personality: &[u8], waits: &mut [u8]) -> u64 {
+        packed::waits(personality, waits)
+    }
+
     fn fresh(&self, personality: &[u8], state: &mut [u8]) -> u64 {
         packed::fresh(personality, state)
     }

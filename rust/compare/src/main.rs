@@ -4,13 +4,14 @@
 //! roads FILE` and `compare cabinets FILE` run the vectors of the Python road and
 //! cabinet on the library and on the model, `compare retimes FILE` the lists of calls of
 //! the Python controller, `compare whys FILE` those for the line that says why a phase
-//! holds, `compare seals FILE` those that seal states and resume them.
+//! holds, `compare seals FILE` those that seal states and resume them, `compare waits
+//! FILE` the waits of each phase and each movement.
 
 #![forbid(unsafe_code)]
 
 use compare::{
     board_name, run_cabinet_vectors, run_cases, run_lists, run_road_vectors, run_seal_vectors,
-    run_watches, run_why_vectors, Asked, Lists, BOARD,
+    run_wait_vectors, run_watches, run_why_vectors, Asked, Lists, BOARD,
 };
 use model::packed::{Board, Model};
 use std::process::ExitCode;
@@ -22,7 +23,8 @@ const USAGE: &str = "usage: compare SEED CASES
        compare cabinets FILE
        compare retimes FILE
        compare whys FILE
-       compare seals FILE";
+       compare seals FILE
+       compare waits FILE";
 
 /// What is to be done.
 enum Task {
@@ -40,6 +42,7 @@ fn main() -> ExitCode {
             "retimes" => return exit_code(vectors(file, retimes)),
             "whys" => return exit_code(vectors(file, whys)),
             "seals" => return exit_code(vectors(file, seals)),
+            "waits" => return exit_code(vectors(file, waits)),
             _ => {}
         }
     }
@@ -96,7 +99,7 @@ fn watches(seed: u64, steps: u64) -> bool {
             for strategy in watched {
                 println!("{strategy}");
             }
-            println!("no breach of demand 3 or of request fourteen");
+            println!("no breach of demand 3, of request fourteen or of a wait");
             true
         }
         Err((personality, breach)) => {
@@ -133,6 +136,10 @@ fn whys(board: &dyn Board, file: &[u8]) -> Result<String, String> {
 fn seals(board: &dyn Board, file: &[u8]) -> Result<String, String> {
     let Lists { lists, calls } = run_seal_vectors(board, file)?;
     Ok(format!("{lists:>9}  lists of sealed states, {calls} calls"))
+}
+
+fn waits(board: &dyn Board, file: &[u8]) -> Result<String, String> {
+    run_wait_vectors(board, file).map(|count| format!("{count:>9}  personalities"))
 }
 
 /// Runs the vectors of a file on the model and on the board.

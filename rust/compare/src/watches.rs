@@ -20,8 +20,10 @@ pub struct Watched {
     pub power_downs: u64,
     /// Most phases that started while a demand waited.
     pub most_starts: u32,
-    /// The longest wait as a part of what it was allowed.
+    /// The longest wait as a part of what it was allowed: by the wait bound, and by the
+    /// wait of its own phase or movement.
     pub nearest: f64,
+    pub nearest_own: f64,
 }
 
 /// Steps of one run before the next site.
@@ -109,6 +111,7 @@ impl Watched {
             power_downs: 0,
             most_starts: 0,
             nearest: 0.0,
+            nearest_own: 0.0,
         }
     }
 
@@ -124,6 +127,8 @@ impl Watched {
         self.most_starts = self.most_starts.max(report.most_starts);
         let (waited, allowed) = report.nearest_wait;
         self.nearest = self.nearest.max(waited as f64 / allowed as f64);
+        let (waited, wait) = report.nearest_own_wait;
+        self.nearest_own = self.nearest_own.max(waited as f64 / wait as f64);
     }
 }
 
@@ -133,7 +138,7 @@ impl fmt::Display for Watched {
             f,
             "{:8} {:>5} runs, {:>9} steps, {:>7} refused calls, {:>7} greens begun, \
              {:>7} demands met, {:>6} retimings, {:>5} changes, {:>6} times without power, \
-             longest wait {:.2} of its bound, {} phases started in a wait",
+             longest wait {:.2} of its bound and {:.3} of its own wait, {} phases started in a wait",
             self.name,
             self.runs,
             self.accepted,
@@ -144,6 +149,7 @@ impl fmt::Display for Watched {
             self.changes,
             self.power_downs,
             self.nearest,
+            self.nearest_own,
             self.most_starts
         )
     }

@@ -2,6 +2,7 @@
 //! bit by bit, agree with the model's. Those that are wrong in one small thing are
 //! noticed.
 
+#[macro_use]
 mod faults;
 
 use compare::Kind;
@@ -9,19 +10,6 @@ use faults::{assert_agrees, assert_noticed, cases_of};
 use model::packed::{number, Board, Model};
 use model::{layout, Site, Times, SEALED_LEN, STATE_LEN};
 use variant::{AsBoard, Variant};
-
-/// Lists the points in which the calls may go wrong once, for the type and for the test.
-macro_rules! faults {
-    ($($fault:ident)+) => {
-        #[derive(Clone, Copy, Debug, PartialEq, Eq)]
-        enum Fault {
-            None,
-            $($fault),+
-        }
-
-        const FAULTS: &[Fault] = &[$(Fault::$fault),+];
-    };
-}
 
 faults! {
     // The number of groups.

@@ -3,7 +3,8 @@
 //!
 //! One step is 0.1 s and every time is counted in steps. The model reads a
 //! personality, steps the controller, gives the colours of the signal groups,
-//! the wait bound and the sections of a personality, takes new times while it runs,
+//! the wait bound, the wait of each phase and each movement and the sections of a
+//! personality, takes new times while it runs,
 //! says why a phase holds its green, runs a simulated road, keeps four sites in one
 //! cabinet, and seals a state for the time without power. It needs no heap and nothing
 //! of the standard library but its core.
@@ -41,6 +42,7 @@ mod timed;
 mod times;
 mod valid;
 mod wait;
+mod waits;
 mod why;
 
 pub use cabinet::{place, step_held, take_out, OUTPUTS};
@@ -62,6 +64,7 @@ pub use timed::{step_timed, step_timed_on, valid_timed, TimedAnswer, TimedState}
 pub use times::{Times, TIMES_LEN};
 pub use valid::valid;
 pub use wait::wait_bound;
+pub use waits::{waits, MOST_WAIT_BYTES};
 pub use why::{why, why_on, Reasons, LONGEST_LINE};
 
 /// Most phases of a site.

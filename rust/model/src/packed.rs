@@ -1,7 +1,7 @@
 //! The model in the shape of the board library: a state is bytes that a step
 //! replaces, and an answer is one number. Its low 8 bits are 0 where the call is
 //! accepted, else the number of the refusal; the rest is the wait bound, the length
-//! of a line, the number of groups or the place.
+//! of a line, the number of groups or of bytes, or the place.
 
 use crate::cabinet;
 use crate::record::{records_of, row_of, Record};
@@ -17,6 +17,7 @@ use crate::STATE_LEN;
 pub trait Board {
     fn read(&self, personality: &[u8]) -> u64;
     fn wait_bound(&self, personality: &[u8]) -> u64;
+    fn waits(&self, personality: &[u8], waits: &mut [u8]) -> u64;
     fn fresh(&self, personality: &[u8], state: &mut [u8]) -> u64;
     fn step(&self, personality: &[u8], state: &mut [u8], inputs: u64, colours: &mut [u8]) -> u64;
     fn retime(&self, personality: &[u8], state: &mut [u8], new_personality: &[u8]) -> u64;
@@ -57,6 +58,10 @@ impl Board for Model {
 
     fn wait_bound(&self, personality: &[u8]) -> u64 {
         wait_bound(personality)
+    }
+
+    fn waits(&self, personality: &[u8], waits: &mut [u8]) -> u64 {
+        self::waits(personality, waits)
     }
 
     fn fresh(&self, personality: &[u8], state: &mut [u8]) -> u64 {
@@ -131,7 +136,8 @@ pub fn number(answer: u64) -> u8 {
     answer as u8
 }
 
-/// The wait bound, the length of a line, the number of groups or the place in an answer.
+/// The wait bound, the length of a line, the number of groups or of bytes, or the place in
+/// an answer.
 pub fn rest(answer: u64) -> u64 {
     answer >> 8
 }
@@ -144,6 +150,11 @@ pub fn read(personality: &[u8]) -> u64 {
 /// The wait bound of a personality.
 pub fn wait_bound(personality: &[u8]) -> u64 {
     crate::wait_bound(personality).map_or_else(refuse, accept)
+}
+
+/// Writes the waits of each phase and each movement, and answers the number of bytes.
+pub fn waits(personality: &[u8], waits: &mut [u8]) -> u64 {
+    crate::waits(personality, waits).map_or_else(refuse, accept)
 }
 
 /// Writes the fresh state: 13 where the buffer is not as long as a state.

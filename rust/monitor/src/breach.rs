@@ -45,6 +45,20 @@ pub enum Breach {
         movement: usize,
         registered: u64,
     },
+    /// A demand of a phase that lasts has no minimum green within the wait of the phase.
+    PhaseWaits {
+        step: u64,
+        phase: usize,
+        registered: u64,
+        wait: u64,
+    },
+    /// The button demand of a movement has no walk within the wait of the movement.
+    WalkWaits {
+        step: u64,
+        movement: usize,
+        registered: u64,
+        wait: u64,
+    },
     /// A phase starts for the second time while a demand waits.
     StartsTwice {
         step: u64,
@@ -116,6 +130,26 @@ impl fmt::Display for Breach {
             } => write!(
                 f,
                 "step {step}: the press for movement {movement} of step {registered} is not met"
+            ),
+            Breach::PhaseWaits {
+                step,
+                phase,
+                registered,
+                wait,
+            } => write!(
+                f,
+                "step {step}: phase {phase}, demanded from step {registered} on, has no minimum \
+                 green in fewer than {wait} further steps"
+            ),
+            Breach::WalkWaits {
+                step,
+                movement,
+                registered,
+                wait,
+            } => write!(
+                f,
+                "step {step}: movement {movement}, pressed in step {registered}, has no walk in \
+                 fewer than {wait} further steps"
             ),
             Breach::StartsTwice {
                 step,

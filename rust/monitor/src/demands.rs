@@ -1,7 +1,7 @@
 //! Demands as a step shows them from outside: which it registers, and which it meets.
 
 use crate::Seen;
-use model::{Interval, Site, Stage, State, FIRST_BUTTON};
+use model::{Detector, Interval, Site, Stage, State, FIRST_BUTTON};
 use std::fmt;
 
 /// What waits to be met.
@@ -24,10 +24,25 @@ impl fmt::Display for Demand {
 
 /// The phases of occupied locking detectors, unless in minimum green or running.
 pub fn registered_phases<'a>(site: &'a Site, seen: &'a Seen) -> impl Iterator<Item = usize> + 'a {
+    demanding(site, seen, Detector::locks)
+}
+
+/// The phases of occupied detectors that call without lock, unless in minimum green or
+/// running.
+pub fn called_phases<'a>(site: &'a Site, seen: &'a Seen) -> impl Iterator<Item = usize> + 'a {
+    demanding(site, seen, Detector::calls)
+}
+
+/// The phases of the occupied ones of some detectors, unless in minimum green or running.
+fn demanding<'a>(
+    site: &'a Site,
+    seen: &'a Seen,
+    some: fn(Detector) -> bool,
+) -> impl Iterator<Item = usize> + 'a {
     (0..site.detector_count())
         .filter(|detector| seen.inputs >> detector & 1 != 0)
         .map(|detector| site.detector(detector))
-        .filter(|detector| detector.locks() && !seen.before.state.is_green(detector.phase))
+        .filter(move |&detector| some(detector) && !seen.before.state.is_green(detector.phase))
         .map(|detector| detector.phase.into())
 }
 

@@ -1,7 +1,8 @@
 //! Watches a run of step and retiming calls from outside, for the parts of demand 3:
 //! no conflicting greens together, full clearances before a conflicting green, and
 //! every registered demand met within the wait of the times then ruling and of those
-//! that take over while it stands. While it waits no phase starts twice. A group that
+//! that take over while it stands. Each demand that lasts is met within the wait of its own
+//! phase or movement. While it waits no phase starts twice. A group that
 //! stops early begins its clearance with early cut-off, the phases kept as demanded are
 //! those that are, and times rule from the start on that they waited for.
 //!
@@ -16,6 +17,7 @@ mod cabinet;
 mod clearances;
 mod demands;
 mod drivers;
+mod own_waits;
 mod starts;
 mod times;
 mod waits;
@@ -29,6 +31,7 @@ pub use watching::{watch, Among, Report};
 
 use clearances::Clearances;
 use model::{Site, State, TimedState, Times};
+use own_waits::OwnWaits;
 use starts::Starts;
 use waits::Waits;
 
@@ -66,6 +69,8 @@ pub struct Monitor {
     clearances: Clearances,
     starts: Starts,
     waits: Waits,
+    /// None if the wait bound alone is watched.
+    own_waits: Option<OwnWaits>,
     accepted: u64,
 }
 
@@ -75,7 +80,17 @@ impl Monitor {
             clearances: Clearances::new(site),
             starts: Starts::new(site),
             waits: Waits::new(site),
+            own_waits: Some(OwnWaits::new(site)),
             accepted: 0,
+        }
+    }
+
+    /// A monitor that measures every demand by the wait bound of the site alone. No wait of
+    /// a phase or a movement is above it, so that the other monitor finds a long wait first.
+    pub fn of_the_wait_bound(site: &Site) -> Monitor {
+        Monitor {
+            own_waits: None,
+            ..Monitor::new(site)
         }
     }
 
@@ -86,6 +101,9 @@ impl Monitor {
         demanded_kept(site, &seen.after.state, self.accepted)?;
         self.clearances.step(site, seen, self.accepted)?;
         self.starts.step(site, seen, self.accepted)?;
+        if let Some(own_waits) = &mut self.own_waits {
+            own_waits.step(site, seen, self.accepted)?;
+        }
         self.waits.step(site, seen, self.accepted)
     }
 
@@ -118,6 +136,12 @@ impl Monitor {
     /// and that.
     pub fn nearest_wait(&self) -> (u64, u64) {
         self.waits.nearest
+    }
+
+    /// Of the demands met so far, the wait that came nearest to the wait of its own phase
+    /// or movement, and that.
+    pub fn nearest_own_wait(&self) -> (u64, u64) {
+        self.own_waits.as_ref().map_or((0, 1), |own| own.nearest)
     }
 
     /// Most phases that started so far while a demand waited.

@@ -16,6 +16,8 @@ pub struct Report {
     /// Of the demands met, the wait that came nearest to what it was allowed, and
     /// that.
     pub nearest_wait: (u64, u64),
+    /// The same beside the wait of its own phase or movement.
+    pub nearest_own_wait: (u64, u64),
     /// Most phases that started while a demand waited.
     pub most_starts: u32,
     /// The wait bound of the personality.
@@ -37,6 +39,7 @@ impl Report {
             demands_met: monitor.met(),
             longest_wait: monitor.longest_wait(),
             nearest_wait: monitor.nearest_wait(),
+            nearest_own_wait: monitor.nearest_own_wait(),
             most_starts: monitor.most_starts(),
             bound: site.wait_bound().into(),
             retimings,
@@ -47,18 +50,21 @@ impl Report {
 
     /// Together with another run on the same site.
     pub(crate) fn and(&self, other: &Report) -> Report {
-        let ((waited, allowed), (others, of)) = (self.nearest_wait, other.nearest_wait);
+        let nearer = |(waited, allowed): (u64, u64), (others, of): (u64, u64)| {
+            if waited * of > others * allowed {
+                (waited, allowed)
+            } else {
+                (others, of)
+            }
+        };
         Report {
             accepted: self.accepted + other.accepted,
             refused: self.refused + other.refused,
             green_starts: self.green_starts + other.green_starts,
             demands_met: self.demands_met + other.demands_met,
             longest_wait: self.longest_wait.max(other.longest_wait),
-            nearest_wait: if waited * of > others * allowed {
-                self.nearest_wait
-            } else {
-                other.nearest_wait
-            },
+            nearest_wait: nearer(self.nearest_wait, other.nearest_wait),
+            nearest_own_wait: nearer(self.nearest_own_wait, other.nearest_own_wait),
             most_starts: self.most_starts.max(other.most_starts),
             bound: other.bound,
             retimings: self.retimings + other.retimings,

@@ -266,7 +266,7 @@ fn early_cut_off_that_lasts_for_ever() {
                 outcome.state.age = 1;
             }
         },
-        Breach::LockUnmet { .. } | Breach::PressUnmet { .. }
+        Breach::PhaseWaits { .. } | Breach::WalkWaits { .. }
     );
 }
 
@@ -337,7 +337,7 @@ fn locks_dropped() {
                 outcome.state.locks = 0;
             }
         },
-        Breach::LockUnmet { .. } | Breach::StartsTwice { .. }
+        Breach::PhaseWaits { .. } | Breach::StartsTwice { .. }
     );
 }
 
@@ -352,7 +352,7 @@ fn a_press_during_clearance_dropped() {
                 }
             }
         },
-        Breach::PressUnmet { .. } | Breach::StartsTwice { .. }
+        Breach::WalkWaits { .. } | Breach::StartsTwice { .. }
     );
 }
 
@@ -360,7 +360,7 @@ fn a_press_during_clearance_dropped() {
 fn running_that_never_ends() {
     assert_breach!(
         |outcome| outcome.state.maximum_count = 0,
-        Breach::LockUnmet { .. } | Breach::PressUnmet { .. }
+        Breach::PhaseWaits { .. } | Breach::WalkWaits { .. }
     );
 }
 
@@ -374,7 +374,7 @@ fn a_walk_that_rests_for_ever() {
                 }
             }
         },
-        Breach::LockUnmet { .. } | Breach::PressUnmet { .. }
+        Breach::PhaseWaits { .. } | Breach::WalkWaits { .. }
     );
 }
 
@@ -396,7 +396,7 @@ fn a_resting_walk_that_ends_without_its_first_clearance() {
 fn lights_that_never_alter() {
     assert_breach!(
         |outcome| outcome.state = model::fresh(),
-        Breach::LockUnmet { .. } | Breach::PressUnmet { .. }
+        Breach::PhaseWaits { .. } | Breach::WalkWaits { .. }
     );
 }
 
@@ -426,7 +426,7 @@ fn blind_to_detectors() {
     let breach = first_breach(blind);
     assert!(matches!(
         breach,
-        Breach::LockUnmet { .. } | Breach::PressUnmet { .. }
+        Breach::PhaseWaits { .. } | Breach::WalkWaits { .. }
     ));
 }
 

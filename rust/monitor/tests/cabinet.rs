@@ -177,7 +177,7 @@ fn a_site_that_stands_still() {
         state[..PLAIN_LEN].copy_from_slice(&model::fresh().to_bytes());
         answer
     });
-    assert_breaches!(found, Breach::LockUnmet { .. } | Breach::PressUnmet { .. });
+    assert_breaches!(found, Breach::PhaseWaits { .. } | Breach::WalkWaits { .. });
 }
 
 #[test]
@@ -192,7 +192,7 @@ fn a_site_that_goes_back_to_its_own_times() {
     });
     assert_breaches!(
         found,
-        Breach::WrongTimes { .. } | Breach::LockUnmet { .. } | Breach::PressUnmet { .. }
+        Breach::WrongTimes { .. } | Breach::PhaseWaits { .. } | Breach::WalkWaits { .. }
     );
 }
 

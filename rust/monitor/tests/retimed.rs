@@ -7,7 +7,7 @@ use generate::{Pace, Plan, Rng, Shape};
 use model::packed::{self, number, Model};
 use model::{Interval, Number, Site, State, TimedState, Times};
 use monitor::{Among, Breach, Monitor, Seen, Strategy};
-use runs::{first_breach, watched};
+use runs::{find_breach, first_breach, watched};
 use variant::{AsBoard, Variant};
 
 /// A site with short times, so that a run sees many changes.
@@ -77,6 +77,12 @@ macro_rules! assert_breach {
         let breach = first_breach(Among::Retimings, &AsBoard($board), quick_site);
         assert!(matches!(breach, $breach), "{breach}");
     };
+}
+
+/// A clearance that is too short. In other runs of such a board a wait is too long.
+fn assert_uncleared(board: Odd) {
+    let uncleared = |breach: &Breach| matches!(breach, Breach::Uncleared { .. });
+    find_breach(Among::Retimings, &AsBoard(board), quick_site, uncleared);
 }
 
 fn decode(state: &[u8]) -> TimedState {
@@ -210,7 +216,7 @@ fn a_change_that_drops_the_demands() {
     };
     assert_breach!(
         board,
-        Breach::LockUnmet { .. } | Breach::PressUnmet { .. } | Breach::StartsTwice { .. }
+        Breach::PhaseWaits { .. } | Breach::WalkWaits { .. } | Breach::StartsTwice { .. }
     );
 }
 
@@ -257,7 +263,7 @@ fn yellow_by_the_times_that_wait() {
         },
         ..RIGHT
     };
-    assert_breach!(board, Breach::Uncleared { .. });
+    assert_uncleared(board);
 }
 
 #[test]
@@ -270,7 +276,7 @@ fn all_red_by_the_times_that_wait() {
         },
         ..RIGHT
     };
-    assert_breach!(board, Breach::Uncleared { .. });
+    assert_uncleared(board);
 }
 
 #[test]
@@ -372,34 +378,49 @@ fn a_refused_retiming_that_writes() {
     assert_breach!(board, Breach::RefusalWrites { .. });
 }
 
-/// The junction of two phases with a wait of 460 steps.
-fn longer() -> Times {
+/// The junction of two phases with a start red and with these times of both phases.
+fn times_of(start_red: u16, phase: [u16; 6]) -> Times {
     let plan = Plan {
-        start_red: 20,
-        phases: vec![[0, 40, 60, 10, 40, 20]; 2],
+        start_red,
+        phases: vec![phase; 2],
         ..Plan::junction()
     };
     Times::of(&Site::read(&plan.bytes()).unwrap())
 }
 
+/// The junction of two phases with a wait bound of 460 steps. A turn has 160 steps, and 60
+/// come first.
+fn longer() -> Times {
+    times_of(20, [0, 40, 60, 10, 40, 20])
+}
+
+/// The junction of two phases with late start 7 and turns of 67 steps; 40 come first.
+fn shorter() -> Times {
+    times_of(10, [7, 10, 10, 5, 30, 10])
+}
+
 /// A demand of B that is never met. It is registered in these steps, and the times
 /// change in one step, if in any: start red lasts until then. Gives the first step
 /// in which the monitor finds that it waits too long, and the registering step.
-fn overdue(registered: &[u64], change: Option<u64>) -> (u64, u64) {
+fn overdue(
+    monitor: fn(&Site) -> Monitor,
+    registered: &[u64],
+    change: Option<(u64, Times)>,
+) -> (u64, u64) {
     let personality = Plan::junction().bytes();
     let site = Site::read(&personality).unwrap();
-    let mut monitor = Monitor::new(&site);
+    let mut monitor = monitor(&site);
     let mut before = TimedState::fresh(&site);
-    before.waiting = change.map(|_| longer());
+    before.waiting = change.map(|(_, times)| times);
     for step in 1.. {
         let mut after = before;
         let registers = registered.contains(&step);
         if registers {
             (after.state.locks, after.state.demanded) = (0b10, 0b10);
         }
-        if change == Some(step) {
+        if let Some((_, times)) = change.filter(|&(at, _)| at == step) {
             after.state.interval = Interval::LateStart;
-            after.ruling = longer();
+            after.ruling = times;
             after.waiting = None;
         }
         let seen = Seen {
@@ -416,6 +437,12 @@ fn overdue(registered: &[u64], change: Option<u64>) -> (u64, u64) {
                 phase: 1,
                 registered,
             }) => return (step, registered),
+            Err(Breach::PhaseWaits {
+                step,
+                phase: 1,
+                registered,
+                ..
+            }) => return (step, registered),
             Err(breach) => panic!("{breach}"),
         }
     }
@@ -424,6 +451,10 @@ fn overdue(registered: &[u64], change: Option<u64>) -> (u64, u64) {
 
 #[test]
 fn how_long_a_demand_may_wait() {
+    let overdue = |registered: &[u64], change: Option<u64>| {
+        let change = change.map(|step| (step, longer()));
+        overdue(Monitor::of_the_wait_bound, registered, change)
+    };
     // Not met in step s and n further steps: n is below the sum.
     assert_eq!(overdue(&[1], None), (1 + 270, 1));
     assert_eq!(overdue(&[1, 200], None), (1 + 270, 1));
@@ -440,4 +471,25 @@ fn how_long_a_demand_may_wait() {
     assert_eq!(overdue(&[1, 100], Some(50)), (100 + 460, 100));
     assert_eq!(overdue(&[1, 100], Some(100)), (100 + 460, 100));
     assert_eq!(overdue(&[1, 280], Some(50)), (1 + 270 + 460, 1));
+}
+
+#[test]
+fn how_long_a_phase_may_wait() {
+    let late = |registered: &[u64], change| overdue(Monitor::new, registered, change);
+    // 40 steps that come first, and a turn of A of 90.
+    assert_eq!(late(&[1], None), (1 + 130, 1));
+    assert_eq!(late(&[1, 100], None), (1 + 130, 1));
+    // Through a change the longer turn, but what comes first by the times before it.
+    let long = |step| Some((step, longer()));
+    assert_eq!(late(&[1], long(2)), (1 + 40 + 160, 1));
+    assert_eq!(late(&[1], long(131)), (1 + 40 + 160, 1));
+    assert_eq!(late(&[1], long(132)), (1 + 130, 1));
+    assert_eq!(late(&[100], long(100)), (100 + 60 + 160, 100));
+    assert_eq!(late(&[100], long(50)), (100 + 60 + 160, 100));
+    // The turn of the times before the change is the longer one; the late start is that of
+    // the times after it. From the change on only the shorter turn counts.
+    let short = |step| Some((step, shorter()));
+    assert_eq!(late(&[1], short(100)), (1 + 40 + 90 + 7, 1));
+    assert_eq!(late(&[1], short(20)), (20 + 40 + 67 + 7, 20));
+    assert_eq!(late(&[30], short(20)), (30 + 40 + 67 + 7, 30));
 }

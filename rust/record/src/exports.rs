@@ -71,6 +71,7 @@ exports! {
     willowera_version() -> u32;
     willowera_read(p l) -> u64;
     willowera_wait_bound(p l) -> u64;
+    willowera_waits(p l p l) -> u64;
     willowera_groups(p l) -> u64;
     willowera_section(p l h) -> u64;
     willowera_fresh(p l p l) -> u64;

@@ -29,6 +29,7 @@ macro_rules! calls {
 calls! {
     read(personality: &[u8]);
     wait_bound(personality: &[u8]);
+    waits(personality: &[u8], waits: &mut [u8]);
     fresh(personality: &[u8], state: &mut [u8]);
     step(personality: &[u8], state: &mut [u8], inputs: u64, colours: &mut [u8]);
     retime(personality: &[u8], state: &mut [u8], new_personality: &[u8]);

@@ -1,7 +1,7 @@
 //! The calls of the library with their answers taken apart.
 
 use crate::answer::{part, sheet_settings, wait_bound_or_refusal, Refusal, Settings};
-use crate::{packed, Fields, SEALED_LEN, STATE_LEN, VERSION};
+use crate::{packed, Fields, MOST_WAIT_BYTES, SEALED_LEN, STATE_LEN, VERSION};
 
 /// Accepts or refuses a personality.
 pub fn read(personality: &[u8]) -> Result<(), Refusal> {
@@ -11,6 +11,42 @@ pub fn read(personality: &[u8]) -> Result<(), Refusal> {
 /// The longest wait of a demand in steps.
 pub fn wait_bound(personality: &[u8]) -> Result<u64, Refusal> {
     wait_bound_or_refusal(packed::wait_bound(personality))
+}
+
+/// The waits of a site in steps, by its own times.
+///
+/// A demand of a phase that lasts (a lock, a button, or a call without lock in every
+/// step) has its minimum green in the step that registers it, or in fewer further steps
+/// than the wait of the phase. A button has its walk in the step that registers it, or in
+/// fewer further steps than the wait of its movement.
+#[derive(Clone, Debug, PartialEq, Eq)]
+pub struct Waits {
+    /// Of each phase, in letter order.
+    pub phases: Vec<u16>,
+    /// Of each movement.
+    pub movements: Vec<u16>,
+}
+
+/// The wait of each phase and of each movement.
+///
+/// ```
+/// let personality = std::fs::read("../../examples/staggered/personality.bin").unwrap();
+/// let waits = willowera::waits(&personality)?;
+/// assert_eq!(waits.phases, [557, 598, 755]);
+/// assert_eq!(waits.movements, [792]);
+/// # Ok::<(), willowera::Refusal>(())
+/// ```
+pub fn waits(personality: &[u8]) -> Result<Waits, Refusal> {
+    let mut buffer = [0; MOST_WAIT_BYTES];
+    let length = wait_bound_or_refusal(packed::waits(personality, &mut buffer))? as usize;
+    let (waits, _) = buffer[..length].as_chunks();
+    let waits: Vec<u16> = waits.iter().copied().map(u16::from_le_bytes).collect();
+    // A record of section 2 has 12 bytes.
+    let (phases, movements) = waits.split_at(section(personality, 2)?.len() / 12);
+    Ok(Waits {
+        phases: phases.to_vec(),
+        movements: movements.to_vec(),
+    })
 }
 
 /// The number of signal groups: a step writes as many colours.

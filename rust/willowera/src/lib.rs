@@ -46,8 +46,8 @@ mod why;
 pub use answer::{part, sheet_settings, wait_bound_or_refusal, Part, Refusal, Settings};
 #[cfg(feature = "linked")]
 pub use board::{
-    groups, read, road, section, settings, version, version_fits, wait_bound, yellow, Controller,
-    Detector, RoadEnd, Stream, Vehicles,
+    groups, read, road, section, settings, version, version_fits, wait_bound, waits, yellow,
+    Controller, Detector, RoadEnd, Stream, Vehicles, Waits,
 };
 #[cfg(feature = "linked")]
 pub use cabinet::Cabinet;
@@ -60,6 +60,9 @@ pub const VERSION: u32 = 5;
 
 /// The length of a state in bytes.
 pub const STATE_LEN: usize = 336;
+
+/// Most bytes that the waits of a site take: two for each phase and each movement.
+pub const MOST_WAIT_BYTES: usize = 2 * (7 + MOVEMENTS);
 
 /// The length of a sealed record in bytes.
 pub const SEALED_LEN: usize = 347;

@@ -1,12 +1,19 @@
 //! The calls of the library over slices of any length, with its packed answers:
 //! the low 8 bits are 0 where a call is accepted, else the number of the
-//! refusal; the rest is the wait bound, the length of a line or the place.
+//! refusal; the rest is the wait bound, the length of a line, a number of bytes or the
+//! place.
 
 mod ffi {
     // A length, a record and a first output have 64 bits on every target.
     unsafe extern "C" {
         pub fn willowera_read(personality: *const u8, personality_len: u64) -> u64;
         pub fn willowera_wait_bound(personality: *const u8, personality_len: u64) -> u64;
+        pub fn willowera_waits(
+            personality: *const u8,
+            personality_len: u64,
+            waits: *mut u8,
+            waits_len: u64,
+        ) -> u64;
         pub fn willowera_fresh(
             personality: *const u8,
             personality_len: u64,
@@ -116,6 +123,21 @@ pub fn read(personality: &[u8]) -> u64 {
 pub fn wait_bound(personality: &[u8]) -> u64 {
     // SAFETY: the pointer and the length are those of one slice, only read.
     unsafe { ffi::willowera_wait_bound(personality.as_ptr(), personality.len() as u64) }
+}
+
+/// Writes the wait of each phase and of each movement, two bytes each, unless it is
+/// refused, and answers the number of bytes.
+pub fn waits(personality: &[u8], waits: &mut [u8]) -> u64 {
+    // SAFETY: each pointer and length are those of one slice; the one lent for
+    // writing does not overlap the personality.
+    unsafe {
+        ffi::willowera_waits(
+            personality.as_ptr(),
+            personality.len() as u64,
+            waits.as_mut_ptr(),
+            waits.len() as u64,
+        )
+    }
 }
 
 /// Writes the fresh state of a personality into a buffer of [`crate::STATE_LEN`]

@@ -2,7 +2,8 @@
 
 use std::collections::BTreeMap;
 use willowera::{colour, interval, refusal, stage, Fields, Movement, Refusal};
-use willowera::{LONGEST_LINE, MOVEMENTS, OUTPUTS, RECORDS, SEALED_LEN, STATE_LEN, VERSION};
+use willowera::{LONGEST_LINE, MOST_WAIT_BYTES, MOVEMENTS, OUTPUTS, RECORDS};
+use willowera::{SEALED_LEN, STATE_LEN, VERSION};
 
 const HEADER: &str = include_str!("../../../include/willowera.h");
 const WORDS: &str = include_str!("../../../include/willowera_words.h");
@@ -74,6 +75,9 @@ fn sizes() {
     assert_eq!(all["SEALED_BYTES"], SEALED_LEN);
     assert_eq!(all["MOST_LINE_BYTES"], LONGEST_LINE);
     assert_eq!(all["MOST_MOVEMENTS"], MOVEMENTS);
+    assert_eq!(all["MOST_WAIT_BYTES"], MOST_WAIT_BYTES);
+    let most = all["MOST_PHASES"] + all["MOST_MOVEMENTS"];
+    assert_eq!(all["MOST_WAIT_BYTES"], 2 * most);
     assert_eq!(all["RECORDS"], RECORDS);
     assert_eq!(all["OUTPUTS"], OUTPUTS);
     assert_eq!(all["VERSION"], VERSION as usize);

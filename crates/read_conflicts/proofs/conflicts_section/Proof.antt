@@ -10,6 +10,7 @@ use Rattle.rules.specs.Verdicts.{_orElse_}
 use Rattle.rules.specs.declared.answer.Verdict.{Verdict}
 use Rattle.rules.proofs.Verdicts.{or-next, or-stop, all-good}
 use Rattle.proof_acceptance.proofs.Sections.{records-held, site-accepted, groups-accepted}
+use Rattle.read_conflicts_matrix.specs.Matrix.{MatrixFits}
 use Rattle.read_conflicts.specs.Refused.{refusedRecord, firstRefused}
 use Rattle.read_conflicts.proofs.conflicts_section.Statement.{statement}
 use Rattle.read_conflicts.proofs.conflicts_section.Tie as tie
@@ -40,9 +41,13 @@ returns c = or-stop _ (checked (c .before .before)) (c .enum-told .given .1)
 enum-told-2 : tie.Need-enum-told-2
 enum-told-2 c = search needs
 
-surely-right-requires : tie.Need-surely-right-requires
+-- the head has passed: all records are there
+fits :
+    (c : tie.After-enum-told2) →
+    let start = c .before .before .before .before .before in
+    MatrixFits (start .args .s .now) (start .args .layout)
 unfolding conflictsHead
-surely-right-requires c κs =
+fits c =
     let atSection = c .before .before in
     let pre = atSection .before .before .before .pre in
     let site = site-accepted _ (pre .1) in
@@ -55,6 +60,9 @@ surely-right-requires c κs =
       sets = rw (laid .groups, laid .groupcount) (groups-accepted _ (pre .2) .next);
       conflicts = records-held _ _ 4 _ 4 (sym (atSection .sized-section .ensures) ∙ c .enum-told2 .given .1);
     }
+
+surely-right-requires : tie.Need-surely-right-requires
+surely-right-requires c κs = fits c
 
 -- the head has passed: the answer is that of the two searches
 afterHead :
@@ -71,28 +79,11 @@ returns-2 c =
     let good = c .before .surely-right .ensures (c .if1 .taken) in
     afterHead (c .before .before) (or-next (all-good _ _ _ _ (λ g l. good g l .0)) refl (all-good _ _ _ _ (λ g l. good g l .1)))
 
-first-refused-requires : tie.Need-first-refused-requires
-first-refused-requires c κs = search needs
-
-enum-told-3 : tie.Need-enum-told-3
-enum-told-3 c = search needs
+searched-requires : tie.Need-searched-requires
+searched-requires c κs = fits (c .before .before)
 
 returns-3 : tie.Need-returns-3
-returns-3 c =
-    let hasorder = c .before .before in
-    afterHead (hasorder .before .before .before) (or-stop _ (hasorder .first-refused .ensures) (c .enum-told3 .given .1))
-
-enum-told-4 : tie.Need-enum-told-4
-enum-told-4 c = search needs
-
-first-refused-requires-2 : tie.Need-first-refused-requires-2
-first-refused-requires-2 c κs = search needs
-
-returns-4 : tie.Need-returns-4
-returns-4 c =
-    let passed = c .before in
-    let hasorder = passed .before .before in
-    afterHead (hasorder .before .before .before) (or-next (hasorder .first-refused .ensures) (passed .enum-told4 .given .1) (c .first-refused2 .ensures))
+returns-3 c = afterHead (c .before .before .before) (c .searched .ensures)
 
 pub conflicts-section-spec : {M : Type 1} → statement M
 conflicts-section-spec =
@@ -106,9 +97,5 @@ conflicts-section-spec =
     enum-told-2
     surely-right-requires
     returns-2
-    first-refused-requires
-    enum-told-3
-    returns-3
-    enum-told-4
-    first-refused-requires-2
-    returns-4)
+    searched-requires
+    returns-3)

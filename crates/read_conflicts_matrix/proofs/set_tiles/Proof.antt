@@ -1,13 +1,14 @@
 -- `read_conflicts_matrix::set_tiles` meets its contract. The invariant: the tiles of the bands before a are in place.
 use Prim.Native.Nat.{_+_, _-_, _*_, _<_}
-use Rattle.read_conflicts_matrix.proofs.MatrixRows.{Kept, kept-none, kept-more}
+use Rattle.read_conflicts_matrix.proofs.Kept.{Kept, kept-none, kept-more}
+use Rattle.read_conflicts_matrix.specs.Matrix.{SetRows}
 use borrow.Author.Needs.{needs}
 use native.Mathlib.Omega.{arith}
 use Rattle.read_conflicts_matrix.proofs.set_tiles.Statement.{statement}
 use Rattle.read_conflicts_matrix.proofs.set_tiles.Tie as tie
 
 abbrev Inv-loop : tie.InvT-loop
-Inv-loop s layout groups tiles₀ a₀ tiles a = (8 * a < groups + 8) × Kept s tiles a
+Inv-loop s layout groups tiles₀ a₀ tiles a = (8 * a < groups + 8) × Kept (SetRows s) 4 tiles a
 
 abbrev μ-loop : tie.MeasureT-loop
 μ-loop s layout groups tiles₀ a₀ tiles a = groups - a

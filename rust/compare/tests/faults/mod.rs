@@ -4,6 +4,20 @@ use compare::{run_cases, Difference, Kind};
 use model::packed::Board;
 use std::fmt::Debug;
 
+/// Lists the points in which the calls may go wrong once, for the type and for the test.
+#[allow(unused_macros)]
+macro_rules! faults {
+    ($($fault:ident)+) => {
+        #[derive(Clone, Copy, Debug, PartialEq, Eq)]
+        enum Fault {
+            None,
+            $($fault),+
+        }
+
+        const FAULTS: &[Fault] = &[$(Fault::$fault),+];
+    };
+}
+
 /// The cases of these kinds among the first so many.
 pub fn cases_of(kinds: &[Kind], count: u64) -> Vec<u64> {
     (0..count)

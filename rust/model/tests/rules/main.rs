@@ -22,4 +22,5 @@ mod sealed;
 mod states;
 mod trace;
 mod wait;
+mod waits;
 mod why;

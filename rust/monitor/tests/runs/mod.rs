@@ -21,16 +21,27 @@ pub fn watched(
     watch(among, board, &personality, &mut driver, &mut rng, calls).unwrap()
 }
 
-/// The first breach on some site under some strategy.
-pub fn first_breach(among: Among, board: &dyn Board, site: fn(&mut Rng) -> Plan) -> Breach {
+/// The first breach of a kind on some site under some strategy.
+pub fn find_breach(
+    among: Among,
+    board: &dyn Board,
+    site: fn(&mut Rng) -> Plan,
+    wanted: impl Fn(&Breach) -> bool,
+) -> Breach {
     let mut rng = Rng::new(7);
     for seed in 0..30 {
         let plan = site(&mut rng);
         for strategy in Strategy::ALL {
-            if let Err(breach) = watched(among, board, &plan, strategy, seed, 3_000) {
-                return breach;
+            match watched(among, board, &plan, strategy, seed, 3_000) {
+                Err(breach) if wanted(&breach) => return breach,
+                _ => {}
             }
         }
     }
     panic!("the monitor notices nothing");
+}
+
+/// The first breach on some site under some strategy.
+pub fn first_breach(among: Among, board: &dyn Board, site: fn(&mut Rng) -> Plan) -> Breach {
+    find_breach(among, board, site, |_| true)
 }

@@ -5,7 +5,8 @@
 use super::roads::results_len;
 use crate::recorder::{Buffer, Handed, Place, Recorder, ALIGNMENT};
 use generate::{held_record, known_inputs, retimed, running_timed_state, Plan, Rng, RoadPlan};
-use model::{row_of, seal, Record, Site, LONGEST_LINE, OUTPUTS, ROW_LEN, SEALED_LEN, STATE_LEN};
+use model::{row_of, seal, Record, Site};
+use model::{LONGEST_LINE, MOST_WAIT_BYTES, OUTPUTS, ROW_LEN, SEALED_LEN, STATE_LEN};
 
 /// What is handed to a call.
 enum Part {
@@ -76,7 +77,7 @@ impl Recorder {
     /// - A state, a row and a sealed record have one right length. Another is refused
     ///   before a byte is read, except the first byte of a record to be resumed.
     /// - Streams are counted before one is read; more than 48 are refused.
-    /// - Of colours, line, results and outputs only the bytes that the call needs are
+    /// - Of colours, line, waits, results and outputs only the bytes that the call needs are
     ///   written, and they are in the arena. The call is accepted.
     pub(super) fn far_lengths(&mut self) {
         for sample in samples(&mut self.rng) {
@@ -164,6 +165,7 @@ fn site_samples(rng: &mut Rng) -> Vec<Sample> {
     vec![
         sample("read", vec![first()]),
         sample("wait_bound", vec![first()]),
+        sample("waits", vec![first(), noise(rng, MOST_WAIT_BYTES)]),
         sample("groups", vec![first()]),
         sample("section", vec![first(), Part::Small(3)]),
         sample("fresh", vec![first(), noise(rng, STATE_LEN)]),

@@ -3,7 +3,7 @@
 use super::MOST_PERSONALITY;
 use crate::recorder::{Buffer, Recorder};
 use generate::{damaged, other_edition, scrambled, twice_damaged, Pace, Plan, Rng, Shape, AIMED};
-use model::{Site, TimedState, STATE_LEN};
+use model::{Site, TimedState, MOST_WAIT_BYTES, STATE_LEN};
 
 /// Kinds that are looked up besides 0 to 10.
 const FAR_KINDS: [u64; 4] = [255, 256, 257, 65_535];
@@ -66,6 +66,11 @@ impl Recorder {
         let state = self.laid(&fresh);
         let rest = self.room(400);
         self.reading(first);
+        let longest = self.rng.below(MOST_WAIT_BYTES + 4);
+        for length in [MOST_WAIT_BYTES, longest] {
+            let waits = rest.with_length(length);
+            self.call("waits", &[first.into(), waits.into()]);
+        }
         self.call("fresh", &[first.into(), state.into()]);
         let inputs = self.rng.draw() & self.rng.draw() & self.rng.draw();
         let colours = rest.with_length(32);

@@ -1,44 +1,48 @@
--- `records::refused_record` meets its contract: with 10 the conflicts decide, with 9 the record's own bits as well.
+-- `records::refused_record` meets its contract, number by number: the sets that are turned are those that the test of the number needs.
+use mathlib.Core.Path.{_∙_}
+use native.Mathlib.Omega.{arith}
 use borrow.Author.Tests.{eq-eqb, ne-eqb}
-use Rattle.rules.specs.Personality.{badConflict, conflictInPhase}
-use Rattle.read_conflicts.specs.Refused.{refusedPair, refusedConflict, refusedRecord}
+use Rattle.read_conflicts.specs.Refused.{refusedRecord}
+use Rattle.read_conflicts.proofs.ComparedSets.{turned-named, turned-members}
 use borrow.Author.Needs.{needs}
 use Rattle.read_conflicts.proofs.records.refused_record.Statement.{statement}
 use Rattle.read_conflicts.proofs.records.refused_record.Tie as tie
 
-refused-conflict-requires : tie.Need-refused-conflict-requires
-refused-conflict-requires c κs = search needs
+mul-bad-conflict : tie.Need-mul-bad-conflict
+mul-bad-conflict c = search needs
+
+array-read-bad-conflict : tie.Need-array-read-bad-conflict
+array-read-bad-conflict c = search needs
+
+bad-conflict-requires : tie.Need-bad-conflict-requires
+bad-conflict-requires c κs =
+    let pre = c .before .before .pre in (pre .0, pre .2, turned-named _ _ (eq-eqb _ _ (c .if1 .taken)) (pre .3))
 
 returns : tie.Need-returns
-unfolding refusedRecord refusedConflict refusedPair conflictInPhase
-returns c =
-    let other = ne-eqb _ _ (c .if1 .taken) in rw other (rw other at (c .before .refused-conflict .ensures))
+unfolding refusedRecord
+returns c = rw (eq-eqb _ _ (c .before .if1 .taken)) (c .bad-conflict .ensures)
 
-conflict-set-requires : tie.Need-conflict-set-requires
-conflict-set-requires c κs = search needs
-
-bit32-requires : tie.Need-bit32-requires
-bit32-requires c κs = search needs
-
-reaches32-requires : tie.Need-reaches32-requires
-reaches32-requires c κs = search needs
+conflict-in-phase-requires : tie.Need-conflict-in-phase-requires
+conflict-in-phase-requires c κs =
+    let pre = c .before .before .pre in
+    let other = ne-eqb _ _ (c .if1 .left) in (
+      pre .0,
+      pre .2,
+      turned-members other (pre .3),
+      pre .1 other _ (omega (arith, pre .0 .laid .groupcount, pre .2)),
+    )
 
 returns-2 : tie.Need-returns-2
-unfolding refusedRecord refusedConflict refusedPair badConflict
-returns-2 c =
-    let atConflict = c .before .before .before .before in
-    let hasorder = eq-eqb _ _ (c .before .before .before .if1 .left) in
-    let conflict = rw hasorder at (atConflict .refused-conflict .ensures) in
-    let n = atConflict .before .before .pre .0 .groupcount in
-    rw (hasorder, c .reaches32 .ensures, c .before .bit32 .ensures, c .before .before .conflict-set .ensures, conflict, n)
+unfolding refusedRecord
+returns-2 c = rw (ne-eqb _ _ (c .before .if1 .left)) (c .conflict-in-phase .ensures)
 
 pub refused-record-spec : {M : Type 1} → statement M
 refused-record-spec =
     tie.close
     (tie.spec
-    refused-conflict-requires
+    mul-bad-conflict
+    array-read-bad-conflict
+    bad-conflict-requires
     returns
-    conflict-set-requires
-    bit32-requires
-    reaches32-requires
+    conflict-in-phase-requires
     returns-2)

@@ -1,0 +1,3 @@
+pub mod WaitCases
+pub mod Parts
+pub mod Reached

@@ -1,0 +1,237 @@
+//! The wait of each phase and each movement: what the monitor finds by them, and what the
+//! wait bound of the site alone does not show.
+
+use generate::Plan;
+use model::packed::Board;
+use model::packed::{self, number, rest, Model};
+use model::{Interval, Site, TimedState, FIRST_BUTTON, STATE_LEN};
+use monitor::{Breach, Monitor, Seen};
+use variant::{AsBoard, Variant};
+
+const BUTTON: u64 = 1 << FIRST_BUTTON;
+const EXTEND_A: u64 = 1 << 0;
+const CALL_B: u64 = 1 << 1;
+
+/// A: 10 steps of minimum green, 100 of maximum, 30 of yellow, 10 of all-red, a detector
+/// that only extends, and a crossing with 10 steps of walk, 200 and 100 of clearance. B: 10,
+/// 10, 30, 10, and a call without lock. The wait bound is 920, the wait of the crossing 400.
+fn site() -> Plan {
+    Plan {
+        phases: vec![[0, 10, 100, 5, 30, 10], [0, 10, 10, 0, 30, 10]],
+        groups: vec![[1, 0], [2, 0], [1, 2]],
+        conflicts: vec![0b010, 0b101, 0b010],
+        detectors: vec![[0, 4], [1, 1]],
+        movements: vec![[10, 200, 100]],
+        ..Plan::junction()
+    }
+}
+
+/// Steps of a board from the fresh state under a monitor. The inputs of a step are chosen
+/// by its number and by the state before it. Gives the breach, if there is one.
+fn run(
+    board: &dyn Board,
+    plan: &Plan,
+    mut monitor: Monitor,
+    steps: u64,
+    mut inputs: impl FnMut(u64, &TimedState) -> u64,
+) -> Result<Monitor, Breach> {
+    let personality = plan.bytes();
+    let site = Site::read(&personality).unwrap();
+    let mut state = [0; STATE_LEN];
+    assert_eq!(board.fresh(&personality, &mut state), 0);
+    for step in 1..=steps {
+        let before = TimedState::from_bytes(&state).unwrap();
+        let inputs = inputs(step, &before);
+        let mut colours = vec![0; site.group_count()];
+        let answer = board.step(&personality, &mut state, inputs, &mut colours);
+        assert_eq!(number(answer), 0);
+        let after = TimedState::from_bytes(&state).unwrap();
+        let seen = Seen {
+            before: &before,
+            inputs,
+            after: &after,
+            colours: &colours,
+            wait: rest(answer),
+        };
+        monitor.accepted_step(&site, &seen)?;
+    }
+    Ok(monitor)
+}
+
+fn monitor_of(plan: &Plan, monitor: fn(&Site) -> Monitor) -> Monitor {
+    monitor(&Site::read(&plan.bytes()).unwrap())
+}
+
+/// The model, but the maximum count goes back to 0 in running when no other phase is
+/// demanded any more.
+struct SetBack;
+
+impl Variant for SetBack {
+    fn step(&self, personality: &[u8], state: &mut [u8], inputs: u64, colours: &mut [u8]) -> u64 {
+        let site = Site::read(personality).unwrap();
+        let answer = packed::step(personality, state, inputs, colours);
+        let mut timed = TimedState::from_bytes(state).unwrap();
+        let called = (0..site.detector_count()).any(|index| {
+            let detector = site.detector(index);
+            inputs >> index & 1 != 0 && detector.calls() && detector.phase != timed.state.phase
+        });
+        let others = timed.state.demanded & !(1 << timed.state.phase) != 0;
+        if timed.state.interval == Interval::Running && !called && !others {
+            timed.state.maximum_count = 0;
+            state.copy_from_slice(&timed.to_bytes());
+        }
+        answer
+    }
+}
+
+/// Presses the button, lets the walk end by one call of B, presses again when the first
+/// clearance begins, and extends A always. B is called again in the last step of the second
+/// clearance and from then on, so that A goes on to its maximum if that has been set back.
+fn hold_a(step: u64, before: &TimedState) -> u64 {
+    let movement = before.state.movements[0];
+    let press = match (step, movement.stage as u8, movement.age) {
+        // Registered while start red lasts: the walk begins with A.
+        (1, _, _) => BUTTON,
+        (_, 2, 1) => BUTTON,
+        _ => 0,
+    };
+    let call = match (movement.stage as u8, movement.age) {
+        (1, 10..) => CALL_B,
+        (3, 100) => CALL_B,
+        (0, _) if step > 200 => CALL_B,
+        _ => 0,
+    };
+    press | call | EXTEND_A
+}
+
+#[test]
+fn a_maximum_count_that_is_set_back() {
+    let plan = site();
+    let right = run(
+        &Model,
+        &plan,
+        monitor_of(&plan, Monitor::new),
+        2_000,
+        hold_a,
+    );
+    assert_eq!(right.unwrap().nearest_own_wait(), (390, 400));
+    let wrong = AsBoard(SetBack);
+    let found = run(
+        &wrong,
+        &plan,
+        monitor_of(&plan, Monitor::new),
+        2_000,
+        hold_a,
+    );
+    let found = found.expect_err("the monitor notices nothing");
+    assert!(
+        matches!(
+            found,
+            Breach::WalkWaits {
+                movement: 0,
+                wait: 400,
+                ..
+            }
+        ),
+        "{found}"
+    );
+    // The wait bound of the site is not broken.
+    let monitor = monitor_of(&plan, Monitor::of_the_wait_bound);
+    let unseen = run(&wrong, &plan, monitor, 2_000, hold_a).unwrap();
+    assert_eq!(unseen.nearest_wait(), (489, 920));
+}
+
+/// The model, but it sees no detector and no button.
+struct Blind;
+
+impl Variant for Blind {
+    fn step(&self, personality: &[u8], state: &mut [u8], _: u64, colours: &mut [u8]) -> u64 {
+        packed::step(personality, state, 0, colours)
+    }
+}
+
+/// The breach of a blind board by inputs that depend on the step alone, if there is one.
+fn blind(monitor: fn(&Site) -> Monitor, plan: &Plan, inputs: fn(u64) -> u64) -> Option<Breach> {
+    let monitor = monitor_of(plan, monitor);
+    run(&AsBoard(Blind), plan, monitor, 2_000, |step, _| {
+        inputs(step)
+    })
+    .err()
+}
+
+#[test]
+fn a_call_that_is_held_is_promised_its_green() {
+    let found = |inputs| blind(Monitor::new, &site(), inputs);
+    let late = |registered| {
+        Some(Breach::PhaseWaits {
+            step: registered + 451,
+            phase: 1,
+            registered,
+            wait: 451,
+        })
+    };
+    assert_eq!(found(|_| CALL_B), late(1));
+    // Absent in one step: it begins again.
+    assert_eq!(found(|step| u64::from(step != 400) * CALL_B), late(401));
+    // Absent now and then: nothing is promised.
+    assert_eq!(
+        found(|step| u64::from(!step.is_multiple_of(400)) * CALL_B),
+        None
+    );
+}
+
+#[test]
+fn calls_and_locks_by_turns_are_one_demand() {
+    let mut plan = site();
+    plan.detectors.push([1, 2]);
+    // A call to step 100, then a lock that stays.
+    let found = blind(Monitor::new, &plan, |step| match step {
+        1..100 => CALL_B,
+        100 => 1 << 2,
+        _ => 0,
+    });
+    let (registered, wait) = (1, 451);
+    let step = registered + wait;
+    assert_eq!(
+        found,
+        Some(Breach::PhaseWaits {
+            step,
+            phase: 1,
+            registered,
+            wait
+        })
+    );
+}
+
+#[test]
+fn a_button_is_promised_its_walk() {
+    let press = |step| u64::from(step == 5) * BUTTON;
+    let found = blind(Monitor::new, &site(), press);
+    let late = Breach::WalkWaits {
+        step: 405,
+        movement: 0,
+        registered: 5,
+        wait: 400,
+    };
+    assert_eq!(found, Some(late));
+}
+
+#[test]
+fn the_wait_bound_is_watched_too() {
+    let mut plan = site();
+    plan.detectors[1][1] = 2;
+    let found = |inputs| blind(Monitor::of_the_wait_bound, &plan, inputs);
+    let (registered, step) = (5, 925);
+    let lock = Breach::LockUnmet {
+        step,
+        phase: 1,
+        registered,
+    };
+    assert_eq!(found(|step| u64::from(step == 5) * CALL_B), Some(lock));
+    let press = Breach::PressUnmet {
+        step,
+        movement: 0,
+        registered,
+    };
+    assert_eq!(found(|step| u64::from(step == 5) * BUTTON), Some(press));
+}

@@ -1,0 +1,12 @@
+#!/usr/bin/env bash
+# Builds the page and tests it in chromium without a window: workbench/page/check.sh [--pictures] [TEST ..]
+# --pictures also makes a screenshot of each tab: target/page/*.png. Installs chromium and node if they are missing (as root).
+set -eu
+cd "$(dirname "$0")"
+../setup.sh browser
+./build.sh
+if [ "${1:-}" = --pictures ]; then
+    shift
+    node test/pictures.js
+fi
+node test/check.js --faults "$@"
