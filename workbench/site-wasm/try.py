@@ -1,5 +1,5 @@
 #!/usr/bin/env python3
-"""Tries the site library in a browser: every example text is read and built to the stored bytes, bytes are shown as a text that builds to
+"""Tries the site library in a browser, by the calls of the page: every example text is read and built to the stored bytes, bytes are shown as a text that builds to
 the same bytes, a mistake and a refusal are told with their lines.
 
     try.py SITE.WASM     needs chromium; exit status 0 if all is as expected"""
@@ -15,14 +15,15 @@ ROOT = Path(__file__).resolve().parents[2]
 PAGE = """<!DOCTYPE html><meta charset="utf-8"><pre id="out">not run</pre><script>
 %s
 const cases = %s;
-const site = siteLibrary(Uint8Array.from(atob("%s"), c => c.charCodeAt(0)));
+const wasm = new WebAssembly.Module(Uint8Array.from(atob("%s"), c => c.charCodeAt(0)));
+const site = new SiteTexts(new WebAssembly.Instance(wasm).exports);
 const same = (a, b) => JSON.stringify(a) === JSON.stringify(b);
 const wrong = [];
 function expect(what, truth) { if (!truth) wrong.push(what); }
 for (const [name, text, bytes] of cases) {
     const built = site.parse(text).built;
     expect(name + ": bytes", same(built.bytes, bytes) && built.spans.length === bytes.length);
-    expect(name + ": shown", same(site.parse(site.show(bytes)).built.bytes, bytes));
+    expect(name + ": shown", same(site.parse(site.show(Uint8Array.from(bytes))).built.bytes, bytes));
 }
 const [, text] = cases.find(([name]) => name.endsWith("two_phases/site.txt"));
 const mistakes = site.parse(text.replace("locking", "lokcing")).mistakes;
@@ -30,11 +31,11 @@ expect("a mistake", mistakes.length === 1 && mistakes[0].found === "`lokcing`" &
 const told = site.tell(text, 5, 20);
 expect("a refusal", told.text.startsWith("phase A: yellow is 3.0 s") && told.span.line === 9);
 const fast = text.replace("vehicle ", "vehicle approach north ") + "\\napproaches\\nnorth speed 60\\nsouth speed 10\\n";
-const warned = site.warnings(fast, 270, (speed, grade) => speed === 60 && grade === 0 ? 41 : null);
+const warned = site.warnings(fast, 270, "60 0 41");
 expect("a warning", warned.length === 1 && warned[0].kind === "short-yellow");
-expect("inputs", same(site.inputs(text, "steps 3\\n2 detector 1\\n").inputs.map(String), ["0", "2", "0"]));
+expect("inputs", same(site.inputs(text, "steps 3\\n2 detector 1\\n").inputs, ["0", "2", "0"]));
 expect("no inputs", site.inputs(text, "steps 3\\n4 detector 1\\n").mistakes.length === 1);
-expect("no text", site.show([1, 2, 3]) === null);
+expect("no text", site.show(Uint8Array.from([1, 2, 3])).startsWith("! "));
 document.getElementById("out").textContent = wrong.length ? "WRONG " + wrong.join(", ") : "as expected";
 </script>
 """
@@ -47,7 +48,7 @@ def cases():
 
 
 def main():
-    script = Path(__file__).with_name("site.js").read_text(encoding="utf-8")
+    script = Path(ROOT, "workbench/page/src/library.js").read_text(encoding="utf-8")
     wasm = base64.b64encode(Path(sys.argv[1]).read_bytes()).decode()
     listed = json.dumps(list(cases())).replace("</", "<\\/")
     with tempfile.TemporaryDirectory() as folder:
