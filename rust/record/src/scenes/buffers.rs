@@ -83,7 +83,7 @@ impl Recorder {
         for sample in samples(&mut self.rng) {
             for chosen in 0..sample.parts.len() {
                 for high in HIGH {
-                    self.far_part(&sample, chosen, |low| high + low);
+                    self.far_part(&sample, chosen, |low| high | low);
                     self.far_part(&sample, chosen, |_| high);
                 }
             }
