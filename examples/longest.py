@@ -81,19 +81,18 @@ def main(arguments):
         print(__doc__)
         return 2
     longest, *programs = arguments
-    try:
-        for path in sorted(HERE.glob("*/site.txt")):
-            name = path.parent.name
-            note = (HERE / name / "NOTE.md").read_text(encoding="utf-8").splitlines()
-            rows = list(rows_of(name, longest, programs))
-            print(name, *rows, sep="\n", flush=True)
-            for row in rows:
-                need(row in note, f"{name}/NOTE.md", f"the row `{row}` is missing")
-    except Mistake as mistake:
-        print(mistake)
-        return 1
+    for path in sorted(HERE.glob("*/site.txt")):
+        name = path.parent.name
+        note = (HERE / name / "NOTE.md").read_text(encoding="utf-8").splitlines()
+        rows = list(rows_of(name, longest, programs))
+        print(name, *rows, sep="\n", flush=True)
+        for row in rows:
+            need(row in note, f"{name}/NOTE.md", f"the row `{row}` is missing")
     return 0
 
 
 if __name__ == "__main__":
-    sys.exit(main(sys.argv[1:]))
+    try:
+        sys.exit(main(sys.argv[1:]))
+    except Mistake as mistake:
+        sys.exit(str(mistake))

@@ -8,23 +8,10 @@ use model::{Interval, Site, TimedState, FIRST_BUTTON, STATE_LEN};
 use monitor::{Breach, Monitor, Seen};
 use variant::{AsBoard, Variant};
 
+// The site is `Plan::long_clearance`. Its wait bound is 920, and the wait of its crossing 400.
 const BUTTON: u64 = 1 << FIRST_BUTTON;
 const EXTEND_A: u64 = 1 << 0;
 const CALL_B: u64 = 1 << 1;
-
-/// A: 10 steps of minimum green, 100 of maximum, 30 of yellow, 10 of all-red, a detector
-/// that only extends, and a crossing with 10 steps of walk, 200 and 100 of clearance. B: 10,
-/// 10, 30, 10, and a call without lock. The wait bound is 920, the wait of the crossing 400.
-fn site() -> Plan {
-    Plan {
-        phases: vec![[0, 10, 100, 5, 30, 10], [0, 10, 10, 0, 30, 10]],
-        groups: vec![[1, 0], [2, 0], [1, 2]],
-        conflicts: vec![0b010, 0b101, 0b010],
-        detectors: vec![[0, 4], [1, 1]],
-        movements: vec![[10, 200, 100]],
-        ..Plan::junction()
-    }
-}
 
 /// Steps of a board from the fresh state under a monitor. The inputs of a step are chosen
 /// by its number and by the state before it. Gives the breach, if there is one.
@@ -106,7 +93,7 @@ fn hold_a(step: u64, before: &TimedState) -> u64 {
 
 #[test]
 fn a_maximum_count_that_is_set_back() {
-    let plan = site();
+    let plan = Plan::long_clearance();
     let right = run(
         &Model,
         &plan,
@@ -161,7 +148,7 @@ fn blind(monitor: fn(&Site) -> Monitor, plan: &Plan, inputs: fn(u64) -> u64) -> 
 
 #[test]
 fn a_call_that_is_held_is_promised_its_green() {
-    let found = |inputs| blind(Monitor::new, &site(), inputs);
+    let found = |inputs| blind(Monitor::new, &Plan::long_clearance(), inputs);
     let late = |registered| {
         Some(Breach::PhaseWaits {
             step: registered + 451,
@@ -182,7 +169,7 @@ fn a_call_that_is_held_is_promised_its_green() {
 
 #[test]
 fn calls_and_locks_by_turns_are_one_demand() {
-    let mut plan = site();
+    let mut plan = Plan::long_clearance();
     plan.detectors.push([1, 2]);
     // A call to step 100, then a lock that stays.
     let found = blind(Monitor::new, &plan, |step| match step {
@@ -206,7 +193,7 @@ fn calls_and_locks_by_turns_are_one_demand() {
 #[test]
 fn a_button_is_promised_its_walk() {
     let press = |step| u64::from(step == 5) * BUTTON;
-    let found = blind(Monitor::new, &site(), press);
+    let found = blind(Monitor::new, &Plan::long_clearance(), press);
     let late = Breach::WalkWaits {
         step: 405,
         movement: 0,
@@ -218,7 +205,7 @@ fn a_button_is_promised_its_walk() {
 
 #[test]
 fn the_wait_bound_is_watched_too() {
-    let mut plan = site();
+    let mut plan = Plan::long_clearance();
     plan.detectors[1][1] = 2;
     let found = |inputs| blind(Monitor::of_the_wait_bound, &plan, inputs);
     let (registered, step) = (5, 925);
