@@ -3,7 +3,9 @@
 
 use generate::{Pace, Plan, Rng, Shape};
 use longest::{drive, Found};
-use model::Site;
+use model::packed::Model;
+use model::{Site, TimedState};
+use monitor::{follow, Monitor};
 use std::path::Path;
 
 /// Random beginnings for each demand.
@@ -55,24 +57,26 @@ fn a_phase_that_nothing_extends() {
 }
 
 #[test]
-fn inputs_lead_to_the_wait_again() {
-    let personality = Plan::junction().bytes();
-    let site = Site::read(&personality).unwrap();
-    for found in driven(&personality) {
-        let mut state = model::fresh();
-        let phase = found.driven.demand.phase(&site);
-        let mut met = None;
-        for (index, &inputs) in found.driven.inputs.iter().enumerate() {
-            let mut colours = [0; 2];
-            let next = model::step_on(&site, &state, inputs, &mut colours).unwrap();
-            let begins = next.is_green(phase) && !state.is_green(phase);
-            if begins && index + 1 > found.driven.registered {
-                met.get_or_insert(index + 1);
-            }
-            state = next;
+fn the_monitor_sees_the_same_waits() {
+    // In the second plan nothing extends B, which takes 9 steps from the others.
+    for (plan, waits) in [
+        (Plan::junction(), vec![(129, 130), (129, 130)]),
+        (
+            Plan::long_clearance(),
+            vec![(150, 160), (450, 451), (390, 400)],
+        ),
+    ] {
+        let personality = plan.bytes();
+        let site = Site::read(&personality).unwrap();
+        for (found, wait) in driven(&personality).into_iter().zip(waits) {
+            let inputs = found.driven.inputs;
+            let next = |step: u64, _: &TimedState| inputs[step as usize - 1];
+            let steps = inputs.len() as u64;
+            let monitor = follow(Monitor::new(&site), &Model, &personality, steps, next);
+            let nearest = monitor.unwrap().nearest_own_wait();
+            assert_eq!((found.driven.wait as u64, u64::from(found.wait)), wait);
+            assert_eq!(nearest, wait, "{}", found.name);
         }
-        let expected = found.driven.registered + found.driven.wait;
-        assert_eq!(met, Some(expected), "{}", found.name);
     }
 }
 

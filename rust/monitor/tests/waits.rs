@@ -1,11 +1,11 @@
 //! The wait of each phase and each movement: what the monitor finds by them, and what the
 //! wait bound of the site alone does not show.
 
-use generate::Plan;
+use generate::{Plan, Rng};
 use model::packed::Board;
 use model::packed::{self, number, rest, Model};
-use model::{Interval, Site, TimedState, FIRST_BUTTON, STATE_LEN};
-use monitor::{Breach, Monitor, Seen};
+use model::{Interval, Site, TimedState, FIRST_BUTTON};
+use monitor::{follow, watch, Among, Breach, Driver, Monitor, Strategy};
 use variant::{AsBoard, Variant};
 
 // The site is `Plan::long_clearance`. Its wait bound is 920, and the wait of its crossing 400.
@@ -18,31 +18,11 @@ const CALL_B: u64 = 1 << 1;
 fn run(
     board: &dyn Board,
     plan: &Plan,
-    mut monitor: Monitor,
+    monitor: Monitor,
     steps: u64,
-    mut inputs: impl FnMut(u64, &TimedState) -> u64,
+    inputs: impl FnMut(u64, &TimedState) -> u64,
 ) -> Result<Monitor, Breach> {
-    let personality = plan.bytes();
-    let site = Site::read(&personality).unwrap();
-    let mut state = [0; STATE_LEN];
-    assert_eq!(board.fresh(&personality, &mut state), 0);
-    for step in 1..=steps {
-        let before = TimedState::from_bytes(&state).unwrap();
-        let inputs = inputs(step, &before);
-        let mut colours = vec![0; site.group_count()];
-        let answer = board.step(&personality, &mut state, inputs, &mut colours);
-        assert_eq!(number(answer), 0);
-        let after = TimedState::from_bytes(&state).unwrap();
-        let seen = Seen {
-            before: &before,
-            inputs,
-            after: &after,
-            colours: &colours,
-            wait: rest(answer),
-        };
-        monitor.accepted_step(&site, &seen)?;
-    }
-    Ok(monitor)
+    follow(monitor, board, &plan.bytes(), steps, inputs)
 }
 
 fn monitor_of(plan: &Plan, monitor: fn(&Site) -> Monitor) -> Monitor {
@@ -57,6 +37,9 @@ impl Variant for SetBack {
     fn step(&self, personality: &[u8], state: &mut [u8], inputs: u64, colours: &mut [u8]) -> u64 {
         let site = Site::read(personality).unwrap();
         let answer = packed::step(personality, state, inputs, colours);
+        if number(answer) != 0 {
+            return answer;
+        }
         let mut timed = TimedState::from_bytes(state).unwrap();
         let called = (0..site.detector_count()).any(|index| {
             let detector = site.detector(index);
@@ -126,6 +109,22 @@ fn a_maximum_count_that_is_set_back() {
     let monitor = monitor_of(&plan, Monitor::of_the_wait_bound);
     let unseen = run(&wrong, &plan, monitor, 2_000, hold_a).unwrap();
     assert_eq!(unseen.nearest_wait(), (489, 920));
+}
+
+#[test]
+fn drivers_find_it_by_themselves() {
+    let personality = Plan::long_clearance().bytes();
+    let site = Site::read(&personality).unwrap();
+    let board = AsBoard(SetBack);
+    let found = (0..8).find_map(|seed| {
+        let mut driver = Driver::new(Strategy::Bursts, &site, Rng::new(seed));
+        let mut rng = Rng::new(!seed);
+        let among = Among::Nothing;
+        let watched = watch(among, &board, &personality, &mut driver, &mut rng, 40_000);
+        watched.unwrap().err()
+    });
+    let found = found.expect("the monitor notices nothing");
+    assert!(matches!(found, Breach::WalkWaits { .. }), "{found}");
 }
 
 /// The model, but it sees no detector and no button.
