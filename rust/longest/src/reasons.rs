@@ -141,9 +141,12 @@ fn before_walk(site: &Site, movement: usize) -> (u32, &'static str) {
         let ends = back - 1 + u32::from(site.movement(other).walk);
         ends.max(held + 1) + clearing(site, other)
     });
-    let cleared = walks.fold(back.max(held) + leaving(site, phase), u32::max);
-    (
-        best.max(cleared),
-        "another walk begins before the last step of the clearance, or nothing holds the phase",
-    )
+    let walks = walks.max().unwrap_or(0);
+    let alone = back.max(held) + leaving(site, phase);
+    let words = if walks > best.max(alone) {
+        "another walk begins at the latest one step before the own clearance ends"
+    } else {
+        "its phase starts by this button alone, or nothing extends it"
+    };
+    (best.max(alone).max(walks), words)
 }

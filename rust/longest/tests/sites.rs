@@ -92,3 +92,34 @@ fn random_sites() {
         driven(&Plan::of_shape(&mut rng, shape).bytes());
     }
 }
+
+/// A run waits longer than a formula allows that leaves something out.
+#[test]
+fn each_part_of_a_wait_is_needed() {
+    // Start red: B waits for it and for the turn of A, 90.
+    let mut plan = Plan::junction();
+    plan.start_red = 150;
+    assert_eq!(waits_of(&plan)[1], (150 + 90 - 1, 150 + 90));
+    // The late start of the demanded phase: without it the wait is 130.
+    let mut plan = Plan::junction();
+    plan.phases[0][0] = 7;
+    assert_eq!(waits_of(&plan)[0], (136, 137));
+    // The walk of another movement beside the own clearance: without it the wait is 400.
+    let mut plan = Plan::long_clearance();
+    plan.groups.push([1, 2]);
+    plan.conflicts[1] = 0b1101;
+    plan.conflicts.push(0b0010);
+    plan.movements.push([60, 5, 20]);
+    let (driven, wait) = waits_of(&plan)[2];
+    assert_eq!(wait, 465);
+    assert!(driven > 400, "{driven}");
+    // The second clearance runs beside yellow and all-red. If they came one after the other,
+    // the wait of B would be 491, and 40 steps of it would never be reached.
+    assert_eq!(waits_of(&Plan::long_clearance())[1], (450, 451));
+}
+
+/// For each phase and each movement the longest wait driven, and the one promised.
+fn waits_of(plan: &Plan) -> Vec<(usize, u32)> {
+    let found = driven(&plan.bytes()).into_iter();
+    found.map(|one| (one.driven.wait, one.wait)).collect()
+}

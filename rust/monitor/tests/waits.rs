@@ -2,8 +2,7 @@
 //! wait bound of the site alone does not show.
 
 use generate::{Plan, Rng};
-use model::packed::Board;
-use model::packed::{self, number, rest, Model};
+use model::packed::{self, number, Board, Model};
 use model::{Interval, Site, TimedState, FIRST_BUTTON};
 use monitor::{follow, watch, Among, Breach, Driver, Monitor, Strategy};
 use variant::{AsBoard, Variant};
