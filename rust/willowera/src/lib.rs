@@ -17,7 +17,7 @@
 //! folder of `libwillowera.a`, best as an absolute path:
 //!
 //! ```text
-//! WILLOWERA_LIB_DIR=/opt/willowera/lib cargo build
+//! WILLOWERA_LIB_DIR=/path/to/the/archive cargo build
 //! ```
 //!
 //! Without it the archive is looked for in `target/staticlib` of the repository, where
