@@ -116,8 +116,14 @@ fn warned(loaded: &Loaded) -> String {
     if warnings.is_empty() {
         return "<p>No warnings.</p>".to_string();
     }
-    let item =
-        |one: &site::Warning| format!("<li>line {}: {}</li>\n", one.span.line, escaped(&one.text));
+    let item = |one: &site::Warning| {
+        let note = if one.kind.is_note() { ", note" } else { "" };
+        format!(
+            "<li>line {}{note}: {}</li>\n",
+            one.span.line,
+            escaped(&one.text)
+        )
+    };
     let items: String = warnings.iter().map(item).collect();
     section(
         "warnings",
@@ -129,12 +135,11 @@ fn warned(loaded: &Loaded) -> String {
 fn groups(loaded: &Loaded) -> String {
     let site = &loaded.site;
     let group = |group: &site::Group| {
-        let name = group.place.name.as_deref().unwrap_or_default();
         row([
             cell(&group.name),
             cell(&letters(group.phases)),
             cell(MARKS[usize::from(group.mark)]),
-            cell(name),
+            cell(&group.place.words(site)),
         ])
     };
     let groups: String = site.groups.iter().map(group).collect();
@@ -145,12 +150,11 @@ fn groups(loaded: &Loaded) -> String {
         } else {
             call.to_string()
         };
-        let name = detector.place.name.as_deref().unwrap_or_default();
         row([
             number(at),
             cell(&letter(detector.phase.into()).to_string()),
             cell(&mode),
-            cell(name),
+            cell(&detector.place.words(site)),
         ])
     };
     let detectors: String = site.detectors.iter().enumerate().map(detector).collect();

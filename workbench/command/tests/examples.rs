@@ -2,7 +2,7 @@
 
 mod common;
 
-use common::{files, root, scratch, shown, sites, willowera};
+use common::{edited, files, root, scratch, shown, sites, willowera};
 use std::fs;
 
 #[test]
@@ -208,4 +208,31 @@ fn a_report_is_one_page_that_loads_nothing() {
     }
     let links = page.replace("http://www.w3.org/2000/svg", "");
     assert!(!links.contains("http") && !links.contains("src=") && !links.contains("href="));
+}
+
+/// The report has the place of what has no name in words.
+#[test]
+fn a_report_tells_places_without_names() {
+    let path = edited(
+        "places.txt",
+        &[
+            (
+                "lane 1 metres 39  \"eastbound\"",
+                "lanes 1..2 metres 30 length 4.5",
+            ),
+            (
+                "lane 1 arrow left,straight   \"eastbound\"",
+                "lane 1 arrow left,straight",
+            ),
+            ("streams\nsteps 36000", "streams\nsteps 10"),
+        ],
+    );
+    let page = willowera(&["report", shown(&path)]).text();
+    for place in [
+        "west, lanes 1..2, 30 m, 4.5 m long",
+        "west, lane 1, left, straight",
+        "westbound, right turn",
+    ] {
+        assert!(page.contains(&format!("<td>{place}</td>")), "{place}");
+    }
 }
