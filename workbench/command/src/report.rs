@@ -7,7 +7,7 @@ use crate::phases::diagram;
 use crate::road::{picture, road_frames, Queues};
 use crate::svg::escaped;
 use crate::timeline::{timeline, Picture};
-use crate::waits::{before, shares, Share, COUNTS, PARTS};
+use crate::waits::{before, own_waits, shares, Share, COUNTS, OWN_COUNTS, PARTS};
 use clap::ArgMatches;
 use serde_json::json;
 use site::{
@@ -34,7 +34,7 @@ pub fn report(out: &Out, matches: &ArgMatches) -> Result<(), Stop> {
             "Settings against their limits",
             &settings(&loaded),
         ),
-        section("waits", "Waits", &waits(&loaded)?),
+        section("waits", "Waits", &(own(&loaded)? + &waits(&loaded)?)),
     ];
     if !told.site.road.streams.is_empty() {
         parts.extend(roads(out, &loaded, &told)?);
@@ -243,6 +243,28 @@ fn settings(loaded: &Loaded) -> String {
         "<table>{}{rows}</table>\n",
         heads(&["Of", "Setting", "Value", "Limits", ""])
     )
+}
+
+/// The wait of each phase and of each movement, and what it is made of.
+fn own(loaded: &Loaded) -> Result<String, Stop> {
+    let own = own_waits(loaded)?;
+    let told = |name: &str, steps: u64, made: String| {
+        let steps = format!("{:.1}", steps as f64 / 10.0);
+        row([cell(name), number(steps), cell(&made)])
+    };
+    let waits: String = own
+        .iter()
+        .map(|wait| told(&wait.who, wait.steps(), wait.words()))
+        .collect();
+    let parts: String = site::waits::parts(&own)
+        .iter()
+        .map(|part| told(&part.what, part.steps(), part.words()))
+        .collect();
+    Ok(format!(
+        "<p>{OWN_COUNTS} In seconds:</p>\n<table>{}{waits}</table>\n<br>\n<table>{}{parts}</table>\n<p>One bound for the whole site:</p>\n",
+        heads(&["Who", "Wait", "Made of"]),
+        heads(&["Part", "At most", "Made of"])
+    ))
 }
 
 fn waits(loaded: &Loaded) -> Result<String, Stop> {
