@@ -183,8 +183,8 @@ mod tests {
         );
         let mut loaded = accepted(&Out::new(false), path).unwrap();
         assert!(own_waits(&loaded).is_ok());
-        // One step more of start red in the bytes than in the text; then of M of A.
-        for time in [6, 14] {
+        // One step more of M of A, then of X, in the bytes than in the text.
+        for time in [14, 16] {
             loaded.built.bytes[time] += 1;
             assert!(willowera::read(loaded.bytes()).is_ok());
             match own_waits(&loaded) {

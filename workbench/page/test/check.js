@@ -52,7 +52,7 @@ const tests = {
     assert.ok(count >= 15, `${count} traces`);
   },
 
-  /** A click on each button leads to its walk within the bound; the page shows the demand until then. */
+  /** A click on each button leads to its walk in less than the movement's wait; the page shows the demand until then. */
   async pressesLeadToWalks(browser) {
     let walks = 0;
     for (const site of ["four_arms", "crossings", "staggered", "largest"]) {
@@ -63,11 +63,12 @@ const tests = {
         await browser.value("steps(200)");
         await browser.click(`#view .input[data-bit="${48 + at}"]`);
         await browser.value("steps(1)");
-        const before = await browser.value("({ bound: page.run.bound, demand: byId('demands').textContent, walks: page.run.stage(" + at + ") === 1 })");
+        const before = await browser.value("({ bound: page.run.waits[page.run.site.phases.length + " + at + "], demand: byId('demands').textContent, walks: page.run.stage(" + at + ") === 1 })");
         if (before.walks) continue;
         assert.ok(before.demand.includes(`${movements[at].name} walk`), `${site}: demand of ${movements[at].name}: ${before.demand}`);
+        assert.ok(before.demand.includes(`0.0 of ${(before.bound / 10).toFixed(1)} s`), `${site}: its own wait beside it: ${before.demand}`);
         const waited = await browser.value(`(() => { for (let n = 1; n <= ${before.bound}; n++) { page.run.step(); if (page.run.colours[${movements[at].group}] === 2) return n; } return null; })()`);
-        assert.ok(waited !== null && waited <= before.bound, `${site}: ${movements[at].name} walks after ${waited} of ${before.bound} steps`);
+        assert.ok(waited !== null && waited < before.bound, `${site}: ${movements[at].name} walks after ${waited} of ${before.bound} steps`);
         await browser.value("refresh()");
         assert.ok(!(await browser.value("byId('demands').textContent")).includes(`${movements[at].name} walk`), `${site}: demand is met`);
         assert.equal(await browser.value(`document.querySelector('#view [data-group="${movements[at].group}"]').dataset.colour`), "G");
@@ -195,10 +196,17 @@ const tests = {
     for (const site of ["four_arms", ...folders]) {
       await browser.value(`loadExample("${site}"), choose("waits")`);
       const { bound, sum, total, rest } = await browser.value(`(() => { const parts = boundParts(page.library, page.run.site, page.run.bytes); return { bound: parts.bound, rest: parts.rest,
-        sum: Array.from(document.querySelectorAll("#view .waits:first-of-type td.sum"), cell => Math.round(10 * Number(cell.textContent))).slice(0, -1).reduce((a, b) => a + b, 0), total: page.library.waitBound(page.run.bytes).value }; })()`);
+        sum: Array.from(document.querySelectorAll("#view .bound td.sum"), cell => Math.round(10 * Number(cell.textContent))).slice(0, -1).reduce((a, b) => a + b, 0), total: page.library.waitBound(page.run.bytes).value }; })()`);
       assert.equal(sum, total, `${site}: the parts make the bound`);
       assert.equal(bound, total, site);
       assert.equal(rest, 0, `${site}: no part is left over`);
+      const rows = kind => browser.value(`Array.from(document.querySelectorAll("#view .${kind} tbody tr"), row => [row.cells[1], ...row.querySelectorAll("b")].map(cell => Math.round(10 * Number(cell.textContent))))`);
+      const own = await rows("own"), parts = await rows("parts");
+      for (const [whole, ...things] of [...own, ...parts]) assert.equal(things.reduce((a, b) => a + b, 0), whole, `${site}: what a wait and a part is made of`);
+      assert.deepEqual(own.map(([wait]) => wait), await browser.value("page.library.waits(page.run.bytes)"), `${site}: the waits of the library`);
+      const seen = await browser.value("Array.from(document.querySelectorAll('#seen tbody tr'), row => Math.round(10 * Number(row.cells[3].textContent)))");
+      assert.deepEqual(seen, own.map(([wait]) => wait), `${site}: beside the longest waits of the run`);
+      if (site === "staggered") assert.deepEqual(seen, [557, 598, 755, 792], "the waits of the staggered junction");
     }
     for (const site of ["four_phases", "t_junction", "two_phases"]) {
       await browser.value(`loadExample("${site}")`);
@@ -254,6 +262,9 @@ const tests = {
     await change("B    0   20", "B    0   40");
     assert.deepEqual(await browser.value("[page.run.now, page.run.timesWait]"), [20, true], "new times wait");
     assert.ok((await browser.value("byId('clock').textContent")).includes("new times wait"));
+    const waits = await browser.value("page.run.waits");
+    await browser.value("page.run.held = 2n; while (page.run.timesWait) page.run.step(); page.run.held = 1n; steps(1)");
+    assert.deepEqual(await browser.value("page.run.waits"), [waits[0] + 20, waits[1]], "a longer minimum green of B is in the wait of A");
     await change("1     B      locking", "1     B      non-locking");
     assert.deepEqual(await browser.value("[page.run.now, page.run.timesWait]"), [0, false], "another site begins anew");
     await change("V2: V1", "V2:");
