@@ -71,7 +71,6 @@ class Run {
   get target() { return this.state[6] ? this.state[7] : null; }
   get timesWait() { return this.state[187] !== 0; }
   stage(movement) { return this.state[14 + 3 * movement]; }
-  walkBegins(movement) { return this.stage(movement) === 1 && twoBytes(this.state, 15 + 3 * movement) === 1; }
 
   /** Why the phase holds, in the library's words. */
   get why() {
@@ -100,8 +99,7 @@ class Run {
     this.detectors.forEach((track, at) => track.put(step, bit(at)));
     this.buttons.forEach((track, at) => track.put(step, bit(FIRST_BUTTON + at)));
     this.locks.forEach((track, at) => track.put(step, this.state[12] >> at & 1));
-    // A walk that begins meets the demand, also if its button is pressed again in that step.
-    this.presses.forEach((track, at) => track.put(step, this.walkBegins(at) ? 0 : this.state[13] >> at & 1));
+    this.presses.forEach((track, at) => track.put(step, this.state[13] >> at & 1));
   }
 
   /** How long a demand waited that was there from a first to a last step: it is met in the step behind the last. */

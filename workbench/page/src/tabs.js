@@ -47,8 +47,10 @@ function ownTables(waits) {
   const parts = new Map(waits.flatMap(wait => wait.parts).map(part => [JSON.stringify(part), part]));
   const table = (kind, caption, names, rows) => `<table class="waits ${kind}"><caption>${caption}, in seconds</caption><thead><tr>` +
     `${names.map((name, at) => `<th scope="col"${at === 2 ? ` class="left"` : ""}>${name}</th>`).join("")}</tr></thead><tbody>${rows.join("")}</tbody></table>`;
-  return table("own", "The wait of each phase and movement", ["demand of", "wait", "made of"], waits.map(({ who, steps, parts }) => madeOf(who, steps, parts))) +
-    table("parts", "These parts", ["part", "at most", "made of"], Array.from(parts.values(), ({ what, steps, terms }) => madeOf(what, steps, terms)));
+  return [
+    table("own", "The wait of each phase and movement", ["demand of", "wait", "made of"], waits.map(({ who, steps, parts }) => madeOf(who, steps, parts))),
+    table("parts", "These parts", ["part", "at most", "made of"], Array.from(parts.values(), ({ what, steps, terms }) => madeOf(what, steps, terms))),
+  ];
 }
 
 /** The bound with one time changed by so many steps, or null if the library refuses the bytes. */
@@ -128,6 +130,7 @@ function partRow(name, times, part, bound) {
 
 function waitsTable(library, texts, run) {
   const { bound, start, rows, rest } = boundParts(library, run.site, run.wanted);
+  const [own, parts] = ownTables(ownWaits(library, texts, run));
   const head = ["phase", ...BOUND_COLUMNS, "part"].map(name => `<th scope="col">${name}</th>`).join("");
   const body = [
     partRow("start red", start, sumOf(start), bound),
@@ -135,11 +138,11 @@ function waitsTable(library, texts, run) {
     ...(rest === 0 ? [] : [partRow("other", [], rest, bound)]),
   ];
   return `<p class="lead">A demand that lasts has its minimum green, and a button its walk, in less than its wait. Nobody with a lock or a button waits longer than ` +
-    `<b>${seconds(bound)} s</b> (${bound} steps), the bound of the whole site.</p><div class="columns"><div>${ownTables(ownWaits(library, texts, run))}` +
+    `<b>${seconds(bound)} s</b> (${bound} steps), the bound of the whole site.</p><div class="columns"><div>${own}</div><div id="seen">${longestWaits(run)}</div><div>${parts}</div><div>` +
     `<table class="waits bound"><caption>The wait bound and its parts, in seconds</caption><thead><tr>${head}<td></td></tr></thead><tbody>${body.join("")}` +
     `<tr class="total"><th scope="row">bound</th><td colspan="${BOUND_COLUMNS.length}"></td><td class="sum">${seconds(bound)}</td><td></td></tr></tbody></table>` +
     `<p class="hint">Each factor is asked of the library: by how much the bound grows if this time is one step longer. Of several walks in a phase the longest counts. ` +
-    `A time in grey does not count.</p></div><div id="seen">${longestWaits(run)}</div></div>`;
+    `A time in grey does not count.</p></div></div>`;
 }
 
 /** For each phase and movement the longest wait seen since these times rule, from registered to met, beside its own wait. */

@@ -78,6 +78,21 @@ const tests = {
     assert.ok(walks >= 8, `only ${walks} walks were waited for`);
   },
 
+  /** With everything occupied and pressed all the time, everybody waits in this run, and nobody as long as the own wait. */
+  async waitsAreKept(browser) {
+    for (const site of ["four_arms", "crossings"]) {
+      await load(browser, site);
+      await browser.value("page.run.held = (1n << BigInt(page.run.site.detectors.length)) - 1n | ((1n << BigInt(page.run.site.movements.length)) - 1n) << 48n, steps(6000), choose('waits')");
+      const rows = await browser.value("Array.from(document.querySelectorAll('#seen tbody tr'), row => Array.from(row.cells, cell => cell.textContent).slice(0, 4))");
+      assert.equal(rows.length, await browser.value("page.run.site.phases.length + page.run.site.movements.length"), site);
+      for (const [name, times, longest, wait] of rows) {
+        const waited = Number(times) > 0 ? Number(longest) : 0;
+        assert.ok(waited < Number(wait), `${site}: ${name} waits ${longest} of ${wait} s, ${times} times`);
+      }
+      assert.ok(rows.every(([name, times]) => !name.endsWith("walk") || Number(times) > 2), `${site}: ${JSON.stringify(rows)}`);
+    }
+  },
+
   /** Mistakes, refusals and warnings are at their lines, while typing and without the mouse. */
   async errorsAreAtTheirLines(browser) {
     const cases = [
@@ -87,6 +102,8 @@ const tests = {
       ["t_junction", "1     B      non-locking", "1     Q      non-locking", ["refusal", "1     Q"]],
       ["four_arms", "5.0 s   15 s", "5.0 s   1.5 s", ["warning", "5.0 s   1.5 s"]],
       ["four_arms", "start red   4 s", "start red   4.05 s", ["error", "start red"]],
+      ["four_arms", "west    speed 60", "west    speed 30", ["note", "west    speed 30"]],
+      ["four_arms", "P1: V4 V5 V6", "P1: V4 V5 V6 V4", ["warning", "P1: V4 V5 V6 V4"]],
     ];
     for (const [site, before, after, [severity, row]] of cases) {
       await load(browser, site);
@@ -263,7 +280,8 @@ const tests = {
     assert.deepEqual(await browser.value("[page.run.now, page.run.timesWait]"), [20, true], "new times wait");
     assert.ok((await browser.value("byId('clock').textContent")).includes("new times wait"));
     const waits = await browser.value("page.run.waits");
-    await browser.value("page.run.held = 2n; while (page.run.timesWait) page.run.step(); page.run.held = 1n; steps(1)");
+    await browser.value("while (page.run.timesWait) { page.run.held = page.run.interval < 5 ? 2n : 3n; page.run.step(); } refresh()");
+    assert.match(await browser.value("byId('demands').textContent"), /phase A\d+\.\d snew times/, "a demand that began under other times");
     assert.deepEqual(await browser.value("page.run.waits"), [waits[0] + 20, waits[1]], "a longer minimum green of B is in the wait of A");
     await change("1     B      locking", "1     B      non-locking");
     assert.deepEqual(await browser.value("[page.run.now, page.run.timesWait]"), [0, false], "another site begins anew");
@@ -415,6 +433,13 @@ const FAULTS = [
   ["keysWork", `event.key !== "Enter" && event.key !== " "`, `event.key !== "x"`],
   ["mouseHolds", "page.run.down |= bit;", "page.run.down |= 0n;"],
   ["playKeepsTime", "(page.fast ? 10 : 1)", "(page.fast ? 3 : 1)"],
+  ["pressesLeadToWalks", "wait: since >= this.ruledSince ? wait : null", "wait: since >= this.ruledSince ? this.bound : null"],
+  ["waitsAreKept", "run.waited(first, last));", "run.waited(first, last) + 600);"],
+  ["textIsAdopted", "wait: since >= this.ruledSince ? wait : null", "wait"],
+  ["textIsAdopted", "waits: this.library.waits(this.wanted), ruledSince", "ruledSince"],
+  ["tabsOpen", "twoBytes(buffer, 2 * at));", "twoBytes(buffer, 2 * at) + 1);"],
+  ["tabsOpen", "wait: this.waits[phases.length + at]", "wait: this.bound"],
+  ["tabsOpen", "seconds(thing.steps)}</b>", "seconds(thing.steps + 1)}</b>"],
   ["tabsOpen", "return more - bound;", "return more - bound + 1;"],
   ["tabsOpen", "const steps = Math.round(site.steps * point / ROAD_POINTS);", "const steps = Math.round(site.steps * point / (ROAD_POINTS + 1));"],
   ["tabsOpen", "groups[row].conflicts.includes(column)", "groups[column].conflicts.includes(column - 1)"],
