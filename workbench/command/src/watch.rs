@@ -152,18 +152,30 @@ pub fn watch(out: &Out, matches: &ArgMatches) -> Result<(), Stop> {
     }
     bar.finish_and_clear();
     let stopped = stopped.load(Ordering::SeqCst);
-    print(out, bound_of(&loaded), &own, &seeing, breach.as_deref(), stopped);
+    print(
+        out,
+        bound_of(&loaded),
+        &own,
+        &seeing,
+        breach.as_deref(),
+        stopped,
+    );
     breach.map_or(Ok(()), |_| Err(Stop::Refused))
 }
 
 /// What was seen of everybody, in the order of their own waits.
-fn print(out: &Out, bound: u64, own: &[Wait], seeing: &Seeing, breach: Option<&str>, stopped: bool) {
+fn print(
+    out: &Out,
+    bound: u64,
+    own: &[Wait],
+    seeing: &Seeing,
+    breach: Option<&str>,
+    stopped: bool,
+) {
     let rows = || seeing.longest.iter().zip(own);
     let made_it = |one: &Longest| one.strategy.map(|strategy| format!("{strategy:?}"));
     if out.json {
-        let row = |(one, own): (&Longest, &Wait)| {
-            json!({"who": own.who, "longest": one.wait, "wait": own.steps(), "met": one.met, "strategy": made_it(one)})
-        };
+        let row = |(one, own): (&Longest, &Wait)| json!({"who": own.who, "longest": one.wait, "wait": own.steps(), "met": one.met, "strategy": made_it(one)});
         print_json(&json!({
             "steps": seeing.steps, "greens": seeing.greens, "waitBound": bound, "breach": breach, "stopped": stopped,
             "mostStarts": seeing.most_starts, "waits": rows().map(row).collect::<Vec<_>>(),

@@ -143,9 +143,15 @@ fn every_phase_and_movement_has_its_wait() {
         let told = willowera::waits(&bytes).unwrap();
         let json = willowera(&["waits", "--json", shown(&site)]).json();
         let rows = json["waits"].as_array().unwrap();
-        let waits: Vec<u64> = rows.iter().map(|row| row["wait"].as_u64().unwrap()).collect();
+        let waits: Vec<u64> = rows
+            .iter()
+            .map(|row| row["wait"].as_u64().unwrap())
+            .collect();
         let expected = told.phases.iter().chain(&told.movements);
-        assert_eq!(waits, expected.map(|wait| u64::from(*wait)).collect::<Vec<_>>());
+        assert_eq!(
+            waits,
+            expected.map(|wait| u64::from(*wait)).collect::<Vec<_>>()
+        );
         for row in rows {
             let parts = row["parts"].as_array().unwrap().iter();
             let terms = parts.flat_map(|part| part["terms"].as_array().unwrap());
@@ -173,11 +179,21 @@ fn watched_runs_have_no_breach_and_stay_within_their_waits() {
         let told = willowera::waits(&willowera(&["build", shown(&site)]).stdout).unwrap();
         let own = told.phases.iter().chain(&told.movements);
         let rows = json["waits"].as_array().unwrap();
-        let of = |name: &str| rows.iter().map(|one| one[name].as_u64().unwrap()).collect::<Vec<_>>();
+        let of = |name: &str| {
+            rows.iter()
+                .map(|one| one[name].as_u64().unwrap())
+                .collect::<Vec<_>>()
+        };
         let (longest, waits) = (of("longest"), of("wait"));
         assert_eq!(waits, own.map(|wait| u64::from(*wait)).collect::<Vec<_>>());
-        assert!(longest.iter().zip(&waits).all(|(seen, own)| seen < own && *own <= bound));
-        assert!(longest.iter().zip(&waits).any(|(seen, own)| *seen > own / 2));
+        assert!(longest
+            .iter()
+            .zip(&waits)
+            .all(|(seen, own)| seen < own && *own <= bound));
+        assert!(longest
+            .iter()
+            .zip(&waits)
+            .any(|(seen, own)| *seen > own / 2));
         assert_eq!(json["steps"], 40_000);
     }
 }

@@ -98,12 +98,7 @@ pub fn warning(warning: &Warning) -> String {
 
 /// What the waits are made of: who waits, and the parts with their times in steps.
 pub fn waits(waits: &[Wait]) -> String {
-    let term = |term: &Term| {
-        object(&[
-            ("name", string(&term.name)),
-            ("steps", number(term.steps)),
-        ])
-    };
+    let term = |term: &Term| object(&[("name", string(&term.name)), ("steps", number(term.steps))]);
     let part = |part: &Part| {
         object(&[
             ("what", string(&part.what)),

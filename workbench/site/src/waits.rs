@@ -105,7 +105,13 @@ fn term(name: impl Into<String>, steps: u16) -> Term {
 
 /// The first of the longest.
 fn longest(first: Part, others: impl IntoIterator<Item = Part>) -> Part {
-    let longer = |one: Part, other: Part| if other.steps() > one.steps() { other } else { one };
+    let longer = |one: Part, other: Part| {
+        if other.steps() > one.steps() {
+            other
+        } else {
+            one
+        }
+    };
     others.into_iter().fold(first, longer)
 }
 
@@ -121,12 +127,20 @@ fn times(site: &Site, phase: usize, settings: &[Setting]) -> Vec<Term> {
             )
         }
     };
-    settings.iter().map(time).filter(|one| one.steps > 0).collect()
+    settings
+        .iter()
+        .map(time)
+        .filter(|one| one.steps > 0)
+        .collect()
 }
 
 fn green(site: &Site, phase: usize) -> Vec<Term> {
     use Setting as S;
-    times(site, phase, &[S::LATE_START, S::MINIMUM_GREEN, S::MAXIMUM_GREEN])
+    times(
+        site,
+        phase,
+        &[S::LATE_START, S::MINIMUM_GREEN, S::MAXIMUM_GREEN],
+    )
 }
 
 fn leaving(site: &Site, phase: usize) -> Vec<Term> {
@@ -138,7 +152,8 @@ fn leaving(site: &Site, phase: usize) -> Vec<Term> {
 fn walk(site: &Site, movement: usize) -> [Term; 3] {
     let one = &site.movements[movement];
     let name = &site.groups[one.group].name;
-    [(0, "W"), (1, "C1"), (2, "C2")].map(|(at, time)| term(format!("{time} of {name}"), one.times[at].steps))
+    [(0, "W"), (1, "C1"), (2, "C2")]
+        .map(|(at, time)| term(format!("{time} of {name}"), one.times[at].steps))
 }
 
 /// The movements of a phase, by number.
@@ -191,13 +206,21 @@ fn own(site: &Site, phase: usize, movement: usize) -> Part {
 
 /// How long a phase lasts if nothing but walks holds it after `free`. The walks, except that
 /// of one movement, began after `walked`.
-fn ending(site: &Site, phase: usize, except: Option<usize>, (free, walked): (&[Term], &[Term])) -> Part {
+fn ending(
+    site: &Site,
+    phase: usize,
+    except: Option<usize>,
+    (free, walked): (&[Term], &[Term]),
+) -> Part {
     let made = |parts: &[&[Term]]| part(String::new(), parts.concat());
     let leaving = leaving(site, phase);
     let held = |movement| {
         let [walk, one, two] = walk(site, movement);
         // The first clearance begins in the step after the one that lets the phase go.
-        let walks = longest(made(&[free, &[term("a step", 1)]]), [made(&[walked, &[walk]])]);
+        let walks = longest(
+            made(&[free, &[term("a step", 1)]]),
+            [made(&[walked, &[walk]])],
+        );
         let clears = longest(made(&[&leaving]), [made(&[&[two]])]);
         made(&[&walks.terms, &[one], &clears.terms])
     };
