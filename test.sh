@@ -146,6 +146,11 @@ for what in roads cabinets retimes seals waits; do
     check "vectors/make_$what.py" same_vectors "$what"
 done
 
+# The longest waits of the example sites: driven by a program, replayed by both trace programs.
+build_longest() { (cd rust && cargo build --quiet --release --offline -p longest); }
+check 'the longest waits' build_longest
+check 'longest waits driven and replayed' python3 examples/longest.py ./rust/target/release/longest "$proved" "$model"
+
 # The lists of calls for the proved program over a slice of records and for the model's.
 check 'lists of cabinet calls' python3 vectors/cabinet_lists.py ./target/bin/run_cabinet ./rust/target/release/cabinet
 

@@ -114,11 +114,11 @@ def main():
         for part in parts:
             for personality in part:
                 file.write(vector(personality))
+    few = [(what, seen[what]) for least, some in NEEDED.items() for what in some if seen[what] < least]
     if arguments:
-        print(", ".join(f"{what}: {count}" for what, count in sorted(seen.items(), key=str)))
-    else:
-        missing = {what: seen[what] for least, some in NEEDED.items() for what in some if seen[what] < least}
-        assert not missing, missing
+        print(*(f"{what}: {count}" for what, count in sorted(seen.items(), key=str)), sep=", ")
+    elif few:
+        sys.exit(f"seen too seldom: {few}")
 
 
 main()

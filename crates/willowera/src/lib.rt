@@ -9,6 +9,7 @@ ghost use Rattle.state_sealed.specs.Sealed.{interfaceVersion};
 ghost use Rattle.board_answers.specs.Answers.{packedVerdict, packedOutcome};
 ghost use Rattle.board_read.specs.GroupsCall.{groupsAnswer};
 ghost use Rattle.board_read.specs.SectionCall.{sectionAnswer};
+ghost use Rattle.board_waits.specs.WaitsCall.{waitsAnswer, waitsAfter};
 ghost use Rattle.board_fresh.specs.FreshCall.{freshAnswer, freshAfter};
 ghost use Rattle.board_retime.specs.RetimeCall.{retimeAnswer, retimeAfter};
 ghost use Rattle.board_step.specs.StepCall.{stepAnswer, stateAfter, coloursAfter};
@@ -44,6 +45,16 @@ pub extern "C" fn willowera_wait_bound(personality: &[u8]) -> u64
     ensures { λ r. ⌜ r ≡ packedOutcome (boundOf (now (personality .entry))) ⌝ }
 {
     board_read::wait_bound(personality)
+}
+
+// Writes the wait of each phase and of each movement of a personality, two bytes each, and answers how many bytes, or its refusal. A refused
+// call writes nothing.
+#[no_mangle]
+pub extern "C" fn willowera_waits(personality: &[u8], waits: &mut [u8]) -> u64
+    ensures { λ r. ⌜ (r ≡ waitsAnswer (now (personality .entry)) (length (now (waits .entry))))
+        × (now (waits .exit) ≡ waitsAfter (now (personality .entry)) (now (waits .entry))) ⌝ }
+{
+    board_waits::waits(personality, waits)
 }
 
 // The number of signal groups of a personality, or its refusal.

@@ -137,7 +137,7 @@ impl Plain {
 
     fn first(&self, site: &Site, phase: usize) -> u64 {
         let count = site.phase_count();
-        let others = (1_u8 << count) - 1 & !(1 << phase);
+        let others = ((1_u8 << count) - 1) & !(1 << phase);
         let after = match self.0 {
             Fault::FirstByLetters => (phase + 1) % count,
             _ => usize::from(site.first_after(phase as u8, others)),

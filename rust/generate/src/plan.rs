@@ -131,6 +131,21 @@ impl Plan {
         }
     }
 
+    /// Two phases and a crossing with long clearances. A has 10 steps of minimum green, 100
+    /// of maximum, 30 of yellow, 10 of all-red, a detector that only extends, and a crossing
+    /// with 10 steps of walk, 200 and 100 of clearance. B has 10, 10, 30, 10, and a call
+    /// without lock.
+    pub fn long_clearance() -> Plan {
+        Plan {
+            phases: vec![[0, 10, 100, 5, 30, 10], [0, 10, 10, 0, 30, 10]],
+            groups: vec![[1, VEHICLE], [2, VEHICLE], [1, PEDESTRIAN]],
+            conflicts: vec![0b010, 0b101, 0b010],
+            detectors: vec![[0, 4], [1, 1]],
+            movements: vec![[10, 200, 100]],
+            ..Plan::junction()
+        }
+    }
+
     /// The junction of two phases as a site of edition two, with the lowest start
     /// red and all-red of that edition.
     pub fn junction_two() -> Plan {

@@ -133,14 +133,20 @@ fn before_walk(site: &Site, movement: usize) -> (u32, &'static str) {
             "no other phase has a call without lock, which alone can drop away while it clears",
         );
     }
-    // The other walks begin one step before the clearance ends: in its last step the own
-    // walk would begin too.
+    // One step of the maximum is used when the walk ends. The other walks begin one step
+    // before the clearance ends: in its last step the own walk would begin too.
+    let held = maximum(site, phase).saturating_sub(1);
     let others = of_phase(site, phase, Some(movement));
-    let walks =
-        others.map(|other| back - 1 + u32::from(site.movement(other).walk) + clearing(site, other));
-    let cleared = walks.fold(back + leaving(site, phase), u32::max);
-    (
-        best.max(cleared),
-        "another walk begins before the last step of the clearance, or nothing holds the phase",
-    )
+    let walks = others.map(|other| {
+        let ends = back - 1 + u32::from(site.movement(other).walk);
+        ends.max(held + 1) + clearing(site, other)
+    });
+    let walks = walks.max().unwrap_or(0);
+    let alone = back.max(held) + leaving(site, phase);
+    let words = if walks > best.max(alone) {
+        "another walk begins at the latest one step before the own clearance ends"
+    } else {
+        "its phase starts by this button alone, or nothing extends it"
+    };
+    (best.max(alone).max(walks), words)
 }

@@ -3,7 +3,7 @@
 
 use crate::demand::{wait_for, Demand, Driven};
 use crate::run::{button, buttons, callers, detectors, extenders, is_at, is_open, Run};
-use model::{Site, Stage, State};
+use model::{Interval, Site, Stage, State};
 
 /// The longest wait of a demand in all situations.
 pub fn longest(site: &Site, demand: Demand) -> Option<Driven> {
@@ -28,14 +28,16 @@ fn in_start_red(site: &Site, demand: Demand) -> Option<Driven> {
     })
 }
 
-/// In the first step after running of any phase ended, with any target, with and without
-/// walks of the phase.
+/// In the first step after running of any phase ended, with any target, without a walk of
+/// the phase and with each of them alone: together with others it may be over earlier.
 fn while_a_phase_is_left(site: &Site, demand: Demand) -> Vec<Driven> {
     let phases = || 0..site.phase_count() as u8;
     let mut all = Vec::new();
     for phase in phases() {
-        for walks in [false, true] {
-            let Some(open) = opened(site, phase, walks.then(|| buttons(site, phase, None))) else {
+        let of_phase = |&one: &usize| site.movement(one).phase == phase;
+        let walks = (0..site.movement_count()).filter(of_phase).map(Some);
+        for walk in [None].into_iter().chain(walks) {
+            let Some(open) = opened(site, phase, walk.map(button)) else {
                 continue;
             };
             for target in phases().filter(|&target| target != phase) {
@@ -43,12 +45,9 @@ fn while_a_phase_is_left(site: &Site, demand: Demand) -> Vec<Driven> {
                     |state| state.interval.is_clearing(),
                     |_| some_demand(site, target),
                 );
-                let how = format!(
-                    "when {} is left for {}{}",
-                    letter(phase),
-                    letter(target),
-                    if walks { ", with its walks" } else { "" }
-                );
+                let walked = walk.map_or(String::new(), |one| format!(" after P{}", one + 1));
+                let (from, to) = (letter(phase), letter(target));
+                let how = format!("when {from} is left for {to}{walked}");
                 let flood = |_: &State| site.known_inputs();
                 all.extend(left.and_then(|run| wait_for(demand, run, &how, flood)));
             }
@@ -94,7 +93,14 @@ fn in_the_own_clearance(site: &Site, movement: usize) -> Vec<Driven> {
             continue;
         }
         let open = opened(site, phase, Some(own));
-        let run = open.and_then(|open| open.until(clears, |_| 1 << caller));
+        // The call comes when the walk ends at once, so that the maximum is not used up.
+        let may_end = |state: &State| {
+            let running = state.interval == Interval::Running && state.gap_count == 0;
+            running && is_at(state, movement, Stage::Walk, site.movement(movement).walk)
+        };
+        let call = |state: &State| u64::from(may_end(state)) << caller;
+        // The phase starts by the own button. Then nothing is demanded until the call.
+        let run = open.and_then(|open| open.until(clears, call));
         let how = format!("when its clearance begins, and detector {caller} drops away");
         let inputs = |state: &State| until_cleared(site, movement, state);
         all.extend(run.and_then(|run| wait_for(demand, run, &how, inputs)));

@@ -7,7 +7,7 @@
 //! those that are, and times rule from the start on that they waited for.
 //!
 //! [`Monitor`] is told of accepted calls; [`watch`] drives a board with random or
-//! adversarial inputs and tells it, [`watch_cabinet`] the sites of a cabinet. Retimings
+//! adversarial inputs and tells it, [`follow`] with chosen ones, [`watch_cabinet`] the sites of a cabinet. Retimings
 //! or times without power may be among the calls.
 
 #![forbid(unsafe_code)]
@@ -17,6 +17,7 @@ mod cabinet;
 mod clearances;
 mod demands;
 mod drivers;
+mod following;
 mod own_waits;
 mod starts;
 mod times;
@@ -27,6 +28,7 @@ pub use breach::Breach;
 pub use cabinet::watch_cabinet;
 pub use demands::Demand;
 pub use drivers::{Driver, Strategy};
+pub use following::follow;
 pub use watching::{watch, Among, Report};
 
 use clearances::Clearances;

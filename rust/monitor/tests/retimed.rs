@@ -25,6 +25,8 @@ fn the_model_breaks_nothing() {
     let mut retimings = 0;
     let mut changes = 0;
     let mut met = 0;
+    let mut nearest = 0.0_f64;
+    let part = |(waited, wait): (u64, u64)| waited as f64 / wait as f64;
     for seed in 0..150 {
         let plan = match seed {
             0 => Plan::junction(),
@@ -38,6 +40,7 @@ fn the_model_breaks_nothing() {
             retimings += report.retimings;
             changes += report.changes;
             met += report.demands_met;
+            nearest = nearest.max(part(report.nearest_own_wait));
         }
     }
     let counts = [retimings, changes, met];
@@ -49,6 +52,8 @@ fn the_model_breaks_nothing() {
             .all(|(&count, least)| count > least),
         "{counts:?}"
     );
+    // A wait of a phase or a movement is nearly reached, with retimings in the run.
+    assert!(nearest > 0.95, "{nearest}");
 }
 
 /// The model, but it handles steps or retimings in another way.

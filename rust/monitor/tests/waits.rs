@@ -1,61 +1,27 @@
 //! The wait of each phase and each movement: what the monitor finds by them, and what the
 //! wait bound of the site alone does not show.
 
-use generate::Plan;
-use model::packed::Board;
-use model::packed::{self, number, rest, Model};
-use model::{Interval, Site, TimedState, FIRST_BUTTON, STATE_LEN};
-use monitor::{Breach, Monitor, Seen};
+use generate::{Plan, Rng};
+use model::packed::{self, number, Board, Model};
+use model::{Interval, Site, TimedState, FIRST_BUTTON};
+use monitor::{follow, watch, Among, Breach, Driver, Monitor, Strategy};
 use variant::{AsBoard, Variant};
 
+// The site is `Plan::long_clearance`. Its wait bound is 920, and the wait of its crossing 400.
 const BUTTON: u64 = 1 << FIRST_BUTTON;
 const EXTEND_A: u64 = 1 << 0;
 const CALL_B: u64 = 1 << 1;
-
-/// A: 10 steps of minimum green, 100 of maximum, 30 of yellow, 10 of all-red, a detector
-/// that only extends, and a crossing with 10 steps of walk, 200 and 100 of clearance. B: 10,
-/// 10, 30, 10, and a call without lock. The wait bound is 920, the wait of the crossing 400.
-fn site() -> Plan {
-    Plan {
-        phases: vec![[0, 10, 100, 5, 30, 10], [0, 10, 10, 0, 30, 10]],
-        groups: vec![[1, 0], [2, 0], [1, 2]],
-        conflicts: vec![0b010, 0b101, 0b010],
-        detectors: vec![[0, 4], [1, 1]],
-        movements: vec![[10, 200, 100]],
-        ..Plan::junction()
-    }
-}
 
 /// Steps of a board from the fresh state under a monitor. The inputs of a step are chosen
 /// by its number and by the state before it. Gives the breach, if there is one.
 fn run(
     board: &dyn Board,
     plan: &Plan,
-    mut monitor: Monitor,
+    monitor: Monitor,
     steps: u64,
-    mut inputs: impl FnMut(u64, &TimedState) -> u64,
+    inputs: impl FnMut(u64, &TimedState) -> u64,
 ) -> Result<Monitor, Breach> {
-    let personality = plan.bytes();
-    let site = Site::read(&personality).unwrap();
-    let mut state = [0; STATE_LEN];
-    assert_eq!(board.fresh(&personality, &mut state), 0);
-    for step in 1..=steps {
-        let before = TimedState::from_bytes(&state).unwrap();
-        let inputs = inputs(step, &before);
-        let mut colours = vec![0; site.group_count()];
-        let answer = board.step(&personality, &mut state, inputs, &mut colours);
-        assert_eq!(number(answer), 0);
-        let after = TimedState::from_bytes(&state).unwrap();
-        let seen = Seen {
-            before: &before,
-            inputs,
-            after: &after,
-            colours: &colours,
-            wait: rest(answer),
-        };
-        monitor.accepted_step(&site, &seen)?;
-    }
-    Ok(monitor)
+    follow(monitor, board, &plan.bytes(), steps, inputs)
 }
 
 fn monitor_of(plan: &Plan, monitor: fn(&Site) -> Monitor) -> Monitor {
@@ -70,6 +36,9 @@ impl Variant for SetBack {
     fn step(&self, personality: &[u8], state: &mut [u8], inputs: u64, colours: &mut [u8]) -> u64 {
         let site = Site::read(personality).unwrap();
         let answer = packed::step(personality, state, inputs, colours);
+        if number(answer) != 0 {
+            return answer;
+        }
         let mut timed = TimedState::from_bytes(state).unwrap();
         let called = (0..site.detector_count()).any(|index| {
             let detector = site.detector(index);
@@ -106,7 +75,7 @@ fn hold_a(step: u64, before: &TimedState) -> u64 {
 
 #[test]
 fn a_maximum_count_that_is_set_back() {
-    let plan = site();
+    let plan = Plan::long_clearance();
     let right = run(
         &Model,
         &plan,
@@ -141,6 +110,22 @@ fn a_maximum_count_that_is_set_back() {
     assert_eq!(unseen.nearest_wait(), (489, 920));
 }
 
+#[test]
+fn drivers_find_it_by_themselves() {
+    let personality = Plan::long_clearance().bytes();
+    let site = Site::read(&personality).unwrap();
+    let board = AsBoard(SetBack);
+    let found = (0..8).find_map(|seed| {
+        let mut driver = Driver::new(Strategy::Bursts, &site, Rng::new(seed));
+        let mut rng = Rng::new(!seed);
+        let among = Among::Nothing;
+        let watched = watch(among, &board, &personality, &mut driver, &mut rng, 40_000);
+        watched.unwrap().err()
+    });
+    let found = found.expect("the monitor notices nothing");
+    assert!(matches!(found, Breach::WalkWaits { .. }), "{found}");
+}
+
 /// The model, but it sees no detector and no button.
 struct Blind;
 
@@ -161,7 +146,7 @@ fn blind(monitor: fn(&Site) -> Monitor, plan: &Plan, inputs: fn(u64) -> u64) -> 
 
 #[test]
 fn a_call_that_is_held_is_promised_its_green() {
-    let found = |inputs| blind(Monitor::new, &site(), inputs);
+    let found = |inputs| blind(Monitor::new, &Plan::long_clearance(), inputs);
     let late = |registered| {
         Some(Breach::PhaseWaits {
             step: registered + 451,
@@ -182,7 +167,7 @@ fn a_call_that_is_held_is_promised_its_green() {
 
 #[test]
 fn calls_and_locks_by_turns_are_one_demand() {
-    let mut plan = site();
+    let mut plan = Plan::long_clearance();
     plan.detectors.push([1, 2]);
     // A call to step 100, then a lock that stays.
     let found = blind(Monitor::new, &plan, |step| match step {
@@ -206,7 +191,7 @@ fn calls_and_locks_by_turns_are_one_demand() {
 #[test]
 fn a_button_is_promised_its_walk() {
     let press = |step| u64::from(step == 5) * BUTTON;
-    let found = blind(Monitor::new, &site(), press);
+    let found = blind(Monitor::new, &Plan::long_clearance(), press);
     let late = Breach::WalkWaits {
         step: 405,
         movement: 0,
@@ -218,7 +203,7 @@ fn a_button_is_promised_its_walk() {
 
 #[test]
 fn the_wait_bound_is_watched_too() {
-    let mut plan = site();
+    let mut plan = Plan::long_clearance();
     plan.detectors[1][1] = 2;
     let found = |inputs| blind(Monitor::of_the_wait_bound, &plan, inputs);
     let (registered, step) = (5, 925);

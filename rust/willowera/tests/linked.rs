@@ -33,6 +33,30 @@ fn reads_and_waits() {
 }
 
 #[test]
+fn waits_of_phases_and_movements() {
+    use willowera::{waits, Waits, MOST_WAIT_BYTES};
+    let junction = Waits {
+        phases: vec![130, 130],
+        movements: vec![],
+    };
+    assert_eq!(waits(&JUNCTION), Ok(junction));
+    let cut = waits(&JUNCTION[..66]).unwrap_err();
+    assert_eq!((cut.number, cut.place), (refusal::CUT_SHORT, 64));
+    for length in 0..MOST_WAIT_BYTES {
+        let mut buffer = vec![0xA5; length];
+        let answer = packed::waits(&JUNCTION, &mut buffer);
+        if length < 4 {
+            assert_eq!(answer, u64::from(refusal::BUFFER_SHORT));
+        } else {
+            assert_eq!(answer, 4 << 8);
+            assert_eq!(buffer[..4], [130, 0, 130, 0]);
+            buffer.drain(..4);
+        }
+        assert!(buffer.iter().all(|&byte| byte == 0xA5), "{length}");
+    }
+}
+
+#[test]
 fn groups_of_a_personality() {
     use willowera::groups;
     assert_eq!(groups(&JUNCTION), Ok(2));

@@ -15,19 +15,6 @@ fn all(personality: &[u8]) -> Vec<u16> {
     waits.iter().copied().map(u16::from_le_bytes).collect()
 }
 
-/// Two phases, a crossing of A whose clearances are long, and a call of B that is not
-/// locked.
-fn long_clearance() -> Plan {
-    Plan {
-        phases: vec![[0, 10, 100, 5, 30, 10], [0, 10, 10, 0, 30, 10]],
-        groups: vec![[1, 0], [2, 0], [1, 2]],
-        conflicts: vec![0b010, 0b101, 0b010],
-        detectors: vec![[0, 4], [1, 1]],
-        movements: vec![[10, 200, 100]],
-        ..Plan::junction()
-    }
-}
-
 #[test]
 fn the_junction_by_hand() {
     // A clears for 30 + 10 steps and is called again at once. Then B has its whole turn:
@@ -88,12 +75,15 @@ fn the_crossing_with_long_clearances_by_hand() {
     // A press while the own movement clears: C1 and C2, then yellow and all-red.
     let button = 200 + 100 + 40 + turn_b;
     assert_eq!(button, 400);
-    assert_eq!(all(&long_clearance().bytes()), [lock_a, lock_b, button]);
+    assert_eq!(
+        all(&Plan::long_clearance().bytes()),
+        [lock_a, lock_b, button]
+    );
 }
 
 #[test]
 fn another_walk_may_begin_when_the_own_clearance_ends() {
-    let mut plan = long_clearance();
+    let mut plan = Plan::long_clearance();
     plan.groups.push([1, 2]);
     plan.conflicts[1] = 0b1101;
     plan.conflicts.push(0b0010);
@@ -163,7 +153,7 @@ fn no_wait_is_above_the_wait_bound() {
 
 #[test]
 fn the_packed_call() {
-    let personality = long_clearance().bytes();
+    let personality = Plan::long_clearance().bytes();
     for length in 0..40 {
         let mut buffer = vec![CANARY; length];
         let answer = packed::waits(&personality, &mut buffer);
@@ -180,7 +170,7 @@ fn the_packed_call() {
 
 #[test]
 fn a_refused_personality_is_refused_before_the_buffer() {
-    let mut plan = long_clearance();
+    let mut plan = Plan::long_clearance();
     plan.phases[0][4] = 29;
     for length in [0, 5, 6, 30] {
         let mut buffer = vec![CANARY; length];
