@@ -69,7 +69,8 @@ pub fn waits(site: &Site) -> Vec<Wait> {
     let phases = 0..site.phases.len();
     let phase = |phase: usize| {
         let late = site.phases[phase].steps(Setting::LATE_START);
-        let late = (late > 0).then(|| part("own late start", vec![term("L", late)]));
+        let own = format!("late start of {}", letter(phase));
+        let late = (late > 0).then(|| part(own, vec![term("L", late)]));
         let parts = std::iter::once(first(site, phase)).chain(turns(site, phase));
         Wait {
             who: format!("phase {}", letter(phase)),

@@ -59,7 +59,7 @@ fn each_part_is_told() {
     assert_eq!(words(0), "phase A: A is left 6.0 + turn of B 10.5");
     assert_eq!(
         words(1),
-        "phase B: B is left 4.0 + turn of A 16.7 + own late start 0.5"
+        "phase B: B is left 4.0 + turn of A 16.7 + late start of B 0.5"
     );
     assert_eq!(
         words(2),
@@ -74,7 +74,7 @@ fn each_part_is_told() {
         "turn of B: L 0.5 + M 2.0 + X 4.0 + Y 3.0 + R 1.0",
         "B is left: Y 3.0 + R 1.0",
         "turn of A: W of P1 10.0 + C1 of P1 0.7 + C2 of P1 6.0",
-        "own late start: L 0.5",
+        "late start of B: L 0.5",
         "rest of A after a press for P1: C1 of P1 0.7 + C2 of P1 6.0 + W of P2 6.0 + C1 of P2 0.5 + Y 3.0 + R 1.0",
         "rest of A after a press for P2: C1 of P2 0.5 + C2 of P2 2.0 + W of P1 10.0 + C1 of P1 0.7 + C2 of P1 6.0",
     ];
