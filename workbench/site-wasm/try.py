@@ -33,6 +33,9 @@ expect("a refusal", told.text.startsWith("phase A: yellow is 3.0 s") && told.spa
 const fast = text.replace("vehicle ", "vehicle approach north ") + "\\napproaches\\nnorth speed 60\\nsouth speed 10\\n";
 const warned = site.warnings(fast, 270, "60 0 41");
 expect("a warning", warned.length === 1 && warned[0].kind === "short-yellow");
+const [wait] = site.waits(text);
+const steps = wait.parts.map(({ terms }) => terms.reduce((sum, term) => sum + term.steps, 0));
+expect("a wait", wait.who === "phase A" && same(wait.parts.map(part => part.what), ["A is left", "turn of B"]) && same(steps, [40, 90]));
 expect("inputs", same(site.inputs(text, "steps 3\\n2 detector 1\\n").inputs, ["0", "2", "0"]));
 expect("no inputs", site.inputs(text, "steps 3\\n4 detector 1\\n").mistakes.length === 1);
 expect("no text", site.show(Uint8Array.from([1, 2, 3])).startsWith("! "));

@@ -1,6 +1,7 @@
-//! `check`: the verdict of the library, then warnings.
+//! `check`: the verdict of the library, also on the site's own streams, then warnings.
 
-use crate::load::{accepted, Loaded};
+use crate::frames::road_at;
+use crate::load::{accepted, refused, Loaded};
 use crate::out::{print_json, value, Out, Severity, Stop};
 use clap::ArgMatches;
 use serde_json::json;
@@ -9,8 +10,14 @@ use site::{seconds, Warning};
 pub fn check(out: &Out, matches: &ArgMatches) -> Result<(), Stop> {
     let path: &String = matches.get_one("SITE").expect("required");
     let loaded = accepted(out, path)?;
+    let road = &loaded.site.road;
+    if !road.streams.is_empty() {
+        road_at(loaded.bytes(), road, road.steps())
+            .map_err(|refusal| refused(out, &loaded, refusal))?;
+    }
     let bound = bound_of(&loaded);
     let warnings = warnings_of(&loaded);
+    let count = warnings.iter().filter(|one| !one.kind.is_note()).count();
     if out.json {
         let list: Vec<_> = warnings
             .iter()
@@ -28,19 +35,20 @@ pub fn check(out: &Out, matches: &ArgMatches) -> Result<(), Stop> {
             summary(&loaded, bound)
         );
         for one in &warnings {
-            out.message(
-                Severity::Warning,
-                &loaded.path,
-                &loaded.text,
-                one.span,
-                &one.text,
-            );
+            let severity = if one.kind.is_note() {
+                Severity::Note
+            } else {
+                Severity::Warning
+            };
+            out.message(severity, &loaded.path, &loaded.text, one.span, &one.text);
         }
-        if !warnings.is_empty() {
-            say!("{} warnings", warnings.len());
+        match count {
+            0 => {}
+            1 => say!("1 warning"),
+            _ => say!("{count} warnings"),
         }
     }
-    if matches.get_flag("strict") && !warnings.is_empty() {
+    if matches.get_flag("strict") && count > 0 {
         return Err(Stop::Refused);
     }
     Ok(())

@@ -87,7 +87,7 @@ fn show() -> Command {
 fn waits() -> Command {
     with_site(
         "waits",
-        "The wait bound with its parts, and the phases before one's own",
+        "The wait of each phase and movement and the wait bound, with their parts; the phases before one's own",
     )
 }
 
@@ -123,7 +123,7 @@ fn road() -> Command {
 fn watch() -> Command {
     with_site(
         "watch",
-        "Adversarial and random inputs against the library, with the monitor of demand 3 watching",
+        "Adversarial and random inputs against the library, with the monitor of demand 3 watching; the longest wait of each phase and movement beside its own",
     )
     .arg(number("steps", "The number of steps").default_value("1000000"))
     .arg(number("seed", "The seed of the random inputs").default_value("1"))

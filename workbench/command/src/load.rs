@@ -88,7 +88,14 @@ pub fn load(out: &Out, path: &str) -> Result<Loaded, Stop> {
 
 /// The bytes of a personality, for `show`.
 pub fn load_bytes(path: &str) -> Result<(String, Vec<u8>), Stop> {
-    bytes_of(path)
+    let (path, bytes) = bytes_of(path)?;
+    let is_text =
+        !bytes.is_empty() && !is_personality(&bytes) && std::str::from_utf8(&bytes).is_ok();
+    if is_text {
+        let why = format!("{path} is a text already; show takes the bytes of a personality");
+        return Err(Stop::Unusable(why));
+    }
+    Ok((path, bytes))
 }
 
 /// The text of a personality, or the refusal of bytes that have no text.

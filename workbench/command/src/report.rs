@@ -7,7 +7,7 @@ use crate::phases::diagram;
 use crate::road::{picture, road_frames, Queues};
 use crate::svg::escaped;
 use crate::timeline::{timeline, Picture};
-use crate::waits::{before, shares, Share, COUNTS, PARTS};
+use crate::waits::{before, own_waits, shares, Share, COUNTS, OWN_COUNTS, PARTS};
 use clap::ArgMatches;
 use serde_json::json;
 use site::{
@@ -34,7 +34,7 @@ pub fn report(out: &Out, matches: &ArgMatches) -> Result<(), Stop> {
             "Settings against their limits",
             &settings(&loaded),
         ),
-        section("waits", "Waits", &waits(&loaded)?),
+        section("waits", "Waits", &(own(&loaded)? + &waits(&loaded)?)),
     ];
     if !told.site.road.streams.is_empty() {
         parts.extend(roads(out, &loaded, &told)?);
@@ -116,8 +116,14 @@ fn warned(loaded: &Loaded) -> String {
     if warnings.is_empty() {
         return "<p>No warnings.</p>".to_string();
     }
-    let item =
-        |one: &site::Warning| format!("<li>line {}: {}</li>\n", one.span.line, escaped(&one.text));
+    let item = |one: &site::Warning| {
+        let note = if one.kind.is_note() { ", note" } else { "" };
+        format!(
+            "<li>line {}{note}: {}</li>\n",
+            one.span.line,
+            escaped(&one.text)
+        )
+    };
     let items: String = warnings.iter().map(item).collect();
     section(
         "warnings",
@@ -129,12 +135,11 @@ fn warned(loaded: &Loaded) -> String {
 fn groups(loaded: &Loaded) -> String {
     let site = &loaded.site;
     let group = |group: &site::Group| {
-        let name = group.place.name.as_deref().unwrap_or_default();
         row([
             cell(&group.name),
             cell(&letters(group.phases)),
             cell(MARKS[usize::from(group.mark)]),
-            cell(name),
+            cell(&group.place.words(site)),
         ])
     };
     let groups: String = site.groups.iter().map(group).collect();
@@ -145,12 +150,11 @@ fn groups(loaded: &Loaded) -> String {
         } else {
             call.to_string()
         };
-        let name = detector.place.name.as_deref().unwrap_or_default();
         row([
             number(at),
             cell(&letter(detector.phase.into()).to_string()),
             cell(&mode),
-            cell(name),
+            cell(&detector.place.words(site)),
         ])
     };
     let detectors: String = site.detectors.iter().enumerate().map(detector).collect();
@@ -239,6 +243,28 @@ fn settings(loaded: &Loaded) -> String {
         "<table>{}{rows}</table>\n",
         heads(&["Of", "Setting", "Value", "Limits", ""])
     )
+}
+
+/// The wait of each phase and of each movement, and what it is made of.
+fn own(loaded: &Loaded) -> Result<String, Stop> {
+    let own = own_waits(loaded)?;
+    let told = |name: &str, steps: u64, made: String| {
+        let steps = format!("{:.1}", steps as f64 / 10.0);
+        row([cell(name), number(steps), cell(&made)])
+    };
+    let waits: String = own
+        .iter()
+        .map(|wait| told(&wait.who, wait.steps(), wait.words()))
+        .collect();
+    let parts: String = site::waits::parts(&own)
+        .iter()
+        .map(|part| told(&part.what, part.steps(), part.words()))
+        .collect();
+    Ok(format!(
+        "<p>{OWN_COUNTS} In seconds:</p>\n<table>{}{waits}</table>\n<br>\n<table>{}{parts}</table>\n<p>One bound for the whole site:</p>\n",
+        heads(&["Who", "Wait", "Made of"]),
+        heads(&["Part", "At most", "Made of"])
+    ))
 }
 
 fn waits(loaded: &Loaded) -> Result<String, Stop> {

@@ -1,16 +1,42 @@
-//! `waits`: the wait bound with its parts, and the phases before one's own.
+//! `waits`: the wait of each phase and of each movement, and the wait bound, each with its
+//! parts; the phases before one's own.
 
 use crate::check::bound_of;
 use crate::load::{accepted, Loaded};
-use crate::out::{print_json, Out, Stop};
+use crate::out::{print_json, value, Out, Stop};
 use clap::ArgMatches;
 use serde_json::json;
+use site::waits::{parts, Wait};
 use site::{letter, seconds, Phase, Setting, Site};
 
 /// What the bound counts, for whoever reads it.
 pub const COUNTS: &str =
     "From the step that registers a locked demand or a button demand, the minimum green or the walk begins \
      within this many accepted steps. A call without lock that drops away, and a vehicle behind a queue, are not counted.";
+
+/// What the waits of phases and movements count.
+pub const OWN_COUNTS: &str =
+    "A demand of a phase that lasts (a lock, a call without lock that is held, a button) has its minimum green, and a button its walk, \
+     in the step that registers it or in fewer further steps than this.";
+
+/// The wait of each phase, then of each movement, with what it is made of. The numbers are
+/// the library's; the parts, from the settings of the text, must add up to them.
+pub fn own_waits(loaded: &Loaded) -> Result<Vec<Wait>, Stop> {
+    let told = willowera::waits(loaded.bytes()).expect("an accepted personality has its waits");
+    let told: Vec<u64> = told
+        .phases
+        .iter()
+        .chain(&told.movements)
+        .map(|wait| u64::from(*wait))
+        .collect();
+    let waits = site::waits::waits(&loaded.site);
+    let sums: Vec<u64> = waits.iter().map(Wait::steps).collect();
+    if sums == told {
+        return Ok(waits);
+    }
+    let why = format!("the parts of the waits add up to {sums:?}, the library gives {told:?}");
+    Err(Stop::Unusable(why))
+}
 
 /// The parts of a phase in the bound: L + M + X + 2 (A + E + Y + R + C).
 pub struct Share {
@@ -71,16 +97,15 @@ fn share(site: &Site, phase: usize, row: &Phase) -> Share {
 
 /// The phases that can come before one's own, in running order.
 pub fn before(loaded: &Loaded, phase: usize) -> Vec<char> {
-    let order = loaded.site.running_order();
-    let own = order.iter().position(|one| *one == phase).unwrap_or(0);
-    let others = order.iter().cycle().skip(own + 1).take(order.len() - 1);
-    others.map(|one| letter(*one)).collect()
+    let others = loaded.site.phases_before(phase).into_iter();
+    others.map(letter).collect()
 }
 
 pub fn waits(out: &Out, matches: &ArgMatches) -> Result<(), Stop> {
     let path: &String = matches.get_one("SITE").expect("required");
     let loaded = accepted(out, path)?;
     let (bound, shares) = (bound_of(&loaded), shares(&loaded)?);
+    let own = own_waits(&loaded)?;
     let start = u64::from(loaded.site.start_red.steps);
     if out.json {
         let phase = |share: &Share| {
@@ -89,10 +114,12 @@ pub fn waits(out: &Out, matches: &ArgMatches) -> Result<(), Stop> {
         };
         print_json(
             &json!({"waitBound": bound, "startRed": start, "parts": PARTS,
-                           "phases": shares.iter().map(phase).collect::<Vec<_>>(), "counts": COUNTS}),
+                           "phases": shares.iter().map(phase).collect::<Vec<_>>(), "counts": COUNTS,
+                           "waits": own_json(&own), "waitsCount": OWN_COUNTS}),
         );
         return Ok(());
     }
+    print_own(&own);
     say!("wait bound {} ({bound} steps)\n{COUNTS}\n", seconds(bound));
     say!("It is start red, and for each phase L + M + X + 2 (A + E + Y + R + C). A is the longest walk with its first");
     say!("clearance, C the longest second clearance. In seconds:\n");
@@ -118,4 +145,53 @@ pub fn waits(out: &Out, matches: &ArgMatches) -> Result<(), Stop> {
     }
     say!("{:<65}{:>8.1}", "sum", bound as f64 / 10.0);
     Ok(())
+}
+
+fn own_json(own: &[Wait]) -> serde_json::Value {
+    let mut list = value(&site::json::waits(own));
+    for (json, wait) in list.as_array_mut().into_iter().flatten().zip(own) {
+        json["wait"] = wait.steps().into();
+    }
+    list
+}
+
+fn print_own(own: &[Wait]) {
+    say!("waits\n{OWN_COUNTS}\n");
+    say!("who          wait  made of, in seconds");
+    for wait in own {
+        let steps = wait.steps() as f64 / 10.0;
+        say!("{:<10}{steps:>7.1}  {}", wait.who, wait.words());
+    }
+    say!("");
+    for part in parts(own) {
+        let steps = part.steps() as f64 / 10.0;
+        say!("{}: {steps:.1} = {}", part.what, part.words());
+    }
+    say!("");
+}
+
+#[cfg(test)]
+mod tests {
+    use super::*;
+
+    /// Parts that do not add up to the numbers of the library are never shown.
+    #[test]
+    fn parts_that_do_not_add_up_stop() {
+        let path = concat!(
+            env!("CARGO_MANIFEST_DIR"),
+            "/../examples/four_arms/site.txt"
+        );
+        let mut loaded = accepted(&Out::new(false), path).unwrap();
+        assert!(own_waits(&loaded).is_ok());
+        // One step more of M of A, then of X, in the bytes than in the text.
+        for time in [14, 16] {
+            loaded.built.bytes[time] += 1;
+            assert!(willowera::read(loaded.bytes()).is_ok());
+            match own_waits(&loaded) {
+                Err(Stop::Unusable(why)) => assert!(why.contains("the library gives"), "{why}"),
+                other => panic!("{}", other.is_ok()),
+            }
+            loaded.built.bytes[time] -= 1;
+        }
+    }
 }

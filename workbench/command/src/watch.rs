@@ -3,9 +3,10 @@
 
 use crate::check::bound_of;
 use crate::demands::{Demand, Waiting, Who};
-use crate::load::{accepted, Loaded};
+use crate::load::accepted;
 use crate::out::{print_json, Out, Stop};
 use crate::road::progress;
+use crate::waits::own_waits;
 use clap::ArgMatches;
 use compare::Library;
 use generate::Rng;
@@ -13,7 +14,8 @@ use model::packed::Board;
 use model::TimedState;
 use monitor::{Driver, Monitor, Seen, Strategy};
 use serde_json::json;
-use site::{letter, seconds};
+use site::seconds;
+use site::waits::Wait;
 use std::sync::atomic::{AtomicBool, Ordering};
 use std::sync::Arc;
 use willowera::{Fields, STATE_LEN};
@@ -121,6 +123,7 @@ fn watch_run(
 pub fn watch(out: &Out, matches: &ArgMatches) -> Result<(), Stop> {
     let path: &String = matches.get_one("SITE").expect("required");
     let loaded = accepted(out, path)?;
+    let own = own_waits(&loaded)?;
     let [steps, seed] =
         ["steps", "seed"].map(|name| *matches.get_one::<u64>(name).expect("a default"));
     let stopped = Arc::new(AtomicBool::new(false));
@@ -148,36 +151,34 @@ pub fn watch(out: &Out, matches: &ArgMatches) -> Result<(), Stop> {
         run += 1;
     }
     bar.finish_and_clear();
+    let stopped = stopped.load(Ordering::SeqCst);
     print(
         out,
-        &loaded,
+        bound_of(&loaded),
+        &own,
         &seeing,
         breach.as_deref(),
-        stopped.load(Ordering::SeqCst),
+        stopped,
     );
     breach.map_or(Ok(()), |_| Err(Stop::Refused))
 }
 
-/// Who waits, in words.
-fn name(loaded: &Loaded, who: Who) -> String {
-    match who {
-        Who::Phase(phase) => format!("phase {}", letter(phase)),
-        Who::Movement(at) => loaded.site.groups[loaded.site.movements[at].group]
-            .name
-            .clone(),
-    }
-}
-
-fn print(out: &Out, loaded: &Loaded, seeing: &Seeing, breach: Option<&str>, stopped: bool) {
-    let bound = bound_of(loaded);
+/// What was seen of everybody, in the order of their own waits.
+fn print(
+    out: &Out,
+    bound: u64,
+    own: &[Wait],
+    seeing: &Seeing,
+    breach: Option<&str>,
+    stopped: bool,
+) {
+    let rows = || seeing.longest.iter().zip(own);
+    let made_it = |one: &Longest| one.strategy.map(|strategy| format!("{strategy:?}"));
     if out.json {
-        let row = |one: &Longest| {
-            json!({"who": name(loaded, one.who), "longest": one.wait, "met": one.met,
-                   "strategy": one.strategy.map(|strategy| format!("{strategy:?}"))})
-        };
+        let row = |(one, own): (&Longest, &Wait)| json!({"who": own.who, "longest": one.wait, "wait": own.steps(), "met": one.met, "strategy": made_it(one)});
         print_json(&json!({
             "steps": seeing.steps, "greens": seeing.greens, "waitBound": bound, "breach": breach, "stopped": stopped,
-            "mostStarts": seeing.most_starts, "waits": seeing.longest.iter().map(row).collect::<Vec<_>>(),
+            "mostStarts": seeing.most_starts, "waits": rows().map(row).collect::<Vec<_>>(),
         }));
         return;
     }
@@ -191,26 +192,24 @@ fn print(out: &Out, loaded: &Loaded, seeing: &Seeing, breach: Option<&str>, stop
     match breach {
         Some(breach) => say!("{}: {breach}", out.paint("31;1", "breach")),
         None => say!(
-            "{}: no conflicting greens, full clearances, every demand within its bound",
+            "{}: no conflicting greens, full clearances, every demand within its wait",
             out.good("no breach")
         ),
     }
-    say!("\nwho       demands met  longest wait       bound  part  inputs that made it");
-    for one in &seeing.longest {
-        let strategy = one
-            .strategy
-            .map_or("-".to_string(), |strategy| format!("{strategy:?}"));
+    say!("\nwho       demands met  longest seen    its wait  part  inputs that made it");
+    for (one, own) in rows() {
+        let longest = match one.met {
+            0 => "-".to_string(),
+            _ => seconds(one.wait),
+        };
         say!(
-            "{:<10}{:>11}  {:>12}  {:>10}  {:.2}  {strategy}",
-            name(loaded, one.who),
+            "{:<10}{:>11}  {longest:>12}  {:>10}  {:.2}  {}",
+            own.who,
             one.met,
-            if one.met == 0 {
-                "-".to_string()
-            } else {
-                seconds(one.wait)
-            },
-            seconds(bound),
-            one.wait as f64 / bound as f64
+            seconds(own.steps()),
+            one.wait as f64 / own.steps() as f64,
+            made_it(one).unwrap_or("-".to_string())
         );
     }
+    say!("\nthe bound of the whole site is {}", seconds(bound));
 }

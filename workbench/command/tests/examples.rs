@@ -2,7 +2,7 @@
 
 mod common;
 
-use common::{files, root, scratch, shown, sites, willowera};
+use common::{edited, files, root, scratch, shown, sites, willowera};
 use std::fs;
 
 #[test]
@@ -134,20 +134,66 @@ fn parts_of_the_bound_add_up() {
     assert_eq!(order["phases"][0]["before"], "CB");
 }
 
+/// The waits that `waits` and the report show are the library's, each with parts that add
+/// up to it.
 #[test]
-fn watched_runs_have_no_breach_and_stay_within_the_bound() {
+fn every_phase_and_movement_has_its_wait() {
+    for site in sites() {
+        let bytes = willowera(&["build", shown(&site)]).stdout;
+        let told = willowera::waits(&bytes).unwrap();
+        let json = willowera(&["waits", "--json", shown(&site)]).json();
+        let rows = json["waits"].as_array().unwrap();
+        let waits: Vec<u64> = rows
+            .iter()
+            .map(|row| row["wait"].as_u64().unwrap())
+            .collect();
+        let expected = told.phases.iter().chain(&told.movements);
+        assert_eq!(
+            waits,
+            expected.map(|wait| u64::from(*wait)).collect::<Vec<_>>()
+        );
+        for row in rows {
+            let parts = row["parts"].as_array().unwrap().iter();
+            let terms = parts.flat_map(|part| part["terms"].as_array().unwrap());
+            let sum: u64 = terms.map(|term| term["steps"].as_u64().unwrap()).sum();
+            assert_eq!(row["wait"], sum, "{}: {row}", site.display());
+        }
+    }
+    let site = root().join("examples/staggered");
+    let text = willowera(&["waits", shown(&site)]).text();
+    let page = willowera(&["report", shown(&site)]).text();
+    for (who, wait) in [("phase A", "55.7"), ("phase C", "75.5"), ("P1", "79.2")] {
+        assert!(text.contains(&format!("\n{who:<10}{wait:>7}  ")), "{text}");
+        assert!(page.contains(&format!("<td>{who}</td><td class=\"n\">{wait}</td>")));
+    }
+}
+
+#[test]
+fn watched_runs_have_no_breach_and_stay_within_their_waits() {
     for name in ["two_phases", "crossings"] {
         let site = root().join("examples").join(name);
         let ended = willowera(&["watch", "--json", "--steps", "40000", shown(&site)]);
         assert_eq!(ended.status, 0, "{}", ended.text());
         let json = ended.json();
         let bound = json["waitBound"].as_u64().unwrap();
-        let longest = json["waits"]
-            .as_array()
-            .unwrap()
+        let told = willowera::waits(&willowera(&["build", shown(&site)]).stdout).unwrap();
+        let own = told.phases.iter().chain(&told.movements);
+        let rows = json["waits"].as_array().unwrap();
+        let of = |name: &str| {
+            rows.iter()
+                .map(|one| one[name].as_u64().unwrap())
+                .collect::<Vec<_>>()
+        };
+        let (longest, waits) = (of("longest"), of("wait"));
+        assert_eq!(waits, own.map(|wait| u64::from(*wait)).collect::<Vec<_>>());
+        assert!(longest
             .iter()
-            .map(|one| one["longest"].as_u64().unwrap());
-        assert!(longest.clone().all(|wait| wait < bound) && longest.max() > Some(bound / 4));
+            .zip(&waits)
+            .all(|(seen, own)| seen < own && *own <= bound));
+        assert!(longest
+            .iter()
+            .zip(&waits)
+            .any(|(seen, own)| *seen > own / 2));
         assert_eq!(json["steps"], 40_000);
     }
 }
@@ -208,4 +254,31 @@ fn a_report_is_one_page_that_loads_nothing() {
     }
     let links = page.replace("http://www.w3.org/2000/svg", "");
     assert!(!links.contains("http") && !links.contains("src=") && !links.contains("href="));
+}
+
+/// The report has the place of what has no name in words.
+#[test]
+fn a_report_tells_places_without_names() {
+    let path = edited(
+        "places.txt",
+        &[
+            (
+                "lane 1 metres 39  \"eastbound\"",
+                "lanes 1..2 metres 30 length 4.5",
+            ),
+            (
+                "lane 1 arrow left,straight   \"eastbound\"",
+                "lane 1 arrow left,straight",
+            ),
+            ("streams\nsteps 36000", "streams\nsteps 10"),
+        ],
+    );
+    let page = willowera(&["report", shown(&path)]).text();
+    for place in [
+        "west, lanes 1..2, 30 m, 4.5 m long",
+        "west, lane 1, left, straight",
+        "westbound, right turn",
+    ] {
+        assert!(page.contains(&format!("<td>{place}</td>")), "{place}");
+    }
 }

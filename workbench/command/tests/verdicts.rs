@@ -174,6 +174,71 @@ fn warnings_have_their_lines() {
     );
 }
 
+/// A conflict that a row has twice, alone or with the group behind `not` too.
+#[test]
+fn groups_that_a_row_has_twice() {
+    let twice = |row: &str, text: &str| {
+        let path = edited("twice", &[("V4: V1 V5 V6 P1 P2", row)]);
+        let ended = willowera(&["check", shown(&path)]);
+        assert!(
+            ended.status == 0 && ended.text().contains(text),
+            "{}",
+            ended.text()
+        );
+        // One warning is no plural.
+        assert!(ended.text().ends_with("\n1 warning\n"), "{}", ended.text());
+    };
+    twice(
+        "V4: V1 V5 V6 P1 P2 V1",
+        ":20: warning: the row of V4 has V1 twice\n",
+    );
+    twice(
+        "V4: V1 V5 V6 P1 P2 not V1",
+        ":24: warning: the row of V4 has V1 as a conflict and behind `not`: it is a conflict\n",
+    );
+    let path = edited("two", &[("V4: V1 V5 V6 P1 P2", "V4: V1 V5 V6 P1 P2 V1 V1")]);
+    assert!(willowera(&["check", shown(&path)])
+        .text()
+        .ends_with("\n2 warnings\n"));
+}
+
+/// A speed without a yellow time is told in a note, which is no warning.
+#[test]
+fn a_yellow_that_is_not_judged_is_told() {
+    let path = edited("slow", &[("west    speed 60", "west    speed 30")]);
+    let ended = willowera(&["check", "--strict", shown(&path)]);
+    let note = "note: the yellow for west could not be judged at 30 km/h and 0 %: the library's table is for 40 to 110 km/h and -10 to 10 %\n";
+    assert!(
+        ended.status == 0 && ended.text().contains(note) && !ended.text().contains("warning"),
+        "{}",
+        ended.text()
+    );
+    let (_, line, _) = first("slow", &[("west    speed 60", "west    speed 30")]);
+    assert_eq!(line, "west speed");
+    // The table ends where the note says.
+    let ends = |(low, high): (i32, i32), given: &dyn Fn(i32) -> bool| {
+        assert_eq!(
+            [low - 1, low, high, high + 1].map(given),
+            [false, true, true, false]
+        );
+    };
+    ends(site::YELLOW_SPEEDS, &|speed| {
+        willowera::yellow(speed as u32, 0).is_ok()
+    });
+    ends(site::YELLOW_GRADES, &|grade| {
+        willowera::yellow(60, grade).is_ok()
+    });
+}
+
+#[test]
+fn a_text_is_not_shown_but_told_to_be_one() {
+    let site = root().join("workbench/examples/four_arms/site.txt");
+    let ended = willowera(&["show", shown(&site)]);
+    assert_eq!((ended.status, ended.text().as_str()), (2, ""));
+    let told = "site.txt is a text already; show takes the bytes of a personality\n";
+    assert!(ended.stderr.ends_with(told), "{}", ended.stderr);
+}
+
 #[test]
 fn no_conflicts_at_all() {
     let path = scratch("none.txt");
@@ -299,19 +364,38 @@ fn a_c_array_has_the_bytes() {
 
 #[test]
 fn refused_streams_are_told_at_their_lines() {
-    let path = edited("streams", &[("detector 4 group V5", "detector 6 group V5")]);
-    let ended = willowera(&["road", shown(&path)]);
-    assert_eq!(ended.status, 1);
-    assert!(
-        ended
-            .text()
-            .contains("refused: 22 at byte 0: there is no detector 6: the site has 6"),
-        "{}",
-        ended.text()
-    );
-    let path = edited("walkers", &[("detector 4 group V5", "detector 4 group P1")]);
-    let ended = willowera(&["road", shown(&path)]);
-    assert!(ended.status == 1 && ended.text().contains("P1 is not a vehicle group"));
+    for command in ["road", "check"] {
+        let told = |old: &str, new: &str, text: &str| {
+            let path = edited(&format!("streams_{command}"), &[(old, new)]);
+            let line = fs::read_to_string(&path).unwrap();
+            let line = line.lines().position(|line| line.starts_with(new)).unwrap() + 1;
+            let ended = willowera(&[command, shown(&path)]);
+            let expected = format!(":{line}:1: refused: 22 at byte 0: {text}");
+            assert!(
+                ended.status == 1 && ended.text().contains(&expected),
+                "{expected}: {}",
+                ended.text()
+            );
+        };
+        told(
+            "detector 4 group V5",
+            "detector 6 group V5",
+            "there is no detector 6: the site has 6",
+        );
+        told(
+            "detector 4 group V5",
+            "detector 4 group P1",
+            "P1 is not a vehicle group",
+        );
+        told(
+            "detector 4 group V5 rate",
+            "detector 4 group V5 rate 1801 #",
+            "1801 vehicles per hour; at most 1800 are allowed",
+        );
+        let path = edited("steps", &[("steps 36000", "steps 180001")]);
+        let told = willowera(&[command, shown(&path)]).text();
+        assert!(told.contains("180001 steps are refused; at most 180000"));
+    }
 }
 
 #[test]

@@ -15,7 +15,7 @@ function checkText(library, texts, text) {
   const { number, value } = library.read(bytes);
   if (number !== 0) {
     const told = texts.tell(text, number, value);
-    const others = told.others.map(other => ({ ...other, severity: "note" }));
+    const others = told.others.map(other => ({ ...other, severity: "other" }));
     return { messages: [told, ...others], site: null, status: `refused: ${number} at byte ${value}`, fine: false };
   }
   const bound = library.waitBound(bytes).value;

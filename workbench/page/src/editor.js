@@ -5,7 +5,8 @@ const SEVERITIES = {
   error: { sign: "✕", word: "mistake" },
   refusal: { sign: "✕", word: "refusal" },
   warning: { sign: "!", word: "warning" },
-  note: { sign: "→", word: "see also" },
+  other: { sign: "→", word: "see also" },
+  note: { sign: "i", word: "note" },
 };
 
 const escaped = text => String(text).replace(/[&<>"]/g, letter => `&#${letter.charCodeAt(0)};`);
@@ -75,7 +76,7 @@ class Editor {
 }
 
 /** The worst message of a line comes first in this order. */
-const worst = messages => ["error", "refusal", "warning", "note"]
+const worst = messages => ["error", "refusal", "other", "warning", "note"]
   .find(severity => messages.some(message => message.severity === severity));
 
 function gutterLine(number, messages) {

@@ -4,6 +4,7 @@
 
 const STATE_BYTES = 336;
 const RESULT_BYTES = 4;
+const MOST_WAIT_BYTES = 30;
 const FIRST_BUTTON = 48;
 const COLOUR_LETTERS = "RYGF";
 const COLOUR_NAMES = ["red", "yellow", "green", "flashing red"];
@@ -58,6 +59,14 @@ class Library {
 
   waitBound(bytes) {
     return this.call("willowera_wait_bound", bytes);
+  }
+
+  /** The wait of each phase, then of each movement, in steps. */
+  waits(bytes) {
+    const buffer = new Uint8Array(MOST_WAIT_BYTES);
+    const { number, value } = this.call("willowera_waits", bytes, buffer);
+    if (number !== 0) throw new Error(`the waits are refused with ${number}`);
+    return Array.from({ length: value / 2 }, (_, at) => twoBytes(buffer, 2 * at));
   }
 
   fresh(bytes) {
@@ -135,6 +144,11 @@ class SiteTexts {
 
   warnings(text, bound, yellows) {
     return JSON.parse(this.call("site_warnings", text, bound, yellows));
+  }
+
+  /** What the wait of each phase and movement is made of, by the text alone. */
+  waits(text) {
+    return JSON.parse(this.call("site_waits", text));
   }
 
   inputs(text, script) {

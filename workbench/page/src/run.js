@@ -47,6 +47,8 @@ class Run {
     Object.assign(this, { library, site, bytes, text });
     this.wanted = bytes;  // the bytes of the last text that was adopted; they differ from `bytes` in times only
     this.bound = library.waitBound(bytes).value;
+    this.waits = library.waits(bytes);  // of each phase, then of each movement, by the times that rule
+    this.ruledSince = 0;                // the step from which these times rule
     this.state = library.fresh(bytes);
     this.colours = new Uint8Array(site.groups.length);
     this.now = 0;
@@ -61,7 +63,6 @@ class Run {
     this.buttons = tracks(site.movements.length);
     this.locks = tracks(site.phases.length);
     this.presses = tracks(site.movements.length);
-    this.bounds = new Track();
   }
 
   get phase() { return this.state[0]; }
@@ -79,12 +80,14 @@ class Run {
   /** One step of 0.1 s. */
   step() {
     const inputs = this.down | this.held | this.clicked | (this.script[this.now] ?? 0n);
+    const changes = this.timesWait;
     const { number, value } = this.library.step(this.bytes, this.state, inputs, this.colours);
     if (number !== 0) throw new Error(`step ${this.now + 1} is refused with ${number}`);
     this.now += 1;
     this.inputs = inputs;
     this.clicked = 0n;
     this.bound = value;
+    if (changes && !this.timesWait) Object.assign(this, { waits: this.library.waits(this.wanted), ruledSince: this.now });
     this.record();
   }
 
@@ -97,7 +100,6 @@ class Run {
     this.buttons.forEach((track, at) => track.put(step, bit(FIRST_BUTTON + at)));
     this.locks.forEach((track, at) => track.put(step, this.state[12] >> at & 1));
     this.presses.forEach((track, at) => track.put(step, this.state[13] >> at & 1));
-    this.bounds.put(step, this.bound);
   }
 
   /** How long a demand waited that was there from a first to a last step: it is met in the step behind the last. */
@@ -105,18 +107,21 @@ class Run {
     return Math.min(last + 1, this.now) - first;
   }
 
-  /** The demands that wait: what, since which step, and the bound that the library gave in that step. */
-  get demands() {
-    const one = (name, track) => {
-      if (track.values.at(-1) !== 1) return [];
-      const since = track.starts.at(-1);
-      return [{ name, since, waited: this.waited(since, this.now), bound: this.bounds.at(since) }];
-    };
+  /** Whoever may wait: each phase and each movement, with its track and its own wait. */
+  get waiters() {
     const { phases, movements } = this.site;
     return [
-      ...this.locks.flatMap((track, at) => one(`phase ${phases[at].letter}`, track)),
-      ...this.presses.flatMap((track, at) => one(`${movements[at].name} walk`, track)),
+      ...this.locks.map((track, at) => ({ name: `phase ${phases[at].letter}`, track, wait: this.waits[at] })),
+      ...this.presses.map((track, at) => ({ name: `${movements[at].name} walk`, track, wait: this.waits[phases.length + at] })),
     ];
+  }
+
+  /** The demands that wait: what, since which step, and the wait of the phase or movement; null if other times have ruled meanwhile. */
+  get demands() {
+    return this.waiters.filter(({ track }) => track.values.at(-1) === 1).map(({ name, track, wait }) => {
+      const since = track.starts.at(-1);
+      return { name, since, waited: this.waited(since, this.now), wait: since >= this.ruledSince ? wait : null };
+    });
   }
 
   /** What was occupied and pressed, as an input script. */

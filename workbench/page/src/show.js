@@ -55,10 +55,11 @@ function showAside(run) {
   const why = run.why;
   byId("why").textContent = why || `${letterOf(run.phase)} is in ${INTERVAL_NAMES[run.interval]}`;
   byId("why").className = why ? "" : "quiet";
-  const demands = run.demands.map(({ name, waited, bound }) => {
-    const told = `${name}: waited ${seconds(waited)} of at most ${seconds(bound)} seconds`;
-    const meter = `<meter min="0" max="${bound}" value="${waited}" aria-label="${escaped(told)}"></meter>`;
-    return `<tr><th scope="row">${escaped(name)}</th><td>${seconds(waited)} of ${seconds(bound)} s</td><td>${meter}</td></tr>`;
+  const demands = run.demands.map(({ name, waited, wait }) => {
+    if (wait === null) return `<tr><th scope="row">${escaped(name)}</th><td>${seconds(waited)} s</td><td class="none">new times</td></tr>`;
+    const told = `${name}: waited ${seconds(waited)} of less than ${seconds(wait)} seconds`;
+    const meter = `<meter min="0" max="${wait}" value="${waited}" aria-label="${escaped(told)}"></meter>`;
+    return `<tr><th scope="row">${escaped(name)}</th><td>${seconds(waited)} of ${seconds(wait)} s</td><td>${meter}</td></tr>`;
   });
   byId("demands").innerHTML = demands.length ? `<table>${demands.join("")}</table>` : `<span class="none">nobody waits</span>`;
   const walks = run.site.movements.map((movement, at) =>

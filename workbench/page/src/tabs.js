@@ -23,6 +23,36 @@ function conflictTable({ site, colours }) {
 
 // ── Waits ──
 
+const stepsOf = list => list.reduce((sum, { steps }) => sum + steps, 0);
+
+/** The wait of each phase and movement. Its parts are those of the text and must add up to the number of the library. */
+function ownWaits(library, texts, { wanted, text }) {
+  const told = library.waits(wanted);
+  const waits = texts.waits(text).map(({ who, parts }) => {
+    const counted = parts.map(part => ({ ...part, steps: stepsOf(part.terms) }));
+    return { who, parts: counted, steps: stepsOf(counted) };
+  });
+  if (String(waits.map(wait => wait.steps)) !== String(told)) throw new Error("the parts of the waits do not add up to the library's numbers");
+  return waits;
+}
+
+/** A row of what is made of other things: its name, its steps, and their names with their steps. */
+function madeOf(name, steps, things) {
+  const list = things.map(thing => `${escaped(thing.what ?? thing.name)} <b>${seconds(thing.steps)}</b>`).join(" + ");
+  return `<tr><th scope="row">${escaped(name)}</th><td class="sum">${seconds(steps)}</td><td class="left">${list}</td></tr>`;
+}
+
+/** Two tables: the waits by their parts, and each part by its times. */
+function ownTables(waits) {
+  const parts = new Map(waits.flatMap(wait => wait.parts).map(part => [JSON.stringify(part), part]));
+  const table = (kind, caption, names, rows) => `<table class="waits ${kind}"><caption>${caption}, in seconds</caption><thead><tr>` +
+    `${names.map((name, at) => `<th scope="col"${at === 2 ? ` class="left"` : ""}>${name}</th>`).join("")}</tr></thead><tbody>${rows.join("")}</tbody></table>`;
+  return [
+    table("own", "The wait of each phase and movement", ["demand of", "wait", "made of"], waits.map(({ who, steps, parts }) => madeOf(who, steps, parts))),
+    table("parts", "These parts", ["part", "at most", "made of"], Array.from(parts.values(), ({ what, steps, terms }) => madeOf(what, steps, terms))),
+  ];
+}
+
 /** The bound with one time changed by so many steps, or null if the library refuses the bytes. */
 function boundWith(library, bytes, offset, change) {
   const changed = bytes.slice();
@@ -98,36 +128,34 @@ function partRow(name, times, part, bound) {
     `<td class="bar"><meter min="0" max="${bound}" value="${part}" aria-label="${name}, share of the bound">${part}</meter></td></tr>`;
 }
 
-function waitsTable(library, run) {
+function waitsTable(library, texts, run) {
   const { bound, start, rows, rest } = boundParts(library, run.site, run.wanted);
+  const [own, parts] = ownTables(ownWaits(library, texts, run));
   const head = ["phase", ...BOUND_COLUMNS, "part"].map(name => `<th scope="col">${name}</th>`).join("");
   const body = [
     partRow("start red", start, sumOf(start), bound),
     ...rows.map(({ phase, times, sum }) => partRow(phase.letter, times, sum, bound)),
     ...(rest === 0 ? [] : [partRow("other", [], rest, bound)]),
   ];
-  return `<p class="lead">Whoever calls with lock or presses is served within <b>${seconds(bound)} s</b> (${bound} steps).</p><div class="columns"><div>` +
-    `<table class="waits"><caption>The wait bound and its parts, in seconds</caption><thead><tr>${head}<td></td></tr></thead><tbody>${body.join("")}` +
+  return `<p class="lead">A demand that lasts has its minimum green, and a button its walk, in less than its wait. Nobody with a lock or a button waits longer than ` +
+    `<b>${seconds(bound)} s</b> (${bound} steps), the bound of the whole site.</p><div class="columns"><div>${own}</div><div id="seen">${longestWaits(run)}</div><div>${parts}</div><div>` +
+    `<table class="waits bound"><caption>The wait bound and its parts, in seconds</caption><thead><tr>${head}<td></td></tr></thead><tbody>${body.join("")}` +
     `<tr class="total"><th scope="row">bound</th><td colspan="${BOUND_COLUMNS.length}"></td><td class="sum">${seconds(bound)}</td><td></td></tr></tbody></table>` +
     `<p class="hint">Each factor is asked of the library: by how much the bound grows if this time is one step longer. Of several walks in a phase the longest counts. ` +
-    `A time in grey does not count.</p></div><div id="seen">${longestWaits(run)}</div></div>`;
+    `A time in grey does not count.</p></div></div>`;
 }
 
-/** For each phase and movement the longest wait that this run has seen, from registered to met. */
+/** For each phase and movement the longest wait seen since these times rule, from registered to met, beside its own wait. */
 function longestWaits(run) {
-  const { site } = run;
-  const row = (name, track) => {
-    const waits = track.spans(1, run.now, run.now).filter(([, , on]) => on).map(([first, last]) => run.waited(first, last));
+  const row = ({ name, track, wait }) => {
+    const waits = track.spans(1, run.now, run.now).filter(([first, , on]) => on && first >= run.ruledSince).map(([first, last]) => run.waited(first, last));
     const most = Math.max(0, ...waits);
-    return `<tr><th scope="row">${escaped(name)}</th><td>${waits.length}</td><td>${waits.length ? seconds(most) : "–"}</td><td>${seconds(run.bound)}</td>` +
-      `<td class="bar"><meter min="0" max="${run.bound}" value="${most}" aria-label="longest wait of ${escaped(name)} as a share of the bound">${most}</meter></td></tr>`;
+    return `<tr><th scope="row">${escaped(name)}</th><td>${waits.length}</td><td>${waits.length ? seconds(most) : "–"}</td><td>${seconds(wait)}</td>` +
+      `<td class="bar"><meter min="0" max="${wait}" value="${most}" aria-label="longest wait of ${escaped(name)} as a share of its own wait">${most}</meter></td></tr>`;
   };
-  const head = ["demand of", "times", "longest, s", "bound, s"].map(name => `<th scope="col">${name}</th>`).join("");
-  const rows = [
-    ...site.phases.map((phase, at) => row(`phase ${phase.letter}`, run.locks[at])),
-    ...site.movements.map((movement, at) => row(`${movement.name} walk`, run.presses[at])),
-  ];
-  return `<table class="waits"><caption>Longest waits of this run</caption><thead><tr>${head}<td></td></tr></thead><tbody>${rows.join("")}</tbody></table>`;
+  const head = ["demand of", "times", "longest, s", "its wait, s"].map(name => `<th scope="col">${name}</th>`).join("");
+  const since = run.ruledSince > 0 ? `, since ${seconds(run.ruledSince)} s` : "";
+  return `<table class="waits"><caption>Longest waits of this run${since}</caption><thead><tr>${head}<td></td></tr></thead><tbody>${run.waiters.map(row).join("")}</tbody></table>`;
 }
 
 // ── The road ──

@@ -14,7 +14,7 @@ function drawView() {
   } else if (page.view === "conflicts") {
     view.innerHTML = conflictTable(run);
   } else if (page.view === "waits") {
-    view.innerHTML = waitsTable(page.library, run);
+    view.innerHTML = waitsTable(page.library, page.texts, run);
   } else {
     drawRoad();
   }

@@ -52,7 +52,7 @@ const tests = {
     assert.ok(count >= 15, `${count} traces`);
   },
 
-  /** A click on each button leads to its walk within the bound; the page shows the demand until then. */
+  /** A click on each button leads to its walk in less than the movement's wait; the page shows the demand until then. */
   async pressesLeadToWalks(browser) {
     let walks = 0;
     for (const site of ["four_arms", "crossings", "staggered", "largest"]) {
@@ -63,11 +63,12 @@ const tests = {
         await browser.value("steps(200)");
         await browser.click(`#view .input[data-bit="${48 + at}"]`);
         await browser.value("steps(1)");
-        const before = await browser.value("({ bound: page.run.bound, demand: byId('demands').textContent, walks: page.run.stage(" + at + ") === 1 })");
+        const before = await browser.value("({ bound: page.run.waits[page.run.site.phases.length + " + at + "], demand: byId('demands').textContent, walks: page.run.stage(" + at + ") === 1 })");
         if (before.walks) continue;
         assert.ok(before.demand.includes(`${movements[at].name} walk`), `${site}: demand of ${movements[at].name}: ${before.demand}`);
+        assert.ok(before.demand.includes(`0.0 of ${(before.bound / 10).toFixed(1)} s`), `${site}: its own wait beside it: ${before.demand}`);
         const waited = await browser.value(`(() => { for (let n = 1; n <= ${before.bound}; n++) { page.run.step(); if (page.run.colours[${movements[at].group}] === 2) return n; } return null; })()`);
-        assert.ok(waited !== null && waited <= before.bound, `${site}: ${movements[at].name} walks after ${waited} of ${before.bound} steps`);
+        assert.ok(waited !== null && waited < before.bound, `${site}: ${movements[at].name} walks after ${waited} of ${before.bound} steps`);
         await browser.value("refresh()");
         assert.ok(!(await browser.value("byId('demands').textContent")).includes(`${movements[at].name} walk`), `${site}: demand is met`);
         assert.equal(await browser.value(`document.querySelector('#view [data-group="${movements[at].group}"]').dataset.colour`), "G");
@@ -75,6 +76,21 @@ const tests = {
       }
     }
     assert.ok(walks >= 8, `only ${walks} walks were waited for`);
+  },
+
+  /** With everything occupied and pressed all the time, everybody waits in this run, and nobody as long as the own wait. */
+  async waitsAreKept(browser) {
+    for (const site of ["four_arms", "crossings"]) {
+      await load(browser, site);
+      await browser.value("page.run.held = (1n << BigInt(page.run.site.detectors.length)) - 1n | ((1n << BigInt(page.run.site.movements.length)) - 1n) << 48n, steps(6000), choose('waits')");
+      const rows = await browser.value("Array.from(document.querySelectorAll('#seen tbody tr'), row => Array.from(row.cells, cell => cell.textContent).slice(0, 4))");
+      assert.equal(rows.length, await browser.value("page.run.site.phases.length + page.run.site.movements.length"), site);
+      for (const [name, times, longest, wait] of rows) {
+        const waited = Number(times) > 0 ? Number(longest) : 0;
+        assert.ok(waited < Number(wait), `${site}: ${name} waits ${longest} of ${wait} s, ${times} times`);
+      }
+      assert.ok(rows.every(([name, times]) => !name.endsWith("walk") || Number(times) > 2), `${site}: ${JSON.stringify(rows)}`);
+    }
   },
 
   /** Mistakes, refusals and warnings are at their lines, while typing and without the mouse. */
@@ -86,6 +102,8 @@ const tests = {
       ["t_junction", "1     B      non-locking", "1     Q      non-locking", ["refusal", "1     Q"]],
       ["four_arms", "5.0 s   15 s", "5.0 s   1.5 s", ["warning", "5.0 s   1.5 s"]],
       ["four_arms", "start red   4 s", "start red   4.05 s", ["error", "start red"]],
+      ["four_arms", "west    speed 60", "west    speed 30", ["note", "west    speed 30"]],
+      ["four_arms", "P1: V4 V5 V6", "P1: V4 V5 V6 V4", ["warning", "P1: V4 V5 V6 V4"]],
     ];
     for (const [site, before, after, [severity, row]] of cases) {
       await load(browser, site);
@@ -195,10 +213,17 @@ const tests = {
     for (const site of ["four_arms", ...folders]) {
       await browser.value(`loadExample("${site}"), choose("waits")`);
       const { bound, sum, total, rest } = await browser.value(`(() => { const parts = boundParts(page.library, page.run.site, page.run.bytes); return { bound: parts.bound, rest: parts.rest,
-        sum: Array.from(document.querySelectorAll("#view .waits:first-of-type td.sum"), cell => Math.round(10 * Number(cell.textContent))).slice(0, -1).reduce((a, b) => a + b, 0), total: page.library.waitBound(page.run.bytes).value }; })()`);
+        sum: Array.from(document.querySelectorAll("#view .bound td.sum"), cell => Math.round(10 * Number(cell.textContent))).slice(0, -1).reduce((a, b) => a + b, 0), total: page.library.waitBound(page.run.bytes).value }; })()`);
       assert.equal(sum, total, `${site}: the parts make the bound`);
       assert.equal(bound, total, site);
       assert.equal(rest, 0, `${site}: no part is left over`);
+      const rows = kind => browser.value(`Array.from(document.querySelectorAll("#view .${kind} tbody tr"), row => [row.cells[1], ...row.querySelectorAll("b")].map(cell => Math.round(10 * Number(cell.textContent))))`);
+      const own = await rows("own"), parts = await rows("parts");
+      for (const [whole, ...things] of [...own, ...parts]) assert.equal(things.reduce((a, b) => a + b, 0), whole, `${site}: what a wait and a part is made of`);
+      assert.deepEqual(own.map(([wait]) => wait), await browser.value("page.library.waits(page.run.bytes)"), `${site}: the waits of the library`);
+      const seen = await browser.value("Array.from(document.querySelectorAll('#seen tbody tr'), row => Math.round(10 * Number(row.cells[3].textContent)))");
+      assert.deepEqual(seen, own.map(([wait]) => wait), `${site}: beside the longest waits of the run`);
+      if (site === "staggered") assert.deepEqual(seen, [557, 598, 755, 792], "the waits of the staggered junction");
     }
     for (const site of ["four_phases", "t_junction", "two_phases"]) {
       await browser.value(`loadExample("${site}")`);
@@ -254,6 +279,10 @@ const tests = {
     await change("B    0   20", "B    0   40");
     assert.deepEqual(await browser.value("[page.run.now, page.run.timesWait]"), [20, true], "new times wait");
     assert.ok((await browser.value("byId('clock').textContent")).includes("new times wait"));
+    const waits = await browser.value("page.run.waits");
+    await browser.value("while (page.run.timesWait) { page.run.held = page.run.interval < 5 ? 2n : 3n; page.run.step(); } refresh()");
+    assert.match(await browser.value("byId('demands').textContent"), /phase A\d+\.\d snew times/, "a demand that began under other times");
+    assert.deepEqual(await browser.value("page.run.waits"), [waits[0] + 20, waits[1]], "a longer minimum green of B is in the wait of A");
     await change("1     B      locking", "1     B      non-locking");
     assert.deepEqual(await browser.value("[page.run.now, page.run.timesWait]"), [0, false], "another site begins anew");
     await change("V2: V1", "V2:");
@@ -404,6 +433,13 @@ const FAULTS = [
   ["keysWork", `event.key !== "Enter" && event.key !== " "`, `event.key !== "x"`],
   ["mouseHolds", "page.run.down |= bit;", "page.run.down |= 0n;"],
   ["playKeepsTime", "(page.fast ? 10 : 1)", "(page.fast ? 3 : 1)"],
+  ["pressesLeadToWalks", "wait: since >= this.ruledSince ? wait : null", "wait: since >= this.ruledSince ? this.bound : null"],
+  ["waitsAreKept", "run.waited(first, last));", "run.waited(first, last) + 600);"],
+  ["textIsAdopted", "wait: since >= this.ruledSince ? wait : null", "wait"],
+  ["textIsAdopted", "waits: this.library.waits(this.wanted), ruledSince", "ruledSince"],
+  ["tabsOpen", "twoBytes(buffer, 2 * at));", "twoBytes(buffer, 2 * at) + 1);"],
+  ["tabsOpen", "wait: this.waits[phases.length + at]", "wait: this.bound"],
+  ["tabsOpen", "seconds(thing.steps)}</b>", "seconds(thing.steps + 1)}</b>"],
   ["tabsOpen", "return more - bound;", "return more - bound + 1;"],
   ["tabsOpen", "const steps = Math.round(site.steps * point / ROAD_POINTS);", "const steps = Math.round(site.steps * point / (ROAD_POINTS + 1));"],
   ["tabsOpen", "groups[row].conflicts.includes(column)", "groups[column].conflicts.includes(column - 1)"],

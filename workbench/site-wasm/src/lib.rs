@@ -10,6 +10,7 @@
 //! | `site_parse(text)` | `{"mistakes":[..],"site":..,"built":{"bytes":[..],"spans":[[line,column,length],..]},"speeds":[[speed,grade],..]}`; with mistakes the others are null |
 //! | `site_tell(text, number, place)` | a refusal of the library in words |
 //! | `site_warnings(text, bound, yellows)` | the warnings; `yellows` is a text of rows `speed grade steps`, for the pairs of `speeds` that the library accepts |
+//! | `site_waits(text)` | what the wait of each phase and of each movement is made of: `[{"who":"phase A","parts":[{"what":"turn of B","terms":[{"name":"M","steps":20},..]},..]},..]` |
 //! | `site_inputs(text, script)` | `{"mistakes":[..],"inputs":["0","5",..]}`: decimal numbers as texts, because they have 64 bits |
 //! | `site_show(bytes)` | the text of a personality, or a line that begins with `!` and says why there is none |
 
@@ -131,6 +132,16 @@ pub unsafe extern "C" fn site_warnings(
             let warnings = site::warnings(&read, bound.into(), &yellow);
             site::json::list(warnings.iter().map(site::json::warning))
         }
+        Err(_) => "[]".to_string(),
+    })
+}
+
+/// # Safety
+/// The text is memory of `site_alloc`.
+#[no_mangle]
+pub unsafe extern "C" fn site_waits(address: *const u8, length: usize) -> usize {
+    answer(match site::read(&text(address, length)) {
+        Ok(read) => site::json::waits(&site::waits::waits(&read)),
         Err(_) => "[]".to_string(),
     })
 }

@@ -1,6 +1,7 @@
 //! Sites, messages and bytes as JSON, for the page and for `--json`.
 
 use crate::site::{letter, letters, Place, Site, ARROWS, CALLS, MARKS};
+use crate::waits::{Part, Term, Wait};
 use crate::words::{Mistake, Span};
 use crate::{Built, Told, Warning};
 use std::fmt::Write;
@@ -80,14 +81,37 @@ pub fn told(told: &Told) -> String {
     ])
 }
 
-/// A warning.
+/// A warning, or a note.
 pub fn warning(warning: &Warning) -> String {
+    let severity = if warning.kind.is_note() {
+        "note"
+    } else {
+        "warning"
+    };
     object(&[
-        ("severity", string("warning")),
+        ("severity", string(severity)),
         ("kind", string(warning.kind.name())),
         ("span", span(warning.span)),
         ("text", string(&warning.text)),
     ])
+}
+
+/// What the waits are made of: who waits, and the parts with their times in steps.
+pub fn waits(waits: &[Wait]) -> String {
+    let term = |term: &Term| object(&[("name", string(&term.name)), ("steps", number(term.steps))]);
+    let part = |part: &Part| {
+        object(&[
+            ("what", string(&part.what)),
+            ("terms", list(part.terms.iter().map(term))),
+        ])
+    };
+    let wait = |wait: &Wait| {
+        object(&[
+            ("who", string(&wait.who)),
+            ("parts", list(wait.parts.iter().map(part))),
+        ])
+    };
+    list(waits.iter().map(wait))
 }
 
 /// Bytes as a list of numbers, and the place of each as `[line, column, length]`.

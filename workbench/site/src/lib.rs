@@ -23,6 +23,7 @@ mod row;
 mod show;
 mod site;
 mod tell;
+pub mod waits;
 mod warn;
 mod words;
 
@@ -38,7 +39,7 @@ pub use site::{
     MOVEMENT_SETTINGS, PEDESTRIAN, PHASE_SETTINGS, ROAD_STEPS,
 };
 pub use tell::{tell, Told};
-pub use warn::{speeds, warnings, Kind, Warning};
+pub use warn::{speeds, warnings, Kind, Warning, YELLOW_GRADES, YELLOW_SPEEDS};
 pub use words::{Mistake, Span};
 
 /// Steps as seconds, such as `4.5 s`.

@@ -125,6 +125,26 @@ pub struct Place {
     pub length: Option<f64>,
 }
 
+impl Place {
+    /// Its name, or else where it is: approach, lanes, arrows, metres and length.
+    pub fn words(&self, site: &Site) -> String {
+        if let Some(name) = &self.name {
+            return name.clone();
+        }
+        let approach = self.approach.map(|at| site.approaches[at].name.clone());
+        let lanes = self.lanes.map(|(first, last)| match first == last {
+            true => format!("lane {first}"),
+            false => format!("lanes {first}..{last}"),
+        });
+        let arrows = self.arrows.iter().map(|arrow| ARROWS[*arrow].to_string());
+        let metres = self.metres.map(|metres| format!("{metres} m"));
+        let length = self.length.map(|length| format!("{length} m long"));
+        let words = approach.into_iter().chain(lanes).chain(arrows);
+        let words: Vec<String> = words.chain(metres).chain(length).collect();
+        words.join(", ")
+    }
+}
+
 /// A phase. Its letter is its place in the list.
 #[derive(Clone, Debug, PartialEq)]
 pub struct Phase {
@@ -300,6 +320,18 @@ impl Site {
             Some(order) => order.iter().map(|(phase, _)| usize::from(*phase)).collect(),
             None => (0..self.phases.len()).collect(),
         }
+    }
+
+    /// The other phases in the order in which they may come before a phase: from the one
+    /// after it in the running order.
+    pub fn phases_before(&self, phase: usize) -> Vec<usize> {
+        let order = self.running_order();
+        let own = order.iter().position(|one| *one == phase).unwrap_or(0);
+        let others = order.iter().cycle().skip(own + 1);
+        others
+            .take(order.len().saturating_sub(1))
+            .copied()
+            .collect()
     }
 
     /// The place of a heading, or that of the first line.

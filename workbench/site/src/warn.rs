@@ -17,10 +17,12 @@ pub enum Kind {
     MaximumBelowMinimum,
     ShortYellow,
     TimeWithoutEffect,
+    ListedTwice,
+    YellowNotJudged,
 }
 
 impl Kind {
-    pub const ALL: [Kind; 10] = [
+    pub const ALL: [Kind; 12] = [
         Kind::StatedBound,
         Kind::NoConflicts,
         Kind::NeverConflict,
@@ -31,6 +33,8 @@ impl Kind {
         Kind::MaximumBelowMinimum,
         Kind::ShortYellow,
         Kind::TimeWithoutEffect,
+        Kind::ListedTwice,
+        Kind::YellowNotJudged,
     ];
 
     /// The name of the kind for programs.
@@ -46,7 +50,14 @@ impl Kind {
             Kind::MaximumBelowMinimum => "maximum-below-minimum",
             Kind::ShortYellow => "short-yellow",
             Kind::TimeWithoutEffect => "time-without-effect",
+            Kind::ListedTwice => "listed-twice",
+            Kind::YellowNotJudged => "yellow-not-judged",
         }
+    }
+
+    /// Whether it only says what was not looked at: a note, and no warning.
+    pub fn is_note(self) -> bool {
+        self == Kind::YellowNotJudged
     }
 }
 
@@ -57,6 +68,11 @@ pub struct Warning {
     pub span: Span,
     pub text: String,
 }
+
+/// The speeds in km/h and the grades in percent of the library's table of yellow times. They
+/// are for messages: the library decides, and a test asks it.
+pub const YELLOW_SPEEDS: (i32, i32) = (40, 110);
+pub const YELLOW_GRADES: (i32, i32) = (-10, 10);
 
 /// The speeds and grades of approaches, for which the library is asked for a yellow time.
 pub fn speeds(site: &Site) -> Vec<(u32, i32)> {
@@ -74,11 +90,13 @@ pub fn warnings(site: &Site, bound: u64, yellow: &dyn Fn(u32, i32) -> Option<u64
     };
     list.stated_bound(bound);
     list.conflicts();
+    list.rows();
     list.marks();
     list.detectors();
     list.phases();
     list.movements();
     list.yellows(yellow);
+    list.speeds(yellow);
     let mut warnings = list.warnings;
     warnings.sort_by_key(|warning| (warning.span.line, warning.span.column));
     warnings
@@ -161,6 +179,28 @@ impl<'a> List<'a> {
             return Vec::new();
         }
         others.into_iter().filter(|other| !known(other)).collect()
+    }
+
+    /// Groups that a row of conflicts names twice.
+    fn rows(&mut self) {
+        let site = self.site;
+        for group in &site.groups {
+            let named = group.conflicts.iter().chain(&group.apart);
+            let named: Vec<&(usize, Span)> = named.collect();
+            for (at, (other, span)) in named.iter().enumerate() {
+                let before = named[..at].iter().position(|(one, _)| one == other);
+                let conflicts = group.conflicts.len();
+                let (own, name) = (&group.name, &site.groups[*other].name);
+                let text = match before {
+                    Some(before) if before < conflicts && at >= conflicts => {
+                        format!("the row of {own} has {name} as a conflict and behind `not`: it is a conflict")
+                    }
+                    Some(_) => format!("the row of {own} has {name} twice"),
+                    None => continue,
+                };
+                self.warn(Kind::ListedTwice, *span, text);
+            }
+        }
     }
 
     /// Vehicle groups in no phase, and marks without effect.
@@ -294,6 +334,27 @@ impl<'a> List<'a> {
                     );
                     self.warn(Kind::ShortYellow, written.span, text);
                 }
+            }
+        }
+    }
+
+    /// Approaches with vehicles whose speed or grade the library has no yellow time for.
+    fn speeds(&mut self, yellow: &dyn Fn(u32, i32) -> Option<u64>) {
+        let site = self.site;
+        for (at, approach) in site.approaches.iter().enumerate() {
+            let vehicles = |group: &crate::Group| {
+                !group.is_pedestrian() && group.phases != 0 && group.place.approach == Some(at)
+            };
+            let refused = |speed: &u32| yellow(*speed, approach.grade).is_none();
+            let speed = approach.speed.filter(refused);
+            if let (Some(speed), true) = (speed, site.groups.iter().any(vehicles)) {
+                let [speeds, grades] =
+                    [YELLOW_SPEEDS, YELLOW_GRADES].map(|(low, high)| format!("{low} to {high}"));
+                let text = format!(
+                    "the yellow for {} could not be judged at {speed} km/h and {} %: the library's table is for {speeds} km/h and {grades} %",
+                    approach.name, approach.grade
+                );
+                self.warn(Kind::YellowNotJudged, approach.span, text);
             }
         }
     }

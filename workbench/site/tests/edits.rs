@@ -55,6 +55,7 @@ fn edited_texts_are_read_or_have_mistakes() {
                 }
                 site::warnings(&site, 0, &|speed, _| Some(speed.into()));
                 site::json::site(&site);
+                site::json::waits(&site::waits::waits(&site));
                 for number in 1..30 {
                     let place = rng.below(built.bytes.len() + 2);
                     let told = site::tell(&site, &built, number, place);
