@@ -6,7 +6,8 @@ each trace program must show that wait.
 
 LONGEST is the program of rust/longest; each TRACE reads its standard input as the trace program does. For each phase and each movement of each site:
 the script of the inputs has the bytes that the program wrote for the trace program; the demand is registered in the step that is stated, and is met
-in the step that is stated and in none before; the wait that is promised is that of vectors/waits.py; NOTE.md has the row with both numbers.
+in the step that is stated and in none before; the wait that is promised is that of vectors/waits.py; NOTE.md has the row with both numbers,
+and README.md the row of the site.
 The exit status is 0 only if all of this is true."""
 import re
 import subprocess
@@ -73,7 +74,14 @@ def rows_of(name, longest, programs):
             traces = [trace_of(program, stdin) for program in programs]
             stated, wait = replayed(place, path.read_text(encoding="utf-8"), inputs, traces, site, of)
             need(stated == promised, place, f"{stated} promised, expected {promised}")
-            yield f"| {of} | {promised:,} | {wait:,} |"
+            yield of, promised, wait
+
+
+def summary(name, rows):
+    """The row of a site in README.md: its waits, and how many steps fewer were driven where it is not one."""
+    waits = ", ".join(f"{of} {promised:,}" for of, promised, _ in rows)
+    fewer = ", ".join(f"{of} {promised - wait}" for of, promised, wait in rows if promised - wait != 1)
+    return f"| `{name}` | {waits} | {fewer or '-'} |"
 
 
 def main(arguments):
@@ -81,12 +89,15 @@ def main(arguments):
         print(__doc__)
         return 2
     longest, *programs = arguments
+    readme = (HERE / "README.md").read_text(encoding="utf-8").splitlines()
     for path in sorted(HERE.glob("*/site.txt")):
         name = path.parent.name
         note = (HERE / name / "NOTE.md").read_text(encoding="utf-8").splitlines()
         rows = list(rows_of(name, longest, programs))
-        print(name, *rows, sep="\n", flush=True)
-        for row in rows:
+        print(summary(name, rows), flush=True)
+        need(summary(name, rows) in readme, "README.md", f"the row `{summary(name, rows)}` is missing")
+        for of, promised, wait in rows:
+            row = f"| {of} | {promised:,} | {wait:,} |"
             need(row in note, f"{name}/NOTE.md", f"the row `{row}` is missing")
     return 0
 

@@ -1,7 +1,7 @@
 //! `longest PERSONALITY [FOLDER [SEED TRIALS]]` prints for each phase and each movement of a
 //! site the wait that is promised, the longest wait that was driven, and what rules out the
 //! rest. With a folder it writes the inputs of each: `inputs_A.txt` is a script as in
-//! examples/README.md, and `stdin_A.bin` is the same as input of the trace program.
+//! workbench/README.md, and `stdin_A.bin` is the same as input of the trace program.
 
 #![forbid(unsafe_code)]
 
