@@ -80,6 +80,7 @@ same_trace() (
 check "the model's trace program" build_model
 
 check 'examples: bytes as their texts say' python3 examples/build.py --check
+check 'examples: bytes in proved statements' python3 examples/proved_bytes.py --self-test
 for input in examples/*/stdin*.bin; do
     trace=$(dirname "$input")/$(basename "$input" .bin | sed 's/^stdin/trace/').txt
     check "$trace" same_trace "$input" "$trace"
