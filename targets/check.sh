@@ -79,7 +79,7 @@ header() {
         links cortex-m4f-strict arm-none-eabi-gcc ${cortex}cortex-m4 -mfloat-abi=hard -mfpu=fpv4-sp-d16 &&
         links cortex-m0plus arm-none-eabi-gcc ${cortex}cortex-m0plus &&
         links armv7-linux arm-linux-gnueabihf-gcc && links aarch64-linux aarch64-linux-gnu-gcc &&
-        links riscv32 riscv64-unknown-elf-gcc -march=rv32imac -mabi=ilp32 --specs=picolibc.specs
+        links riscv32 riscv64-unknown-elf-gcc -march=rv32imac -mabi=ilp32 --specs=picolibc.specs -Wl,--defsym=__flash_size=0x100000
 }
 
 # ── stack ──
