@@ -3,23 +3,44 @@
 # run; the edits of the rules that a theorem must refuse; the example sites, their traces and the ways a trace ends; the lines of the table
 # of yellow times; the vectors; the tests of rust/ and the library against the model; cabinets; retimings; sealed states; waits; the library
 # from C and for other processors; the workbench.
-# The last line is `N passed, M failed`; the exit status is 0 only where M is 0.
+#
+#     ./test.sh                     everything, from nothing
+#     ./test.sh --after-proofs      no edit is tried, and what is proved in target/ is not proved again. This is not the verdict
+#
+# It says first which Debian packages it will install (as root; tools/install.sh). The checks that failed are named at the end. The last line
+# is `N passed, M failed`; the exit status is 0 only if M is 0.
 set -u
 cd "$(dirname "$0")" || exit 2
 
+proves=yes
+case "$*" in
+'') ;;
+--after-proofs) proves='' ;;
+*)
+    sed -n '7,8s/^# \{0,1\}//p' "$0" >&2
+    exit 2
+    ;;
+esac
+
+parts='g++ node qemu-system-arm qemu-arm arm-none-eabi-gcc arm-linux-gnueabihf-gcc aarch64-linux-gnu-gcc riscv64-unknown-elf-gcc crates wasm browser sumo'
+# shellcheck disable=SC2086 # several parts
+missing=$(tools/install.sh --missing $parts)
+echo "Debian packages to install: ${missing:-none}"
+
 passed=0
 failed=0
+failures=()
+fails() { # WHAT
+    failed=$((failed + 1))
+    failures+=("$1")
+    echo "FAILED: $1"
+}
 
 # Runs one check and counts it.
 check() { # WHAT COMMAND..
     what=$1
     shift
-    if "$@"; then
-        passed=$((passed + 1))
-    else
-        failed=$((failed + 1))
-        echo "FAILED: $what"
-    fi
+    if "$@"; then passed=$((passed + 1)); else fails "$what"; fi
 }
 
 check 'layout (rt fmt --check)' rt fmt --check
@@ -45,28 +66,25 @@ try_edits() {
         beside "$edit" must-fail-rules/run.sh "$edit"
     done
 }
-try_edits &
-edits=$!
+if [ -n "$proves" ]; then try_edits & edits=$!; fi
 
 # What later checks need is installed meanwhile. A check installs what it needs itself, too.
-install_all() {
-    targets/install.sh node qemu-system-arm qemu-arm arm-none-eabi-gcc arm-linux-gnueabihf-gcc aarch64-linux-gnu-gcc riscv64-unknown-elf-gcc
-    for part in crates wasm browser sumo; do workbench/setup.sh "$part"; done
-}
-beside install install_all &
+# shellcheck disable=SC2086 # several parts
+beside install tools/install.sh $parts &
 installing=$!
 
-# rt ci counts crates, edits and programs itself; its last line has the counts.
-rt ci 2>&1 | tee "$log"
-status=${PIPESTATUS[0]}
-counts=$(tail -n 1 "$log" | sed -n 's/^\([0-9][0-9]*\) passed, \([0-9][0-9]*\) failed$/\1 \2/p')
-if [ -n "$counts" ]; then
-    passed=$((passed + ${counts% *}))
-    failed=$((failed + ${counts#* }))
-else
-    failed=$((failed + 1))
-fi
-if [ "$status" -ne 0 ] && [ "$failed" -eq 0 ]; then failed=1; fi
+# rt ci counts crates, edits and programs itself: its last line has the counts, and a line above it the names of what failed.
+prove() {
+    if [ -n "$proves" ]; then rt ci; else rt check; fi 2>&1 | tee "$log"
+    status=${PIPESTATUS[0]}
+    good=$(sed -n '$s/^\([0-9][0-9]*\) passed, [0-9][0-9]* failed$/\1/p' "$log")
+    bad=$(sed -n 's/^rt: FAILED://p' "$log")
+    passed=$((passed + ${good:-0}))
+    for name in $bad; do fails "rt: $name"; done
+    if [ -n "$proves" ] && [ -z "$good" ]; then fails 'rt ci: it gives no count'; fi
+    if [ "$status" -ne 0 ] && [ -z "$bad" ]; then fails "rt: exit status $status"; fi
+}
+prove
 
 # The proved trace program and the independent model's, both run here, print for each example the trace that is kept with it, and the
 # same in every way a trace can end.
@@ -107,6 +125,7 @@ check 'vectors/make_reads.py' same_reads
 # The static library. Its module for other processors is caught while it is made.
 check 'rt staticlib willowera, and its module' python3 targets/module.py
 wait "$installing"
+check 'packages (tools/install.sh)' passed_beside install
 
 # Two rows of checks beside each other: the library from C, on other processors and in the workbench; and the library against the models.
 #
@@ -181,10 +200,13 @@ check 'the page in a browser' passed_beside page
 check 'the tutorial' passed_beside tutorial
 check 'SUMO beside the library' passed_beside sumo
 
-wait "$edits"
-for edit in must-fail-rules/*.edit; do
-    check "$edit" passed_beside "$(basename "$edit" .edit)"
-done
+if [ -n "$proves" ]; then
+    wait "$edits"
+    for edit in must-fail-rules/*.edit; do
+        check "$edit" passed_beside "$(basename "$edit" .edit)"
+    done
+fi
 
+if [ "${#failures[@]}" -gt 0 ]; then printf 'failed: %s\n' "${failures[@]}"; fi
 echo "$passed passed, $failed failed"
 [ "$failed" -eq 0 ]

@@ -8,7 +8,7 @@
 #                            unaligned accesses are trapped
 #     check.sh figures       code sizes and bounds of the stack are those in figures.txt
 #
-# The parts after `archives` take what it built. What is missing is installed (targets/install.sh).
+# The parts after `archives` take what it built. What is missing is installed (tools/install.sh).
 set -u -o pipefail
 cd "$(dirname "$0")/.." || exit 2
 
@@ -42,7 +42,7 @@ is_strict() { # FOLDER
 }
 
 archives() {
-    targets/install.sh node || return
+    tools/install.sh node || return
     # shellcheck disable=SC2046 # several targets
     targets/build.sh $(targets/build.sh --list) && targets/build.sh --strict cortex-m4 cortex-m4f || return
     python3 targets/calls.py names >"$room/names"
@@ -69,7 +69,7 @@ links() { # FOLDER COMPILER WORDS..
     [ "$linked" -eq "$(python3 targets/calls.py names | wc -l)" ] || sentence "the program for $folder does not have all calls of the header"
 }
 header() {
-    targets/install.sh arm-none-eabi-gcc arm-linux-gnueabihf-gcc aarch64-linux-gnu-gcc riscv64-unknown-elf-gcc || return
+    tools/install.sh arm-none-eabi-gcc arm-linux-gnueabihf-gcc aarch64-linux-gnu-gcc riscv64-unknown-elf-gcc || return
     python3 targets/calls.py >"$room/calls.c"
     cortex='-mthumb --specs=nosys.specs -Wl,-z,noexecstack -mcpu='
     # shellcheck disable=SC2086 # several words

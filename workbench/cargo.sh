@@ -4,7 +4,7 @@
 # does not fit a registry, so it does not stay.
 set -eu
 here=$(cd "$(dirname "$0")" && pwd)
-"$here/setup.sh" crates
+"$here/../tools/install.sh" crates
 export CARGO_TARGET_DIR=${CARGO_TARGET_DIR:-$here/../target/workbench}
 cd "$here"
 trap 'rm -f Cargo.lock' EXIT

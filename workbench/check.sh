@@ -74,7 +74,7 @@ site) ./cargo.sh test --quiet -p site ;;
 command) ./cargo.sh test --quiet -p workbench && same_as_python ;;
 pictures) pictures ;;
 wasm)
-    ./setup.sh browser
+    ../tools/install.sh browser
     site-wasm/build.sh
     python3 site-wasm/try.py ../target/workbench/site.wasm
     ;;

@@ -77,7 +77,7 @@ needs)
     [ -z "$(undefined_names | tr ' ' '\n' | grep -vxE 'memcpy|memset')" ] && [ -z "$(writable_sections)" ]
     ;;
 headers)
-    command -v g++ >/dev/null || targets/install.sh g++ || exit 1
+    command -v g++ >/dev/null || tools/install.sh g++ || exit 1
     for bits in -m64 -m32; do
         compiles cc "$bits" -std=c99 && compiles cc "$bits" -std=c11 && compiles g++ "$bits" -std=c++11 -x c++ || exit 1
     done
@@ -129,7 +129,7 @@ power)
     run power examples/two_phases/personality.bin examples/t_junction/personality.bin | diff - examples/c/power.txt
     ;;
 arm)
-    targets/install.sh arm-linux-gnueabihf-gcc qemu-arm && targets/build.sh armv7-linux || exit 1
+    tools/install.sh arm-linux-gnueabihf-gcc qemu-arm && targets/build.sh armv7-linux || exit 1
     run_arm conditions examples/two_phases/personality.bin examples/largest/personality.bin &&
         run_arm steps examples/two_phases/personality.bin 80 12-12:1 | cmp - <(called) &&
         run_arm words kept examples/c/words.txt | diff - examples/c/words.txt && run_arm words fuzz crates/run_reads/data/reads 1 100000

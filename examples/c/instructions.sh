@@ -5,7 +5,7 @@
 #     examples/c/instructions.sh examples/two_phases/personality.bin examples/largest/personality.bin
 set -eu
 cd "$(dirname "$0")/../.."
-command -v valgrind >/dev/null || { echo 'instructions.sh: valgrind is missing (Debian: apt-get install valgrind)' >&2; exit 2; }
+tools/install.sh valgrind || exit 2
 steps=2000
 built=$(mktemp -d)
 trap 'rm -rf "$built"' EXIT

@@ -12,7 +12,7 @@ library=${LIBRARY:-target/targets/cortex-m4/libwillowera.a}
 site=${1:-examples/two_phases/personality.bin}
 elf=${2:-target/$here/firmware.elf}
 
-targets/install.sh arm-none-eabi-gcc
+tools/install.sh arm-none-eabi-gcc
 [ -n "${LIBRARY:-}" ] || targets/build.sh cortex-m4 >/dev/null
 mkdir -p "$(dirname "$elf")"
 arm-none-eabi-gcc -std=gnu11 -Wall -Wextra -Wconversion -Werror -g -O2 -mcpu=cortex-m4 -mthumb -mfloat-abi=soft -ffunction-sections \

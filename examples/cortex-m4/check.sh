@@ -76,7 +76,7 @@ lines=$(cat $here/*.[ch] $here/link.ld | wc -l)
 echo "lines of C and linker script: $lines"
 [ "$lines" -lt 300 ] || { echo 'FAILED: the example has 300 lines or more' && exit 1; }
 
-targets/install.sh qemu-system-arm || exit 1
+tools/install.sh qemu-system-arm || exit 1
 $here/build.sh examples/two_phases/personality.bin "$built/site.elf" || exit 1
 export LIBRARY=${LIBRARY:-target/targets/cortex-m4/libwillowera.a}
 runs "$built/site.elf" || exit 1

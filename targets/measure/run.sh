@@ -15,7 +15,7 @@ case "$1" in
 esac
 folder=$1 program=$2
 shift 2
-targets/install.sh arm-none-eabi-gcc qemu-system-arm
+tools/install.sh arm-none-eabi-gcc qemu-system-arm
 built=$(mktemp -d)
 trap 'rm -rf "$built"' EXIT
 [ -z "$linked" ] || built_program=$1

@@ -78,7 +78,7 @@ build_archive() { # TARGET
 
 build_player() { # TARGET
     # shellcheck disable=SC2046 # a word each
-    { [ "$1" = host ] || targets/install.sh $(compiler "$1") $(emulator "$1"); } && build_archive "$1" || return 1
+    { [ "$1" = host ] || tools/install.sh $(compiler "$1") $(emulator "$1"); } && build_archive "$1" || return 1
     # shellcheck disable=SC2046 # words
     [ "$1" = wasm32 ] || "$(compiler "$1")" -std=c11 -O2 -Wall -Wextra -Wconversion -Werror -Iinclude $(words "$1") "$here/player.c" \
         "$(archive "$1")" -o "$built/$1"

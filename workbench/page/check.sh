@@ -3,7 +3,7 @@
 # --pictures also makes a screenshot of each tab: target/page/*.png. Installs chromium and node if they are missing (as root).
 set -eu
 cd "$(dirname "$0")"
-../setup.sh browser
+../../tools/install.sh browser node
 ./build.sh
 if [ "${1:-}" = --pictures ]; then
     shift

@@ -5,7 +5,7 @@ set -eu
 cd "$(dirname "$0")"
 compiler=${RUSTC_WASM:-/usr/bin/rustc}
 if ! { [ -x "$compiler" ] && [ -d /usr/lib/rustlib/wasm32-unknown-unknown ] && command -v wasm-ld >/dev/null; }; then
-    ../setup.sh wasm
+    ../../tools/install.sh wasm
 fi
 out=../../target/workbench/wasm
 made=../../target/workbench/site.wasm

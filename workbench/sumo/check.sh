@@ -2,7 +2,7 @@
 # A short comparison for the gate: wrong controls are found, and four minutes of traffic run through under both controls.
 set -eu
 here=$(cd "$(dirname "$0")" && pwd)
-"$here/../setup.sh" sumo
+"$here/../../tools/install.sh" sumo
 "$here/../cargo.sh" build --quiet -p workbench
 willowera=${CARGO_TARGET_DIR:-$here/../../target/workbench}/debug/willowera
 site=$here/../tutorial/site.txt
