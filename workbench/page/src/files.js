@@ -46,7 +46,7 @@ function picture() {
   colour(shown, run);
   const top = shown.firstChild;
   const width = Math.max(1000, 220 + run.now);
-  const lines = timelinePicture(run, { from: 0, to: Math.max(run.now, 300), width, left: 210, room: 0 });
+  const lines = timelinePicture(run, { from: 0, to: Math.max(run.now, 300), width, room: 0 });
   const tall = Number(top.getAttribute("height"));
   const all = tall + 16 + Number(/height="([\d.]+)"/.exec(lines)[1]);
   const moved = lines.replace("<svg ", `<svg y="${tall + 16}" `);

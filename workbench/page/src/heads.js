@@ -1,9 +1,53 @@
-// Signal heads, detectors and buttons as parts of a picture. A part is drawn once; later steps only set
+// Texts, signal heads, detectors and buttons as parts of a picture. A part is drawn once; later steps only set
 // `data-colour` and classes, and the style of the picture does the rest.
 "use strict";
 
+// ── Texts ──
+
+const pen = document.createElement("canvas").getContext("2d");
+const rootStyle = getComputedStyle(document.documentElement);
+const textWidths = new Map();
+const MOST_WIDTHS = 10000;
+
+/** The width of a text of a picture in the font that the reader has, measured once for each text and font. */
+function textWidth(text, weight = 400, size = 10) {
+  const font = `${weight} ${size}px ${rootStyle.getPropertyValue("--sans")}`;
+  const key = `${font} ${text}`;
+  if (!textWidths.has(key)) {
+    if (textWidths.size === MOST_WIDTHS) textWidths.clear();
+    pen.font = font;
+    textWidths.set(key, pen.measureText(text).width);
+  }
+  return textWidths.get(key);
+}
+
+/** The text, or as much of its beginning as there is room for, with dots behind it. */
+function fitted(text, room, weight = 400) {
+  if (textWidth(text, weight) <= room) return text;
+  const letters = Array.from(text);
+  const beginning = count => letters.slice(0, count).join("") + "…";
+  let [fits, over] = [0, letters.length];
+  while (over - fits > 1) {
+    const middle = (fits + over) >> 1;
+    if (textWidth(beginning(middle), weight) <= room) fits = middle;
+    else over = middle;
+  }
+  return beginning(fits);
+}
+
+/** A text as a part of a picture, shortened to its room. The whole text is its title then. */
+function textIn(room, text, attributes, weight = 400) {
+  const shown = fitted(text, room, weight);
+  const title = shown === text ? "" : `<title>${escaped(text)}</title>`;
+  return `<text ${attributes}>${escaped(shown)}${title}</text>`;
+}
+
+// ── Heads, detectors and buttons ──
+
 const HEAD = { width: 22, height: 54 };
 const WALKER = { width: 22, height: 40 };
+const NAME = 14;
+const MOST_NAME = 60;
 
 const sizeOf = group => group.mark === "pedestrian" ? WALKER : HEAD;
 
@@ -42,6 +86,12 @@ const PICTURE_STYLE = `
 const ARROW_SIGNS = { left: "↰", straight: "↑", right: "↱", "u-turn": "↶" };
 const arrowsOf = group => group.arrows.length > 0 ? " " + group.arrows.map(arrow => ARROW_SIGNS[arrow]).join("") : "";
 
+/** The name below a head, with the arrows of its group. */
+const nameOf = group => fitted(group.name, MOST_NAME, 600) + arrowsOf(group);
+
+/** How wide a head is with its name. */
+const widthOf = group => Math.max(sizeOf(group).width, textWidth(nameOf(group), 600));
+
 /** A lamp with its letter: colours are told apart by place and letter too. */
 const lamp = (colour, letter, x, y) =>
   `<g class="${colour}"><circle class="lamp" cx="${x}" cy="${y}" r="7"/><text class="sign" x="${x}" y="${y + 3.6}">${letter}</text></g>`;
@@ -69,7 +119,7 @@ function headOf(group, at, x, y) {
   const title = escaped(titleOf(group));
   return `<g role="img" aria-label="${title}: red" data-name="${title}" data-group="${at}" data-colour="R" transform="translate(${x} ${y})"><title>${title}</title>` +
     `<rect class="box" width="${width}" height="${height}" rx="5"/>${lamps}` +
-    `<text class="name" x="${middle}" y="${height + 11}">${escaped(group.name)}${arrowsOf(group)}</text></g>`;
+    `<text class="name" x="${middle}" y="${height + 11}">${escaped(nameOf(group))}</text></g>`;
 }
 
 /** A detector or a button that can be pressed. `shape` is drawn around its middle. */

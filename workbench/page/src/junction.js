@@ -20,21 +20,27 @@ function bearingOf(site, thing) {
 // ── The grid ──
 
 const COLUMN_GAP = 8;
-const COLUMN_WIDTHS = [56, 84, 121, 158, 195];
+const LEAST_COLUMN = 56;
+const HEADS_ACROSS = [1, 2, 3, 4, 5];
 const GRID_HEIGHTS = [120, 150, 180, 210, 240, 280, 320, 380, 440, 520];
 
 /** A column for each phase, with the heads, detectors and buttons that belong to it: the grid that can be drawn largest. */
 function gridOf(site, room) {
-  const columns = site.phases.map(phase => COLUMN_WIDTHS.map(width => drawColumn(phase, columnOf(site, phase.letter), width)));
+  const cell = cellOf(site.groups);
+  const drawn = (phase, column) => HEADS_ACROSS.map(across => drawColumn(phase, column, Math.max(LEAST_COLUMN, 10 + across * cell), cell));
+  const columns = site.phases.map(phase => drawn(phase, columnOf(site, phase.letter)));
   const rest = columnOf(site, "-");
-  if (rest.groups.length > 0) columns.push(COLUMN_WIDTHS.map(width => drawColumn({ letter: "–", label: "no phase" }, rest, width)));
+  if (rest.groups.length > 0) columns.push(drawn({ letter: "–", label: "no phase" }, rest));
   const grids = GRID_HEIGHTS.map(height => columns.map(drawn => drawn.find(column => column.height <= height) ?? drawn.at(-1)));
-  const widthOf = grid => grid.reduce((sum, column) => sum + column.width + COLUMN_GAP, -COLUMN_GAP);
-  const heightOf = grid => Math.max(...grid.map(column => column.height));
-  const scaleOf = grid => Math.min(2, room.width / widthOf(grid), room.height / heightOf(grid));
+  const wide = grid => grid.reduce((sum, column) => sum + column.width + COLUMN_GAP, -COLUMN_GAP);
+  const tall = grid => Math.max(...grid.map(column => column.height));
+  const scaleOf = grid => Math.min(2, room.width / wide(grid), room.height / tall(grid));
   const best = grids.reduce((best, grid) => scaleOf(grid) > scaleOf(best) ? grid : best);
-  return { ...besideEachOther(best, heightOf(best)), left: 0, top: 0, width: widthOf(best), height: heightOf(best) };
+  return { ...besideEachOther(best, tall(best)), left: 0, top: 0, width: wide(best), height: tall(best) };
 }
+
+/** The width of a head in a column: its name and its phases stay apart from those beside it. */
+const cellOf = groups => Math.max(37, ...groups.map(group => Math.max(widthOf(group), textWidth(group.phases)) + 5));
 
 function besideEachOther(columns, height) {
   let left = 0;
@@ -57,8 +63,8 @@ function columnOf(site, letter) {
   };
 }
 
-function drawColumn(phase, { groups, detectors, buttons }, width) {
-  let body = `<text class="name" x="14" y="17" style="font-size:13px">${phase.letter}</text>` + clipped(phase.label ?? "", 26, 17, width - 30);
+function drawColumn(phase, { groups, detectors, buttons }, width, cell) {
+  let body = `<text class="name" x="14" y="17" style="font-size:13px">${phase.letter}</text>` + textIn(width - 30, phase.label ?? "", `class="faint" x="26" y="17"`);
   let top = 28;
   const place = (list, cell, draw) => {
     const across = Math.max(1, Math.min(list.length, Math.floor((width - 8) / cell.width)));
@@ -70,20 +76,13 @@ function drawColumn(phase, { groups, detectors, buttons }, width) {
   };
   const tall = Math.max(WALKER.height, ...groups.map(({ one }) => sizeOf(one).height));
   const several = groups.some(({ one }) => one.phases.length > 1);
-  place(groups, { width: 37, height: tall + (several ? 28 : 18) }, ({ one, at }, x, y) =>
+  place(groups, { width: cell, height: tall + (several ? 30 : 18) }, ({ one, at }, x, y) =>
     headOf(one, at, x - HEAD.width / 2, y + tall - sizeOf(one).height) +
-    (one.phases.length > 1 ? `<text class="faint" text-anchor="middle" x="${x}" y="${y + tall + 21}">${one.phases}</text>` : ""));
+    (one.phases.length > 1 ? `<text class="faint" text-anchor="middle" x="${x}" y="${y + tall + 23}">${one.phases}</text>` : ""));
   top += 4;
   place(detectors, { width: 27, height: 21 }, ({ one, at }, x, y) => detectorAt(one, at, x, y + 10));
   place(buttons, { width: 27, height: 23 }, ({ one, at }, x, y) => buttonAt(one, at, x, y + 11));
   return { body, width, height: top + 5 };
-}
-
-/** A text that ends with dots if it is wider than there is room. */
-function clipped(text, x, y, room) {
-  const most = Math.max(1, Math.floor(room / 5.3));
-  const shown = text.length > most ? text.slice(0, most - 1) + "…" : text;
-  return `<text class="faint" x="${x}" y="${y}">${escaped(shown)}<title>${escaped(text)}</title></text>`;
 }
 
 // ── The plan ──
@@ -91,6 +90,7 @@ function clipped(text, x, y, room) {
 const LANE = 18;
 const CORNER = 14;
 const CROSSING = 18;
+const MOST_ARM_NAME = 120;
 
 const PLAN_STYLE = `
   .road { fill: var(--road); }
@@ -148,7 +148,7 @@ function planOf(site) {
   };
 }
 
-/** The least and the greatest coordinates of the arms and the heads. */
+/** The least and the greatest coordinates of the arms, the heads and the names of the arms. */
 function edgesOf(arms, boxes) {
   const ends = arms.flatMap(arm => [-arm.half, arm.half].map(v => pointOf(arm, arm.begin + arm.length, v)));
   const points = [...ends, ...boxes.flatMap(({ at, size }) => [at, at.map((value, axis) => value + size[axis])])];
@@ -159,7 +159,7 @@ function edgesOf(arms, boxes) {
 /** Offsets away from the road and along it, the nearest first. */
 const OFFSETS = Array.from({ length: 900 }, (_, at) => [at % 30, Math.floor(at / 30)]).sort((one, two) => one[0] + one[1] - two[0] - two[1]);
 
-/** A place for a head with its name: as wanted, or the nearest one that covers no other head and no road. */
+/** A place for a head with its name, or for the name of an arm: as wanted, or the nearest one that covers no other and no road. */
 function freePlace(parts, wanted, size, away, along) {
   const covers = (at, box) => [0, 1].every(axis => at[axis] < box.at[axis] + box.size[axis] && box.at[axis] < at[axis] + size[axis]);
   const points = [0, 0.5, 1].flatMap(x => [0, 0.5, 1].map(y => [x * size[0], y * size[1]]));
@@ -207,9 +207,18 @@ function drawArm(site, arm, parts, shown) {
     parts.marks += line(u, -half + 2, u, half - 2, "zebra");
     drawWalker(site, arm, one, at, u, parts, shown);
   });
+  drawArmName(arm, end, parts);
+}
+
+/** The name of an arm stands at its end, beyond the lanes that lead out. */
+function drawArmName(arm, end, parts) {
   const { name } = arm.approach;
-  const [x, y] = pointOf(arm, end - 18, -half - 8 - Math.abs(arm.right[0]) * 2.7 * name.length);
-  parts.things += `<text class="arm" x="${x}" y="${y + 3}">${escaped(name)}</text>`;
+  const size = [Math.min(textWidth(name), MOST_ARM_NAME) + 4, 12];
+  const reach = direction => (Math.abs(direction[0]) * size[0] + Math.abs(direction[1]) * size[1]) / 2;
+  const middle = pointOf(arm, end - reach(arm.out), -arm.half - 3 - reach(arm.right));
+  const away = arm.right.map(part => -part * arm.side);
+  const [x, y] = freePlace(parts, middle.map((value, axis) => value - size[axis] / 2), size, away, arm.out);
+  parts.things += textIn(MOST_ARM_NAME, name, `class="arm" x="${x + size[0] / 2}" y="${y + 9}"`);
 }
 
 const numberedOf = (list, arm) => list.map((one, at) => ({ one, at })).filter(({ one }) => one.approach === arm.approach.name);
@@ -222,18 +231,16 @@ const WAYS = {
   "u-turn": "M2,7 V-3 Q2,-6 -1,-6 Q-4,-6 -4,-3 V1 M-7,-2 L-4,1 L-1,-2",
 };
 
-const NAME = 14;
-
 /** The heads of an arm stand in a row beside its kerb, from the road outwards. */
 function drawHeads(site, arm, parts, shown) {
   const heads = numberedOf(site.groups, arm).filter(({ one }) => one.mark !== "pedestrian");
-  const size = [HEAD.width + 18, HEAD.height + NAME];
+  const size = [Math.max(HEAD.width + 18, ...heads.map(({ one }) => widthOf(one) + 4)), HEAD.height + NAME];
   const away = arm.right.map(part => part * arm.side);
   const [x, y] = pointOf(arm, arm.stop + 8, arm.half + 4);
   heads.forEach(({ one, at }, index) => {
     const wanted = [x < 0 ? x - size[0] * (index + 1) : x + size[0] * index, y < 0 ? y - size[1] : y];
     const place = freePlace(parts, wanted, size, away, arm.out);
-    parts.things += headOf(one, at, place[0] + 9, place[1]);
+    parts.things += headOf(one, at, place[0] + (size[0] - HEAD.width) / 2, place[1]);
     shown.groups.add(at);
     drawWays(arm, one, at, parts);
   });
@@ -249,11 +256,11 @@ function drawWays(arm, { lanes, arrows }, at, parts) {
 
 /** The head of a crossing stands at its end beyond the lanes that lead out, its button is drawn in its middle. */
 function drawWalker(site, arm, group, at, u, parts, shown) {
-  const size = [WALKER.width, WALKER.height + NAME];
+  const size = [widthOf(group), WALKER.height + NAME];
   const away = arm.right.map(part => -part * arm.side);
   const far = arm.half + 5 + Math.abs(away[0]) * size[0] / 2 + Math.abs(away[1]) * size[1] / 2;
   const place = freePlace(parts, pointOf(arm, u, -far).map((value, axis) => value - size[axis] / 2), size, away, arm.out);
-  parts.things += headOf(group, at, ...place);
+  parts.things += headOf(group, at, place[0] + (size[0] - WALKER.width) / 2, place[1]);
   shown.groups.add(at);
   const button = site.movements.findIndex(movement => movement.group === at);
   parts.things += buttonAt(site.movements[button], button, ...pointOf(arm, u, 0));
@@ -284,7 +291,8 @@ function trayOf(site, shown, x, y) {
     buttons: left(site.movements, shown.buttons),
   };
   if (rest.groups.length + rest.detectors.length + rest.buttons.length === 0) return { body: "", width: 0, height: 0 };
-  const width = 165;
-  const column = drawColumn({ letter: "", label: "without a place" }, rest, width);
+  const cell = cellOf(site.groups);
+  const width = 17 + 4 * cell;
+  const column = drawColumn({ letter: "", label: "without a place" }, rest, width, cell);
   return { body: `<g transform="translate(${x} ${y})">${column.body}</g>`, width, height: column.height };
 }

@@ -14,8 +14,9 @@ function refresh() {
 
 function showClock(run) {
   const target = run.target === null ? "" : ` → ${letterOf(run.target)}`;
-  const times = run.timesWait ? " · new times wait" : "";
-  byId("clock").innerHTML = `${letterOf(run.phase)} ${INTERVAL_NAMES[run.interval]}${target}, ${seconds(run.age)} s${times} · step ${run.now} · <b>${seconds(run.now)} s</b>`;
+  const times = run.timesWait ? "new times wait · " : "";
+  byId("clock").innerHTML = `<span>${letterOf(run.phase)} ${INTERVAL_NAMES[run.interval]}${target}, ${seconds(run.age)} s</span>\n` +
+    `<span>${times}step ${run.now} · <b>${seconds(run.now)} s</b></span>`;
 }
 
 /** Gives heads and lanes of a picture the colours of the last step. */
@@ -68,11 +69,10 @@ function showAside(run) {
   byId("walks").innerHTML = walks.length ? `<table>${walks.join("")}</table>` : "";
 }
 
-/** Which steps the timeline shows, and how wide its parts are. */
+/** Which steps the timeline shows, and how wide and tall it is. */
 function timelineRange() {
   const [from, span] = [Number(byId("back").value), Number(byId("span").value)];
-  const width = byId("lines").clientWidth;
-  return { from, to: from + span, width, left: width > 1000 ? 210 : 132, room: byId("lines").clientHeight - 6 };
+  return { from, to: from + span, width: byId("lines").clientWidth, room: byId("lines").clientHeight - 6 };
 }
 
 function showTimeline(run) {
@@ -85,17 +85,22 @@ function showTimeline(run) {
 
 /** What was shown in the step under the pointer. */
 function showCross(event) {
-  const { from, to, width, left } = timelineRange();
   const { run } = page;
-  const part = (event.offsetX - left) / (width - left - 16);
-  const step = from + Math.ceil(part * (to - from));
   const cross = byId("cross");
-  cross.hidden = !run || part <= 0 || step < 1 || step > run.now;
+  cross.hidden = !run;
+  if (!run) return;
+  const { from, to, width } = timelineRange();
+  const { left, right } = timelineColumns(timelineRows(run), width);
+  const part = (event.offsetX - left) / (right - left);
+  const step = from + Math.ceil(part * (to - from));
+  cross.hidden = part <= 0 || part > 1 || step < 1 || step > run.now;
   if (cross.hidden) return;
   const position = run.position.at(step);
   const green = run.site.groups.filter((_, at) => COLOUR_LETTERS[run.groups[at].at(step)] === "G").map(group => group.name);
   cross.innerHTML = `<span>${seconds(step)} s · ${letterOf(position >> 3)} ${INTERVAL_NAMES[position & 7]} · green: ${green.join(" ") || "none"}</span>`;
-  cross.className = part > 0.6 ? "left" : "";
+  const told = cross.firstChild;
+  told.style.maxWidth = `${width - 8}px`;
   cross.style.left = `${event.offsetX}px`;
+  told.style.marginLeft = `${Math.min(4, width - 4 - event.offsetX - told.offsetWidth)}px`;
   cross.style.height = `${byId("rows").offsetHeight}px`;
 }

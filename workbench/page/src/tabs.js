@@ -177,7 +177,7 @@ async function roadQueues(library, { site, bytes }, done) {
   }
 }
 
-const streamName = (site, { detector, group }) => escaped(`D${detector} → ${site.groups[group].name}`);
+const streamName = (site, { detector, group }) => `D${detector} → ${site.groups[group].name}`;
 
 /** The queue of a stream over time as a filled line, in a box of a width and a height. */
 function strip(points, at, most, width, height) {
@@ -199,9 +199,10 @@ function roadTable(site, points) {
   const most = tallest(site, points);
   const rows = site.streams.map((stream, at) => {
     const { queued, gone } = last.counts[at];
-    const told = `Queue of ${streamName(site, stream)} over time, at most ${longestOf(points, at)}`;
+    const name = escaped(streamName(site, stream));
+    const told = `Queue of ${name} over time, at most ${longestOf(points, at)}`;
     const picture = `<svg viewBox="0 0 600 34" preserveAspectRatio="none" role="img" aria-label="${told}">${strip(points, at, most, 600, 34)}</svg>`;
-    return `<tr title="${escaped(site.detectors[stream.detector]?.label ?? "")}"><th scope="row">${streamName(site, stream)}</th>` +
+    return `<tr title="${escaped(site.detectors[stream.detector]?.label ?? "")}"><th scope="row">${name}</th>` +
       `<td>${stream.rate}</td><td>${queued + gone}</td><td>${gone}</td><td>${queued}</td><td>${longestOf(points, at)}</td><td class="strip">${picture}</td></tr>`;
   });
   const head = ["stream", "veh/h", "arrived", "gone", "queued", "longest seen"].map(name => `<th scope="col">${name}</th>`).join("");
@@ -212,14 +213,17 @@ function roadTable(site, points) {
 /** The queues as a picture of its own, for saving. */
 function roadPicture(site, points) {
   const most = tallest(site, points);
-  const height = 30 + 56 * site.streams.length;
-  const rows = site.streams.map((stream, at) => {
+  const counts = site.streams.map((stream, at) => {
     const { queued, gone } = points.at(-1).counts[at];
-    return `<g transform="translate(0 ${26 + 56 * at})"><text x="10" y="20" font-weight="600">${streamName(site, stream)}</text>` +
-      `<text x="10" y="36">${stream.rate} veh/h, ${gone} gone, ${queued} queued, longest seen ${longestOf(points, at)}</text>` +
-      `<g transform="translate(260 0)">${strip(points, at, most, 720, 48)}</g></g>`;
+    return `${stream.rate} veh/h, ${gone} gone, ${queued} queued, longest seen ${longestOf(points, at)}`;
   });
-  return `<svg xmlns="http://www.w3.org/2000/svg" viewBox="0 0 1000 ${height}" width="1000" height="${height}">` +
-    `<style>text { font: 12px var(--sans); fill: var(--ink); }</style><rect width="1000" height="${height}" fill="var(--panel)"/>` +
+  const texts = [...counts.map(text => textWidth(text, 400, 12)), ...site.streams.map(stream => textWidth(streamName(site, stream), 600, 12))];
+  const left = Math.ceil(Math.max(...texts)) + 30;
+  const [width, height] = [left + 740, 30 + 56 * site.streams.length];
+  const rows = site.streams.map((stream, at) =>
+    `<g transform="translate(0 ${26 + 56 * at})"><text x="10" y="20" font-weight="600">${escaped(streamName(site, stream))}</text>` +
+    `<text x="10" y="36">${counts[at]}</text><g transform="translate(${left} 0)">${strip(points, at, most, 720, 48)}</g></g>`);
+  return `<svg xmlns="http://www.w3.org/2000/svg" viewBox="0 0 ${width} ${height}" width="${width}" height="${height}">` +
+    `<style>text { font: 12px var(--sans); fill: var(--ink); }</style><rect width="${width}" height="${height}" fill="var(--panel)"/>` +
     `<text x="10" y="16">Queues over ${site.steps / 10} s, full height ${most} vehicles</text>${rows.join("")}</svg>`;
 }

@@ -32,11 +32,12 @@ function timelineRows(run) {
 
 const bar = (x, y, width, height, fill) => `<rect x="${x.toFixed(2)}" y="${y}" width="${Math.max(width, 1).toFixed(2)}" height="${height}" fill="${fill}"/>`;
 
+/** The bar of an interval, with its name or its letter if there is room for it. */
 function drawInterval(value, x, y, width, row) {
   const [phase, interval] = [value >> 3, value & 7];
-  const name = `${letterOf(phase)} ${INTERVAL_NAMES[interval]}`;
-  const text = width > name.length * 5.6 ? name : width > 18 ? letterOf(phase) + " " + INTERVAL_LETTERS[interval] : "";
-  return bar(x, y + 1, width - 0.7, row - 2, `var(--interval-${interval})`) + (text ? `<text x="${x + 3}" y="${y + row / 2 + 3.6}">${text}</text>` : "");
+  const names = [INTERVAL_NAMES[interval], INTERVAL_LETTERS[interval]].map(name => `${letterOf(phase)} ${name}`);
+  const text = names.find(name => textWidth(name) <= width - 3.5);
+  return bar(x, y + 1, width - 0.7, row - 2, `var(--interval-${interval})`) + (text ? `<text x="${x + 2}" y="${y + row / 2 + 3.6}">${text}</text>` : "");
 }
 
 /** Green is a full bar, yellow a hatched one, red a thin line, flashing red a broken line. */
@@ -53,13 +54,18 @@ function drawColour(value, x, y, width, row) {
 
 const drawMark = (value, x, y, width, row) => value ? bar(x, y + 3, Math.max(width, 1.5), row - 6, "var(--accent)") : "";
 
-/** The bar of a demand, and behind its end how long it waited. */
-const drawDemand = (value, x, y, width, row, waited) => !value ? "" :
-  bar(x, y + 3.5, width, row - 7, "var(--demand)") + `<text class="faint" x="${x + width + 3}" y="${y + row / 2 + 3.6}">${seconds(waited)}</text>`;
+/** The bar of a demand, and behind its end how long it waited, if there is room for it. */
+function drawDemand(value, x, y, width, row, { waited, room }) {
+  if (!value) return "";
+  const text = seconds(waited);
+  return bar(x, y + 3.5, width, row - 7, "var(--demand)") +
+    (textWidth(text) <= room - 5 ? `<text class="faint" x="${x + width + 3}" y="${y + row / 2 + 3.6}">${text}</text>` : "");
+}
 
 /** The axis: a line and its second every so many seconds, so that labels stay apart. */
 function axisOf(from, to, left, scale, height) {
-  const every = [1, 2, 5, 10, 20, 30, 60, 120, 300, 600].find(every => every * 10 * scale >= 48) ?? 1800;
+  const apart = textWidth(`${Math.ceil(to / 10)} s`) + 16;
+  const every = [1, 2, 5, 10, 20, 30, 60, 120, 300, 600, 1800].find(every => every * 10 * scale >= apart) ?? 3600;
   let lines = "";
   for (let second = Math.ceil(from / 10 / every) * every; second * 10 <= to; second += every) {
     const x = left + (second * 10 - from) * scale;
@@ -68,30 +74,42 @@ function axisOf(from, to, left, scale, height) {
   return lines;
 }
 
-const shortened = (text, most) => text.length > most ? text.slice(0, most - 1) + "…" : text;
+/** Where labels end, where the bars begin and where they end. Behind them is room for how long a demand has waited. */
+function timelineColumns(rows, width) {
+  const widest = (field, weight) => Math.max(...rows.map(row => textWidth(row[field], weight)));
+  const labels = Math.min(8 + widest("label", 600), width / 8);
+  const left = Math.min(labels + 6 + widest("about", 400) + 10, width / 4);
+  return { labels, left, right: width - textWidth("0000.0") - 6 };
+}
 
-/** The spans of a row that are in sight. */
-function rowSpans({ track, draw }, y, { run, from, to, left, scale, row }) {
-  const last = Math.min(to, run.now);
-  return track.spans(from + 1, last, run.now).map(([first, end, value]) => {
+/** The spans of a row that are in sight. A demand has room behind its bar up to the next bar, two spans on, or to the edge of the picture. */
+function rowSpans({ track, draw }, y, { run, from, to, left, scale, row, width }) {
+  const xOf = step => left + (step - from) * scale;
+  const spans = track.spans(from + 1, Math.min(to, run.now), run.now);
+  return spans.map(([first, end, value], at) => {
     const [start, stop] = [Math.max(first - 1, from), Math.min(end, to)];
-    return draw(value, left + (start - from) * scale, y, (stop - start) * scale, row, run.waited(first, end));
+    const next = spans[at + 2] ? xOf(spans[at + 2][0] - 1) : width;
+    return draw(value, xOf(start), y, (stop - start) * scale, row, { waited: run.waited(first, end), room: next - xOf(stop) });
   }).join("");
 }
 
-/** The timeline of the steps behind `from` up to `to` as SVG text. `left` is for labels; rows fill the `room` if it is enough. */
-function timelinePicture(run, { from, to, width, left, room }) {
+/** The label of a row and what it is. */
+const rowLabel = ({ label, about }, { labels, left }, y) =>
+  textIn(labels - 8, label, `class="label" x="${labels}" y="${y}"`, 600) + textIn(left - labels - 12, about, `class="faint" x="${labels + 6}" y="${y}"`);
+
+/** The timeline of the steps behind `from` up to `to` as SVG text. Rows fill the `room` if it is enough. */
+function timelinePicture(run, { from, to, width, room }) {
   const rows = timelineRows(run);
+  const columns = timelineColumns(rows, width);
+  const { left, right } = columns;
   const kinds = rows.filter(row => row.first).length;
   const row = Math.max(12, Math.min(20, Math.floor((room - AXIS - kinds * ROWS_APART) / rows.length)));
-  const scale = (width - left - 16) / (to - from);
+  const scale = (right - left) / (to - from);
   const drawn = [];
   let y = AXIS - ROWS_APART;
   for (const one of rows) {
     if (one.first) y += ROWS_APART;
-    const base = y + row / 2 + 3.6;
-    drawn.push(`<text class="label" x="38" y="${base}">${escaped(one.label)}</text><text class="faint" x="44" y="${base}">${escaped(shortened(one.about, Math.floor((left - 50) / 5.4)))}</text>` +
-      rowSpans(one, y, { run, from, to, left, scale, row }));
+    drawn.push(rowLabel(one, columns, y + row / 2 + 3.6) + rowSpans(one, y, { run, from, to, left, scale, row, width }));
     y += row;
   }
   const present = left + (run.now - from) * scale;

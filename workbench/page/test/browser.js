@@ -6,6 +6,9 @@ const fs = require("node:fs");
 const os = require("node:os");
 const path = require("node:path");
 
+/** The families of tests and screenshots; `tools/install.sh browser` installs them. */
+const FONTS = { narrow: "Liberation Sans Narrow", ordinary: "Liberation Sans", wide: "DejaVu Sans" };
+
 class Browser {
   /** Starts chromium with an empty profile. */
   static async start() {
@@ -60,7 +63,7 @@ class Browser {
     const { targetId } = await this.send("Target.createTarget", { url: "about:blank" });
     this.target = targetId;
     this.session = (await this.send("Target.attachToTarget", { targetId, flatten: true })).sessionId;
-    for (const domain of ["Page", "Runtime", "Accessibility", "Log", "Network", "DOM"]) await this.send(`${domain}.enable`);
+    for (const domain of ["Page", "Runtime", "Accessibility", "Log", "Network", "DOM", "CSS"]) await this.send(`${domain}.enable`);
     await this.size(width, height);
     await this.send("Page.navigate", { url });
     await this.until("document.body?.dataset.ready === 'yes'");
@@ -70,8 +73,38 @@ class Browser {
     return this.send("Emulation.setDeviceMetricsOverride", { width, height, deviceScaleFactor: 1, mobile: false });
   }
 
+  /** Waits until the page is drawn as it is, also what it draws anew because a size has changed. */
+  drawn() {
+    return this.value("new Promise(resolve => requestAnimationFrame(() => requestAnimationFrame(() => setTimeout(resolve))))");
+  }
+
   scheme(name) {
     return this.send("Emulation.setEmulatedMedia", { features: [{ name: "prefers-color-scheme", value: name }] });
+  }
+
+  /**
+   * Shows the page in a family. The browser takes another family for one that is not installed and does not say so. Therefore it is asked
+   * which one it draws with: the page's title, and a label of the timeline, which is a picture.
+   */
+  async font(family) {
+    await this.value(`document.documentElement.style.setProperty("--sans", ${JSON.stringify(JSON.stringify(family))})`);
+    await this.drawn();
+    for (const selector of ["h1", "#rows .label"]) {
+      const used = (await this.fontsOf(selector)).join(" and ");
+      if (used !== family) throw new Error(`the font ${family} is not installed: tools/install.sh browser (${selector} is drawn with ${used || "none"})`);
+    }
+  }
+
+  /** The families that the browser draws an element with. */
+  async fontsOf(selector) {
+    const { fonts } = await this.send("CSS.getPlatformFontsForNode", { nodeId: await this.node(selector) });
+    return [...new Set(fonts.map(font => font.familyName))];
+  }
+
+  /** The number of an element in the protocol. */
+  async node(selector) {
+    const { root } = await this.send("DOM.getDocument");
+    return (await this.send("DOM.querySelector", { nodeId: root.nodeId, selector })).nodeId;
   }
 
   /** The value of an expression in the page. */
@@ -113,9 +146,7 @@ class Browser {
 
   /** Chooses a file in a file input, as the dialogue of the system does. */
   async chooseFile(selector, file) {
-    const { root } = await this.send("DOM.getDocument");
-    const { nodeId } = await this.send("DOM.querySelector", { nodeId: root.nodeId, selector });
-    await this.send("DOM.setFileInputFiles", { nodeId, files: [file] });
+    await this.send("DOM.setFileInputFiles", { nodeId: await this.node(selector), files: [file] });
   }
 
   /** Clicks on an element that saves a file; the content of the file. */
@@ -156,4 +187,4 @@ class Browser {
   }
 }
 
-module.exports = { Browser };
+module.exports = { Browser, FONTS };

@@ -5,11 +5,14 @@
 const fs = require("node:fs");
 const path = require("node:path");
 const assert = require("node:assert/strict");
-const { Browser } = require("./browser.js");
+const { Browser, FONTS } = require("./browser.js");
 
 const ROOT = path.resolve(__dirname, "../../..");
 const PAGE = path.join(ROOT, "target/workbench.html");
 const EXAMPLES = path.join(ROOT, "examples");
+
+/** Sizes of the window for the tests of the layout. */
+const SIZES = [[1000, 700], [1280, 800], [1600, 900], [1920, 1080]];
 
 /** The folders of examples/ with their sites and the scripts with a stored trace of the proved trace program. */
 const folders = fs.readdirSync(EXAMPLES).filter(name => fs.existsSync(path.join(EXAMPLES, name, "site.txt")));
@@ -18,6 +21,9 @@ const tracesOf = folder => fs.readdirSync(path.join(EXAMPLES, folder)).filter(na
 
 const load = (browser, name, script = "by hand") =>
   browser.value(`loadExample("${name}"), byId("script").value = "${script}", restart(), choose("junction")`);
+
+/** Occupies every detector and presses every button, until something else is held. */
+const HOLD_ALL = "page.run.held = (1n << BigInt(page.run.site.detectors.length)) - 1n | ((1n << BigInt(page.run.site.movements.length)) - 1n) << 48n";
 
 const tests = {
   /** Each example is accepted, and its bytes are those of the stored personality. */
@@ -82,7 +88,7 @@ const tests = {
   async waitsAreKept(browser) {
     for (const site of ["four_arms", "crossings"]) {
       await load(browser, site);
-      await browser.value("page.run.held = (1n << BigInt(page.run.site.detectors.length)) - 1n | ((1n << BigInt(page.run.site.movements.length)) - 1n) << 48n, steps(6000), choose('waits')");
+      await browser.value(`${HOLD_ALL}, steps(6000), choose('waits')`);
       const rows = await browser.value("Array.from(document.querySelectorAll('#seen tbody tr'), row => Array.from(row.cells, cell => cell.textContent).slice(0, 4))");
       assert.equal(rows.length, await browser.value("page.run.site.phases.length + page.run.site.movements.length"), site);
       for (const [name, times, longest, wait] of rows) {
@@ -236,21 +242,88 @@ const tests = {
     }
   },
 
-  /** Nothing is wider than the window, no control is cut off or covered, and no head covers another. */
+  /** Nothing is cut off or covered, whatever font the reader has: each site in each font and size, and each tab. */
   async layoutFits(browser) {
-    for (const [width, height] of [[1280, 800], [1920, 1080]]) {
-      await browser.size(width, height);
-      for (const site of ["four_arms", ...folders]) {
-        await load(browser, site);
-        await browser.value("steps(5), new Promise(resolve => requestAnimationFrame(() => setTimeout(resolve)))");
-        assert.deepEqual(await browser.value(`(${misplaced})()`), [], `${site} at ${width}`);
-      }
-      for (const text of slanted()) {
-        await browser.value(`load({ name: "slanted", text: ${JSON.stringify(text)}, inputs: [] }), steps(1)`);
-        assert.deepEqual(await browser.value(`(${misplaced})()`), [], `${text.split("\n")[1]} at ${width}`);
+    const examples = await browser.value("EXAMPLES.map(example => example.name)");
+    const loads = [...examples.map(name => [name, `loadExample("${name}")`]),
+      ...slanted().map(text => [text.split("\n")[1], `load({ name: "slanted", text: ${JSON.stringify(text)}, inputs: [] })`])];
+    for (const family of [FONTS.wide, FONTS.narrow, FONTS.ordinary]) {
+      await browser.font(family);
+      for (const [width, height] of SIZES) {
+        await browser.size(width, height);
+        const where = `in ${family} at ${width}`;
+        for (const [site, loaded] of loads) await fits(browser, `${loaded}, choose("junction"), steps(250)`, `${site} ${where}`);
+        for (const tab of ["conflicts", "waits"]) await fits(browser, `loadExample("largest"), choose("${tab}")`, `${tab} ${where}`);
+        await browser.value(`loadExample("four_phases"), choose("road")`);
+        await browser.until("page.road?.points.length > 0");
+        await fits(browser, "0", `road ${where}`);
       }
     }
-    await browser.size(1280, 800);
+  },
+
+  /** Long texts wrap or move: verdicts, refusals, notices, the clock, names, and what the timeline tells of a step. */
+  async longTextsFit(browser) {
+    await browser.font(FONTS.wide);
+    await browser.size(1000, 700);
+    const changed = (before, after) => `page.editor.text = page.editor.text.replaceAll(${before}, ${JSON.stringify(after)}), textChanged()`;
+    const status = async wanted => assert.match(await browser.value("byId('status').textContent"), wanted);
+    const notice = async wanted => assert.match(await browser.value("byId('notice').textContent"), wanted);
+    await load(browser, "largest", "inputs_walks");
+    await fits(browser, `${HOLD_ALL}, steps(600)`, "everybody waits");
+    await fits(browser, LONGEST_CLOCK, "the clock");
+    assert.match(await browser.value("byId('clock').textContent"), /early cut-off green/);
+    await fits(browser, changed("/P5 +150/g", "P5 1x0"), "a mistake");
+    await status(/^1 mistake/);
+    await notice(/last accepted/);
+    await fits(browser, changed("/P5 1x0/g", "P5 9000"), "a refusal");
+    await status(/^refused: \d+ at byte \d+$/);
+    await fits(browser, `openFile(new File([new Uint8Array([1, 0, 3])], "the_personality_of_the_junction_of_high_street_and_mill_lane.bin"))`, "bytes that are not shown");
+    await status(/mill_lane.bin is not shown: ./);
+    await load(browser, "four_arms");
+    await fits(browser, `openFile(new File(["steps 5\\n3 detector 9\\n"], "inputs_of_the_evening_peak_on_a_weekday.txt")).then(() => steps(300))`, "inputs that do not fit");
+    await notice(/^inputs_of_the_evening_peak_on_a_weekday, line 2: ./);
+    await fits(browser, `${changed("/8.0 s/g", "9.0 s")}, ${HOLD_ALL}, steps(3)`, "new times wait");
+    assert.match(await browser.value("byId('clock').textContent"), /new times wait/);
+    await fits(browser, `${changed("/\\b([VP]\\d)\\b/g", "northbound-and-southbound-$1")}, ${HOLD_ALL}, steps(300)`, "long names in a plan");
+    await status(/^accepted/);
+    for (const tab of ["conflicts", "waits", "road", "junction"]) await fits(browser, `choose("${tab}")`, `long names: ${tab}`);
+    await load(browser, "crossings");
+    await fits(browser, `${changed("/\\b([VP]\\d)\\b/g", "arm-$1")}, ${HOLD_ALL}, steps(300)`, "long names in columns");
+    for (const text of slanted()) {
+      const named = text.replaceAll(/\b(west|east|south|bus)\b/g, "the-$1-road-of-the-town").replace(/(the-west\S+) speed/, "$1 bearing 270 speed").replace(/(the-east\S+) speed/, "$1 bearing 80 speed");
+      await fits(browser, `load({ name: "slanted", text: ${JSON.stringify(named)}, inputs: [] }), steps(1)`, "long names of arms");
+      await status(/^accepted/);
+    }
+    await load(browser, "four_phases", "inputs_saturated");
+    for (const span of [300, 9000, 36000]) await fits(browser, `byId("span").value = ${span}, steps(1500)`, `${span} steps of the timeline`);
+    await browser.value(`loadExample("largest"), byId("span").value = 1200, steps(1500)`);
+    for (const part of [0.3, 0.6, 0.9]) {
+      const { x, y, width } = await browser.value("byId('rows').getBoundingClientRect().toJSON()");
+      await browser.send("Input.dispatchMouseEvent", { type: "mouseMoved", x: x + part * width, y: y + 60 });
+      assert.equal(await browser.value("byId('cross').hidden"), false);
+      await fits(browser, "0", `the pointer at ${part}`);
+    }
+  },
+
+  /** While a site runs, and while one types, controls and views stay where they are. */
+  async layoutIsCalm(browser) {
+    for (const [family, [width, height]] of [FONTS.wide, FONTS.ordinary].flatMap(family => SIZES.map(size => [family, size]))) {
+      await browser.font(family);
+      await browser.size(width, height);
+      await load(browser, "four_arms", "inputs");
+      const before = await asked(browser, "frame()");
+      const stays = async (does, what) => {
+        await browser.value(`${does}, 0`);
+        assert.deepEqual(await asked(browser, "frame()"), before, `${what} in ${family} at ${width}`);
+      };
+      await stays("steps(1)", "the first step");
+      await stays("steps(800)", "80 s");
+      await stays("play(true)", "play");
+      await stays("play(false)", "pause");
+      await stays(LONGEST_CLOCK, "the longest clock");
+      await stays("page.editor.text = page.editor.text.replace('8.0 s', '8.0x s'), textChanged()", "a mistake");
+      await stays("page.editor.text = page.editor.text.replace('8.0x s', '9.0 s'), textChanged(), steps(1)", "new times");
+    }
   },
 
   /** The timeline has a row for each thing, and tells what was shown in the step under the pointer. */
@@ -260,7 +333,7 @@ const tests = {
     const labels = await browser.value("Array.from(document.querySelectorAll('#rows .label'), label => label.textContent)");
     const wanted = await browser.value("['phase', ...page.run.site.groups.map(group => group.name), 'A', 'D', ...page.run.site.movements.map(movement => movement.name), ...page.run.site.movements.map((_, at) => 'B' + at), ...page.run.site.detectors.map((_, at) => 'D' + at)]");
     assert.deepEqual(labels, wanted);
-    const place = await browser.value("(() => { const { left, top } = byId('rows').getBoundingClientRect(), range = timelineRange(); return { x: left + range.left + (600 - range.from) / (range.to - range.from) * (range.width - range.left - 16), y: top + 60 }; })()");
+    const place = await browser.value("(() => { const { left, top } = byId('rows').getBoundingClientRect(), range = timelineRange(), columns = timelineColumns(timelineRows(page.run), range.width); return { x: left + columns.left + (600 - range.from) / (range.to - range.from) * (columns.right - columns.left), y: top + 60 }; })()");
     await browser.send("Input.dispatchMouseEvent", { type: "mouseMoved", ...place });
     const [told, step] = await browser.value("[byId('cross').textContent, Math.round(10 * parseFloat(byId('cross').textContent))]");
     assert.ok(Math.abs(step - 600) <= 3, told);
@@ -388,24 +461,22 @@ async function namedControls(browser, view) {
   return controls;
 }
 
-/** Runs in the page: what is cut off, covered or over something else. */
-function misplaced() {
-  const faults = [];
-  const root = document.documentElement;
-  if (root.scrollWidth > innerWidth || root.scrollHeight > innerHeight) faults.push("the page is larger than the window");
-  const inside = box => box.left >= 0 && box.top >= 0 && box.right <= innerWidth && box.bottom <= innerHeight;
-  for (const one of document.querySelectorAll("header button, header select, #controls > *, #controls select, #tabs button, #timebar select, #back, #text, #view .input")) {
-    const box = one.getBoundingClientRect();
-    const name = one.id || one.getAttribute("aria-label") || one.tagName;
-    if (!inside(box)) faults.push(name + " is cut off");
-    const top = document.elementFromPoint(box.x + box.width / 2, box.y + box.height / 2);
-    if (!one.contains(top)) faults.push(name + " is covered by " + (top?.outerHTML ?? "nothing").slice(0, 60));
-  }
-  for (const one of document.querySelectorAll("header output, #clock, #tabs span")) if (one.scrollWidth > one.clientWidth + 1) faults.push(one.id + " is cut off");
-  const heads = Array.from(document.querySelectorAll("#view [data-group]"), head => head.getBoundingClientRect());
-  const over = (a, b) => a.left < b.right - 1 && b.left < a.right - 1 && a.top < b.bottom - 1 && b.top < a.bottom - 1;
-  heads.forEach((head, at) => heads.slice(at + 1).forEach((other, next) => { if (over(head, other)) faults.push("head " + at + " is over head " + (at + 1 + next)); }));
-  return faults;
+/** The clock with the longest names and numbers that it has to show. */
+const LONGEST_CLOCK = "showClock({ phase: 6, interval: 4, target: 1, age: 1500, timesWait: true, now: 360000 })";
+
+const LAYOUT = fs.readFileSync(path.join(__dirname, "misplaced.js"), "utf8");
+
+/** The value of a function of misplaced.js in the page, once the page is drawn. */
+async function asked(browser, call) {
+  await browser.drawn();
+  return browser.value(`(() => { ${LAYOUT} return ${call}; })()`);
+}
+
+/** Does something in the page; after it nothing is cut off or covered. */
+async function fits(browser, does, what) {
+  await browser.value(`(async () => { await (${does}); })()`);
+  const faults = await asked(browser, "misplaced()");
+  if (faults.length > 0) throw new Error(`${what}: ${faults.slice(0, 5).join("; ")}`);
 }
 
 /** What has the focus in a round of the Tab key. */
@@ -447,6 +518,26 @@ const FAULTS = [
   ["layoutFits", "!parts.arms.some(arm => onRoad(at, arm))", "true"],
   ["layoutFits", "#right { grid-template: auto auto minmax(0, 52fr) minmax(0, 48fr) / minmax(0, 1fr);", "#right { grid-template: auto auto minmax(0, 52fr) minmax(0, 48fr) / 900px;"],
   ["layoutFits", "parts.things += buttonAt(site.movements[button], button, ...pointOf(arm, u, 0));", "parts.things = buttonAt(site.movements[button], button, ...pointOf(arm, u, -arm.half - 20)) + parts.things;"],
+  ["layoutFits", "header .end { flex: 1 0 auto; }\n#status { flex: 1 0 auto; width: 37ch;", "header .end { flex: 1; }\n#status { flex: 1; width: 0; white-space: nowrap; overflow: hidden; text-overflow: ellipsis;"],
+  ["layoutFits", "header, #controls, #tabs, #timebar { display: flex; flex-wrap: wrap;", "header, #controls, #tabs, #timebar { display: flex;"],
+  ["layoutFits", "header { gap: 6px 8px;", "header { width: 1270px; gap: 6px 8px;"],
+  ["layoutFits", "#status.bad {", "#example { width: 190px; }\n#status.bad {"],
+  ["layoutFits", ".legend { display: flex; flex-wrap: wrap;", ".legend { flex: 1 1 0; overflow: hidden; display: flex;"],
+  ["layoutFits", "minmax(0, 1fr) max(232px, 34ch);", "minmax(0, 1fr) 180px;"],
+  ["layoutFits", "names.find(name => textWidth(name) <= width - 3.5)", "names.find(name => name.length * 4.5 <= width)"],
+  ["layoutFits", "textIn(left - labels - 12, about,", "textIn(Infinity, about.slice(0, Math.floor((left - labels) / 4.5)),"],
+  ["layoutFits", "const apart = textWidth(`${Math.ceil(to / 10)} s`) + 16;", "const apart = 24;"],
+  ["longTextsFit", "textWidth(text) <= room - 5", "true"],
+  ["longTextsFit", "font-weight: 600; overflow-wrap: anywhere; color: var(--good);", "font-weight: 600; white-space: nowrap; overflow: hidden; text-overflow: ellipsis; color: var(--good);"],
+  ["longTextsFit", "line-height: 13px; overflow-wrap: anywhere;", "line-height: 13px; white-space: nowrap; overflow: hidden; text-overflow: ellipsis;"],
+  ["longTextsFit", "#clock { flex: 1 1 36ch; container-type: inline-size;", "#clock { flex: 1; white-space: nowrap; overflow: hidden; text-overflow: ellipsis;"],
+  ["longTextsFit", "Math.max(HEAD.width + 18, ...heads.map(({ one }) => widthOf(one) + 4))", "HEAD.width + 18"],
+  ["longTextsFit", "Math.max(widthOf(group), textWidth(group.phases)) + 5", "0"],
+  ["longTextsFit", "Math.min(textWidth(name), MOST_ARM_NAME) + 4", "4 * name.length"],
+  ["longTextsFit", "Math.min(4, width - 4 - event.offsetX - told.offsetWidth)", "4"],
+  ["layoutIsCalm", "#clock { flex: 1 1 36ch; container-type: inline-size;", "#clock { flex: 1 1 auto;"],
+  ["layoutIsCalm", "min-width: 12ch; font-weight: 600;", "font-weight: 600;"],
+  ["layoutIsCalm", "#status { flex: 1 0 auto; width: 37ch;", "#status { flex: 1 0 auto;"],
   ["timelineTells", "return this.values[this.placeOf(step)];", "return this.values[this.placeOf(step - 80)];"],
   ["timelineTells", "add(run.buttons, drawMark,", "add([], drawMark,"],
   ["textIsAdopted", "page.library.retime(run.bytes, run.state, check.bytes).number === 0", "false"],
@@ -501,7 +592,7 @@ async function lane(list) {
       const good = passes === (failure === null);
       bad += good ? 0 : 1;
       const what = passes ? name : `${name} finds ${path.basename(file, ".html")}`;
-      const why = passes ? failure ?? "" : (failure ?? "the damaged page passes").split("\n")[0].slice(0, 90);
+      const why = passes ? failure ?? "" : (failure ?? "the damaged page passes").split("\n")[0].slice(0, 120);
       console.log(`${good ? "ok  " : "FAIL"} ${what} (${((Date.now() - begin) / 1000).toFixed(1)} s) ${why}`);
     }
   } finally {

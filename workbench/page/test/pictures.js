@@ -1,9 +1,9 @@
-// Screenshots of each tab in both schemes and two sizes: target/page/*.png.
+// Screenshots of each tab in both schemes and two sizes, in the ordinary font of the tests: target/page/*.png.
 "use strict";
 
 const path = require("node:path");
 const fs = require("node:fs");
-const { Browser } = require("./browser.js");
+const { Browser, FONTS } = require("./browser.js");
 
 const ROOT = path.resolve(__dirname, "../../..");
 const OUT = path.join(ROOT, "target/page");
@@ -21,7 +21,7 @@ async function pictures(browser) {
           if (tab !== "junction" && site !== "four_arms" && (scheme === "dark" || width > 1280)) continue;
           await browser.click(`#tab-${tab}`);
           if (tab === "road" && site === "four_arms") await browser.until("page.road?.part === 1", 60);
-          await browser.value("new Promise(resolve => requestAnimationFrame(() => requestAnimationFrame(() => resolve(1))))");
+          await browser.drawn();
           await browser.screenshot(path.join(OUT, `${site}-${tab}-${scheme}-${width}.png`));
         }
       }
@@ -42,6 +42,7 @@ async function pictures(browser) {
   const browser = await Browser.start();
   try {
     await browser.open("file://" + path.join(ROOT, "target/workbench.html"), 1280, 800);
+    await browser.font(FONTS.ordinary);
     await pictures(browser);
     if (browser.errors.length > 0) throw new Error(browser.errors.join("\n"));
   } finally {
