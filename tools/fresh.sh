@@ -34,8 +34,12 @@ needed=python3,gcc,libc6-dev
 begun=$(date +%s)
 room=$(mktemp -d "${TMPDIR:-/tmp}/willowera-fresh.XXXXXX")
 root=$room/root
-ended() { if [ -n "$keep" ]; then echo "left: $root"; else rm -rf --one-file-system "$room"; fi; }
+ended() {
+    umount --quiet "$root/sys" "$root/proc" 2>/dev/null || true # what debootstrap mounted, if it was interrupted
+    if [ -n "$keep" ]; then echo "left: $root"; else rm -rf --one-file-system "$room"; fi
+}
 trap ended EXIT
+trap 'exit 130' INT TERM
 
 # ── A minimal Debian ──
 
