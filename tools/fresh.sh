@@ -80,7 +80,7 @@ unshare --mount --pid --fork --kill-child --propagation private bash -euc '
 ' bash "${words[@]}" </dev/null 2>&1 | tee "$room/log" || status=$?
 
 chroot "$root" dpkg-query -W -f='${Package}\n' | sort >"$room/after"
-echo "A minimal Debian ($release) with $needed: $(($(wc -l <"$room/after") - $(wc -l <"$room/before"))) packages came with those that the scripts installed:"
+echo "A minimal Debian ($release) with $needed: $(($(wc -l <"$room/after") - $(wc -l <"$room/before"))) packages were installed, because the scripts asked for these:"
 sed -n 's/^Commandline: .* --no-install-recommends /    /p' "$root/var/log/apt/history.log" | fold -s -w 120
 echo "$((($(date +%s) - begun + 30) / 60)) minutes"
 tail -n 1 "$room/log"

@@ -77,7 +77,7 @@ needs)
     [ -z "$(undefined_names | tr ' ' '\n' | grep -vxE 'memcpy|memset')" ] && [ -z "$(writable_sections)" ]
     ;;
 headers)
-    command -v g++ >/dev/null || tools/install.sh g++ || exit 1
+    tools/install.sh g++ || exit 1
     for bits in -m64 -m32; do
         compiles cc "$bits" -std=c99 && compiles cc "$bits" -std=c11 && compiles g++ "$bits" -std=c++11 -x c++ || exit 1
     done

@@ -1,6 +1,6 @@
 #!/usr/bin/env bash
 # Builds the page and tests it in chromium without a window: workbench/page/check.sh [--pictures] [TEST ..]
-# --pictures also makes a screenshot of each tab: target/page/*.png. Installs chromium and node if they are missing (as root).
+# --pictures also makes a screenshot of each tab: target/page/*.png. Installs chromium, its fonts and node if they are missing (as root).
 set -eu
 cd "$(dirname "$0")"
 ../../tools/install.sh browser node
