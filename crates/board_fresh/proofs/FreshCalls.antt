@@ -1,19 +1,17 @@
 -- A fresh call, check by check: each decides the verdict once the checks before it have passed, and the verdict decides the answer and what
 -- becomes of the buffer.
 use Prim.Native.Nat.{ℕ}
-use mathlib.Core.Bool.{true, false}
 use mathlib.Core.List.{List}
 use mathlib.Core.Path.{_≡_, refl}
-use lib.Dec.{eqb}
 use lib.ListN.{length}
+use borrow.Author.Tests.{eq-eqb, ne-eqb}
 use Rattle.rules.specs.declared.answer.Verdict.the-variants.{Accepted, Refused}
-use Rattle.rules.specs.declared.state.TimedState.{TimedState}
 use Rattle.rules.specs.Verdicts.{_orElse_, refuseIf}
 use Rattle.rules.specs.Personality.{verdictOf}
 use Rattle.rules.specs.Site.{siteOf}
 use Rattle.rules.specs.Timed.{freshTimed}
 use Rattle.rules.specs.Call.{handedBack}
-use Rattle.state_timed.specs.TimedLayout.{timedBytes, timedEncodedOver}
+use Rattle.state_timed.specs.TimedLayout.{timedBytes, timedEncoded}
 use Rattle.board_answers.specs.Answers.{packed}
 use Rattle.board_answers.proofs.Answers.{read-accepted, read-refused}
 use Rattle.board_fresh.specs.FreshCall.{freshVerdict, freshAnswer, freshAfter}
@@ -31,12 +29,13 @@ module _ (b old : List ℕ) where
   unfolding freshVerdict _orElse_
   refuses r e p = declines r (rw e) p
 
-  -- an accepted personality, and the buffer as it is once its fresh state is written over it
-  module _ (accepted : verdictOf b ≡ Accepted) {s : TimedState} (made : s ≡ freshTimed (siteOf b)) (new : List ℕ) (written : new ≡ timedEncodedOver s old) where
-    pub begins : eqb (length old) timedBytes ≡ true → Begins b old 0 new
-    unfolding freshAnswer freshAfter freshVerdict _orElse_ refuseIf handedBack timedEncodedOver
-    begins e = (read-accepted (freshVerdict b old) _ refl (rw (accepted, e)), rw (written, accepted, e, made))
+  module _ (accepted : verdictOf b ≡ Accepted) where
+    pub other-length : (r : ℕ) → (length old ≡ timedBytes → ⊥) → r ≡ packed 13 0 → Begins b old r old
+    unfolding freshVerdict _orElse_ refuseIf
+    other-length r e p = declines r (rw (accepted, ne-eqb (length old) timedBytes e)) p
 
-    pub other-length : (r : ℕ) → eqb (length old) timedBytes ≡ false → r ≡ packed 13 0 → Begins b old r new
-    unfolding freshVerdict _orElse_ refuseIf timedEncodedOver
-    other-length r e p = rw (written, e) (declines r (rw (accepted, e)) p)
+    pub begins : (new : List ℕ) → length old ≡ timedBytes → new ≡ timedEncoded (freshTimed (siteOf b)) → Begins b old 0 new
+    unfolding freshAnswer freshAfter freshVerdict _orElse_ refuseIf handedBack
+    begins new e written =
+        let room = eq-eqb (length old) timedBytes e in
+        (read-accepted (freshVerdict b old) _ refl (rw (accepted, room)), rw (accepted, room, written))

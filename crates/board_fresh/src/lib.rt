@@ -3,6 +3,7 @@ ghost use mathlib.Core.Path.{_≡_};
 ghost use Rattle.board_fresh.specs.FreshCall.{freshAnswer, freshAfter};
 use board_answers::refusal;
 use rules::answer::Verdict;
+use state_timed::TIMED_BYTES;
 
 // Writes the fresh state of a personality: its own times rule, and none wait. The personality is checked first, then whether the buffer has
 // the length of a state (13). A refused call leaves the buffer as it is.
@@ -15,11 +16,10 @@ pub fn fresh(personality: &[u8], state: &mut [u8]) -> u64
     if let Verdict::Refused { number, place } = verdict {
         return refusal(number, place);
     }
-    let layout = reading.layout;
-    let timed = call_timed::fresh_timed(personality, layout);
-    if state_timed::timed_encode(timed, state) {
-        0
-    } else {
-        refusal(13, 0)
+    if state.len() != TIMED_BYTES {
+        return refusal(13, 0);
     }
+    let layout = reading.layout;
+    state_fresh::put_fresh(personality, layout, state);
+    0
 }

@@ -1,2 +1,2 @@
 pub mod PanelCall
-pub mod Placed
+pub mod Explains

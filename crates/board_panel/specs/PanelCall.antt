@@ -1,33 +1,44 @@
--- The calls for the panel's line with the state as bytes. The personality is checked before 13, which also means bytes that are no state.
+-- The calls for the panel's line with the state as bytes: one answers how many bytes it has, and the other also writes it to the start of a buffer.
+-- Their arguments are personality, state, input bits, and the buffer or its length.
 use Prim.Native.Nat.{ℕ}
-use mathlib.Core.List.{List}
-use Rattle.rules.specs.declared.answer.Verdict.the-variants.{Refused}
-use Rattle.laws.specs.Folds.{if_then_else_}
-use Rattle.rules.specs.Verdicts.{_orElse_}
+use mathlib.Core.Bool.{not}
+use mathlib.Core.List.{List, _++_}
+use lib.Dec.{ltb}
+use lib.ListN.{length, drop}
+use Rattle.rules.specs.declared.answer.Verdict.{Verdict}
+use Rattle.rules.specs.Verdicts.{_orElse_, refuseIf}
 use Rattle.rules.specs.Personality.{verdictOf}
-use Rattle.state_timed.specs.TimedLayout.{isTimed, timedDecoded}
-use Rattle.board_answers.specs.Answers.{packed, packedVerdict}
-use Rattle.panel_call.specs.declared.LineAnswer.{LineAnswer}
-use Rattle.panel_call.specs.declared.LineAnswer.the-variants.{Line, LineRefused}
-use Rattle.panel_call.specs.WhyCall.{whyLengthOf, whyOf, whyBufferOf}
+use Rattle.rules.specs.Site.{siteOf}
+use Rattle.rules.specs.Call.{strayInput, boundFor, handedBack}
+use Rattle.state_timed.specs.TimedLayout.{timedDecoded}
+use Rattle.state_valid.specs.StateOf.{isStateOf}
+use Rattle.panel_reasons.specs.PanelLine.{panelLine}
+use Rattle.board_answers.specs.Answers.{packedOutcome}
 
--- 0 in the lowest byte and the length of the line above it, or number and place
-unfoldable pub packedLine : LineAnswer → ℕ
-packedLine (Line length) = packed 0 length
-packedLine (LineRefused number place) = packed number place
+-- the line of the state in the bytes
+abbrev pub whyLine : List ℕ → List ℕ → ℕ → List ℕ
+whyLine b state inputs = panelLine (siteOf b) (timedDecoded state) inputs
 
+-- the checks of both calls: the personality, then 13 and 15
+unfoldable pub lengthChecks : List ℕ → List ℕ → ℕ → Verdict
+lengthChecks b state inputs =
+    verdictOf b
+    orElse refuseIf (not (isStateOf b state)) 13 0
+    orElse refuseIf (strayInput (siteOf b) inputs) 15 0
+
+-- of the writing call: then 14, the buffer is shorter than the line
+unfoldable pub whyChecks : List ℕ → List ℕ → ℕ → ℕ → Verdict
+whyChecks b state inputs room = lengthChecks b state inputs orElse refuseIf (ltb room (length (whyLine b state inputs))) 14 0
+
+-- how many bytes the line has, or the refusal
 unfoldable pub whyLengthAnswer : List ℕ → List ℕ → ℕ → ℕ
-whyLengthAnswer b state inputs =
-    if isTimed state
-    then packedLine (whyLengthOf b (timedDecoded state) inputs)
-    else packedVerdict (verdictOf b orElse Refused 13 0)
+whyLengthAnswer b state inputs = packedOutcome (boundFor (lengthChecks b state inputs) (length (whyLine b state inputs)))
 
 unfoldable pub whyAnswer : List ℕ → List ℕ → ℕ → ℕ → ℕ
-whyAnswer b state inputs room =
-    if isTimed state
-    then packedLine (whyOf b (timedDecoded state) inputs room)
-    else packedVerdict (verdictOf b orElse Refused 13 0)
+whyAnswer b state inputs room = packedOutcome (boundFor (whyChecks b state inputs room) (length (whyLine b state inputs)))
 
--- the buffer as the writing call returns
+-- the buffer as the writing call returns: the bytes behind the line do not change, and after a refusal none does
 unfoldable pub lineAfter : List ℕ → List ℕ → ℕ → List ℕ → List ℕ
-lineAfter b state inputs buffer = if isTimed state then whyBufferOf b (timedDecoded state) inputs buffer else buffer
+lineAfter b state inputs buffer =
+    let line = whyLine b state inputs in
+    handedBack (whyChecks b state inputs (length buffer)) (line ++ drop (length line) buffer) buffer

@@ -1,40 +1,88 @@
 // The calls of the board interface for the panel's line: the state is bytes, and the answer is one number (board_answers).
+ghost use Prim.Native.Nat.{_<_};
 ghost use mathlib.Core.Path.{_≡_};
 ghost use lib.ListN.{length};
-ghost use Rattle.board_panel.specs.PanelCall.{packedLine, whyLengthAnswer, whyAnswer, lineAfter};
-ghost use Rattle.board_panel.specs.Placed.{Placed};
+ghost use Rattle.panel_line.specs.Reasons.{lineOf};
+ghost use Rattle.board_panel.specs.PanelCall.{whyLengthAnswer, whyAnswer, lineAfter};
+ghost use Rattle.board_panel.specs.Explains.{Explains, PutIn};
 use board_answers::packed;
 use board_answers::refusal;
-use panel_call::LineAnswer;
+use panel_line::Why;
+use panel_line::line_length;
+use panel_line::put_line;
 use rules::answer::Verdict;
+use state_timed::KEPT;
+use state_timed::RULING;
 
-// 0 and the length of the line, or the number and the place of the refusal.
-fn packed_line(answer: LineAnswer) -> u64
-    requires { ⌜ Placed answer ⌝ }
-    ensures { λ r. ⌜ r ≡ packedLine answer ⌝ }
-{
-    match answer {
-        LineAnswer::Line { length } => packed(0, length),
-        LineAnswer::LineRefused { number, place } => refusal(number, place),
-    }
+// What the checks of both calls leave to say: a refusal, nothing in other intervals than running, or why the phase holds.
+enum Explanation {
+    Refusal { number: u8, place: usize },
+    Silent,
+    Holds { why: Why },
 }
 
-// How many bytes the line has that says why the phase holds; 0 in other intervals than running. The inputs are those of the step that gave
-// the state. The personality is checked first, then whether the bytes are a state (13).
-pub fn why_length(personality: &[u8], state: &[u8], inputs: u64) -> u64
-    ensures { λ r. ⌜ r ≡ whyLengthAnswer (now (personality .entry)) (now (state .entry)) inputs ⌝ }
+// The personality is checked first, then whether the bytes are a valid state of it (13), and the inputs (15).
+fn explained(personality: &[u8], state: &[u8], inputs: u64) -> Explanation
+    ensures { λ r. ⌜ Explains (now (personality .entry)) (now (state .entry)) inputs r ⌝ }
 {
     let reading = read_personality::read_with_layout(personality);
     let verdict = reading.verdict;
     if let Verdict::Refused { number, place } = verdict {
-        return refusal(number, place);
-    }
-    if !state_timed::is_timed(state) {
-        return refusal(13, 0);
+        return Explanation::Refusal { number, place };
     }
     let layout = reading.layout;
-    let decoded = state_timed::timed_decoded(state);
-    packed_line(panel_call::why_length_accepted(personality, layout, decoded, inputs))
+    if !state_timed::is_timed(state) {
+        return Explanation::Refusal {
+            number: 13,
+            place: 0,
+        };
+    }
+    let site = site_whole::site_in(personality, layout, state, RULING);
+    let kept = state_bytes::read(state, KEPT);
+    if !state_valid::valid(personality, layout, site, kept, state) {
+        return Explanation::Refusal {
+            number: 13,
+            place: 0,
+        };
+    }
+    if step_valid::stray_input(site, inputs) {
+        return Explanation::Refusal {
+            number: 15,
+            place: 0,
+        };
+    }
+    let position = kept.core.position;
+    let interval = position.interval;
+    if !base_intervals::is_running(interval) {
+        return Explanation::Silent;
+    }
+    Explanation::Holds {
+        why: panel_reasons::why_of(site, kept, inputs),
+    }
+}
+
+// How many bytes the line has that says why the phase holds; 0 in other intervals than running. The inputs are those of the step that gave
+// the state.
+pub fn why_length(personality: &[u8], state: &[u8], inputs: u64) -> u64
+    ensures { λ r. ⌜ r ≡ whyLengthAnswer (now (personality .entry)) (now (state .entry)) inputs ⌝ }
+{
+    let found = explained(personality, state, inputs);
+    match found {
+        Explanation::Refusal { number, place } => refusal(number, place),
+        Explanation::Silent => packed(0, 0),
+        Explanation::Holds { why } => packed(0, line_length(why) as u32),
+    }
+}
+
+// Puts the line at the start of a buffer that is long enough; else 14, and the buffer stays as it is.
+fn put_in(why: Why, line: &mut [u8]) -> u64
+    requires { ⌜ why .phase < 7 ⌝ }
+    ensures { λ r. ⌜ PutIn (lineOf why) (now (line .entry)) (now (line .exit)) r ⌝ }
+{
+    if line.len() < line_length(why) {
+        return refusal(14, 0);
+    }
+    packed(0, put_line(why, line) as u32)
 }
 
 // Writes the line to the start of a buffer, and answers its length. The bytes behind it stay as they are. A buffer that is too short (14) and
@@ -43,15 +91,10 @@ pub fn why(personality: &[u8], state: &[u8], inputs: u64, line: &mut [u8]) -> u6
     ensures { λ r. ⌜ (r ≡ whyAnswer (now (personality .entry)) (now (state .entry)) inputs (length (now (line .entry))))
         × (now (line .exit) ≡ lineAfter (now (personality .entry)) (now (state .entry)) inputs (now (line .entry))) ⌝ }
 {
-    let reading = read_personality::read_with_layout(personality);
-    let verdict = reading.verdict;
-    if let Verdict::Refused { number, place } = verdict {
-        return refusal(number, place);
+    let found = explained(personality, state, inputs);
+    match found {
+        Explanation::Refusal { number, place } => refusal(number, place),
+        Explanation::Silent => packed(0, 0),
+        Explanation::Holds { why } => put_in(why, line),
     }
-    if !state_timed::is_timed(state) {
-        return refusal(13, 0);
-    }
-    let layout = reading.layout;
-    let decoded = state_timed::timed_decoded(state);
-    packed_line(panel_call::why_accepted(personality, layout, decoded, inputs, line))
 }

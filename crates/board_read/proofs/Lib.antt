@@ -1,2 +1,3 @@
-pub mod SectionAnswers
+pub mod BoundAnswers
 pub mod GroupsAnswers
+pub mod SectionAnswers

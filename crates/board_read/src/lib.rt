@@ -9,7 +9,6 @@ ghost use Rattle.board_read.specs.SectionCall.{sectionAnswer};
 use base_bytes::two_at;
 use board_answers::packed;
 use board_answers::refusal;
-use rules::answer::Outcome;
 use rules::answer::Verdict;
 
 // Accepts a personality (0) or refuses it.
@@ -27,11 +26,17 @@ pub fn read(personality: &[u8]) -> u64
 pub fn wait_bound(personality: &[u8]) -> u64
     ensures { λ r. ⌜ r ≡ packedOutcome (boundOf (now (personality .entry))) ⌝ }
 {
-    let outcome = call_wait_bound::wait_bound(personality);
-    match outcome {
-        Outcome::Stepped { wait } => packed(0, wait),
-        Outcome::StepRefused { number, place } => refusal(number, place),
+    let reading = read_personality::read_with_layout(personality);
+    let verdict = reading.verdict;
+    if let Verdict::Refused { number, place } = verdict {
+        return refusal(number, place);
     }
+    let layout = reading.layout;
+    let timing = site_whole::timing_in(personality, layout);
+    let size = timing.size;
+    let times = timing.times;
+    let crossings = timing.crossings;
+    packed(0, wait_bound::wait_bound_by(size, times, crossings))
 }
 
 // The number of signal groups of a personality, or its refusal.

@@ -9,13 +9,12 @@ use borrow.Author.Tests.{lt-ltb, le-ltb, eq-eqb, ne-eqb}
 use Rattle.rules.specs.declared.answer.Verdict.the-variants.{Accepted, Refused}
 use Rattle.rules.specs.declared.site.Site.{Site}
 use Rattle.rules.specs.declared.state.KeptState.{KeptState}
-use Rattle.rules.specs.declared.state.TimedState.{TimedState}
 use Rattle.rules.specs.Verdicts.{_orElse_, refuseIf, reportOf}
 use Rattle.rules.specs.Personality.{verdictOf}
 use Rattle.rules.specs.Site.{siteOf}
 use Rattle.rules.specs.Timed.{withOwnTimes}
 use Rattle.rules.specs.Call.{handedBack}
-use Rattle.state_timed.specs.TimedLayout.{timedBytes, timedEncodedOver}
+use Rattle.state_timed.specs.TimedLayout.{timedBytes, timedEncoded}
 use Rattle.road_streams.specs.Road.{badStreams, roadAfter, streamsVerdict, roadVerdict, resultsOf, resultsFor, roadResults}
 use Rattle.board_answers.specs.Answers.{packed, packedVerdict}
 use Rattle.board_road.specs.RoadCall.{boardVerdict, roadAnswer, lastState, resultsAfter}
@@ -64,14 +63,12 @@ module _ (b streams : List ℕ) (steps : ℕ) (state old : List ℕ) where
   declines e p = (rw (e, p), rw e, rw e)
 
   pub goes-on :
-      {site : Site} {last : KeptState} {timed : TimedState} {new out : List ℕ} →
+      {site : Site} {last : KeptState} {new out : List ℕ} →
       boardVerdict b streams steps state (length old) ≡ Accepted →
-      length state ≡ timedBytes →
       site ≡ siteOf b →
       last ≡ roadAfter b streams steps .state →
-      timed ≡ withOwnTimes site last →
-      new ≡ timedEncodedOver timed state →
+      new ≡ timedEncoded (withOwnTimes site last) →
       out ≡ resultsFor Accepted (resultsOf streams (roadAfter b streams steps .traffic)) old →
       Answers b streams steps state old 0 new out
-  unfolding roadAnswer lastState resultsAfter boardVerdict roadResults handedBack timedEncodedOver packedVerdict packed reportOf
-  goes-on e fits s l t n w = (rw e, n ∙ rw (e, t, s, l, eq-eqb (length state) timedBytes fits), w ∙ rw e)
+  unfolding roadAnswer lastState resultsAfter boardVerdict roadResults handedBack packedVerdict packed reportOf
+  goes-on e s l n w = (rw e, n ∙ rw (e, s, l), w ∙ rw e)

@@ -2,28 +2,9 @@
 // the site decoded once.
 ghost use mathlib.Core.Path.{_≡_};
 ghost use lib.ListN.{length};
-ghost use Rattle.rules.specs.Timed.{withOwnTimes};
 ghost use Rattle.board_road.specs.RoadCall.{roadAnswer, lastState, resultsAfter};
 use board_answers::refusal;
 use rules::answer::Verdict;
-use rules::site::Site;
-use rules::state::KeptState;
-use rules::state::TimedState;
-
-// The state with the site's own times ruling and none waiting.
-fn with_own_times(site: Site, state: KeptState) -> TimedState
-    ensures { λ r. ⌜ r ≡ withOwnTimes site state ⌝ }
-{
-    let core = state.core;
-    let waiting = step_timed::none_waiting();
-    let ruling = site.times;
-    TimedState {
-        core,
-        kept: state.kept,
-        ruling,
-        waiting,
-    }
-}
 
 // Runs the streams from the fresh state: the last state and the results of the streams are written, and the answer is 0. It is refused with
 // the personality's own number and place, then with 22, then with 13 if the state buffer does not have the length of a state, then with 14
@@ -56,6 +37,7 @@ pub fn road(
         return refusal(14, 0);
     }
     let last = road_run::run(site, streams, steps, results);
-    state_timed::timed_encode(with_own_times(site, last), state);
+    let times = site.times;
+    state_timed::put_settled(state, last, times);
     0
 }

@@ -16,9 +16,10 @@ use Rattle.proof_acceptance.proofs.Refusals.{Refusals, if-refusals, or-refusals
 use Rattle.state_timed.specs.TimedLayout.{timedBytes, isTimed}
 use Rattle.state_timed.proofs.TimedLaws.{timed-known}
 use Rattle.state_sealed.specs.Sealed.{sealedBytes, sealedOf, otherVersion, damaged, otherPersonality, stateIn}
+use Rattle.state_valid.specs.StateOf.{isStateOf}
 use Rattle.board_answers.specs.Answers.{packed}
 use Rattle.board_answers.proofs.Answers.{read-accepted, read-refused}
-use Rattle.board_seal.specs.SealCall.{isStateOf, sealVerdict, sealAnswer, sealAfter, recordVerdict, resumeVerdict, resumeAnswer, resumeAfter}
+use Rattle.board_seal.specs.SealCall.{sealVerdict, sealAnswer, sealAfter, recordVerdict, resumeVerdict, resumeAnswer, resumeAfter}
 
 -- a valid state has the length of one
 pub state-long : (b state : List ℕ) → isStateOf b state ≡ true → length state ≡ timedBytes

@@ -1,22 +1,17 @@
 -- Sealing a state before the power goes, and resuming it at power-up. A refused call leaves the buffer as it is.
 use Prim.Native.Nat.{ℕ}
-use mathlib.Core.Bool.{Bool, not, _&&_}
+use mathlib.Core.Bool.{not}
 use mathlib.Core.List.{List}
 use lib.Dec.{eqb}
 use lib.ListN.{length}
 use Rattle.rules.specs.declared.answer.Verdict.{Verdict}
 use Rattle.rules.specs.Verdicts.{_orElse_, refuseIf}
 use Rattle.rules.specs.Personality.{verdictOf}
-use Rattle.rules.specs.Site.{siteOf}
-use Rattle.rules.specs.Timed.{timedValid}
 use Rattle.rules.specs.Call.{handedBack}
-use Rattle.state_timed.specs.TimedLayout.{timedBytes, isTimed, timedDecoded}
+use Rattle.state_timed.specs.TimedLayout.{timedBytes}
+use Rattle.state_valid.specs.StateOf.{isStateOf}
 use Rattle.state_sealed.specs.Sealed.{sealedBytes, sealedOf, otherVersion, damaged, otherPersonality, stateIn}
 use Rattle.board_answers.specs.Answers.{packedVerdict}
-
--- the bytes are a state, and a valid one of the personality
-unfoldable pub isStateOf : List ℕ → List ℕ → Bool
-isStateOf b state = isTimed state && timedValid (siteOf b) (timedDecoded state)
 
 -- ── Sealing: personality, state, buffer for the record ──
 

@@ -4,26 +4,12 @@ ghost use mathlib.Core.Path.{_≡_};
 ghost use Rattle.rules.specs.declared.answer.Verdict.the-variants.{Accepted};
 ghost use Rattle.rules.specs.Personality.{verdictOf};
 ghost use Rattle.read_layout.specs.LayoutOf.{LayoutOf};
-ghost use Rattle.board_seal.specs.SealCall.{isStateOf, sealAnswer, sealAfter, recordVerdict, resumeAnswer, resumeAfter};
+ghost use Rattle.board_seal.specs.SealCall.{sealAnswer, sealAfter, recordVerdict, resumeAnswer, resumeAfter};
 use board_answers::refusal;
 use read_layout::Layout;
 use rules::answer::Verdict;
 use state_sealed::SEALED_BYTES;
 use state_timed::TIMED_BYTES;
-
-// Whether the bytes are a valid state of the personality.
-fn is_state_of(personality: &[u8], layout: Layout, state: &[u8]) -> bool
-    requires { ⌜ (verdictOf (now personality) ≡ Accepted) × LayoutOf (now personality) layout ⌝ }
-    ensures { λ r. ⌜ r ≡ isStateOf (now (personality .entry)) (now (state .entry)) ⌝ }
-{
-    if !state_timed::is_timed(state) {
-        return false;
-    }
-    let timed = state_timed::timed_decoded(state);
-    let ruling = timed.ruling;
-    let site = site_ruled::site_under(personality, layout, ruling);
-    step_valid_times::timed_valid(site, timed)
-}
 
 // Writes the sealed record of a state: the personality is checked first, then whether the bytes are a valid state (13), then whether the
 // buffer has the length of a record (14). A refused call leaves the buffer as it is.
@@ -37,7 +23,7 @@ pub fn seal(personality: &[u8], state: &[u8], sealed: &mut [u8]) -> u64
         return refusal(number, place);
     }
     let layout = reading.layout;
-    if !is_state_of(personality, layout, state) {
+    if !state_valid::is_state_of(personality, layout, state) {
         return refusal(13, 0);
     }
     if sealed.len() != SEALED_BYTES {
@@ -70,7 +56,7 @@ fn record_verdict(personality: &[u8], layout: Layout, sealed: &[u8]) -> Verdict
             place: 0,
         };
     }
-    if !is_state_of(personality, layout, state_sealed::state_in(sealed)) {
+    if !state_valid::is_state_of(personality, layout, state_sealed::state_in(sealed)) {
         return Verdict::Refused {
             number: 13,
             place: 0,

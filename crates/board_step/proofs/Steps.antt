@@ -1,97 +1,154 @@
--- The answers of a step call by cases, with what becomes of the state's bytes and of the colours.
-use Prim.Native.Nat.{ℕ, _≤_}
-use mathlib.Core.Bool.{Bool, true, false}
-use mathlib.Core.List.{List}
-use mathlib.Core.Path.{_≡_, refl, sym, ap, _∙_}
-use native.Mathlib.Nat.{zero-add, add-zero}
-use lib.Dec.{eqb}
-use lib.ListN.{length}
-use borrow.Author.Tests.{eq-eqb}
-use Rattle.rules.specs.declared.answer.Outcome.the-variants.{Stepped, StepRefused}
-use Rattle.rules.specs.declared.answer.TimedAnswer.{TimedAnswer}
-use Rattle.rules.specs.declared.answer.Verdict.{Verdict}
-use Rattle.rules.specs.declared.answer.Verdict.the-variants.{Accepted, Refused}
-use Rattle.rules.specs.declared.state.TimedState.{TimedState}
-use Rattle.rules.specs.Verdicts.{_orElse_, reportOf, stepReportOf, waitOf}
-use Rattle.rules.specs.Personality.{verdictOf}
-use Rattle.rules.specs.Call.{boundFor, handedBack, bufferFor, checksBy}
-use Rattle.rules.specs.TimedCall.{timedVerdict, timedAnswerOf, timedBufferOf}
-use Rattle.state_timed.specs.TimedLayout.{timedBytes, isTimed, timedDecoded, timedEncodedOver}
-use Rattle.state_timed.proofs.TimedLaws.{timed-known}
-use Rattle.board_answers.specs.Answers.{packed, packedVerdict, packedOutcome}
-use Rattle.board_answers.proofs.Answers.{bound-declined}
-use Rattle.board_step.specs.StepCall.{stepAnswer, stateFor, stateAfter, coloursAfter}
-use Rattle.proof_acceptance.proofs.Places.{lastPlace, call-named}
+-- The step from a valid state: what its calls ask for, and that the state which they make is that of the rules. Neither the valid state nor the step
+-- looks at the site's own times.
+use Prim.Native.Nat.{ℕ}
+use mathlib.Core.Bool.{Bool, true, false, _&&_}
+use mathlib.Core.List.{List, _++_}
+use mathlib.Core.Path.{_≡_, refl, sym, ap, subst⁻¹, _∙_}
+use lib.ListN.{drop}
+use Rattle.rules.specs.declared.site.Site.{Site}
+use Rattle.rules.specs.declared.site.Times.{Times}
+use Rattle.rules.specs.declared.state.KeptState.{KeptState}
+use Rattle.rules.specs.declared.state.State.{State}
+use Rattle.laws.specs.Bytes.{byteAt}
+use Rattle.laws.specs.Folds.{if_then_else_}
+use Rattle.rules.specs.SiteTimes.{under}
+use Rattle.rules.specs.Kept.{keptValid, keptStepped}
+use Rattle.rules.specs.Timed.{TimedState, keptOf, ruledSite, noneWaiting, startsNext, takesOver, rulingNext, timedStepped}
+use Rattle.rules.specs.Colours.{coloursOf}
+use Rattle.rules.specs.WaitBound.{waitBound}
+use Rattle.rules.specs.Laws.{Sound}
+use Rattle.rules.specs.TimedLaws.{ready}
+use Rattle.proof_change.proofs.Timed.{timed-told, plainState, old-sound, new-sound, ready-timed, timed-is-plain}
+use Rattle.state_timed.specs.TimedLayout.{settled, timedDecoded, timedEncoded}
+use Rattle.board_answers.specs.Answers.{packed}
+use Rattle.board_step.specs.Accepted.{Stepping, takesOverIn, Steps}
 
--- what a step call answers, with the buffer as it returns
-abbrev pub Called : List ℕ → TimedState → ℕ → List ℕ → TimedAnswer → List ℕ → Type 0
-Called b s inputs buffer a out = (a ≡ timedAnswerOf b s inputs (length buffer)) × (out ≡ timedBufferOf b s inputs buffer)
+module _ (site : Site) (before : KeptState) (old : List ℕ) (given : Stepping site before old) where
+  abbrev s : TimedState
+  s = timedDecoded old
 
-pub answer-near :
-    (b : List ℕ) (s : TimedState) (inputs : ℕ) (buffer : List ℕ) (a : TimedAnswer) (out : List ℕ) {number place : ℕ} →
-    Called b s inputs buffer a out →
-    a .outcome ≡ StepRefused number place →
-    place ≤ lastPlace
-unfolding timedAnswerOf
-answer-near b s inputs buffer a out {number} {place} called f =
-    call-named b s inputs (length buffer) number place
-    (bound-declined (timedVerdict b s inputs (length buffer)) _ (sym (ap (λ (x : TimedAnswer). x .outcome) (called .0)) ∙ f)) .1
+  abbrev own : Site
+  own = given .own
 
--- ── A step over bytes ──
+  -- ── The state and the site ──
 
-state-long : (old : List ℕ) → isTimed old ≡ true → eqb (length old) timedBytes ≡ true
-state-long old known = eq-eqb (length old) timedBytes (timed-known old known .size)
+  pub site-sound : Sound site
+  site-sound = subst⁻¹ Sound (given .ruled) (old-sound own (given .sound) s (given .valid))
 
--- what a step call answers, with the state's bytes and the colours as they return
-abbrev pub Steps : List ℕ → List ℕ → ℕ → List ℕ → ℕ → List ℕ → List ℕ → Type 0
-Steps b old inputs buffer r new out =
-    (r ≡ stepAnswer b old inputs (length buffer))
-    × (new ≡ stateAfter b old inputs (length buffer))
-    × (out ≡ coloursAfter b old inputs buffer)
+  pub kept-valid : keptValid site before ≡ true
+  kept-valid = rw (given .ruled, given .kept) (timed-told own s (given .valid) .rest)
 
-module _ (b old buffer : List ℕ) (inputs r : ℕ) where
-  refused-by :
-      (t : Bool) {number place : ℕ} →
-      isTimed old ≡ t →
-      verdictOf b ≡ Refused number place →
-      r ≡ packed number place →
-      Steps b old inputs buffer r old buffer
-  unfolding stepAnswer stateAfter coloursAfter timedAnswerOf timedBufferOf checksBy _orElse_ boundFor handedBack bufferFor packedVerdict packedOutcome reportOf stepReportOf waitOf stateFor
-  refused-by true {place = place} k e p = (rw (k, e, p, add-zero place), rw (k, e), rw (k, e))
-  refused-by false k e p = (rw (k, e, p), rw k, rw k)
+  same-times : under site (s .ruling) ≡ site
+  same-times = ap (λ (x : Site). under x (s .ruling)) (given .ruled) ∙ sym (given .ruled)
 
-  -- a refused personality, whatever the state's bytes are
-  pub refuses :
-      (v : Verdict) {number place : ℕ} →
-      v ≡ verdictOf b →
-      v ≡ Refused number place →
-      r ≡ packed number place →
-      Steps b old inputs buffer r old buffer
-  refuses v e f p = refused-by (isTimed old) refl (sym e ∙ f) p
+  same-others : (times : Times) → under site times ≡ under own times
+  same-others times = ap (λ (x : Site). under x times) (given .ruled)
 
-  pub no-state : verdictOf b ≡ Accepted → isTimed old ≡ false → r ≡ packed 13 0 → Steps b old inputs buffer r old buffer
-  unfolding stepAnswer stateAfter coloursAfter packedVerdict reportOf _orElse_
-  no-state accepted other p = (rw (other, accepted, p), rw other, rw other)
+  same-over : takesOver site s ≡ takesOver own s
+  unfolding takesOver
+  same-over = ap (λ (x : Site). takesOver x s) (given .ruled)
 
-  module _ (known : isTimed old ≡ true) {s : TimedState} (e : s ≡ timedDecoded old) {a : TimedAnswer} {out : List ℕ} (given : Called b s inputs buffer a out) where
-    called : Called b (timedDecoded old) inputs buffer a out
-    called = rw e at given
+  same-step : (inputs : ℕ) → timedStepped site s inputs ≡ timedStepped own s inputs
+  unfolding timedStepped rulingNext takesOver
+  same-step inputs = ap (λ (x : Site). timedStepped x s inputs) (given .ruled)
 
-    pub steps-on :
-        (new : List ℕ) {wait : ℕ} →
-        a .outcome ≡ Stepped wait →
-        new ≡ timedEncodedOver (a .state) old →
-        r ≡ packed 0 wait →
-        Steps b old inputs buffer r new out
-    unfolding stepAnswer stateAfter coloursAfter packedOutcome stepReportOf waitOf stateFor timedEncodedOver
-    steps-on new {wait} o n p =
-        let long = state-long old known in
-        (rw (known, sym (called .0), o, p, zero-add wait), rw (known, sym (called .0), o, n, long), rw (known, called .1))
+  -- ── Whether times take over ──
 
-    pub stays :
-        {number place : ℕ} →
-        a .outcome ≡ StepRefused number place →
-        r ≡ packed number place →
-        Steps b old inputs buffer r old out
-    unfolding stepAnswer stateAfter coloursAfter packedOutcome stepReportOf waitOf stateFor
-    stays {place = place} o p = (rw (known, sym (called .0), o, p, add-zero place), rw (known, sym (called .0), o), rw (known, called .1))
+  pub none-waits : byteAt old 187 ≡ 0 → false ≡ takesOverIn site old
+  unfolding takesOver timedDecoded
+  none-waits zero = rw zero
+
+  pub by-start : {r : Bool} → s .waiting .present ≡ true → r ≡ startsNext site (before .core) → r ≡ takesOverIn site old
+  unfolding takesOver
+  by-start waits e = rw (waits, same-times) (rw (given .kept) at e)
+
+  -- ── The next state ──
+
+  plain-by :
+      (inputs : ℕ) (t : Bool) →
+      takesOver own s ≡ t →
+      keptOf (timedStepped own s inputs)
+      ≡ keptStepped (under own (if t then s .waiting .times else s .ruling)) (if t then ready (keptOf s) else keptOf s) inputs
+  unfolding rulingNext plainState
+  plain-by inputs t e =
+      timed-is-plain own (given .sound) s (given .valid) inputs
+      ∙ ap (λ (t : Bool). keptStepped (under own (if t then s .waiting .times else s .ruling)) (if t then ready (keptOf s) else keptOf s) inputs) e
+
+  -- the state that has such a rest, and the times by whether they take over
+  abbrev withTimes : Bool → KeptState → TimedState
+  withTimes t k =
+      record {
+        core = k .core;
+        kept = k .kept;
+        ruling = if t then s .waiting .times else s .ruling;
+        waiting = if t then noneWaiting else s .waiting;
+      }
+
+  next-by : (inputs : ℕ) (t : Bool) → takesOver own s ≡ t → withTimes t (keptOf (timedStepped own s inputs)) ≡ timedStepped own s inputs
+  unfolding timedStepped rulingNext
+  next-by inputs t e = ap (λ (t : Bool). withTimes t (keptOf (timedStepped own s inputs))) (sym e)
+
+  pub changed :
+      (inputs : ℕ) (next : KeptState) →
+      takesOverIn site old ≡ true →
+      next ≡ keptStepped (under site (s .waiting .times)) (ready before) inputs →
+      settled (s .waiting .times) next ≡ timedStepped site s inputs
+  changed inputs next over e =
+      let over′ = sym same-over ∙ over in
+      ap (withTimes true)
+      (e
+      ∙ ap (λ (x : Site). keptStepped x (ready before) inputs) (same-others (s .waiting .times))
+      ∙ ap (λ (k : KeptState). keptStepped (under own (s .waiting .times)) (ready k) inputs) (given .kept)
+      ∙ sym (plain-by inputs true over′))
+      ∙ next-by inputs true over′
+      ∙ sym (same-step inputs)
+
+  pub stayed :
+      (inputs : ℕ) (next : KeptState) →
+      takesOverIn site old ≡ false →
+      next ≡ keptStepped site before inputs →
+      record { core = next .core; kept = next .kept; ruling = s .ruling; waiting = s .waiting } ≡ timedStepped site s inputs
+  stayed inputs next over e =
+      let over′ = sym same-over ∙ over in
+      ap (withTimes false)
+      (e
+      ∙ ap (λ (x : Site). keptStepped x before inputs) (given .ruled)
+      ∙ ap (λ (k : KeptState). keptStepped (ruledSite own s) k inputs) (given .kept)
+      ∙ sym (plain-by inputs false over′))
+      ∙ next-by inputs false over′
+      ∙ sym (same-step inputs)
+
+  -- under the new times the site is sound, and the ready state valid
+  pub change-ready :
+      takesOverIn site old ≡ true → Sound (under site (s .waiting .times)) × (keptValid (under site (s .waiting .times)) (ready before) ≡ true)
+  change-ready over = (
+    subst⁻¹ Sound (same-others (s .waiting .times)) (new-sound own (given .sound) s (given .valid) (sym same-over ∙ over)),
+    ap (λ (x : Site). keptValid x (ready before)) (same-others (s .waiting .times))
+        ∙ ap (λ (k : KeptState). keptValid (under own (s .waiting .times)) (ready k)) (given .kept)
+        ∙ ready-timed own (given .sound) s (given .valid) (s .waiting .times),
+  )
+
+  -- ── What the call gives ──
+
+  pub steps :
+      (inputs : ℕ) (buffer : List ℕ) (next : TimedState) {answer : ℕ} {new out : List ℕ} →
+      next ≡ timedStepped site s inputs →
+      new ≡ timedEncoded next →
+      (answer ≡ packed 0 (waitBound (ruledSite site next))) × (out ≡ coloursOf (ruledSite site next) (next .core) ++ drop (site .size .groups) buffer) →
+      Steps site old inputs buffer answer new out
+  steps inputs buffer next e n shown =
+      record {
+        answered = shown .0 ∙ ap (λ (x : TimedState). packed 0 (waitBound (ruledSite site x))) e;
+        stored = n ∙ ap timedEncoded e;
+        shown =
+            shown .1 ∙ ap (λ (x : TimedState). coloursOf (ruledSite site x) (x .core) ++ drop (site .size .groups) buffer) e;
+      }
+
+  -- if the times stay, so does the site
+  pub same-shown :
+      (buffer : List ℕ) {answer : ℕ} {out : List ℕ} (core : State) →
+      (answer ≡ packed 0 (waitBound site)) × (out ≡ coloursOf site core ++ drop (site .size .groups) buffer) →
+      let after = under site (s .ruling) in
+      (answer ≡ packed 0 (waitBound after)) × (out ≡ coloursOf after core ++ drop (site .size .groups) buffer)
+  same-shown buffer {answer} {out} core =
+      subst⁻¹ (λ (x : Site). (answer ≡ packed 0 (waitBound x)) × (out ≡ coloursOf x core ++ drop (site .size .groups) buffer)) same-times

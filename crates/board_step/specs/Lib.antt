@@ -1,1 +1,2 @@
 pub mod StepCall
+pub mod Accepted

@@ -1,33 +1,37 @@
--- The step call with the state as bytes. The personality is checked before 13, which also means bytes that are no state.
+-- The step call with the state as bytes: personality, state, input bits, and the colour buffer or its length.
 use Prim.Native.Nat.{ℕ}
 use mathlib.Core.List.{List}
-use Rattle.rules.specs.declared.answer.Outcome.{Outcome}
-use Rattle.rules.specs.declared.answer.Outcome.the-variants.{Stepped, StepRefused}
-use Rattle.rules.specs.declared.answer.Verdict.the-variants.{Refused}
-use Rattle.rules.specs.declared.state.TimedState.{TimedState}
-use Rattle.laws.specs.Folds.{if_then_else_}
+use lib.ListN.{length}
+use Rattle.rules.specs.declared.answer.Verdict.{Verdict}
 use Rattle.rules.specs.Verdicts.{_orElse_}
 use Rattle.rules.specs.Personality.{verdictOf}
-use Rattle.rules.specs.TimedCall.{timedAnswerOf, timedBufferOf}
-use Rattle.state_timed.specs.TimedLayout.{isTimed, timedDecoded, timedEncoded}
-use Rattle.board_answers.specs.Answers.{packedVerdict, packedOutcome}
+use Rattle.rules.specs.Site.{siteOf}
+use Rattle.rules.specs.Timed.{TimedState, ruledSite, timedStepped}
+use Rattle.rules.specs.WaitBound.{waitBound}
+use Rattle.rules.specs.Call.{stepVerdict, boundFor, handedBack, bufferFor}
+use Rattle.state_timed.specs.TimedLayout.{timedEncoded, timedDecoded}
+use Rattle.state_valid.specs.StateOf.{isStateOf}
+use Rattle.board_answers.specs.Answers.{packedOutcome}
 
+-- the checks: the personality, then 13, 15 and 14
+unfoldable pub stepChecks : List ℕ → List ℕ → ℕ → ℕ → Verdict
+stepChecks b old inputs room = verdictOf b orElse stepVerdict (siteOf b) (isStateOf b old) inputs room
+
+-- the state after the step
+unfoldable pub steppedIn : List ℕ → List ℕ → ℕ → TimedState
+steppedIn b old inputs = timedStepped (siteOf b) (timedDecoded old) inputs
+
+-- the wait of the times that rule after the step, or the refusal
 unfoldable pub stepAnswer : List ℕ → List ℕ → ℕ → ℕ → ℕ
 stepAnswer b old inputs room =
-    if isTimed old
-    then packedOutcome (timedAnswerOf b (timedDecoded old) inputs room .outcome)
-    else packedVerdict (verdictOf b orElse Refused 13 0)
-
-unfoldable pub stateFor : Outcome → TimedState → List ℕ → List ℕ
-stateFor (Stepped wait) next old = timedEncoded next
-stateFor (StepRefused number place) next old = old
+    packedOutcome (boundFor (stepChecks b old inputs room) (waitBound (ruledSite (siteOf b) (steppedIn b old inputs))))
 
 -- the bytes of the new state; after a refusal those handed in
 unfoldable pub stateAfter : List ℕ → List ℕ → ℕ → ℕ → List ℕ
-stateAfter b old inputs room =
-    if isTimed old
-    then stateFor (timedAnswerOf b (timedDecoded old) inputs room .outcome) (timedAnswerOf b (timedDecoded old) inputs room .state) old
-    else old
+stateAfter b old inputs room = handedBack (stepChecks b old inputs room) (timedEncoded (steppedIn b old inputs)) old
 
+-- the colours of the new state, by the times that rule after the step
 unfoldable pub coloursAfter : List ℕ → List ℕ → ℕ → List ℕ → List ℕ
-coloursAfter b old inputs buffer = if isTimed old then timedBufferOf b (timedDecoded old) inputs buffer else buffer
+coloursAfter b old inputs buffer =
+    let next = steppedIn b old inputs in
+    bufferFor (stepChecks b old inputs (length buffer)) (ruledSite (siteOf b) next) (next .core) buffer

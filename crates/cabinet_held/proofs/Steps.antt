@@ -11,7 +11,7 @@ use Rattle.rules.specs.declared.answer.Verdict.the-variants.{Accepted, Refused}
 use Rattle.rules.specs.Personality.{verdictOf}
 use Rattle.rules.specs.Verdicts.{_orElse_, refuseIf, reportOf}
 use Rattle.board_answers.specs.Answers.{packedVerdict}
-use Rattle.board_step.proofs.Steps.{Steps, refuses}
+use Rattle.board_step.proofs.StepCalls.{Answers, refused}
 use Rattle.cabinet_records.specs.Cabinet.{outputsOf, pastLast, isShort, outputsIn, writtenAt}
 use Rattle.cabinet_records.proofs.Outputs.{written-none}
 use Rattle.cabinet_held.specs.Held.{heldChecks, heldStepFor, heldStepped, heldStep}
@@ -41,7 +41,7 @@ module _ (b : List ℕ) (first : ℕ) (old : List ℕ) (inputs : ℕ) (out : Lis
   -- the step call's answer, the new state, and the buffer as it becomes
   own-for :
       (part : List ℕ) {r : ℕ} {new shown all : List ℕ} →
-      Steps b old inputs part r new shown →
+      Answers b old inputs part r new shown →
       pastLast first (outputsOf b) ≡ false →
       part ≡ outputsIn out first (outputsOf b) →
       all ≡ writtenAt out first shown →
@@ -52,13 +52,13 @@ module _ (b : List ℕ) (first : ℕ) (old : List ℕ) (inputs : ℕ) (out : Lis
   unfolding heldStep heldStepFor heldStepped heldChecks _orElse_ refuseIf packedVerdict reportOf
   own-for part steps within own stored kept Accepted e = rw (e, within, stored, ← own, steps .0, steps .1, steps .2)
   own-for part steps within own stored kept (Refused number place) e =
-      let same = refuses b old part inputs (packedVerdict (Refused number place)) (verdictOf b) refl e refl in
+      let same = refused b old inputs part (packedVerdict (Refused number place)) e refl in
       rw (e, steps .0, ← same .0, steps .1, ← same .1, kept (steps .2 ∙ sym (same .2)))
 
   -- a buffer under 32 bytes lends nothing
   pub short-step :
       {r : ℕ} {new shown : List ℕ} →
-      Steps b old inputs (take 0 out) r new shown →
+      Answers b old inputs (take 0 out) r new shown →
       pastLast first (outputsOf b) ≡ false →
       length out < 32 →
       length shown ≡ length (take 0 out) →
@@ -72,7 +72,7 @@ module _ (b : List ℕ) (first : ℕ) (old : List ℕ) (inputs : ℕ) (out : Lis
   pub own-step :
       {r : ℕ} {new shown : List ℕ} (count : ℕ) →
       count ≡ outputsOf b →
-      Steps b old inputs (take count (drop first out)) r new shown →
+      Answers b old inputs (take count (drop first out)) r new shown →
       pastLast first (outputsOf b) ≡ false →
       32 ≤ length out →
       length shown ≡ length (take count (drop first out)) →

@@ -89,5 +89,7 @@ pub fn fresh_state(personality: &[u8], layout: Layout, state: &mut [u8])
     requires { ⌜ (verdictOf (now personality) ≡ Accepted) × LayoutOf (now personality) layout ⌝ }
     ensures { λ _. ⌜ now (state .exit) ≡ timedEncodedOver (freshTimed (siteOf (now (personality .entry)))) (now (state .entry)) ⌝ }
 {
-    state_timed::timed_encode(call_timed::fresh_timed(personality, layout), state);
+    if state.len() == state_timed::TIMED_BYTES {
+        state_fresh::put_fresh(personality, layout, state);
+    }
 }

@@ -5,13 +5,14 @@ use Rattle.rules.proofs.Opened.{opened}
 use Rattle.state_forms.specs.Forms.{partsOf}
 use Rattle.state_timed.specs.TimedLayout.{timedEncoded, timedDecoded, isTimed}
 use Rattle.board_answers.specs.Answers.{packed, packedVerdict, packedOutcome}
-use Rattle.board_step.specs.StepCall.{stepAnswer, stateFor, stateAfter, coloursAfter}
+use Rattle.state_valid.specs.StateOf.{isStateOf}
+use Rattle.board_step.specs.StepCall.{stepChecks, steppedIn, stepAnswer, stateAfter, coloursAfter}
 use Rattle.cabinet_records.specs.Cabinet.{isFree, personalityOf, freeRecord, holding, withState, recordOf, hasRecord, outputsOf, pastLast, isAccepted, hasOutputs, meet, meetsRecord, overlaps, isShort, writtenAt, outputsIn, ownOutputs, placingVerdict, heldVerdict, takingVerdict, returnedFor, placing, stepped, stepping, takingOut, doing}
 use Rattle.cabinet_records.specs.CabinetCases.{answersOf, outputsAfter, answersEach, fourFree, redOutputs, beyond, stateless, oldBytes, refusedSite, oddRow, placedRow, retimedRow, cases, CabinetCasesHold}
 
 pub cabinet-cases-hold : CabinetCasesHold
 unfolding
-    opened partsOf reportOf stepReportOf waitOf timedEncoded timedDecoded isTimed packed packedVerdict packedOutcome stepAnswer stateFor stateAfter coloursAfter
+    opened partsOf reportOf stepReportOf waitOf timedEncoded timedDecoded isTimed packed packedVerdict packedOutcome isStateOf stepChecks steppedIn stepAnswer stateAfter coloursAfter
     isFree personalityOf freeRecord holding withState recordOf hasRecord outputsOf pastLast isAccepted hasOutputs meet meetsRecord overlaps isShort writtenAt
     outputsIn ownOutputs placingVerdict heldVerdict takingVerdict returnedFor placing stepped stepping takingOut doing answersOf outputsAfter answersEach fourFree
     redOutputs beyond stateless oldBytes refusedSite oddRow placedRow retimedRow cases CabinetCasesHold

@@ -1,6 +1,5 @@
 -- What a call leaves alone: it writes the record that it names and its own outputs, and a refused call nothing.
 use Prim.Native.Nat.{ℕ, _%_}
-use mathlib.Core.Bool.{Bool, true, false}
 use mathlib.Core.List.{List}
 use mathlib.Core.Logic.{_⊎_, inl, inr, ⊎-elim}
 use mathlib.Core.Path.{_≡_, refl, ap, _∙_}
@@ -9,18 +8,13 @@ use lib.ListN.{length, set, length-set}
 use lib.Seq.{getD-set-other, set-getD}
 use Rattle.rules.specs.declared.answer.Verdict.{Verdict}
 use Rattle.rules.specs.declared.answer.Verdict.the-variants.{Accepted, Refused}
-use Rattle.laws.specs.Folds.{if_then_else_}
-use Rattle.rules.specs.Verdicts.{_orElse_, stepReportOf, waitOf}
-use Rattle.rules.specs.Personality.{verdictOf}
-use Rattle.rules.specs.Site.{siteOf}
-use Rattle.rules.specs.Timed.{ruledSite, timedStepped}
+use Rattle.rules.specs.declared.site.Site.{Site}
+use Rattle.rules.specs.declared.state.State.{State}
+use Rattle.rules.specs.Verdicts.{stepReportOf, waitOf}
 use Rattle.rules.specs.Colours.{red}
-use Rattle.rules.specs.WaitBound.{waitBound}
 use Rattle.rules.specs.Call.{boundFor, handedBack, bufferFor}
-use Rattle.rules.specs.TimedCall.{timedVerdict, timedAnswerOf, timedBufferOf}
-use Rattle.state_timed.specs.TimedLayout.{isTimed, timedDecoded}
-use Rattle.board_answers.specs.Answers.{packed, packedVerdict, packedOutcome}
-use Rattle.board_step.specs.StepCall.{stepAnswer, stateFor, stateAfter, coloursAfter}
+use Rattle.board_answers.specs.Answers.{packed, packedOutcome}
+use Rattle.board_step.specs.StepCall.{stepChecks, stepAnswer, stateAfter, coloursAfter}
 use Rattle.cabinet_records.specs.declared.Record.{Record}
 use Rattle.cabinet_records.specs.Cabinet.{dark, personalityOf, freeRecord, withState, recordOf, outputsOf, outputsIn, writtenAt, ownOutputs, placingVerdict, heldVerdict, takingVerdict, Returned, returnedFor, placing, stepped, stepping, takingOut, Act, placeSite, stepSite, takeOut, doing}
 use Rattle.cabinet_records.specs.CabinetLaws.{recordNamed, personalityNamed, firstNamed, OthersStay, OutputsStay, RefusalLeaves}
@@ -102,29 +96,15 @@ module _ (b s : List ℕ) (inputs : ℕ) (buffer : List ℕ) where
   Left answer state colours = (answer % 256 ≡ 0 → ⊥) → (state ≡ s) × (colours ≡ buffer)
 
   left-for :
-      (v : Verdict) →
-      let site = siteOf b in
-      let next = timedStepped site (timedDecoded s) inputs in
-      let ruled = ruledSite site next in
-      let outcome = boundFor v (waitBound ruled) in
-      Left (packedOutcome outcome) (stateFor outcome (handedBack v next (timedDecoded s)) s) (bufferFor v ruled (next .core) buffer)
-  unfolding boundFor handedBack bufferFor stateFor packedOutcome packed stepReportOf waitOf
-  left-for Accepted refused = absurd (refused (omega arith))
-  left-for (Refused number at) refused = (refl, refl)
-
-  state-left :
-      (t : Bool) →
-      let answer = timedAnswerOf b (timedDecoded s) inputs (length buffer) in
-      Left (if t then packedOutcome (answer .outcome) else packedVerdict (verdictOf b orElse Refused 13 0))
-      (if t then stateFor (answer .outcome) (answer .state) s else s)
-      (if t then timedBufferOf b (timedDecoded s) inputs buffer else buffer)
-  unfolding timedAnswerOf timedBufferOf
-  state-left true = left-for (timedVerdict b (timedDecoded s) inputs (length buffer))
-  state-left false = λ refused. (refl, refl)
+      (v : Verdict) (wait : ℕ) (ruled : Site) (next : State) (new : List ℕ) →
+      Left (packedOutcome (boundFor v wait)) (handedBack v new s) (bufferFor v ruled next buffer)
+  unfolding boundFor handedBack bufferFor packedOutcome packed stepReportOf waitOf
+  left-for Accepted wait ruled next new refused = absurd (refused (omega arith))
+  left-for (Refused number at) wait ruled next new refused = (refl, refl)
 
   step-left : Left (stepAnswer b s inputs (length buffer)) (stateAfter b s inputs (length buffer)) (coloursAfter b s inputs buffer)
   unfolding stepAnswer stateAfter coloursAfter
-  step-left = state-left (isTimed s)
+  step-left = left-for (stepChecks b s inputs (length buffer)) _ _ _ _
 
 abbrev Leaves : Returned (List Record) → List Record → List ℕ → Type 0
 Leaves done row out = (done .answer % 256 ≡ 0 → ⊥) → (done .row ≡ row) × (done .outputs ≡ out)

@@ -12,31 +12,29 @@ use lib.ListN.{length, take, drop, replicate, length-append, length-take, length
 use lib.Seq.{getD-append-add, getD-take, getD-drop, take-at, drop-at, drop-drop}
 use Rattle.rules.specs.declared.answer.Verdict.{Verdict}
 use Rattle.rules.specs.declared.answer.Verdict.the-variants.{Accepted, Refused}
-use Rattle.rules.specs.declared.state.TimedState.{TimedState}
 use Rattle.laws.specs.Bytes.{byteAt}
 use Rattle.laws.specs.Folds.{if_then_else_}
 use Rattle.rules.specs.Verdicts.{_orElse_, refuseIf}
 use Rattle.rules.specs.Personality.{verdictOf}
 use Rattle.rules.specs.Site.{siteOf}
-use Rattle.rules.specs.Timed.{ruledSite, timedValid, timedStepped}
+use Rattle.rules.specs.Timed.{ruledSite}
 use Rattle.rules.specs.Colours.{coloursOf, shownIn}
-use Rattle.rules.specs.Call.{strayInput, stepVerdict, checksBy, bufferFor}
-use Rattle.rules.specs.TimedCall.{timedVerdict, timedBufferOf}
+use Rattle.rules.specs.Call.{strayInput, stepVerdict, bufferFor}
 use Rattle.laws.proofs.Lists.{list-length}
 use Rattle.rules.proofs.Verdicts.{or-later, refuse-passed}
-use Rattle.state_timed.specs.TimedLayout.{isTimed, timedDecoded}
-use Rattle.board_step.specs.StepCall.{coloursAfter}
+use Rattle.state_valid.specs.StateOf.{isStateOf}
+use Rattle.board_step.specs.StepCall.{stepChecks, steppedIn, coloursAfter}
 use Rattle.cabinet_records.specs.Cabinet.{outputCount, isShort, outputsIn, writtenAt}
 
 -- ── A step keeps the length of its buffer ──
 
-module _ (b : List ℕ) (s : TimedState) (inputs : ℕ) (buffer : List ℕ) where
-  room-enough : timedVerdict b s inputs (length buffer) ≡ Accepted → siteOf b .size .groups ≤ length buffer
-  unfolding checksBy stepVerdict
+module _ (b old : List ℕ) (inputs : ℕ) (buffer : List ℕ) where
+  room-enough : stepChecks b old inputs (length buffer) ≡ Accepted → siteOf b .size .groups ≤ length buffer
+  unfolding stepChecks stepVerdict
   room-enough e =
       let site = siteOf b in
-      let checks = or-later (verdictOf b) (stepVerdict site (timedValid site s) inputs (length buffer)) e in
-      let first = refuseIf (not (timedValid site s)) 13 0 in
+      let checks = or-later (verdictOf b) (stepVerdict site (isStateOf b old) inputs (length buffer)) e in
+      let first = refuseIf (not (isStateOf b old)) 13 0 in
       let second = refuseIf (strayInput site inputs) 15 0 in
       let test = ltb (length buffer) (site .size .groups) in
       let third = refuseIf test 14 0 in
@@ -44,12 +42,12 @@ module _ (b : List ℕ) (s : TimedState) (inputs : ℕ) (buffer : List ℕ) wher
 
   buffer-length-for :
       (v : Verdict) →
-      timedVerdict b s inputs (length buffer) ≡ v →
-      let next = timedStepped (siteOf b) s inputs in
+      stepChecks b old inputs (length buffer) ≡ v →
+      let next = steppedIn b old inputs in
       length (bufferFor v (ruledSite (siteOf b) next) (next .core) buffer) ≡ length buffer
   unfolding bufferFor coloursOf
   buffer-length-for Accepted e =
-      let next = timedStepped (siteOf b) s inputs in
+      let next = steppedIn b old inputs in
       let site = ruledSite (siteOf b) next in
       let count = site .size .groups in
       let colours = coloursOf site (next .core) in
@@ -57,14 +55,9 @@ module _ (b : List ℕ) (s : TimedState) (inputs : ℕ) (buffer : List ℕ) wher
       omega (arith, room-enough e, length-append colours rest, list-length (shownIn site (next .core)) count, length-drop count buffer)
   buffer-length-for (Refused number place) e = refl
 
-colours-for : (b old : List ℕ) (inputs : ℕ) (buffer : List ℕ) (t : Bool) → length (if t then timedBufferOf b (timedDecoded old) inputs buffer else buffer) ≡ length buffer
-unfolding timedBufferOf
-colours-for b old inputs buffer true = buffer-length-for b (timedDecoded old) inputs buffer (timedVerdict b (timedDecoded old) inputs (length buffer)) refl
-colours-for b old inputs buffer false = refl
-
-pub colours-length : (b old : List ℕ) (inputs : ℕ) (buffer : List ℕ) → length (coloursAfter b old inputs buffer) ≡ length buffer
-unfolding coloursAfter
-colours-length b old inputs buffer = colours-for b old inputs buffer (isTimed old)
+  pub colours-length : length (coloursAfter b old inputs buffer) ≡ length buffer
+  unfolding coloursAfter
+  colours-length = buffer-length-for (stepChecks b old inputs (length buffer)) refl
 
 -- ── Bytes written from a place on ──
 

@@ -6,7 +6,7 @@ use mathlib.Core.Path.{_≡_}
 use lib.ListN.{length, set, take, replicate}
 use Rattle.rules.specs.Junctions.{junction, slower}
 use Rattle.rules.specs.Kept.{freshKept}
-use Rattle.rules.specs.TimedCases.{ruledBy}
+use Rattle.rules.specs.CallCases.{AllHold, ruledBy}
 use Rattle.state_timed.specs.TimedLayout.{timedBytes, timedEncoded}
 use Rattle.board_answers.specs.Answers.{packed}
 use Rattle.cabinet_records.specs.declared.Record.{Record}
@@ -140,9 +140,5 @@ cases =
     ∷ answering retimedRow redOutputs (stepSite 0 0 ∷ []) (packed 0 460 ∷ [])
     ∷ []
 
-abbrev pub AllHold : List Case → Type 0
-AllHold [] = Unit {0}
-AllHold (c ∷ cases) = Holds c × AllHold cases
-
 unfoldable pub CabinetCasesHold : Type 0
-CabinetCasesHold = AllHold cases
+CabinetCasesHold = AllHold Holds cases

@@ -6,14 +6,13 @@ use lib.ListN.{getD}
 use Rattle.rules.specs.declared.site.Site.{Site}
 use Rattle.rules.specs.declared.state.KeptState.{KeptState}
 use Rattle.rules.specs.declared.state.Movement.{Movement}
-use Rattle.rules.specs.declared.state.TimedState.{TimedState}
 use Rattle.laws.specs.Folds.{if_then_else_}
 use Rattle.rules.specs.Site.{phaseTimes, ring}
 use Rattle.rules.specs.IntervalTable.{isRunning, isWalkOrFirst, isHeld}
 use Rattle.rules.specs.State.{idle}
 use Rattle.rules.specs.Demands.{calls, nextAfter}
 use Rattle.rules.specs.Kept.{isKept}
-use Rattle.rules.specs.Timed.{keptOf}
+use Rattle.rules.specs.Timed.{TimedState, keptOf}
 use Rattle.panel_text.specs.declared.Reason.{Reason}
 use Rattle.panel_text.specs.Text.{line}
 use Rattle.panel_line.specs.Reasons.{reasonsBy}

@@ -1,21 +1,18 @@
 // Why the phase of a state in running holds.
-ghost use Prim.Native.Nat.{_<_};
 ghost use mathlib.Core.Path.{_≡_};
 ghost use Rattle.laws.specs.Folds.{setOf};
-ghost use Rattle.rules.specs.Timed.{keptOf};
-ghost use Rattle.panel_line.specs.Reasons.{lineOf};
-ghost use Rattle.panel_reasons.specs.PanelLine.{noOther, walkingAmong, panelLine};
-ghost use Rattle.panel_reasons.specs.Holding.{Holding};
+ghost use Rattle.panel_reasons.specs.PanelLine.{noOther, walkingAmong};
+ghost use Rattle.panel_reasons.specs.Holding.{Holding, Tells};
 use base_bytes::sets;
 use panel_line::Why;
 use rules::site::Site;
+use rules::state::KeptState;
 use rules::state::Movement;
-use rules::state::TimedState;
 
 // Whether no other phase is in the kept set or has a call. The phase itself is running, so no call of it counts.
-fn no_other(site: Site, state: TimedState, inputs: u64) -> bool
+fn no_other(site: Site, state: KeptState, inputs: u64) -> bool
     requires { ⌜ Holding site state ⌝ }
-    ensures { λ r. ⌜ r ≡ noOther site (keptOf state) inputs ⌝ }
+    ensures { λ r. ⌜ r ≡ noOther site state inputs ⌝ }
 {
     let phase = state.core.position.phase;
     let size = site.size;
@@ -44,17 +41,17 @@ fn walking(movements: [Movement; 8]) -> u8
     set
 }
 
-// What the line says of the state.
-pub fn why_of(site: Site, state: TimedState, inputs: u64) -> Why
+// What the line says of the state. The site has the times that rule in it.
+pub fn why_of(site: Site, state: KeptState, inputs: u64) -> Why
     requires { ⌜ Holding site state ⌝ }
-    ensures { λ r. ⌜ (lineOf r ≡ panelLine site state inputs) × (r .phase < 7) ⌝ }
+    ensures { λ r. ⌜ Tells site state inputs r ⌝ }
 {
     let core = state.core;
     let phase = core.position.phase;
     let counts = core.counts;
     let movements = core.movements;
-    let ruling = state.ruling;
-    let own = step_counts::phase_times(ruling, phase);
+    let times = site.times;
+    let own = step_counts::phase_times(times, phase);
     let left = own.maximum - counts.maximum;
     Why {
         phase,

@@ -9,10 +9,9 @@ use lib.Dec.{leb, eqb}
 use native.Mathlib.Omega.{arith}
 use borrow.Author.Tests.{eqb-true}
 use Rattle.rules.specs.declared.answer.Verdict.{Verdict}
-use Rattle.rules.specs.declared.state.TimedState.{TimedState}
 use Rattle.rules.specs.Personality.{verdictOf}
 use Rattle.rules.specs.Site.{siteOf}
-use Rattle.rules.specs.Timed.{timedValid}
+use Rattle.rules.specs.Timed.{TimedState, timedValid}
 use Rattle.rules.specs.Call.{checksBy}
 use Rattle.rules.specs.TimedCall.{timedVerdict, retimeVerdict}
 use Rattle.rules.specs.Lookup.{lookupVerdict}

@@ -11,18 +11,16 @@ use lib.ListN.{length}
 use native.Mathlib.Omega.{arith}
 use Rattle.rules.specs.declared.answer.Verdict.{Verdict}
 use Rattle.rules.specs.declared.answer.Verdict.the-variants.{Accepted, Refused}
-use Rattle.rules.specs.declared.state.TimedState.{TimedState}
 use Rattle.rules.specs.Limits.{phaseSettings, walkSettings, earlySetting}
 use Rattle.laws.specs.Folds.{if_then_else_}
 use Rattle.rules.specs.Verdicts.{_orElse_, refuseIf, firstOf}
 use Rattle.rules.specs.Personality.{siteKind, editionOf, bodyAt, bodyLength, recordAt, phaseCount, groupCount, siteHead, phasesHead, groupsHead, conflictsHead, detectorsHead, pedestriansHead, movementCount, detectorCount, pastSection, earlyHead, hasEarly, orderHead, hasOrder, endOf, sectionAt, timeAt, timesAt, siteSection, timeRecords, timedSection, phasesSection, groupRecord, groupsSection, conflictsSection, detectorRecord, detectorsSection, pedestriansSection, earlySection, orderSection, phaseWithoutCaller, earlyMissing, leftOver, afterPedestrians, verdictOf}
 use Rattle.rules.specs.Site.{siteOf}
-use Rattle.rules.specs.Kept.{keptValid}
-use Rattle.rules.specs.Timed.{timedValid}
+use Rattle.rules.specs.Timed.{TimedState, timedValid}
 use Rattle.rules.specs.Call.{stepVerdict, checksBy}
 use Rattle.rules.specs.TimedCall.{retimeChecksBy, retimeVerdict}
-use Rattle.rules.specs.Laws.{readingNumber, stepNumber, sectionLength, greatestLength, AcceptedIsShort, PlaceIn, Written, RefusalIsWritten}
-use Rattle.rules.specs.TimedLaws.{retimeNumber, TimedRefusalIsWritten, RetimeRefusalIsWritten}
+use Rattle.rules.specs.Laws.{readingNumber, stepNumber, sectionLength, greatestLength, AcceptedIsShort, PlaceIn, Written}
+use Rattle.rules.specs.TimedLaws.{retimeNumber, RefusalIsWritten, RetimeRefusalIsWritten}
 use Rattle.rules.proofs.Verdicts.{refused-not-accepted, or-refused, refuse-failed, first-refused}
 use Rattle.proof_acceptance.proofs.Sections.{SiteAccepted, GroupsAccepted, DetectorsAccepted, PedestriansAccepted, EarlyAccepted, OrderAccepted, records-held, record-within, detectors-held, site-accepted, phases-accepted, groups-accepted, conflicts-accepted, detectors-accepted, pedestrians-accepted, early-accepted, order-accepted, sections-accepted}
 
@@ -266,11 +264,7 @@ call-written b isValid inputs room =
 
 pub refusal-is-written : RefusalIsWritten
 unfolding RefusalIsWritten checksBy
-refusal-is-written b s inputs room = call-written b (keptValid (siteOf b) s) inputs room
-
-pub timed-refusal-is-written : TimedRefusalIsWritten
-unfolding TimedRefusalIsWritten checksBy
-timed-refusal-is-written b s inputs room = call-written b (timedValid (siteOf b) s) inputs room
+refusal-is-written b s inputs room = call-written b (timedValid (siteOf b) s) inputs room
 
 -- ── A retiming call: both personalities, 13 and 26 ──
 

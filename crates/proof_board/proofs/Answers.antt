@@ -11,13 +11,12 @@ use lib.Dec.{eqb}
 use Rattle.rules.specs.declared.answer.Outcome.the-variants.{Stepped, StepRefused}
 use Rattle.rules.specs.declared.answer.Verdict.{Verdict}
 use Rattle.rules.specs.declared.answer.Verdict.the-variants.{Accepted, Refused}
-use Rattle.rules.specs.declared.state.TimedState.{TimedState}
 use Rattle.rules.specs.Verdicts.{reportOf, stepReportOf, waitOf}
 use Rattle.rules.specs.Personality.{verdictOf}
 use Rattle.rules.specs.Site.{siteOf}
-use Rattle.rules.specs.Timed.{timedValid}
+use Rattle.rules.specs.Timed.{TimedState, timedValid}
 use Rattle.rules.specs.Call.{boundFor, checksBy}
-use Rattle.rules.specs.TimedCall.{timedVerdict, timedAnswerOf, retimeVerdict}
+use Rattle.rules.specs.TimedCall.{timedVerdict, retimeVerdict}
 use Rattle.rules.specs.TimedLaws.{retimeNumber}
 use Rattle.laws.proofs.Booleans.{or-cases}
 use Rattle.board_answers.specs.Answers.{packed, packedVerdict, packedOutcome}
@@ -76,11 +75,11 @@ module _ (b : List ℕ) where
   read-back = verdict-for (verdictOf b) (personality-refusals b Fits (λ number place known l. number-fits b number place (inl (known, l))))
 
   pub outcome-back :
-      (s : TimedState) (inputs room : ℕ) →
-      outcomeIn (packedOutcome (timedAnswerOf b s inputs room .outcome)) ≡ timedAnswerOf b s inputs room .outcome
-  unfolding timedAnswerOf checksBy
-  outcome-back s inputs room =
-      outcome-for (timedVerdict b s inputs room) _
+      (s : TimedState) (inputs room wait : ℕ) →
+      outcomeIn (packedOutcome (boundFor (timedVerdict b s inputs room) wait)) ≡ boundFor (timedVerdict b s inputs room) wait
+  unfolding checksBy
+  outcome-back s inputs room wait =
+      outcome-for (timedVerdict b s inputs room) wait
       (call-refusals b Fits (λ number place known l. number-fits b number place (inl (known, l))) (timedValid (siteOf b) s) inputs room
       (λ number known. number-fits b number 0 (inr (known, refl))))
 

@@ -1,6 +1,6 @@
 -- States that fit the machine's types. The numbers of a valid state of a sound site are within the table of limits or below the counts, and a step
 -- makes its sets and its row of movements anew, at their sizes. The times of a state are those of before, those of a personality, or none.
-use Prim.Native.Nat.{ℕ, _-_, _≤_, _<_}
+use Prim.Native.Nat.{ℕ, _≤_, _<_}
 use mathlib.Core.Bool.{Bool, true, false, not, _&&_}
 use mathlib.Core.List.{List}
 use mathlib.Core.Path.{_≡_, refl}
@@ -13,21 +13,20 @@ use Rattle.rules.specs.declared.site.Site.{Site}
 use Rattle.rules.specs.declared.state.Held.{Held}
 use Rattle.rules.specs.declared.state.Held.the-variants.{Nothing, Phase}
 use Rattle.rules.specs.declared.state.KeptState.{KeptState}
-use Rattle.rules.specs.declared.state.TimedState.{TimedState}
 use Rattle.laws.specs.Folds.{if_then_else_}
 use Rattle.rules.specs.Verdicts.{_orElse_, refuseIf}
 use Rattle.rules.specs.Personality.{verdictOf}
 use Rattle.rules.specs.Site.{timesIn, siteOf}
 use Rattle.rules.specs.IntervalTable.{isLeaving, phaseHeld}
 use Rattle.rules.specs.State.{fresh, movement, targetValid, previousValid, valid}
-use Rattle.rules.specs.Step.{steppedBy}
+use Rattle.rules.specs.Step.{steppedInto}
 use Rattle.rules.specs.Kept.{freshKept, keptValid}
-use Rattle.rules.specs.Timed.{keptOf, ruledSite, noneWaiting, freshTimed, timedValid, takesOver, rulingNext, timedStepped}
+use Rattle.rules.specs.Timed.{TimedState, keptOf, ruledSite, noneWaiting, freshTimed, timedValid, takesOver, rulingNext, timedStepped}
 use Rattle.rules.specs.Interval.{locksLeft}
 use Rattle.rules.specs.Walks.{walksBegun, buttonsLeft}
 use Rattle.rules.specs.TimedCall.{differsElsewhere, retimeChecksBy, retimeVerdict, retimed}
 use Rattle.rules.specs.Laws.{Sound, AcceptedIsSound}
-use Rattle.rules.specs.TimedLaws.{FreshTimedIsValid, TimedStepKeepsValid, RetimeKeepsValid}
+use Rattle.rules.specs.TimedLaws.{FreshIsValid, StepKeepsValid, RetimeKeepsValid}
 use Rattle.laws.proofs.Booleans.{and-left, and-right}
 use Rattle.laws.proofs.Lists.{list-length}
 use Rattle.laws.proofs.ByteSets.{set-small}
@@ -40,7 +39,7 @@ use Rattle.proof_runs.proofs.ValidStates.{state-told}
 use Rattle.proof_acceptance.proofs.Acceptance.{accepted-is-sound}
 use Rattle.proof_change.proofs.Admitted.{admitted-is-sound}
 use Rattle.proof_change.proofs.Timed.{timed-told, waiting-admitted}
-use Rattle.proof_guarantees.proofs.TimedAccepted.{fresh-timed-is-valid, timed-step-keeps-valid, retime-keeps-valid}
+use Rattle.proof_guarantees.proofs.Accepted.{fresh-is-valid, step-keeps-valid, retime-keeps-valid}
 use Rattle.proof_board.proofs.ProperTimes.{none-fit, read-fit}
 use Rattle.proof_board.specs.ProperStates.{FreshTimedIsProper, TimedStepIsProper, RetimeIsProper}
 
@@ -89,11 +88,11 @@ kept-fits site sound s validState locks buttons movements kept =
 -- ── Timed states ──
 
 pub fresh-timed-is-proper : FreshTimedIsProper
-unfolding FreshTimedIsProper ProperTimed FreshTimedIsValid AcceptedIsSound freshTimed freshKept fresh siteOf
+unfolding FreshTimedIsProper ProperTimed FreshIsValid AcceptedIsSound freshTimed freshKept fresh siteOf
 fresh-timed-is-proper b known =
     let site = siteOf b in
     let sound = accepted-is-sound b known in
-    let told = timed-told site (freshTimed site) (fresh-timed-is-valid b known) in
+    let told = timed-told site (freshTimed site) (fresh-is-valid b known) in
     let core = kept-fits site sound freshKept (told .rest) (omega arith) (omega arith) refl (omega arith) in
     (core, (read-fit site sound b known (told .ruling), none-fit))
 
@@ -109,11 +108,11 @@ module _ (s : TimedState) (proper : ProperTimed s) where
   waiting-fits false = proper .1 .1
 
 pub timed-step-is-proper : TimedStepIsProper
-unfolding TimedStepIsProper ProperTimed TimedStepKeepsValid AcceptedIsSound timedStepped rulingNext steppedBy locksLeft walksBegun buttonsLeft
+unfolding TimedStepIsProper ProperTimed StepKeepsValid AcceptedIsSound timedStepped rulingNext steppedInto locksLeft walksBegun buttonsLeft
 timed-step-is-proper b known s validState proper inputs wired =
     let site = siteOf b in
     let next = timedStepped site s inputs in
-    let told = timed-told site next (timed-step-keeps-valid b known s validState inputs wired) in
+    let told = timed-told site next (step-keeps-valid b known s validState inputs wired) in
     let sound = admitted-is-sound site (next .ruling) (accepted-is-sound b known) (told .ruling) in (
       kept-fits (ruledSite site next) sound (keptOf next) (told .rest) (set-small _) (set-small _) (list-length _ 8) (set-small _),
       (ruling-fits s proper (takesOver site s), waiting-fits s proper (takesOver site s)),

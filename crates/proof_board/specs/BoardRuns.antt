@@ -11,8 +11,9 @@ use Rattle.rules.specs.declared.answer.Verdict.{Verdict}
 use Rattle.rules.specs.declared.answer.Verdict.the-variants.{Accepted, Refused}
 use Rattle.laws.specs.Folds.{if_then_else_}
 use Rattle.rules.specs.Personality.{verdictOf}
+use Rattle.rules.specs.Runs.{Controller, byRules, Call, Taken, takenFrom, OfEveryRun}
 use Rattle.rules.specs.DemandThree.{DemandThreeOf}
-use Rattle.rules.specs.TimedDemandThree.{TimedController, timed, Given, Made, madeFrom, OfEveryTimedRun, TimedDemandThreeOf}
+use Rattle.rules.specs.StepDemandThree.{StepDemandThreeOf}
 use Rattle.rules.specs.OnceEach.{OnceEachOf}
 use Rattle.rules.specs.PhaseWaits.{EveryWaitMetOf, EveryPlainWaitMetOf}
 use Rattle.state_timed.specs.TimedLayout.{timedBytes, timedDecoded}
@@ -33,26 +34,23 @@ verdictIn answer = if eqb (answer % 256) 0 then Accepted else Refused (answer % 
 -- The library as a controller, its state the caller's bytes: what `willowera_read`, `willowera_step` and `willowera_retime` answer, and what
 -- `willowera_fresh`, `willowera_step` and `willowera_retime` leave in a buffer, by their contracts. What is seen of a state is what its bytes
 -- hold.
-unfoldable pub board : List ℕ → TimedController (List ℕ)
+unfoldable pub board : List ℕ → Controller (List ℕ)
 board buffer =
     record {
-      stepping =
-          record {
-            verdict = λ b. verdictIn (packedVerdict (verdictOf b));
-            fresh = λ b. freshAfter b buffer;
-            outcome = λ b state inputs room. outcomeIn (stepAnswer b state inputs room);
-            next = stateAfter;
-            buffer = coloursAfter;
-            seen = λ state. timedDecoded state .core;
-          };
-      ruling = λ site state. timedDecoded state .ruling;
-      waits = λ state. timedDecoded state .waiting .present;
+      verdict = λ b. verdictIn (packedVerdict (verdictOf b));
+      fresh = λ b. freshAfter b buffer;
+      outcome = λ b state inputs room. outcomeIn (stepAnswer b state inputs room);
+      next = stateAfter;
+      buffer = coloursAfter;
       retimeVerdict = λ b state new. verdictIn (retimeAnswer b state new);
       retimed = retimeAfter;
+      seen = λ state. timedDecoded state .core;
+      ruling = λ state. timedDecoded state .ruling;
+      timesWait = λ state. timedDecoded state .waiting .present;
     }
 
 -- a claim about the library with every buffer of the length of a state, whatever bytes it has
-abbrev pub OfEveryBuffer : (TimedController (List ℕ) → Type 0) → Type 0
+abbrev pub OfEveryBuffer : (Controller (List ℕ) → Type 0) → Type 0
 OfEveryBuffer Claim = (buffer : List ℕ) → length buffer ≡ timedBytes → Claim (board buffer)
 
 -- these are the buffers that `willowera_fresh` accepts with an accepted personality
@@ -71,24 +69,24 @@ BoardRunsAlike =
     (λ library.
     (b : List ℕ) →
     verdictOf b ≡ Accepted →
-    (calls : List Given) →
-    madeFrom library b (library .stepping .fresh b) calls ≡ madeFrom timed b (timed .stepping .fresh b) calls)
+    (calls : List Call) →
+    takenFrom library b (library .fresh b) calls ≡ takenFrom byRules b (byRules .fresh b) calls)
 
 -- so what holds of every run of the rules holds of every run of the library
 unfoldable pub BoardRunsHold : Type 1
 BoardRunsHold =
-    (Claim : List ℕ → List Made → Type 0) →
-    OfEveryTimedRun timed Claim →
-    OfEveryBuffer (λ library. OfEveryTimedRun library Claim)
+    (Claim : List ℕ → List Taken → Type 0) →
+    OfEveryRun byRules Claim →
+    OfEveryBuffer (λ library. OfEveryRun library Claim)
 
 -- ── The demand ──
 
 unfoldable pub BoardDemandThree : Type 0
-BoardDemandThree = OfEveryBuffer (λ library. TimedDemandThreeOf library)
+BoardDemandThree = OfEveryBuffer (λ library. DemandThreeOf library)
 
--- the demand as `DemandThreeOf` states it, for lists of step calls alone
-unfoldable pub BoardDemandThreeBefore : Type 0
-BoardDemandThreeBefore = OfEveryBuffer (λ library. DemandThreeOf (library .stepping))
+-- for lists of step calls alone
+unfoldable pub BoardStepDemandThree : Type 0
+BoardStepDemandThree = OfEveryBuffer (λ library. StepDemandThreeOf library)
 
 -- while a demand waits, no phase starts twice
 unfoldable pub BoardOnceEach : Type 0

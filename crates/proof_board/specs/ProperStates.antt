@@ -4,10 +4,9 @@ use mathlib.Core.Bool.{true, false}
 use mathlib.Core.List.{List}
 use mathlib.Core.Path.{_≡_}
 use Rattle.rules.specs.declared.answer.Verdict.the-variants.{Accepted}
-use Rattle.rules.specs.declared.state.TimedState.{TimedState}
 use Rattle.rules.specs.Personality.{verdictOf}
 use Rattle.rules.specs.Site.{timesIn, siteOf}
-use Rattle.rules.specs.Timed.{freshTimed, timedValid, timedStepped}
+use Rattle.rules.specs.Timed.{TimedState, freshTimed, timedValid, timedStepped}
 use Rattle.rules.specs.Call.{strayInput}
 use Rattle.rules.specs.TimedCall.{retimeVerdict, retimed}
 use Rattle.state_timed.specs.TimedLayout.{ProperTimed}

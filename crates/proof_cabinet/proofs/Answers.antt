@@ -11,23 +11,22 @@ use lib.Dec.{ltb, eqb}
 use lib.ListN.{length, take, drop, length-take, length-drop}
 use Rattle.rules.specs.declared.answer.Verdict.{Verdict}
 use Rattle.rules.specs.declared.answer.Verdict.the-variants.{Accepted, Refused}
-use Rattle.laws.specs.Folds.{if_then_else_}
 use Rattle.rules.specs.Verdicts.{_orElse_, refuseIf, reportOf, stepReportOf, waitOf}
 use Rattle.rules.specs.Personality.{verdictOf}
 use Rattle.rules.specs.Site.{siteOf}
-use Rattle.rules.specs.Timed.{ruledSite, timedValid, timedStepped}
+use Rattle.rules.specs.Timed.{ruledSite}
 use Rattle.rules.specs.WaitBound.{waitBound}
-use Rattle.rules.specs.Call.{strayInput, stepVerdict, boundFor, checksBy}
-use Rattle.rules.specs.TimedCall.{timedVerdict, timedAnswerOf, differsElsewhere, retimeChecksBy, retimeVerdict}
+use Rattle.rules.specs.Call.{strayInput, stepVerdict, boundFor}
+use Rattle.rules.specs.TimedCall.{differsElsewhere}
 use Rattle.rules.specs.Laws.{readingNumber, stepNumber, PlaceIn, AcceptedIsSound}
-use Rattle.rules.specs.TimedLaws.{retimeNumber, RetimeRefusalIsWritten}
+use Rattle.rules.specs.TimedLaws.{retimeNumber}
 use Rattle.laws.proofs.Booleans.{or-cases}
-use Rattle.state_timed.specs.TimedLayout.{isTimed, timedDecoded}
+use Rattle.state_valid.specs.StateOf.{isStateOf}
 use Rattle.board_answers.specs.Answers.{packed, packedVerdict, packedOutcome}
-use Rattle.board_step.specs.StepCall.{stepAnswer}
-use Rattle.board_retime.specs.RetimeCall.{retimeVerdictOn, retimeAnswer}
+use Rattle.board_step.specs.StepCall.{stepChecks, steppedIn, stepAnswer}
+use Rattle.board_retime.specs.RetimeCall.{retimeChecks, retimeAnswer}
 use Rattle.proof_acceptance.proofs.Acceptance.{accepted-is-sound}
-use Rattle.proof_acceptance.proofs.Refusals.{Refusals, if-refusals, or-refusals, personality-refusals, call-refusals, retime-refusal-is-written}
+use Rattle.proof_acceptance.proofs.Refusals.{Refusals, if-refusals, or-refusals, personality-refusals, call-refusals}
 use Rattle.proof_acceptance.proofs.Places.{number-fits}
 use Rattle.proof_board.proofs.Answers.{retime-number-fits}
 use Rattle.cabinet_records.specs.declared.Record.{Record}
@@ -35,7 +34,7 @@ use Rattle.cabinet_records.specs.Cabinet.{outputCount, personalityOf, recordOf,
 use Rattle.cabinet_records.specs.CabinetLaws.{personalityNamed}
 use Rattle.cabinet_records.proofs.Checks.{held-read, held-within}
 use Rattle.proof_cabinet.specs.Operations.{retiming}
-use Rattle.proof_cabinet.specs.CabinetAnswers.{cabinetNumber, CabinetWritten, AnswerIsWritten, RetimingWritten, RetimingAnswerIsWritten, holdsState, steppingVerdict, SteppingAnswers, retimingVerdict, RetimingAnswers}
+use Rattle.proof_cabinet.specs.CabinetAnswers.{cabinetNumber, CabinetWritten, AnswerIsWritten, RetimingWritten, RetimingAnswerIsWritten, steppingVerdict, SteppingAnswers, retimingVerdict, RetimingAnswers}
 
 -- ── Answers, whatever is allowed of a number of one byte and a place ──
 
@@ -108,22 +107,11 @@ taking-told row out k =
 
 -- a step on bytes
 module _ (b s : List ℕ) (inputs room : ℕ) where
-  step-for :
-      (t : Bool) →
-      ToldAnswer (CabinetWritten b)
-      (if t then packedOutcome (timedAnswerOf b (timedDecoded s) inputs room .outcome) else packedVerdict (verdictOf b orElse Refused 13 0))
-  unfolding timedAnswerOf checksBy refuseIf
-  step-for true =
-      outcome-told (CabinetWritten b) (cabinet-fits b) (timedVerdict b (timedDecoded s) inputs room) _
-      (call-refusals b (CabinetWritten b) (λ n p known l. inl (known, l)) (timedValid (siteOf b) (timedDecoded s)) inputs room
-      (λ n known. inr (rw known, refl)))
-  step-for false =
-      verdict-told (CabinetWritten b) (cabinet-fits b) (verdictOf b orElse Refused 13 0)
-      (or-told b (verdictOf b) (Refused 13 0) (read-told b) (check-told b true 13 refl))
-
   step-told : ToldAnswer (CabinetWritten b) (stepAnswer b s inputs room)
-  unfolding stepAnswer
-  step-told = step-for (isTimed s)
+  unfolding stepAnswer stepChecks
+  step-told =
+      outcome-told (CabinetWritten b) (cabinet-fits b) (stepChecks b s inputs room) _
+      (call-refusals b (CabinetWritten b) (λ n p known l. inl (known, l)) (isStateOf b s) inputs room (λ n known. inr (rw known, refl)))
 
 returned-told :
     (b : List ℕ) (v : Verdict) (done : Returned (List Record)) (row : List Record) (out : List ℕ) →
@@ -155,17 +143,19 @@ module _ (b old new : List ℕ) where
       ⊎-elim (λ (l : PlaceIn b p). number-fits b n p (inl (w .0, l)) .1) (λ (l : PlaceIn new p). number-fits new n p (inl (w .0, l)) .1) (w .1))
       (λ (w : (retimeNumber n ≡ true) × (p ≡ 0)). retime-number-fits n (w .0) .1)
 
-  retime-for : (t : Bool) → Refusals (RetimingWritten b new) (if t then retimeVerdict b (timedDecoded old) new else (verdictOf b orElse Refused 13 0))
-  unfolding RetimeRefusalIsWritten refuseIf
-  retime-for true = retime-refusal-is-written b new (timedDecoded old)
-  retime-for false =
-      or-refusals (RetimingWritten b new) (verdictOf b) (Refused 13 0)
-      (personality-refusals b (RetimingWritten b new) (λ n p known l. inl (known, inl l)))
-      (λ e. if-refusals (RetimingWritten b new) true 13 0 (inr (refl, refl)))
-
   retime-told : ToldAnswer (RetimingWritten b new) (retimeAnswer b old new)
-  unfolding retimeAnswer retimeVerdictOn
-  retime-told = verdict-told (RetimingWritten b new) retiming-fits (retimeVerdictOn b old new) (retime-for (isTimed old))
+  unfolding retimeAnswer retimeChecks
+  retime-told =
+      verdict-told (RetimingWritten b new) retiming-fits (retimeChecks b old new)
+      (or-refusals (RetimingWritten b new) (verdictOf b) _
+      (personality-refusals b (RetimingWritten b new) (λ n p known l. inl (known, inl l)))
+      (λ e.
+      or-refusals (RetimingWritten b new) (refuseIf (not (isStateOf b old)) 13 0) _
+      (if-refusals (RetimingWritten b new) (not (isStateOf b old)) 13 0 (inr (refl, refl)))
+      (λ f.
+      or-refusals (RetimingWritten b new) (verdictOf new) (refuseIf (differsElsewhere b new) 26 0)
+      (personality-refusals new (RetimingWritten b new) (λ n p known l. inl (known, inr l)))
+      (λ g. if-refusals (RetimingWritten b new) (differsElsewhere b new) 26 0 (inr (refl, refl))))))
 
 pub retiming-answer-is-written : RetimingAnswerIsWritten
 unfolding RetimingAnswerIsWritten retiming
@@ -196,20 +186,12 @@ module _ (row : List Record) (out : List ℕ) (k : ℕ) (held : heldVerdict row 
   checks isValid inputs =
       refuseIf (not isValid) 13 0 orElse refuseIf (strayInput (siteOf b) inputs) 15 0 orElse refuseIf (isShort out) 14 0
 
-  no-state : (inputs wait : ℕ) → packedVerdict (verdictOf b orElse Refused 13 0) ≡ packedOutcome (boundFor (checks false inputs) wait)
-  unfolding _orElse_ refuseIf boundFor packedVerdict packedOutcome reportOf stepReportOf waitOf
-  no-state inputs wait = rw (held-read row k held)
-
   state-for :
-      (inputs : ℕ) (t : Bool) →
-      let s = timedDecoded (r .state) in
-      let site = siteOf b in
-      let room = length (ownOutputs r out) in
-      (if t then packedOutcome (timedAnswerOf b s inputs room .outcome) else packedVerdict (verdictOf b orElse Refused 13 0))
-      ≡ packedOutcome (boundFor (checks (t && timedValid site s) inputs) (waitBound (ruledSite site (timedStepped site s inputs))))
-  unfolding timedAnswerOf checksBy stepVerdict _orElse_ outputsOf
-  state-for inputs true = rw (held-read row k held, room-for (isShort out) refl)
-  state-for inputs false = no-state inputs _
+      (inputs : ℕ) →
+      stepAnswer b (r .state) inputs (length (ownOutputs r out))
+      ≡ packedOutcome (boundFor (checks (isStateOf b (r .state)) inputs) (waitBound (ruledSite (siteOf b) (steppedIn b (r .state) inputs))))
+  unfolding stepAnswer stepChecks stepVerdict _orElse_ outputsOf
+  state-for inputs = rw (held-read row k held, room-for (isShort out) refl)
 
 returned-answer :
     (v w : Verdict) (wait : ℕ) (done : Returned (List Record)) (row : List Record) (out : List ℕ) →
@@ -220,26 +202,11 @@ returned-answer Accepted w wait done row out h = h refl
 returned-answer (Refused number at) w wait done row out h = rw (add-zero at)
 
 pub stepping-answers : SteppingAnswers
-unfolding SteppingAnswers steppingVerdict holdsState stepping stepped stepAnswer
-stepping-answers row out k inputs =
-    returned-answer (heldVerdict row k) _ _ _ row out (λ held. state-for row out k held inputs (isTimed (recordOf row k .state)))
+unfolding SteppingAnswers steppingVerdict stepping stepped steppedIn
+stepping-answers row out k inputs = returned-answer (heldVerdict row k) _ _ _ row out (λ held. state-for row out k held inputs)
 
 -- ── The order of new times ──
 
-order-for :
-    (b old new : List ℕ) (t : Bool) →
-    let s = timedDecoded old in
-    (if t then retimeVerdict b s new else (verdictOf b orElse Refused 13 0))
-    ≡ (verdictOf b
-    orElse refuseIf (not (t && timedValid (siteOf b) s)) 13 0
-    orElse verdictOf new
-    orElse refuseIf (differsElsewhere b new) 26 0)
-unfolding retimeChecksBy _orElse_ refuseIf
-order-for b old new true = refl
-order-for b old new false = refl
-
 pub retiming-answers : RetimingAnswers
-unfolding RetimingAnswers retimingVerdict holdsState retiming retimeAnswer retimeVerdictOn
-retiming-answers row out k new =
-    let r = recordOf row k in
-    ap packedVerdict (order-for (personalityOf r) (r .state) new (isTimed (r .state)))
+unfolding RetimingAnswers retimingVerdict retiming retimeAnswer retimeChecks
+retiming-answers row out k new = refl

@@ -17,7 +17,7 @@ use Rattle.laws.proofs.Folds.{any-false}
 use Rattle.cabinet_records.specs.declared.Record.{Record}
 use Rattle.cabinet_records.specs.Cabinet.{recordCount, isFree, personalityOf, freeRecord, holding, withState, recordOf, outputsOf, isAccepted, hasOutputs, meet, meetsRecord, overlaps, outputsIn, freshBytes, placingVerdict, heldVerdict, takingVerdict, Returned, returnedFor, placing, stepped, stepping, takingOut, Act, placeSite, stepSite, takeOut, doing}
 use Rattle.cabinet_records.proofs.Checks.{row-length, placing-there, placing-clear}
-use Rattle.rules.specs.TimedDemandThree.{Given}
+use Rattle.rules.specs.Runs.{Call}
 use Rattle.proof_cabinet.specs.Operations.{retiming, Operation, cabinetAct, retimeSite, operating}
 use Rattle.proof_cabinet.specs.CabinetRuns.{onRecords, CabinetCall, OwnCall, steps, retimes, nothing, callOn, aloneFor, aloneAt, stateAlone, Clear, Apart, StaysIn, rowAfter, PlacedHolds, PlacedApart}
 use Rattle.proof_cabinet.proofs.Placed.{holding-personality, Placed, nextFor, own-personality, own-first, own-state, not-free, placed-next}
@@ -158,7 +158,7 @@ module _ (b : List ℕ) (k first : ℕ) (row : List Record) (s : List ℕ) (plac
 
 module _ (b : List ℕ) (k first : ℕ) where
   next-alone :
-      (s out : List ℕ) (rest : List Given) (call : OwnCall) →
+      (s out : List ℕ) (rest : List Call) (call : OwnCall) →
       stateAlone b (nextFor b k first s out call) rest ≡ stateAlone b s (aloneFor call (outputsIn out first (outputsOf b)) rest)
   unfolding stateAlone aloneFor
   next-alone s out rest (steps inputs) = refl

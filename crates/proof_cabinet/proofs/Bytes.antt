@@ -11,10 +11,11 @@ use lib.ListN.{length, set, replicate}
 use Rattle.laws.specs.Folds.{if_then_else_}
 use Rattle.rules.specs.Site.{siteOf}
 use Rattle.rules.specs.Colours.{red}
-use Rattle.rules.specs.TimedDemandThree.{Made, acceptedSteps, takens, TimedSafeRun, TimedDemandThree, TimedDemandThreeOf}
+use Rattle.rules.specs.Runs.{Taken, acceptedSteps}
+use Rattle.rules.specs.DemandThree.{SafeRun, DemandThree, DemandThreeOf}
 use Rattle.rules.specs.OnceEach.{OnceEach, OnceEachOf, RunsStartOnceEach}
 use Rattle.rules.specs.PhaseWaits.{WaitsMet, PlainWaitsMet, EveryWaitMetOf, EveryWaitMet, EveryPlainWaitMetOf, EveryPlainWaitMet}
-use Rattle.proof_guarantees.proofs.TimedDemandThree.{timed-demand-three}
+use Rattle.proof_guarantees.proofs.DemandThree.{demand-three}
 use Rattle.proof_guarantees.proofs.OnceEach.{runs-start-once-each}
 use Rattle.proof_guarantees.proofs.PhaseWaits.{every-wait-met, every-plain-wait-met}
 use Rattle.cabinet_records.specs.declared.Record.{Record}
@@ -166,12 +167,12 @@ cabinet-runs-hold-on-bytes Claim holds b out p k first e calls stays =
     (cabinet-runs-hold Claim holds (decodedRow b) out p k first e calls (begun-stays b out p k first calls stays))
 
 pub cabinet-demand-three-on-bytes : CabinetDemandThree onBytes
-unfolding CabinetDemandThree CabinetRunsHold TimedDemandThree TimedDemandThreeOf
-cabinet-demand-three-on-bytes = cabinet-runs-hold-on-bytes TimedSafeRun timed-demand-three
+unfolding CabinetDemandThree CabinetRunsHold DemandThree DemandThreeOf
+cabinet-demand-three-on-bytes = cabinet-runs-hold-on-bytes SafeRun demand-three
 
 pub cabinet-once-each-on-bytes : CabinetOnceEach onBytes
 unfolding CabinetOnceEach CabinetRunsHold RunsStartOnceEach OnceEachOf
-cabinet-once-each-on-bytes = cabinet-runs-hold-on-bytes (λ b made. OnceEach (siteOf b) (takens (acceptedSteps made))) runs-start-once-each
+cabinet-once-each-on-bytes = cabinet-runs-hold-on-bytes (λ b made. OnceEach (siteOf b) (acceptedSteps made)) runs-start-once-each
 
 pub cabinet-waits-met-on-bytes : CabinetWaitsMet onBytes
 unfolding CabinetWaitsMet CabinetRunsHold EveryWaitMet EveryWaitMetOf EveryPlainWaitMet EveryPlainWaitMetOf
@@ -210,4 +211,4 @@ placed-shows-on-bytes b out p k first e operations stays =
     ap (λ (l : List ℕ). outputsIn l first (outputsOf p)) last
     ∙ placed-shows (decodedRow b) out p k first e operations
     (subst (StaysIn onRecords k records) calls (begun-stays b out p k first (linked onBytes row shown operations) stays))
-    ∙ ap (λ (l : List Made). lastShown (replicate (outputsOf p) red) (acceptedSteps l)) (sym seen)
+    ∙ ap (λ (l : List Taken). lastShown (replicate (outputsOf p) red) (acceptedSteps l)) (sym seen)

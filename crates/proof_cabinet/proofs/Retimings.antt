@@ -25,7 +25,7 @@ use Rattle.rules.specs.Laws.{greatestLength}
 use Rattle.state_timed.specs.TimedLayout.{timedBytes, timedEncoded, timedDecoded}
 use Rattle.state_timed.proofs.TimedRoundTrips.{encoded-has-336}
 use Rattle.board_answers.specs.Answers.{packed, packedVerdict}
-use Rattle.board_retime.specs.RetimeCall.{retimeVerdictOn, retimeAnswer, retimeAfter}
+use Rattle.board_retime.specs.RetimeCall.{retimeChecks, retimeAnswer, retimeAfter}
 use Rattle.cabinet_records.specs.declared.Record.{Record}
 use Rattle.cabinet_records.specs.Cabinet.{recordCount, personalityOf, freeRecord, withState, recordOf, hasRecord, writtenAt}
 use Rattle.cabinet_records.specs.Layout.{firstAt, sizeAt, personalityAt, stateAt, recordForm, recordBytes, rowBytes, decodedRow}
@@ -48,7 +48,7 @@ module _ (b old new : List ℕ) where
 
   pub retimed-length : length old ≡ timedBytes → length (retimeAfter b old new) ≡ timedBytes
   unfolding retimeAfter
-  retimed-length e = length-for (retimeVerdictOn b old new) e
+  retimed-length e = length-for (retimeChecks b old new) e
 
   left-for : (v : Verdict) (next : List ℕ) → (packedVerdict v % 256 ≡ 0 → ⊥) → handedBack v next old ≡ old
   unfolding handedBack packedVerdict packed reportOf
@@ -58,7 +58,7 @@ module _ (b old new : List ℕ) where
   -- a refused call leaves them
   retimed-left : (retimeAnswer b old new % 256 ≡ 0 → ⊥) → retimeAfter b old new ≡ old
   unfolding retimeAnswer retimeAfter
-  retimed-left refused = left-for (retimeVerdictOn b old new) (timedEncoded (retimed (timedDecoded old) (timesIn new))) refused
+  retimed-left refused = left-for (retimeChecks b old new) (timedEncoded (retimed (timedDecoded old) (timesIn new))) refused
 
 -- ── A row of records ──
 

@@ -12,7 +12,8 @@ use Rattle.rules.specs.declared.answer.Verdict.the-variants.{Accepted, Refused}
 use Rattle.rules.specs.Verdicts.{refuseIf, reportOf}
 use Rattle.rules.specs.Personality.{verdictOf}
 use Rattle.rules.specs.Site.{siteOf}
-use Rattle.rules.specs.TimedDemandThree.{timed, Given, Made, stepMade, retimeMade, madeFrom, acceptedSteps, takens, TimedSafeRun, TimedDemandThree, TimedDemandThreeOf}
+use Rattle.rules.specs.Runs.{byRules, Call, Taken, stepTaken, retimeTaken, takenFrom, acceptedSteps}
+use Rattle.rules.specs.DemandThree.{SafeRun, DemandThree, DemandThreeOf}
 use Rattle.rules.specs.OnceEach.{OnceEach, OnceEachOf, RunsStartOnceEach}
 use Rattle.rules.specs.PhaseWaits.{WaitsMet, PlainWaitsMet, EveryWaitMetOf, EveryWaitMet, EveryPlainWaitMetOf, EveryPlainWaitMet}
 use Rattle.state_timed.specs.TimedLayout.{timedBytes, timedDecoded}
@@ -20,7 +21,7 @@ use Rattle.board_answers.specs.Answers.{packed, packedVerdict}
 use Rattle.board_step.specs.StepCall.{coloursAfter}
 use Rattle.proof_acceptance.proofs.Refusals.{Refusals, if-refusals, or-refusals, personality-refusals}
 use Rattle.proof_acceptance.proofs.Places.{number-fits}
-use Rattle.proof_guarantees.proofs.TimedDemandThree.{timed-demand-three}
+use Rattle.proof_guarantees.proofs.DemandThree.{demand-three}
 use Rattle.proof_guarantees.proofs.OnceEach.{runs-start-once-each}
 use Rattle.proof_guarantees.proofs.PhaseWaits.{every-wait-met, every-plain-wait-met}
 use Rattle.proof_board.specs.BoardRuns.{outcomeIn, verdictIn, board, BoardRunsAlike}
@@ -92,17 +93,17 @@ module _ (b : List ℕ) (k first : ℕ) (buffer : List ℕ) where
       (placed : Placed b k first row s)
       (out : List ℕ)
       (done : Returned (List Record))
-      (later : List Made)
-      (rest : List Given)
+      (later : List Taken)
+      (rest : List Call)
     where
       same-call :
           (call : OwnCall) →
           Did k row out call done →
           Placed b k first (done .row) (nextFor b k first s out call) →
-          later ≡ madeFrom (board buffer) b (nextFor b k first s out call) rest →
+          later ≡ takenFrom (board buffer) b (nextFor b k first s out call) rest →
           seenFor call (recordOf row k) (recordOf (done .row) k) (done .answer) out (done .outputs) later
-          ≡ madeFrom (board buffer) b s (aloneFor call (outputsIn out first (outputsOf b)) rest)
-      unfolding seenFor aloneFor madeFrom board
+          ≡ takenFrom (board buffer) b s (aloneFor call (outputsIn out first (outputsOf b)) rest)
+      unfolding seenFor aloneFor takenFrom board
       same-call (steps inputs) made next same =
           let n = outputsOf b in
           let part = outputsIn out first n in
@@ -115,32 +116,29 @@ module _ (b : List ℕ) (k first : ℕ) (buffer : List ℕ) where
           ∙ ap (λ (d : Returned (List Record)). outputsIn (d .outputs) first n) alone
           ∙ shown-written out first n (placed .within) (coloursAfter b s inputs part) (colours-length b s inputs part) in
           λ i.
-          stepMade
+          stepTaken
           (record {
-            taken =
-                record {
-                  before = before i .core;
-                  inputs = inputs;
-                  room = length (own out i);
-                  outcome = outcomeIn (alone i .answer);
-                  after = after i .core;
-                  shown = shown i;
-                };
+            before = before i .core;
+            inputs = inputs;
+            room = length (own out i);
+            outcome = outcomeIn (alone i .answer);
+            after = after i .core;
+            shown = shown i;
             ruling = after i .ruling;
             changed = before i .waiting .present && not (after i .waiting .present);
           })
           ∷ same i
       same-call (retimes new) made next same =
           let alone = made ∙ own-retimed b k first row s placed out new in
-          λ i. retimeMade new (verdictIn (alone i .answer)) ∷ same i
+          λ i. retimeTaken new (verdictIn (alone i .answer)) ∷ same i
       same-call nothing made next same = same
 
   same-calls :
       (calls : List CabinetCall) (s : List ℕ) (row : List Record) →
       Placed b k first row s →
       StaysIn onRecords k row calls →
-      seenAt onRecords k row calls ≡ madeFrom (board buffer) b s (aloneAt k first (outputsOf b) calls)
-  unfolding onRecords seenAt aloneAt madeFrom
+      seenAt onRecords k row calls ≡ takenFrom (board buffer) b s (aloneAt k first (outputsOf b) calls)
+  unfolding onRecords seenAt aloneAt takenFrom
   same-calls [] s row placed stays = refl
   same-calls (c ∷ calls) s row placed stays =
       let out = c .outputs in
@@ -160,10 +158,10 @@ cabinet-runs row out b k first e calls stays buffer long =
     let placed = placed-fresh row out b k first (placing-accepted row out b k first e) in
     let alone = aloneAt k first (outputsOf b) calls in
     same-calls b k first buffer calls (freshBytes b) (placing row out b k first .row) placed stays
-    ∙ ap (λ (state : List ℕ). madeFrom (board buffer) b state alone) (sym (fresh-bytes b buffer (placed .accepted) long))
+    ∙ ap (λ (state : List ℕ). takenFrom (board buffer) b state alone) (sym (fresh-bytes b buffer (placed .accepted) long))
 
 pub cabinet-runs-hold : CabinetRunsHold onRecords
-unfolding CabinetRunsHold CabinetRuns BoardRunsAlike onRecords operating doing timed
+unfolding CabinetRunsHold CabinetRuns BoardRunsAlike onRecords operating doing byRules
 cabinet-runs-hold Claim holds row out b k first e calls stays =
     let zeros : List ℕ = replicate timedBytes 0 in
     let long = length-replicate {A = ℕ} timedBytes 0 in
@@ -173,12 +171,12 @@ cabinet-runs-hold Claim holds row out b k first e calls stays =
     subst (Claim b) (sym same) (holds b accepted alone)
 
 pub cabinet-demand-three : CabinetDemandThree onRecords
-unfolding CabinetDemandThree CabinetRunsHold TimedDemandThree TimedDemandThreeOf
-cabinet-demand-three = cabinet-runs-hold TimedSafeRun timed-demand-three
+unfolding CabinetDemandThree CabinetRunsHold DemandThree DemandThreeOf
+cabinet-demand-three = cabinet-runs-hold SafeRun demand-three
 
 pub cabinet-once-each : CabinetOnceEach onRecords
 unfolding CabinetOnceEach CabinetRunsHold RunsStartOnceEach OnceEachOf
-cabinet-once-each = cabinet-runs-hold (λ b made. OnceEach (siteOf b) (takens (acceptedSteps made))) runs-start-once-each
+cabinet-once-each = cabinet-runs-hold (λ b made. OnceEach (siteOf b) (acceptedSteps made)) runs-start-once-each
 
 pub cabinet-waits-met : CabinetWaitsMet onRecords
 unfolding CabinetWaitsMet CabinetRunsHold EveryWaitMet EveryWaitMetOf EveryPlainWaitMet EveryPlainWaitMetOf

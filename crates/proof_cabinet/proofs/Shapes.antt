@@ -1,27 +1,23 @@
 -- Records keep the lengths of their arrays: room for the longest personality, and the bytes of a state.
 use Prim.Native.Nat.{ℕ, _-_, _≤_, _<_}
-use mathlib.Core.Bool.{Bool, true, false}
 use mathlib.Core.List.{List}
 use mathlib.Core.Logic.{⊎-elim}
 use mathlib.Core.Path.{_≡_, refl, sym, subst, ap, _∙_}
 use native.Mathlib.Omega.{arith}
 use lib.ListN.{length, getD, set, replicate, length-append, length-set, length-replicate, List·getD-eq-default}
 use lib.Seq.{getD-set-same, getD-set-other}
-use Rattle.rules.specs.declared.answer.Outcome.{Outcome}
-use Rattle.rules.specs.declared.answer.Outcome.the-variants.{Stepped, StepRefused}
 use Rattle.rules.specs.declared.answer.Verdict.{Verdict}
 use Rattle.rules.specs.declared.answer.Verdict.the-variants.{Accepted, Refused}
-use Rattle.rules.specs.declared.state.TimedState.{TimedState}
-use Rattle.laws.specs.Folds.{if_then_else_}
 use Rattle.laws.proofs.Indices.{below-or-past, same-or-apart}
 use Rattle.rules.specs.Personality.{verdictOf}
 use Rattle.rules.specs.Site.{siteOf}
-use Rattle.rules.specs.Timed.{freshTimed}
+use Rattle.rules.specs.Timed.{TimedState, freshTimed}
+use Rattle.rules.specs.Call.{handedBack}
 use Rattle.rules.specs.Laws.{greatestLength, AcceptedIsShort}
 use Rattle.proof_acceptance.proofs.Refusals.{accepted-is-short}
-use Rattle.state_timed.specs.TimedLayout.{timedBytes, isTimed}
+use Rattle.state_timed.specs.TimedLayout.{timedBytes, timedEncoded}
 use Rattle.state_timed.proofs.TimedRoundTrips.{encoded-has-336}
-use Rattle.board_step.specs.StepCall.{stateFor, stateAfter}
+use Rattle.board_step.specs.StepCall.{stepChecks, stateAfter}
 use Rattle.board_retime.specs.RetimeCall.{retimeAfter}
 use Rattle.cabinet_records.specs.declared.Record.{Record}
 use Rattle.cabinet_records.specs.Cabinet.{personalityOf, freeRecord, holding, withState, recordOf, ownOutputs, freshBytes, placingVerdict, heldVerdict, takingVerdict, Returned, returnedFor, placing, stepped, stepping, takingOut, placeSite, stepSite, takeOut, doing}
@@ -34,21 +30,14 @@ use Rattle.proof_cabinet.proofs.Retimings.{retimed-length}
 
 -- ── The bytes of a state ──
 
-state-for : (o : Outcome) (next : TimedState) (old : List ℕ) → length old ≡ timedBytes → length (stateFor o next old) ≡ timedBytes
-unfolding stateFor
-state-for (Stepped wait) next old e = encoded-has-336 next
-state-for (StepRefused number place) next old e = e
-
-after-for :
-    (t : Bool) (o : Outcome) (next : TimedState) (old : List ℕ) →
-    length old ≡ timedBytes →
-    length (if t then stateFor o next old else old) ≡ timedBytes
-after-for true o next old e = state-for o next old e
-after-for false o next old e = e
+after-for : (v : Verdict) (next : TimedState) (old : List ℕ) → length old ≡ timedBytes → length (handedBack v (timedEncoded next) old) ≡ timedBytes
+unfolding handedBack
+after-for Accepted next old e = encoded-has-336 next
+after-for (Refused number place) next old e = e
 
 after-length : (b old : List ℕ) (inputs room : ℕ) → length old ≡ timedBytes → length (stateAfter b old inputs room) ≡ timedBytes
 unfolding stateAfter
-after-length b old inputs room e = after-for (isTimed old) _ _ old e
+after-length b old inputs room e = after-for (stepChecks b old inputs room) _ old e
 
 -- ── The records that calls store ──
 

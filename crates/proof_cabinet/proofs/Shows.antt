@@ -16,7 +16,7 @@ use Rattle.rules.specs.declared.answer.Verdict.the-variants.{Accepted, Refused}
 use Rattle.laws.specs.Bytes.{byteAt}
 use Rattle.laws.specs.Folds.{if_then_else_}
 use Rattle.rules.specs.Colours.{red}
-use Rattle.rules.specs.TimedDemandThree.{Made, ifAccepted, acceptedSteps}
+use Rattle.rules.specs.Runs.{Taken, ifAccepted, acceptedSteps}
 use Rattle.rules.proofs.Verdicts.{refused-not-accepted}
 use Rattle.proof_board.specs.BoardRuns.{outcomeIn}
 use Rattle.cabinet_records.specs.declared.Record.{Record}
@@ -151,7 +151,7 @@ module _ (b : List ℕ) (k first : ℕ) where
       (shown : outputsIn out first (outputsOf b) ≡ none)
       (done : Returned (List Record))
       (last : List ℕ)
-      (seen : List Made)
+      (seen : List Taken)
       (later : (now : List ℕ) → outputsIn (done .outputs) first (outputsOf b) ≡ now → last ≡ lastShown now (acceptedSteps seen))
     where
       abbrev Shows : OwnCall → Type 0

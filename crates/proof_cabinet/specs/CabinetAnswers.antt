@@ -1,6 +1,6 @@
 -- What the calls of the cabinet and new times answer, and the sizes of the records that they store, stated.
 use Prim.Native.Nat.{ℕ, _/_, _%_}
-use mathlib.Core.Bool.{Bool, true, not, _&&_, _||_}
+use mathlib.Core.Bool.{Bool, true, not, _||_}
 use mathlib.Core.List.{List}
 use mathlib.Core.Logic.{_⊎_}
 use mathlib.Core.Path.{_≡_}
@@ -9,13 +9,14 @@ use Rattle.rules.specs.declared.answer.Verdict.{Verdict}
 use Rattle.rules.specs.Verdicts.{_orElse_, refuseIf}
 use Rattle.rules.specs.Personality.{verdictOf}
 use Rattle.rules.specs.Site.{siteOf}
-use Rattle.rules.specs.Timed.{ruledSite, timedValid, timedStepped}
+use Rattle.rules.specs.Timed.{ruledSite, timedStepped}
 use Rattle.rules.specs.WaitBound.{waitBound}
 use Rattle.rules.specs.Call.{strayInput, boundFor}
 use Rattle.rules.specs.TimedCall.{differsElsewhere}
 use Rattle.rules.specs.Laws.{readingNumber, stepNumber, PlaceIn}
 use Rattle.rules.specs.TimedLaws.{retimeNumber}
-use Rattle.state_timed.specs.TimedLayout.{isTimed, timedDecoded}
+use Rattle.state_timed.specs.TimedLayout.{timedDecoded}
+use Rattle.state_valid.specs.StateOf.{isStateOf}
 use Rattle.board_answers.specs.Answers.{packedVerdict, packedOutcome}
 use Rattle.cabinet_records.specs.declared.Record.{Record}
 use Rattle.cabinet_records.specs.Cabinet.{personalityOf, recordOf, isShort, heldVerdict, stepping, Act, doing}
@@ -53,16 +54,12 @@ RetimingAnswerIsWritten =
     (answer % 256 ≡ 0 → ⊥) →
     RetimingWritten (personalityOf (recordOf row k)) new (answer % 256) (answer / 256)
 
--- the state in the record is a valid state of the site in it
-unfoldable pub holdsState : Record → Bool
-holdsState r = isTimed (r .state) && timedValid (siteOf (personalityOf r)) (timedDecoded (r .state))
-
 -- the order of the checks of stepping: 24, the held personality's own, 25; then 13, 15 and 14
 unfoldable pub steppingVerdict : List Record → List ℕ → ℕ → ℕ → Verdict
 steppingVerdict row out k inputs =
     let r = recordOf row k in
     heldVerdict row k
-    orElse refuseIf (not (holdsState r)) 13 0
+    orElse refuseIf (not (isStateOf (personalityOf r) (r .state))) 13 0
     orElse refuseIf (strayInput (siteOf (personalityOf r)) inputs) 15 0
     orElse refuseIf (isShort out) 14 0
 
@@ -81,7 +78,7 @@ unfoldable pub retimingVerdict : List Record → ℕ → List ℕ → Verdict
 retimingVerdict row k new =
     let r = recordOf row k in
     verdictOf (personalityOf r)
-    orElse refuseIf (not (holdsState r)) 13 0
+    orElse refuseIf (not (isStateOf (personalityOf r) (r .state))) 13 0
     orElse verdictOf new
     orElse refuseIf (differsElsewhere (personalityOf r) new) 26 0
 

@@ -9,7 +9,8 @@ use lib.ListN.{length, replicate}
 use Rattle.laws.specs.Folds.{if_then_else_}
 use Rattle.rules.specs.Site.{siteOf}
 use Rattle.rules.specs.Colours.{red}
-use Rattle.rules.specs.TimedDemandThree.{timed, Given, stepCall, retimeCall, TimedStep, Made, stepMade, retimeMade, madeFrom, acceptedSteps, takens, TimedSafeRun, OfEveryTimedRun}
+use Rattle.rules.specs.Runs.{byRules, Call, stepCall, retimeCall, Step, Taken, stepTaken, retimeTaken, takenFrom, acceptedSteps, OfEveryRun}
+use Rattle.rules.specs.DemandThree.{SafeRun}
 use Rattle.rules.specs.OnceEach.{OnceEach}
 use Rattle.rules.specs.PhaseWaits.{WaitsMet, PlainWaitsMet}
 use Rattle.state_timed.specs.TimedLayout.{timedDecoded}
@@ -62,49 +63,46 @@ takesOut k (cabinetAct (takeOut j)) = eqb j k
 takesOut k (retimeSite j new) = false
 
 -- the step and retiming calls on record k, made alone: the colour buffer of a step is the record's outputs
-unfoldable pub aloneFor : OwnCall → List ℕ → List Given → List Given
+unfoldable pub aloneFor : OwnCall → List ℕ → List Call → List Call
 aloneFor (steps inputs) buffer later = stepCall (record { inputs = inputs; buffer = buffer }) ∷ later
 aloneFor (retimes new) buffer later = retimeCall new ∷ later
 aloneFor nothing buffer later = later
 
-unfoldable pub aloneAt : ℕ → ℕ → ℕ → List CabinetCall → List Given
+unfoldable pub aloneAt : ℕ → ℕ → ℕ → List CabinetCall → List Call
 aloneAt k first count [] = []
 aloneAt k first count (c ∷ calls) =
     aloneFor (callOn k (c .operation)) (outputsIn (c .outputs) first count) (aloneAt k first count calls)
 
 -- the bytes of the state that such calls leave
-unfoldable pub stateAlone : List ℕ → List ℕ → List Given → List ℕ
+unfoldable pub stateAlone : List ℕ → List ℕ → List Call → List ℕ
 stateAlone b s [] = s
 stateAlone b s (stepCall c ∷ calls) = stateAlone b (stateAfter b s (c .inputs) (length (c .buffer))) calls
 stateAlone b s (retimeCall new ∷ calls) = stateAlone b (retimeAfter b s new) calls
 
 -- A call as its caller sees it at a record: in the answer, in the record's state before and after it, and in the record's outputs.
-unfoldable pub seenFor : OwnCall → Record → Record → ℕ → List ℕ → List ℕ → List Made → List Made
+unfoldable pub seenFor : OwnCall → Record → Record → ℕ → List ℕ → List ℕ → List Taken → List Taken
 seenFor (steps inputs) before after answer out shown later =
     let old = timedDecoded (before .state) in
     let new = timedDecoded (after .state) in
-    stepMade
+    stepTaken
     (record {
-      taken =
-          record {
-            before = old .core;
-            inputs = inputs;
-            room = length (ownOutputs before out);
-            outcome = outcomeIn answer;
-            after = new .core;
-            shown = ownOutputs before shown;
-          };
+      before = old .core;
+      inputs = inputs;
+      room = length (ownOutputs before out);
+      outcome = outcomeIn answer;
+      after = new .core;
+      shown = ownOutputs before shown;
       ruling = new .ruling;
       changed = old .waiting .present && not (new .waiting .present);
     })
     ∷ later
-seenFor (retimes new) before after answer out shown later = retimeMade new (verdictIn answer) ∷ later
+seenFor (retimes new) before after answer out shown later = retimeTaken new (verdictIn answer) ∷ later
 seenFor nothing before after answer out shown later = later
 
 -- what the last of the steps shows; what is given if there is none
-unfoldable pub lastShown : List ℕ → List TimedStep → List ℕ
+unfoldable pub lastShown : List ℕ → List Step → List ℕ
 lastShown none [] = none
-lastShown none (step ∷ later) = lastShown (step .taken .shown) later
+lastShown none (step ∷ later) = lastShown (step .shown) later
 
 -- ── Outputs that are not shared ──
 
@@ -122,7 +120,7 @@ module _ {Row : Type 0} (cabinet : Cabinet Row) where
   recordIn row k = recordOf (cabinet .records row) k
 
   -- A list of calls, each with the row that the call before returned: the step and retiming calls on record k, as their caller sees them.
-  unfoldable pub seenAt : ℕ → Row → List CabinetCall → List Made
+  unfoldable pub seenAt : ℕ → Row → List CabinetCall → List Taken
   seenAt k row [] = []
   seenAt k row (c ∷ calls) =
       let done = cabinet .does row (c .outputs) (c .operation) in
@@ -173,13 +171,13 @@ module _ {Row : Type 0} (cabinet : Cabinet Row) where
       (calls : List CabinetCall) →
       StaysIn k (placed .row) calls →
       OfEveryBuffer
-      (λ library. seenAt k (placed .row) calls ≡ madeFrom library b (library .stepping .fresh b) (aloneAt k first (outputsOf b) calls)))
+      (λ library. seenAt k (placed .row) calls ≡ takenFrom library b (library .fresh b) (aloneAt k first (outputsOf b) calls)))
 
   -- So what holds of every run of the rules holds of every site in the cabinet,
   unfoldable pub CabinetRunsHold : Type 1
   CabinetRunsHold =
-      (Claim : List ℕ → List Made → Type 0) →
-      OfEveryTimedRun timed Claim →
+      (Claim : List ℕ → List Taken → Type 0) →
+      OfEveryRun byRules Claim →
       OfEveryPlacing
       (λ b k first placed.
       (calls : List CabinetCall) →
@@ -193,7 +191,7 @@ module _ {Row : Type 0} (cabinet : Cabinet Row) where
       (λ b k first placed.
       (calls : List CabinetCall) →
       StaysIn k (placed .row) calls →
-      TimedSafeRun b (seenAt k (placed .row) calls))
+      SafeRun b (seenAt k (placed .row) calls))
 
   -- While a demand waits, no phase starts twice.
   unfoldable pub CabinetOnceEach : Type 0
@@ -202,7 +200,7 @@ module _ {Row : Type 0} (cabinet : Cabinet Row) where
       (λ b k first placed.
       (calls : List CabinetCall) →
       StaysIn k (placed .row) calls →
-      OnceEach (siteOf b) (takens (acceptedSteps (seenAt k (placed .row) calls))))
+      OnceEach (siteOf b) (acceptedSteps (seenAt k (placed .row) calls)))
 
   -- Every wait of a phase and of a movement is met, through changes of times and through none.
   unfoldable pub CabinetWaitsMet : Type 0

@@ -3,15 +3,14 @@ use mathlib.Core.Path.{refl}
 use Rattle.rules.specs.IntervalTable.{letterOf}
 use Rattle.rules.specs.CallCases.{AllHold}
 use Rattle.rules.proofs.Opened.{opened}
-use Rattle.proof_cases.specs.Traces.{sameColours, sameButStep}
 use Rattle.proof_cases.specs.Cases.{onceB}
-use Rattle.proof_cases.specs.TimedTraces.{unlessRefused, retimedBy, timedLinesFrom, sameButTimedStep, timedChangesAfter, timedChangesIn, timedChanges}
+use Rattle.proof_cases.specs.Traces.{callsFrom, unlessRefused, linesFrom, sameColours, sameLine, sameTold, changesAfter, changesIn, changes}
 use Rattle.proof_cases.specs.TimedCases.{Holds, before, beforeBoth, onceEach, lateB, pressAtOnce, otherWalk, firstRuns, secondRuns, thirdRuns, TimedRunsHold}
 
 -- what the runs compute with
 unfoldable computing : Unit {0}
 unfolding
-    opened letterOf sameColours sameButStep onceB unlessRefused retimedBy timedLinesFrom sameButTimedStep timedChangesAfter timedChangesIn timedChanges
+    opened letterOf onceB callsFrom unlessRefused linesFrom sameColours sameLine sameTold changesAfter changesIn changes
     before beforeBoth onceEach lateB pressAtOnce otherWalk
 computing = tt
 

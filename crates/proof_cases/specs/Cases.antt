@@ -1,4 +1,4 @@
--- The worked cases: document 01's starred ones, and our own below them, in a single list with one statement: each of them holds. The cases of
+-- The worked cases: document 01's starred ones, and our own below them, with one statement: each of them holds. The cases of
 -- one call that a must-fail edit of the rules needs stand in rules/specs/CallCases.antt; two of the starred ones are among those and here too.
 use Prim.Native.Nat.{ℕ, _+_, _^_}
 use mathlib.Core.Bool.{_&&_, _||_}
@@ -15,17 +15,17 @@ use Rattle.rules.specs.State.{idle}
 use Rattle.rules.specs.Kept.{freshKept}
 use Rattle.rules.specs.Colours.{red, yellow, green, flashing}
 use Rattle.rules.specs.Junctions.{junction, putTwo, crossing, threePhases, callingB, overlap, cutOffs, turning, turningBoth, ordered, editionTwo}
-use Rattle.rules.specs.CallCases.{CallCase, reading, waiting, answering, CallHolds, AllHold, at, gap_max_, locks_buttons_, state, stepping, declining}
-use Rattle.proof_cases.specs.Traces.{Line, line, changes}
+use Rattle.rules.specs.CallCases.{CallCase, reading, waiting, CallHolds, AllHold, at, gap_max_, locks_buttons_, state, stepping, declining}
+use Rattle.proof_cases.specs.Traces.{Line, line, plainChanges}
 
--- A case is one call, or the changes of n calls whose input bits are given by step.
+-- A case is one call, or the changes of n step calls whose input bits are given by step.
 pub data Case : Type 0 where
   call : CallCase → Case
   running : List ℕ → (ℕ → ℕ) → ℕ → List Line → Case
 
-abbrev Holds : Case → Type 0
+abbrev pub Holds : Case → Type 0
 Holds (call c) = CallHolds c
-Holds (running b inputs n lines) = changes b inputs n ≡ lines
+Holds (running b inputs n lines) = plainChanges b inputs n ≡ lines
 
 -- ── Document 01, the junction of two phases ──
 
@@ -224,14 +224,14 @@ inStartRed age locked kept = state (at 0 StartRed age Nothing) (gap 0 max 0) (lo
 unfoldable pub keeping : List Case
 keeping =
     -- a lock that is kept stays kept
-    call (answering junction (inStartRed 1 2 2) 0 (stepping 270 (inStartRed 2 2 2)))
+    call (stepping junction (inStartRed 1 2 2) 0 270 (inStartRed 2 2 2))
     -- an occupied locking detector keeps its phase
-    ∷ call (answering junction freshKept 2 (stepping 270 (inStartRed 2 2 2)))
+    ∷ call (stepping junction freshKept 2 270 (inStartRed 2 2 2))
     -- a detector that calls without lock does not
-    ∷ call (answering callingB freshKept 2 (stepping 270 (inStartRed 2 0 0)))
+    ∷ call (stepping callingB freshKept 2 270 (inStartRed 2 0 0))
     -- a kept set that differs from the scan is not valid, either way
-    ∷ call (answering junction (inStartRed 1 2 0) 0 (declining 13 (inStartRed 1 2 0)))
-    ∷ call (answering junction (inStartRed 1 0 2) 0 (declining 13 (inStartRed 1 0 2)))
+    ∷ call (declining junction (inStartRed 1 2 0) 0 13)
+    ∷ call (declining junction (inStartRed 1 0 2) 0 13)
     ∷ []
 
 -- ── Request three: the green man rests ──
@@ -338,10 +338,10 @@ inEditionTwo =
     ∷ [])
     ∷ []
 
--- ── The list and its statement ──
+-- ── The statement; three lists, since one computation has a limit ──
 
-unfoldable pub cases : List Case
-cases = starred ++ ours ++ early ++ keeping ++ resting ++ inOrder ++ callers ++ inEditionTwo
+abbrev pub laterCases : List Case
+laterCases = keeping ++ resting ++ inOrder ++ callers ++ inEditionTwo
 
 unfoldable pub CasesHold : Type 0
-CasesHold = AllHold Holds cases
+CasesHold = AllHold Holds (starred ++ ours) × AllHold Holds early × AllHold Holds laterCases

@@ -1,4 +1,3 @@
 pub mod Traces
 pub mod Cases
-pub mod TimedTraces
 pub mod TimedCases

@@ -10,16 +10,15 @@ use Rattle.laws.specs.Folds.{if_then_else_}
 use Rattle.rules.specs.Colours.{red, yellow, green, flashing}
 use Rattle.rules.specs.Junctions.{junction, putTwo, slower, crossing}
 use Rattle.rules.specs.CallCases.{AllHold}
-use Rattle.proof_cases.specs.Traces.{line}
-use Rattle.proof_cases.specs.TimedTraces.{TimedLine, _reports_, timedChanges}
+use Rattle.proof_cases.specs.Traces.{line, Told, _reports_, changes}
 use Rattle.proof_cases.specs.Cases.{onceB}
 
 -- The changes of n step calls whose input bits are given by step, with the personalities of the retiming calls before each step.
-pub data TimedRun : Type 0 where
-  retiming : List ℕ → (ℕ → ℕ) → (ℕ → List (List ℕ)) → ℕ → List TimedLine → TimedRun
+pub data RetimedRun : Type 0 where
+  retiming : List ℕ → (ℕ → ℕ) → (ℕ → List (List ℕ)) → ℕ → List Told → RetimedRun
 
-abbrev pub Holds : TimedRun → Type 0
-Holds (retiming b inputs handed n lines) = timedChanges b inputs handed n ≡ lines
+abbrev pub Holds : RetimedRun → Type 0
+Holds (retiming b inputs handed n lines) = changes b inputs handed n ≡ lines
 
 -- ── Retiming calls ──
 
@@ -52,7 +51,7 @@ otherWalk = putTwo (putTwo (putTwo crossing 74 20) 76 15) 78 30
 -- ── Lines of the junction ──
 
 -- up to the end of A's all-red, by its own times
-abbrev ownA : List TimedLine → List TimedLine
+abbrev ownA : List Told → List Told
 ownA later =
     (line 1 0 StartRed (red ∷ red ∷ []) reports 270)
     ∷ (line 10 0 MinimumGreen (green ∷ red ∷ []) reports 270)
@@ -62,14 +61,14 @@ ownA later =
     ∷ later
 
 -- B by the longer times
-abbrev slowB : List TimedLine → List TimedLine
+abbrev slowB : List Told → List Told
 slowB later =
     (line 71 1 MinimumGreen (red ∷ green ∷ []) reports 460) ∷ (line 111 1 Running (red ∷ green ∷ []) reports 460) ∷ later
 
 -- ── The lists and their statement ──
 
 -- retimed in minimum green, in all-red and in start red; back to the old times while the new ones wait; and B left by the new times
-unfoldable pub firstRuns : List TimedRun
+unfoldable pub firstRuns : List RetimedRun
 firstRuns =
     retiming junction onceB (before 20 (slower ∷ [])) 112 (ownA (slowB []))
     ∷ retiming junction onceB (before 65 (slower ∷ [])) 112 (ownA (slowB []))
@@ -87,7 +86,7 @@ firstRuns =
     ∷ []
 
 -- retimed in running and in yellow; two in a row; and one that is refused, which leaves the times that wait
-unfoldable pub secondRuns : List TimedRun
+unfoldable pub secondRuns : List RetimedRun
 secondRuns =
     retiming junction onceB (before 31 (slower ∷ [])) 112 (ownA (slowB []))
     ∷ retiming junction onceB (before 40 (slower ∷ [])) 112 (ownA (slowB []))
@@ -95,7 +94,7 @@ secondRuns =
     ∷ retiming junction onceB (before 20 (slower ∷ set junction 63 2 ∷ [])) 112 (ownA (slowB []))
     ∷ []
 
-unfoldable pub thirdRuns : List TimedRun
+unfoldable pub thirdRuns : List RetimedRun
 thirdRuns =
     -- B is left by the new times
     retiming junction onceEach (before 20 (slower ∷ [])) 172

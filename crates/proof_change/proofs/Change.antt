@@ -30,7 +30,7 @@ use Rattle.rules.specs.Movements.{older, lasting, advanced, movementsAfter, wal
 use Rattle.rules.specs.Counts.{gapAfter, maximumAfter, countsAfter}
 use Rattle.rules.specs.Interval.{someMovement, ends, following, positionAfter, countsChanged, locksLeft, starts}
 use Rattle.rules.specs.Walks.{begins, walksBegun, buttonsLeft}
-use Rattle.rules.specs.Step.{steppedBy}
+use Rattle.rules.specs.Step.{steppedInto}
 use Rattle.rules.specs.Kept.{isKept, keptValid, pressKeeps, keptAfter, nextKept, cleared, keptLeft, keptSteppedInto, keptStepped}
 use Rattle.rules.specs.SiteTimes.{under}
 use Rattle.rules.specs.Timed.{startsNext, withoutCounts}
@@ -244,7 +244,7 @@ module _ (site : Site) (new : Times) (phase : ℕ) (previous target : Held) (dem
         startsNext site (before interval age counts movements .core) ≡ true →
         keptSteppedInto new site (withoutCounts (before interval age counts movements)) inputs
         ≡ keptStepped (under site new) (ready (before interval age counts movements)) inputs
-    unfolding startsNext keptStepped steppedBy ready assembled ends walkMayEnd countsAfter gapAfter maximumAfter keptLeft cleared stands
+    unfolding startsNext keptStepped steppedInto ready assembled ends walkMayEnd countsAfter gapAfter maximumAfter keptLeft cleared stands
     change-at StartRed v h =
         started-same movements (sound .movements) (clear-at StartRed v h) StartRed age refl (leb (site .times .start) age) (leb (new .start) highestAge) h
         (le-leb (new .start) highestAge (start-timed (under site new) sound .1))
@@ -321,7 +321,7 @@ change-follows :
     (next : Held) ×
     (keptSteppedInto new site (withoutCounts (before site new phase previous target demands kept inputs interval age counts movements)) inputs .core .position
     ≡ following interval new next (record { phase = phase; interval = interval; age = age; previous = previous; target = target }))
-unfolding startsNext ends walkMayEnd positionAfter steppedBy
+unfolding startsNext ends walkMayEnd positionAfter steppedInto
 change-follows site new phase age previous target counts demands movements kept inputs StartRed h =
     (nextKept site (before site new phase previous target demands kept inputs StartRed age noCounts movements) inputs, rw h)
 change-follows site new phase age previous target counts demands movements kept inputs LateStart h = absurd (false≢true h)

@@ -12,8 +12,6 @@ use Rattle.rules.specs.declared.state.Held.{Held}
 use Rattle.rules.specs.declared.state.KeptState.{KeptState}
 use Rattle.rules.specs.declared.state.Position.{Position}
 use Rattle.rules.specs.declared.state.State.{State}
-use Rattle.rules.specs.declared.state.TimedState.{TimedState}
-use Rattle.rules.specs.declared.state.Waiting.{Waiting}
 use Rattle.laws.specs.Folds.{if_then_else_}
 use Rattle.rules.specs.Limits.{limitOf, within}
 use Rattle.rules.specs.Site.{noPhaseTimes, noWalkTimes, phaseTimes, walkTimes}
@@ -23,7 +21,7 @@ use Rattle.rules.specs.SiteTimes.{under, noTimes, recordLimits, phaseWithin, wa
 use Rattle.rules.specs.Demands.{registersLock, calls, nextDemanded}
 use Rattle.rules.specs.Step.{steppedInto, stepped}
 use Rattle.rules.specs.Kept.{isKept, keptValid, keptAfter, nextKept, keptSteppedInto, keptStepped}
-use Rattle.rules.specs.Timed.{keptOf, ruledSite, noneWaiting, freshTimed, waitingValid, timedValid, startsNext, takesOver, withoutCounts, rulingNext, timedStepped}
+use Rattle.rules.specs.Timed.{TimedState, Waiting, keptOf, ruledSite, noneWaiting, freshTimed, waitingValid, timedValid, startsNext, takesOver, withoutCounts, rulingNext, timedStepped}
 use Rattle.rules.specs.Call.{wired, strayInput}
 use Rattle.rules.specs.Laws.{Sound}
 use Rattle.rules.specs.TimedLaws.{ready, startsPhase}
@@ -99,7 +97,7 @@ module _ (site : Site) (sound : Sound site) (s : TimedState) (v : timedValid sit
   pub old-sound : Sound (ruledSite site s)
   old-sound = admitted-is-sound site (s .ruling) sound (told .ruling)
 
-  core-valid : valid (ruledSite site s) (s .core) ≡ true
+  pub core-valid : valid (ruledSite site s) (s .core) ≡ true
   unfolding keptValid
   core-valid = and-left (valid (ruledSite site s) (s .core)) _ (told .rest)
 

@@ -10,7 +10,8 @@ use Rattle.rules.specs.Site.{inPhase, isPedestrian, movementOf, conflict}
 use Rattle.rules.specs.IntervalTable.{isIdle}
 use Rattle.rules.specs.State.{movement}
 use Rattle.rules.specs.Colours.{green, shownIn}
-use Rattle.rules.specs.DemandThree.{Taken, shows}
+use Rattle.rules.specs.Runs.{Step}
+use Rattle.rules.specs.DemandThree.{shows}
 use Rattle.rules.specs.Laws.{Sound}
 use Rattle.proof_runs.proofs.ValidStates.{ValidState}
 use Rattle.proof_runs.proofs.Chains.{ValidLink}
@@ -39,7 +40,7 @@ module _ (site : Site) (sound : Sound site) (s : State) (validState : ValidState
 
 -- ── Accepted steps ──
 
-module _ (site : Site) (s : State) (step : Taken) (link : ValidLink site s step) where
+module _ (site : Site) (s : State) (step : Step) (link : ValidLink site s step) where
   -- a group that shows green after an accepted step is of the phase then reached
   pub shown-has-phase :
       (g : ℕ) → g < site .size .groups → shows step g ≡ green → inPhase (site .groups) g (step .after .position .phase) ≡ true

@@ -17,7 +17,7 @@ use Rattle.rules.specs.IntervalTable.{isIdle}
 use Rattle.rules.specs.State.{movement}
 use Rattle.rules.specs.Movements.{older, lasting, advanced}
 use Rattle.rules.specs.Colours.{green, flashing, movementColour}
-use Rattle.rules.specs.DemandThree.{Taken}
+use Rattle.rules.specs.Runs.{Step}
 use Rattle.laws.proofs.Booleans.{decided}
 use Rattle.rules.proofs.Settings.{Reached}
 use Rattle.proof_runs.proofs.Steps.{mayEnd, moved, begun, movement-of}
@@ -77,7 +77,7 @@ idle-stays times m e mayEnd = rw e
 
 -- ── Steps ──
 
-module _ (site : Site) (s : State) (step : Taken) (link : Link site s step) (k : ℕ) (room : k < 8) where
+module _ (site : Site) (s : State) (step : Step) (link : Link site s step) (k : ℕ) (room : k < 8) where
   -- where no walk begins, the movement is the one after part 2
   pub movement-after :
       (movementColour (movement (step .after) k .stage) ≡ green → ⊥) →

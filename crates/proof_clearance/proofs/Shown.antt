@@ -15,7 +15,8 @@ use Rattle.rules.specs.Site.{groupOf, inPhase, isPedestrian, movementOf}
 use Rattle.rules.specs.IntervalTable.{heldIn}
 use Rattle.rules.specs.State.{movement}
 use Rattle.rules.specs.Colours.{red, green, closing, vehicleColour, movementColour, vehicleShown, colourOf, shownIn}
-use Rattle.rules.specs.DemandThree.{Taken, shows}
+use Rattle.rules.specs.Runs.{Step}
+use Rattle.rules.specs.DemandThree.{shows}
 use Rattle.proof_runs.proofs.Chains.{Link}
 
 -- group g has the phase held in its set
@@ -48,7 +49,7 @@ module _ (site : Site) (s : State) (g : ℕ) where
 
 -- ── After an accepted step ──
 
-module _ (site : Site) (s : State) (step : Taken) (link : Link site s step) (g : ℕ) (within : g < site .size .groups) where
+module _ (site : Site) (s : State) (step : Step) (link : Link site s step) (g : ℕ) (within : g < site .size .groups) where
   pub vehicle-shows : isPedestrian (site .groups) g ≡ false → shows step g ≡ vehicleAt site g (step .after .position)
   vehicle-shows kind = link .shown g within ∙ vehicle-colour site (step .after) g kind
 

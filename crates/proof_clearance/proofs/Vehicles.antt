@@ -17,7 +17,7 @@ use Rattle.rules.specs.Site.{inPhase, phaseTimes}
 use Rattle.rules.specs.Demands.{nextDemanded}
 use Rattle.rules.specs.Interval.{ends, entering, following, staying}
 use Rattle.rules.specs.Colours.{red, yellow, green}
-use Rattle.rules.specs.DemandThree.{Taken}
+use Rattle.rules.specs.Runs.{Step}
 use Rattle.laws.proofs.Booleans.{and-left}
 use Rattle.laws.proofs.Indices.{below-or-past}
 use Rattle.rules.proofs.Settings.{Timed}
@@ -30,7 +30,7 @@ use Rattle.proof_clearance.proofs.Stopped.{ahead, Leaving, leaving-stay
 
 -- ── Steps ──
 
-module _ (site : Site) (s : State) (step : Taken) (link : Link site s step) where
+module _ (site : Site) (s : State) (step : Step) (link : Link site s step) where
   -- what holds of the position after the step, by whether the interval ends
   at-end :
       (P : Position → Type 0) →
@@ -87,7 +87,7 @@ module _ (site : Site) (s : State) (step : Taken) (link : Link site s step) wher
 
 -- ── How long a group has been stopped ──
 
-module _ (site : Site) (j p : ℕ) (times : Timed (phaseTimes (site .times) p)) (s : State) (step : Taken) (link : Link site s step) where
+module _ (site : Site) (j p : ℕ) (times : Timed (phaseTimes (site .times) p)) (s : State) (step : Step) (link : Link site s step) where
   abbrev settings : PhaseTimes
   settings = phaseTimes (site .times) p
 
@@ -158,7 +158,7 @@ module _ (site : Site) (j p : ℕ) where
 
     -- a step that does not show green is one of the yellow ones
     pub yellows-fall :
-        (s : State) (step : Taken) →
+        (s : State) (step : Step) →
         Link site s step →
         (n : ℕ) →
         YellowsLeft site j p (suc n) (s .position) →

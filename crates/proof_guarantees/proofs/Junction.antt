@@ -1,4 +1,4 @@
--- Demand 3 applied to the junction of two phases. That the rules accept it, with a wait bound of 270, and that its two groups conflict is
+-- Demand 3 for step calls applied to the junction of two phases. That the rules accept it, with a wait bound of 270, and that its two groups conflict is
 -- computed.
 use Prim.Native.Nat.{ℕ, zero, suc, _≤_, _<_}
 use mathlib.Core.Bool.{true, false}
@@ -14,11 +14,13 @@ use Rattle.rules.specs.Site.{siteOf, conflict}
 use Rattle.rules.specs.Verdicts.{_orElse_, refuseIf}
 use Rattle.rules.specs.WaitBound.{waitBound}
 use Rattle.rules.specs.Call.{strayInput, boundFor}
-use Rattle.rules.specs.DemandThree.{ruled, NoConflictingGreens, DemandsMet, NoDeadEnd, DemandThreeOf, DemandThree, comesWithin, minimumGreenBegins}
+use Rattle.rules.specs.Runs.{byRules}
+use Rattle.rules.specs.DemandThree.{NoConflictingGreens, minimumGreenBegins}
+use Rattle.rules.specs.StepDemandThree.{MetWithin, AnswersBound, StepDemandThreeOf, StepDemandThree, comesWithin}
 use Rattle.rules.specs.Junctions.{junction}
 use Rattle.rules.proofs.Opened.{opened}
 use Rattle.proof_guarantees.specs.Junction.{NeverTogether, MetIn270, AlwaysAnswered}
-use Rattle.proof_guarantees.proofs.DemandThree.{demand-three}
+use Rattle.proof_guarantees.proofs.StepDemandThree.{step-demand-three}
 
 junction-accepted : verdictOf junction ≡ Accepted
 unfolding opened
@@ -33,15 +35,15 @@ unfolding opened
 groups-conflict = refl
 
 pub never-together : NeverTogether
-unfolding NeverTogether DemandThree DemandThreeOf NoConflictingGreens ruled
+unfolding NeverTogether StepDemandThree StepDemandThreeOf NoConflictingGreens byRules
 never-together calls earlier later step e =
-    demand-three junction junction-accepted calls .noConflictingGreens earlier later step e 0 1 groups-conflict
+    step-demand-three junction junction-accepted calls .noConflictingGreens earlier later step e 0 1 groups-conflict
 
 pub met-in-270 : MetIn270
-unfolding MetIn270 DemandThree DemandThreeOf DemandsMet ruled
+unfolding MetIn270 StepDemandThree StepDemandThreeOf MetWithin byRules
 met-in-270 calls earlier later step e long registered =
     let met =
-    demand-three junction junction-accepted calls .demandsMet earlier later step e
+    step-demand-three junction junction-accepted calls .demandsMet earlier later step e
     (subst (λ (n : ℕ). n ≤ length later) (sym junction-bound) long) in
     subst (λ (n : ℕ). comesWithin n (minimumGreenBegins 1) step later ≡ true) junction-bound (met .0 1 registered)
 
@@ -59,7 +61,7 @@ unfolding opened
 room-enough room h = le-ltb room 2 h
 
 pub always-answered : AlwaysAnswered
-unfolding AlwaysAnswered DemandThree DemandThreeOf NoDeadEnd ruled refuseIf _orElse_ boundFor
-always-answered calls earlier later call e few enough =
-    demand-three junction junction-accepted calls .noDeadEnd earlier later call e
-    ∙ rw (inputs-wired (call .inputs) few, room-enough (call .room) enough) (ap Stepped junction-bound)
+unfolding AlwaysAnswered StepDemandThree StepDemandThreeOf AnswersBound byRules refuseIf _orElse_ boundFor
+always-answered calls earlier later step e few enough =
+    step-demand-three junction junction-accepted calls .noDeadEnd earlier later step e
+    ∙ rw (inputs-wired (step .inputs) few, room-enough (step .room) enough) (ap Stepped junction-bound)

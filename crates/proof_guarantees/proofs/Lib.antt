@@ -1,12 +1,8 @@
 pub mod Accepted
 pub mod ScanningRuns
-pub mod TimedAccepted
-pub mod TimedScanningRuns
-pub mod TimedDeadEnds
-pub mod TimedDemandThree
-pub mod AsBefore
-pub mod WithoutRetimings
-pub mod DemandThree
-pub mod OnceEach
+pub mod DeadEnds
 pub mod PhaseWaits
+pub mod OnceEach
+pub mod DemandThree
+pub mod StepDemandThree
 pub mod Junction

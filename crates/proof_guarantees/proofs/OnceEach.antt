@@ -7,8 +7,7 @@ use Rattle.rules.specs.declared.site.Site.{Site}
 use Rattle.rules.specs.Site.{siteOf}
 use Rattle.rules.specs.Timed.{freshTimed}
 use Rattle.rules.specs.Laws.{Sound, AcceptedIsSound}
-use Rattle.rules.specs.DemandThree.{Taken}
-use Rattle.rules.specs.TimedDemandThree.{timed, madeFrom, acceptedSteps, takens, OfEveryTimedRun}
+use Rattle.rules.specs.Runs.{Step, byRules, takenFrom, acceptedSteps, OfEveryRun}
 use Rattle.rules.specs.OnceEach.{phaseStarts, otherStarts, howMany, WhileWaiting, OnceEach, OthersOnce, FewOthers, OnceEachOf, RunsStartOnceEach, RunsStartOthersOnce, RunsStartFewOthers}
 use Rattle.proof_acceptance.proofs.Acceptance.{accepted-is-sound}
 use Rattle.proof_timed.proofs.Runs.{timed-run}
@@ -16,15 +15,15 @@ use Rattle.proof_once.proofs.Runs.{FallingTo, falls-once, falls-few, starts-fal
 
 -- what follows from falling starts holds while a demand waits
 while-waiting :
-    (Claim : Site → ℕ → List Taken → Type 0) →
-    ((site : Site) → Sound site → (p : ℕ) (steps : List Taken) → FallingTo site p steps → Claim site p steps) →
-    OfEveryTimedRun timed (λ b calls. WhileWaiting (Claim (siteOf b)) (siteOf b) (takens (acceptedSteps calls)))
-unfolding timed AcceptedIsSound
+    (Claim : Site → ℕ → List Step → Type 0) →
+    ((site : Site) → Sound site → (p : ℕ) (steps : List Step) → FallingTo site p steps → Claim site p steps) →
+    OfEveryRun byRules (λ b calls. WhileWaiting (Claim (siteOf b)) (siteOf b) (acceptedSteps calls))
+unfolding byRules AcceptedIsSound
 while-waiting Claim follows b known calls earlier later step split =
     let s = freshTimed (siteOf b) in
     let sound = accepted-is-sound b known in
     let run = timed-run b sound calls s in
-    let falls = starts-fall (siteOf b) sound (s .core) (s .ruling) (acceptedSteps (madeFrom timed b s calls)) run earlier later step split in
+    let falls = starts-fall (siteOf b) sound (s .core) (s .ruling) (acceptedSteps (takenFrom byRules b s calls)) run earlier later step split in
     (λ p r. follows (siteOf b) sound p _ (falls .0 p r), λ k p l crossing r. follows (siteOf b) sound p _ (falls .1 k p l crossing r))
 
 pub runs-start-once-each : RunsStartOnceEach

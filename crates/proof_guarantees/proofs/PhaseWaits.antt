@@ -3,7 +3,7 @@
 use Rattle.rules.specs.Site.{siteOf}
 use Rattle.rules.specs.Timed.{freshTimed}
 use Rattle.rules.specs.Laws.{AcceptedIsSound}
-use Rattle.rules.specs.TimedDemandThree.{timed, madeFrom, acceptedSteps}
+use Rattle.rules.specs.Runs.{byRules, takenFrom, acceptedSteps}
 use Rattle.rules.specs.PhaseWaits.{EveryWaitMetOf, EveryWaitMet, EveryPlainWaitMetOf, EveryPlainWaitMet, PhaseIsTold, WaitsWithinBound, EveryWaitWithinSum}
 use Rattle.proof_acceptance.proofs.Acceptance.{accepted-is-sound}
 use Rattle.proof_waits.proofs.WithinBound.{phase-wait-within, movement-wait-within, phase-of-movement}
@@ -13,17 +13,17 @@ use Rattle.proof_timed.proofs.PhaseWaits.{waits-met}
 use Rattle.proof_timed.proofs.WaitSums.{waits-within-sum, plain-waits-met}
 
 pub every-wait-met : EveryWaitMet
-unfolding EveryWaitMet EveryWaitMetOf timed AcceptedIsSound
+unfolding EveryWaitMet EveryWaitMetOf byRules AcceptedIsSound
 every-wait-met b known calls =
     let s = freshTimed (siteOf b) in
     let sound = accepted-is-sound b known in
-    waits-met (siteOf b) sound (s .core) (s .ruling) (acceptedSteps (madeFrom timed b s calls)) (kept-fresh (siteOf b)) (timed-run b sound calls s)
+    waits-met (siteOf b) sound (s .core) (s .ruling) (acceptedSteps (takenFrom byRules b s calls)) (kept-fresh (siteOf b)) (timed-run b sound calls s)
 
 pub every-plain-wait-met : EveryPlainWaitMet
-unfolding EveryPlainWaitMet EveryPlainWaitMetOf EveryWaitMet EveryWaitMetOf timed AcceptedIsSound
+unfolding EveryPlainWaitMet EveryPlainWaitMetOf EveryWaitMet EveryWaitMetOf byRules AcceptedIsSound
 every-plain-wait-met b known calls =
     let s = freshTimed (siteOf b) in
-    plain-waits-met (siteOf b) (s .core) (s .ruling) (acceptedSteps (madeFrom timed b s calls)) (timed-run b (accepted-is-sound b known) calls s)
+    plain-waits-met (siteOf b) (s .core) (s .ruling) (acceptedSteps (takenFrom byRules b s calls)) (timed-run b (accepted-is-sound b known) calls s)
     (every-wait-met b known calls)
 
 pub waits-within-bound : WaitsWithinBound
@@ -33,10 +33,10 @@ waits-within-bound b known q below =
     (phase-wait-within (siteOf b) sound q below, movement-wait-within (siteOf b) sound q below)
 
 pub every-wait-within-sum : EveryWaitWithinSum
-unfolding EveryWaitWithinSum timed AcceptedIsSound
+unfolding EveryWaitWithinSum byRules AcceptedIsSound
 every-wait-within-sum b known calls =
     let s = freshTimed (siteOf b) in
-    waits-within-sum (siteOf b) (s .core) (s .ruling) (acceptedSteps (madeFrom timed b s calls)) (timed-run b (accepted-is-sound b known) calls s)
+    waits-within-sum (siteOf b) (s .core) (s .ruling) (acceptedSteps (takenFrom byRules b s calls)) (timed-run b (accepted-is-sound b known) calls s)
 
 pub phase-is-told : PhaseIsTold
 unfolding PhaseIsTold AcceptedIsSound

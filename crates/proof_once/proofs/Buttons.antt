@@ -15,22 +15,22 @@ use Rattle.rules.specs.Demands.{registersButton}
 use Rattle.rules.specs.Interval.{staying}
 use Rattle.rules.specs.Step.{stepped}
 use Rattle.rules.specs.Laws.{Sound}
-use Rattle.rules.specs.DemandThree.{Taken, walkBegins}
+use Rattle.rules.specs.Runs.{Step}
+use Rattle.rules.specs.DemandThree.{walkBegins}
 use Rattle.rules.specs.OnceEach.{someStarts}
 use Rattle.laws.proofs.Booleans.{and-left, and-right, or-left, or-right, decided, never-both}
 use Rattle.proof_runs.proofs.Chains.{ValidLink}
 use Rattle.proof_runs.proofs.Demanded.{button-demands}
 use Rattle.proof_runs.proofs.Ends.{next-in, started-in}
 use Rattle.proof_runs.proofs.Steps.{ended, started, askedNow, begun, position-of, asked-of}
-use Rattle.proof_waits.proofs.Pressed.{ButtonStands, not-started}
-use Rattle.proof_waits.proofs.Buttons.{ButtonLeft, button-registers, button-goes}
+use Rattle.proof_waits.proofs.Pressed.{ButtonStands, not-started, button-registers-by, button-goes-by}
 use Rattle.proof_waits.proofs.Demand.{Waits, standing-on}
 use Rattle.proof_waits.proofs.Paths.{ringIn}
 use Rattle.proof_once.proofs.Ways.{startsBetween, none-stays, startsLeft, step-way}
 use Rattle.proof_once.proofs.Nears.{Near, Nears, way-nears}
 
 -- a start that the states show is one of the step: an interval that goes on starts none
-start-told : (site : Site) (s : State) (step : Taken) → ValidLink site s step → someStarts step ≡ true → started site s (step .inputs) ≡ true
+start-told : (site : Site) (s : State) (step : Step) → ValidLink site s step → someStarts step ≡ true → started site s (step .inputs) ≡ true
 unfolding someStarts staying
 start-told site s step link h =
     let i = s .position .interval in
@@ -49,7 +49,7 @@ module _ (site : Site) (q m : ℕ) where
   abbrev pub ButtonNear : ℕ → State → Type 0
   ButtonNear = Near (ringIn site) q (walkBegins m) (ButtonStands m) Nowhere
 
-  abbrev pub ButtonNears : ℕ → Taken → Type 0
+  abbrev pub ButtonNears : ℕ → Step → Type 0
   ButtonNears = Nears (ringIn site) q (walkBegins m) (ButtonStands m) Nowhere
 
   module _
@@ -59,7 +59,7 @@ module _ (site : Site) (q m : ℕ) where
       (crossing : crosses (site .crossings) m q ≡ true)
       (only : (p : ℕ) → crosses (site .crossings) m p ≡ true → p ≡ q)
       (s : State)
-      (step : Taken)
+      (step : Step)
       (link : ValidLink site s step)
     where
       room : m < 8
@@ -78,7 +78,7 @@ module _ (site : Site) (q m : ℕ) where
       nears :
           (n : ℕ) →
           askedNow site s (step .inputs) m ≡ true →
-          (walkBegins m step ≡ true) ⊎ Waits (ButtonStands m) (ButtonLeft site q m) s step →
+          (walkBegins m step ≡ true) ⊎ Waits (ButtonStands m) (λ n s. Unit {0}) s step →
           startsLeft (ringIn site) q (s .position) ≤ n →
           ButtonNears n step
       nears n standing goes most =
@@ -93,7 +93,7 @@ module _ (site : Site) (q m : ℕ) where
       unfolding askedNow
       button-nears n near =
           nears n (or-left (registersButton (s .movements) (step .inputs) m) (near .stands .asked))
-          (button-goes site sound q m below exists crossing only s step link (near .stands))
+          (button-goes-by site sound q m exists crossing (λ n s. Unit {0}) s step link (λ standing quiet still n left. left) (near .stands))
           (⊎-elim (λ (most : startsLeft (ringIn site) q (s .position) ≤ n). most) (λ last. absurd last) (near .bound))
 
       -- from the step that registers it on
@@ -101,5 +101,5 @@ module _ (site : Site) (q m : ℕ) where
       unfolding askedNow
       button-first r =
           nears (startsLeft (ringIn site) q (s .position)) (or-right (asked s m) r)
-          (button-registers site sound q m below exists crossing only s step link r)
+          (button-registers-by site sound q m exists crossing (λ n s. Unit {0}) s step link (λ standing quiet still n left. left) r)
           (omega arith)

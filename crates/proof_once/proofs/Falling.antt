@@ -8,21 +8,21 @@ use mathlib.Core.Path.{_≡_, refl}
 use native.Mathlib.Omega.{arith}
 use lib.Dec.{eqb}
 use borrow.Author.Tests.{eq-eqb, eqb-false, not-true}
-use Rattle.rules.specs.DemandThree.{Taken}
+use Rattle.rules.specs.Runs.{Step}
 use Rattle.rules.specs.OnceEach.{someStarts, phaseStarts, otherStarts, howMany}
 use Rattle.laws.proofs.Booleans.{and-left, and-right, and-both, decided}
 
 -- in a step that a number bounds, with the number that bounds the later ones
-abbrev pub Falls : (ℕ → ℕ) → ℕ → Taken → ℕ → Type 0
+abbrev pub Falls : (ℕ → ℕ) → ℕ → Step → ℕ → Type 0
 Falls key n step left = (left ≤ n) × ((r : ℕ) → phaseStarts r step ≡ true → (left < key r) × (key r ≤ n))
 
-abbrev pub Falling : (ℕ → ℕ) → ℕ → List Taken → Type 0
+abbrev pub Falling : (ℕ → ℕ) → ℕ → List Step → Type 0
 Falling key n [] = Unit {0}
 Falling key n (step ∷ later) = (left : ℕ) × Falls key n step left × Falling key left later
 
 module _ (key : ℕ → ℕ) where
   -- a greater number bounds them too
-  pub falling-more : (n m : ℕ) (steps : List Taken) → n ≤ m → Falling key n steps → Falling key m steps
+  pub falling-more : (n m : ℕ) (steps : List Step) → n ≤ m → Falling key n steps → Falling key m steps
   falling-more n m [] most falling = tt
   falling-more n m (step ∷ later) most falling = (
     falling .0,
@@ -32,7 +32,7 @@ module _ (key : ℕ → ℕ) where
 
   -- a phase whose key is past the number does not start any more
   once :
-      (r n : ℕ) (steps : List Taken) →
+      (r n : ℕ) (steps : List Step) →
       Falling key n steps →
       (howMany (phaseStarts r) steps ≤ 1) × (n < key r → howMany (phaseStarts r) steps ≡ 0)
   unfolding howMany
@@ -46,14 +46,14 @@ module _ (key : ℕ → ℕ) where
       (λ (e : phaseStarts r step ≡ false). rw e (omega (arith, rest .0), λ h. omega (arith, rest .1 (omega (arith, falling .1 .0, h)))))
       (decided (phaseStarts r step))
 
-  pub starts-once : (r n : ℕ) (steps : List Taken) → Falling key n steps → howMany (phaseStarts r) steps ≤ 1
+  pub starts-once : (r n : ℕ) (steps : List Step) → Falling key n steps → howMany (phaseStarts r) steps ≤ 1
   starts-once r n steps falling = once r n steps falling .0
 
   -- if the keys of other phases than q are 2 or more, fewer than the number are starts of others
   pub others-few :
       (q : ℕ) →
       ((r : ℕ) → (r ≡ q → ⊥) → 2 ≤ key r) →
-      (n : ℕ) (steps : List Taken) →
+      (n : ℕ) (steps : List Step) →
       Falling key n steps →
       howMany (otherStarts q) steps ≤ n - 1
   unfolding howMany otherStarts phaseStarts

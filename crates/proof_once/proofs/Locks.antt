@@ -15,7 +15,8 @@ use Rattle.rules.specs.Demands.{registersLock}
 use Rattle.rules.specs.Interval.{following, entering, staying}
 use Rattle.rules.specs.Step.{stepped}
 use Rattle.rules.specs.Laws.{Sound}
-use Rattle.rules.specs.DemandThree.{Taken, minimumGreenBegins}
+use Rattle.rules.specs.Runs.{Step}
+use Rattle.rules.specs.DemandThree.{minimumGreenBegins}
 use Rattle.rules.specs.OnceEach.{isFirst, someStarts}
 use Rattle.laws.proofs.Booleans.{and-right, or-left, or-right, decided, never-both}
 use Rattle.proof_runs.proofs.Chains.{ValidLink}
@@ -24,8 +25,7 @@ use Rattle.proof_runs.proofs.Ends.{next-in}
 use Rattle.proof_runs.proofs.Steps.{ended, lockedNow}
 use Rattle.proof_waits.proofs.Away.{AwayAt}
 use Rattle.proof_waits.proofs.Demand.{Waits, standing-on}
-use Rattle.proof_waits.proofs.Locked.{LockStands}
-use Rattle.proof_waits.proofs.Locks.{LockLeft, lock-registers, lock-goes}
+use Rattle.proof_waits.proofs.Locked.{LockStands, lock-registers-by, lock-goes-by}
 use Rattle.proof_waits.proofs.Paths.{ringIn}
 use Rattle.proof_once.proofs.Ways.{startsLeft, step-way}
 use Rattle.proof_once.proofs.Nears.{Near, Nears, last-nears, way-nears}
@@ -48,10 +48,10 @@ module _ (site : Site) (q : ℕ) where
   abbrev pub LockNear : ℕ → State → Type 0
   LockNear = Near (ringIn site) q (minimumGreenBegins q) (LockStands q) (InLate q)
 
-  abbrev pub LockNears : ℕ → Taken → Type 0
+  abbrev pub LockNears : ℕ → Step → Type 0
   LockNears = Nears (ringIn site) q (minimumGreenBegins q) (LockStands q) (InLate q)
 
-  module _ (sound : Sound site) (below : q < site .size .phases) (s : State) (step : Taken) (link : ValidLink site s step) where
+  module _ (sound : Sound site) (below : q < site .size .phases) (s : State) (step : Step) (link : ValidLink site s step) where
     -- the late start goes on, or minimum green follows
     late-on : InLate q (s .position) → AwayAt q (stepped site s (step .inputs) .position) → InLate q (stepped site s (step .inputs) .position)
     unfolding following entering staying
@@ -65,7 +65,7 @@ module _ (site : Site) (q : ℕ) where
     nears :
         (n : ℕ) →
         lockedNow site s (step .inputs) q ≡ true →
-        (minimumGreenBegins q step ≡ true) ⊎ Waits (LockStands q) (LockLeft site q) s step →
+        (minimumGreenBegins q step ≡ true) ⊎ Waits (LockStands q) (λ n s. Unit {0}) s step →
         (startsLeft (ringIn site) q (s .position) ≤ n) ⊎ InLate q (s .position) →
         LockNears n step
     unfolding someStarts
@@ -87,7 +87,7 @@ module _ (site : Site) (q : ℕ) where
     unfolding lockedNow
     lock-nears n near =
         nears n (or-left (registersLock site s (step .inputs) q) (near .stands .locked))
-        (lock-goes site sound q below s step link (near .stands))
+        (lock-goes-by site sound q below (λ n s. Unit {0}) s step link (λ d away none n left. left) (near .stands))
         (near .bound)
 
     -- from the step that registers it on
@@ -95,5 +95,5 @@ module _ (site : Site) (q : ℕ) where
     unfolding lockedNow
     lock-first r =
         nears (startsLeft (ringIn site) q (s .position)) (or-right (locked s q) r)
-        (lock-registers site sound q below s step link r)
+        (lock-registers-by site sound q below (λ n s. Unit {0}) s step link (λ d away none n left. left) r)
         (inl (omega arith))

@@ -9,7 +9,7 @@ use native.Mathlib.Omega.{arith}
 use borrow.Author.Tests.{eqb-true}
 use Rattle.rules.specs.declared.state.Position.{Position}
 use Rattle.rules.specs.declared.state.State.{State}
-use Rattle.rules.specs.DemandThree.{Taken}
+use Rattle.rules.specs.Runs.{Step}
 use Rattle.rules.specs.OnceEach.{someStarts, phaseStarts}
 use Rattle.laws.proofs.Booleans.{and-left, and-right, decided, never-both}
 use Rattle.laws.proofs.Indices.{same-or-apart}
@@ -18,24 +18,24 @@ use Rattle.proof_once.proofs.Ways.{one, fromStart, startsLeft, Way}
 use Rattle.proof_once.proofs.Falling.{Falls}
 
 -- a phase that starts is the one that the state has after the step
-phase-told : (r : ℕ) (step : Taken) → phaseStarts r step ≡ true → (someStarts step ≡ true) × (step .after .position .phase ≡ r)
+phase-told : (r : ℕ) (step : Step) → phaseStarts r step ≡ true → (someStarts step ≡ true) × (step .after .position .phase ≡ r)
 unfolding phaseStarts
 phase-told r step h =
     (and-left (someStarts step) _ h, eqb-true (step .after .position .phase) r (and-right (someStarts step) _ h))
 
 -- `Last` says of a position that the demand is about to be met
-module _ (phases : List ℕ) (q : ℕ) (met : Taken → Bool) (Stands : State → Type 0) (Last : Position → Type 0) where
+module _ (phases : List ℕ) (q : ℕ) (met : Step → Bool) (Stands : State → Type 0) (Last : Position → Type 0) where
   -- the demand stands, and n bounds the starts to come, or none comes before it is met
   pub record Near (n : ℕ) (s : State) : Type 0 where
     pub stands : Stands s
     pub bound : (startsLeft phases q (s .position) ≤ n) ⊎ Last (s .position)
 
-  pub record Nears (n : ℕ) (step : Taken) : Type 0 where
+  pub record Nears (n : ℕ) (step : Step) : Type 0 where
     pub left : ℕ
     pub falls : Falls (fromStart phases q) n step left
     pub near : (met step ≡ true) ⊎ Near left (step .after)
 
-  module _ (n : ℕ) (step : Taken) where
+  module _ (n : ℕ) (step : Step) where
     -- no phase starts
     quiet-nears : someStarts step ≡ false → (met step ≡ true) ⊎ Near n (step .after) → Nears n step
     quiet-nears none near = record { left = n; falls = (omega arith, λ r e. absurd (never-both (phase-told r step e .0) none)); near = near }

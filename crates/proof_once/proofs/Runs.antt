@@ -14,8 +14,8 @@ use Rattle.rules.specs.Site.{crosses}
 use Rattle.rules.specs.SiteTimes.{under}
 use Rattle.rules.specs.TimedLaws.{readyCore}
 use Rattle.rules.specs.Laws.{Sound}
-use Rattle.rules.specs.DemandThree.{Taken, registersLocked, registersPressed, minimumGreenBegins, walkBegins}
-use Rattle.rules.specs.TimedDemandThree.{TimedStep, takens}
+use Rattle.rules.specs.Runs.{Step}
+use Rattle.rules.specs.DemandThree.{registersLocked, registersPressed, minimumGreenBegins, walkBegins}
 use Rattle.rules.specs.OnceEach.{someStarts, phaseStarts, otherStarts, howMany, untilMet, WhileWaiting}
 use Rattle.laws.proofs.Booleans.{decided, never-both}
 use Rattle.proof_runs.proofs.Chains.{ValidLink}
@@ -34,7 +34,7 @@ use Rattle.proof_once.proofs.Buttons.{Nowhere, button-nears, button-fir
 
 -- a start is one seen from the state that the step is plain from
 starts-from :
-    (c : Bool) (s : State) (step : Taken) →
+    (c : Bool) (s : State) (step : Step) →
     step .before ≡ s →
     (r : ℕ) →
     phaseStarts r step ≡ true →
@@ -46,11 +46,11 @@ starts-from false s step e r h = rw e at h
 -- ── A demand of either kind ──
 
 module _
-    (site : Site) (q : ℕ) (met : Taken → Bool) (Stands : State → Type 0) (Last : Position → Type 0)
+    (site : Site) (q : ℕ) (met : Step → Bool) (Stands : State → Type 0) (Last : Position → Type 0)
     (seen : SeenReady met)
     (again : (n : ℕ) (s : State) → Near (ringIn site) q met Stands Last n s → Near (ringIn site) q met Stands Last n (readyCore s))
     (one :
-    (ruling : Times) (n : ℕ) (s : State) (step : Taken) →
+    (ruling : Times) (n : ℕ) (s : State) (step : Step) →
     ValidLink (under site ruling) s step →
     Near (ringIn site) q met Stands Last n s →
     Nears (ringIn site) q met Stands Last n step) where
@@ -59,85 +59,85 @@ module _
 
   -- the steps from one on that was seen to near the demand, by whether it meets it
   from-step :
-      (n : ℕ) (s : State) (ruling : Times) (step : TimedStep) (later : List Taken) →
+      (n : ℕ) (s : State) (ruling : Times) (step : Step) (later : List Step) →
       TimedLink site s ruling step →
-      Nears (ringIn site) q met Stands Last n (viewed (plainFrom (step .changed) s) (step .taken)) →
-      ((m : ℕ) → Near (ringIn site) q met Stands Last m (step .taken .after) → Falling key m (untilMet met later)) →
-      Falling key n (untilMet met (step .taken ∷ later))
+      Nears (ringIn site) q met Stands Last n (viewed (plainFrom (step .changed) s) step) →
+      ((m : ℕ) → Near (ringIn site) q met Stands Last m (step .after) → Falling key m (untilMet met later)) →
+      Falling key n (untilMet met (step ∷ later))
   unfolding untilMet
   from-step n s ruling step later link nears rest =
       ⊎-elim
-      (λ (e : met (step .taken) ≡ true). rw e (nears .left, falls, tt))
-      (λ (e : met (step .taken) ≡ false).
+      (λ (e : met step ≡ true). rw e (nears .left, falls, tt))
+      (λ (e : met step ≡ false).
       rw e (
         nears .left,
         falls,
         ⊎-elim
-            (λ (m : met (viewed (plainFrom (step .changed) s) (step .taken)) ≡ true).
+            (λ (m : met (viewed (plainFrom (step .changed) s) step) ≡ true).
             absurd (never-both (truly site met seen s ruling step link m) e))
             (rest (nears .left))
             (nears .near),
       ))
-      (decided (met (step .taken)))
+      (decided (met step))
     where
-      falls : Falls key n (step .taken) (nears .left)
-      falls = (nears .falls .0, λ r e. nears .falls .1 r (starts-from (step .changed) s (step .taken) (link .before) r e))
+      falls : Falls key n step (nears .left)
+      falls = (nears .falls .0, λ r e. nears .falls .1 r (starts-from (step .changed) s step (link .before) r e))
 
   near-from : (c : Bool) (n : ℕ) (s : State) → Near (ringIn site) q met Stands Last n s → Near (ringIn site) q met Stands Last n (plainFrom c s)
   near-from true n s near = again n s near
   near-from false n s near = near
 
   falling :
-      (later : List TimedStep) (n : ℕ) (s : State) (ruling : Times) →
+      (later : List Step) (n : ℕ) (s : State) (ruling : Times) →
       TimedRun site s ruling later →
       Near (ringIn site) q met Stands Last n s →
-      Falling key n (untilMet met (takens later))
+      Falling key n (untilMet met later)
   unfolding untilMet
   falling [] n s ruling run near = tt
   falling (step ∷ later) n s ruling run near =
       let from = plainFrom (step .changed) s in
-      from-step n s ruling step (takens later) (run .0)
-      (one (step .ruling) n from (viewed from (step .taken)) (run .0 .plain) (near-from (step .changed) n s near))
-      (λ m near. falling later m (step .taken .after) (step .ruling) (run .1) near)
+      from-step n s ruling step later (run .0)
+      (one (step .ruling) n from (viewed from step) (run .0 .plain) (near-from (step .changed) n s near))
+      (λ m near. falling later m (step .after) (step .ruling) (run .1) near)
 
   -- from the step that registers it on
   pub falling-first :
-      (s : State) (ruling : Times) (step : TimedStep) (later : List TimedStep) →
+      (s : State) (ruling : Times) (step : Step) (later : List Step) →
       TimedRun site s ruling (step ∷ later) →
       q < site .size .phases →
       (let from = plainFrom (step .changed) s in
-      Nears (ringIn site) q met Stands Last (startsLeft (ringIn site) q (from .position)) (viewed from (step .taken))) →
-      Falling key (site .size .phases) (untilMet met (takens (step ∷ later)))
+      Nears (ringIn site) q met Stands Last (startsLeft (ringIn site) q (from .position)) (viewed from step)) →
+      Falling key (site .size .phases) (untilMet met (step ∷ later))
   falling-first s ruling step later run below nears =
       let from = plainFrom (step .changed) s in
       let n = startsLeft (ringIn site) q (from .position) in
-      falling-more key n (site .size .phases) (untilMet met (takens (step ∷ later)))
+      falling-more key n (site .size .phases) (untilMet met (step ∷ later))
       (starts-most (under site (step .ruling)) q (run .0 .plain .sound) below from (run .0 .plain .here))
-      (from-step n s ruling step (takens later) (run .0) nears (λ m near. falling later m (step .taken .after) (step .ruling) (run .1) near))
+      (from-step n s ruling step later (run .0) nears (λ m near. falling later m (step .after) (step .ruling) (run .1) near))
 
 -- ── Both kinds ──
 
 -- the starts fall, and there are no more than phases
-abbrev pub FallingTo : Site → ℕ → List Taken → Type 0
+abbrev pub FallingTo : Site → ℕ → List Step → Type 0
 FallingTo site p steps = Falling (fromStart (ringIn site) p) (site .size .phases) steps
 
-pub falls-once : (site : Site) (p : ℕ) (steps : List Taken) → FallingTo site p steps → (r : ℕ) → howMany (phaseStarts r) steps ≤ 1
+pub falls-once : (site : Site) (p : ℕ) (steps : List Step) → FallingTo site p steps → (r : ℕ) → howMany (phaseStarts r) steps ≤ 1
 falls-once site p steps falling r = starts-once (fromStart (ringIn site) p) r (site .size .phases) steps falling
 
 pub falls-few :
-    (site : Site) → Sound site → (p : ℕ) (steps : List Taken) → FallingTo site p steps → howMany (otherStarts p) steps < site .size .phases
+    (site : Site) → Sound site → (p : ℕ) (steps : List Step) → FallingTo site p steps → howMany (otherStarts p) steps < site .size .phases
 falls-few site sound p steps falling =
     omega (arith, others-few (fromStart (ringIn site) p) p (other-some (ringIn site) p) (site .size .phases) steps falling, sound .phases)
 
 module _
-    (site : Site) (sound : Sound site) (s : State) (ruling : Times) (step : TimedStep) (later : List TimedStep)
+    (site : Site) (sound : Sound site) (s : State) (ruling : Times) (step : Step) (later : List Step)
     (run : TimedRun site s ruling (step ∷ later)) where
-  lock-falling : (p : ℕ) → registersLocked site (step .taken) p ≡ true → FallingTo site p (untilMet (minimumGreenBegins p) (takens (step ∷ later)))
+  lock-falling : (p : ℕ) → registersLocked site step p ≡ true → FallingTo site p (untilMet (minimumGreenBegins p) (step ∷ later))
   lock-falling p r =
       let from = plainFrom (step .changed) s in
       let now = under site (step .ruling) in
       let here = lock-from site s ruling step (run .0) p r in
-      let below = lock-below now (run .0 .plain .sound) from (step .taken .inputs) p here in
+      let below = lock-below now (run .0 .plain .sound) from (step .inputs) p here in
       falling-first site p (minimumGreenBegins p) (LockStands p) (InLate p) (lock-seen p)
       (λ n s near. record { stands = lock-again p s (near .stands); bound = near .bound })
       (λ r n s step link near. lock-nears (under site r) p (link .sound) below s step link n near)
@@ -147,14 +147,14 @@ module _
       later
       run
       below
-      (lock-first now p (run .0 .plain .sound) below from (viewed from (step .taken)) (run .0 .plain) here)
+      (lock-first now p (run .0 .plain .sound) below from (viewed from step) (run .0 .plain) here)
 
   button-falling :
       (k p : ℕ) →
       k < site .size .movements →
       crosses (site .crossings) k p ≡ true →
-      registersPressed (step .taken) k ≡ true →
-      FallingTo site p (untilMet (walkBegins k) (takens (step ∷ later)))
+      registersPressed step k ≡ true →
+      FallingTo site p (untilMet (walkBegins k) (step ∷ later))
   button-falling k p l crossing r =
       let from = plainFrom (step .changed) s in
       let of = sound .crossing k l in
@@ -170,13 +170,13 @@ module _
       later
       run
       (of .1)
-      (button-first (under site (step .ruling)) q k (run .0 .plain .sound) (of .1) l (of .2) (of .3) from (viewed from (step .taken)) (run .0 .plain)
+      (button-first (under site (step .ruling)) q k (run .0 .plain .sound) (of .1) l (of .2) (of .3) from (viewed from step) (run .0 .plain)
       (button-from site s ruling step (run .0) k room r)))
 
 -- ── Over a run ──
 
 -- the claim at one step, for the steps after it
-abbrev At : Site → Taken → List Taken → Type 0
+abbrev At : Site → Step → List Step → Type 0
 At site step later =
     ((p : ℕ) → registersLocked site step p ≡ true → FallingTo site p (untilMet (minimumGreenBegins p) (step ∷ later)))
     × ((k p : ℕ) →
@@ -186,18 +186,18 @@ At site step later =
     FallingTo site p (untilMet (walkBegins k) (step ∷ later)))
 
 at-each :
-    (site : Site) → Sound site → (steps : List TimedStep) (s : State) (ruling : Times) → TimedRun site s ruling steps → Each (At site) (takens steps)
+    (site : Site) → Sound site → (steps : List Step) (s : State) (ruling : Times) → TimedRun site s ruling steps → Each (At site) steps
 at-each site sound [] s ruling run = tt
 at-each site sound (step ∷ later) s ruling run = (
   (lock-falling site sound s ruling step later run, button-falling site sound s ruling step later run),
-  at-each site sound later (step .taken .after) (step .ruling) (run .1),
+  at-each site sound later (step .after) (step .ruling) (run .1),
 )
 
 pub starts-fall :
     (site : Site) →
     Sound site →
-    (s : State) (ruling : Times) (steps : List TimedStep) →
+    (s : State) (ruling : Times) (steps : List Step) →
     TimedRun site s ruling steps →
-    WhileWaiting (FallingTo site) site (takens steps)
+    WhileWaiting (FallingTo site) site steps
 starts-fall site sound s ruling steps run earlier later step split =
-    each-at (At site) (takens steps) earlier later step split (at-each site sound steps s ruling run)
+    each-at (At site) steps earlier later step split (at-each site sound steps s ruling run)

@@ -1,4 +1,3 @@
 pub mod Violations
-pub mod TimedViolations
 pub mod Witnesses
 pub mod Refutations

@@ -3,89 +3,79 @@
 use mathlib.Core.Path.{refl}
 use lib.ListN.{set}
 use Rattle.rules.specs.Personality.{verdictOf}
-use Rattle.rules.specs.Step.{stepped}
 use Rattle.rules.specs.WaitBound.{waitBound}
 use Rattle.rules.specs.Junctions.{junction, slower, threePhases}
-use Rattle.rules.specs.DemandThree.{ruled, DemandThreeOf}
+use Rattle.rules.specs.Runs.{byRules}
+use Rattle.rules.specs.DemandThree.{DemandThreeOf}
+use Rattle.rules.specs.Scanning.{scanValid, steppedFinding, finding}
 use Rattle.rules.specs.PhaseWaits.{noneChanges}
 use Rattle.rules.specs.OnceEach.{isFirst, someStarts, phaseStarts, howMany, untilMet, OnceEachOf}
-use Rattle.rules.specs.TimedScanning.{scanValid, steppedFinding, finding}
 use Rattle.rules.proofs.Opened.{opened}
-use Rattle.proof_refutations.specs.Faults.{faulty, passed, passesTen, moved, is, agesOnly, neverAlters, leavesTheSite, endsTimed, endsOnTimer, choosing, choosesAgain, choosesEarlyAgain, clearing, dropsPresses, inventedBound, smallBound, ruledNow, retiming, demandedElse, fromTheBeginning, backTo, goesBack, setBack, settingBack}
+use Rattle.proof_refutations.specs.Faults.{scanned, faulty, passed, passesTen, with, moved, is, agesOnly, neverAlters, leavesTheSite, withoutSecond, endsOnTimer, choosing, choosesAgain, choosesEarlyAgain, clearing, dropsPresses, setsBack, inventedBound, smallBound, demandedElse, fromTheBeginning, backTo, goesBack, ruledNow, retiming}
 use Rattle.proof_refutations.specs.Refutations.{Refutations, SmallBoundFails, RulesAtOnceFails, StartsTwice, SettingBackFails}
-use Rattle.proof_refutations.proofs.Violations.{together, starts, cut, skipped, met, answers, refuted-by-greens, refuted-by-clearance, refuted-by-yellow, unmet-by-lock, unmet-by-button, refuted-by-wait, refuted-by-refusal, refuted-by-bound}
-use Rattle.proof_refutations.proofs.TimedViolations.{timedStarts, cutShort, refuted-by-cut, twice, refuted-by-start, unwalked, refuted-by-walk}
+use Rattle.proof_refutations.proofs.Violations.{together, starts, cut, skipped, unmet, answers, twice, unwalked, walked, refuted-by-greens, refuted-by-clearance, refuted-by-yellow, refuted-by-lock, refuted-by-button, refuted-by-refusal, refuted-by-bound, refuted-by-start, refuted-by-walk, unmet-by-button}
 use Rattle.proof_refutations.proofs.Witnesses.{callsFrom, crossings, longClearance, shared, sharedArrow, atOnce, walkThenB, laterB, pressedAgain, longestWait, calledAgain, thenA, stepsFrom, retimedInYellow}
 
 -- what the runs compute with
 unfoldable computing : Unit {0}
 unfolding
-    opened passed passesTen moved agesOnly neverAlters leavesTheSite is endsTimed endsOnTimer choosing choosesAgain choosesEarlyAgain clearing
-    dropsPresses inventedBound smallBound together starts cut skipped met answers callsFrom crossings shared sharedArrow atOnce walkThenB laterB
-    pressedAgain longestWait ruledNow timedStarts cutShort stepsFrom retimedInYellow demandedElse fromTheBeginning backTo goesBack scanValid
-    steppedFinding isFirst someStarts phaseStarts howMany untilMet twice thenA noneChanges unwalked setBack longClearance calledAgain
+    opened passed passesTen with moved agesOnly neverAlters leavesTheSite is withoutSecond endsOnTimer choosing choosesAgain choosesEarlyAgain clearing
+    dropsPresses inventedBound smallBound together starts cut skipped unmet answers walked callsFrom crossings shared sharedArrow atOnce walkThenB laterB
+    pressedAgain longestWait ruledNow stepsFrom retimedInYellow demandedElse fromTheBeginning backTo goesBack scanValid
+    steppedFinding isFirst someStarts phaseStarts howMany untilMet twice thenA noneChanges unwalked setsBack longClearance calledAgain
 computing = tt
 
 -- Group 1 of the junction is made one of A too: both groups are green in step 10.
-passes-ten : ¬ DemandThreeOf (faulty passesTen stepped waitBound)
+passes-ten : ¬ DemandThreeOf (faulty passesTen scanned waitBound)
 unfolding computing
-passes-ten = refuted-by-greens (faulty passesTen stepped waitBound) (set junction 42 3) refl (callsFrom atOnce 2 1 10) 9 0 1 refl
+passes-ten = refuted-by-greens (faulty passesTen scanned waitBound) (set junction 42 3) refl (stepsFrom atOnce 2 1 10) 9 0 1 refl
 
 -- B starts its green in step 120. The crossing was green in step 29 for the last time, and 90 steps are less than 50 + 50.
 ends-on-timer : ¬ DemandThreeOf (faulty verdictOf endsOnTimer waitBound)
 unfolding computing
 ends-on-timer =
-    refuted-by-clearance (faulty verdictOf endsOnTimer waitBound) (crossings 50) refl (callsFrom walkThenB 4 1 120) 28 119 1 2 refl refl
+    refuted-by-clearance (faulty verdictOf endsOnTimer waitBound) (crossings 50) refl (stepsFrom walkThenB 4 1 120) 28 119 1 2 refl refl
 
 -- A's group stays green in yellow for C, up to step 60; then the target is B, the group goes to red, and B starts in step 71.
 chooses-again : ¬ DemandThreeOf (faulty verdictOf choosesAgain waitBound)
 unfolding computing
-chooses-again = refuted-by-yellow (faulty verdictOf choosesAgain waitBound) (shared 0) refl (callsFrom laterB 2 1 71) 59 70 1 0 refl refl
+chooses-again = refuted-by-yellow (faulty verdictOf choosesAgain waitBound) (shared 0) refl (stepsFrom laterB 2 1 71) 59 70 1 0 0 refl refl
 
 -- The arrow stays green in early cut-off green for C, up to step 60; then the target is B, and it goes to red with no yellow, since its Y
 -- steps would be over. B starts in step 101.
 chooses-early-again : ¬ DemandThreeOf (faulty verdictOf choosesEarlyAgain waitBound)
 unfolding computing
 chooses-early-again =
-    refuted-by-yellow (faulty verdictOf choosesEarlyAgain waitBound) sharedArrow refl (callsFrom laterB 2 1 101) 59 100 1 0 refl refl
+    refuted-by-yellow (faulty verdictOf choosesEarlyAgain waitBound) sharedArrow refl (stepsFrom laterB 2 1 101) 59 100 1 0 0 refl refl
 
 -- B's detector in the first step: the bound of the junction is 270, and B does not start in 270 further steps.
 ages-only : ¬ DemandThreeOf (faulty verdictOf agesOnly waitBound)
 unfolding computing
-ages-only =
-    let controller = faulty verdictOf agesOnly waitBound in
-    let calls = callsFrom atOnce 2 1 271 in
-    refuted-by-wait controller junction refl calls (unmet-by-lock controller junction refl calls 270 0 1 refl)
+ages-only = refuted-by-lock (faulty verdictOf agesOnly waitBound) junction refl (stepsFrom atOnce 2 1 271) 0 1 refl
 
 never-alters : ¬ DemandThreeOf (faulty verdictOf neverAlters waitBound)
 unfolding computing
-never-alters =
-    let controller = faulty verdictOf neverAlters waitBound in
-    let calls = callsFrom atOnce 2 1 271 in
-    refuted-by-wait controller junction refl calls (unmet-by-lock controller junction refl calls 270 0 1 refl)
+never-alters = refuted-by-lock (faulty verdictOf neverAlters waitBound) junction refl (stepsFrom atOnce 2 1 271) 0 1 refl
 
 -- The press in step 31 is dropped; the bound is 270, and no walk begins in 270 further steps.
 drops-presses : ¬ DemandThreeOf (faulty verdictOf dropsPresses waitBound)
 unfolding computing
-drops-presses =
-    let controller = faulty verdictOf dropsPresses waitBound in
-    let calls = callsFrom pressedAgain 4 1 301 in
-    refuted-by-wait controller (crossings 10) refl calls (unmet-by-button controller (crossings 10) refl calls 270 30 0 refl refl)
+drops-presses = refuted-by-button (faulty verdictOf dropsPresses waitBound) (crossings 10) refl (stepsFrom pressedAgain 4 1 301) 30 0 refl refl
 
 -- The second call is refused with 13.
 leaves-the-site : ¬ DemandThreeOf (faulty verdictOf leavesTheSite waitBound)
 unfolding computing
-leaves-the-site = refuted-by-refusal (faulty verdictOf leavesTheSite waitBound) junction refl (callsFrom atOnce 2 1 2) 1 13 0 refl
+leaves-the-site = refuted-by-refusal (faulty verdictOf leavesTheSite waitBound) junction refl (stepsFrom atOnce 2 1 2) 1 13 0 270 refl
 
 -- The first call at the junction reports 600 steps, not 270.
-reports-invented : ¬ DemandThreeOf (faulty verdictOf stepped inventedBound)
+reports-invented : ¬ DemandThreeOf (faulty verdictOf scanned inventedBound)
 unfolding computing
-reports-invented = refuted-by-bound (faulty verdictOf stepped inventedBound) junction refl (callsFrom atOnce 2 1 1) 0 600 refl refl
+reports-invented = refuted-by-bound (faulty verdictOf scanned inventedBound) junction refl (stepsFrom atOnce 2 1 1) 0 600 270 refl refl
 
 -- The first call reports 420 steps, not 630.
-reports-small : ¬ DemandThreeOf (faulty verdictOf stepped smallBound)
+reports-small : ¬ DemandThreeOf (faulty verdictOf scanned smallBound)
 unfolding computing
-reports-small = refuted-by-bound (faulty verdictOf stepped smallBound) (crossings 100) refl (callsFrom walkThenB 4 1 1) 0 420 refl refl
+reports-small = refuted-by-bound (faulty verdictOf scanned smallBound) (crossings 100) refl (stepsFrom walkThenB 4 1 1) 0 420 630 refl refl
 
 pub refutations : Refutations
 refutations =
@@ -108,13 +98,13 @@ pub small-bound-fails : SmallBoundFails
 unfolding computing SmallBoundFails
 small-bound-fails holds =
     let calls = callsFrom longestWait 4 1 451 in
-    unmet-by-button ruled (crossings 100) refl calls 420 30 0 refl refl (holds (crossings 100) refl calls)
+    unmet-by-button byRules (crossings 100) refl calls 420 30 0 refl refl (holds (crossings 100) refl calls)
 
 -- The group of A is green in step 60 for the last time, and Y is then 40. In step 80 the junction's times rule, whose Y is 30: the group is red from
 -- step 91 on, the 31st step since, and B starts its green in step 101.
 pub rules-at-once-fails : RulesAtOnceFails
 unfolding computing RulesAtOnceFails
-rules-at-once-fails = refuted-by-cut (retiming ruledNow) slower refl retimedInYellow 59 100 1 0 30 refl refl
+rules-at-once-fails = refuted-by-yellow (retiming ruledNow) slower refl retimedInYellow 59 100 1 0 30 refl refl
 
 -- C waits from step 1 on. A starts in step 10, B in step 71, and A again in step 132.
 from-the-beginning : ¬ OnceEachOf (finding fromTheBeginning)
@@ -132,4 +122,4 @@ starts-twice = record { fromTheBeginning = from-the-beginning; goesBack = goes-b
 -- again, in step 330: then A goes on for its whole maximum green, and no walk begins in steps 31 to 430, as many as the wait.
 pub setting-back-fails : SettingBackFails
 unfolding computing SettingBackFails
-setting-back-fails = refuted-by-walk settingBack longClearance refl (stepsFrom calledAgain 3 1 430) 30 0 0 refl
+setting-back-fails = refuted-by-walk (faulty verdictOf setsBack waitBound) longClearance refl (stepsFrom calledAgain 3 1 430) 30 0 0 refl

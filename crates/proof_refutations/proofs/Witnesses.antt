@@ -6,11 +6,10 @@ use lib.Dec.{leb, eqb}
 use lib.ListN.{replicate}
 use Rattle.laws.specs.Folds.{if_then_else_}
 use Rattle.rules.specs.Junctions.{two, twos, fours, sections, shortPhase, junction, cutOffs}
-use Rattle.rules.specs.DemandThree.{Call}
-use Rattle.rules.specs.TimedDemandThree.{Given, stepCall, retimeCall}
+use Rattle.rules.specs.Runs.{StepCall, Call, stepCall, retimeCall}
 
 -- n calls from a step on, whose input bits are given by the step, with a buffer for so many groups
-unfoldable pub callsFrom : (ℕ → ℕ) → ℕ → ℕ → ℕ → List Call
+unfoldable pub callsFrom : (ℕ → ℕ) → ℕ → ℕ → ℕ → List StepCall
 callsFrom inputs groups step zero = []
 callsFrom inputs groups step (suc n) =
     record { inputs = inputs step; buffer = replicate groups 0 } ∷ callsFrom inputs groups (step + 1) n
@@ -91,10 +90,10 @@ thenA step = if eqb step 1 then 6 else if eqb step 40 then 1 else 0
 
 -- ── Calls with a retiming among them ──
 
--- n step calls from a step on, as step calls of a list with retiming calls
-unfoldable pub stepsFrom : (ℕ → ℕ) → ℕ → ℕ → ℕ → List Given
+-- n such step calls as calls of a run
+unfoldable pub stepsFrom : (ℕ → ℕ) → ℕ → ℕ → ℕ → List Call
 stepsFrom inputs groups step n = map stepCall (callsFrom inputs groups step n)
 
 -- 79 steps of the junction with longer times, with detector 1 in the first; then the times of the junction; then 22 steps
-unfoldable pub retimedInYellow : List Given
+unfoldable pub retimedInYellow : List Call
 retimedInYellow = stepsFrom atOnce 2 1 79 ++ retimeCall junction ∷ stepsFrom atOnce 2 80 22

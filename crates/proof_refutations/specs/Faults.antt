@@ -1,13 +1,12 @@
--- Controllers that must not pass: each is the controller of the scanning rules with its verdict, its step or its wait replaced. For the same
--- calls the scanning rules answer as the rules do (`RunForgets`). The last four are the controller of the timed rules with its retiming replaced,
--- and that of the scanning timed rules (`TimedRunForgets`) with its search for the next phase or its counts replaced.
+-- Controllers that must not pass. Each but one is the controller of the scanning rules with its verdict, its step, its wait or its search for the next
+-- phase replaced. For the same calls the scanning rules answer as the rules do (`RunForgets`). The last is the controller of the rules with its
+-- retiming replaced.
 use Prim.Native.Nat.{ℕ, _+_, _-_, _^_}
 use mathlib.Core.Bool.{Bool, not, _&&_, _||_}
-use mathlib.Core.List.{List}
+use mathlib.Core.List.{List, map}
 use lib.Dec.{leb, eqb}
 use Rattle.rules.specs.declared.answer.Verdict.{Verdict}
 use Rattle.rules.specs.declared.answer.Verdict.the-variants.{Accepted, Refused}
-use Rattle.rules.specs.declared.site.PhaseTimes.{PhaseTimes}
 use Rattle.rules.specs.declared.site.Site.{Site}
 use Rattle.rules.specs.declared.site.Times.{Times}
 use Rattle.rules.specs.declared.state.Counts.{Counts}
@@ -18,26 +17,26 @@ use Rattle.rules.specs.declared.state.Interval.the-variants.{StartRed, EarlyCut
 use Rattle.rules.specs.declared.state.Movement.{Movement}
 use Rattle.rules.specs.declared.state.Position.{Position}
 use Rattle.rules.specs.declared.state.State.{State}
-use Rattle.rules.specs.declared.state.TimedState.{TimedState}
 use Rattle.laws.specs.Folds.{if_then_else_, sumOf}
 use Rattle.rules.specs.Site.{phaseTimes, ring}
-use Rattle.rules.specs.IntervalTable.{intervalRow, isIdle, isWalk, isStartRed, isHeld}
+use Rattle.rules.specs.IntervalTable.{intervalRow, isIdle, isWalk, isSecond, isStartRed, isHeld}
 use Rattle.rules.specs.Personality.{verdictOf}
-use Rattle.rules.specs.State.{movement}
+use Rattle.rules.specs.State.{idle, movement}
 use Rattle.rules.specs.Demands.{pressed, demanded, firstIn, nextDemanded}
-use Rattle.rules.specs.Interval.{ends, entering, staying, positionAfter}
-use Rattle.rules.specs.Step.{steppedBy, stepped}
-use Rattle.rules.specs.WaitBound.{phaseShare, longestWalk, longestClearance}
-use Rattle.rules.specs.DemandThree.{Controller, controllerOf}
-use Rattle.rules.specs.Scanning.{withoutKept}
-use Rattle.rules.specs.Timed.{noneWaiting}
-use Rattle.rules.specs.TimedCall.{timedParts, retimed}
-use Rattle.rules.specs.TimedDemandThree.{TimedController, timedControllerOf}
-use Rattle.rules.specs.TimedScanning.{partsFinding}
+use Rattle.rules.specs.Interval.{entering, staying}
+use Rattle.rules.specs.WaitBound.{phaseShare, longestWalk, longestClearance, waitBound}
+use Rattle.rules.specs.Timed.{TimedState, ruledSite, noneWaiting, timedValid, timedStepped}
+use Rattle.rules.specs.TimedCall.{retimed}
+use Rattle.rules.specs.Runs.{Controller, controllerOf}
+use Rattle.rules.specs.Scanning.{scanValid, steppedFinding}
 
--- `scanning` is `faulty verdictOf stepped waitBound`
-abbrev pub faulty : (List ℕ → Verdict) → (Site → State → ℕ → State) → (Site → ℕ) → Controller State
-faulty verdict step wait = controllerOf (withoutKept verdict step wait)
+-- the step of the scanning rules
+abbrev pub scanned : Site → TimedState → ℕ → TimedState
+scanned = steppedFinding nextDemanded
+
+-- `scanning` is `faulty verdictOf scanned waitBound`
+abbrev pub faulty : (List ℕ → Verdict) → (Site → TimedState → ℕ → TimedState) → (Site → ℕ) → Controller TimedState
+faulty verdict step wait = controllerOf verdict scanValid step wait retimed
 
 -- ── A verdict that is wrong ──
 
@@ -51,21 +50,31 @@ passesTen b = passed (verdictOf b)
 
 -- ── Steps that are wrong: the state ──
 
--- a state at another position
-unfoldable pub moved : State → Position → State
-moved s position = record { position = position; counts = s .counts; demands = s .demands; movements = s .movements }
+-- a state with another position, other counts or other movements
+unfoldable pub with : TimedState → Position → Counts → List Movement → TimedState
+with s position counts movements =
+    record {
+      core = record { position = position; counts = counts; demands = s .core .demands; movements = movements };
+      kept = s .kept;
+      ruling = s .ruling;
+      waiting = s .waiting;
+    }
+
+unfoldable pub moved : TimedState → Position → TimedState
+moved s position = with s position (s .core .counts) (s .core .movements)
 
 -- the first step truly, then only ages: no other state of its runs has start red at age 1
-unfoldable pub agesOnly : Site → State → ℕ → State
+unfoldable pub agesOnly : Site → TimedState → ℕ → TimedState
 agesOnly site s inputs =
-    if isStartRed (s .position .interval) && eqb (s .position .age) 1 then stepped site s inputs else moved s (staying (s .position))
+    let old = s .core .position in
+    if isStartRed (old .interval) && eqb (old .age) 1 then scanned site s inputs else moved s (staying old)
 
 -- the state, and so the lights, never alter
-unfoldable pub neverAlters : Site → State → ℕ → State
+unfoldable pub neverAlters : Site → TimedState → ℕ → TimedState
 neverAlters site s inputs = s
 
 -- to a phase that the site doesn't have; the next call then finds no valid state
-unfoldable pub leavesTheSite : Site → State → ℕ → State
+unfoldable pub leavesTheSite : Site → TimedState → ℕ → TimedState
 leavesTheSite site s inputs =
     moved s (record { phase = site .size .phases; interval = StartRed; age = 1; previous = Nothing; target = Nothing })
 
@@ -75,26 +84,33 @@ leavesTheSite site s inputs =
 unfoldable pub is : Interval → Interval → Bool
 is this interval = eqb (intervalRow interval .code) (intervalRow this .code)
 
--- all-red ends on its timer while C2 still runs
-unfoldable pub endsTimed : Interval → ℕ → PhaseTimes → ℕ → Bool → List Movement → Counts → Bool
-endsTimed interval start times age another movements counts =
-    if is AllRed interval then leb (times .red) age else ends interval start times age another movements counts
+-- a movement in C2 is idle
+unfoldable pub withoutSecond : Movement → Movement
+withoutSecond movement = if isSecond (movement .stage) then idle else movement
 
-unfoldable pub endsOnTimer : Site → State → ℕ → State
-endsOnTimer site s inputs = steppedBy endsTimed positionAfter (site .times) (nextDemanded site s inputs) site s inputs
+-- all-red ends on its timer, and C2 with it
+unfoldable pub endsOnTimer : Site → TimedState → ℕ → TimedState
+endsOnTimer site s inputs =
+    let old = s .core .position in
+    let over = is AllRed (old .interval) && leb (phaseTimes (s .ruling) (old .phase) .red) (old .age) in
+    scanned site (if over then with s old (s .core .counts) (map withoutSecond (s .core .movements)) else s) inputs
 
--- the target is chosen again when an interval ends, and the one that follows it is entered with that target
-unfoldable pub choosing : Interval → Interval → Bool → Times → Held → Position → Position
-choosing last new ended times next position =
-    if ended && is last (position .interval) then entering new next position else positionAfter ended times next position
+-- when an interval ends and the one that follows it is entered, the target is chosen again
+unfoldable pub choosing : Interval → Interval → Site → TimedState → ℕ → TimedState
+choosing last new site s inputs =
+    let old = s .core .position in
+    let after = scanned site s inputs in
+    if is last (old .interval) && is new (after .core .position .interval)
+    then moved after (entering new (nextDemanded (ruledSite site s) (s .core) inputs) old)
+    else after
 
 -- the target is chosen again after yellow
-unfoldable pub choosesAgain : Site → State → ℕ → State
-choosesAgain site s inputs = steppedBy ends (choosing Yellow AllRed) (site .times) (nextDemanded site s inputs) site s inputs
+unfoldable pub choosesAgain : Site → TimedState → ℕ → TimedState
+choosesAgain = choosing Yellow AllRed
 
 -- the target is chosen again after early cut-off green
-unfoldable pub choosesEarlyAgain : Site → State → ℕ → State
-choosesEarlyAgain site s inputs = steppedBy ends (choosing EarlyCutOff Yellow) (site .times) (nextDemanded site s inputs) site s inputs
+unfoldable pub choosesEarlyAgain : Site → TimedState → ℕ → TimedState
+choosesEarlyAgain = choosing EarlyCutOff Yellow
 
 -- ── A step that is wrong: part 1 ──
 
@@ -103,8 +119,19 @@ unfoldable pub clearing : State → ℕ → Bool
 clearing s k = not (isIdle (movement s k .stage) || isWalk (movement s k .stage))
 
 -- a press while its movement is in clearance is dropped: its bit is taken off the inputs
-unfoldable pub dropsPresses : Site → State → ℕ → State
-dropsPresses site s inputs = stepped site s (inputs - sumOf (λ k. if pressed inputs k && clearing s k then 2 ^ (48 + k) else 0) 8)
+unfoldable pub dropsPresses : Site → TimedState → ℕ → TimedState
+dropsPresses site s inputs =
+    scanned site s (inputs - sumOf (λ k. if pressed inputs k && clearing (s .core) k then 2 ^ (48 + k) else 0) (site .size .movements))
+
+-- ── A step that is wrong: the counts ──
+
+-- the maximum count is set back when no other phase is demanded, so when a call without lock drops away
+unfoldable pub setsBack : Site → TimedState → ℕ → TimedState
+setsBack site s inputs =
+    let core = s .core in
+    let counts : Counts =
+    if isHeld (nextDemanded site core inputs) then core .counts else record { gap = core .counts .gap; maximum = 0 } in
+    scanned site (with s (core .position) counts (core .movements)) inputs
 
 -- ── Wait bounds that are wrong ──
 
@@ -119,17 +146,7 @@ smallBound site =
     let c = longestClearance (site .crossings) (site .times .walks) (site .size .movements) in
     site .times .start + sumOf (λ p. phaseShare (phaseTimes (site .times) p) (a p) (c p) - (a p + c p)) (site .size .phases)
 
--- ── A retiming call that is wrong ──
-
--- the new times rule at once, and none wait
-unfoldable pub ruledNow : TimedState → Times → TimedState
-ruledNow s times = record { core = s .core; kept = s .kept; ruling = times; waiting = noneWaiting }
-
--- the controller of the rules with such a retiming; `timed` is `retiming retimed`
-abbrev pub retiming : (TimedState → Times → TimedState) → TimedController TimedState
-retiming retimed = timedControllerOf timedParts (λ s. s .waiting .present) retimed
-
--- ── Searches for the next phase that are wrong; `timedScanning` is `finding nextDemanded` ──
+-- ── Searches for the next phase that are wrong; `scanning` is `finding nextDemanded` ──
 
 -- another phase that is demanded
 unfoldable pub demandedElse : Site → State → ℕ → ℕ → Bool
@@ -147,34 +164,12 @@ backTo (Phase p) site s inputs = if demandedElse site s inputs p then Phase p el
 unfoldable pub goesBack : Site → State → ℕ → Held
 goesBack site s inputs = backTo (s .position .previous) site s inputs
 
--- ── Counts that are wrong ──
+-- ── A retiming call that is wrong ──
 
--- the maximum count is set back when no other phase is demanded, so when a call without lock drops away
-unfoldable pub setBack : Site → TimedState → ℕ → TimedState
-setBack site s inputs =
-    let core = s .core in
-    let counts : Counts =
-    if isHeld (nextDemanded site core inputs) then core .counts else record { gap = core .counts .gap; maximum = 0 } in
-    record {
-      core = record { position = core .position; counts = counts; demands = core .demands; movements = core .movements };
-      kept = s .kept;
-      ruling = s .ruling;
-      waiting = s .waiting;
-    }
+-- the new times rule at once, and none wait
+unfoldable pub ruledNow : TimedState → Times → TimedState
+ruledNow s times = record { core = s .core; kept = s .kept; ruling = times; waiting = noneWaiting }
 
--- each step is that of the scanning timed rules from such a state
-abbrev pub settingBack : TimedController TimedState
-settingBack =
-    let parts = partsFinding nextDemanded in
-    timedControllerOf
-    (record {
-      verdict = parts .verdict;
-      fresh = parts .fresh;
-      valid = parts .valid;
-      step = λ site s inputs. parts .step site (setBack site s inputs) inputs;
-      wait = parts .wait;
-      seen = parts .seen;
-      ruling = parts .ruling;
-    })
-    (λ s. s .waiting .present)
-    retimed
+-- the controller of the rules with such a retiming; `byRules` is `retiming retimed`
+abbrev pub retiming : (TimedState → Times → TimedState) → Controller TimedState
+retiming retimed = controllerOf verdictOf timedValid timedStepped waitBound retimed

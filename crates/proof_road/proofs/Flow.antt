@@ -13,7 +13,8 @@ use Rattle.laws.specs.Bytes.{byteAt}
 use Rattle.laws.proofs.Booleans.{and-right}
 use Rattle.laws.proofs.Lists.{list-at}
 use Rattle.rules.specs.Colours.{green}
-use Rattle.rules.specs.Call.{bufferOf}
+use Rattle.rules.specs.Timed.{withOwnTimes}
+use Rattle.rules.specs.Runs.{byRules}
 use Rattle.rules.specs.Site.{siteOf}
 use Rattle.road_streams.specs.declared.Traffic.{Traffic}
 use Rattle.road_streams.specs.Road.{streamCount, streamAt, noTraffic, queues, arrived, counted, released, trafficOf, arrivals, inputsOf, releases, blankColours, freshRoad, roadStepped, roadAfter}
@@ -112,7 +113,7 @@ module _ (b streams : List ℕ) (i : ℕ) (l : i < streamCount streams) where
   road-flow small (suc n) =
       let road = roadAfter b streams n in
       let waiting = arrivals streams (road .traffic) in
-      let colours = bufferOf b (road .state) (inputsOf streams waiting) blankColours in
+      let colours = byRules .buffer b (withOwnTimes (siteOf b) (road .state)) (inputsOf streams waiting) blankColours in
       rw (releases-at colours waiting, arrivals-at (road .traffic))
       (flow-released _ (suc n) _ _ (flow-arrived _ n _ small (road-flow small n)))
 

@@ -20,10 +20,16 @@ use Rattle.rules.specs.Personality.{verdictOf}
 use Rattle.rules.specs.Site.{siteOf}
 use Rattle.rules.specs.Kept.{keptValid, keptStepped}
 use Rattle.rules.specs.Colours.{coloursOf}
-use Rattle.rules.specs.Call.{wired, strayInput, stepVerdict, checksBy, callVerdict, handedBack, bufferFor, answerOf, bufferOf}
-use Rattle.rules.specs.Laws.{Sound, AcceptedIsSound, FreshIsValid, StepKeepsValid}
+use Rattle.rules.specs.Timed.{TimedState, keptOf, withOwnTimes, noneWaiting, timedValid, takesOver, rulingNext, timedStepped}
+use Rattle.rules.specs.Call.{wired, strayInput, stepVerdict, handedBack, bufferFor, checksBy}
+use Rattle.rules.specs.TimedCall.{timedVerdict}
+use Rattle.rules.specs.Runs.{byRules}
+use Rattle.rules.specs.Laws.{Sound, AcceptedIsSound}
+use Rattle.rules.specs.TimedLaws.{AcceptedIsAdmitted}
 use Rattle.proof_acceptance.proofs.Acceptance.{accepted-is-sound}
-use Rattle.proof_guarantees.proofs.Accepted.{fresh-is-valid, step-keeps-valid}
+use Rattle.proof_change.proofs.KeptValid.{kept-fresh-valid, kept-stepped-valid}
+use Rattle.proof_change.proofs.Timed.{none-valid}
+use Rattle.proof_time_bytes.proofs.Elsewhere.{accepted-is-admitted}
 use Rattle.road_streams.specs.declared.Traffic.{Traffic}
 use Rattle.road_streams.specs.Road.{streamCount, streamAt, badStreams, queues, trafficOf, isOccupied, arrivals, inputsOf, blankColours, freshRoad, roadStepped, roadAfter}
 use Rattle.proof_road.specs.Roads.{inputsAt, NoStepRefused, RoadIsValid}
@@ -70,45 +76,48 @@ module _ (b streams : List ℕ) (steps : ℕ) (read : verdictOf b ≡ Accepted) 
   pub wired-inputs : (traffic : List Traffic) → strayInput (siteOf b) (inputsOf streams traffic) ≡ false
   wired-inputs traffic = inputs-known (siteOf b) streams steps traffic (known-streams (siteOf b) streams steps known)
 
+  -- the state handed to the call
+  abbrev own : KeptState → TimedState
+  own s = withOwnTimes (siteOf b) s
+
   room-enough : ltb (length blankColours) (siteOf b .size .groups) ≡ false
   unfolding blankColours
   room-enough = le-ltb 32 (siteOf b .size .groups) (sound .groups .1)
 
-  pub call-accepted :
-      (s : KeptState) (traffic : List Traffic) →
-      keptValid (siteOf b) s ≡ true →
-      callVerdict b s (inputsOf streams traffic) (length blankColours) ≡ Accepted
-  unfolding checksBy stepVerdict _orElse_ refuseIf
-  call-accepted s traffic v = rw (read, v, wired-inputs traffic, room-enough)
+  own-valid : (s : KeptState) → timedValid (siteOf b) (own s) ≡ keptValid (siteOf b) s
+  unfolding timedValid AcceptedIsAdmitted
+  own-valid s = rw (accepted-is-admitted b read, none-valid (siteOf b))
 
-  -- the state and the buffer that it gives
-  pub state-given :
-      (s : KeptState) (traffic : List Traffic) →
-      keptValid (siteOf b) s ≡ true →
-      answerOf b s (inputsOf streams traffic) (length blankColours) .state ≡ keptStepped (siteOf b) s (inputsOf streams traffic)
-  unfolding answerOf handedBack
-  state-given s traffic v = rw (call-accepted s traffic v)
+  module _ (s : KeptState) (traffic : List Traffic) (v : keptValid (siteOf b) s ≡ true) where
+    pub call-accepted : timedVerdict b (own s) (inputsOf streams traffic) (length blankColours) ≡ Accepted
+    unfolding checksBy stepVerdict _orElse_ refuseIf
+    call-accepted = rw (read, own-valid s, v, wired-inputs traffic, room-enough)
 
-  pub colours-given :
-      (s : KeptState) (traffic : List Traffic) →
-      keptValid (siteOf b) s ≡ true →
-      bufferOf b s (inputsOf streams traffic) blankColours
-      ≡ coloursOf (siteOf b) (keptStepped (siteOf b) s (inputsOf streams traffic) .core) ++ drop (siteOf b .size .groups) blankColours
-  unfolding bufferOf bufferFor
-  colours-given s traffic v = rw (call-accepted s traffic v)
+    -- the state and the buffer that it gives
+    pub state-given :
+        keptOf (byRules .next b (own s) (inputsOf streams traffic) (length blankColours)) ≡ keptStepped (siteOf b) s (inputsOf streams traffic)
+    unfolding byRules handedBack timedStepped rulingNext takesOver noneWaiting keptStepped
+    state-given = rw call-accepted
+
+    pub colours-given :
+        byRules .buffer b (own s) (inputsOf streams traffic) blankColours
+        ≡ coloursOf (siteOf b) (keptStepped (siteOf b) s (inputsOf streams traffic) .core) ++ drop (siteOf b .size .groups) blankColours
+    unfolding byRules bufferFor timedStepped rulingNext takesOver noneWaiting keptStepped
+    colours-given = rw call-accepted
 
   pub road-valid : (n : ℕ) → keptValid (siteOf b) (roadAfter b streams n .state) ≡ true
-  unfolding roadAfter freshRoad roadStepped FreshIsValid StepKeepsValid
-  road-valid zero = fresh-is-valid b read
+  unfolding roadAfter freshRoad roadStepped
+  road-valid zero = kept-fresh-valid (siteOf b) sound
   road-valid (suc n) =
       let road = roadAfter b streams n in
       let waiting = arrivals streams (road .traffic) in
       rw (state-given (road .state) waiting (road-valid n))
-      (step-keeps-valid b read (road .state) (inputsOf streams waiting) (road-valid n) (wired-inputs waiting))
+      (kept-stepped-valid (siteOf b) sound (road .state) (inputsOf streams waiting) (road-valid n) (wired-inputs waiting))
 
 pub road-is-valid : RoadIsValid
 unfolding RoadIsValid
-road-is-valid b streams steps read known n = road-valid b streams steps read known n
+road-is-valid b streams steps read known n =
+    own-valid b streams steps read known (roadAfter b streams n .state) ∙ road-valid b streams steps read known n
 
 pub no-step-refused : NoStepRefused
 unfolding NoStepRefused inputsAt

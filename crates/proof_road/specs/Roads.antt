@@ -2,20 +2,20 @@
 -- is a written one.
 use Prim.Native.Nat.{ℕ, _*_, _/_, _%_, _+_, _≤_, _<_}
 use mathlib.Core.Bool.{Bool, true, false, _||_}
-use mathlib.Core.List.{List, [], _∷_}
+use mathlib.Core.List.{List, map}
 use mathlib.Core.Logic.{_⊎_}
 use mathlib.Core.Path.{_≡_}
 use lib.Dec.{eqb}
 use lib.ListN.{length}
 use Rattle.rules.specs.declared.answer.Verdict.the-variants.{Accepted, Refused}
-use Rattle.rules.specs.declared.state.KeptState.{KeptState}
 use Rattle.laws.specs.Folds.{listOf}
 use Rattle.rules.specs.Personality.{verdictOf}
 use Rattle.rules.specs.Site.{siteOf}
-use Rattle.rules.specs.Kept.{freshKept, keptValid}
-use Rattle.rules.specs.Call.{callVerdict, answerOf}
+use Rattle.rules.specs.Timed.{TimedState, withOwnTimes, timedValid}
+use Rattle.rules.specs.TimedCall.{timedVerdict}
 use Rattle.rules.specs.Laws.{readingNumber, PlaceIn}
-use Rattle.rules.specs.DemandThree.{Call, ruled, takenFrom, SafeRun}
+use Rattle.rules.specs.Runs.{byRules, StepCall, stepCall, takenFrom, leftBy}
+use Rattle.rules.specs.StepDemandThree.{SafeStepRun}
 use Rattle.road_streams.specs.declared.Traffic.{Traffic}
 use Rattle.road_streams.specs.Road.{streamCount, streamAt, badStreams, trafficOf, arrivals, inputsOf, blankColours, roadAfter, roadVerdict}
 
@@ -44,6 +44,10 @@ VehiclesAreCounted =
 unfoldable pub inputsAt : List ℕ → List ℕ → ℕ → ℕ
 inputsAt b streams n = inputsOf streams (arrivals streams (roadAfter b streams n .traffic))
 
+-- the state handed to it: the personality's own times rule
+abbrev pub stateAt : List ℕ → List ℕ → ℕ → TimedState
+stateAt b streams n = withOwnTimes (siteOf b) (roadAfter b streams n .state)
+
 -- no step call of the road is refused
 unfoldable pub NoStepRefused : Type 0
 NoStepRefused =
@@ -51,7 +55,7 @@ NoStepRefused =
     verdictOf b ≡ Accepted →
     badStreams (siteOf b) streams steps ≡ false →
     (n : ℕ) →
-    callVerdict b (roadAfter b streams n .state) (inputsAt b streams n) (length blankColours) ≡ Accepted
+    timedVerdict b (stateAt b streams n) (inputsAt b streams n) (length blankColours) ≡ Accepted
 
 -- every state of the road is valid
 unfoldable pub RoadIsValid : Type 0
@@ -60,25 +64,20 @@ RoadIsValid =
     verdictOf b ≡ Accepted →
     badStreams (siteOf b) streams steps ≡ false →
     (n : ℕ) →
-    keptValid (siteOf b) (roadAfter b streams n .state) ≡ true
+    timedValid (siteOf b) (stateAt b streams n) ≡ true
 
 -- ── The list of its step calls ──
 
-unfoldable pub callAt : List ℕ → List ℕ → ℕ → Call
+unfoldable pub callAt : List ℕ → List ℕ → ℕ → StepCall
 callAt b streams n = record { inputs = inputsAt b streams n; buffer = blankColours }
 
 -- those of n steps, in order
-unfoldable pub roadCalls : List ℕ → List ℕ → ℕ → List Call
+unfoldable pub roadCalls : List ℕ → List ℕ → ℕ → List StepCall
 roadCalls b streams n = listOf (callAt b streams) n
-
--- the state that a list of calls hands back at the end
-unfoldable pub stateAfter : List ℕ → KeptState → List Call → KeptState
-stateAfter b s [] = s
-stateAfter b s (c ∷ calls) = stateAfter b (answerOf b s (c .inputs) (length (c .buffer)) .state) calls
 
 -- the state of the road is that of its list of calls
 unfoldable pub RoadIsRun : Type 0
-RoadIsRun = (b streams : List ℕ) (n : ℕ) → roadAfter b streams n .state ≡ stateAfter b freshKept (roadCalls b streams n)
+RoadIsRun = (b streams : List ℕ) (n : ℕ) → stateAt b streams n ≡ leftBy byRules b (byRules .fresh b) (map stepCall (roadCalls b streams n))
 
 -- demand 3 holds of the list
 unfoldable pub RoadIsSafe : Type 0
@@ -86,7 +85,7 @@ RoadIsSafe =
     (b streams : List ℕ) →
     verdictOf b ≡ Accepted →
     (n : ℕ) →
-    SafeRun (siteOf b) (takenFrom ruled b freshKept (roadCalls b streams n))
+    SafeStepRun (siteOf b) (takenFrom byRules b (byRules .fresh b) (map stepCall (roadCalls b streams n)))
 
 -- ── Refusals ──
 

@@ -17,7 +17,8 @@ use Rattle.rules.specs.Step.{stepped}
 use Rattle.rules.specs.Colours.{shownIn, coloursOf}
 use Rattle.rules.specs.Call.{strayInput, stepVerdict}
 use Rattle.rules.specs.Laws.{Sound}
-use Rattle.rules.specs.DemandThree.{Taken, shows}
+use Rattle.rules.specs.Runs.{Step}
+use Rattle.rules.specs.DemandThree.{shows}
 use Rattle.laws.proofs.Lists.{list-length, list-at}
 use Rattle.rules.proofs.Verdicts.{or-first, or-later, refuse-passed}
 use Rattle.proof_runs.proofs.ValidStates.{ValidState}
@@ -25,13 +26,13 @@ use Rattle.proof_runs.proofs.ValidStates.{ValidState}
 -- ── One link ──
 
 -- what an accepted step does from state s, and what is shown after it
-pub record Link (site : Site) (s : State) (step : Taken) : Type 0 where
+pub record Link (site : Site) (s : State) (step : Step) : Type 0 where
   pub before : step .before ≡ s
   pub after : step .after ≡ stepped site s (step .inputs)
   pub shown : (g : ℕ) → g < site .size .groups → shows step g ≡ shownIn site (step .after) g
 
 -- A link between valid states of the sound site whose times rule in the step.
-pub record ValidLink (site : Site) (s : State) (step : Taken) : Type 0 where
+pub record ValidLink (site : Site) (s : State) (step : Step) : Type 0 where
   pub sound : Sound site
   pub taken : Link site s step
   pub here : ValidState site s

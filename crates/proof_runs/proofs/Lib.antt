@@ -6,4 +6,4 @@ pub mod Ends
 pub mod Chains
 pub mod Each
 pub mod Alike
-pub mod AlikeParts
+pub mod Parts

@@ -22,7 +22,7 @@ use Rattle.rules.specs.Movements.{walkMayEnd, advanced, movementsAfter}
 use Rattle.rules.specs.Counts.{countsAfter}
 use Rattle.rules.specs.Interval.{ends, positionAfter, countsChanged, clearsLock, locksLeft, starts}
 use Rattle.rules.specs.Walks.{begins, walksBegun, buttonsLeft}
-use Rattle.rules.specs.Step.{steppedBy, steppedTo, stepped}
+use Rattle.rules.specs.Step.{steppedInto, steppedTo, stepped}
 use Rattle.laws.proofs.Lists.{list-at}
 use Rattle.laws.proofs.ByteSets.{bit-set}
 
@@ -76,11 +76,11 @@ module _ (site : Site) (s : State) (inputs : ℕ) where
       askedNow k && crosses (site .crossings) k (now .phase) && (started || (isRunning (now .interval) && not another && isIdle (moved k .stage)))
 
   pub position-of : stepped site s inputs .position ≡ now
-  unfolding stepped steppedTo steppedBy another counted moving ended now
+  unfolding stepped steppedTo steppedInto another counted moving ended now
   position-of = refl
 
   pub counts-of : stepped site s inputs .counts ≡ countsChanged ended (site .times) (s .position) now counted
-  unfolding stepped steppedTo steppedBy another counted moving ended now
+  unfolding stepped steppedTo steppedInto another counted moving ended now
   counts-of = refl
 
   pub moved-at : (k : ℕ) → k < 8 → getD moving k idle ≡ moved k
@@ -104,19 +104,19 @@ module _ (site : Site) (s : State) (inputs : ℕ) where
   begun-at k h = rw (asked-at k h, moved-at k h)
 
   pub locked-of : (p : ℕ) → p < 8 → locked (stepped site s inputs) p ≡ (lockedNow p && not (clearsLock ended now p))
-  unfolding stepped steppedTo steppedBy another counted moving ended now locked locksLeft
+  unfolding stepped steppedTo steppedInto another counted moving ended now locked locksLeft
   locked-of p h =
       bit-set (λ (p : ℕ). bit p (demandsAfter site s inputs .locks) && not (clearsLock ended now p)) p h
       ∙ ap (λ (t : Bool). t && not (clearsLock ended now p)) (locked-at p h)
 
   pub asked-of : (k : ℕ) → k < 8 → asked (stepped site s inputs) k ≡ (askedNow k && not (begun k))
-  unfolding stepped steppedTo steppedBy another counted moving ended now started asked buttonsLeft begins-at
+  unfolding stepped steppedTo steppedInto another counted moving ended now started asked buttonsLeft begins-at
   asked-of k h =
       bit-set (λ (k : ℕ). bit k (demandsAfter site s inputs .buttons) && not (begins-at k)) k h
       ∙ rw (asked-at k h, begun-at k h)
 
   pub movement-of : (k : ℕ) → k < 8 → movement (stepped site s inputs) k ≡ (if begun k then record { stage = Walk; age = 1 } else moved k)
-  unfolding stepped steppedTo steppedBy another counted moving ended now started movement walksBegun begins-at
+  unfolding stepped steppedTo steppedInto another counted moving ended now started movement walksBegun begins-at
   movement-of k h =
       list-at (λ (k : ℕ). if begins-at k then record { stage = Walk; age = 1 } else getD moving k idle) 8 k idle h
       ∙ rw (moved-at k h, begun-at k h)

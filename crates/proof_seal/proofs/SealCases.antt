@@ -7,7 +7,8 @@ use Rattle.state_forms.specs.Forms.{partsOf}
 use Rattle.state_bytes.specs.Layout.{encoded}
 use Rattle.state_timed.specs.TimedLayout.{isTimed, timedDecoded, timedEncoded}
 use Rattle.state_sealed.specs.Sealed.{bodyOf, sealedOf, otherVersion, damaged, otherPersonality, stateIn}
-use Rattle.board_seal.specs.SealCall.{isStateOf, recordVerdict}
+use Rattle.state_valid.specs.StateOf.{isStateOf}
+use Rattle.board_seal.specs.SealCall.{recordVerdict}
 use Rattle.proof_seal.specs.SealLaws.{Savable}
 use Rattle.proof_seal.specs.SealCases.{junctionState, JunctionStarts, junctionRecord, JunctionIsSealed, cases, CasesHold}
 use Rattle.proof_seal.proofs.SealLaws.{sealed-record}

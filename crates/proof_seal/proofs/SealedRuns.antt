@@ -2,32 +2,32 @@
 -- that the first part leaves, which is what is resumed.
 use Prim.Native.Nat.{ℕ}
 use mathlib.Core.Bool.{true}
-use mathlib.Core.List.{List, [], _∷_, _++_}
-use mathlib.Core.Path.{_≡_, refl, ap, subst⁻¹}
+use mathlib.Core.List.{List, [], _∷_}
+use mathlib.Core.Path.{_≡_, refl, subst⁻¹}
 use lib.ListN.{length}
 use Rattle.rules.specs.declared.answer.Verdict.{Verdict}
 use Rattle.rules.specs.declared.answer.Verdict.the-variants.{Accepted, Refused}
-use Rattle.rules.specs.declared.state.TimedState.{TimedState}
 use Rattle.rules.specs.Personality.{verdictOf}
 use Rattle.rules.specs.Site.{timesIn, siteOf}
-use Rattle.rules.specs.Timed.{freshTimed, timedValid, timedStepped}
+use Rattle.rules.specs.Timed.{TimedState, freshTimed, timedValid, timedStepped}
 use Rattle.rules.specs.Call.{boundFor, handedBack, checksBy}
-use Rattle.rules.specs.TimedCall.{timedVerdict, timedAnswerOf, retimeVerdict, retimed}
-use Rattle.rules.specs.TimedLaws.{FreshTimedIsValid, TimedStepKeepsValid, RetimeKeepsValid}
-use Rattle.rules.specs.TimedDemandThree.{TimedController, Given, stepCall, retimeCall, Made, stepMade, retimeMade, nextOf, stepOf, madeFrom}
+use Rattle.rules.specs.TimedCall.{timedVerdict, retimeChecksBy, retimeVerdict, retimed}
+use Rattle.rules.specs.TimedLaws.{FreshIsValid, StepKeepsValid, RetimeKeepsValid}
+use Rattle.rules.specs.Runs.{Call, stepCall, retimeCall, leftBy}
 use Rattle.proof_runs.proofs.Chains.{checks-told}
-use Rattle.proof_guarantees.proofs.TimedAccepted.{fresh-timed-is-valid, timed-step-keeps-valid, retime-keeps-valid}
+use Rattle.proof_runs.proofs.Parts.{taken-on, left-on}
+use Rattle.proof_guarantees.proofs.Accepted.{fresh-is-valid, step-keeps-valid, retime-keeps-valid}
 use Rattle.state_timed.specs.TimedLayout.{timedEncoded, ProperTimed}
 use Rattle.state_timed.proofs.TimedRoundTrips.{encoded-is-timed, decoded-encoded}
-use Rattle.board_step.specs.StepCall.{stateFor, stateAfter}
-use Rattle.board_retime.specs.RetimeCall.{retimeVerdictOn, retimeAfter}
-use Rattle.board_seal.specs.SealCall.{isStateOf}
+use Rattle.board_step.specs.StepCall.{stepChecks, steppedIn, stateAfter}
+use Rattle.board_retime.specs.RetimeCall.{retimeChecks, retimeAfter}
+use Rattle.state_valid.specs.StateOf.{isStateOf}
 use Rattle.proof_board.specs.BoardRuns.{board}
 use Rattle.proof_board.specs.ProperStates.{FreshTimedIsProper, TimedStepIsProper, RetimeIsProper}
 use Rattle.proof_board.proofs.Proper.{fresh-timed-is-proper, timed-step-is-proper, retime-is-proper}
 use Rattle.proof_board.proofs.BoardRuns.{fresh-bytes}
 use Rattle.proof_seal.specs.SealLaws.{Savable, ResumeGivesBack}
-use Rattle.proof_seal.specs.SealedRuns.{leftBy, RunsCanBeSealed, SealedRunsGoOn}
+use Rattle.proof_seal.specs.SealedRuns.{RunsCanBeSealed, SealedRunsGoOn}
 use Rattle.proof_seal.proofs.SealLaws.{resume-gives-back}
 
 -- ── Each call leaves a valid state that fits its bytes ──
@@ -53,11 +53,11 @@ module _ (b : List ℕ) (accepted : verdictOf b ≡ Accepted) where
       }
 
   fresh-left : Left b (timedEncoded (freshTimed (siteOf b)))
-  unfolding FreshTimedIsValid FreshTimedIsProper
+  unfolding FreshIsValid FreshTimedIsProper
   fresh-left = record {
     state = freshTimed (siteOf b);
     encoded = refl;
-    sure = record { valid = fresh-timed-is-valid b accepted; proper = fresh-timed-is-proper b accepted };
+    sure = record { valid = fresh-is-valid b accepted; proper = fresh-timed-is-proper b accepted };
   }
 
   module _ (s : TimedState) (sure : Sure b s) where
@@ -65,25 +65,22 @@ module _ (b : List ℕ) (accepted : verdictOf b ≡ Accepted) where
     unmoved = record { state = s; encoded = refl; sure = sure }
 
     stepped : (inputs room : ℕ) → timedVerdict b s inputs room ≡ Accepted → Sure b (timedStepped (siteOf b) s inputs)
-    unfolding checksBy TimedStepKeepsValid TimedStepIsProper
+    unfolding checksBy StepKeepsValid TimedStepIsProper
     stepped inputs room e =
         let wired = checks-told b inputs room (timedValid (siteOf b) s) e .1 in
         record {
-          valid = timed-step-keeps-valid b accepted s (sure .valid) inputs wired;
+          valid = step-keeps-valid b accepted s (sure .valid) inputs wired;
           proper = timed-step-is-proper b accepted s (sure .valid) (sure .proper) inputs wired;
         }
 
     step-left : (inputs room : ℕ) → Left b (stateAfter b (timedEncoded s) inputs room)
-    unfolding stateAfter timedAnswerOf stateFor boundFor handedBack
+    unfolding stateAfter stepChecks steppedIn isStateOf checksBy handedBack
     step-left inputs room =
-        rw (encoded-is-timed s, decoded-encoded s (sure .proper)) (by (timedVerdict b s inputs room) _ refl)
+        rw (encoded-is-timed s, decoded-encoded s (sure .proper)) (by (timedVerdict b s inputs room) refl)
       where
-        by :
-            (v : Verdict) (wait : ℕ) →
-            timedVerdict b s inputs room ≡ v →
-            Left b (stateFor (boundFor v wait) (handedBack v (timedStepped (siteOf b) s inputs) s) (timedEncoded s))
-        by Accepted wait e = record { state = timedStepped (siteOf b) s inputs; encoded = refl; sure = stepped inputs room e }
-        by (Refused number place) wait e = unmoved
+        by : (v : Verdict) → timedVerdict b s inputs room ≡ v → Left b (handedBack v (timedEncoded (timedStepped (siteOf b) s inputs)) (timedEncoded s))
+        by Accepted e = record { state = timedStepped (siteOf b) s inputs; encoded = refl; sure = stepped inputs room e }
+        by (Refused number place) e = unmoved
 
     retimed-sure : (new : List ℕ) → retimeVerdict b s new ≡ Accepted → Sure b (retimed s (timesIn new))
     unfolding RetimeKeepsValid RetimeIsProper
@@ -94,7 +91,7 @@ module _ (b : List ℕ) (accepted : verdictOf b ≡ Accepted) where
         }
 
     retime-left : (new : List ℕ) → Left b (retimeAfter b (timedEncoded s) new)
-    unfolding retimeAfter retimeVerdictOn handedBack
+    unfolding retimeAfter retimeChecks isStateOf retimeChecksBy handedBack
     retime-left new =
         rw (encoded-is-timed s, decoded-encoded s (sure .proper)) (by (retimeVerdict b s new) refl)
       where
@@ -102,7 +99,7 @@ module _ (b : List ℕ) (accepted : verdictOf b ≡ Accepted) where
         by Accepted e = record { state = retimed s (timesIn new); encoded = refl; sure = retimed-sure new e }
         by (Refused number place) e = unmoved
 
-  run-left : (buffer : List ℕ) (calls : List Given) (bytes : List ℕ) → Left b bytes → Left b (leftBy (board buffer) b bytes calls)
+  run-left : (buffer : List ℕ) (calls : List Call) (bytes : List ℕ) → Left b bytes → Left b (leftBy (board buffer) b bytes calls)
   unfolding leftBy board
   run-left buffer [] bytes left = left
   run-left buffer (stepCall c ∷ calls) bytes left =
@@ -121,27 +118,10 @@ runs-can-be-sealed buffer long b accepted calls =
 
 -- ── A run of two parts ──
 
-module _ {S : Type 0} (controller : TimedController S) (b : List ℕ) where
-  made-on :
-      (s : S) (calls later : List Given) →
-      madeFrom controller b s (calls ++ later) ≡ madeFrom controller b s calls ++ madeFrom controller b (leftBy controller b s calls) later
-  unfolding madeFrom leftBy
-  made-on s [] later = refl
-  made-on s (stepCall c ∷ calls) later =
-      ap (λ (rest : List Made). stepMade (stepOf controller b s c) ∷ rest) (made-on (nextOf controller b s c) calls later)
-  made-on s (retimeCall new ∷ calls) later =
-      ap (λ (rest : List Made). retimeMade new (controller .retimeVerdict b s new) ∷ rest) (made-on (controller .retimed b s new) calls later)
-
-  left-on : (s : S) (calls later : List Given) → leftBy controller b s (calls ++ later) ≡ leftBy controller b (leftBy controller b s calls) later
-  unfolding leftBy
-  left-on s [] later = refl
-  left-on s (stepCall c ∷ calls) later = left-on (nextOf controller b s c) calls later
-  left-on s (retimeCall new ∷ calls) later = left-on (controller .retimed b s new) calls later
-
 pub sealed-runs-go-on : SealedRunsGoOn
 unfolding SealedRunsGoOn RunsCanBeSealed ResumeGivesBack
 sealed-runs-go-on buffer long b accepted calls later room old e f =
     let library = board buffer in
-    let fresh = library .stepping .fresh b in
+    let fresh = library .fresh b in
     let back = resume-gives-back b (leftBy library b fresh calls) (runs-can-be-sealed buffer long b accepted calls) room old e f .2 in
-    (rw back (made-on library b fresh calls later), rw back (left-on library b fresh calls later))
+    (rw back (taken-on library b fresh calls later), rw back (left-on library b fresh calls later))

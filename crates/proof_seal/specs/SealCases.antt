@@ -9,6 +9,7 @@ use Rattle.rules.specs.Site.{siteOf}
 use Rattle.rules.specs.Timed.{freshTimed}
 use Rattle.rules.specs.Kept.{freshKept}
 use Rattle.rules.specs.Junctions.{shortPhase, junction, slower}
+use Rattle.rules.specs.CallCases.{AllHold}
 use Rattle.state_bytes.specs.Layout.{encoded}
 use Rattle.state_timed.specs.TimedLayout.{timedEncoded}
 use Rattle.state_sealed.specs.Sealed.{sealedBytes, sealedOf}
@@ -60,9 +61,5 @@ cases =
     ∷ on junction (sealedOf junction (replicate 336 0)) (Refused 13 0)
     ∷ []
 
-abbrev AllHold : List Case → Type 0
-AllHold [] = Unit {0}
-AllHold (c ∷ cases) = Holds c × AllHold cases
-
 unfoldable pub CasesHold : Type 0
-CasesHold = AllHold cases
+CasesHold = AllHold Holds cases

@@ -15,7 +15,8 @@ use Rattle.state_forms.specs.Forms.{AreBytes}
 use Rattle.state_timed.specs.TimedLayout.{timedBytes}
 use Rattle.state_sealed.specs.Sealed.{sealedBytes, sealedOf, otherVersion}
 use Rattle.board_answers.specs.Answers.{packed}
-use Rattle.board_seal.specs.SealCall.{isStateOf, sealAnswer, sealAfter, resumeAnswer, resumeAfter}
+use Rattle.state_valid.specs.StateOf.{isStateOf}
+use Rattle.board_seal.specs.SealCall.{sealAnswer, sealAfter, resumeAnswer, resumeAfter}
 
 -- a personality and a state that can be sealed
 pub record Savable (b state : List ℕ) : Type 0 where

@@ -3,24 +3,22 @@
 use Prim.Native.Nat.{ℕ, _≤_, _<_}
 use mathlib.Core.Bool.{Bool, true, false, not, _&&_, _||_}
 use mathlib.Core.List.{List}
-use mathlib.Core.Logic.{_⊎_, inl, inr, ⊎-elim}
-use mathlib.Core.Path.{_≡_, refl, sym, ap, subst, _∙_}
+use mathlib.Core.Logic.{_⊎_, ⊎-elim}
+use mathlib.Core.Path.{_≡_, sym, ap, subst, _∙_}
 use native.Mathlib.Omega.{arith}
 use lib.Dec.{leb, ltb, eqb}
 use lib.ListN.{length}
-use borrow.Author.Tests.{not-false, eqb-true, leb-true, ltb-true, leb-false, ltb-false, lt-leb, le-ltb, eq-eqb, le-leb, lt-ltb}
-use Rattle.rules.specs.declared.answer.Verdict.the-variants.{Accepted}
+use borrow.Author.Tests.{not-false, eqb-true, leb-true, ltb-true, lt-leb, le-ltb, eq-eqb, le-leb, lt-ltb}
 use Rattle.rules.specs.declared.site.Site.{Site}
-use Rattle.rules.specs.declared.site.Times.{Times}
 use Rattle.laws.specs.Bytes.{byteAt}
 use Rattle.laws.specs.Folds.{anyOf}
-use Rattle.rules.specs.Personality.{bodyAt, phasesHead, groupsHead, pedestriansHead, earlyHead, hasEarly, orderHead, verdictOf}
+use Rattle.rules.specs.Personality.{bodyAt, phasesHead, groupsHead, pedestriansHead, earlyHead, hasEarly, orderHead}
 use Rattle.rules.specs.Site.{timesIn, siteOf}
-use Rattle.rules.specs.SiteTimes.{under, timesWithin, admitted}
+use Rattle.rules.specs.SiteTimes.{timesWithin, admitted}
 use Rattle.rules.specs.TimedCall.{between, timeByte, differsElsewhere}
 use Rattle.rules.specs.Laws.{AcceptedIsSound, AcceptedIsInTable}
 use Rattle.rules.specs.TimedLaws.{AcceptedIsAdmitted, RetimedIsAdmitted}
-use Rattle.laws.proofs.Booleans.{and-left, and-right, and-both, and-false-left, and-false-right, and-false-cases, or-false-left, or-false-right, or-false-both, decided, never-both}
+use Rattle.laws.proofs.Booleans.{and-left, and-right, and-both, and-false-left, and-false-right, or-false-left, or-false-right, or-false-both, decided}
 use Rattle.laws.proofs.Folds.{any-false, any-none}
 use Rattle.laws.proofs.Indices.{below-or-past}
 use Rattle.laws.proofs.Bytes.{byte-past}
@@ -43,14 +41,6 @@ pub between-not : (from past i : ℕ) → (i < from) ⊎ (past ≤ i) → betwee
 unfolding between
 between-not from past i out =
     ⊎-elim (λ (h : i < from). and-false-left (ltb i past) (lt-leb from i h)) (λ (h : past ≤ i). and-false-right (leb from i) (le-ltb i past h)) out
-
-between-out : (from past i : ℕ) → between from past i ≡ false → (i < from) ⊎ (past ≤ i)
-unfolding between
-between-out from past i h =
-    ⊎-elim
-    (λ (e : leb from i ≡ false). inl (leb-false from i e))
-    (λ (e : ltb i past ≡ false). inr (ltb-false i past e))
-    (and-false-cases (leb from i) (ltb i past) h)
 
 -- ── Bytes that are not part of a time setting ──
 

@@ -1,15 +1,14 @@
 -- Times put into the bytes of an accepted personality: every other byte stays, and each setting is read back. So the times are admitted exactly if
 -- the bytes are accepted and have them; and the times of a personality that differs nowhere else give its bytes.
 use Prim.Native.Nat.{ℕ, zero, suc, _+_, _-_, _*_, _/_, _%_, _≤_, _<_}
-use mathlib.Core.Bool.{Bool, true, false, _&&_}
-use mathlib.Core.List.{List, _∷_, []}
-use mathlib.Core.Logic.{_⊎_, inl, inr, ⊎-elim}
+use mathlib.Core.Bool.{Bool, true, false}
+use mathlib.Core.List.{List}
+use mathlib.Core.Logic.{_⊎_, inr, ⊎-elim}
 use mathlib.Core.Path.{_≡_, refl, sym, ap, ap₂, subst, _∙_}
 use native.Mathlib.Nat.{add-zero}
 use native.Mathlib.Omega.{arith}
 use lib.Dec.{eqb}
-use lib.ListN.{length, getD, replicate, length-append, length-replicate}
-use lib.Seq.{ext-getD}
+use lib.ListN.{length}
 use borrow.Author.Tests.{eqb-true, eqb-false, eq-eqb, ne-eqb}
 use Rattle.rules.specs.declared.answer.Verdict.the-variants.{Accepted}
 use Rattle.rules.specs.declared.site.PhaseTimes.{PhaseTimes}
@@ -17,7 +16,7 @@ use Rattle.rules.specs.declared.site.Site.{Site}
 use Rattle.rules.specs.declared.site.Times.{Times}
 use Rattle.rules.specs.declared.site.WalkTimes.{WalkTimes}
 use Rattle.laws.specs.Bytes.{byteAt, twoAt}
-use Rattle.laws.specs.Folds.{if_then_else_, listOf, rowOf}
+use Rattle.laws.specs.Folds.{if_then_else_, rowOf}
 use Rattle.rules.specs.Personality.{bodyAt, recordAt, phasesHead, groupsHead, conflictsHead, detectorsHead, pedestriansHead, pastSection, earlyHead, hasEarly, orderHead, phaseCount, movementCount, verdictOf}
 use Rattle.rules.specs.Site.{noPhaseTimes, noWalkTimes, earlyTimeAt, phaseTimesAt, walkTimesAt, timesIn, siteOf, phaseTimes, walkTimes}
 use Rattle.rules.specs.SiteTimes.{under, timesWithin, admitted}
@@ -32,7 +31,7 @@ use Rattle.proof_acceptance.proofs.Sections.{SectionsAccepted, sections-accepte
 use Rattle.proof_acceptance.proofs.Entries.{phase-times-at, walk-times-at}
 use Rattle.proof_acceptance.proofs.Acceptance.{accepted-is-sound}
 use Rattle.proof_change.proofs.Admitted.{Admitted, admitted-told}
-use Rattle.proof_time_bytes.proofs.Same.{Outside, phases-same, groups-head, movements-same, pedestrians-head, early-head, has-early, order-head, site-same, accepted-same}
+use Rattle.proof_time_bytes.proofs.Same.{Outside, phases-same, movements-same, pedestrians-head, early-head, has-early, site-same, accepted-same}
 use Rattle.proof_time_bytes.proofs.Elsewhere.{between-told, between-holds, between-not, inPhases, inWalks, inEarly, NoTime, no-time, outside-no-time, same-length, same-byte, same-outside, no-difference, accepted-is-admitted}
 
 -- ── Two-byte numbers one after the other ──

@@ -1,28 +1,25 @@
 -- Bytes that differ in time settings only hold the same site with other times.
-use Prim.Native.Nat.{ℕ, zero, suc, _+_, _-_, _*_, _/_, _%_, _^_, _≤_, _<_}
+use Prim.Native.Nat.{ℕ, zero, suc, _+_, _*_, _%_, _^_, _≤_, _<_}
 use mathlib.Core.Bool.{Bool, true, false, not, _&&_, _||_}
-use mathlib.Core.List.{List, [], _∷_, _++_}
+use mathlib.Core.List.{List}
 use mathlib.Core.Logic.{_⊎_, inl, inr, ⊎-elim}
-use mathlib.Core.Path.{_≡_, refl, sym, ap, ap₂, subst, _∙_}
+use mathlib.Core.Path.{_≡_, refl, ap, ap₂, subst, _∙_}
 use native.Mathlib.Omega.{arith}
-use lib.Dec.{leb, ltb, eqb}
-use lib.ListN.{length, getD, replicate}
+use lib.Dec.{leb, eqb}
+use lib.ListN.{length, getD}
 use Rattle.rules.specs.declared.site.Detector.{Detector}
 use Rattle.rules.specs.declared.site.Group.{Group}
 use Rattle.rules.specs.declared.site.Range.{Range}
-use Rattle.rules.specs.declared.site.Site.{Site}
-use Rattle.rules.specs.declared.site.Times.{Times}
-use Rattle.laws.specs.Folds.{if_then_else_, anyOf, countOf, listOf, rowOf, indicesOf}
+use Rattle.laws.specs.Folds.{if_then_else_, countOf, rowOf, indicesOf}
 use Rattle.laws.specs.Bytes.{byteAt, twoAt, fourAt, bit}
 use Rattle.rules.specs.Personality.{bodyLength, kindAt, bodyAt, recordAt, siteKind, editionOf, phaseCount, groupCount, groupsHead, conflictsHead, detectorsHead, pedestriansHead, pastSection, hasHead, earlyHead, hasEarly, orderHead, hasOrder, endOf, groupSet, groupMark, pedestrian, pedestriansBefore, movementCount, conflictSet, detectorCount, detectorPhase, detectorMode, orderAt}
-use Rattle.rules.specs.Site.{noGroup, noDetector, timesIn, crossingAt, orderIn, siteOf}
+use Rattle.rules.specs.Site.{timesIn, crossingAt, orderIn, siteOf}
 use Rattle.rules.specs.declared.answer.Verdict.{Verdict}
 use Rattle.rules.specs.declared.answer.Verdict.the-variants.{Accepted}
 use Rattle.rules.specs.Limits.{limits, within, startRedSetting, phaseSettings, walkSettings, earlySetting}
 use Rattle.rules.specs.Verdicts.{_orElse_, refuseIf, firstOf}
-use Rattle.rules.specs.Personality.{sectionAt, timeAt, timesAt, timeRecords, timedSection, siteSection, phasesSection, badGroup, badGroupAt, ninthPedestrian, groupRecord, phaseWithoutGroup, groupsSection, badConflict, sharePhase, conflictInPhase, conflictsSection, badDetector, badDetectorAt, detectorRecord, detectorsSection, pedestriansSection, earlySection, phaseNotOnce, orderSection, callsPhase, walksPhase, phaseWithoutCaller, stopsEarly, earlyMissing, leftOver, afterPedestrians, verdictOf}
+use Rattle.rules.specs.Personality.{sectionAt, timeAt, timesAt, timeRecords, timedSection, siteSection, phasesSection, badGroupAt, ninthPedestrian, groupRecord, phaseWithoutGroup, groupsSection, badConflict, sharePhase, conflictInPhase, conflictsSection, badDetectorAt, detectorRecord, detectorsSection, pedestriansSection, earlySection, phaseNotOnce, orderSection, callsPhase, walksPhase, phaseWithoutCaller, stopsEarly, earlyMissing, leftOver, afterPedestrians, verdictOf}
 use Rattle.rules.specs.SiteTimes.{under, admitted}
-use Rattle.rules.specs.TimedCall.{between, timeByte}
 use Rattle.laws.proofs.Counting.{count-same, indices-at}
 use native.Mathlib.Nat.{add-zero}
 use borrow.Author.Tests.{le-leb}

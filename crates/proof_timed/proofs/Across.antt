@@ -12,8 +12,8 @@ use Rattle.rules.specs.State.{idle, locked, asked, movement}
 use Rattle.rules.specs.Demands.{pressed, detected, inGreen, registersLock, registersButton, calls, locksAfter, buttonsAfter, demandsAfter, stands, demanded}
 use Rattle.rules.specs.SiteTimes.{under}
 use Rattle.rules.specs.TimedLaws.{readyCore}
+use Rattle.rules.specs.Runs.{Step}
 use Rattle.rules.specs.DemandThree.{inMinimumGreen, inWalk, registersLocked, registersPressed, minimumGreenBegins, walkBegins}
-use Rattle.rules.specs.TimedDemandThree.{TimedStep}
 use Rattle.rules.specs.PhaseWaits.{hasStarted, demandedIn}
 use Rattle.laws.proofs.Booleans.{and-left, and-both}
 use Rattle.laws.proofs.ByteSets.{set-same}
@@ -68,36 +68,36 @@ unfolding walkBegins
 button-seen k l step still h = and-both (and-left (inWalk (step .after) k) _ h) (ap not (still k l))
 
 -- what a step registers is so of the state that it is plain from
-module _ (site : Site) (s : State) (ruling : Times) (step : TimedStep) (link : TimedLink site s ruling step) where
+module _ (site : Site) (s : State) (ruling : Times) (step : Step) (link : TimedLink site s ruling step) where
   pub lock-from :
       (p : ℕ) →
-      registersLocked site (step .taken) p ≡ true →
-      registersLock (under site (step .ruling)) (plainFrom (step .changed) s) (step .taken .inputs) p ≡ true
+      registersLocked site step p ≡ true →
+      registersLock (under site (step .ruling)) (plainFrom (step .changed) s) (step .inputs) p ≡ true
   unfolding registersLock detected inGreen
   lock-from p r =
       by-change (step .changed)
-      (ap (λ (b : State). registersLock site b (step .taken .inputs) p) (sym (link .before)) ∙ sym (lock-same site (step .taken) p) ∙ r)
+      (ap (λ (b : State). registersLock site b (step .inputs) p) (sym (link .before)) ∙ sym (lock-same site step p) ∙ r)
     where
       by-change :
           (c : Bool) →
-          registersLock site s (step .taken .inputs) p ≡ true →
-          registersLock (under site (step .ruling)) (plainFrom c s) (step .taken .inputs) p ≡ true
+          registersLock site s (step .inputs) p ≡ true →
+          registersLock (under site (step .ruling)) (plainFrom c s) (step .inputs) p ≡ true
       by-change true h = h
       by-change false h = h
 
   pub button-from :
       (k : ℕ) →
       k < 8 →
-      registersPressed (step .taken) k ≡ true →
-      registersButton (plainFrom (step .changed) s .movements) (step .taken .inputs) k ≡ true
+      registersPressed step k ≡ true →
+      registersButton (plainFrom (step .changed) s .movements) (step .inputs) k ≡ true
   unfolding registersButton
   button-from k l r =
       by-change (step .changed)
-      (ap (λ (b : State). registersButton (b .movements) (step .taken .inputs) k) (sym (link .before)) ∙ sym (button-same (step .taken) k) ∙ r)
+      (ap (λ (b : State). registersButton (b .movements) (step .inputs) k) (sym (link .before)) ∙ sym (button-same step k) ∙ r)
     where
       by-change :
           (c : Bool) →
-          registersButton (s .movements) (step .taken .inputs) k ≡ true →
-          registersButton (plainFrom c s .movements) (step .taken .inputs) k ≡ true
-      by-change true h = rw (getD-replicate 8 k idle idle l) (and-both (and-left (pressed (step .taken .inputs) k) _ h) refl)
+          registersButton (s .movements) (step .inputs) k ≡ true →
+          registersButton (plainFrom c s .movements) (step .inputs) k ≡ true
+      by-change true h = rw (getD-replicate 8 k idle idle l) (and-both (and-left (pressed (step .inputs) k) _ h) refl)
       by-change false h = h

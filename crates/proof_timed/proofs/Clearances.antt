@@ -9,8 +9,8 @@ use Rattle.rules.specs.declared.state.State.{State}
 use Rattle.rules.specs.Site.{isPedestrian, conflict}
 use Rattle.rules.specs.Colours.{green}
 use Rattle.rules.specs.SiteTimes.{under}
-use Rattle.rules.specs.DemandThree.{shows, StartsGreen, VehicleCleared, PedestrianCleared, Cleared}
-use Rattle.rules.specs.TimedDemandThree.{TimedStep, takens, TimedClearances}
+use Rattle.rules.specs.Runs.{Step}
+use Rattle.rules.specs.DemandThree.{shows, StartsGreen, VehicleCleared, PedestrianCleared, Cleared, ClearedBy, FullClearances}
 use Rattle.rules.specs.Laws.{Sound}
 use Rattle.rules.proofs.Settings.{phase-timed}
 use Rattle.proof_timed.proofs.Induction.{TimedLink, TimedRun, past}
@@ -19,38 +19,38 @@ use Rattle.proof_timed.proofs.VehicleClearances.{fades, vehicle-cleared
 use Rattle.proof_timed.proofs.PedestrianClearances.{walk-shown, pedestrian-cleared}
 
 cleared :
-    (site : Site) (g j : ℕ) (apart : conflict site g j ≡ true) (start : TimedStep) (later : List TimedStep) (greenG : shows (start .taken) g ≡ green)
-    (s : State) (ruling : Times) (last : TimedStep) (steps : List TimedStep) →
+    (site : Site) (g j : ℕ) (apart : conflict site g j ≡ true) (start : Step) (later : List Step) (greenG : shows start g ≡ green)
+    (s : State) (ruling : Times) (last : Step) (steps : List Step) →
     TimedLink site s ruling last →
-    shows (last .taken) j ≡ green →
-    Since site j start later (last .taken .after) (last .ruling) steps →
-    Cleared (under site (last .ruling)) j (last .taken) (takens steps)
+    shows last j ≡ green →
+    Since site j start later (last .after) (last .ruling) steps →
+    Cleared (under site (last .ruling)) j last steps
 unfolding Cleared VehicleCleared PedestrianCleared
 cleared site g j apart start later greenG s ruling last steps link e since = by-kind (isPedestrian (site .groups) j) refl
   where
     sound : Sound (under site (last .ruling))
     sound = link .plain .sound
 
-    by-kind : (test : Bool) → isPedestrian (site .groups) j ≡ test → Cleared (under site (last .ruling)) j (last .taken) (takens steps)
+    by-kind : (test : Bool) → isPedestrian (site .groups) j ≡ test → Cleared (under site (last .ruling)) j last steps
     by-kind true kind =
         rw kind
-        (pedestrian-cleared site g j apart start later greenG (last .ruling) sound kind (last .taken .after) (last .ruling) steps refl
+        (pedestrian-cleared site g j apart start later greenG (last .ruling) sound kind (last .after) (last .ruling) steps refl
         (sym (walk-shown site g j apart start later greenG (last .ruling) sound kind s ruling last link) ∙ e)
         since)
     by-kind false kind =
-        let p = last .taken .after .position .phase in
+        let p = last .after .position .phase in
         let times = phase-timed (under site (last .ruling)) sound p (link .plain .there .phase) in
         rw kind
-        (vehicle-cleared site g j apart start later greenG (last .ruling) sound kind p times (last .taken .after) (last .ruling) steps refl refl
+        (vehicle-cleared site g j apart start later greenG (last .ruling) sound kind p times (last .after) (last .ruling) steps refl refl
         (fades site g j apart start later greenG (last .ruling) sound kind p times s ruling last link .was-green e)
         since)
 
 pub timed-clearances :
-    (site : Site) (s : State) (ruling : Times) (steps : List TimedStep) → TimedRun site s ruling steps → TimedClearances site steps
-unfolding TimedClearances StartsGreen
+    (site : Site) (s : State) (ruling : Times) (steps : List Step) → TimedRun site s ruling steps → FullClearances site steps
+unfolding FullClearances ClearedBy StartsGreen
 timed-clearances site s ruling steps run earlier since later last start split g j apart starts greenJ never =
     let rest = since ++ start ∷ later in
     let whole =
-    subst (λ (l : List TimedStep). TimedRun site s ruling l) (split ∙ append-assoc earlier (last ∷ since) (start ∷ later)) run in
+    subst (λ (l : List Step). TimedRun site s ruling l) (split ∙ append-assoc earlier (last ∷ since) (start ∷ later)) run in
     let cut = past site earlier (last ∷ rest) s ruling whole in
     cleared site g j apart start later (starts .0) (cut .0) (cut .1) last since (cut .2 .0) greenJ (record { run = cut .2 .1; never = never })

@@ -3,7 +3,7 @@
 use Prim.Native.Nat.{ℕ, zero, suc, _+_, _≤_, _<_}
 use mathlib.Core.Bool.{Bool, true, false}
 use mathlib.Core.List.{List, [], _∷_, _++_}
-use mathlib.Core.Logic.{_⊎_, inl, inr, ⊎-elim}
+use mathlib.Core.Logic.{_⊎_, ⊎-elim}
 use mathlib.Core.Path.{_≡_, refl, sym, ap, subst, _∙_}
 use native.Mathlib.Omega.{arith}
 use lib.ListN.{length}
@@ -13,13 +13,11 @@ use Rattle.rules.specs.declared.state.Held.{Held}
 use Rattle.rules.specs.declared.state.State.{State}
 use Rattle.laws.specs.Folds.{if_then_else_}
 use Rattle.rules.specs.Interval.{following}
-use Rattle.rules.specs.WaitBound.{waitBound}
 use Rattle.rules.specs.SiteTimes.{under}
 use Rattle.rules.specs.Timed.{startsNext}
 use Rattle.rules.specs.TimedLaws.{readyCore}
-use Rattle.rules.specs.Laws.{Sound}
-use Rattle.rules.specs.DemandThree.{Taken, inWalk, someStep}
-use Rattle.rules.specs.TimedDemandThree.{TimedStep, takens, changedWaits, MetInTime}
+use Rattle.rules.specs.Runs.{Step}
+use Rattle.rules.specs.DemandThree.{inWalk, someStep}
 use Rattle.rules.specs.PhaseWaits.{ComesBefore}
 use Rattle.laws.proofs.Booleans.{or-false-left, or-false-right, never-both}
 use Rattle.proof_runs.proofs.ValidStates.{ValidState}
@@ -28,57 +26,66 @@ use Rattle.proof_runs.proofs.Each.{Each}
 use Rattle.proof_waits.proofs.Demand.{Waits, waits-on}
 
 -- the step, seen as one from such a state
-abbrev pub viewed : State → Taken → Taken
+abbrev pub viewed : State → Step → Step
 viewed s step =
-    record { before = s; inputs = step .inputs; room = step .room; outcome = step .outcome; after = step .after; shown = step .shown }
+    record {
+      before = s;
+      inputs = step .inputs;
+      room = step .room;
+      outcome = step .outcome;
+      after = step .after;
+      shown = step .shown;
+      ruling = step .ruling;
+      changed = step .changed;
+    }
 
 -- the state that a step is plain from
 abbrev pub plainFrom : Bool → State → State
 plainFrom changed s = if changed then readyCore s else s
 
-pub record TimedLink (site : Site) (s : State) (ruling : Times) (step : TimedStep) : Type 0 where
-  pub before : step .taken .before ≡ s
+pub record TimedLink (site : Site) (s : State) (ruling : Times) (step : Step) : Type 0 where
+  pub before : step .before ≡ s
   pub kept : step .changed ≡ false → step .ruling ≡ ruling
-  pub plain : ValidLink (under site (step .ruling)) (plainFrom (step .changed) s) (viewed (plainFrom (step .changed) s) (step .taken))
+  pub plain : ValidLink (under site (step .ruling)) (plainFrom (step .changed) s) (viewed (plainFrom (step .changed) s) step)
   pub still : step .changed ≡ true → (k : ℕ) → k < 8 → inWalk s k ≡ false
   pub sane : ValidState (under site ruling) s
   pub over : step .changed ≡ true → startsNext (under site ruling) s ≡ true
-  pub begun : step .changed ≡ true → (next : Held) × (step .taken .after .position ≡ following (s .position .interval) (step .ruling) next (s .position))
+  pub begun : step .changed ≡ true → (next : Held) × (step .after .position ≡ following (s .position .interval) (step .ruling) next (s .position))
 
-abbrev pub TimedRun : Site → State → Times → List TimedStep → Type 0
+abbrev pub TimedRun : Site → State → Times → List Step → Type 0
 TimedRun site s ruling [] = Unit {0}
-TimedRun site s ruling (step ∷ later) = TimedLink site s ruling step × TimedRun site (step .taken .after) (step .ruling) later
+TimedRun site s ruling (step ∷ later) = TimedLink site s ruling step × TimedRun site (step .after) (step .ruling) later
 
 -- a change is plain from the ready state
 pub ready-link :
-    (site : Site) (s : State) (ruling : Times) (step : TimedStep) →
+    (site : Site) (s : State) (ruling : Times) (step : Step) →
     TimedLink site s ruling step →
     step .changed ≡ true →
-    ValidLink (under site (step .ruling)) (readyCore s) (viewed (readyCore s) (step .taken))
+    ValidLink (under site (step .ruling)) (readyCore s) (viewed (readyCore s) step)
 ready-link site s ruling step link e = by (step .changed) e (link .plain)
   where
     by :
         (c : Bool) →
         c ≡ true →
-        ValidLink (under site (step .ruling)) (plainFrom c s) (viewed (plainFrom c s) (step .taken)) →
-        ValidLink (under site (step .ruling)) (readyCore s) (viewed (readyCore s) (step .taken))
+        ValidLink (under site (step .ruling)) (plainFrom c s) (viewed (plainFrom c s) step) →
+        ValidLink (under site (step .ruling)) (readyCore s) (viewed (readyCore s) step)
     by true e plain = plain
     by false e plain = absurd (never-both e refl)
 
 -- the later steps of a run are linked from the state and the times that the earlier ones lead to, and what each step keeps holds there
 past-with :
     (site : Site) (P : Times → State → Type 0) →
-    ((s : State) (ruling : Times) (step : TimedStep) → TimedLink site s ruling step → P ruling s → P (step .ruling) (step .taken .after)) →
-    (earlier later : List TimedStep) (s : State) (ruling : Times) →
+    ((s : State) (ruling : Times) (step : Step) → TimedLink site s ruling step → P ruling s → P (step .ruling) (step .after)) →
+    (earlier later : List Step) (s : State) (ruling : Times) →
     P ruling s →
     TimedRun site s ruling (earlier ++ later) →
     (t : State) × (r : Times) × P r t × TimedRun site t r later
 past-with site P keeps [] later s ruling p run = (s, ruling, p, run)
 past-with site P keeps (step ∷ earlier) later s ruling p run =
-    past-with site P keeps earlier later (step .taken .after) (step .ruling) (keeps s ruling step (run .0) p) (run .1)
+    past-with site P keeps earlier later (step .after) (step .ruling) (keeps s ruling step (run .0) p) (run .1)
 
 pub past :
-    (site : Site) (earlier later : List TimedStep) (s : State) (ruling : Times) →
+    (site : Site) (earlier later : List Step) (s : State) (ruling : Times) →
     TimedRun site s ruling (earlier ++ later) →
     (t : State) × (r : Times) × TimedRun site t r later
 past site earlier later s ruling run =
@@ -87,28 +94,28 @@ past site earlier later s ruling run =
 
 -- the earlier steps of a run are a run
 front :
-    (site : Site) (earlier later : List TimedStep) (s : State) (ruling : Times) →
+    (site : Site) (earlier later : List Step) (s : State) (ruling : Times) →
     TimedRun site s ruling (earlier ++ later) →
     TimedRun site s ruling earlier
 front site [] later s ruling run = tt
-front site (step ∷ earlier) later s ruling run = (run .0, front site earlier later (step .taken .after) (step .ruling) (run .1))
+front site (step ∷ earlier) later s ruling run = (run .0, front site earlier later (step .after) (step .ruling) (run .1))
 
 -- a part of a run is a run, from a state and times for which holds what each step keeps
-module _ (site : Site) (s : State) (ruling : Times) (steps : List TimedStep) (run : TimedRun site s ruling steps) where
+module _ (site : Site) (s : State) (ruling : Times) (steps : List Step) (run : TimedRun site s ruling steps) where
   pub part-with :
       (P : Times → State → Type 0) →
-      ((s : State) (ruling : Times) (step : TimedStep) → TimedLink site s ruling step → P ruling s → P (step .ruling) (step .taken .after)) →
+      ((s : State) (ruling : Times) (step : Step) → TimedLink site s ruling step → P ruling s → P (step .ruling) (step .after)) →
       P ruling s →
-      (earlier between later : List TimedStep) (step : TimedStep) →
+      (earlier between later : List Step) (step : Step) →
       steps ≡ earlier ++ step ∷ (between ++ later) →
       (t : State) × (r : Times) × P r t × TimedRun site t r (step ∷ between)
   part-with P keeps p earlier between later step e =
       let cut =
-      past-with site P keeps earlier (step ∷ (between ++ later)) s ruling p (subst (λ (l : List TimedStep). TimedRun site s ruling l) e run) in
+      past-with site P keeps earlier (step ∷ (between ++ later)) s ruling p (subst (λ (l : List Step). TimedRun site s ruling l) e run) in
       (cut .0, cut .1, cut .2, front site (step ∷ between) later (cut .0) (cut .1) (cut .3))
 
   pub part :
-      (earlier between later : List TimedStep) (step : TimedStep) →
+      (earlier between later : List Step) (step : Step) →
       steps ≡ earlier ++ step ∷ (between ++ later) →
       (t : State) × (r : Times) × TimedRun site t r (step ∷ between)
   part earlier between later step e =
@@ -118,41 +125,41 @@ module _ (site : Site) (s : State) (ruling : Times) (steps : List TimedStep) (ru
 -- ── A demand of either kind ──
 
 -- that its event comes in a step is seen from the state that the step is plain from
-abbrev pub SeenReady : (Taken → Bool) → Type 0
+abbrev pub SeenReady : (Step → Bool) → Type 0
 SeenReady met =
-    (step : Taken) → ((k : ℕ) → k < 8 → inWalk (step .before) k ≡ false) → met (viewed (readyCore (step .before)) step) ≡ true → met step ≡ true
+    (step : Step) → ((k : ℕ) → k < 8 → inWalk (step .before) k ≡ false) → met (viewed (readyCore (step .before)) step) ≡ true → met step ≡ true
 
 pub truly :
-    (site : Site) (met : Taken → Bool) →
+    (site : Site) (met : Step → Bool) →
     SeenReady met →
-    (s : State) (ruling : Times) (step : TimedStep) →
+    (s : State) (ruling : Times) (step : Step) →
     TimedLink site s ruling step →
-    met (viewed (plainFrom (step .changed) s) (step .taken)) ≡ true →
-    met (step .taken) ≡ true
+    met (viewed (plainFrom (step .changed) s) step) ≡ true →
+    met step ≡ true
 truly site met seen s ruling step link = by (step .changed) refl
   where
-    by : (c : Bool) → step .changed ≡ c → met (viewed (plainFrom c s) (step .taken)) ≡ true → met (step .taken) ≡ true
-    by false e h = ap (λ (b : State). met (viewed b (step .taken))) (link .before) ∙ h
+    by : (c : Bool) → step .changed ≡ c → met (viewed (plainFrom c s) step) ≡ true → met step ≡ true
+    by false e h = ap (λ (b : State). met (viewed b step)) (link .before) ∙ h
     by true e h =
-        seen (step .taken) (λ k l. ap (λ (b : State). inWalk b k) (link .before) ∙ link .still e k l)
-        (ap (λ (b : State). met (viewed (readyCore b) (step .taken))) (link .before) ∙ h)
+        seen step (λ k l. ap (λ (b : State). inWalk b k) (link .before) ∙ link .still e k l)
+        (ap (λ (b : State). met (viewed (readyCore b) step)) (link .before) ∙ h)
 
 -- Each step meets the demand, or leaves it standing with one step less of what is left. A change may set what is left anew, at the cost of `more`.
 module _
-    (site : Site) (met : Taken → Bool) (Fits : Times → Type 0) (Stands : State → Type 0) (Left : Times → ℕ → State → Type 0)
-    (more : List TimedStep → ℕ)
+    (site : Site) (met : Step → Bool) (Fits : Times → Type 0) (Stands : State → Type 0) (Left : Times → ℕ → State → Type 0)
+    (more : List Step → ℕ)
     (goes :
     (ruling : Times) →
     Fits ruling →
-    (s : State) (step : Taken) →
+    (s : State) (step : Step) →
     ValidLink (under site ruling) s step →
     Stands s →
     (met step ≡ true) ⊎ Waits Stands (Left ruling) s step)
     (never : (ruling : Times) (s : State) → Left ruling zero s → ⊥)
     (again : (s : State) → Stands s → Stands (readyCore s))
-    (costs : (step : TimedStep) (later : List TimedStep) → more later ≤ more (step ∷ later))
+    (costs : (step : Step) (later : List Step) → more later ≤ more (step ∷ later))
     (across :
-    (s : State) (ruling : Times) (step : TimedStep) (later : List TimedStep) (n : ℕ) →
+    (s : State) (ruling : Times) (step : Step) (later : List Step) (n : ℕ) →
     TimedLink site s ruling step →
     step .changed ≡ true →
     Stands s →
@@ -163,8 +170,8 @@ module _
   abbrev Holds : Times → ℕ → State → Type 0
   Holds ruling n s = Stands s × Left ruling n s
 
-  abbrev AllFit : List TimedStep → Type 0
-  AllFit = Each (λ (step : TimedStep) later. Fits (step .ruling))
+  abbrev AllFit : List Step → Type 0
+  AllFit = Each (λ (step : Step) later. Fits (step .ruling))
 
   -- some step is left
   some-left : (s : State) (ruling : Times) (n : ℕ) → Left ruling n s → (m : ℕ) × (n ≡ suc m)
@@ -173,7 +180,7 @@ module _
 
   -- what is left in the state that a step is plain from
   plain-holds :
-      (s : State) (ruling : Times) (step : TimedStep) (later : List TimedStep) (n : ℕ) →
+      (s : State) (ruling : Times) (step : Step) (later : List Step) (n : ℕ) →
       TimedLink site s ruling step →
       Holds ruling n s →
       (m : ℕ) × (m + more later ≤ n + more (step ∷ later)) × Holds (step .ruling) m (plainFrom (step .changed) s)
@@ -185,23 +192,23 @@ module _
 
   -- a step that does not meet the demand leaves it standing
   standing-after :
-      (s : State) (ruling : Times) (step : TimedStep) (n : ℕ) →
+      (s : State) (ruling : Times) (step : Step) (n : ℕ) →
       TimedLink site s ruling step →
-      (met (viewed (plainFrom (step .changed) s) (step .taken)) ≡ true) ⊎ Holds (step .ruling) n (step .taken .after) →
-      met (step .taken) ≡ false →
-      Holds (step .ruling) n (step .taken .after)
+      (met (viewed (plainFrom (step .changed) s) step) ≡ true) ⊎ Holds (step .ruling) n (step .after) →
+      met step ≡ false →
+      Holds (step .ruling) n (step .after)
   standing-after s ruling step n link first none =
       ⊎-elim
-      (λ (e : met (viewed (plainFrom (step .changed) s) (step .taken)) ≡ true). absurd (never-both (truly site met seen s ruling step link e) none))
-      (λ (holds : Holds (step .ruling) n (step .taken .after)). holds)
+      (λ (e : met (viewed (plainFrom (step .changed) s) step) ≡ true). absurd (never-both (truly site met seen s ruling step link e) none))
+      (λ (holds : Holds (step .ruling) n (step .after)). holds)
       first
 
   lasts :
-      (steps : List TimedStep) (s : State) (ruling : Times) (n : ℕ) →
+      (steps : List Step) (s : State) (ruling : Times) (n : ℕ) →
       TimedRun site s ruling steps →
       AllFit steps →
       Holds ruling n s →
-      someStep met (takens steps) ≡ false →
+      someStep met steps ≡ false →
       length steps < n + more steps
   unfolding someStep
   lasts [] s ruling n run fit w none = omega (arith, some-left s ruling n (w .1) .1)
@@ -212,43 +219,43 @@ module _
       let after =
       standing-after s ruling step (left .0) (run .0)
       (waits-on (left .0) (subst (λ (k : ℕ). Left (step .ruling) k from) (left .1) (plain .2 .1))
-      (goes (step .ruling) (fit .0) from (viewed from (step .taken)) (run .0 .plain) (plain .2 .0)))
-      (or-false-left (met (step .taken)) (someStep met (takens later)) none) in
+      (goes (step .ruling) (fit .0) from (viewed from step) (run .0 .plain) (plain .2 .0)))
+      (or-false-left (met step) (someStep met later) none) in
       let rest =
-      lasts later (step .taken .after) (step .ruling) (left .0) (run .1) (fit .1) after
-      (or-false-right (met (step .taken)) (someStep met (takens later)) none) in
+      lasts later (step .after) (step .ruling) (left .0) (run .1) (fit .1) after
+      (or-false-right (met step) (someStep met later) none) in
       omega (arith, rest, left .1, plain .1)
 
   -- from a step on that meets the demand or leaves it standing
   pub from-step :
-      (s : State) (ruling : Times) (step : TimedStep) (later : List TimedStep) (n : ℕ) →
+      (s : State) (ruling : Times) (step : Step) (later : List Step) (n : ℕ) →
       TimedRun site s ruling (step ∷ later) →
       AllFit later →
-      (met (viewed (plainFrom (step .changed) s) (step .taken)) ≡ true) ⊎ Holds (step .ruling) n (step .taken .after) →
-      someStep met (takens (step ∷ later)) ≡ false →
+      (met (viewed (plainFrom (step .changed) s) step) ≡ true) ⊎ Holds (step .ruling) n (step .after) →
+      someStep met (step ∷ later) ≡ false →
       length later < n + more later
   unfolding someStep
   from-step s ruling step later n run fit first none =
-      lasts later (step .taken .after) (step .ruling) n (run .1) fit
-      (standing-after s ruling step n (run .0) first (or-false-left (met (step .taken)) (someStep met (takens later)) none))
-      (or-false-right (met (step .taken)) (someStep met (takens later)) none)
+      lasts later (step .after) (step .ruling) n (run .1) fit
+      (standing-after s ruling step n (run .0) first (or-false-left (met step) (someStep met later) none))
+      (or-false-right (met step) (someStep met later) none)
 
 -- ── Within a wait ──
 
 -- A change leaves as much as there was.
 module _
-    (site : Site) (met : Taken → Bool) (Fits : Times → Type 0) (Stands : State → Type 0) (Left : Times → ℕ → State → Type 0)
+    (site : Site) (met : Step → Bool) (Fits : Times → Type 0) (Stands : State → Type 0) (Left : Times → ℕ → State → Type 0)
     (goes :
     (ruling : Times) →
     Fits ruling →
-    (s : State) (step : Taken) →
+    (s : State) (step : Step) →
     ValidLink (under site ruling) s step →
     Stands s →
     (met step ≡ true) ⊎ Waits Stands (Left ruling) s step)
     (never : (ruling : Times) (s : State) → Left ruling zero s → ⊥)
     (again : (s : State) → Stands s → Stands (readyCore s))
     (across :
-    (s : State) (ruling : Times) (step : TimedStep) (n : ℕ) →
+    (s : State) (ruling : Times) (step : Step) (n : ℕ) →
     TimedLink site s ruling step →
     step .changed ≡ true →
     Left ruling n s →
@@ -256,12 +263,12 @@ module _
     (seen : SeenReady met) where
   -- from the step that registers it on, if no more than the wait is left in the state that it is plain from
   pub comes-before :
-      (s : State) (ruling : Times) (step : TimedStep) (between : List TimedStep) (wait : ℕ) →
+      (s : State) (ruling : Times) (step : Step) (between : List Step) (wait : ℕ) →
       TimedRun site s ruling (step ∷ between) →
-      Each (λ (step : TimedStep) later. Fits (step .ruling)) between →
+      Each (λ (step : Step) later. Fits (step .ruling)) between →
       (let from = plainFrom (step .changed) s in
       Left (step .ruling) wait from →
-      (met (viewed from (step .taken)) ≡ true) ⊎ Waits Stands (Left (step .ruling)) from (viewed from (step .taken)) →
+      (met (viewed from step) ≡ true) ⊎ Waits Stands (Left (step .ruling)) from (viewed from step) →
       ComesBefore wait met (step ∷ between))
   unfolding ComesBefore
   comes-before s ruling step between zero run fit left first none = absurd (never (step .ruling) (plainFrom (step .changed) s) left)
@@ -280,71 +287,3 @@ module _
       (waits-on n left first)
       none in
       omega (arith, rest)
-
--- ── Within the wait bound ──
-
--- At a change the bound is set anew.
-module _
-    (site : Site) (met : Taken → Bool) (Stands : State → Type 0) (Left : Times → ℕ → State → Type 0)
-    (goes :
-    (ruling : Times) (s : State) (step : Taken) →
-    ValidLink (under site ruling) s step →
-    Stands s →
-    (met step ≡ true) ⊎ Waits Stands (Left ruling) s step)
-    (within :
-    (ruling : Times) →
-    Sound (under site ruling) →
-    (s : State) →
-    ValidState (under site ruling) s →
-    Stands s →
-    Left ruling (waitBound (under site ruling)) s)
-    (never : (ruling : Times) (s : State) → Left ruling zero s → ⊥)
-    (again : (s : State) → Stands s → Stands (readyCore s))
-    (seen : SeenReady met) where
-  costs : (step : TimedStep) (later : List TimedStep) → changedWaits site later ≤ changedWaits site (step ∷ later)
-  unfolding changedWaits
-  costs step later = omega arith
-
-  anew :
-      (s : State) (ruling : Times) (step : TimedStep) (later : List TimedStep) (n : ℕ) →
-      TimedLink site s ruling step →
-      step .changed ≡ true →
-      Stands s →
-      Left ruling n s →
-      (m : ℕ) × (m + changedWaits site later ≤ n + changedWaits site (step ∷ later)) × Left (step .ruling) m (readyCore s)
-  unfolding changedWaits
-  anew s ruling step later n link e stands left =
-      let plain = ready-link site s ruling step link e in (
-        waitBound (under site (step .ruling)),
-        rw e (omega arith),
-        within (step .ruling) (plain .sound) (readyCore s) (plain .here) (again s stands),
-      )
-
-  -- from the step that registers it on
-  pub met-in-time :
-      (s : State) (ruling : Times) (step : TimedStep) (between : List TimedStep) →
-      TimedRun site s ruling (step ∷ between) →
-      (let from = plainFrom (step .changed) s in
-      (met (viewed from (step .taken)) ≡ true) ⊎ Waits Stands (Left (step .ruling)) from (viewed from (step .taken))) →
-      MetInTime site met step between
-  unfolding MetInTime
-  met-in-time s ruling step between run first =
-      from-step site met (λ times. Unit {0}) Stands Left (changedWaits site) (λ times fits. goes times) never again costs anew seen s ruling step between
-      (waitBound (under site (step .ruling)))
-      run
-      (all-fit between)
-      (holds first)
-    where
-      all-fit : (steps : List TimedStep) → Each (λ (step : TimedStep) later. Unit {0}) steps
-      all-fit [] = tt
-      all-fit (step ∷ later) = (tt, all-fit later)
-
-      holds :
-          {b : Bool} →
-          (b ≡ true) ⊎ Waits Stands (Left (step .ruling)) (plainFrom (step .changed) s) (viewed (plainFrom (step .changed) s) (step .taken)) →
-          (b ≡ true) ⊎ (Stands (step .taken .after) × Left (step .ruling) (waitBound (under site (step .ruling))) (step .taken .after))
-      holds (inl e) = inl e
-      holds (inr waits) = inr (
-        waits .stands,
-        within (step .ruling) (run .0 .plain .sound) (step .taken .after) (run .0 .plain .there) (waits .stands),
-      )

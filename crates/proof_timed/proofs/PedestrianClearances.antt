@@ -23,8 +23,8 @@ use Rattle.rules.specs.Movements.{older, lasting, advanced}
 use Rattle.rules.specs.Colours.{red, green, flashing, movementColour}
 use Rattle.rules.specs.SiteTimes.{under}
 use Rattle.rules.specs.TimedLaws.{readyCore}
+use Rattle.rules.specs.Runs.{Step}
 use Rattle.rules.specs.DemandThree.{shows, shownBy}
-use Rattle.rules.specs.TimedDemandThree.{TimedStep, takens}
 use Rattle.rules.specs.Laws.{Sound}
 use Rattle.laws.proofs.Booleans.{never-both, decided}
 use Rattle.rules.proofs.Settings.{walk-reached}
@@ -38,7 +38,7 @@ use Rattle.proof_change.proofs.Change.{starts-clear}
 use Rattle.proof_timed.proofs.Countdowns.{Since, only-red, counts-down, plain-link, starts-by, sane-by}
 
 module _
-    (site : Site) (g j : ℕ) (apart : conflict site g j ≡ true) (start : TimedStep) (later : List TimedStep) (greenG : shows (start .taken) g ≡ green)
+    (site : Site) (g j : ℕ) (apart : conflict site g j ≡ true) (start : Step) (later : List Step) (greenG : shows start g ≡ green)
     (r0 : Times) (sound : Sound (under site r0)) (kind : isPedestrian (site .groups) j ≡ true) where
   abbrev old : Site
   old = under site r0
@@ -81,27 +81,27 @@ module _
       let h : _≡_ {A = Movement} (record { stage = ClearanceTwo; age = older (m .age) }) idle = rw (e, lt-leb (walks .second) (m .age) (omega arith)) at over in
       false≢true (ap (λ (m : Movement). isIdle (m .stage)) h)
 
-  module _ (s : State) (ruling : Times) (step : TimedStep) (link : TimedLink site s ruling step) where
+  module _ (s : State) (ruling : Times) (step : Step) (link : TimedLink site s ruling step) where
     abbrev from : State
     from = plainFrom (step .changed) s
 
-    pub walk-shown : shows (step .taken) j ≡ movementColour (mine (step .taken .after) .stage)
+    pub walk-shown : shows step j ≡ movementColour (mine (step .after) .stage)
     unfolding shows
     walk-shown =
-        pedestrian-shows (under site (step .ruling)) from (viewed from (step .taken)) (link .plain .taken) j within kind
+        pedestrian-shows (under site (step .ruling)) from (viewed from step) (link .plain .taken) j within kind
 
     mine-after :
-        (shows (step .taken) j ≡ green → ⊥) →
-        mine (step .taken .after) ≡ next (mayEnd (under site (step .ruling)) from (step .taken .inputs)) (walkTimes (step .ruling) k) (mine from)
+        (shows step j ≡ green → ⊥) →
+        mine (step .after) ≡ next (mayEnd (under site (step .ruling)) from (step .inputs)) (walkTimes (step .ruling) k) (mine from)
     mine-after other =
-        movement-after (under site (step .ruling)) from (viewed from (step .taken)) (link .plain .taken) k room
+        movement-after (under site (step .ruling)) from (viewed from step) (link .plain .taken) k room
         (λ e. other (walk-shown ∙ e))
 
     flashing-falls :
         (n : ℕ) →
-        (shows (step .taken) j ≡ green → ⊥) →
+        (shows step j ≡ green → ⊥) →
         Flashes (suc n) ruling s →
-        Flashes n (step .ruling) (step .taken .after) × (shows (step .taken) j ≡ flashing)
+        Flashes n (step .ruling) (step .after) × (shows step j ≡ flashing)
     unfolding shows movement
     flashing-falls n other left =
         ⊎-elim
@@ -110,29 +110,29 @@ module _
         absurd (flashes-last n (mine s) (left .1) (clear .still) (clear .over)))
         (λ (same : step .changed ≡ false).
         let plain = plain-link site r0 s ruling step link (left .0) same in
-        let here = movement-after old s (viewed s (step .taken)) (plain .taken) k room (λ e. other (walk-shown ∙ e)) in
+        let here = movement-after old s (viewed s step) (plain .taken) k room (λ e. other (walk-shown ∙ e)) in
         let shown = rw here at walk-shown in
-        let fall = flashes-fall walks (walk-reached old sound k below) (mayEnd old s (step .taken .inputs)) n (mine s) (left .1) (λ e. other (shown ∙ e)) in
+        let fall = flashes-fall walks (walk-reached old sound k below) (mayEnd old s (step .inputs)) n (mine s) (left .1) (λ e. other (shown ∙ e)) in
         ((link .kept same ∙ left .0, rw here (fall .0)), shown ∙ fall .1))
         (decided (step .changed))
 
-    idle-rests : (shows (step .taken) j ≡ green → ⊥) → Idles ruling s → Idles (step .ruling) (step .taken .after) × (shows (step .taken) j ≡ red)
+    idle-rests : (shows step j ≡ green → ⊥) → Idles ruling s → Idles (step .ruling) (step .after) × (shows step j ≡ red)
     unfolding movementColour movement
     idle-rests other e =
-        let may = mayEnd (under site (step .ruling)) from (step .taken .inputs) in
+        let may = mayEnd (under site (step .ruling)) from (step .inputs) in
         let idles = ap (λ (m : Movement). m .stage) (mine-after other) ∙ now-idle (step .changed) refl may in
-        (idle-stays (walkTimes (step .ruling) k) (mine (step .taken .after)) idles, walk-shown ∙ ap movementColour idles)
+        (idle-stays (walkTimes (step .ruling) k) (mine (step .after)) idles, walk-shown ∙ ap movementColour idles)
       where
         now-idle : (c : Bool) → step .changed ≡ c → (may : Bool) → next may (walkTimes (step .ruling) k) (mine (plainFrom c s)) .stage ≡ Idle
         now-idle true h may = idle-stays (walkTimes (step .ruling) k) (mine (readyCore s)) (ap (λ (m : Movement). m .stage) (getD-replicate 8 k idle idle room)) may
         now-idle false h may = subst (λ (r : Times). next may (walkTimes r k) (mine s) .stage ≡ Idle) (sym (link .kept h)) (e may)
 
   pub pedestrian-cleared :
-      (s : State) (ruling : Times) (steps : List TimedStep) →
+      (s : State) (ruling : Times) (steps : List Step) →
       ruling ≡ r0 →
       movementColour (mine s .stage) ≡ green →
       Since site j start later s ruling steps →
-      (n : ℕ) × (shownBy j (takens steps) ≡ replicate (walks .first + walks .second) flashing ++ replicate n red)
+      (n : ℕ) × (shownBy j steps ≡ replicate (walks .first + walks .second) flashing ++ replicate n red)
   pedestrian-cleared s ruling steps q e since =
       let down =
       counts-down site g j apart start later greenG Flashes flashing

@@ -15,8 +15,8 @@ use Rattle.rules.specs.SiteTimes.{under}
 use Rattle.rules.specs.TimedLaws.{readyCore}
 use Rattle.rules.specs.Waits.{turnOf}
 use Rattle.rules.specs.Laws.{Sound}
-use Rattle.rules.specs.DemandThree.{Taken, inWalk, minimumGreenBegins, walkBegins, someStep}
-use Rattle.rules.specs.TimedDemandThree.{TimedStep, takens}
+use Rattle.rules.specs.Runs.{Step}
+use Rattle.rules.specs.DemandThree.{inWalk, minimumGreenBegins, walkBegins, someStep}
 use Rattle.rules.specs.PhaseWaits.{demandedIn, everyStep, greatestAmong, turnThrough, lateThrough, phaseWaitThrough, movementWaitThrough, ComesBefore, WaitsMet}
 use Rattle.laws.proofs.Booleans.{and-left, and-right, or-false-left, or-false-right, or-false-both}
 use Rattle.proof_runs.proofs.Chains.{ValidLink}
@@ -43,10 +43,10 @@ pub record Fits (site : Site) (turn : ℕ → ℕ) (q tail : ℕ) (times : Times
   pub enough : phaseTimes times q .late ≤ tail
 
 all-fit :
-    (site : Site) (turn : ℕ → ℕ) (q tail : ℕ) (steps : List TimedStep) →
+    (site : Site) (turn : ℕ → ℕ) (q tail : ℕ) (steps : List Step) →
     ((p : ℕ) → greatestAmong (λ times. turnOf (under site times) p) steps ≤ turn p) →
     greatestAmong (λ times. phaseTimes times q .late) steps ≤ tail →
-    Each (λ (step : TimedStep) later. Fits site turn q tail (step .ruling)) steps
+    Each (λ (step : Step) later. Fits site turn q tail (step .ruling)) steps
 unfolding greatestAmong
 all-fit site turn q tail [] whole enough = tt
 all-fit site turn q tail (step ∷ later) whole enough = (
@@ -58,7 +58,7 @@ all-fit site turn q tail (step ∷ later) whole enough = (
 
 -- if the event has not come, no step has dropped the demand
 none-dropped :
-    (met held : Taken → Bool) (steps : List Taken) →
+    (met held : Step → Bool) (steps : List Step) →
     someStep met steps ≡ false →
     everyStep held steps ≡ true →
     someStep (λ step. met step || not (held step)) steps ≡ false
@@ -70,7 +70,7 @@ none-dropped met held (step ∷ later) none all =
     (none-dropped met held later (or-false-right (met step) (someStep met later) none) (and-right (held step) (everyStep held later) all))
 
 module _
-    (site : Site) (s : State) (ruling : Times) (step : TimedStep) (between : List TimedStep)
+    (site : Site) (s : State) (ruling : Times) (step : Step) (between : List Step)
     (run : TimedRun site s ruling (step ∷ between)) (kept : Kept (under site ruling) s) where
   abbrev now : Site
   now = under site (step .ruling)
@@ -79,7 +79,7 @@ module _
   abbrev from : State
   from = plainFrom (step .changed) s
 
-  abbrev plain : ValidLink now from (viewed from (step .taken))
+  abbrev plain : ValidLink now from (viewed from step)
   plain = run .0 .plain
 
   kept-from : Kept now from
@@ -93,24 +93,24 @@ module _
     abbrev tail : ℕ
     tail = lateThrough site step between q
 
-    fits : Each (λ (step : TimedStep) later. Fits site turn q tail (step .ruling)) (step ∷ between)
+    fits : Each (λ (step : Step) later. Fits site turn q tail (step .ruling)) (step ∷ between)
     unfolding turnThrough lateThrough
     fits = all-fit site turn q tail (step ∷ between) (λ p. omega arith) (omega arith)
 
     -- of a demand of a phase that is away
     module _
-        (met : Taken → Bool) (Stands : State → Type 0)
+        (met : Step → Bool) (Stands : State → Type 0)
         (goes :
         (times : Times) →
         Fits site turn q tail times →
-        (s : State) (step : Taken) →
+        (s : State) (step : Step) →
         ValidLink (under site times) s step →
         Stands s →
         (met step ≡ true) ⊎ Waits Stands (PhaseLeft turn tail q (under site times)) s step)
         (again : (s : State) → Stands s → Stands (readyCore s))
         (seen : SeenReady met)
         (away : Away q from)
-        (first : (met (viewed from (step .taken)) ≡ true) ⊎ Waits Stands (PhaseLeft turn tail q now) from (viewed from (step .taken)))
+        (first : (met (viewed from step) ≡ true) ⊎ Waits Stands (PhaseLeft turn tail q now) from (viewed from step))
       where
         phase-comes : ComesBefore (phaseWaitThrough site step between q) met (step ∷ between)
         phase-comes =
@@ -131,7 +131,7 @@ module _
 
     lasting-comes :
         Away q s →
-        everyStep (demandedIn site q) (takens (step ∷ between)) ≡ true →
+        everyStep (demandedIn site q) (step ∷ between) ≡ true →
         ComesBefore (phaseWaitThrough site step between q) (minimumGreenBegins q) (step ∷ between)
     unfolding ComesBefore demandedIn demanded demandsAfter calls locksAfter detected registersLock
     lasting-comes away all quiet =
@@ -142,15 +142,15 @@ module _
         (away-again q)
         (lasting-seen site q)
         away-from
-        (lasting-goes now (plain .sound) q below turn (fits .0 .whole) tail (fits .0 .enough) from (viewed from (step .taken)) plain away-from)
-        (none-dropped (minimumGreenBegins q) (demandedIn site q) (takens (step ∷ between)) quiet all)
+        (lasting-goes now (plain .sound) q below turn (fits .0 .whole) tail (fits .0 .enough) from (viewed from step) plain away-from)
+        (none-dropped (minimumGreenBegins q) (demandedIn site q) (step ∷ between) quiet all)
       where
         by-change : (c : Bool) → Away q s → Away q (plainFrom c s)
         by-change true away = away-again q s away
         by-change false away = away
 
     lock-comes :
-        registersLock now from (step .taken .inputs) q ≡ true →
+        registersLock now from (step .inputs) q ≡ true →
         ComesBefore (phaseWaitThrough site step between q) (minimumGreenBegins q) (step ∷ between)
     lock-comes r =
         phase-comes (minimumGreenBegins q) (LockStands q)
@@ -158,8 +158,8 @@ module _
         lock-turn-goes (under site times) (link .sound) q below turn (fit .whole) tail (fit .enough) s step link)
         (lock-again q)
         (lock-seen q)
-        (registers-away now q from (step .taken .inputs) r)
-        (lock-turn-registers now (plain .sound) q below turn (fits .0 .whole) tail (fits .0 .enough) from (viewed from (step .taken)) plain r)
+        (registers-away now q from (step .inputs) r)
+        (lock-turn-registers now (plain .sound) q below turn (fits .0 .whole) tail (fits .0 .enough) from (viewed from step) plain r)
 
     -- of movement m of the phase
     module _
@@ -169,7 +169,7 @@ module _
         (only : (p : ℕ) → crosses (site .crossings) m p ≡ true → p ≡ q)
       where
         button-comes :
-            registersButton (from .movements) (step .taken .inputs) m ≡ true →
+            registersButton (from .movements) (step .inputs) m ≡ true →
             ComesBefore (movementWaitThrough site step between q m) (walkBegins m) (step ∷ between)
         unfolding inWalk
         button-comes r =
@@ -194,16 +194,16 @@ module _
               kept-from .clearing,
               button-within now (plain .sound) q m below exists crossing only turn (fits .0 .whole) from (plain .here) (kept-from .entered)
                   (kept-from .clearing)
-                  (registers-still from (step .taken .inputs) m r),
+                  (registers-still from (step .inputs) m r),
             )
-            (button-turn-registers now (plain .sound) q m below exists crossing turn (fits .0 .whole) from (viewed from (step .taken)) plain r)
+            (button-turn-registers now (plain .sound) q m below exists crossing turn (fits .0 .whole) from (viewed from step) plain r)
 
 -- ── Over a run ──
 
 pub waits-met :
     (site : Site) →
     Sound site →
-    (s : State) (ruling : Times) (steps : List TimedStep) →
+    (s : State) (ruling : Times) (steps : List Step) →
     Kept (under site ruling) s →
     TimedRun site s ruling steps →
     WaitsMet site steps
@@ -218,7 +218,7 @@ waits-met site sound s ruling steps kept run =
           let cut = from-here earlier between later step e in
           let here = lock-from site (cut .0) (cut .1) step (cut .3 .0) q r in
           let plain = cut .3 .0 .plain in
-          let below = lock-below (under site (step .ruling)) (plain .sound) (plainFrom (step .changed) (cut .0)) (step .taken .inputs) q here in
+          let below = lock-below (under site (step .ruling)) (plain .sound) (plainFrom (step .changed) (cut .0)) (step .inputs) q here in
           lock-comes site (cut .0) (cut .1) step between (cut .3) (cut .2) q below here;
       buttons = λ earlier between later step e q m exists crossing r.
           let cut = from-here earlier between later step e in
@@ -231,7 +231,7 @@ waits-met site sound s ruling steps kept run =
   where
     -- the state and the times that the earlier steps lead to, and the run from there through the steps between
     from-here :
-        (earlier between later : List TimedStep) (step : TimedStep) →
+        (earlier between later : List Step) (step : Step) →
         steps ≡ earlier ++ step ∷ (between ++ later) →
         (t : State) × (r : Times) × Kept (under site r) t × TimedRun site t r (step ∷ between)
     from-here = part-with site s ruling steps run (λ times. Kept (under site times)) (kept-after site) kept

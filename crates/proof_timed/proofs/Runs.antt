@@ -11,22 +11,20 @@ use Rattle.rules.specs.declared.site.Times.{Times}
 use Rattle.rules.specs.declared.state.Held.{Held}
 use Rattle.rules.specs.declared.state.KeptState.{KeptState}
 use Rattle.rules.specs.declared.state.State.{State}
-use Rattle.rules.specs.declared.state.TimedState.{TimedState}
-use Rattle.rules.specs.declared.state.Waiting.{Waiting}
 use Rattle.laws.specs.Folds.{if_then_else_}
 use Rattle.rules.specs.Site.{siteOf, timesIn}
 use Rattle.rules.specs.State.{movement, valid}
 use Rattle.rules.specs.SiteTimes.{under}
 use Rattle.rules.specs.Interval.{following}
 use Rattle.rules.specs.Kept.{keptValid, keptSteppedInto}
-use Rattle.rules.specs.Timed.{keptOf, ruledSite, noneWaiting, timedValid, startsNext, takesOver, withoutCounts, rulingNext, timedStepped}
+use Rattle.rules.specs.Timed.{TimedState, Waiting, keptOf, ruledSite, noneWaiting, timedValid, startsNext, takesOver, withoutCounts, rulingNext, timedStepped}
 use Rattle.rules.specs.WaitBound.{waitBound}
 use Rattle.rules.specs.Call.{wired, strayInput, boundFor, handedBack, bufferFor, checksBy}
-use Rattle.rules.specs.TimedCall.{timedParts, retimed, retimeVerdict}
+use Rattle.rules.specs.TimedCall.{timedVerdict, retimed, retimeVerdict}
 use Rattle.rules.specs.Laws.{Sound}
 use Rattle.rules.specs.TimedLaws.{ready}
-use Rattle.rules.specs.DemandThree.{Call, shows, inWalk}
-use Rattle.rules.specs.TimedDemandThree.{timed, Given, stepCall, retimeCall, TimedStep, madeFrom, ifAccepted, acceptedSteps}
+use Rattle.rules.specs.Runs.{StepCall, byRules, Call, stepCall, retimeCall, Step, takenFrom, ifAccepted, acceptedSteps}
+use Rattle.rules.specs.DemandThree.{shows, inWalk}
 use Rattle.laws.proofs.Booleans.{and-left, never-both}
 use Rattle.proof_runs.proofs.ValidStates.{ValidState, state-told}
 use Rattle.proof_runs.proofs.Chains.{ValidLink, front-shown, checks-told}
@@ -48,24 +46,21 @@ rest-valid : (site : Site) (s : KeptState) → keptValid site s ≡ true → val
 unfolding keptValid
 rest-valid site s v = and-left (valid site (s .core)) _ v
 
-module _ (b : List ℕ) (s : TimedState) (c : Call) where
+module _ (b : List ℕ) (s : TimedState) (c : StepCall) where
   abbrev next : TimedState
   next = timedStepped (siteOf b) s (c .inputs)
 
   -- a step call as it is taken if it has such a verdict
-  stepFor : Verdict → TimedStep
+  stepFor : Verdict → Step
   stepFor v =
       let after = handedBack v next s in
       record {
-        taken =
-            record {
-              before = s .core;
-              inputs = c .inputs;
-              room = length (c .buffer);
-              outcome = boundFor v (waitBound (under (siteOf b) (next .ruling)));
-              after = after .core;
-              shown = bufferFor v (under (siteOf b) (next .ruling)) (next .core) (c .buffer);
-            };
+        before = s .core;
+        inputs = c .inputs;
+        room = length (c .buffer);
+        outcome = boundFor v (waitBound (under (siteOf b) (next .ruling)));
+        after = after .core;
+        shown = bufferFor v (under (siteOf b) (next .ruling)) (next .core) (c .buffer);
         ruling = after .ruling;
         changed = s .waiting .present && not (after .waiting .present);
       }
@@ -74,7 +69,7 @@ module _ (b : List ℕ) (s : TimedState) (c : Call) where
     abbrev site : Site
     site = siteOf b
 
-    abbrev entry : TimedStep
+    abbrev entry : Step
     entry = stepFor Accepted
 
     abbrev over : Bool
@@ -91,7 +86,7 @@ module _ (b : List ℕ) (s : TimedState) (c : Call) where
     from = plainState site s .core
 
     -- the plain link
-    plain-of : ValidLink now from (viewed from (entry .taken))
+    plain-of : ValidLink now from (viewed from entry)
     unfolding stepFor handedBack bufferFor strayInput wired shows timedStepped
     plain-of =
         let there = timed-told site next (timed-stepped-valid site sound s v (c .inputs) stray) in
@@ -122,7 +117,7 @@ module _ (b : List ℕ) (s : TimedState) (c : Call) where
         record {
           before = refl;
           kept = λ e. same (takesOver site s) (sym changed-is ∙ e);
-          plain = subst (λ (f : State). ValidLink now f (viewed f (entry .taken))) from-is plain-of;
+          plain = subst (λ (f : State). ValidLink now f (viewed f entry)) from-is plain-of;
           still = λ e k l. starts-clear (ruledSite site s) (old-sound site sound s v) (s .core) was (over-starts site sound s v (is-over e)) k l .still;
           sane = was;
           over = λ e. over-starts site sound s v (is-over e);
@@ -150,10 +145,10 @@ module _ (b : List ℕ) (s : TimedState) (c : Call) where
   step-run :
       Sound (siteOf b) →
       (v : Verdict) →
-      checksBy timedParts b s (c .inputs) (length (c .buffer)) ≡ v →
-      (later : TimedState → List TimedStep) →
+      timedVerdict b s (c .inputs) (length (c .buffer)) ≡ v →
+      (later : TimedState → List Step) →
       ((t : TimedState) → TimedRun (siteOf b) (t .core) (t .ruling) (later t)) →
-      TimedRun (siteOf b) (s .core) (s .ruling) (ifAccepted (stepFor v .taken .outcome) (stepFor v) (later (handedBack v next s)))
+      TimedRun (siteOf b) (s .core) (s .ruling) (ifAccepted (stepFor v .outcome) (stepFor v) (later (handedBack v next s)))
   unfolding ifAccepted boundFor handedBack stepFor checksBy
   step-run sound Accepted e later rest =
       let told = checks-told b (c .inputs) (length (c .buffer)) (timedValid (siteOf b) s) e in
@@ -162,7 +157,7 @@ module _ (b : List ℕ) (s : TimedState) (c : Call) where
 
 -- a retiming call alters neither the rest of the state nor what rules
 retime-run :
-    (site : Site) (s : TimedState) (times : Times) (v : Verdict) (later : TimedState → List TimedStep) →
+    (site : Site) (s : TimedState) (times : Times) (v : Verdict) (later : TimedState → List Step) →
     ((t : TimedState) → TimedRun site (t .core) (t .ruling) (later t)) →
     TimedRun site (s .core) (s .ruling) (later (handedBack v (retimed s times) s))
 unfolding handedBack retimed
@@ -172,13 +167,13 @@ retime-run site s times (Refused number place) later rest = rest s
 pub timed-run :
     (b : List ℕ) →
     Sound (siteOf b) →
-    (calls : List Given) (s : TimedState) →
-    TimedRun (siteOf b) (s .core) (s .ruling) (acceptedSteps (madeFrom timed b s calls))
-unfolding timed madeFrom acceptedSteps stepFor
+    (calls : List Call) (s : TimedState) →
+    TimedRun (siteOf b) (s .core) (s .ruling) (acceptedSteps (takenFrom byRules b s calls))
+unfolding byRules takenFrom acceptedSteps stepFor
 timed-run b sound [] s = tt
 timed-run b sound (stepCall c ∷ calls) s =
-    step-run b s c sound (checksBy timedParts b s (c .inputs) (length (c .buffer))) refl (λ (t : TimedState). acceptedSteps (madeFrom timed b t calls))
+    step-run b s c sound (timedVerdict b s (c .inputs) (length (c .buffer))) refl (λ (t : TimedState). acceptedSteps (takenFrom byRules b t calls))
     (timed-run b sound calls)
 timed-run b sound (retimeCall new ∷ calls) s =
-    retime-run (siteOf b) s (timesIn new) (retimeVerdict b s new) (λ (t : TimedState). acceptedSteps (madeFrom timed b t calls))
+    retime-run (siteOf b) s (timesIn new) (retimeVerdict b s new) (λ (t : TimedState). acceptedSteps (takenFrom byRules b t calls))
     (timed-run b sound calls)

@@ -18,7 +18,7 @@ use Rattle.rules.specs.SiteTimes.{under}
 use Rattle.rules.specs.Kept.{freshKept}
 use Rattle.rules.specs.Timed.{freshTimed}
 use Rattle.rules.specs.TimedLaws.{readyCore}
-use Rattle.rules.specs.TimedDemandThree.{TimedStep}
+use Rattle.rules.specs.Runs.{Step}
 use Rattle.laws.proofs.Booleans.{never-both}
 use Rattle.rules.proofs.Settings.{phase-timed, start-timed}
 use Rattle.proof_runs.proofs.Chains.{ValidLink}
@@ -34,14 +34,14 @@ use Rattle.proof_timed.proofs.Across.{ready-idle}
 
 -- ── What is left ──
 
-module _ (site : Site) (s : State) (ruling : Times) (step : TimedStep) (link : TimedLink site s ruling step) (changed : step .changed ≡ true) where
+module _ (site : Site) (s : State) (ruling : Times) (step : Step) (link : TimedLink site s ruling step) (changed : step .changed ≡ true) where
   abbrev now : Site
   now = under site (step .ruling)
 
   before : isBeforeStart (s .position .interval) ≡ true
   before = starts-before (under site ruling) s (link .over changed)
 
-  plain : ValidLink now (readyCore s) (viewed (readyCore s) (step .taken))
+  plain : ValidLink now (readyCore s) (viewed (readyCore s) step)
   plain = ready-link site s ruling step link changed
 
   none-busy : (k : ℕ) → k < 8 → idles now (readyCore s) k ≡ 0
@@ -97,7 +97,7 @@ pub kept-fresh : (site : Site) → Kept (under site (freshTimed site .ruling)) (
 unfolding freshTimed freshKept fresh
 kept-fresh site = record { entered = tt; clearing = clearing-fresh }
 
-module _ (site : Site) (s : State) (ruling : Times) (step : TimedStep) (link : TimedLink site s ruling step) (kept : Kept (under site ruling) s) where
+module _ (site : Site) (s : State) (ruling : Times) (step : Step) (link : TimedLink site s ruling step) (kept : Kept (under site ruling) s) where
   -- in the state that a step is plain from
   pub kept-plain : Kept (under site (step .ruling)) (plainFrom (step .changed) s)
   kept-plain = by (step .changed) refl
@@ -110,11 +110,11 @@ module _ (site : Site) (s : State) (ruling : Times) (step : TimedStep) (link : T
           }
       by false e = subst (λ (r : Times). Kept (under site r) s) (sym (link .kept e)) kept
 
-  pub kept-after : Kept (under site (step .ruling)) (step .taken .after)
+  pub kept-after : Kept (under site (step .ruling)) (step .after)
   kept-after =
       let from = plainFrom (step .changed) s in
       let plain = link .plain in
       rw (plain .taken .after) (record {
-        entered = entered-after (under site (step .ruling)) from (step .taken .inputs);
-        clearing = clearing-after (under site (step .ruling)) (plain .sound) from (step .taken .inputs) (plain .here) (kept-plain .clearing);
+        entered = entered-after (under site (step .ruling)) from (step .inputs);
+        clearing = clearing-after (under site (step .ruling)) (plain .sound) from (step .inputs) (plain .here) (kept-plain .clearing);
       })

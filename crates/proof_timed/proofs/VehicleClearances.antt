@@ -22,8 +22,8 @@ use Rattle.rules.specs.Interval.{ends, following}
 use Rattle.rules.specs.Colours.{red, yellow, green, vehicleColour}
 use Rattle.rules.specs.SiteTimes.{under}
 use Rattle.rules.specs.Timed.{startsNext}
+use Rattle.rules.specs.Runs.{Step}
 use Rattle.rules.specs.DemandThree.{shows, shownBy}
-use Rattle.rules.specs.TimedDemandThree.{TimedStep, takens}
 use Rattle.rules.specs.Laws.{Sound}
 use Rattle.laws.proofs.Booleans.{and-left, never-both, decided}
 use Rattle.rules.proofs.Settings.{Timed}
@@ -32,17 +32,14 @@ use Rattle.proof_clearance.proofs.Shown.{keeps, vehicle-shows, green-of-phase}
 use Rattle.proof_clearance.proofs.VehicleColours.{Fades, closingAt, shown-fades, green-stays, target-green}
 use Rattle.proof_clearance.proofs.Stopped.{Stopped, in-early, in-yellow, in-red, stopped-member, stopped-shows, all-red-closed}
 use Rattle.proof_clearance.proofs.Vehicles.{stopped-on, YellowsLeft, in-green, stopped, yellows-member, yellows-fall, yellows-over, red-stays}
+use Rattle.proof_change.proofs.Starts.{starts-before}
 use Rattle.proof_timed.proofs.Induction.{viewed, plainFrom, TimedLink}
 use Rattle.proof_timed.proofs.Countdowns.{Since, since-next, only-red, barred, counts-down, plain-link, starts-by}
 
 -- ── Where times take over ──
 
-before-start : (site : Site) (s : State) → startsNext site s ≡ true → isBeforeStart (s .position .interval) ≡ true
-unfolding startsNext
-before-start site s h = and-left (isBeforeStart (s .position .interval)) _ h
-
 not-before : (site : Site) (s : State) (i : Interval) → startsNext site s ≡ true → s .position .interval ≡ i → isBeforeStart i ≡ false → ⊥
-not-before site s i h e n = never-both (ap isBeforeStart (sym e) ∙ before-start site s h) n
+not-before site s i h e n = never-both (ap isBeforeStart (sym e) ∙ starts-before site s h) n
 
 all-red-lasted : (site : Site) (s : State) → startsNext site s ≡ true → s .position .interval ≡ AllRed → phaseTimes (site .times) (s .position .phase) .red ≤ s .position .age
 unfolding startsNext ends
@@ -68,7 +65,7 @@ green-goes-on site j new next position AllRed h member e =
     (green-stays (keeps site j (position .target)) red (λ (z : red ≡ green). omega arith) e)
 
 module _
-    (site : Site) (g j : ℕ) (apart : conflict site g j ≡ true) (start : TimedStep) (later : List TimedStep) (greenG : shows (start .taken) g ≡ green)
+    (site : Site) (g j : ℕ) (apart : conflict site g j ≡ true) (start : Step) (later : List Step) (greenG : shows start g ≡ green)
     (r0 : Times) (sound : Sound (under site r0)) (kind : isPedestrian (site .groups) j ≡ false) (p : ℕ) (times : Timed (phaseTimes r0 p)) where
   abbrev old : Site
   old = under site r0
@@ -86,20 +83,20 @@ module _
   abbrev Red : Times → State → Type 0
   Red ruling s = closingAt site j (s .position) ≡ red
 
-  module _ (s : State) (ruling : Times) (step : TimedStep) (link : TimedLink site s ruling step) where
+  module _ (s : State) (ruling : Times) (step : Step) (link : TimedLink site s ruling step) where
     abbrev from : State
     from = plainFrom (step .changed) s
 
-    pub fades : Fades (shows (step .taken) j) (closingAt site j (step .taken .after .position))
+    pub fades : Fades (shows step j) (closingAt site j (step .after .position))
     unfolding shows
     fades =
-        rw (vehicle-shows (under site (step .ruling)) from (viewed from (step .taken)) (link .plain .taken) j within kind)
-        (shown-fades (under site (step .ruling)) j (step .taken .after .position))
+        rw (vehicle-shows (under site (step .ruling)) from (viewed from step) (link .plain .taken) j within kind)
+        (shown-fades (under site (step .ruling)) j (step .after .position))
 
     -- no times take over while the group is green and is not green after the step, or while yellow steps are left
     yellow-unchanged :
         (n : ℕ) →
-        (shows (step .taken) j ≡ green → ⊥) →
+        (shows step j ≡ green → ⊥) →
         ruling ≡ r0 →
         YellowsLeft old j p (suc n) (s .position) →
         step .changed ≡ true →
@@ -111,7 +108,7 @@ module _
         (fades .green
         (ap (closingAt site j) (begun .1)
         ∙ green-goes-on site j (step .ruling) (begun .0) (s .position) (s .position .interval)
-        (before-start old s (starts-by site r0 s ruling step link q changed))
+        (starts-before old s (starts-by site r0 s ruling step link q changed))
         member
         (rw member at e)))
     yellow-unchanged n other q (stopped c (in-early mark row most) e) changed =
@@ -122,22 +119,22 @@ module _
 
     yellow-falls :
         (n : ℕ) →
-        (shows (step .taken) j ≡ green → ⊥) →
+        (shows step j ≡ green → ⊥) →
         Yellows (suc n) ruling s →
-        Yellows n (step .ruling) (step .taken .after) × (shows (step .taken) j ≡ yellow)
+        Yellows n (step .ruling) (step .after) × (shows step j ≡ yellow)
     unfolding shows
     yellow-falls n other left =
         ⊎-elim
         (λ (changed : step .changed ≡ true). absurd (yellow-unchanged n other (left .0) (left .1) changed))
         (λ (same : step .changed ≡ false).
         let plain = plain-link site r0 s ruling step link (left .0) same in
-        let fall = yellows-fall old j p times s (viewed s (step .taken)) (plain .taken) n (left .1) (λ e. other (fades .green e)) in
-        ((link .kept same ∙ left .0, fall .0), vehicle-shows old s (viewed s (step .taken)) (plain .taken) j within kind ∙ fall .1))
+        let fall = yellows-fall old j p times s (viewed s step) (plain .taken) n (left .1) (λ e. other (fades .green e)) in
+        ((link .kept same ∙ left .0, fall .0), vehicle-shows old s (viewed s step) (plain .taken) j within kind ∙ fall .1))
         (decided (step .changed))
 
-    red-rests : (shows (step .taken) j ≡ green → ⊥) → Red ruling s → Red (step .ruling) (step .taken .after) × (shows (step .taken) j ≡ red)
+    red-rests : (shows step j ≡ green → ⊥) → Red ruling s → Red (step .ruling) (step .after) × (shows step j ≡ red)
     red-rests other e =
-        let kept = red-stays (under site (step .ruling)) from (viewed from (step .taken)) (link .plain .taken) j (same (step .changed) ∙ e) (λ e. other (fades .green e)) in
+        let kept = red-stays (under site (step .ruling)) from (viewed from step) (link .plain .taken) j (same (step .changed) ∙ e) (λ e. other (fades .green e)) in
         (kept, fades .red kept)
       where
         same : (c : Bool) → closingAt site j (plainFrom c s .position) ≡ closingAt site j (s .position)
@@ -149,7 +146,7 @@ module _
         (c : ℕ) →
         ruling ≡ r0 →
         Stopped old j p c (s .position) →
-        ((step .ruling ≡ r0) × Stopped old j p (suc c) (step .taken .after .position) × ValidLink old s (viewed s (step .taken)))
+        ((step .ruling ≡ r0) × Stopped old j p (suc c) (step .after .position) × ValidLink old s (viewed s step))
         ⊎ ((y + phaseTimes r0 p .red ≤ c) × (closingAt site j (s .position) ≡ red))
     goes-on c q row =
         ⊎-elim
@@ -157,9 +154,9 @@ module _
         (λ (same : step .changed ≡ false).
         let plain = plain-link site r0 s ruling step link q same in
         ⊎-elim
-        (λ (row′ : Stopped old j p (suc c) (step .taken .after .position)). inl (link .kept same ∙ q, row′, plain))
+        (λ (row′ : Stopped old j p (suc c) (step .after .position)). inl (link .kept same ∙ q, row′, plain))
         (λ done. inr done)
-        (stopped-on old j p times s (viewed s (step .taken)) (plain .taken) c row))
+        (stopped-on old j p times s (viewed s step) (plain .taken) c row))
         (decided (step .changed))
       where
         over : Stopped old j p c (s .position) → startsNext old s ≡ true → (y + phaseTimes r0 p .red ≤ c) × (closingAt site j (s .position) ≡ red)
@@ -170,27 +167,27 @@ module _
             (omega (arith, row .age, lasted), all-red-closed row)
 
   red-clears :
-      (c : ℕ) (s : State) (ruling : Times) (steps : List TimedStep) →
+      (c : ℕ) (s : State) (ruling : Times) (steps : List Step) →
       y ≤ c →
       ruling ≡ r0 →
       Stopped old j p c (s .position) →
       Since site j start later s ruling steps →
-      (n : ℕ) × (y + phaseTimes r0 p .red ≤ c + n) × (shownBy j (takens steps) ≡ replicate n red)
+      (n : ℕ) × (y + phaseTimes r0 p .red ≤ c + n) × (shownBy j steps ≡ replicate n red)
   unfolding shownBy shows
   red-clears c s ruling [] h q row since =
       ⊎-elim
-      (λ (on : (start .ruling ≡ r0) × Stopped old j p (suc c) (start .taken .after .position) × ValidLink old s (viewed s (start .taken))).
+      (λ (on : (start .ruling ≡ r0) × Stopped old j p (suc c) (start .after .position) × ValidLink old s (viewed s start)).
       absurd (barred site g j apart start later greenG s ruling (since .run .0) (stopped-member (on .1))))
       (λ over. (0, omega (arith, over .0), refl))
       (goes-on s ruling start (since .run .0) c q row)
   red-clears c s ruling (step ∷ steps) h q row since =
       ⊎-elim
-      (λ (on : (step .ruling ≡ r0) × Stopped old j p (suc c) (step .taken .after .position) × ValidLink old s (viewed s (step .taken))).
-      let more = red-clears (suc c) (step .taken .after) (step .ruling) steps (omega arith) (on .0) (on .1) (since-next since) in (
+      (λ (on : (step .ruling ≡ r0) × Stopped old j p (suc c) (step .after .position) × ValidLink old s (viewed s step)).
+      let more = red-clears (suc c) (step .after) (step .ruling) steps (omega arith) (on .0) (on .1) (since-next since) in (
         suc (more .0),
         omega (arith, more .1),
         ap₂ _∷_
-            (vehicle-shows old s (viewed s (step .taken)) (on .2 .taken) j within kind
+            (vehicle-shows old s (viewed s step) (on .2 .taken) j within kind
             ∙ stopped-shows (on .1)
             ∙ rw (lt-leb (suc c) y (omega arith)))
             (more .2),
@@ -200,12 +197,12 @@ module _
       (goes-on s ruling step (since .run .0) c q row)
 
   pub vehicle-cleared :
-      (s : State) (ruling : Times) (steps : List TimedStep) →
+      (s : State) (ruling : Times) (steps : List Step) →
       ruling ≡ r0 →
       s .position .phase ≡ p →
       closingAt site j (s .position) ≡ green →
       Since site j start later s ruling steps →
-      (n : ℕ) × (phaseTimes r0 p .red ≤ n) × (shownBy j (takens steps) ≡ replicate y yellow ++ replicate n red)
+      (n : ℕ) × (phaseTimes r0 p .red ≤ n) × (shownBy j steps ≡ replicate y yellow ++ replicate n red)
   vehicle-cleared s ruling steps q here e since =
       let down =
       counts-down site g j apart start later greenG Yellows yellow

@@ -17,8 +17,8 @@ use Rattle.rules.specs.SiteTimes.{under}
 use Rattle.rules.specs.WaitBound.{waitBound}
 use Rattle.rules.specs.Waits.{turnOf, restOf, phaseWaitBy, movementWaitBy, phaseWait, movementWait}
 use Rattle.rules.specs.Laws.{Sound}
-use Rattle.rules.specs.DemandThree.{Taken, minimumGreenBegins, walkBegins}
-use Rattle.rules.specs.TimedDemandThree.{TimedStep, siteAfter, changedWaits}
+use Rattle.rules.specs.Runs.{Step, siteAfter}
+use Rattle.rules.specs.DemandThree.{minimumGreenBegins, walkBegins, changedWaits}
 use Rattle.rules.specs.PhaseWaits.{greatestAmong, turnThrough, lateThrough, phaseWaitThrough, movementWaitThrough, noneChanges, ComesBefore, WaitsMet, PlainWaitsMet, WithinSum}
 use Rattle.laws.proofs.Booleans.{and-left, and-right, decided}
 use Rattle.laws.proofs.Sums.{sum-most, sum-both}
@@ -54,7 +54,7 @@ module _ (site : Site) (q : ℕ) where
 
 -- the same times rule all the while
 greatest-same :
-    (site : Site) (number : Times → ℕ) (steps : List TimedStep) (s : State) (ruling : Times) →
+    (site : Site) (number : Times → ℕ) (steps : List Step) (s : State) (ruling : Times) →
     TimedRun site s ruling steps →
     noneChanges steps ≡ true →
     greatestAmong number steps ≤ number ruling
@@ -63,15 +63,15 @@ greatest-same site number [] s ruling run none = omega arith
 greatest-same site number (step ∷ later) s ruling run none =
     let kept : step .ruling ≡ ruling = run .0 .kept (not-true (step .changed) (and-left (not (step .changed)) (noneChanges later) none)) in
     let rest =
-    greatest-same site number later (step .taken .after) (step .ruling) (run .1) (and-right (not (step .changed)) (noneChanges later) none) in
+    greatest-same site number later (step .after) (step .ruling) (run .1) (and-right (not (step .changed)) (noneChanges later) none) in
     omega (arith, rest, ap number kept)
 
 module _
-    (site : Site) (s : State) (ruling : Times) (step : TimedStep) (between : List TimedStep)
+    (site : Site) (s : State) (ruling : Times) (step : Step) (between : List Step)
     (run : TimedRun site s ruling (step ∷ between)) (none : noneChanges between ≡ true) where
   among : (number : Times → ℕ) → greatestAmong number (step ∷ between) ≤ number (step .ruling)
   unfolding greatestAmong
-  among number = omega (arith, greatest-same site number between (step .taken .after) (step .ruling) (run .1) none)
+  among number = omega (arith, greatest-same site number between (step .after) (step .ruling) (run .1) none)
 
   rest-plain : (q : ℕ) → restOf site (turnThrough site step between) q ≤ restOf site (turnOf (siteAfter site step)) q
   unfolding turnThrough
@@ -85,7 +85,7 @@ module _
   unfolding movementWaitBy restOf
   movement-plain q m = omega (arith, rest-plain q)
 
-comes-earlier : (wait wait' : ℕ) (met : Taken → Bool) (steps : List TimedStep) → wait ≤ wait' → ComesBefore wait met steps → ComesBefore wait' met steps
+comes-earlier : (wait wait' : ℕ) (met : Step → Bool) (steps : List Step) → wait ≤ wait' → ComesBefore wait met steps → ComesBefore wait' met steps
 unfolding ComesBefore
 comes-earlier wait wait' met steps less comes none = omega (arith, comes none)
 
@@ -96,19 +96,19 @@ module _ (site : Site) (q : ℕ) (late : Times → ℕ) where
   turnBy times p = turnOf (under site times) p
 
   -- the greatest turns among these times and those of the steps
-  abbrev turns : Times → List TimedStep → ℕ → ℕ
+  abbrev turns : Times → List Step → ℕ → ℕ
   turns ruling steps p = max (turnBy ruling p) (greatestAmong (λ times. turnBy times p) steps)
 
   sum-through :
       ((times : Times) → Sound (under site times) → late times + restOf site (turnBy times) q ≤ waitBound (under site times)) →
-      (steps : List TimedStep) (s : State) (ruling : Times) →
+      (steps : List Step) (s : State) (ruling : Times) →
       TimedRun site s ruling steps →
       max (late ruling) (greatestAmong late steps) + restOf site (turns ruling steps) q
       ≤ late ruling + restOf site (turnBy ruling) q + changedWaits site steps
   unfolding greatestAmong changedWaits
   sum-through within [] s ruling run = omega (arith, rest-most site q (turns ruling []) (turnBy ruling) (λ p. omega arith))
   sum-through within (step ∷ later) s ruling run =
-      let rest = sum-through within later (step .taken .after) (step .ruling) (run .1) in
+      let rest = sum-through within later (step .after) (step .ruling) (run .1) in
       ⊎-elim
       (λ (e : step .changed ≡ true).
       rw e
@@ -132,7 +132,7 @@ module _ (site : Site) (q : ℕ) (late : Times → ℕ) where
       (decided (step .changed))
 
 module _
-    (site : Site) (s : State) (ruling : Times) (step : TimedStep) (between : List TimedStep)
+    (site : Site) (s : State) (ruling : Times) (step : Step) (between : List Step)
     (run : TimedRun site s ruling (step ∷ between)) (q : ℕ) (below : q < site .size .phases) where
   abbrev now : Site
   now = siteAfter site step
@@ -147,7 +147,7 @@ module _
   phase-sum =
       omega (
         arith,
-        sum-through site q (λ times. phaseTimes times q .late) times-within between (step .taken .after) (step .ruling) (run .1),
+        sum-through site q (λ times. phaseTimes times q .late) times-within between (step .after) (step .ruling) (run .1),
         phase-wait-within now (run .0 .plain .sound) q below,
       )
 
@@ -160,13 +160,13 @@ module _
   movement-sum m exists crossing =
       omega (
         arith,
-        sum-through site q (λ times. 0) (λ times sound. omega (arith, times-within times sound)) between (step .taken .after) (step .ruling) (run .1),
+        sum-through site q (λ times. 0) (λ times sound. omega (arith, times-within times sound)) between (step .after) (step .ruling) (run .1),
         movement-wait-within now (run .0 .plain .sound) q below m exists crossing,
       )
 
 -- ── Over a run ──
 
-module _ (site : Site) (s : State) (ruling : Times) (steps : List TimedStep) (run : TimedRun site s ruling steps) where
+module _ (site : Site) (s : State) (ruling : Times) (steps : List Step) (run : TimedRun site s ruling steps) where
   pub waits-within-sum : WithinSum site steps
   unfolding WithinSum
   waits-within-sum earlier between later step e q below =
@@ -191,7 +191,7 @@ module _ (site : Site) (s : State) (ruling : Times) (steps : List TimedStep) (ru
       }
     where
       plain-phase :
-          (earlier between later : List TimedStep) (step : TimedStep) →
+          (earlier between later : List Step) (step : Step) →
           steps ≡ earlier ++ step ∷ (between ++ later) →
           (q : ℕ) →
           noneChanges between ≡ true →

@@ -10,17 +10,16 @@ use Rattle.rules.specs.declared.state.Held.{Held}
 use Rattle.rules.specs.declared.state.Held.the-variants.{Nothing, Phase}
 use Rattle.rules.specs.declared.state.Interval.{Interval}
 use Rattle.rules.specs.declared.state.Interval.the-variants.{MinimumGreen, Running, EarlyCutOff}
-use Rattle.rules.specs.declared.state.TimedState.{TimedState}
 use Rattle.rules.specs.Site.{siteOf, timesIn}
 use Rattle.rules.specs.State.{idle}
-use Rattle.rules.specs.Timed.{noneWaiting}
+use Rattle.rules.specs.Timed.{TimedState, noneWaiting}
 use Rattle.rules.specs.Waits.{phaseWait, movementWait}
-use Rattle.rules.specs.DemandThree.{Taken, registersLocked, registersPressed, minimumGreenBegins, walkBegins, someStep}
-use Rattle.rules.specs.TimedDemandThree.{timed, Given}
+use Rattle.rules.specs.Runs.{byRules, Call, Step, leftBy}
+use Rattle.rules.specs.DemandThree.{registersLocked, registersPressed, minimumGreenBegins, walkBegins, someStep}
 use Rattle.rules.proofs.Opened.{opened}
 use Rattle.proof_wait_cases.specs.Examples.{staggered}
 use Rattle.proof_wait_cases.specs.WaitCases.{saturated, saturatedFrom, saturatedCalls, saturatedSteps, passing, firstPasses, WaitsFor, WaitsReached}
-use Rattle.proof_wait_cases.proofs.Parts.{stepsOf, stateAfter, steps-append, drop-part, first-part, passing-part, some-part}
+use Rattle.proof_wait_cases.proofs.Parts.{stepsOf, steps-append, drop-part, first-part, passing-part, some-part}
 
 -- ── The states between the parts ──
 
@@ -54,22 +53,22 @@ third = standing 1 Running 140 (Phase 0) Nothing 25 139 5 1 5
 
 -- ── What each part shows ──
 
-abbrev pressing : Taken → Bool
+abbrev pressing : Step → Bool
 pressing step = registersPressed step 0
 
-abbrev locking : Taken → Bool
+abbrev locking : Step → Bool
 locking step = registersLocked (siteOf staggered) step 0
 
 -- the steps of a part
-abbrev part : TimedState → List Given → List Taken
-part = stepsOf timed staggered
+abbrev part : TimedState → List Call → List Step
+part = stepsOf byRules staggered
 
 -- the state that a part leads to, how many steps it has, whether its first registers the button demand and the lock, and whether a walk and a minimum
 -- green of A begin in it
-shows : TimedState → List Given → TimedState × ℕ × Bool × Bool × Bool × Bool
+shows : TimedState → List Call → TimedState × ℕ × Bool × Bool × Bool × Bool
 shows s calls =
     let steps = part s calls in (
-      stateAfter timed staggered s calls,
+      leftBy byRules staggered s calls,
       length steps,
       firstPasses pressing steps,
       firstPasses locking steps,
@@ -78,22 +77,22 @@ shows s calls =
     )
 
 abbrev start : TimedState
-start = timed .stepping .fresh staggered
+start = byRules .fresh staggered
 
 one : shows start (saturatedFrom 1 40) ≡ (first, 40, false, true, false, true)
-unfolding opened staggered saturated saturatedFrom stepsOf stateAfter standing first shows firstPasses
+unfolding opened staggered saturated saturatedFrom stepsOf standing first shows firstPasses
 one = refl
 
 two : shows first (saturatedFrom 41 235) ≡ (second, 235, true, false, false, false)
-unfolding opened staggered saturated saturatedFrom stepsOf stateAfter standing first second shows firstPasses
+unfolding opened staggered saturated saturatedFrom stepsOf standing first second shows firstPasses
 two = refl
 
 three : shows second (saturatedFrom 276 279) ≡ (third, 279, false, true, false, false)
-unfolding opened staggered saturated saturatedFrom stepsOf stateAfter standing second third shows firstPasses
+unfolding opened staggered saturated saturatedFrom stepsOf standing second third shows firstPasses
 three = refl
 
 -- both begin in the last step of the fourth part
-ends : List Taken → Bool × ℕ × Bool × ℕ
+ends : List Step → Bool × ℕ × Bool × ℕ
 ends steps = (
   someStep (walkBegins 0) steps,
   passing (walkBegins 0) steps,
@@ -111,43 +110,43 @@ numbers = (refl, refl)
 
 -- ── Together ──
 
-abbrev partOne : List Taken
+abbrev partOne : List Step
 partOne = part start (saturatedFrom 1 40)
 
-abbrev partTwo : List Taken
+abbrev partTwo : List Step
 partTwo = part first (saturatedFrom 41 235)
 
-abbrev partThree : List Taken
+abbrev partThree : List Step
 partThree = part second (saturatedFrom 276 279)
 
-abbrev partFour : List Taken
+abbrev partFour : List Step
 partFour = part third (saturatedFrom 555 278)
 
-module _ (calls : List Given) where
+module _ (calls : List Call) where
   after-one : part start (saturatedFrom 1 40 ++ calls) ≡ partOne ++ part first calls
   unfolding shows
   after-one =
-      steps-append timed staggered start (saturatedFrom 1 40) calls
+      steps-append byRules staggered start (saturatedFrom 1 40) calls
       ∙ ap (λ (s : TimedState). partOne ++ part s calls) (λ i. one i .0)
 
   after-two : part first (saturatedFrom 41 235 ++ calls) ≡ partTwo ++ part second calls
   unfolding shows
   after-two =
-      steps-append timed staggered first (saturatedFrom 41 235) calls
+      steps-append byRules staggered first (saturatedFrom 41 235) calls
       ∙ ap (λ (s : TimedState). partTwo ++ part s calls) (λ i. two i .0)
 
   after-three : part second (saturatedFrom 276 279 ++ calls) ≡ partThree ++ part third calls
   unfolding shows
   after-three =
-      steps-append timed staggered second (saturatedFrom 276 279) calls
+      steps-append byRules staggered second (saturatedFrom 276 279) calls
       ∙ ap (λ (s : TimedState). partThree ++ part s calls) (λ i. three i .0)
 
 all-parts : saturatedSteps ≡ partOne ++ (partTwo ++ (partThree ++ partFour))
 unfolding saturatedSteps saturatedCalls stepsOf
 all-parts =
     after-one (saturatedFrom 41 235 ++ (saturatedFrom 276 279 ++ saturatedFrom 555 278))
-    ∙ ap (λ (l : List Taken). partOne ++ l) (after-two (saturatedFrom 276 279 ++ saturatedFrom 555 278))
-    ∙ ap (λ (l : List Taken). partOne ++ (partTwo ++ l)) (after-three (saturatedFrom 555 278))
+    ∙ ap (λ (l : List Step). partOne ++ l) (after-two (saturatedFrom 276 279 ++ saturatedFrom 555 278))
+    ∙ ap (λ (l : List Step). partOne ++ (partTwo ++ l)) (after-three (saturatedFrom 555 278))
 
 -- from step 41 on, and from step 276 on
 from-press : drop 40 saturatedSteps ≡ partTwo ++ (partThree ++ partFour)

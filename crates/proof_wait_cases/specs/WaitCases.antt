@@ -10,8 +10,8 @@ use Rattle.rules.specs.Site.{siteOf}
 use Rattle.rules.specs.State.{fresh}
 use Rattle.rules.specs.Waits.{phaseWait, movementWait, waitsOf}
 use Rattle.rules.specs.Junctions.{junction}
-use Rattle.rules.specs.DemandThree.{Taken, registersLocked, registersPressed, minimumGreenBegins, walkBegins, someStep}
-use Rattle.rules.specs.TimedDemandThree.{timed, Given, stepCall, madeFrom, acceptedSteps, takens}
+use Rattle.rules.specs.Runs.{Step, byRules, Call, stepCall, takenFrom, acceptedSteps}
+use Rattle.rules.specs.DemandThree.{registersLocked, registersPressed, minimumGreenBegins, walkBegins, someStep}
 use Rattle.proof_wait_cases.specs.Examples.{tJunction, fourPhases, staggered, crossings}
 
 -- ── The numbers ──
@@ -32,30 +32,30 @@ unfoldable pub saturated : ℕ → ℕ
 saturated step = 2 ^ 0 + 2 ^ 2 + 2 ^ 5 + (if eqb step 41 then 2 ^ 48 else 0)
 
 -- n step calls from a step on, with a buffer for 11 groups
-unfoldable pub saturatedFrom : ℕ → ℕ → List Given
+unfoldable pub saturatedFrom : ℕ → ℕ → List Call
 saturatedFrom step zero = []
 saturatedFrom step (suc n) = stepCall (record { inputs = saturated step; buffer = replicate 11 0 }) ∷ saturatedFrom (step + 1) n
 
 -- 832 step calls, in four parts
-unfoldable pub saturatedCalls : List Given
+unfoldable pub saturatedCalls : List Call
 saturatedCalls = saturatedFrom 1 40 ++ (saturatedFrom 41 235 ++ (saturatedFrom 276 279 ++ saturatedFrom 555 278))
 
 -- the accepted steps of these calls from the fresh state
-unfoldable pub saturatedSteps : List Taken
-saturatedSteps = takens (acceptedSteps (madeFrom timed staggered (timed .stepping .fresh staggered) saturatedCalls))
+unfoldable pub saturatedSteps : List Step
+saturatedSteps = acceptedSteps (takenFrom byRules staggered (byRules .fresh staggered) saturatedCalls)
 
 -- how many steps pass before the first that brings the event; all of them if none does
-unfoldable pub passing : (Taken → Bool) → List Taken → ℕ
+unfoldable pub passing : (Step → Bool) → List Step → ℕ
 passing event [] = 0
 passing event (step ∷ later) = if event step then 0 else 1 + passing event later
 
 -- there is a first step, and it passes the test
-unfoldable pub firstPasses : (Taken → Bool) → List Taken → Bool
+unfoldable pub firstPasses : (Step → Bool) → List Step → Bool
 firstPasses test [] = false
 firstPasses test (step ∷ later) = test step
 
 -- the first of the steps registers a demand, and so many further ones pass before its event comes
-unfoldable pub WaitsFor : (registers event : Taken → Bool) → List Taken → ℕ → Type 0
+unfoldable pub WaitsFor : (registers event : Step → Bool) → List Step → ℕ → Type 0
 WaitsFor registers event steps n = (firstPasses registers steps ≡ true) × (someStep event steps ≡ true) × (passing event steps ≡ n)
 
 -- The press in step 41 waits for the rest of A's turn and one full turn of B and C: its walk begins in step 832. The lock of A that step 276 registers,

@@ -57,13 +57,6 @@ clearing-second Walk h out = absurd (never-both h refl)
 clearing-second ClearanceOne h out = absurd (never-both refl out)
 clearing-second ClearanceTwo h out = refl
 
-clearing-idle : (stage : Stage) → isClearing stage ≡ true → isIdle stage ≡ false
-unfolding isClearing
-clearing-idle Idle h = absurd (never-both h refl)
-clearing-idle Walk h = refl
-clearing-idle ClearanceOne h = refl
-clearing-idle ClearanceTwo h = refl
-
 -- the fact, of a state
 abbrev pub Clearing : State → Type 0
 Clearing s =

@@ -11,9 +11,7 @@ pub mod Demand
 pub mod Away
 pub mod Own
 pub mod Locked
-pub mod Locks
 pub mod Pressed
-pub mod Buttons
 pub mod Turns
 pub mod Clearing
 pub mod Entered

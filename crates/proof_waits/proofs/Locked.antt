@@ -15,7 +15,8 @@ use Rattle.rules.specs.Demands.{detected, locking, demanded, inGreen, registers
 use Rattle.rules.specs.Interval.{clearsLock}
 use Rattle.rules.specs.Step.{stepped}
 use Rattle.rules.specs.Laws.{Sound}
-use Rattle.rules.specs.DemandThree.{Taken, minimumGreenBegins}
+use Rattle.rules.specs.Runs.{Step}
+use Rattle.rules.specs.DemandThree.{minimumGreenBegins}
 use Rattle.laws.proofs.Booleans.{and-left, and-right, and-both, or-left, or-right, never-both, not-true-false}
 use Rattle.proof_runs.proofs.Steps.{ended, now, lockedNow, position-of, locked-of}
 use Rattle.proof_runs.proofs.Demanded.{lock-demands}
@@ -55,7 +56,7 @@ module _ (site : Site) (sound : Sound site) (q : ℕ) (below : q < site .size .p
   module _
       (Left : ℕ → State → Type 0)
       (s : State)
-      (step : Taken)
+      (step : Step)
       (link : ValidLink site s step)
       (falls :
       demanded site s (step .inputs) q ≡ true →

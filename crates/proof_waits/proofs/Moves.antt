@@ -28,7 +28,7 @@ use Rattle.rules.specs.Laws.{Sound}
 use Rattle.laws.proofs.Booleans.{and-false-left, and-false-right, and-false-cases, or-false-both, or-false-right}
 use Rattle.proof_runs.proofs.ValidStates.{ValidState}
 use Rattle.proof_runs.proofs.Steps.{timesNow, another, counted, mayEnd, moving, ended, now, started, moved, askedNow, begun, counts-of, movement-of}
-use Rattle.proof_runs.proofs.Ends.{ended-in, now-in, next-in, started-in, some-moved}
+use Rattle.proof_runs.proofs.Ends.{ended-in, now-in, started-in, some-moved}
 use Rattle.proof_waits.proofs.Stages.{greenLeft, outs, idles, overs, out-of-walk, untilOut, untilIdle, past-falls, idle-falls, out-some, idle-some, stage-reached}
 
 rises : (times : PhaseTimes) (count : ℕ) → maximumAfter Running times true count ≡ min (count + 1) (times .maximum)
@@ -96,28 +96,9 @@ module _ (site : Site) (s : State) (inputs : ℕ) where
     unfolding counted countsAfter
     maximum-rises = ap (λ (c : Counts). c .maximum) counts-stay ∙ rw (a, e) (rises (timesNow site s) (s .counts .maximum))
 
-    green-falls : greenLeft site (stepped site s inputs) ≤ greenLeft site s - 1
-    unfolding staying
-    green-falls = rw (next-in site s inputs Running e false h, maximum-rises) (omega arith)
-
     quiet-demanded : (k : ℕ) → begun site s inputs k ≡ false
     quiet-demanded =
         quiet (started-in site s inputs Running e false h) (and-false-right (isRunning (now site s inputs .interval)) (ap not a))
-
-    -- each movement comes nearer to be out of walk and C1
-    pub outs-fall : Sound site → ValidState site s → (k : ℕ) → k < 8 → outs site (stepped site s inputs) k ≤ outs site s k - 1
-    unfolding outs moved
-    outs-fall sound v k l =
-        rw (moved-on k l (quiet-demanded k))
-        (past-falls (mayEnd site s inputs) (walkTimes (site .times) k) (movement s k .age) (greenLeft site s)
-        (greenLeft site (stepped site s inputs))
-        0
-        false
-        green-falls
-        (λ rest. omega (arith, v .maximum, rests (timesNow site s) (s .counts) (rw (a, e) at rest)))
-        (omega arith)
-        (movement s k .stage)
-        (stage-reached site sound (s .position) k (movement s k) (v .movements k l)))
 
     -- what holds it up: a movement is in walk or C1, or the maximum count is not reached
     pub running-held :

@@ -17,7 +17,8 @@ use Rattle.rules.specs.Demands.{nextDemanded}
 use Rattle.rules.specs.Interval.{ends, following, entering, starting, staying}
 use Rattle.rules.specs.Step.{stepped}
 use Rattle.rules.specs.Laws.{Sound}
-use Rattle.rules.specs.DemandThree.{Taken, inMinimumGreen, inRunning, minimumGreenBegins}
+use Rattle.rules.specs.Runs.{Step}
+use Rattle.rules.specs.DemandThree.{inMinimumGreen, inRunning, minimumGreenBegins}
 use Rattle.laws.proofs.Booleans.{and-both, or-false-left, decided, never-both}
 use Rattle.rules.proofs.Settings.{phase-timed}
 use Rattle.proof_runs.proofs.Steps.{ended, position-of}
@@ -94,7 +95,7 @@ module _
 
 -- the minimum green begins in the step, or has not begun after it
 pub begins-or-not :
-    (site : Site) (q : ℕ) (s : State) (step : Taken) →
+    (site : Site) (q : ℕ) (s : State) (step : Step) →
     ValidLink site s step →
     AwayAt q (s .position) →
     (minimumGreenBegins q step ≡ true) ⊎ NotBegun q (stepped site s (step .inputs) .position)

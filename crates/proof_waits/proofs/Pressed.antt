@@ -15,7 +15,8 @@ use Rattle.rules.specs.State.{asked, movement}
 use Rattle.rules.specs.Demands.{pressed, registersButton}
 use Rattle.rules.specs.Step.{stepped}
 use Rattle.rules.specs.Laws.{Sound}
-use Rattle.rules.specs.DemandThree.{Taken, inWalk, walkBegins}
+use Rattle.rules.specs.Runs.{Step}
+use Rattle.rules.specs.DemandThree.{inWalk, walkBegins}
 use Rattle.laws.proofs.Booleans.{and-right, and-both, or-left, or-right, decided, never-both}
 use Rattle.proof_runs.proofs.Steps.{mayEnd, now, started, moved, askedNow, begun, asked-of, movement-of}
 use Rattle.proof_runs.proofs.Chains.{ValidLink}
@@ -72,7 +73,7 @@ module _
     module _
         (Left : ℕ → State → Type 0)
         (s : State)
-        (step : Taken)
+        (step : Step)
         (link : ValidLink site s step)
         (falls :
         askedNow site s (step .inputs) m ≡ true →

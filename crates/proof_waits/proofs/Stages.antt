@@ -25,7 +25,7 @@ use Rattle.rules.specs.Laws.{Sound}
 use Rattle.laws.proofs.Booleans.{decided, never-both}
 use Rattle.laws.proofs.Sums.{greatest-at}
 use Rattle.rules.proofs.IntervalTests.{idle-only}
-use Rattle.proof_runs.proofs.ValidStates.{Aged, ValidMovement, ValidState}
+use Rattle.proof_runs.proofs.ValidStates.{Aged, ValidMovement}
 use Rattle.proof_runs.proofs.Steps.{timesNow}
 use Rattle.proof_runs.proofs.Lasting.{lasting-cases}
 use Rattle.rules.proofs.Settings.{Reached, walk-reached}
@@ -181,20 +181,9 @@ module _ (times : WalkTimes) (age : ℕ) where
   unfolding untilPast
   over-none green leaving stage h = rw (idle-only stage h)
 
-  idle-out : (green : ℕ) (stage : Stage) → isIdle stage ≡ true → untilOut green stage times age ≡ 0
-  unfolding untilPast
-  idle-out green stage h = rw (idle-only stage h)
-
   pub idle-none : (stage : Stage) → isIdle stage ≡ true → untilIdle stage times age ≡ 0
   unfolding untilIdle
   idle-none stage h = rw (idle-only stage h)
-
-  pub idle-told : (stage : Stage) → untilIdle stage times age ≡ 0 → isIdle stage ≡ true
-  unfolding untilIdle
-  idle-told Idle h = refl
-  idle-told Walk h = absurd (omega arith)
-  idle-told ClearanceOne h = absurd (omega arith)
-  idle-told ClearanceTwo h = absurd (omega arith)
 
   -- ── What bounds them ──
 
@@ -228,17 +217,6 @@ module _ (times : WalkTimes) (age : ℕ) where
   over-more green green' leaving Walk h = omega arith
   over-more green green' leaving ClearanceOne h = omega arith
   over-more green green' leaving ClearanceTwo h = absurd (omega arith)
-
-  idle-limit :
-      (stage : Stage) →
-      1 ≤ age →
-      (isIdle stage ≡ false → Reached times) →
-      untilIdle stage times age ≤ times .walk + times .first + times .second
-  unfolding untilIdle
-  idle-limit Idle a r = omega arith
-  idle-limit Walk a r = omega (arith, r refl .walk)
-  idle-limit ClearanceOne a r = omega (arith, r refl .first)
-  idle-limit ClearanceTwo a r = omega (arith, r refl .second)
 
   clear-limit :
       (stage : Stage) →
@@ -286,35 +264,8 @@ module _ (site : Site) (sound : Sound site) (position : Position) (k : ℕ) (m :
   unless-idle count limit none most =
       ⊎-elim (λ (h : isIdle (m .stage) ≡ true). omega (arith, none h)) most (decided (isIdle (m .stage)))
 
-  walk-limit :
-      isIdle (m .stage) ≡ false →
-      walkTimes (site .times) k .walk + walkTimes (site .times) k .first ≤ longestWalk site (position .phase)
-  walk-limit h = longest-walk site (position .phase) k (v .ofPhase h .0) (v .ofPhase h .1)
-
   clearance-limit : isIdle (m .stage) ≡ false → walkTimes (site .times) k .second ≤ longestClearance site (position .phase)
   clearance-limit h = longest-clearance site (position .phase) k (v .ofPhase h .0) (v .ofPhase h .1)
-
-  out-most : (green : ℕ) → untilOut green (m .stage) (walkTimes (site .times) k) (m .age) ≤ green + longestWalk site (position .phase)
-  out-most green =
-      unless-idle _ _ (idle-out (walkTimes (site .times) k) (m .age) green (m .stage))
-      (λ h. omega (
-        arith,
-        past-limit (walkTimes (site .times) k) (m .age) green 0 false (m .stage) (v .age .0) (stage-reached h) (omega arith),
-        stage-reached h .walk,
-        walk-limit h,
-      ))
-
-  pub idle-most :
-      untilIdle (m .stage) (walkTimes (site .times) k) (m .age)
-      ≤ longestWalk site (position .phase) + longestClearance site (position .phase)
-  idle-most =
-      unless-idle _ _ (idle-none (walkTimes (site .times) k) (m .age) (m .stage))
-      (λ h. omega (
-        arith,
-        idle-limit (walkTimes (site .times) k) (m .age) (m .stage) (v .age .0) stage-reached,
-        walk-limit h,
-        clearance-limit h,
-      ))
 
   pub clear-most :
       isLeaving (position .interval) ≡ true →
@@ -340,15 +291,3 @@ idles site s k = untilIdle (movement s k .stage) (walkTimes (site .times) k) (mo
 
 unfoldable pub overs : Site → State → (green leaving : ℕ) → ℕ → ℕ
 overs site s green leaving k = untilOver green leaving (movement s k .stage) (walkTimes (site .times) k) (movement s k .age)
-
--- the maximum green and the longest walk bound the first
-pub outs-most :
-    (site : Site) →
-    Sound site →
-    (s : State) →
-    ValidState site s →
-    (k : ℕ) →
-    k < 8 →
-    outs site s k ≤ timesNow site s .maximum + longestWalk site (s .position .phase)
-unfolding outs
-outs-most site sound s v k l = omega (arith, out-most site sound (s .position) k (movement s k) (v .movements k l) (greenLeft site s))

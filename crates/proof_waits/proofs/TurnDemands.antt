@@ -10,7 +10,8 @@ use Rattle.rules.specs.Demands.{demanded, registersLock, registersButton}
 use Rattle.rules.specs.Step.{stepped}
 use Rattle.rules.specs.Waits.{turnOf}
 use Rattle.rules.specs.Laws.{Sound}
-use Rattle.rules.specs.DemandThree.{Taken, inWalk, minimumGreenBegins, walkBegins}
+use Rattle.rules.specs.Runs.{Step}
+use Rattle.rules.specs.DemandThree.{inWalk, minimumGreenBegins, walkBegins}
 use Rattle.rules.specs.PhaseWaits.{hasStarted, demandedIn}
 use Rattle.laws.proofs.Booleans.{or-left, or-right, decided}
 use Rattle.proof_runs.proofs.ValidStates.{ValidState}
@@ -26,13 +27,13 @@ use Rattle.proof_waits.proofs.PhaseTurns.{PhaseLeft, started-falls, dem
 use Rattle.proof_waits.proofs.ButtonTurns.{ButtonTurn, button-falls}
 
 -- what a link says of the state after the step
-there : (site : Site) (s : State) (step : Taken) → ValidLink site s step → ValidState site (stepped site s (step .inputs))
+there : (site : Site) (s : State) (step : Step) → ValidLink site s step → ValidState site (stepped site s (step .inputs))
 there site s step link = rw (link .taken .after) at (link .there)
 
 -- ── A phase ──
 
 -- the wait for the phase is over: its minimum green begins, or its demand has dropped away
-abbrev pub metOrDropped : Site → ℕ → Taken → Bool
+abbrev pub metOrDropped : Site → ℕ → Step → Bool
 metOrDropped site q step = minimumGreenBegins q step || not (demandedIn site q step)
 
 abbrev pub Away : ℕ → State → Type 0
@@ -48,7 +49,7 @@ module _
     (tail : ℕ)
     (enough : late site q ≤ tail)
     (s : State)
-    (step : Taken)
+    (step : Step)
     (link : ValidLink site s step)
   where
     abbrev Left : ℕ → State → Type 0
@@ -106,7 +107,7 @@ module _
     (turn : ℕ → ℕ)
     (whole : (p : ℕ) → turnOf site p ≤ turn p)
     (s : State)
-    (step : Taken)
+    (step : Step)
     (link : ValidLink site s step)
   where
     button-falls-on :

@@ -38,7 +38,7 @@ pub fn run(site: Site, streams: &[u8], steps: u32, results: &mut [u8]) -> KeptSt
     ensures { λ r. ⌜ RanTo site (now (streams .entry)) steps (now (results .entry)) r (now (results .exit)) ⌝ }
 {
     let mut cells = [0u16; 192];
-    let state = road_step::road_steps(site, streams, call_fresh::fresh(), steps, &mut cells);
+    let state = road_step::road_steps(site, streams, state_fresh::fresh(), steps, &mut cells);
     put_results(&cells, streams.len() / 4, results);
     state
 }

@@ -19,7 +19,7 @@ use Rattle.rules.specs.declared.state.Position.{Position}
 use Rattle.rules.specs.declared.state.State.{State}
 use Rattle.rules.specs.Site.{groupOf, isPedestrian}
 use Rattle.rules.specs.Interval.{entering, starting, leaving, following, staying, positionAfter}
-use Rattle.rules.specs.Step.{steppedBy, steppedTo}
+use Rattle.rules.specs.Step.{steppedInto, steppedTo}
 use Rattle.rules.specs.Kept.{keptStepped}
 use Rattle.rules.specs.Colours.{green, closing, vehicleShown, colourOf, shownIn}
 use Rattle.rules.specs.Laws.{Sound}
@@ -109,5 +109,5 @@ after true times next old = inl (begun (old .interval) times next old)
 after false times next old = inr (refl, refl, refl, refl)
 
 pub step-follows : (site : Site) (s : KeptState) (inputs : ℕ) → Follows (s .core .position) (keptStepped site s inputs .core .position)
-unfolding keptStepped steppedTo steppedBy
+unfolding keptStepped steppedTo steppedInto
 step-follows site s inputs = after _ (site .times) _ (s .core .position)

@@ -15,7 +15,8 @@ use Rattle.rules.specs.Colours.{shownIn, coloursOf}
 use Rattle.laws.specs.Folds.{listOf}
 use Rattle.laws.specs.Bytes.{byteAt}
 use Rattle.laws.proofs.Lists.{list-length, list-at}
-use Rattle.rules.specs.Call.{bufferOf}
+use Rattle.rules.specs.Timed.{withOwnTimes}
+use Rattle.rules.specs.Runs.{byRules}
 use Rattle.rules.specs.Laws.{Sound}
 use Rattle.road_streams.specs.declared.Traffic.{Traffic}
 use Rattle.road_streams.specs.Road.{streamCount, streamAt, trafficOf, arrived, arrivals, inputsOf, blankColours, roadStepped, roadAfter}
@@ -140,7 +141,7 @@ module _ {b streams : List ℕ} {steps : ℕ} {site : Site} {n : ℕ} {state : K
           let valid = road-valid b streams steps (road .read) (road .known) n in
           let stepped-is : next ≡ keptStepped (siteOf b) s (inputsOf streams waiting) = stepped ∙ rw (road .place, road .held, came-inputs) in
           let colours = coloursOf (siteOf b) (next .core) ++ drop (siteOf b .size .groups) blankColours in
-          let shown-is : colours ≡ bufferOf b s (inputsOf streams waiting) blankColours =
+          let shown-is : colours ≡ byRules .buffer b (withOwnTimes (siteOf b) s) (inputsOf streams waiting) blankColours =
           rw stepped-is (sym (colours-given b streams steps (road .read) (road .known) s waiting valid)) in
           let paint = painted (next .core) greens (subst (λ (place : Site). GreenIn place (next .core) greens) (road .place) shown) in
           record {

@@ -1,5 +1,5 @@
 -- Request eight of document 02: vehicles on a simulated road. Streams join queues and leave them, and the controller runs from the fresh state on what its
--- detectors see of the queues. Each step of the controller is a step call as `Call` defines it.
+-- detectors see of the queues. Each step of the controller is a step call of the rules, by the personality's own times.
 use Prim.Native.Nat.{ℕ, zero, suc, _+_, _*_, _-_, _/_, _%_, _^_}
 use mathlib.Core.Bool.{Bool, not, _&&_, _||_}
 use mathlib.Core.List.{List, _++_}
@@ -16,7 +16,8 @@ use Rattle.rules.specs.Personality.{verdictOf}
 use Rattle.rules.specs.Site.{siteOf, isPedestrian}
 use Rattle.rules.specs.Kept.{freshKept}
 use Rattle.rules.specs.Colours.{green}
-use Rattle.rules.specs.Call.{answerOf, bufferOf}
+use Rattle.rules.specs.Timed.{keptOf, withOwnTimes}
+use Rattle.rules.specs.Runs.{byRules}
 use Rattle.state_forms.specs.Forms.{two, partsOf}
 use Rattle.road_streams.specs.declared.Stream.{Stream}
 use Rattle.road_streams.specs.declared.Traffic.{Traffic}
@@ -122,9 +123,10 @@ unfoldable pub roadStepped : List ℕ → List ℕ → Road → Road
 roadStepped b streams road =
     let waiting = arrivals streams (road .traffic) in
     let inputs = inputsOf streams waiting in
-    let colours = bufferOf b (road .state) inputs blankColours in
+    let own = withOwnTimes (siteOf b) (road .state) in
+    let colours = byRules .buffer b own inputs blankColours in
     record {
-      state = answerOf b (road .state) inputs (length blankColours) .state;
+      state = keptOf (byRules .next b own inputs (length blankColours));
       traffic = releases streams colours waiting;
     }
 

@@ -8,6 +8,7 @@ use Rattle.rules.specs.declared.answer.Verdict.the-variants.{Accepted, Refused}
 use Rattle.rules.specs.declared.state.Interval.{Interval}
 use Rattle.rules.specs.declared.state.Interval.the-variants.{StartRed, MinimumGreen, Running}
 use Rattle.rules.specs.Junctions.{junction, crossing}
+use Rattle.rules.specs.CallCases.{AllHold}
 use Rattle.road_streams.specs.declared.Traffic.{Traffic}
 use Rattle.road_streams.specs.Road.{Road, roadAfter, roadVerdict}
 
@@ -76,9 +77,5 @@ cases =
     ∷ calling junction (1 ∷ 1 ∷ 8 ∷ 7 ∷ []) 1 true 3 (Refused 14 0)
     ∷ []
 
-abbrev pub AllHold : List Case → Type 0
-AllHold [] = Unit {0}
-AllHold (c ∷ cases) = Holds c × AllHold cases
-
 unfoldable pub RoadCasesHold : Type 0
-RoadCasesHold = AllHold cases
+RoadCasesHold = AllHold Holds cases

@@ -1,10 +1,7 @@
 -- Tests of an interval and of a stage, by cases: which one a test tells, and a test that is put together from two.
 use mathlib.Core.Bool.{true, false, _||_, false≢true}
 use mathlib.Core.Path.{_≡_, refl}
-use Rattle.rules.specs.declared.state.Interval.{Interval}
-use Rattle.rules.specs.declared.state.Interval.the-variants.{StartRed, LateStart, MinimumGreen, Running, EarlyCutOff, Yellow, AllRed}
-use Rattle.rules.specs.declared.state.Stage.{Stage}
-use Rattle.rules.specs.declared.state.Stage.the-variants.{Idle, Walk, ClearanceOne, ClearanceTwo}
+use Rattle.rules.specs.Types.{Interval, StartRed, LateStart, MinimumGreen, Running, EarlyCutOff, Yellow, AllRed, Stage, Idle, Walk, ClearanceOne, ClearanceTwo}
 use Rattle.rules.specs.IntervalTable.{isIdle, isWalkOrFirst, isRunning, isMinimumGreen, isGreen}
 
 pub running-only : (interval : Interval) → isRunning interval ≡ true → interval ≡ Running

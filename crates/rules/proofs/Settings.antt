@@ -8,11 +8,7 @@ use mathlib.Core.Path.{_≡_, refl}
 use lib.Dec.{leb, eqb}
 use native.Mathlib.Omega.{arith}
 use borrow.Author.Tests.{leb-true, eqb-true}
-use Rattle.rules.specs.declared.site.Edition.the-variants.{One, Two}
-use Rattle.rules.specs.declared.site.PhaseTimes.{PhaseTimes}
-use Rattle.rules.specs.declared.site.Range.{Range}
-use Rattle.rules.specs.declared.site.Site.{Site}
-use Rattle.rules.specs.declared.site.WalkTimes.{WalkTimes}
+use Rattle.rules.specs.Types.{One, Two, PhaseTimes, Range, Site, WalkTimes}
 use Rattle.laws.specs.Folds.{if_then_else_, allOf}
 use Rattle.rules.specs.Limits.{limits, limitOf, startRedSetting, phaseSettings, walkSettings, earlySetting, settingCount}
 use Rattle.rules.specs.Site.{phaseTimes, walkTimes}

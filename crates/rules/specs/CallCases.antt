@@ -1,49 +1,41 @@
 -- Worked cases of one call each, as one list with one statement: every case holds. Each can be checked by hand with the papers. All of them
--- compute in less than a second, and each must-fail edit of the rules makes one of them fail. All other worked cases are in proof_cases,
--- also the starred ones of document 01; two of those are repeated here, because an edit needs them.
+-- compute in less than a second, and each must-fail edit of the rules makes one of them fail. Those about times are in TimedCases. All other
+-- worked cases are in proof_cases, also the starred ones of document 01; two of those are repeated here, because an edit needs them.
 use Prim.Native.Nat.{ℕ, _^_}
 use mathlib.Core.Path.{_≡_}
 use mathlib.Core.List.{List, [], _∷_, _++_}
 use lib.ListN.{set, replicate}
-use Rattle.rules.specs.declared.answer.Answer.{Answer}
-use Rattle.rules.specs.declared.answer.Outcome.the-variants.{Stepped, StepRefused}
-use Rattle.rules.specs.declared.answer.Verdict.{Verdict}
-use Rattle.rules.specs.declared.answer.Verdict.the-variants.{Accepted, Refused}
-use Rattle.rules.specs.declared.state.Counts.{Counts}
-use Rattle.rules.specs.declared.state.Demands.{Demands}
-use Rattle.rules.specs.declared.state.Held.{Held}
-use Rattle.rules.specs.declared.state.Held.the-variants.{Nothing, Phase}
-use Rattle.rules.specs.declared.state.Interval.{Interval}
-use Rattle.rules.specs.declared.state.Interval.the-variants.{Running, EarlyCutOff, Yellow, AllRed}
-use Rattle.rules.specs.declared.state.KeptState.{KeptState}
-use Rattle.rules.specs.declared.state.Movement.{Movement}
-use Rattle.rules.specs.declared.state.Position.{Position}
-use Rattle.rules.specs.declared.state.Stage.{Stage}
-use Rattle.rules.specs.declared.state.Stage.the-variants.{Walk, ClearanceOne, ClearanceTwo}
+use Rattle.rules.specs.Types.{Outcome, Stepped, StepRefused, Verdict, Accepted, Refused, Counts, Demands, Held, Nothing, Phase, Interval, Running, EarlyCutOff, Yellow, AllRed, KeptState, Movement, Position, Stage, Walk, ClearanceOne, ClearanceTwo}
 use Rattle.rules.specs.Personality.{groupCount, verdictOf}
 use Rattle.rules.specs.Lookup.{lookupVerdict}
-use Rattle.rules.specs.Site.{siteOf}
+use Rattle.rules.specs.Site.{siteOf, timesIn}
 use Rattle.rules.specs.State.{idle}
 use Rattle.rules.specs.Colours.{red, yellow, green, coloursOf}
 use Rattle.rules.specs.WaitBound.{waitBound}
-use Rattle.rules.specs.Call.{answerOf}
+use Rattle.rules.specs.Timed.{TimedState, noneWaiting}
+use Rattle.rules.specs.Runs.{byRules}
 use Rattle.rules.specs.Junctions.{section, junction, putTwo, putKind, crossing, threePhases, callingB, overlap, cutOffs, turning, turningBoth, ordered, longerReds, editionTwo}
 
--- What a case states about a personality: its verdict, the verdict of the lookup of a kind, its wait bound, the answer to a step call from a
--- state with a buffer that is long enough, or the colours in a state.
+-- What a case states: the verdict on a personality, the verdict of the lookup of a kind, a wait bound, the colours in a state, or what a call
+-- answers and the state that it hands back. A step call has a buffer that is long enough.
 pub data CallCase : Type 0 where
   reading : List ℕ → Verdict → CallCase
   lookingUp : List ℕ → ℕ → Verdict → CallCase
   waiting : List ℕ → ℕ → CallCase
-  answering : List ℕ → KeptState → ℕ → Answer → CallCase
   showing : List ℕ → KeptState → List ℕ → CallCase
+  answering : List ℕ → TimedState → ℕ → Outcome → TimedState → CallCase
+  retiming : List ℕ → TimedState → List ℕ → Verdict → TimedState → CallCase
 
 abbrev pub CallHolds : CallCase → Type 0
 CallHolds (reading b verdict) = verdictOf b ≡ verdict
 CallHolds (lookingUp b kind verdict) = lookupVerdict b kind ≡ verdict
 CallHolds (waiting b wait) = waitBound (siteOf b) ≡ wait
-CallHolds (answering b s inputs answer) = answerOf b s inputs (groupCount b) ≡ answer
 CallHolds (showing b s colours) = coloursOf (siteOf b) (s .core) ≡ colours
+CallHolds (answering b s inputs outcome new) =
+    let room = groupCount b in
+    _≡_ {A = Outcome × TimedState} (byRules .outcome b s inputs room, byRules .next b s inputs room) (outcome, new)
+CallHolds (retiming b s bytes verdict new) =
+    _≡_ {A = Verdict × TimedState} (byRules .retimeVerdict b s bytes, byRules .retimed b s bytes) (verdict, new)
 
 abbrev pub AllHold : {A : Type 0} → (A → Type 0) → List A → Type 0
 AllHold Holds [] = Unit {0}
@@ -74,15 +66,19 @@ state position counts demands first kept =
       kept = kept;
     }
 
--- ── Writing an answer ──
+-- a timed state by the times of such bytes, with none waiting
+abbrev pub ruledBy : List ℕ → KeptState → TimedState
+ruledBy b s = record { core = s .core; kept = s .kept; ruling = timesIn b; waiting = noneWaiting }
 
--- the step is accepted, and gives the wait bound and the new state
-abbrev pub stepping : ℕ → KeptState → Answer
-stepping wait new = record { outcome = Stepped wait; state = new }
+-- ── Writing a step call from a state in which the personality's own times rule ──
+
+-- it is accepted, and gives the wait bound and the new state
+abbrev pub stepping : List ℕ → KeptState → ℕ → ℕ → KeptState → CallCase
+stepping b s inputs wait new = answering b (ruledBy b s) inputs (Stepped wait) (ruledBy b new)
 
 -- it is refused with a number, at 0, and hands back the old state
-abbrev pub declining : ℕ → KeptState → Answer
-declining number old = record { outcome = StepRefused number 0; state = old }
+abbrev pub declining : List ℕ → KeptState → ℕ → ℕ → CallCase
+declining b s inputs number = answering b (ruledBy b s) inputs (StepRefused number 0) (ruledBy b s)
 
 -- ── A being left ──
 
@@ -135,37 +131,29 @@ callCases =
     -- a movement's walk and clearances count twice in its phase's share: 10 + 2 × 50 + 2 × 2 × 40 + 2 × (20 + 50)
     ∷ waiting crossing 410
     -- early cut-off green is not valid without a section of kind 7; with one it is, even if the time is 0, and yellow follows
-    ∷ answering junction (forB EarlyCutOff 1) 0 (declining 13 (forB EarlyCutOff 1))
-    ∷ answering (junction ++ cutOffs (0 ∷ 0 ∷ [])) (forB EarlyCutOff 1) 0 (stepping 270 (forB Yellow 1))
+    ∷ declining junction (forB EarlyCutOff 1) 0 13
+    ∷ stepping (junction ++ cutOffs (0 ∷ 0 ∷ [])) (forB EarlyCutOff 1) 0 270 (forB Yellow 1)
     -- part 1: a locking detector of the phase locks in early cut-off green
-    ∷ answering (junction ++ cutOffs (20 ∷ 0 ∷ [])) (forB EarlyCutOff 5) 1
-    (stepping 310 (state (at 0 EarlyCutOff 6 (Phase 1)) (gap 0 max 1) (locks 3 buttons 0) idle 3))
+    ∷ stepping (junction ++ cutOffs (20 ∷ 0 ∷ [])) (forB EarlyCutOff 5) 1 310 (state (at 0 EarlyCutOff 6 (Phase 1)) (gap 0 max 1) (locks 3 buttons 0) idle 3)
     -- and a press is registered while its movement is in C1
-    ∷ answering crossing (state (at 0 Running 40 Nothing) (gap 0 max 1) (locks 2 buttons 0) (moving ClearanceOne 5) 2) (2 ^ 48)
-    (stepping 410 (state (at 0 Running 41 Nothing) (gap 0 max 2) (locks 2 buttons 1) (moving ClearanceOne 6) 3))
+    ∷ stepping crossing (state (at 0 Running 40 Nothing) (gap 0 max 1) (locks 2 buttons 0) (moving ClearanceOne 5) 2) (2 ^ 48) 410 (state (at 0 Running 41 Nothing) (gap 0 max 2) (locks 2 buttons 1) (moving ClearanceOne 6) 3)
     -- part 2: a walk that has lasted W goes on while no other phase is demanded
-    ∷ answering crossing (state (at 0 Running 40 Nothing) (gap 0 max 0) (locks 0 buttons 0) (moving Walk 10) 0) 0
-    (stepping 410 (state (at 0 Running 41 Nothing) (gap 0 max 0) (locks 0 buttons 0) (moving Walk 11) 0))
+    ∷ stepping crossing (state (at 0 Running 40 Nothing) (gap 0 max 0) (locks 0 buttons 0) (moving Walk 10) 0) 0 410 (state (at 0 Running 41 Nothing) (gap 0 max 0) (locks 0 buttons 0) (moving Walk 11) 0)
     -- also if B is demanded, but the gap count is 0 only after part 3
-    ∷ answering crossing (state (at 0 Running 40 Nothing) (gap 1 max 1) (locks 2 buttons 0) (moving Walk 10) 2) 0
-    (stepping 410 (state (at 0 Running 41 Nothing) (gap 0 max 2) (locks 2 buttons 0) (moving Walk 11) 2))
+    ∷ stepping crossing (state (at 0 Running 40 Nothing) (gap 1 max 1) (locks 2 buttons 0) (moving Walk 10) 2) 0 410 (state (at 0 Running 41 Nothing) (gap 0 max 2) (locks 2 buttons 0) (moving Walk 11) 2)
     -- part 3: the maximum count goes on rising while the non-locking call of B is away
-    ∷ answering callingB (state (at 0 Running 40 Nothing) (gap 0 max 5) (locks 0 buttons 0) idle 0) 0
-    (stepping 270 (state (at 0 Running 41 Nothing) (gap 0 max 6) (locks 0 buttons 0) idle 0))
+    ∷ stepping callingB (state (at 0 Running 40 Nothing) (gap 0 max 5) (locks 0 buttons 0) idle 0) 0 270 (state (at 0 Running 41 Nothing) (gap 0 max 6) (locks 0 buttons 0) idle 0)
     -- part 4: running ends, and a time of 0 skips early cut-off green
-    ∷ answering (turning ++ cutOffs (0 ∷ 0 ∷ [])) (state (at 0 Running 1 Nothing) (gap 0 max 0) (locks 2 buttons 0) idle 2) 0
-    (stepping 270 (forB Yellow 1))
+    ∷ stepping (turning ++ cutOffs (0 ∷ 0 ∷ [])) (state (at 0 Running 1 Nothing) (gap 0 max 0) (locks 2 buttons 0) idle 2) 0 270 (forB Yellow 1)
     -- in the order A, C, B the target after A is C if both others are demanded
-    ∷ answering (threePhases ++ ordered (0 ∷ 2 ∷ 1 ∷ [])) (state (at 0 Running 1 Nothing) (gap 0 max 0) (locks 6 buttons 0) idle 6) 0
-    (stepping 400 (forC Yellow 1))
+    ∷ stepping (threePhases ++ ordered (0 ∷ 2 ∷ 1 ∷ [])) (state (at 0 Running 1 Nothing) (gap 0 max 0) (locks 6 buttons 0) idle 6) 0 400 (forC Yellow 1)
     -- the target stays C over the end of early cut-off green, and over that of yellow, though B would be next
-    ∷ answering (threePhases ++ cutOffs (20 ∷ 0 ∷ 0 ∷ [])) (forC EarlyCutOff 20) 0 (stepping 440 (forC Yellow 1))
-    ∷ answering threePhases (forC Yellow 30) 0 (stepping 400 (forC AllRed 1))
+    ∷ stepping (threePhases ++ cutOffs (20 ∷ 0 ∷ 0 ∷ [])) (forC EarlyCutOff 20) 0 440 (forC Yellow 1)
+    ∷ stepping threePhases (forC Yellow 30) 0 400 (forC AllRed 1)
     -- yellow lasts Y, which is 30, and not R, which is 10
-    ∷ answering junction (forB Yellow 10) 0 (stepping 270 (forB Yellow 11))
+    ∷ stepping junction (forB Yellow 10) 0 270 (forB Yellow 11)
     -- all-red stays past R while a movement is in C2
-    ∷ answering crossing (state (at 0 AllRed 10 (Phase 1)) (gap 0 max 1) (locks 2 buttons 0) (moving ClearanceTwo 40) 2) 0
-    (stepping 410 (state (at 0 AllRed 11 (Phase 1)) (gap 0 max 1) (locks 2 buttons 0) (moving ClearanceTwo 41) 2))
+    ∷ stepping crossing (state (at 0 AllRed 10 (Phase 1)) (gap 0 max 1) (locks 2 buttons 0) (moving ClearanceTwo 40) 2) 0 410 (state (at 0 AllRed 11 (Phase 1)) (gap 0 max 1) (locks 2 buttons 0) (moving ClearanceTwo 41) 2)
     -- a group that has the target in its set stays green in yellow, and in early cut-off green if it stops early
     ∷ showing overlap (forB Yellow 1) (yellow ∷ red ∷ green ∷ red ∷ [])
     ∷ showing (turningBoth ++ cutOffs (20 ∷ 0 ∷ [])) (forB EarlyCutOff 1) (green ∷ green ∷ red ∷ [])

@@ -5,18 +5,7 @@ use mathlib.Core.List.{List, _++_}
 use mathlib.Core.Path.{_≡_}
 use lib.Dec.{leb, eqb}
 use lib.ListN.{getD, drop}
-use Rattle.rules.specs.declared.site.Group.{Group}
-use Rattle.rules.specs.declared.site.PhaseTimes.{PhaseTimes}
-use Rattle.rules.specs.declared.site.Site.{Site}
-use Rattle.rules.specs.declared.site.Times.{Times}
-use Rattle.rules.specs.declared.state.Held.{Held}
-use Rattle.rules.specs.declared.state.Interval.{Interval}
-use Rattle.rules.specs.declared.state.Interval.the-variants.{StartRed, LateStart, MinimumGreen, Running, EarlyCutOff, Yellow, AllRed}
-use Rattle.rules.specs.declared.state.Movement.{Movement}
-use Rattle.rules.specs.declared.state.Position.{Position}
-use Rattle.rules.specs.declared.state.Stage.{Stage}
-use Rattle.rules.specs.declared.state.Stage.the-variants.{Idle, Walk, ClearanceOne, ClearanceTwo}
-use Rattle.rules.specs.declared.state.State.{State}
+use Rattle.rules.specs.Types.{Group, PhaseTimes, Site, Times, Held, Interval, StartRed, LateStart, MinimumGreen, Running, EarlyCutOff, Yellow, AllRed, Movement, Position, Stage, Idle, Walk, ClearanceOne, ClearanceTwo, State}
 use Rattle.laws.specs.Folds.{if_then_else_, listOf}
 use Rattle.laws.specs.Bytes.{bit}
 use Rattle.rules.specs.Site.{groupOf, phaseTimes, isPedestrian, movementOf}

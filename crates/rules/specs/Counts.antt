@@ -2,9 +2,7 @@
 use Prim.Native.Nat.{ℕ, _+_, _-_, min}
 use mathlib.Core.Bool.{Bool, _&&_, _||_}
 use lib.Dec.{ltb}
-use Rattle.rules.specs.declared.site.PhaseTimes.{PhaseTimes}
-use Rattle.rules.specs.declared.state.Counts.{Counts}
-use Rattle.rules.specs.declared.state.Interval.{Interval}
+use Rattle.rules.specs.Types.{PhaseTimes, Counts, Interval}
 use Rattle.laws.specs.Folds.{if_then_else_}
 use Rattle.rules.specs.IntervalTable.{isGreen, isRunning}
 

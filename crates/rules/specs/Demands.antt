@@ -4,14 +4,7 @@ use mathlib.Core.Bool.{Bool, not, _&&_, _||_}
 use mathlib.Core.List.{List, [], _∷_, _++_}
 use lib.Dec.{leb, eqb}
 use lib.ListN.{getD}
-use Rattle.rules.specs.declared.site.Detector.{Detector}
-use Rattle.rules.specs.declared.site.Site.{Site}
-use Rattle.rules.specs.declared.state.Demands.{Demands}
-use Rattle.rules.specs.declared.state.Held.{Held}
-use Rattle.rules.specs.declared.state.Held.the-variants.{Nothing, Phase}
-use Rattle.rules.specs.declared.state.Movement.{Movement}
-use Rattle.rules.specs.declared.state.Position.{Position}
-use Rattle.rules.specs.declared.state.State.{State}
+use Rattle.rules.specs.Types.{Detector, Site, Demands, Held, Nothing, Phase, Movement, Position, State}
 use Rattle.laws.specs.Folds.{if_then_else_, anyOf, setOf}
 use Rattle.laws.specs.Bytes.{bit}
 use Rattle.rules.specs.Site.{detectorOf, crosses, ring}

@@ -4,20 +4,11 @@ use mathlib.Core.Bool.{Bool, not, _&&_, _||_}
 use mathlib.Core.List.{List}
 use lib.Dec.{leb, eqb}
 use lib.ListN.{getD}
-use Rattle.rules.specs.declared.site.PhaseTimes.{PhaseTimes}
-use Rattle.rules.specs.declared.site.Times.{Times}
-use Rattle.rules.specs.declared.state.Counts.{Counts}
-use Rattle.rules.specs.declared.state.Held.{Held}
-use Rattle.rules.specs.declared.state.Held.the-variants.{Nothing, Phase}
-use Rattle.rules.specs.declared.state.Interval.{Interval}
-use Rattle.rules.specs.declared.state.Interval.the-variants.{StartRed, LateStart, MinimumGreen, Running, EarlyCutOff, Yellow, AllRed}
-use Rattle.rules.specs.declared.state.Movement.{Movement}
-use Rattle.rules.specs.declared.state.Position.{Position}
-use Rattle.rules.specs.declared.state.Stage.{Stage}
+use Rattle.rules.specs.Types.{PhaseTimes, Times, Counts, Held, Nothing, Phase, Interval, StartRed, LateStart, MinimumGreen, Running, EarlyCutOff, Yellow, AllRed, Movement, Position, Stage}
 use Rattle.laws.specs.Bytes.{bit}
 use Rattle.laws.specs.Folds.{if_then_else_, anyOf, setOf}
 use Rattle.rules.specs.Site.{phaseTimes}
-use Rattle.rules.specs.IntervalTable.{isWalkOrFirst, isSecond, isMinimumGreen, isRunning, isLeaving, isBeforeStart, phaseHeld}
+use Rattle.rules.specs.IntervalTable.{isWalkOrFirst, isSecond, isMinimumGreen, isRunning, isBeforeStart, isAllRed, phaseHeld}
 use Rattle.rules.specs.State.{idle}
 use Rattle.rules.specs.Movements.{older}
 
@@ -88,9 +79,9 @@ positionAfter ended times next position =
 
 -- ── What a change does to the counts and the lock ──
 
--- both counts are 0 after all-red, the only interval that is leaving and before a start
+-- both counts are 0 after all-red
 unfoldable pub countsLeaving : Interval → Counts → Counts
-countsLeaving interval counts = if isLeaving interval && isBeforeStart interval then record { gap = 0; maximum = 0 } else counts
+countsLeaving interval counts = if isAllRed interval then record { gap = 0; maximum = 0 } else counts
 
 -- minimum green begins with a gap count of G, running with a maximum count of 0
 unfoldable pub countsEntering : Interval → PhaseTimes → Counts → Counts

@@ -1,15 +1,8 @@
 -- A table row for each interval and each stage, the tests of the rules that read the row, and tests of a phase-or-none value.
 use Prim.Native.Nat.{ℕ}
-use mathlib.Core.Bool.{Bool, true, false}
+use mathlib.Core.Bool.{Bool, true, false, _&&_}
 use mathlib.Core.List.{List, [], _∷_}
-use Rattle.rules.specs.declared.state.Held.{Held}
-use Rattle.rules.specs.declared.state.Held.the-variants.{Nothing, Phase}
-use Rattle.rules.specs.declared.state.Interval.{Interval}
-use Rattle.rules.specs.declared.state.Interval.the-variants.{StartRed, LateStart, MinimumGreen, Running, EarlyCutOff, Yellow, AllRed}
-use Rattle.rules.specs.declared.state.IntervalRow.{IntervalRow}
-use Rattle.rules.specs.declared.state.Stage.{Stage}
-use Rattle.rules.specs.declared.state.Stage.the-variants.{Idle, Walk, ClearanceOne, ClearanceTwo}
-use Rattle.rules.specs.declared.state.StageRow.{StageRow}
+use Rattle.rules.specs.Types.{Held, Nothing, Phase, Interval, StartRed, LateStart, MinimumGreen, Running, EarlyCutOff, Yellow, AllRed, IntervalRow, Stage, Idle, Walk, ClearanceOne, ClearanceTwo, StageRow}
 use Rattle.laws.specs.Bytes.{bit}
 
 -- ── Intervals ──
@@ -51,6 +44,10 @@ isLeaving interval = intervalRow interval .leaving
 -- start red or all-red: a phase starts when it ends
 abbrev pub isBeforeStart : Interval → Bool
 isBeforeStart interval = intervalRow interval .starts
+
+-- all-red: the phase is being left, and another starts when it ends
+abbrev pub isAllRed : Interval → Bool
+isAllRed interval = isLeaving interval && isBeforeStart interval
 
 -- the interval's letter in a trace, as its ASCII code
 unfoldable pub letterOf : Interval → ℕ

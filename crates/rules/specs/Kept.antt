@@ -4,12 +4,7 @@ use Prim.Native.Nat.{ℕ}
 use mathlib.Core.Bool.{Bool, not, _&&_, _||_}
 use mathlib.Core.List.{List}
 use lib.Dec.{eqb}
-use Rattle.rules.specs.declared.site.Site.{Site}
-use Rattle.rules.specs.declared.site.Times.{Times}
-use Rattle.rules.specs.declared.state.Demands.{Demands}
-use Rattle.rules.specs.declared.state.Held.{Held}
-use Rattle.rules.specs.declared.state.KeptState.{KeptState}
-use Rattle.rules.specs.declared.state.Movement.{Movement}
+use Rattle.rules.specs.Types.{Site, Times, Demands, Held, KeptState, Movement}
 use Rattle.laws.specs.Bytes.{bit}
 use Rattle.laws.specs.Folds.{anyOf, setOf}
 use Rattle.rules.specs.Site.{crosses, ring}

@@ -1,7 +1,6 @@
 -- Statements that show that the rules fit together: what each table of limits must provide, what is known of an accepted site, which refusals
--- there are, how long a personality and how large a wait bound can be, what the buffer holds at each point of the pass over the groups, that
--- every phase can be called, and that a step from a valid state gives a valid state. What needs acceptance is stated over the bytes of an
--- accepted personality.
+-- there are, how long a personality and how large a wait bound can be, what the buffer holds at each point of the pass over the groups, and that
+-- every phase can be called. What needs acceptance is stated over the bytes of an accepted personality.
 use Prim.Native.Nat.{ℕ, _+_, _*_, _%_, _^_, _≤_, _<_}
 use mathlib.Core.Bool.{Bool, true, false, _&&_, _||_}
 use mathlib.Core.List.{List}
@@ -9,26 +8,17 @@ use mathlib.Core.Logic.{_⊎_}
 use mathlib.Core.Path.{_≡_}
 use lib.Dec.{leb, eqb}
 use lib.ListN.{length, getD}
-use Rattle.rules.specs.declared.answer.Verdict.the-variants.{Accepted, Refused}
-use Rattle.rules.specs.declared.site.Edition.{Edition}
-use Rattle.rules.specs.declared.site.PhaseTimes.{PhaseTimes}
-use Rattle.rules.specs.declared.site.Range.{Range}
-use Rattle.rules.specs.declared.site.Site.{Site}
-use Rattle.rules.specs.declared.site.Size.{Size}
-use Rattle.rules.specs.declared.site.Times.{Times}
-use Rattle.rules.specs.declared.site.WalkTimes.{WalkTimes}
-use Rattle.rules.specs.declared.state.KeptState.{KeptState}
-use Rattle.rules.specs.declared.state.State.{State}
+use Rattle.rules.specs.Types.{Accepted, Edition, PhaseTimes, Range, Site, Size, Times, WalkTimes, State}
 use Rattle.laws.specs.Folds.{if_then_else_, allOf, countOf}
 use Rattle.rules.specs.Limits.{limits, limitOf, startRedSetting, phaseSettings, walkSettings, earlySetting, settingCount}
 use Rattle.rules.specs.Personality.{kindAt, siteHead, siteKind, knownMode, verdictOf}
 use Rattle.rules.specs.Site.{siteOf, groupOf, detectorOf, phaseTimes, walkTimes, inPhase, crosses, isPedestrian, movementOf, conflict}
 use Rattle.rules.specs.State.{highestAge}
 use Rattle.rules.specs.Demands.{demanded}
-use Rattle.rules.specs.Kept.{freshKept, keptValid, keptStepped}
+use Rattle.rules.specs.Timed.{TimedState, timedValid}
 use Rattle.rules.specs.Colours.{shownIn, bufferAt}
 use Rattle.rules.specs.WaitBound.{phaseShare, waitBound}
-use Rattle.rules.specs.Call.{strayInput, callVerdict, bufferFor}
+use Rattle.rules.specs.Call.{strayInput, bufferFor}
 
 -- ── A table of limits ──
 
@@ -219,12 +209,6 @@ abbrev pub Written : List ℕ → ℕ → ℕ → Type 0
 Written b number place =
     ((readingNumber number ≡ true) × PlaceIn b place) ⊎ ((stepNumber number ≡ true) × (place ≡ 0))
 
-unfoldable pub RefusalIsWritten : Type 0
-RefusalIsWritten =
-    (b : List ℕ) (s : KeptState) (inputs room number place : ℕ) →
-    callVerdict b s inputs room ≡ Refused number place →
-    Written b number place
-
 -- ── The wait bound ──
 
 -- the greatest wait bound, in steps
@@ -262,23 +246,9 @@ unfoldable pub PhasesCanBeCalled : Type 0
 PhasesCanBeCalled =
     (b : List ℕ) →
     verdictOf b ≡ Accepted →
-    (s : KeptState) →
-    keptValid (siteOf b) s ≡ true →
+    (s : TimedState) →
+    timedValid (siteOf b) s ≡ true →
     (p : ℕ) →
     p < siteOf b .size .phases →
     (p ≡ s .core .position .phase → ⊥) →
     (inputs : ℕ) × (inputs < 2 ^ 64) × (strayInput (siteOf b) inputs ≡ false) × (demanded (siteOf b) (s .core) inputs p ≡ true)
-
--- ── Valid states ──
-
-unfoldable pub FreshIsValid : Type 0
-FreshIsValid = (b : List ℕ) → verdictOf b ≡ Accepted → keptValid (siteOf b) freshKept ≡ true
-
-unfoldable pub StepKeepsValid : Type 0
-StepKeepsValid =
-    (b : List ℕ) →
-    verdictOf b ≡ Accepted →
-    (s : KeptState) (inputs : ℕ) →
-    keptValid (siteOf b) s ≡ true →
-    strayInput (siteOf b) inputs ≡ false →
-    keptValid (siteOf b) (keptStepped (siteOf b) s inputs) ≡ true

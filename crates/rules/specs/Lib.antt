@@ -1,3 +1,4 @@
+pub mod Types
 pub mod Limits
 pub mod Verdicts
 pub mod Personality
@@ -19,14 +20,14 @@ pub mod WaitBound
 pub mod Waits
 pub mod Call
 pub mod TimedCall
+pub mod Runs
 pub mod DemandThree
-pub mod TimedDemandThree
+pub mod StepDemandThree
 pub mod OnceEach
 pub mod PhaseWaits
 pub mod Laws
 pub mod TimedLaws
 pub mod Scanning
-pub mod TimedScanning
 pub mod TraceText
 pub mod Junctions
 pub mod CallCases

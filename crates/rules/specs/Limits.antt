@@ -4,48 +4,12 @@ use Prim.Native.Nat.{ℕ, _+_}
 use mathlib.Core.Bool.{Bool, _&&_}
 use mathlib.Core.List.{List, [], _∷_}
 use lib.Dec.{leb}
-use lib.ListN.{getD}
-use Rattle.rules.specs.declared.site.Edition.{Edition}
-use Rattle.rules.specs.declared.site.Edition.the-variants.{One, Two}
-use Rattle.rules.specs.declared.site.Range.{Range}
+use lib.ListN.{getD, set}
+use Rattle.rules.specs.Types.{Edition, One, Two, Range}
 
--- the lowest start red and the lowest all-red rise with edition two; nothing else differs
-unfoldable pub limits : Edition → List Range
-limits One =
-    record { low = 10; high = 150 }
-    ∷ record { low = 0; high = 200 }
-    ∷ record { low = 10; high = 400 }
-    ∷ record { low = 10; high = 1500 }
-    ∷ record { low = 0; high = 100 }
-    ∷ record { low = 30; high = 100 }
-    ∷ record { low = 10; high = 150 }
-    ∷ record { low = 10; high = 400 }
-    ∷ record { low = 1; high = 400 }
-    ∷ record { low = 1; high = 400 }
-    ∷ record { low = 0; high = 200 }
-    ∷ []
-limits Two =
-    record { low = 30; high = 150 }
-    ∷ record { low = 0; high = 200 }
-    ∷ record { low = 10; high = 400 }
-    ∷ record { low = 10; high = 1500 }
-    ∷ record { low = 0; high = 100 }
-    ∷ record { low = 30; high = 100 }
-    ∷ record { low = 15; high = 150 }
-    ∷ record { low = 10; high = 400 }
-    ∷ record { low = 1; high = 400 }
-    ∷ record { low = 1; high = 400 }
-    ∷ record { low = 0; high = 200 }
-    ∷ []
+-- ── The numbers of the settings ──
 
--- the table's entry for a setting; a setting outside the table allows only 0
-unfoldable pub limitOf : List Range → ℕ → Range
-limitOf table setting = getD table setting (record { low = 0; high = 0 })
-
-unfoldable pub within : List Range → ℕ → ℕ → Bool
-within table setting value = leb (limitOf table setting .low) value && leb value (limitOf table setting .high)
-
--- numbers of settings: start red, the first of a phase record (L), the first of a pedestrian record (W), and early
+-- start red, the first of a phase record (L), the first of a pedestrian record (W), and early
 -- cut-off green
 abbrev pub startRedSetting : ℕ
 startRedSetting = 0
@@ -62,3 +26,34 @@ earlySetting = 10
 -- how many settings there are
 abbrev pub settingCount : ℕ
 settingCount = earlySetting + 1
+
+-- ── The tables ──
+
+-- edition one
+abbrev pub editionOne : List Range
+editionOne =
+    record { low = 10; high = 150 }
+    ∷ record { low = 0; high = 200 }
+    ∷ record { low = 10; high = 400 }
+    ∷ record { low = 10; high = 1500 }
+    ∷ record { low = 0; high = 100 }
+    ∷ record { low = 30; high = 100 }
+    ∷ record { low = 10; high = 150 }
+    ∷ record { low = 10; high = 400 }
+    ∷ record { low = 1; high = 400 }
+    ∷ record { low = 1; high = 400 }
+    ∷ record { low = 0; high = 200 }
+    ∷ []
+
+-- the lowest start red and the lowest all-red rise with edition two; nothing else differs
+unfoldable pub limits : Edition → List Range
+limits One = editionOne
+limits Two =
+    set (set editionOne startRedSetting (record { low = 30; high = 150 })) (phaseSettings + 5) (record { low = 15; high = 150 })
+
+-- the table's entry for a setting; a setting outside the table allows only 0
+unfoldable pub limitOf : List Range → ℕ → Range
+limitOf table setting = getD table setting (record { low = 0; high = 0 })
+
+unfoldable pub within : List Range → ℕ → ℕ → Bool
+within table setting value = leb (limitOf table setting .low) value && leb value (limitOf table setting .high)

@@ -5,14 +5,7 @@ use mathlib.Core.Bool.{Bool, true, _&&_, _||_}
 use mathlib.Core.List.{List}
 use lib.Dec.{leb, eqb}
 use lib.ListN.{getD}
-use Rattle.rules.specs.declared.site.PhaseTimes.{PhaseTimes}
-use Rattle.rules.specs.declared.site.Times.{Times}
-use Rattle.rules.specs.declared.site.WalkTimes.{WalkTimes}
-use Rattle.rules.specs.declared.state.Counts.{Counts}
-use Rattle.rules.specs.declared.state.Interval.{Interval}
-use Rattle.rules.specs.declared.state.Movement.{Movement}
-use Rattle.rules.specs.declared.state.Stage.{Stage}
-use Rattle.rules.specs.declared.state.Stage.the-variants.{Idle, Walk, ClearanceOne, ClearanceTwo}
+use Rattle.rules.specs.Types.{PhaseTimes, Times, WalkTimes, Counts, Interval, Movement, Stage, Idle, Walk, ClearanceOne, ClearanceTwo}
 use Rattle.laws.specs.Folds.{if_then_else_, listOf}
 use Rattle.rules.specs.Site.{walkTimes}
 use Rattle.rules.specs.IntervalTable.{isRunning}

@@ -4,10 +4,7 @@ use mathlib.Core.Bool.{Bool, not, _&&_, _||_}
 use mathlib.Core.List.{List}
 use lib.Dec.{leb, ltb, eqb}
 use lib.ListN.{length}
-use Rattle.rules.specs.declared.answer.Verdict.{Verdict}
-use Rattle.rules.specs.declared.answer.Verdict.the-variants.{Accepted}
-use Rattle.rules.specs.declared.site.Edition.{Edition}
-use Rattle.rules.specs.declared.site.Edition.the-variants.{One, Two}
+use Rattle.rules.specs.Types.{Verdict, Accepted, Edition, One, Two}
 use Rattle.laws.specs.Folds.{if_then_else_, anyOf, countOf}
 use Rattle.laws.specs.Bytes.{byteAt, twoAt, fourAt, bit}
 use Rattle.rules.specs.Limits.{limits, within, startRedSetting, phaseSettings, walkSettings, earlySetting}

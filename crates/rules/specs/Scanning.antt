@@ -1,46 +1,52 @@
 -- The rules without the kept set: each step finds the demanded phases by a scan. And the statements that the kept set equals this scan and
 -- changes nothing else.
 use Prim.Native.Nat.{ℕ, _<_}
-use mathlib.Core.Bool.{true}
+use mathlib.Core.Bool.{Bool, true, _&&_}
 use mathlib.Core.List.{List}
 use mathlib.Core.Path.{_≡_}
-use Rattle.rules.specs.declared.answer.Verdict.{Verdict}
-use Rattle.rules.specs.declared.answer.Verdict.the-variants.{Accepted}
-use Rattle.rules.specs.declared.site.Site.{Site}
-use Rattle.rules.specs.declared.state.KeptState.{KeptState}
-use Rattle.rules.specs.declared.state.State.{State}
+use Rattle.rules.specs.Types.{Accepted, Site, Held, KeptState, State}
+use Rattle.laws.specs.Folds.{if_then_else_}
 use Rattle.rules.specs.Personality.{verdictOf}
 use Rattle.rules.specs.Site.{siteOf}
-use Rattle.rules.specs.State.{fresh, valid}
-use Rattle.rules.specs.Demands.{stands}
-use Rattle.rules.specs.Step.{stepped}
-use Rattle.rules.specs.Kept.{isKept, keptValid, keptStepped}
+use Rattle.rules.specs.State.{valid}
+use Rattle.rules.specs.SiteTimes.{admitted}
+use Rattle.rules.specs.Demands.{stands, nextDemanded}
+use Rattle.rules.specs.Step.{steppedInto}
+use Rattle.rules.specs.Kept.{isKept, keptValid}
+use Rattle.rules.specs.Timed.{TimedState, keptOf, ruledSite, noneWaiting, waitingValid, timedValid, takesOver, withoutCounts, rulingNext}
 use Rattle.rules.specs.WaitBound.{waitBound}
-use Rattle.rules.specs.Call.{Parts}
-use Rattle.rules.specs.DemandThree.{Controller, controllerOf, Call, ruled, takenFrom}
+use Rattle.rules.specs.TimedCall.{retimed}
+use Rattle.rules.specs.Runs.{Controller, controllerOf, byRules, Call, takenFrom}
 
--- the parts of a controller whose state has no kept set, by its verdict, its step and its wait
-abbrev pub withoutKept : (List ℕ → Verdict) → (Site → State → ℕ → State) → (Site → ℕ) → Parts State
-withoutKept verdict step wait =
+-- the valid state, whatever the kept set is
+unfoldable pub scanValid : Site → TimedState → Bool
+scanValid site s = admitted site (s .ruling) && waitingValid site (s .waiting) && valid (ruledSite site s) (s .core)
+
+-- The step does not read the kept set, and leaves it empty. `find` gives the phase that is demanded next.
+unfoldable pub steppedFinding : (Site → State → ℕ → Held) → Site → TimedState → ℕ → TimedState
+steppedFinding find site s inputs =
+    let over = takesOver site s in
+    let old = ruledSite site s in
     record {
-      verdict = verdict;
-      fresh = λ site. fresh;
-      valid = valid;
-      step = step;
-      wait = wait;
-      seen = λ s. s;
-      ruling = λ site s. site .times;
+      core =
+          steppedInto (rulingNext site s) (find old (s .core) inputs) old
+          ((if over then withoutCounts (keptOf s) else keptOf s) .core)
+          inputs;
+      kept = 0;
+      ruling = rulingNext site s;
+      waiting = if over then noneWaiting else s .waiting;
     }
 
-abbrev scanningParts : Parts State
-scanningParts = withoutKept verdictOf stepped waitBound
+-- the controller that finds the next phase so
+abbrev pub finding : (Site → State → ℕ → Held) → Controller TimedState
+finding find = controllerOf verdictOf scanValid (steppedFinding find) waitBound retimed
 
-unfoldable pub scanning : Controller State
-scanning = controllerOf scanningParts
+unfoldable pub scanning : Controller TimedState
+scanning = finding nextDemanded
 
 -- ── The kept set is the scan ──
 
--- in every valid state; a step keeps states valid (`Laws.StepKeepsValid`), so it keeps this
+-- in every valid state; every call keeps states valid (`TimedLaws`), so it keeps this
 unfoldable pub KeptIsScan : Type 0
 KeptIsScan =
     (site : Site) (s : KeptState) →
@@ -51,19 +57,12 @@ KeptIsScan =
 
 -- ── Forgetting the kept set gives the scanning rules ──
 
--- the rest of the state after a step is that of the scanning step
-unfoldable pub StepForgets : Type 0
-StepForgets =
-    (b : List ℕ) →
-    verdictOf b ≡ Accepted →
-    (s : KeptState) (inputs : ℕ) →
-    keptValid (siteOf b) s ≡ true →
-    keptStepped (siteOf b) s inputs .core ≡ stepped (siteOf b) (s .core) inputs
-
--- both rules take every list of calls from a valid state alike: the same outcomes, waits, buffers and rest of the state
+-- both rules take every list of calls from a valid state alike: the same outcomes, waits, buffers, times and rest of the state
 unfoldable pub RunForgets : Type 0
 RunForgets =
-    (b : List ℕ) (s : KeptState) →
-    keptValid (siteOf b) s ≡ true →
+    (b : List ℕ) →
+    verdictOf b ≡ Accepted →
+    (s : TimedState) →
+    timedValid (siteOf b) s ≡ true →
     (calls : List Call) →
-    takenFrom ruled b s calls ≡ takenFrom scanning b (s .core) calls
+    takenFrom byRules b s calls ≡ takenFrom scanning b s calls

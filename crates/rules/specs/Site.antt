@@ -4,12 +4,7 @@ use mathlib.Core.Bool.{Bool}
 use mathlib.Core.List.{List}
 use lib.Dec.{eqb}
 use lib.ListN.{getD}
-use Rattle.rules.specs.declared.site.Detector.{Detector}
-use Rattle.rules.specs.declared.site.Group.{Group}
-use Rattle.rules.specs.declared.site.PhaseTimes.{PhaseTimes}
-use Rattle.rules.specs.declared.site.Site.{Site}
-use Rattle.rules.specs.declared.site.Times.{Times}
-use Rattle.rules.specs.declared.site.WalkTimes.{WalkTimes}
+use Rattle.rules.specs.Types.{Detector, Group, PhaseTimes, Site, Times, WalkTimes}
 use Rattle.laws.specs.Folds.{if_then_else_, listOf, rowOf, countOf, indicesOf}
 use Rattle.laws.specs.Bytes.{twoAt, bit}
 use Rattle.rules.specs.Personality.{phaseCount, groupCount, detectorCount, movementCount, groupSet, groupMark, conflictSet, detectorPhase, detectorMode, pedestrian, phasesHead, pedestriansHead, earlyHead, hasEarly, hasOrder, orderAt, recordAt, editionOf}

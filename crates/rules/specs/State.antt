@@ -4,18 +4,7 @@ use mathlib.Core.Bool.{Bool, true, not, _&&_, _||_}
 use mathlib.Core.List.{List, [], _∷_}
 use lib.Dec.{leb, ltb, eqb}
 use lib.ListN.{getD, replicate}
-use Rattle.rules.specs.declared.site.PhaseTimes.{PhaseTimes}
-use Rattle.rules.specs.declared.site.Site.{Site}
-use Rattle.rules.specs.declared.state.Counts.{Counts}
-use Rattle.rules.specs.declared.state.Demands.{Demands}
-use Rattle.rules.specs.declared.state.Held.{Held}
-use Rattle.rules.specs.declared.state.Held.the-variants.{Nothing, Phase}
-use Rattle.rules.specs.declared.state.Interval.{Interval}
-use Rattle.rules.specs.declared.state.Interval.the-variants.{StartRed}
-use Rattle.rules.specs.declared.state.Movement.{Movement}
-use Rattle.rules.specs.declared.state.Position.{Position}
-use Rattle.rules.specs.declared.state.Stage.the-variants.{Idle}
-use Rattle.rules.specs.declared.state.State.{State}
+use Rattle.rules.specs.Types.{PhaseTimes, Site, Counts, Demands, Held, Nothing, Phase, Interval, StartRed, Movement, Position, Idle, State}
 use Rattle.laws.specs.Bytes.{bit}
 use Rattle.laws.specs.Folds.{allOf}
 use Rattle.rules.specs.IntervalTable.{isIdle, isWalkOrFirst, isStartRed, isEarly, isLeaving}

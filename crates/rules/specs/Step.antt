@@ -1,16 +1,6 @@
 -- One step: the five parts in order. The phase that is demanded next is an argument.
 use Prim.Native.Nat.{ℕ}
-use mathlib.Core.Bool.{Bool}
-use mathlib.Core.List.{List}
-use Rattle.rules.specs.declared.site.PhaseTimes.{PhaseTimes}
-use Rattle.rules.specs.declared.site.Site.{Site}
-use Rattle.rules.specs.declared.site.Times.{Times}
-use Rattle.rules.specs.declared.state.Counts.{Counts}
-use Rattle.rules.specs.declared.state.Held.{Held}
-use Rattle.rules.specs.declared.state.Interval.{Interval}
-use Rattle.rules.specs.declared.state.Movement.{Movement}
-use Rattle.rules.specs.declared.state.Position.{Position}
-use Rattle.rules.specs.declared.state.State.{State}
+use Rattle.rules.specs.Types.{Site, Times, Held, State}
 use Rattle.rules.specs.Site.{phaseTimes}
 use Rattle.rules.specs.IntervalTable.{isHeld}
 use Rattle.rules.specs.Demands.{demandsAfter, nextDemanded, detected, extending}
@@ -19,14 +9,9 @@ use Rattle.rules.specs.Counts.{countsAfter}
 use Rattle.rules.specs.Interval.{ends, positionAfter, countsChanged, locksLeft, starts}
 use Rattle.rules.specs.Walks.{begins, walksBegun, buttonsLeft}
 
--- The two rules of part 4 are arguments: when an interval ends, and the position after it. So a step with a wrong rule in the place of one of
--- them has this definition too. The times that rule from the end of the interval on are an argument; they are the site's own unless other
--- times take over in this step.
-unfoldable pub steppedBy :
-    (Interval → ℕ → PhaseTimes → ℕ → Bool → List Movement → Counts → Bool) →
-    (Bool → Times → Held → Position → Position) →
-    Times → Held → Site → State → ℕ → State
-steppedBy ends positionAfter ruling next site s inputs =
+-- The times that rule from the end of the interval on are an argument; they are the site's own unless other times take over in this step.
+unfoldable pub steppedInto : Times → Held → Site → State → ℕ → State
+steppedInto ruling next site s inputs =
     let old = s .position in
     let times = phaseTimes (site .times) (old .phase) in
     -- 1. demands
@@ -48,10 +33,6 @@ steppedBy ends positionAfter ruling next site s inputs =
       demands = record { locks = locksLeft ended now (demands .locks); buttons = buttonsLeft begun (demands .buttons) };
       movements = walksBegun begun movements;
     }
-
--- the step of the rules, by the times that rule from the end of the interval on
-abbrev pub steppedInto : Times → Held → Site → State → ℕ → State
-steppedInto = steppedBy ends positionAfter
 
 -- the step by the site's own times
 unfoldable pub steppedTo : Held → Site → State → ℕ → State

@@ -1,13 +1,8 @@
 -- New times while running. The state has the times that rule, and beside them times that may wait. Waiting times rule from the next start
 -- of a phase on.
 use Prim.Native.Nat.{ℕ}
-use mathlib.Core.Bool.{Bool, true, false, not, _&&_}
-use Rattle.rules.specs.declared.site.Site.{Site}
-use Rattle.rules.specs.declared.site.Times.{Times}
-use Rattle.rules.specs.declared.state.KeptState.{KeptState}
-use Rattle.rules.specs.declared.state.State.{State}
-use Rattle.rules.specs.declared.state.TimedState.{TimedState}
-use Rattle.rules.specs.declared.state.Waiting.{Waiting}
+use mathlib.Core.Bool.{Bool, true, false, _&&_}
+use Rattle.rules.specs.Types.{Site, Times, KeptState, State}
 use Rattle.laws.specs.Folds.{if_then_else_}
 use Rattle.rules.specs.Site.{phaseTimes}
 use Rattle.rules.specs.SiteTimes.{under, noTimes, admitted, blank}
@@ -15,6 +10,18 @@ use Rattle.rules.specs.IntervalTable.{isBeforeStart}
 use Rattle.rules.specs.Movements.{movementsAfter}
 use Rattle.rules.specs.Interval.{ends}
 use Rattle.rules.specs.Kept.{freshKept, keptValid, keptSteppedInto}
+
+-- The times that wait until a phase next starts, if some do. If none do, every time is 0.
+pub record Waiting : Type 0 where
+  pub present : Bool
+  pub times : Times
+
+-- A kept state with the times that rule in it and those that wait.
+pub record TimedState : Type 0 where
+  pub core : State
+  pub kept : ℕ
+  pub ruling : Times
+  pub waiting : Waiting
 
 -- ── Parts of a timed state ──
 

@@ -7,13 +7,7 @@ use mathlib.Core.Logic.{_⊎_}
 use mathlib.Core.Path.{_≡_}
 use lib.Dec.{eqb}
 use lib.ListN.{length, getD, replicate}
-use Rattle.rules.specs.declared.answer.Verdict.the-variants.{Accepted, Refused}
-use Rattle.rules.specs.declared.site.PhaseTimes.{PhaseTimes}
-use Rattle.rules.specs.declared.site.Times.{Times}
-use Rattle.rules.specs.declared.site.WalkTimes.{WalkTimes}
-use Rattle.rules.specs.declared.state.KeptState.{KeptState}
-use Rattle.rules.specs.declared.state.State.{State}
-use Rattle.rules.specs.declared.state.TimedState.{TimedState}
+use Rattle.rules.specs.Types.{Accepted, Refused, PhaseTimes, Times, WalkTimes, KeptState, State}
 use Rattle.laws.specs.Bytes.{byteAt}
 use Rattle.laws.specs.Folds.{if_then_else_, listOf}
 use Rattle.rules.specs.Personality.{bodyAt, phasesHead, groupsHead, pedestriansHead, earlyHead, hasEarly, orderHead, verdictOf}
@@ -24,7 +18,7 @@ use Rattle.rules.specs.SiteTimes.{under, admitted}
 use Rattle.rules.specs.Demands.{nextDemanded}
 use Rattle.rules.specs.Step.{steppedInto}
 use Rattle.rules.specs.Kept.{keptValid, keptStepped}
-use Rattle.rules.specs.Timed.{keptOf, ruledSite, freshTimed, timedValid, takesOver, rulingNext, withoutCounts, timedStepped}
+use Rattle.rules.specs.Timed.{TimedState, keptOf, ruledSite, freshTimed, timedValid, takesOver, rulingNext, withoutCounts, timedStepped}
 use Rattle.rules.specs.Call.{strayInput}
 use Rattle.rules.specs.Laws.{readingNumber, PlaceIn, Written}
 use Rattle.rules.specs.TimedCall.{timedVerdict, between, differsElsewhere, retimeVerdict, retimed}
@@ -83,11 +77,11 @@ TakesOverAtStart =
 
 -- ── Valid states ──
 
-unfoldable pub FreshTimedIsValid : Type 0
-FreshTimedIsValid = (b : List ℕ) → verdictOf b ≡ Accepted → timedValid (siteOf b) (freshTimed (siteOf b)) ≡ true
+unfoldable pub FreshIsValid : Type 0
+FreshIsValid = (b : List ℕ) → verdictOf b ≡ Accepted → timedValid (siteOf b) (freshTimed (siteOf b)) ≡ true
 
-unfoldable pub TimedStepKeepsValid : Type 0
-TimedStepKeepsValid =
+unfoldable pub StepKeepsValid : Type 0
+StepKeepsValid =
     OfValid
     (λ b s. (inputs : ℕ) → strayInput (siteOf b) inputs ≡ false → timedValid (siteOf b) (timedStepped (siteOf b) s inputs) ≡ true)
 
@@ -98,8 +92,8 @@ RetimeKeepsValid =
 -- ── Forgetting the kept set ──
 
 -- the rest of the state after a step is that of the step that finds the next phase by a scan
-unfoldable pub TimedStepForgets : Type 0
-TimedStepForgets =
+unfoldable pub StepForgets : Type 0
+StepForgets =
     OfValid
     (λ b s.
     (inputs : ℕ) →
@@ -179,8 +173,8 @@ RetimedIsAdmitted =
 -- ── Refusals ──
 
 -- each refusal of a step call on a timed state has a written number and place
-unfoldable pub TimedRefusalIsWritten : Type 0
-TimedRefusalIsWritten =
+unfoldable pub RefusalIsWritten : Type 0
+RefusalIsWritten =
     (b : List ℕ) (s : TimedState) (inputs room number place : ℕ) →
     timedVerdict b s inputs room ≡ Refused number place →
     Written b number place

@@ -2,7 +2,7 @@
 use Prim.Native.Nat.{ℕ}
 use mathlib.Core.List.{List, [], _∷_, _++_, map}
 use lib.ListN.{getD}
-use Rattle.rules.specs.declared.state.Position.{Position}
+use Rattle.rules.specs.Types.{Position}
 use Rattle.rules.specs.IntervalTable.{letterOf}
 
 -- A to G; a phase that no site has, and so no step gives, as a question mark

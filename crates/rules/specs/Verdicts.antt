@@ -1,11 +1,7 @@
 -- A verdict is acceptance, or a refusal with its number and place. Of several checks in order, the first refusal is the verdict.
 use Prim.Native.Nat.{ℕ, zero, suc}
 use mathlib.Core.Bool.{Bool}
-use Rattle.rules.specs.declared.answer.Verdict.{Verdict}
-use Rattle.rules.specs.declared.answer.Verdict.the-variants.{Accepted, Refused}
-use Rattle.rules.specs.declared.answer.Outcome.{Outcome}
-use Rattle.rules.specs.declared.answer.Outcome.the-variants.{Stepped, StepRefused}
-use Rattle.rules.specs.declared.answer.Report.{Report}
+use Rattle.rules.specs.Types.{Verdict, Accepted, Refused, Outcome, Stepped, StepRefused, Report}
 use Rattle.laws.specs.Folds.{if_then_else_}
 
 infixr 5 _orElse_

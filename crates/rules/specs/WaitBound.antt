@@ -2,11 +2,7 @@
 use Prim.Native.Nat.{ℕ, _+_, _*_}
 use mathlib.Core.List.{List}
 use lib.ListN.{getD}
-use Rattle.rules.specs.declared.site.PhaseTimes.{PhaseTimes}
-use Rattle.rules.specs.declared.site.Site.{Site}
-use Rattle.rules.specs.declared.site.Size.{Size}
-use Rattle.rules.specs.declared.site.Times.{Times}
-use Rattle.rules.specs.declared.site.WalkTimes.{WalkTimes}
+use Rattle.rules.specs.Types.{PhaseTimes, Site, Size, Times, WalkTimes}
 use Rattle.laws.specs.Folds.{if_then_else_, sumOf, greatestOf}
 use Rattle.rules.specs.Site.{noWalkTimes, phaseTimes, crosses}
 

@@ -4,9 +4,7 @@ use Prim.Native.Nat.{ℕ, _+_, max}
 use mathlib.Core.Bool.{Bool, true, not, _&&_}
 use mathlib.Core.List.{List, _++_}
 use lib.Dec.{eqb}
-use Rattle.rules.specs.declared.site.PhaseTimes.{PhaseTimes}
-use Rattle.rules.specs.declared.site.Site.{Site}
-use Rattle.rules.specs.declared.site.WalkTimes.{WalkTimes}
+use Rattle.rules.specs.Types.{PhaseTimes, Site, WalkTimes}
 use Rattle.laws.specs.Folds.{if_then_else_, sumOf, greatestOf, listOf}
 use Rattle.rules.specs.Site.{phaseTimes, walkTimes, crosses, ring}
 use Rattle.rules.specs.IntervalTable.{isHeld, phaseHeld}

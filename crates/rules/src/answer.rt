@@ -1,6 +1,4 @@
 // The answers of reading a personality, of a section lookup and of a step call.
-use crate::state::KeptState;
-use crate::state::TimedState;
 
 // The outcome of reading a personality.
 pub enum Verdict {
@@ -20,22 +18,4 @@ pub enum Outcome {
     // The wait bound of the site, in steps.
     Stepped { wait: u32 },
     StepRefused { number: u8, place: usize },
-}
-
-// The answer of a step call: its outcome, and the state handed back.
-pub struct Answer {
-    pub outcome: Outcome,
-    pub state: KeptState,
-}
-
-// The same of a step call on a timed state.
-pub struct TimedAnswer {
-    pub outcome: Outcome,
-    pub state: TimedState,
-}
-
-// The answer of a retiming call: acceptance or the refusal, and the state handed back.
-pub struct RetimeAnswer {
-    pub verdict: Verdict,
-    pub state: TimedState,
 }

@@ -1,5 +1,4 @@
 // The state that a step takes and hands back, and its parts.
-use crate::site::Times;
 
 // The interval that the phase is in.
 pub enum Interval {
@@ -98,18 +97,4 @@ pub struct State {
 pub struct KeptState {
     pub core: State,
     pub kept: u8,
-}
-
-// The times that wait until a phase next starts, if some do. If none do, every time is 0.
-pub struct Waiting {
-    pub present: bool,
-    pub times: Times,
-}
-
-// A kept state with the times that rule in it and those that wait.
-pub struct TimedState {
-    pub core: State,
-    pub kept: u8,
-    pub ruling: Times,
-    pub waiting: Waiting,
 }

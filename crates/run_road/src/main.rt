@@ -80,7 +80,7 @@ fn run(site: Site, streams: &[u8], steps: u32, cells: &mut [u16], longest: &mut 
     requires { ⌜ AtStart site (now streams) steps (now cells) × Rows (now streams) (now cells) (now longest) ⌝ }
     ensures { λ _. ⌜ Rows (now (streams .entry)) (now (cells .exit)) (now (longest .exit)) ⌝ }
 {
-    let mut state = call_fresh::fresh();
+    let mut state = state_fresh::fresh();
     let mut n: u32 = 0;
     while n < steps {
         state = road_step::road_stepped(site, streams, state, cells);

@@ -3,10 +3,10 @@
 // input and the last step end the trace without a line.
 use libc::STDIN_FILENO;
 use libc::STDOUT_FILENO;
-use rules::answer::Outcome;
 use rules::answer::Verdict;
-use rules::state::KeptState;
 use rules::state::Position;
+use state_timed::KEPT;
+use state_timed::TIMED_BYTES;
 
 // An hour of steps. What the input holds past them is not read.
 const STEPS: u64 = 36000;
@@ -16,12 +16,6 @@ enum Record {
     Ended,
     Cut,
     Inputs { bits: u64 },
-}
-
-// The result of a turn: whether the trace goes on, and with which state.
-struct Turn {
-    goes: bool,
-    state: KeptState,
 }
 
 // The line of a refusal.
@@ -56,58 +50,47 @@ fn show(step: u64, position: Position, colours: &[u8], groups: u8) {
     io::write_all(STDOUT_FILENO, &text[..end]);
 }
 
-// One step call, and what it prints: the colours of so many groups as the site has.
-fn advance(personality: &[u8], groups: u8, state: KeptState, bits: u64, step: u64) -> Turn {
+// One step call of the library, and what it prints: the colours of so many groups as the site has. Whether the trace goes on.
+fn advance(personality: &[u8], groups: u8, state: &mut [u8], bits: u64, step: u64) -> bool {
     let mut colours = [0u8; 32];
-    let answer = call_step::step(personality, state, bits, &mut colours);
-    let outcome = answer.outcome;
-    let after = answer.state;
-    if let Outcome::StepRefused { number, place } = outcome {
-        refuse(number, place);
-        return Turn {
-            goes: false,
-            state: after,
-        };
+    let answer = board_step::step(personality, state, bits, &mut colours);
+    let number = (answer % 256) as u8;
+    if number != 0 {
+        refuse(number, (answer / 256) as usize);
+        return false;
     }
-    let core = after.core;
+    if !state_timed::is_timed(state) {
+        return false;
+    }
+    let kept = state_bytes::read(state, KEPT);
+    let core = kept.core;
     let position = core.position;
     show(step, position, &colours, groups);
-    Turn {
-        goes: true,
-        state: after,
-    }
+    true
 }
 
 // The turn of the step record that is next in the input.
-fn take_turn(personality: &[u8], groups: u8, state: KeptState, step: u64) -> Turn {
+fn take_turn(personality: &[u8], groups: u8, state: &mut [u8], step: u64) -> bool {
     let record = read_record();
     match record {
         Record::Inputs { bits } => advance(personality, groups, state, bits, step),
         Record::Cut => {
             refuse(16, 0);
-            Turn {
-                goes: false,
-                state: state,
-            }
+            false
         }
-        Record::Ended => Turn {
-            goes: false,
-            state: state,
-        },
+        Record::Ended => false,
     }
 }
 
 // The steps of an accepted personality, from the fresh state.
 fn run(personality: &[u8], groups: u8) {
-    let mut state = call_fresh::fresh();
+    let mut state = [0u8; TIMED_BYTES];
+    board_fresh::fresh(personality, &mut state);
     let mut step: u64 = 1;
     while step <= STEPS {
-        let next = take_turn(personality, groups, state, step);
-        if !next.goes {
+        if !take_turn(personality, groups, &mut state, step) {
             return;
         }
-        let after = next.state;
-        state = after;
         step += 1;
     }
 }

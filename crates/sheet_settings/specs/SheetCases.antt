@@ -4,6 +4,7 @@ use mathlib.Core.List.{List, [], _∷_}
 use mathlib.Core.Path.{_≡_}
 use lib.IntN.{pos}
 use lib.Ieee.{Float, binary64, ofInt, ofBits}
+use Rattle.rules.specs.CallCases.{AllHold}
 use Rattle.sheet_settings.specs.declared.Answer.{Answer}
 use Rattle.sheet_settings.specs.declared.Answer.the-variants.{Settings, Refused}
 use Rattle.sheet_settings.specs.declared.Detector.the-variants.{Advance, StopLine}
@@ -98,9 +99,5 @@ cases =
     ∷ advance 20 (metres 300) (Refused 20 0)
     ∷ []
 
-abbrev AllHold : List Case → Type 0
-AllHold [] = Unit {0}
-AllHold (c ∷ cases) = Holds c × AllHold cases
-
 unfoldable pub CasesHold : Type 0
-CasesHold = AllHold cases
+CasesHold = AllHold Holds cases

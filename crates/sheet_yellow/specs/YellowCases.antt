@@ -3,6 +3,7 @@ use Prim.Native.Nat.{ℕ}
 use mathlib.Core.List.{List, [], _∷_}
 use mathlib.Core.Path.{_≡_}
 use lib.IntN.{ℤ, pos, negsuc}
+use Rattle.rules.specs.CallCases.{AllHold}
 use Rattle.sheet_yellow.specs.declared.Answer.{Answer}
 use Rattle.sheet_yellow.specs.declared.Answer.the-variants.{Yellow, Refused}
 use Rattle.sheet_yellow.specs.Yellow.{answerOf}
@@ -42,9 +43,5 @@ cases =
     ∷ at 4294967295 (negsuc 2147483647) (Refused 23 0)
     ∷ []
 
-abbrev AllHold : List Case → Type 0
-AllHold [] = Unit {0}
-AllHold (c ∷ cases) = Holds c × AllHold cases
-
 unfoldable pub CasesHold : Type 0
-CasesHold = AllHold cases
+CasesHold = AllHold Holds cases

@@ -1,9 +1,15 @@
 // The site, decoded from the bytes of a personality, which reach to the end of its last section. Each section is read once.
+ghost use Prim.Native.Nat.{_+_, _≤_};
 ghost use mathlib.Core.Path.{_≡_};
-ghost use Rattle.rules.specs.Personality.{movementCount};
+ghost use lib.ListN.{length};
+ghost use Rattle.rules.specs.Personality.{phaseCount, movementCount, hasEarly};
 ghost use Rattle.rules.specs.Site.{siteOf};
+ghost use Rattle.rules.specs.SiteTimes.{under};
 ghost use Rattle.site_rows.specs.Fitting.{Fitting};
+ghost use Rattle.state_times.specs.TimesLayout.{times as timesForm};
+ghost use Rattle.state_times.specs.TimeRows.{siteTimes};
 ghost use Rattle.site_whole.specs.Decoding.{timingIn};
+use base_bytes::two_in;
 use read_layout::Layout;
 use read_layout::edition_of;
 use rules::site::Site;
@@ -16,6 +22,11 @@ use site_rows::order;
 use site_times::phase_times;
 use site_times::start_red;
 use site_times::walk_times;
+use state_times::EARLIES;
+use state_times::PHASES;
+use state_times::WALKS;
+use state_times::phases;
+use state_times::walks;
 
 // The counts. Kind 5 has records of two bytes, and its body reaches to the next head.
 pub fn size(s: &[u8], layout: Layout, movements: usize) -> Size
@@ -52,6 +63,41 @@ pub fn site_of(s: &[u8], layout: Layout) -> Site
             start: start_red(s, layout),
             phases: phase_times(s, layout),
             walks: walk_times(s, layout, found.movements),
+        },
+    }
+}
+
+// The site with the times in the bytes of times from a place on. Only the times that the site has are read, so a site with few phases is
+// decoded quickly.
+pub fn site_in(s: &[u8], layout: Layout, bytes: &[u8], at: usize) -> Site
+    requires { ⌜ Fitting (now s) layout × (at + timesForm .width ≤ length (now bytes)) ⌝ }
+    ensures { λ r. ⌜ r ≡ under (siteOf (now (s .entry)))
+        (siteTimes (phaseCount (now (s .entry))) (movementCount (now (s .entry))) (hasEarly (now (s .entry))) (now (bytes .entry)) at) ⌝ }
+{
+    let found = group_rows_in(s, layout);
+    let size = size(s, layout, found.movements);
+    let rows = found.groups;
+    let sets = found.crossings;
+    let edition = edition_of(s);
+    Site {
+        size,
+        groups: rows,
+        conflicts: conflicts(s, layout),
+        detectors: detectors(s, layout, size.detectors as usize),
+        crossings: sets,
+        edition,
+        early: layout.hasearly,
+        order: order(s, layout),
+        times: Times {
+            start: two_in(bytes, at),
+            phases: phases::read(
+                bytes,
+                at + PHASES,
+                at + EARLIES,
+                layout.hasearly,
+                layout.phasecount as usize,
+            ),
+            walks: walks::read(bytes, at + WALKS, found.movements),
         },
     }
 }

@@ -1,4 +1,3 @@
-pub mod KeptWritten
 pub mod TimedLaws
 pub mod TimedRoundTrips
 pub mod TimedWritten

@@ -6,10 +6,10 @@ use mathlib.Core.Bool.{Bool, true, false, _&&_}
 use mathlib.Core.List.{List, [], _∷_}
 use lib.Dec.{eqb}
 use lib.ListN.{length}
-use Rattle.rules.specs.declared.state.TimedState.{TimedState}
-use Rattle.rules.specs.declared.state.Waiting.{Waiting}
+use Rattle.rules.specs.declared.site.Times.{Times}
+use Rattle.rules.specs.declared.state.KeptState.{KeptState}
 use Rattle.laws.specs.Folds.{if_then_else_}
-use Rattle.rules.specs.Timed.{keptOf}
+use Rattle.rules.specs.Timed.{TimedState, Waiting, keptOf, noneWaiting}
 use Rattle.state_forms.specs.Forms.{Form, coded, flagCode, Table, field, _⊗_, made}
 use Rattle.state_bytes.specs.Layout.{state}
 use Rattle.state_times.specs.TimesLayout.{times}
@@ -64,6 +64,12 @@ isTimed b = eqb (length b) timedBytes && timed .known b 0
 -- each number fits its type, and there are eight movements, and seven phases and eight movements in both times
 unfoldable pub ProperTimed : TimedState → Type 0
 ProperTimed = timed .fits
+
+-- ── Internal: no promise cites what follows ──
+
+-- a state in which these times rule and none wait
+abbrev pub settled : Times → KeptState → TimedState
+settled ruling s = record { core = s .core; kept = s .kept; ruling = ruling; waiting = noneWaiting }
 
 -- a buffer of another length stays as it is
 unfoldable pub timedEncodedOver : TimedState → List ℕ → List ℕ

@@ -6,12 +6,12 @@ use mathlib.Core.List.{List, [], _∷_, _++_}
 use mathlib.Core.Path.{_≡_}
 use lib.ListN.{length, drop, replicate}
 use Rattle.rules.specs.declared.site.Times.{Times}
-use Rattle.rules.specs.declared.state.TimedState.{TimedState}
 use Rattle.rules.specs.Kept.{freshKept}
 use Rattle.rules.specs.Site.{noPhaseTimes, noWalkTimes}
 use Rattle.state_forms.specs.Forms.{AreBytes}
 use Rattle.state_bytes.specs.Layout.{encoded}
 use Rattle.state_timed.specs.TimedLayout.{timedEncoded, timedDecoded, isTimed, ProperTimed}
+use Rattle.rules.specs.Timed.{TimedState}
 
 -- ── From a state to bytes and back ──
 

@@ -1,24 +1,26 @@
 // The timed state as 336 bytes, for callers in C and Rust. The layout is in specs/TimedLayout.antt.
 ghost use mathlib.Core.Bool.{true};
 ghost use mathlib.Core.Path.{_≡_};
-ghost use lib.Dec.{eqb};
 ghost use lib.ListN.{length};
-ghost use Rattle.state_forms.specs.Forms.{flagCode};
-ghost use Rattle.state_timed.specs.TimedLayout.{timedBytes, isTimed, timedDecoded, timedEncodedOver};
+ghost use Rattle.rules.specs.TimedCall.{retimed};
+ghost use Rattle.state_timed.specs.TimedLayout.{settled, timedBytes, isTimed, timedDecoded, timedEncoded};
+use rules::site::Times;
 use rules::state::KeptState;
-use rules::state::TimedState;
-use rules::state::Waiting;
 
-const KEPT: usize = 0;
+// The places of the parts of a timed state in its bytes.
+pub const KEPT: usize = 0;
 
-const RULING: usize = 39;
+pub const RULING: usize = 39;
 
-const PRESENT: usize = 187;
+pub const PRESENT: usize = 187;
 
-const WAITING: usize = 188;
+pub const WAITING: usize = 188;
 
 // How many bytes a timed state has.
 pub const TIMED_BYTES: usize = 336;
+
+// The flag and the times of a state in which none wait.
+const NONE_WAITING: [u8; 149] = [0; 149];
 
 // Whether the bytes are a timed state. Times may have any value, and the flag 0 or 1.
 pub fn is_timed(bytes: &[u8]) -> bool
@@ -30,48 +32,21 @@ pub fn is_timed(bytes: &[u8]) -> bool
     state_bytes::known(bytes, KEPT) & (bytes[PRESENT] < 2)
 }
 
-// The timed state in these bytes.
-pub fn timed_decoded(bytes: &[u8]) -> TimedState
-    requires { ⌜ isTimed (now bytes) ≡ true ⌝ }
-    ensures { λ r. ⌜ r ≡ timedDecoded (now (bytes .entry)) ⌝ }
+// Writes a state in which these times rule and none wait.
+pub fn put_settled(bytes: &mut [u8], state: KeptState, ruling: Times)
+    requires { ⌜ length (now bytes) ≡ timedBytes ⌝ }
+    ensures { λ _. ⌜ now (bytes .exit) ≡ timedEncoded (settled ruling state) ⌝ }
 {
-    let state = state_bytes::read(bytes, KEPT);
-    let core = state.core;
-    TimedState {
-        core,
-        kept: state.kept,
-        ruling: state_times::read(bytes, RULING),
-        waiting: Waiting {
-            present: bytes[PRESENT] == 1,
-            times: state_times::read(bytes, WAITING),
-        },
-    }
-}
-
-fn flag_code(flag: bool) -> u8
-    ensures { λ r. ⌜ r ≡ flagCode flag ⌝ }
-{
-    if flag { 1 } else { 0 }
-}
-
-// Writes the state into a buffer of 336 bytes. If the buffer has another length, it stays as it is, and the answer is false.
-pub fn timed_encode(state: TimedState, bytes: &mut [u8]) -> bool
-    ensures { λ r. ⌜ (r ≡ eqb (length (now (bytes .entry))) timedBytes) × (now (bytes .exit) ≡ timedEncodedOver state (now (bytes .entry))) ⌝ }
-{
-    if bytes.len() != TIMED_BYTES {
-        return false;
-    }
-    let core = state.core;
-    let ruling = state.ruling;
-    let waiting = state.waiting;
-    let times = waiting.times;
-    let kept = KeptState {
-        core,
-        kept: state.kept,
-    };
-    state_bytes::put(bytes, KEPT, kept);
+    state_bytes::put(bytes, KEPT, state);
     state_times::put(bytes, RULING, ruling);
-    bytes[PRESENT] = flag_code(waiting.present);
+    state_forms::put_all(bytes, PRESENT, &NONE_WAITING);
+}
+
+// Makes these times wait in a state, in the place of any that waited.
+pub fn put_waiting(bytes: &mut [u8], times: Times)
+    requires { ⌜ isTimed (now bytes) ≡ true ⌝ }
+    ensures { λ _. ⌜ now (bytes .exit) ≡ timedEncoded (retimed (timedDecoded (now (bytes .entry))) times) ⌝ }
+{
+    bytes[PRESENT] = 1;
     state_times::put(bytes, WAITING, times);
-    true
 }

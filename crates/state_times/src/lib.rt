@@ -9,13 +9,21 @@ ghost use lib.Seq.{sets};
 ghost use Rattle.state_times.specs.TimesLayout.{times as timesForm};
 use rules::site::Times;
 
+// The places of the parts of times in their bytes.
 const START: usize = 0;
 
-const PHASES: usize = 2;
+pub const PHASES: usize = 2;
 
-const WALKS: usize = 86;
+pub const WALKS: usize = 86;
 
-const EARLIES: usize = 134;
+pub const EARLIES: usize = 134;
+
+// How many bytes a record of a phase has, one of a movement, and a kind 7 time.
+pub const PHASE: usize = 12;
+
+pub const WALK: usize = 6;
+
+pub const EARLY: usize = 2;
 
 // How many bytes times have.
 pub const TIMES_BYTES: usize = 148;

@@ -9,11 +9,9 @@ ghost use Rattle.laws.specs.Folds.{rowOf};
 ghost use Rattle.rules.specs.Site.{noPhaseTimes};
 ghost use Rattle.state_times.specs.TimesLayout.{phaseRows, phaseOf, phases as phasesForm, earlies};
 ghost use Rattle.state_times.specs.TimeRows.{earlyIn, phaseIn};
+use crate::EARLY;
+use crate::PHASE;
 use rules::site::PhaseTimes;
-
-const RECORD: usize = 12;
-
-const EARLY: usize = 2;
 
 pub fn read_one(bytes: &[u8], at: usize, early: u16) -> PhaseTimes
     requires { ⌜ at + phaseRows .form .width ≤ length (now bytes) ⌝ }
@@ -57,7 +55,7 @@ pub fn read(bytes: &[u8], at: usize, early: usize, present: bool, count: usize) 
     let mut records = [blank; 7];
     let mut p: usize = 0;
     while p < count {
-        records[p] = read_one(bytes, at + p * RECORD, early_in(bytes, early, present, p));
+        records[p] = read_one(bytes, at + p * PHASE, early_in(bytes, early, present, p));
         p += 1;
     }
     records
@@ -82,7 +80,7 @@ pub fn put(bytes: &mut [u8], at: usize, records: [PhaseTimes; 7])
     let mut p: usize = 0;
     while p < 7 {
         let own = records[p];
-        put_one(bytes, at + p * RECORD, own);
+        put_one(bytes, at + p * PHASE, own);
         p += 1;
     }
 }

@@ -7,9 +7,8 @@ ghost use Rattle.laws.specs.Folds.{rowOf};
 ghost use Rattle.rules.specs.Site.{noWalkTimes};
 ghost use Rattle.state_times.specs.TimeRows.{walkIn};
 ghost use Rattle.state_times.specs.TimesLayout.{walk, walks as walksForm};
+use crate::WALK;
 use rules::site::WalkTimes;
-
-const RECORD: usize = 6;
 
 pub fn read_one(bytes: &[u8], at: usize) -> WalkTimes
     requires { ⌜ at + walk .width ≤ length (now bytes) ⌝ }
@@ -35,7 +34,7 @@ pub fn read(bytes: &[u8], at: usize, count: usize) -> [WalkTimes; 8]
     let mut records = [blank; 8];
     let mut k: usize = 0;
     while k < count {
-        records[k] = read_one(bytes, at + k * RECORD);
+        records[k] = read_one(bytes, at + k * WALK);
         k += 1;
     }
     records
@@ -57,7 +56,7 @@ pub fn put(bytes: &mut [u8], at: usize, records: [WalkTimes; 8])
     let mut k: usize = 0;
     while k < 8 {
         let own = records[k];
-        put_one(bytes, at + k * RECORD, own);
+        put_one(bytes, at + k * WALK, own);
         k += 1;
     }
 }

@@ -20,7 +20,7 @@ use Rattle.rules.specs.Movements.{walkMayEnd, movementsAfter}
 use Rattle.rules.specs.Counts.{countsAfter}
 use Rattle.rules.specs.Interval.{ends, positionAfter, countsChanged, locksLeft, starts}
 use Rattle.rules.specs.Walks.{begins}
-use Rattle.rules.specs.Step.{steppedBy, steppedTo}
+use Rattle.rules.specs.Step.{steppedInto, steppedTo}
 use Rattle.rules.specs.Kept.{keptAfter, nextKept, gone, cleared, keptLeft, keptStepped}
 use Rattle.laws.proofs.Booleans.{and-false-left, or-false-both}
 use Rattle.laws.proofs.Folds.{any-none, any-same}
@@ -117,7 +117,7 @@ module _ (site : Site) (s : KeptState) (inputs : ℕ) where
         kept = kept;
       })
       (keptStepped site s inputs)
-  unfolding keptStepped keptLeft steppedTo steppedBy begunBy
+  unfolding keptStepped keptLeft steppedTo steppedInto begunBy
   whole-told {asked = asked} e1 e2 e3 e4 e5 e6 e7 e8 e9 e10 e11 e12 e13 =
       let after = steppedTo (nextKept site s inputs) site (s .core) inputs in
       rw (e13, e12, e11, e10, e9, e8, e7, e6, e5, e4, e3, e2 .next, e2 .extended, e2 .demands, e1)

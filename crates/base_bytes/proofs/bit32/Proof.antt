@@ -6,12 +6,6 @@ use Rattle.laws.proofs.Bits.{bit-above}
 use Rattle.base_bytes.proofs.bit32.Statement.{statement}
 use Rattle.base_bytes.proofs.bit32.Tie as tie
 
-cast-result : tie.Need-cast-result
-cast-result c = search needs
-
-shr-result : tie.Need-shr-result
-shr-result c = search needs
-
 returns : tie.Need-returns
 unfolding bit
 returns c = refl
@@ -20,4 +14,4 @@ returns-2 : tie.Need-returns-2
 returns-2 c = sym (bit-above (c .before .args .x) 32 (c .before .args .k) (c .before .fits .x .fits) (c .if1 .left))
 
 pub bit32-spec : {M : Type 1} → statement M
-bit32-spec = tie.close (tie.spec cast-result shr-result returns returns-2)
+bit32-spec = tie.close (tie.spec (λ c. search needs) (λ c. search needs) returns returns-2)

@@ -6,9 +6,6 @@ use Rattle.laws.proofs.Bits.{bit-above}
 use Rattle.base_bytes.proofs.bit8.Statement.{statement}
 use Rattle.base_bytes.proofs.bit8.Tie as tie
 
-shr-result : tie.Need-shr-result
-shr-result c = search needs
-
 returns : tie.Need-returns
 unfolding bit
 returns c = refl
@@ -17,4 +14,4 @@ returns-2 : tie.Need-returns-2
 returns-2 c = sym (bit-above (c .before .args .x) 8 (c .before .args .k) (c .before .fits .x .fits) (c .if1 .left))
 
 pub bit8-spec : {M : Type 1} → statement M
-bit8-spec = tie.close (tie.spec shr-result returns returns-2)
+bit8-spec = tie.close (tie.spec (λ c. search needs) returns returns-2)

@@ -6,9 +6,6 @@ use Rattle.laws.proofs.Bytes.{byte-past}
 use Rattle.base_bytes.proofs.byte_at.Statement.{statement}
 use Rattle.base_bytes.proofs.byte_at.Tie as tie
 
-shared-slice-read-result : tie.Need-shared-slice-read-result
-shared-slice-read-result c = search needs
-
 returns : tie.Need-returns
 unfolding byteAt
 returns c = refl
@@ -17,4 +14,4 @@ returns-2 : tie.Need-returns-2
 returns-2 c = sym (byte-past (c .before .args .s .now) (c .before .args .i) (c .if1 .left))
 
 pub byte-at-spec : {M : Type 1} → statement M
-byte-at-spec = tie.close (tie.spec shared-slice-read-result returns returns-2)
+byte-at-spec = tie.close (tie.spec (λ c. search needs) returns returns-2)

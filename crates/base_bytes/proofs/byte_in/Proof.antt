@@ -5,12 +5,9 @@ use Rattle.laws.specs.Bytes.{byteAt}
 use Rattle.base_bytes.proofs.byte_in.Statement.{statement}
 use Rattle.base_bytes.proofs.byte_in.Tie as tie
 
-shared-slice-read-result : tie.Need-shared-slice-read-result
-shared-slice-read-result c = search needs
-
 returns : tie.Need-returns
 unfolding byteAt
 returns c = refl
 
 pub byte-in-spec : {M : Type 1} → statement M
-byte-in-spec = tie.close (tie.spec shared-slice-read-result returns)
+byte-in-spec = tie.close (tie.spec (λ c. search needs) returns)

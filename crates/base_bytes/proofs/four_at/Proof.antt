@@ -6,18 +6,6 @@ use Rattle.laws.proofs.Bytes.{four-past}
 use Rattle.base_bytes.proofs.four_at.Statement.{statement}
 use Rattle.base_bytes.proofs.four_at.Tie as tie
 
-two-at-requires : tie.Need-two-at-requires
-two-at-requires c κs = search needs
-
-add-two-at : tie.Need-add-two-at
-add-two-at c = search needs
-
-two-at-requires-2 : tie.Need-two-at-requires-2
-two-at-requires-2 c κs = search needs
-
-quad-requires : tie.Need-quad-requires
-quad-requires c κs = search needs
-
 returns : tie.Need-returns
 unfolding fourAt
 returns c = simp (c .quad .ensures, c .before .two-at2 .ensures, c .before .before .two-at .ensures)
@@ -27,4 +15,4 @@ returns-2 c = sym (four-past (c .before .before .args .s .now) (c .before .befor
 
 pub four-at-spec : {M : Type 1} → statement M
 four-at-spec =
-    tie.close (tie.spec two-at-requires add-two-at two-at-requires-2 quad-requires returns returns-2)
+    tie.close (tie.spec (λ c κs. search needs) (λ c. search needs) (λ c κs. search needs) (λ c κs. search needs) returns returns-2)

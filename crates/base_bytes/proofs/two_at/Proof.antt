@@ -6,18 +6,6 @@ use Rattle.laws.proofs.Bytes.{two-past}
 use Rattle.base_bytes.proofs.two_at.Statement.{statement}
 use Rattle.base_bytes.proofs.two_at.Tie as tie
 
-shared-slice-read-pair : tie.Need-shared-slice-read-pair
-shared-slice-read-pair c = search needs
-
-add-byte-at : tie.Need-add-byte-at
-add-byte-at c = search needs
-
-byte-at-requires : tie.Need-byte-at-requires
-byte-at-requires c κs = search needs
-
-pair-requires : tie.Need-pair-requires
-pair-requires c κs = search needs
-
 returns : tie.Need-returns
 unfolding twoAt byteAt
 returns c = simp (c .pair .ensures, c .before .byte-at .ensures)
@@ -28,4 +16,4 @@ returns-2 c = sym (two-past (c .before .before .args .s .now) (c .before .before
 pub two-at-spec : {M : Type 1} → statement M
 two-at-spec =
     tie.close
-    (tie.spec shared-slice-read-pair add-byte-at byte-at-requires pair-requires returns returns-2)
+    (tie.spec (λ c. search needs) (λ c. search needs) (λ c κs. search needs) (λ c κs. search needs) returns returns-2)

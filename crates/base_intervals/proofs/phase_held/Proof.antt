@@ -7,9 +7,6 @@ use Rattle.base_intervals.proofs.phase_held.Tie as tie
 enum-told : tie.Need-enum-told
 enum-told c = search needs
 
-enum-known-h : tie.Need-enum-known-h
-enum-known-h c = search needs
-
 returns : tie.Need-returns
 unfolding phaseHeld
 returns c = rw (c .enum-told .given .1)
@@ -19,4 +16,4 @@ unfolding phaseHeld
 returns-2 c = rw (c .before .h .given .1)
 
 pub phase-held-spec : {M : Type 1} → statement M
-phase-held-spec = tie.close (tie.spec enum-told enum-known-h returns returns-2)
+phase-held-spec = tie.close (tie.spec enum-told (λ c. search needs) returns returns-2)

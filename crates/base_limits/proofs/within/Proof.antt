@@ -5,15 +5,6 @@ use Rattle.base_limits.proofs.Past.{table-length, past-the-table}
 use Rattle.base_limits.proofs.within.Statement.{statement}
 use Rattle.base_limits.proofs.within.Tie as tie
 
-limits-requires : tie.Need-limits-requires
-limits-requires c κs = search needs
-
-mul-range : tie.Need-mul-range
-mul-range c = search needs
-
-array-copy-out-range : tie.Need-array-copy-out-range
-array-copy-out-range c = search needs
-
 returns : tie.Need-returns
 unfolding within limitOf
 returns c = rw (c .before .before .before .before .limits .ensures)
@@ -24,4 +15,4 @@ returns-2 c =
     past-the-table (limits (a .edition)) (a .setting) (a .value) (rw (table-length (a .edition)) (c .if1 .left))
 
 pub within-spec : {M : Type 1} → statement M
-within-spec = tie.close (tie.spec limits-requires mul-range array-copy-out-range returns returns-2)
+within-spec = tie.close (tie.spec (λ c κs. search needs) (λ c. search needs) (λ c. search needs) returns returns-2)

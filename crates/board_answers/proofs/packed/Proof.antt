@@ -5,15 +5,9 @@ use borrow.Author.Needs.{needs}
 use Rattle.board_answers.proofs.packed.Statement.{statement}
 use Rattle.board_answers.proofs.packed.Tie as tie
 
-mul-result : tie.Need-mul-result
-mul-result c = search needs
-
-add-result : tie.Need-add-result
-add-result c = search needs
-
 returns : tie.Need-returns
 unfolding packed
 returns c = refl
 
 pub packed-spec : {M : Type 1} → statement M
-packed-spec = tie.close (tie.spec mul-result add-result returns)
+packed-spec = tie.close (tie.spec (λ c. search needs) (λ c. search needs) returns)

@@ -13,12 +13,6 @@ start c = c .before .before .before
 
 -- ── A refused personality ──
 
-read-with-layout-requires : tie.Need-read-with-layout-requires
-read-with-layout-requires c κs = search needs
-
-enum-known-verdict : tie.Need-enum-known-verdict
-enum-known-verdict c = search needs
-
 refusal-requires : tie.Need-refusal-requires
 refusal-requires c κs =
     let read = c .before .before .before .read-with-layout in
@@ -40,56 +34,37 @@ enum-told c = search needs
 accepted : (c : tie.After-enum-told) → verdictOf (start (c .before .before) .args .personality .now) ≡ Accepted
 accepted c = sym (c .before .before .read-with-layout .ensures .0) ∙ c .enum-told .given .1
 
-fresh-timed-requires : tie.Need-fresh-timed-requires
-fresh-timed-requires c κs =
-    let told = c .before in
-    (accepted told, told .before .before .read-with-layout .ensures .1)
-
-timed-encode-requires : tie.Need-timed-encode-requires
-timed-encode-requires c κs = search needs
-
-refusal-requires-2 : tie.Need-refusal-requires-2
-refusal-requires-2 c κs = search needs
-
-same-length : tie.Need-same-length
-same-length c = search needs
-
 returns-2 : tie.Need-returns-2
 returns-2 c =
-    let written = c .before .before .before in
-    let made = written .before .before in
-    let told = made .before .before in
+    let told = c .before .before in
     let a = start (told .before .before) .args in
-    begins (a .personality .now) (a .state .now) (accepted told) (made .fresh-timed .ensures) _ (written .timed-encode .ensures .1)
-    (sym (written .timed-encode .ensures .0) ∙ c .if1 .taken)
+    other-length (a .personality .now) (a .state .now) (accepted told) (c .refusal2 .result) (c .before .if1 .taken) (c .refusal2 .ensures)
 
-same-length-2 : tie.Need-same-length-2
-same-length-2 c = search needs
+put-fresh-requires : tie.Need-put-fresh-requires
+put-fresh-requires c κs =
+    let else = c .before .before in
+    let told = else .before in
+    (accepted told, told .before .before .read-with-layout .ensures .1, else .if1 .left)
 
 returns-3 : tie.Need-returns-3
 returns-3 c =
-    let written = c .before .before .before .before in
-    let made = written .before .before in
-    let told = made .before .before in
+    let written = c .before .before in
+    let else = written .before .before .before in
+    let told = else .before in
     let a = start (told .before .before) .args in
-    other-length (a .personality .now) (a .state .now) (accepted told) (made .fresh-timed .ensures) _ (written .timed-encode .ensures .1)
-    (c .refusal2 .result)
-    (sym (written .timed-encode .ensures .0) ∙ c .before .if1 .left)
-    (c .refusal2 .ensures)
+    begins (a .personality .now) (a .state .now) (accepted told) _ (else .if1 .left) (written .put-fresh .ensures)
 
 pub fresh-spec : {M : Type 1} → statement M
 fresh-spec =
     tie.close
     (tie.spec
-    read-with-layout-requires
-    enum-known-verdict
+    (λ c κs. search needs)
+    (λ c. search needs)
     refusal-requires
     returns
     enum-told
-    fresh-timed-requires
-    timed-encode-requires
-    refusal-requires-2
-    same-length
+    (λ c κs. search needs)
     returns-2
-    same-length-2
+    put-fresh-requires
+    (λ c. search needs)
     returns-3)

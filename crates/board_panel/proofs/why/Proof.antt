@@ -1,106 +1,61 @@
--- `board_panel::why` meets its contract: a refused personality, bytes that are no state, and the call on the decoded state.
+-- `board_panel::why` meets its contract, by what the checks leave to say.
 use borrow.Author.Needs.{needs}
-use mathlib.Core.Bool.{true}
-use mathlib.Core.Path.{_≡_, sym, _∙_}
-use borrow.Author.Tests.{not-true, not-false}
-use Rattle.rules.specs.declared.answer.Verdict.the-variants.{Accepted}
-use Rattle.rules.specs.Personality.{verdictOf}
-use Rattle.state_timed.specs.TimedLayout.{isTimed}
-use Rattle.board_answers.proofs.Answers.{refused-near}
-use Rattle.board_panel.proofs.PanelCalls.{why-refused, why-no-state, why-placed, why-told}
+use mathlib.Core.List.{[]}
+use mathlib.Core.Path.{_≡_, refl, subst}
+use native.Mathlib.Omega.{arith}
+use Rattle.board_panel.specs.declared.Explanation.{Explanation}
+use Rattle.board_panel.specs.Explains.{Explains}
+use Rattle.board_panel.proofs.PanelCalls.{why-refused, why-told, has-room}
 use Rattle.board_panel.proofs.why.Statement.{statement}
 use Rattle.board_panel.proofs.why.Tie as tie
 
-read-with-layout-requires : tie.Need-read-with-layout-requires
-read-with-layout-requires c κs = search needs
+abbrev entry : tie.After-explained → tie.Start
+entry c = c .before .before .before .before
 
-enum-known-verdict : tie.Need-enum-known-verdict
-enum-known-verdict c = search needs
+-- what was found, as a match knows it
+said : (c : tie.After-explained) {found : Explanation} → c .explained .result ≡ found → let a = entry c .args in Explains (a .personality .now) (a .state .now) (a .inputs) found
+said c e = let a = entry c .args in subst (Explains (a .personality .now) (a .state .now) (a .inputs)) e (c .explained .ensures)
 
 refusal-requires : tie.Need-refusal-requires
-refusal-requires c κs =
-    let read = c .before .before .before .read-with-layout in
-    refused-near _ (read .result .verdict) (read .ensures .0) (c .before .verdict .given .1)
+refusal-requires c κs = said (c .before .before .before) (c .before .found .given .1) .1
+
+put-in-requires : tie.Need-put-in-requires
+put-in-requires c κs = let read = c .before .before in said (read .before .before) (read .found2 .given .1) .2
 
 returns : tie.Need-returns
 returns c =
-    let asked = c .before .before .before .before in
-    let a = asked .before .before .before .before .args in
-    why-refused (a .personality .now) (a .state .now) (a .inputs) (c .refusal .result)
-    (sym (asked .read-with-layout .ensures .0) ∙ c .before .before .verdict .given .1)
-    (c .refusal .ensures) (a .line .now)
-
-enum-told : tie.Need-enum-told
-enum-told c = search needs
-
-abbrev start : tie.After-enum-told → tie.Start
-start c = c .before .before .before .before .before .before
-
-accepted : (c : tie.After-enum-told) → verdictOf (start c .args .personality .now) ≡ Accepted
-accepted c = sym (c .before .before .read-with-layout .ensures .0) ∙ c .enum-told .given .1
-
-is-timed-requires : tie.Need-is-timed-requires
-is-timed-requires c κs = search needs
-
-refusal-requires-2 : tie.Need-refusal-requires-2
-refusal-requires-2 c κs = search needs
+    let found = c .before .before .before .before in
+    let a = entry found .args in
+    why-refused (a .personality .now) (a .state .now) (a .inputs) (a .line .now) (said found (c .before .before .found .given .1) .0) (c .refusal .ensures)
 
 returns-2 : tie.Need-returns-2
 returns-2 c =
-    let tested = c .before .before in
-    let told = tested .before in
-    let a = start told .args in
-    why-no-state (a .personality .now) (a .state .now) (a .inputs) (c .refusal2 .result) (accepted told)
-    (sym (tested .is-timed .ensures) ∙ not-true (tested .is-timed .result) (c .before .if1 .taken))
-    (c .refusal2 .ensures) (a .line .now)
-
-abbrev told : tie.Else1 → tie.After-enum-told
-told c = c .before .before
-
-known : (c : tie.Else1) → isTimed (start (told c) .args .state .now) ≡ true
-known c = sym (c .before .is-timed .ensures) ∙ not-false (c .before .is-timed .result) (c .if1 .left)
-
-timed-decoded-requires : tie.Need-timed-decoded-requires
-timed-decoded-requires c κs = known (c .before)
-
-why-accepted-requires : tie.Need-why-accepted-requires
-why-accepted-requires c κs =
-    let read = told (c .before .before .before) in
-    (accepted read, read .before .before .read-with-layout .ensures .1)
-
-packed-line-requires : tie.Need-packed-line-requires
-packed-line-requires c κs =
-    let called = c .before .before in
-    let decoded = called .before .before in
-    let a = start (told (decoded .before .before)) .args in
-    why-placed (a .personality .now) (decoded .timed-decoded .result) (a .inputs) _ (called .why-accepted .ensures .0)
-
-same-length : tie.Need-same-length
-same-length c = search needs
+    let found = c .before .before .before in
+    let a = entry found .args in
+    why-told (a .personality .now) (a .state .now) (a .inputs) (a .line .now) [] (said found (c .before .enum-told .given .1))
+    (has-room [] (a .line .now) (omega arith) (c .packed .ensures) refl)
 
 returns-3 : tie.Need-returns-3
 returns-3 c =
-    let called = c .before .before .before in
-    let decoded = called .before .before in
-    let past = decoded .before .before in
-    let a = start (told past) .args in
-    why-told (a .personality .now) (a .state .now) (a .inputs) (c .packed-line .result) (known past) (decoded .timed-decoded .ensures)
-    (c .packed-line .ensures) (a .line .now) (called .why-accepted .ensures .0) (called .why-accepted .ensures .1)
+    let put = c .before .before in
+    let read = put .before .before .before in
+    let found = read .before .before in
+    let a = entry found .args in
+    let told = said found (read .found2 .given .1) in
+    why-told (a .personality .now) (a .state .now) (a .inputs) (a .line .now) _ (told .0, told .1) (put .put-in .ensures)
 
 pub why-spec : {M : Type 1} → statement M
 why-spec =
     tie.close
     (tie.spec
-    read-with-layout-requires
-    enum-known-verdict
+    (λ c κs. search needs)
+    (λ c. search needs)
     refusal-requires
+    (λ c. search needs)
+    (λ c κs. search needs)
+    (λ c. search needs)
+    put-in-requires
     returns
-    enum-told
-    is-timed-requires
-    refusal-requires-2
     returns-2
-    timed-decoded-requires
-    why-accepted-requires
-    packed-line-requires
-    same-length
+    (λ c. search needs)
     returns-3)

@@ -5,20 +5,8 @@ use Rattle.board_read.proofs.GroupsAnswers.{groups-told, groups-refused
 use Rattle.board_read.proofs.groups.Statement.{statement}
 use Rattle.board_read.proofs.groups.Tie as tie
 
-read-with-layout-requires : tie.Need-read-with-layout-requires
-read-with-layout-requires c κs = search needs
-
 enum-told : tie.Need-enum-told
 enum-told c = search needs
-
-cast-packed : tie.Need-cast-packed
-cast-packed c = search needs
-
-packed-requires : tie.Need-packed-requires
-packed-requires c κs = search needs
-
-enum-known-verdict : tie.Need-enum-known-verdict
-enum-known-verdict c = search needs
 
 refusal-requires : tie.Need-refusal-requires
 refusal-requires c κs =
@@ -40,11 +28,11 @@ pub groups-spec : {M : Type 1} → statement M
 groups-spec =
     tie.close
     (tie.spec
-    read-with-layout-requires
+    (λ c κs. search needs)
     enum-told
-    cast-packed
-    packed-requires
-    enum-known-verdict
+    (λ c. search needs)
+    (λ c κs. search needs)
+    (λ c. search needs)
     refusal-requires
     returns
     returns-2)

@@ -4,14 +4,8 @@ use borrow.Author.Needs.{needs}
 use Rattle.board_read.proofs.read.Statement.{statement}
 use Rattle.board_read.proofs.read.Tie as tie
 
-read-requires : tie.Need-read-requires
-read-requires c κs = search needs
-
 enum-told : tie.Need-enum-told
 enum-told c = search needs
-
-enum-known-verdict : tie.Need-enum-known-verdict
-enum-known-verdict c = search needs
 
 refusal-requires : tie.Need-refusal-requires
 refusal-requires c κs = let read = c .before .before .before .read in refused-near _ (read .result) (read .ensures) (c .before .verdict .given .1)
@@ -27,4 +21,4 @@ returns-2 c =
 pub read-spec : {M : Type 1} → statement M
 read-spec =
     tie.close
-    (tie.spec read-requires enum-told enum-known-verdict refusal-requires returns returns-2)
+    (tie.spec (λ c κs. search needs) enum-told (λ c. search needs) refusal-requires returns returns-2)

@@ -5,23 +5,8 @@ use borrow.Author.Needs.{needs}
 use Rattle.board_read.proofs.section.Statement.{statement}
 use Rattle.board_read.proofs.section.Tie as tie
 
-find-requires : tie.Need-find-requires
-find-requires c κs = search needs
-
 enum-told : tie.Need-enum-told
 enum-told c = search needs
-
-add-part : tie.Need-add-part
-add-part c = search needs
-
-two-at-requires : tie.Need-two-at-requires
-two-at-requires c κs = search needs
-
-part-requires : tie.Need-part-requires
-part-requires c κs = search needs
-
-enum-known-verdict : tie.Need-enum-known-verdict
-enum-known-verdict c = search needs
 
 refusal-requires : tie.Need-refusal-requires
 refusal-requires c κs =
@@ -44,12 +29,12 @@ pub section-spec : {M : Type 1} → statement M
 section-spec =
     tie.close
     (tie.spec
-    find-requires
+    (λ c κs. search needs)
     enum-told
-    add-part
-    two-at-requires
-    part-requires
-    enum-known-verdict
+    (λ c. search needs)
+    (λ c κs. search needs)
+    (λ c κs. search needs)
+    (λ c. search needs)
     refusal-requires
     returns
     returns-2)

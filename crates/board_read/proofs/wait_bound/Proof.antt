@@ -1,44 +1,53 @@
--- `board_read::wait_bound` meets its contract, by the two cases of the outcome.
-use Rattle.board_answers.proofs.Answers.{bound-near, outcome-stepped, outcome-declined}
+-- `board_read::wait_bound` meets its contract, by the two cases of the personality's verdict.
+use mathlib.Core.Path.{_≡_, sym, _∙_}
 use borrow.Author.Needs.{needs}
+use Rattle.rules.specs.declared.answer.Verdict.the-variants.{Accepted}
+use Rattle.rules.specs.Personality.{verdictOf}
+use Rattle.site_whole.proofs.Accepted.{accepted-fits}
+use Rattle.board_answers.proofs.Answers.{refused-near}
+use Rattle.board_read.proofs.BoundAnswers.{bound-refused, timing-sound, bound-given}
 use Rattle.board_read.proofs.wait_bound.Statement.{statement}
 use Rattle.board_read.proofs.wait_bound.Tie as tie
 
-wait-bound-requires : tie.Need-wait-bound-requires
-wait-bound-requires c κs = search needs
-
-enum-known-outcome : tie.Need-enum-known-outcome
-enum-known-outcome c = search needs
-
-packed-requires : tie.Need-packed-requires
-packed-requires c κs = search needs
-
-enum-known-outcome-2 : tie.Need-enum-known-outcome-2
-enum-known-outcome-2 c = search needs
-
 refusal-requires : tie.Need-refusal-requires
 refusal-requires c κs =
-    let bound = c .before .before .before .wait-bound in
-    bound-near _ (bound .result) (bound .ensures) (c .before .outcome2 .given .1)
+    let read = c .before .before .before .read-with-layout in
+    refused-near _ (read .result .verdict) (read .ensures .0) (c .before .verdict .given .1)
 
 returns : tie.Need-returns
 returns c =
-    let bound = c .before .before .before .before .wait-bound in
-    outcome-stepped (bound .result) _ _ (bound .ensures) (c .before .before .outcome .given .1) (c .packed .ensures)
+    let asked = c .before .before .before .before in
+    bound-refused _ (c .refusal .result) (sym (asked .read-with-layout .ensures .0) ∙ c .before .before .verdict .given .1) (c .refusal .ensures)
+
+-- past the refusal the personality is accepted
+accepted : (c : tie.After-enum-told) → verdictOf (c .before .before .before .before .args .personality .now) ≡ Accepted
+accepted c = sym (c .before .before .read-with-layout .ensures .0) ∙ c .enum-told .given .1
+
+timing-in-requires : tie.Need-timing-in-requires
+timing-in-requires c κs = accepted-fits (accepted (c .before)) (c .before .before .before .read-with-layout .ensures .1)
+
+wait-bound-by-requires : tie.Need-wait-bound-by-requires
+wait-bound-by-requires c κs =
+    let held = c .before .before .before in
+    timing-sound _ 0 (held .timing-in .result) (accepted (held .before .before)) (held .timing-in .ensures)
 
 returns-2 : tie.Need-returns-2
 returns-2 c =
-    let bound = c .before .before .before .before .wait-bound in
-    outcome-declined (bound .result) _ _ (bound .ensures) (c .before .before .outcome2 .given .1) (c .refusal .ensures)
+    let held = c .before .before .before .before .before in
+    bound-given _ (c .packed .result) (held .timing-in .result) (accepted (held .before .before)) (held .timing-in .ensures)
+    (c .before .wait-bound-by .ensures)
+    (c .packed .ensures)
 
 pub wait-bound-spec : {M : Type 1} → statement M
 wait-bound-spec =
     tie.close
     (tie.spec
-    wait-bound-requires
-    enum-known-outcome
-    packed-requires
-    enum-known-outcome-2
+    (λ c κs. search needs)
+    (λ c. search needs)
     refusal-requires
     returns
+    (λ c. search needs)
+    timing-in-requires
+    wait-bound-by-requires
+    (λ c κs. search needs)
     returns-2)

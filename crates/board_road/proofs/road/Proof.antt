@@ -18,12 +18,6 @@ use Rattle.board_road.proofs.road.Tie as tie
 
 -- ── A refused personality ──
 
-read-with-layout-requires : tie.Need-read-with-layout-requires
-read-with-layout-requires c κs = search needs
-
-enum-known-verdict : tie.Need-enum-known-verdict
-enum-known-verdict c = search needs
-
 refusal-requires : tie.Need-refusal-requires
 refusal-requires c κs =
     let read = c .before .before .before .read-with-layout in
@@ -67,9 +61,6 @@ tested c =
     let a = entry (c .before) .args in
     c .bad-streams .ensures ∙ ap (λ (s : Site). badStreams s (a .streams .now) (a .steps)) (c .before .site-of .ensures)
 
-refusal-requires-2 : tie.Need-refusal-requires-2
-refusal-requires-2 c κs = search needs
-
 returns-2 : tie.Need-returns-2
 returns-2 c =
     let test = c .before .before in
@@ -89,9 +80,6 @@ known :
     badStreams (siteOf (a .personality .now)) (a .streams .now) (a .steps) ≡ false
 known c = sym (tested (c .before)) ∙ c .if1 .left
 
-refusal-requires-3 : tie.Need-refusal-requires-3
-refusal-requires-3 c κs = search needs
-
 returns-3 : tie.Need-returns-3
 returns-3 c =
     let fine = c .before .before in
@@ -99,9 +87,6 @@ returns-3 c =
     declines (a .personality .now) (a .streams .now) (a .steps) (a .state .now) (a .results .now)
     (by-state _ _ _ _ _ (read (made fine)) (known fine) (c .before .if2 .taken))
     (c .refusal3 .ensures)
-
-refusal-requires-4 : tie.Need-refusal-requires-4
-refusal-requires-4 c κs = search needs
 
 returns-4 : tie.Need-returns-4
 returns-4 c =
@@ -123,56 +108,43 @@ startable c = record { read = read (made c); place = made c .site-of .ensures; k
 run-requires : tie.Need-run-requires
 run-requires c κs = record { b = _; start = startable (c .before .before .before); enough = c .before .if3 .left }
 
-with-own-times-requires : tie.Need-with-own-times-requires
-with-own-times-requires c κs = search needs
-
-timed-encode-requires : tie.Need-timed-encode-requires
-timed-encode-requires c κs = search needs
-
-same-length : tie.Need-same-length
-same-length c = search needs
-
-same-length-2 : tie.Need-same-length-2
-same-length-2 c = search needs
+put-settled-requires : tie.Need-put-settled-requires
+put-settled-requires c κs = c .before .before .before .before .before .before .before .if2 .left
 
 returns-5 : tie.Need-returns-5
 returns-5 c =
     let stored = c .before .before in
-    let timed = stored .before .before in
-    let ran = timed .before .before .before in
+    let ran = stored .before .before .before .before .before in
     let roomy = ran .before .before in
     let fine = roomy .before .before in
     let a = entry (made fine) .args in
     let whole = ran .run .ensures in
     goes-on (a .personality .now) (a .streams .now) (a .steps) (a .state .now) (a .results .now)
     (by-none _ _ _ _ _ (read (made fine)) (known fine) (roomy .before .if2 .left) (roomy .if3 .left))
-    (roomy .before .if2 .left)
     (made fine .site-of .ensures)
     (whole .state (a .personality .now) (startable fine))
-    (timed .with-own-times .ensures)
-    (stored .timed-encode .ensures .1)
+    (stored .put-settled .ensures)
     (whole .written (a .personality .now) (startable fine))
 
 pub road-spec : {M : Type 1} → statement M
 road-spec =
     tie.close
     (tie.spec
-    read-with-layout-requires
-    enum-known-verdict
+    (λ c κs. search needs)
+    (λ c. search needs)
     refusal-requires
     returns
     enum-told
     site-of-requires
     bad-streams-requires
-    refusal-requires-2
+    (λ c κs. search needs)
     returns-2
-    refusal-requires-3
+    (λ c κs. search needs)
     returns-3
-    refusal-requires-4
+    (λ c κs. search needs)
     returns-4
     run-requires
-    with-own-times-requires
-    timed-encode-requires
-    same-length
-    same-length-2
+    put-settled-requires
+    (λ c. search needs)
+    (λ c. search needs)
     returns-5)

@@ -10,15 +10,9 @@ use Rattle.board_seal.specs.SealCall.{recordVerdict}
 use Rattle.board_seal.proofs.record_verdict.Statement.{statement}
 use Rattle.board_seal.proofs.record_verdict.Tie as tie
 
-other-version-requires : tie.Need-other-version-requires
-other-version-requires c κs = search needs
-
 returns : tie.Need-returns
 unfolding recordVerdict _orElse_ refuseIf
 returns c = rw (sym (c .before .other-version .ensures) ∙ c .if1 .taken)
-
-damaged-requires : tie.Need-damaged-requires
-damaged-requires c κs = search needs
 
 -- what the tests that have passed tell
 version : (c : tie.Else1) → otherVersion (c .before .before .before .before .args .sealed .now) ≡ false
@@ -45,9 +39,6 @@ returns-3 c =
 
 state-in-requires : tie.Need-state-in-requires
 state-in-requires c κs = whole-length _ (whole (c .before .before))
-
-is-state-of-requires : tie.Need-is-state-of-requires
-is-state-of-requires c κs = search needs
 
 returns-4 : tie.Need-returns-4
 unfolding recordVerdict _orElse_ refuseIf
@@ -85,13 +76,13 @@ pub record-verdict-spec : {M : Type 1} → statement M
 record-verdict-spec =
     tie.close
     (tie.spec
-    other-version-requires
+    (λ c κs. search needs)
     returns
-    damaged-requires
+    (λ c κs. search needs)
     returns-2
     other-personality-requires
     returns-3
     state-in-requires
-    is-state-of-requires
+    (λ c κs. search needs)
     returns-4
     returns-5)

@@ -19,12 +19,6 @@ start c = c .before .before .before .before
 
 -- ── A refused personality ──
 
-read-with-layout-requires : tie.Need-read-with-layout-requires
-read-with-layout-requires c κs = search needs
-
-enum-known-verdict : tie.Need-enum-known-verdict
-enum-known-verdict c = search needs
-
 refusal-requires : tie.Need-refusal-requires
 refusal-requires c κs =
     let read = c .before .before .before .read-with-layout in
@@ -49,9 +43,6 @@ entry c = start (c .before .before)
 accepted : (c : tie.After-enum-told) → verdictOf (entry c .args .personality .now) ≡ Accepted
 accepted c = sym (c .before .before .read-with-layout .ensures .0) ∙ c .enum-told .given .1
 
-refusal-requires-2 : tie.Need-refusal-requires-2
-refusal-requires-2 c κs = search needs
-
 returns-2 : tie.Need-returns-2
 returns-2 c =
     let told = c .before .before in
@@ -66,9 +57,6 @@ record-verdict-requires : tie.Need-record-verdict-requires
 record-verdict-requires c κs =
     let told = c .before .before in
     (accepted told, told .before .before .read-with-layout .ensures .1)
-
-enum-told-2 : tie.Need-enum-told-2
-enum-told-2 c = search needs
 
 abbrev fits : tie.After-record-verdict → tie.Else1
 fits c = c .before .before
@@ -92,9 +80,6 @@ put-all-requires c κs =
     let asked = told .before .before in
     rw (c .state-in .ensures) (omega (arith, state-length (begin asked .args .sealed .now) (long told), fits asked .if1 .left))
 
-enum-known-checked : tie.Need-enum-known-checked
-enum-known-checked c = search needs
-
 refusal-requires-3 : tie.Need-refusal-requires-3
 refusal-requires-3 c κs =
     let checked = c .before in
@@ -102,9 +87,6 @@ refusal-requires-3 c κs =
     let a = begin asked .args in
     let refused = sym (asked .record-verdict .ensures) ∙ checked .checked .given .1 in
     omega (arith, record-place (a .personality .now) (a .sealed .now) refused)
-
-same-length : tie.Need-same-length
-same-length c = search needs
 
 returns-3 : tie.Need-returns-3
 returns-3 c =
@@ -132,19 +114,19 @@ pub resume-spec : {M : Type 1} → statement M
 resume-spec =
     tie.close
     (tie.spec
-    read-with-layout-requires
-    enum-known-verdict
+    (λ c κs. search needs)
+    (λ c. search needs)
     refusal-requires
     returns
     enum-told
-    refusal-requires-2
+    (λ c κs. search needs)
     returns-2
     record-verdict-requires
-    enum-told-2
+    (λ c. search needs)
     state-in-requires
     put-all-requires
-    enum-known-checked
+    (λ c. search needs)
     refusal-requires-3
-    same-length
+    (λ c. search needs)
     returns-3
     returns-4)

@@ -7,8 +7,8 @@ use Rattle.rules.specs.declared.answer.Verdict.the-variants.{Accepted}
 use Rattle.rules.specs.Personality.{verdictOf}
 use Rattle.rules.specs.Laws.{AcceptedIsShort}
 use Rattle.proof_acceptance.proofs.Refusals.{accepted-is-short}
+use Rattle.state_valid.specs.StateOf.{isStateOf}
 use Rattle.board_answers.proofs.Answers.{refused-near}
-use Rattle.board_seal.specs.SealCall.{isStateOf}
 use Rattle.board_seal.proofs.SealCalls.{state-long, not-sealed, no-state, no-room, seals}
 use Rattle.board_seal.proofs.seal.Statement.{statement}
 use Rattle.board_seal.proofs.seal.Tie as tie
@@ -17,12 +17,6 @@ abbrev start : tie.After-read-with-layout → tie.Start
 start c = c .before .before .before .before
 
 -- ── A refused personality ──
-
-read-with-layout-requires : tie.Need-read-with-layout-requires
-read-with-layout-requires c κs = search needs
-
-enum-known-verdict : tie.Need-enum-known-verdict
-enum-known-verdict c = search needs
 
 refusal-requires : tie.Need-refusal-requires
 refusal-requires c κs =
@@ -51,9 +45,6 @@ accepted c = sym (c .before .before .read-with-layout .ensures .0) ∙ c .enum-t
 is-state-of-requires : tie.Need-is-state-of-requires
 is-state-of-requires c κs = let told = c .before in (accepted told, told .before .before .read-with-layout .ensures .1)
 
-refusal-requires-2 : tie.Need-refusal-requires-2
-refusal-requires-2 c κs = search needs
-
 returns-2 : tie.Need-returns-2
 returns-2 c =
     let tested = c .before .before in
@@ -70,9 +61,6 @@ told c = c .before .before .before
 
 valid : (c : tie.Else1) → isStateOf (entry (told c) .args .personality .now) (entry (told c) .args .state .now) ≡ true
 valid c = sym (c .before .is-state-of .ensures) ∙ not-false (c .before .is-state-of .result) (c .if1 .left)
-
-refusal-requires-3 : tie.Need-refusal-requires-3
-refusal-requires-3 c κs = search needs
 
 returns-3 : tie.Need-returns-3
 returns-3 c =
@@ -94,9 +82,6 @@ write-sealed-requires c κs =
       c .before .if2 .left,
     )
 
-same-length : tie.Need-same-length
-same-length c = search needs
-
 returns-4 : tie.Need-returns-4
 returns-4 c =
     let written = c .before .before in
@@ -111,16 +96,16 @@ pub seal-spec : {M : Type 1} → statement M
 seal-spec =
     tie.close
     (tie.spec
-    read-with-layout-requires
-    enum-known-verdict
+    (λ c κs. search needs)
+    (λ c. search needs)
     refusal-requires
     returns
     enum-told
     is-state-of-requires
-    refusal-requires-2
+    (λ c κs. search needs)
     returns-2
-    refusal-requires-3
+    (λ c κs. search needs)
     returns-3
     write-sealed-requires
-    same-length
+    (λ c. search needs)
     returns-4)

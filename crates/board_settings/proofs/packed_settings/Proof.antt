@@ -21,30 +21,6 @@ packed-refused : (a b : Answer) (r : ℕ) {number place : ℕ} → a ≡ b → a
 unfolding packedSettings settingsReportOf minimumOf passageOf
 packed-refused a b r e f p = rw (sym e ∙ f, p) (simp add-zero)
 
-settings-requires : tie.Need-settings-requires
-settings-requires c κs = search needs
-
-enum-known-answer : tie.Need-enum-known-answer
-enum-known-answer c = search needs
-
-cast-packed : tie.Need-cast-packed
-cast-packed c = search needs
-
-cast-packed-2 : tie.Need-cast-packed-2
-cast-packed-2 c = search needs
-
-mul-packed : tie.Need-mul-packed
-mul-packed c = search needs
-
-add-packed : tie.Need-add-packed
-add-packed c = search needs
-
-packed-requires : tie.Need-packed-requires
-packed-requires c κs = search needs
-
-enum-known-answer-2 : tie.Need-enum-known-answer-2
-enum-known-answer-2 c = search needs
-
 refusal-requires : tie.Need-refusal-requires
 refusal-requires c κs =
     let z = refused-place (c .before .before .before .settings .ensures .1) (c .before .answer2 .given .1) in omega arith
@@ -63,14 +39,14 @@ pub packed-settings-spec : {M : Type 1} → statement M
 packed-settings-spec =
     tie.close
     (tie.spec
-    settings-requires
-    enum-known-answer
-    cast-packed
-    cast-packed-2
-    mul-packed
-    add-packed
-    packed-requires
-    enum-known-answer-2
+    (λ c κs. search needs)
+    (λ c. search needs)
+    (λ c. search needs)
+    (λ c. search needs)
+    (λ c. search needs)
+    (λ c. search needs)
+    (λ c κs. search needs)
+    (λ c. search needs)
     refusal-requires
     returns
     returns-2)

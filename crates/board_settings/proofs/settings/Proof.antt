@@ -5,22 +5,13 @@ use Rattle.board_settings.specs.SettingsCall.{settingsAnswer}
 use Rattle.board_settings.proofs.settings.Statement.{statement}
 use Rattle.board_settings.proofs.settings.Tie as tie
 
-packed-settings-requires : tie.Need-packed-settings-requires
-packed-settings-requires c κs = search needs
-
 returns : tie.Need-returns
 unfolding settingsAnswer
 returns c = rw (c .before .if1 .taken) (c .packed-settings .ensures)
 
-packed-settings-requires-2 : tie.Need-packed-settings-requires-2
-packed-settings-requires-2 c κs = search needs
-
 returns-2 : tie.Need-returns-2
 unfolding settingsAnswer
 returns-2 c = rw (c .before .if2 .taken) (c .packed-settings2 .ensures)
-
-refusal-requires : tie.Need-refusal-requires
-refusal-requires c κs = search needs
 
 returns-3 : tie.Need-returns-3
 unfolding settingsAnswer
@@ -32,9 +23,9 @@ pub settings-spec : {M : Type 1} → statement M
 settings-spec =
     tie.close
     (tie.spec
-    packed-settings-requires
+    (λ c κs. search needs)
     returns
-    packed-settings-requires-2
+    (λ c κs. search needs)
     returns-2
-    refusal-requires
+    (λ c κs. search needs)
     returns-3)

@@ -1,27 +1,38 @@
--- `board_step::step` meets its contract: a refused personality, bytes that are no state, a state in which no times wait, a refused step and a
--- step.
-use mathlib.Core.Bool.{true}
-use mathlib.Core.Path.{_≡_, sym, _∙_}
+-- `board_step::step` meets its contract, check by check: a refused personality, bytes that are no valid state, a stray input, a short buffer, and
+-- a step, in which waiting times take over or not.
+use Prim.Native.Nat.{ℕ, _≤_}
+use mathlib.Core.Bool.{true, false}
+use mathlib.Core.Path.{_≡_, refl, sym, ap, subst, _∙_}
 use native.Mathlib.Omega.{arith}
+use lib.ListN.{length}
 use borrow.Author.Needs.{needs}
-use borrow.Author.Tests.{not-true, not-false}
+use borrow.Author.Tests.{not-true, not-false, lt-ltb, le-ltb}
 use Rattle.rules.specs.declared.answer.Verdict.the-variants.{Accepted}
+use Rattle.rules.specs.declared.site.Site.{Site}
 use Rattle.laws.specs.Bytes.{byteAt}
 use Rattle.rules.specs.Personality.{verdictOf}
-use Rattle.state_timed.specs.TimedLayout.{isTimed}
-use Rattle.state_timed.proofs.TimedLaws.{timed-known}
+use Rattle.rules.specs.Site.{siteOf}
+use Rattle.rules.specs.Timed.{keptOf}
+use Rattle.rules.specs.Call.{wired, strayInput}
+use Rattle.site_whole.proofs.Accepted.{accepted-fits}
+use Rattle.state_forms.specs.Forms.{AreBytes}
+use Rattle.state_timed.specs.TimedLayout.{isTimed, timedDecoded}
+use Rattle.state_timed.proofs.TimedLaws.{TimedKnown, timed-known}
+use Rattle.state_timed.proofs.TimedWritten.{kept-written}
+use Rattle.state_valid.specs.StateOf.{isStateOf}
+use Rattle.state_valid.specs.Decoded.{Decoded}
+use Rattle.state_valid.proofs.StateTimes.{no-state as none, valid-site, valid-state}
 use Rattle.board_answers.proofs.Answers.{refused-near}
-use Rattle.board_step.proofs.Steps.{refuses, no-state, answer-near, steps-on, stays}
+use Rattle.board_step.specs.Accepted.{Stepping, takesOverIn, ruledIn}
+use Rattle.board_step.proofs.Steps.{site-sound, kept-valid, stayed, steps as made, same-shown}
+use Rattle.board_step.proofs.StepCalls.{refused, no-state, stepping, stray, no-room, steps}
 use Rattle.board_step.proofs.step.Statement.{statement}
 use Rattle.board_step.proofs.step.Tie as tie
 
+abbrev start : tie.After-read-with-layout → tie.Start
+start c = c .before .before .before .before
+
 -- ── A refused personality ──
-
-read-with-layout-requires : tie.Need-read-with-layout-requires
-read-with-layout-requires c κs = search needs
-
-enum-known-verdict : tie.Need-enum-known-verdict
-enum-known-verdict c = search needs
 
 refusal-requires : tie.Need-refusal-requires
 refusal-requires c κs =
@@ -31,167 +42,260 @@ refusal-requires c κs =
 returns : tie.Need-returns
 returns c =
     let asked = c .before .before .before .before in
-    let a = asked .before .before .before .before .args in
-    refuses (a .personality .now) (a .state .now) (a .colours .now) (a .inputs) (c .refusal .result) (asked .read-with-layout .result .verdict)
-    (asked .read-with-layout .ensures .0)
-    (c .before .before .verdict .given .1)
+    let a = start asked .args in
+    refused (a .personality .now) (a .state .now) (a .inputs) (a .colours .now) (c .refusal .result)
+    (sym (asked .read-with-layout .ensures .0) ∙ c .before .before .verdict .given .1)
     (c .refusal .ensures)
 
 -- ── An accepted one, and bytes that are no state ──
 
-enum-told : tie.Need-enum-told
-enum-told c = search needs
+abbrev entry : tie.After-enum-told → tie.Start
+entry c = start (c .before .before)
 
-abbrev start : tie.After-enum-told → tie.Start
-start c = c .before .before .before .before .before .before
-
-accepted : (c : tie.After-enum-told) → verdictOf (start c .args .personality .now) ≡ Accepted
+accepted : (c : tie.After-enum-told) → verdictOf (entry c .args .personality .now) ≡ Accepted
 accepted c = sym (c .before .before .read-with-layout .ensures .0) ∙ c .enum-told .given .1
 
-is-timed-requires : tie.Need-is-timed-requires
-is-timed-requires c κs = search needs
-
-refusal-requires-2 : tie.Need-refusal-requires-2
-refusal-requires-2 c κs = search needs
-
-same-length : tie.Need-same-length
-same-length c = search needs
+abbrev told : tie.After-is-timed → tie.After-enum-told
+told c = c .before .before .before
 
 returns-2 : tie.Need-returns-2
 returns-2 c =
-    let tested = c .before .before in
-    let told = tested .before .before in
-    let a = start told .args in
-    no-state (a .personality .now) (a .state .now) (a .colours .now) (a .inputs) (c .refusal2 .result) (accepted told)
-    (sym (tested .is-timed .ensures) ∙ not-true (tested .is-timed .result) (c .before .if1 .taken))
+    let asked = c .before .before in
+    let a = entry (told asked) .args in
+    no-state (a .personality .now) (a .state .now) (a .inputs) (a .colours .now) (accepted (told asked)) (c .refusal2 .result)
+    (sym (none (a .personality .now) (a .state .now) (sym (asked .is-timed .ensures) ∙ not-true (asked .is-timed .result) (c .before .if1 .taken))))
     (c .refusal2 .ensures)
 
--- ── A state ──
+-- ── Bytes that are a state, but not a valid one ──
 
-abbrev told : tie.Else1 → tie.After-enum-told
-told c = c .before .before .before
+abbrev first : tie.Else1 → tie.Start
+first c = entry (told (c .before))
 
-known : (c : tie.Else1) → isTimed (start (told c) .args .state .now) ≡ true
+known : (c : tie.Else1) → isTimed (first c .args .state .now) ≡ true
 known c = sym (c .before .is-timed .ensures) ∙ not-false (c .before .is-timed .result) (c .if1 .left)
 
--- ── No times wait ──
+sizes : (c : tie.Else1) → TimedKnown (first c .args .state .now)
+sizes c = timed-known (first c .args .state .now) (known c)
 
-slice-read-if2 : tie.Need-slice-read-if2
-slice-read-if2 c = omega (arith, timed-known _ (known (c .before .before)) .size)
+site-in-requires : tie.Need-site-in-requires
+site-in-requires c κs =
+    let here = c .before in
+    let entered = told (here .before) in
+    (accepted-fits (accepted entered) (entered .before .before .read-with-layout .ensures .1), omega (arith, sizes here .size))
 
-step-requires : tie.Need-step-requires
-unfolding byteAt
-step-requires c κs =
-    let here = c .before .before in
-    let left = here .before .before .before in
-    let read = told left in
-    (accepted read, read .before .before .read-with-layout .ensures .1, known left, here .if2 .taken)
+read-requires : tie.Need-read-requires
+read-requires c κs =
+    let here = c .before .before .before in
+    (omega (arith, sizes here .size), sizes here .kept-known)
 
-same-length-2 : tie.Need-same-length-2
-same-length-2 c = search needs
+abbrev timed : tie.After-read → tie.Else1
+timed c = c .before .before .before .before
 
-same-length-3 : tie.Need-same-length-3
-same-length-3 c = search needs
+decoded :
+    (c : tie.After-read) →
+    let a = first (timed c) .args in Decoded (a .personality .now) (a .state .now) (c .before .before .site-in .result) (c .read .result)
+decoded c = record { known = known (timed c); under-times = c .before .before .site-in .ensures; rest = c .read .ensures }
+
+valid-requires : tie.Need-valid-requires
+valid-requires c κs =
+    let here = c .before in
+    let entered = told (timed here .before) in
+    (accepted entered, entered .before .before .read-with-layout .ensures .1, decoded here)
 
 returns-3 : tie.Need-returns-3
-returns-3 c = c .before .before .before .before .step .ensures
+returns-3 c =
+    let asked = c .before .before in
+    let entered = told (timed (asked .before .before) .before) in
+    let a = entry entered .args in
+    no-state (a .personality .now) (a .state .now) (a .inputs) (a .colours .now) (accepted entered) (c .refusal3 .result)
+    (sym (asked .valid .ensures) ∙ not-true (asked .valid .result) (c .before .if2 .taken))
+    (c .refusal3 .ensures)
 
--- ── Times wait: the step, refused or not ──
+-- ── A valid state ──
 
-timed-decoded-requires : tie.Need-timed-decoded-requires
-timed-decoded-requires c κs = known (c .before .before .before .before)
+abbrev held : tie.Else2 → tie.After-read
+held c = c .before .before .before
 
-step-accepted-requires : tie.Need-step-accepted-requires
-step-accepted-requires c κs =
-    let read = told (c .before .before .before .before .before .before) in
-    (accepted read, read .before .before .read-with-layout .ensures .1)
+abbrev arrived : tie.Else2 → tie.After-enum-told
+arrived c = told (timed (held c) .before)
 
-enum-known-outcome : tie.Need-enum-known-outcome
-enum-known-outcome c = search needs
+valid : (c : tie.Else2) → let a = entry (arrived c) .args in isStateOf (a .personality .now) (a .state .now) ≡ true
+valid c = sym (c .before .valid .ensures) ∙ not-false (c .before .valid .result) (c .if2 .left)
 
-timed-encode-requires : tie.Need-timed-encode-requires
-timed-encode-requires c κs = search needs
+abbrev site : tie.Else2 → Site
+site c = held c .before .before .site-in .result
 
-packed-requires : tie.Need-packed-requires
-packed-requires c κs = search needs
+ruled : (c : tie.Else2) → let a = entry (arrived c) .args in site c ≡ ruledIn (a .personality .now) (a .state .now)
+ruled c =
+    let a = entry (arrived c) .args in
+    valid-site (a .personality .now) (a .state .now) (accepted (arrived c)) (decoded (held c)) (valid c)
 
-enum-known-outcome-2 : tie.Need-enum-known-outcome-2
-enum-known-outcome-2 c = search needs
+kept : (c : tie.Else2) → held c .read .result ≡ keptOf (timedDecoded (entry (arrived c) .args .state .now))
+kept c =
+    let a = entry (arrived c) .args in
+    valid-state (a .personality .now) (a .state .now) (accepted (arrived c)) (decoded (held c))
 
--- where the state's bytes are known, from the step on
-abbrev past : tie.After-step-accepted → tie.Else1
-past c = c .before .before .before .before .before .before .before
+ready : (c : tie.Else2) → Stepping (site c) (held c .read .result) (entry (arrived c) .args .state .now)
+ready c =
+    let a = entry (arrived c) .args in
+    stepping (a .personality .now) (a .state .now) (a .inputs) (a .colours .now) (accepted (arrived c)) (valid c) (ruled c) (kept c)
 
-refusal-requires-3 : tie.Need-refusal-requires-3
-refusal-requires-3 c κs =
-    let called = c .before .before .before .before .before in
-    let a = start (told (past called)) .args in
-    answer-near (a .personality .now) (called .before .before .timed-decoded .result) (a .inputs) (a .colours .now) (called .step-accepted .result) _
-    (called .step-accepted .ensures)
-    (c .before .outcome2 .given .1)
+stray-input-requires : tie.Need-stray-input-requires
+stray-input-requires c κs = site-sound (site c) (held c .read .result) (entry (arrived c) .args .state .now) (ready c)
 
-same-length-4 : tie.Need-same-length-4
-same-length-4 c = search needs
-
-same-length-5 : tie.Need-same-length-5
-same-length-5 c = search needs
+-- the inputs of the site and of the one under the ruling times are the same
+tested :
+    (c : tie.After-stray-input) →
+    let a = entry (arrived (c .before)) .args in c .stray-input .result ≡ strayInput (siteOf (a .personality .now)) (a .inputs)
+unfolding strayInput wired
+tested c =
+    c .stray-input .ensures ∙ ap (λ (x : Site). strayInput x (entry (arrived (c .before)) .args .inputs)) (ruled (c .before))
 
 returns-4 : tie.Need-returns-4
 returns-4 c =
-    let moved = c .before .before .before .before .before .before in
-    let called = moved .before .before .before .before in
-    let a = start (told (past called)) .args in
-    steps-on (a .personality .now) (a .state .now) (a .colours .now) (a .inputs) (c .packed .result) (known (past called))
-    (called .before .before .timed-decoded .ensures)
-    (called .step-accepted .ensures) _
-    (moved .outcome .given .1)
-    (c .before .before .before .timed-encode .ensures .1)
-    (c .packed .ensures)
+    let asked = c .before .before in
+    let here = asked .before in
+    let a = entry (arrived here) .args in
+    stray (a .personality .now) (a .state .now) (a .inputs) (a .colours .now) (accepted (arrived here)) (valid here) (c .refusal4 .result)
+    (sym (tested asked) ∙ c .before .if3 .taken)
+    (c .refusal4 .ensures)
 
-same-length-6 : tie.Need-same-length-6
-same-length-6 c = search needs
+-- ── Inputs that the site has ──
 
-same-length-7 : tie.Need-same-length-7
-same-length-7 c = search needs
+abbrev here : tie.After-struct-known → tie.Else2
+here c = c .before .before .before
+
+only : (c : tie.After-struct-known) → let a = entry (arrived (here c)) .args in strayInput (siteOf (a .personality .now)) (a .inputs) ≡ false
+only c = sym (tested (c .before .before)) ∙ c .before .if3 .left
+
+groups : (c : tie.After-struct-known) → site (here c) .size .groups ≡ siteOf (entry (arrived (here c)) .args .personality .now) .size .groups
+groups c = ap (λ (x : Site). x .size .groups) (ruled (here c))
 
 returns-5 : tie.Need-returns-5
 returns-5 c =
-    let called = c .before .before .before .before .before .before in
-    let a = start (told (past called)) .args in
-    stays (a .personality .now) (a .state .now) (a .colours .now) (a .inputs) (c .refusal3 .result) (known (past called))
-    (called .before .before .timed-decoded .ensures)
-    (called .step-accepted .ensures)
-    (c .before .before .outcome2 .given .1)
-    (c .refusal3 .ensures)
+    let sized = c .before .before in
+    let a = entry (arrived (here sized)) .args in
+    no-room (a .personality .now) (a .state .now) (a .inputs) (a .colours .now) (accepted (arrived (here sized))) (valid (here sized)) (only sized)
+    (c .refusal5 .result)
+    (lt-ltb (length (a .colours .now)) _ (rw (groups sized) at (c .before .if4 .taken)))
+    (c .refusal5 .ensures)
+
+-- ── A step ──
+
+room : (c : tie.Else4) → let a = entry (arrived (here (c .before))) .args in siteOf (a .personality .now) .size .groups ≤ length (a .colours .now)
+room c = subst (λ (n : ℕ). n ≤ length (entry (arrived (here (c .before))) .args .colours .now)) (groups (c .before)) (c .if4 .left)
+
+takes-over-requires : tie.Need-takes-over-requires
+takes-over-requires c κs = ready (here (c .before .before))
+
+abbrev roomy : tie.After-takes-over → tie.Else4
+roomy c = c .before .before
+
+change-requires : tie.Need-change-requires
+change-requires c κs =
+    let then = c .before .before in
+    let else = roomy (then .before) in
+    let now = here (else .before) in
+    let a = entry (arrived now) .args in
+    record {
+      accepted = accepted (arrived now);
+      laid = arrived now .before .before .read-with-layout .ensures .1;
+      valid = valid now;
+      kept = kept now;
+      over = ap (λ (x : Site). takesOverIn x (a .state .now)) (sym (ruled now)) ∙ sym (then .before .takes-over .ensures) ∙ then .if5 .taken;
+      enough = room else;
+    }
+
+returns-6 : tie.Need-returns-6
+returns-6 c =
+    let changed = c .before .before .before .before in
+    let else = roomy (changed .before .before .before .before) in
+    let sized = else .before in
+    let a = entry (arrived (here sized)) .args in
+    steps (a .personality .now) (a .state .now) (a .inputs) (a .colours .now) (accepted (arrived (here sized))) (valid (here sized)) (only sized)
+    (le-ltb (length (a .colours .now)) _ (room else))
+    refl
+    (changed .change .ensures)
+
+kept-stepped-requires : tie.Need-kept-stepped-requires
+kept-stepped-requires c κs =
+    let now = here (roomy (c .before) .before) in
+    let old = entry (arrived now) .args .state .now in
+    (site-sound (site now) (held now .read .result) old (ready now), kept-valid (site now) (held now .read .result) old (ready now))
+
+put-requires : tie.Need-put-requires
+put-requires c κs =
+    let now = here (roomy (c .before .before .before) .before) in
+    omega (arith, sizes (timed (held now)) .size)
+
+shown-requires : tie.Need-shown-requires
+shown-requires c κs =
+    let else = roomy (c .before .before .before .before .before .before .before) in
+    let now = here (else .before) in
+    (site-sound (site now) (held now .read .result) (entry (arrived now) .args .state .now) (ready now), else .if4 .left)
+
+bytes : (c : tie.After-read-with-layout) → AreBytes (start c .args .state .now)
+unfolding byteAt
+bytes c = record { each = λ i. omega (arith, c .before .before .slice-known .given i) }
+
+returns-7 : tie.Need-returns-7
+returns-7 c =
+    let shown = c .before .before in
+    let put = shown .before .before .before .before in
+    let stepped = put .before .before in
+    let stays = stepped .before in
+    let else = roomy (stays .before) in
+    let sized = else .before in
+    let now = here sized in
+    let a = entry (arrived now) .args in
+    let s = timedDecoded (a .state .now) in
+    let before = held now .read .result in
+    let next = stepped .kept-stepped .result in
+    steps (a .personality .now) (a .state .now) (a .inputs) (a .colours .now) (accepted (arrived now)) (valid now) (only sized)
+    (le-ltb (length (a .colours .now)) _ (room else))
+    (ruled now)
+    (made (site now) before (a .state .now) (ready now) (a .inputs) (a .colours .now)
+    (record { core = next .core; kept = next .kept; ruling = s .ruling; waiting = s .waiting })
+    (stayed (site now) before (a .state .now) (ready now) (a .inputs) next (sym (stays .before .takes-over .ensures) ∙ stays .if5 .left)
+    (stepped .kept-stepped .ensures))
+    (put .put .ensures ∙ kept-written (a .state .now) (bytes (arrived now .before .before)) (known (timed (held now))) next)
+    (same-shown (site now) before (a .state .now) (ready now) (a .colours .now) (next .core) (shown .shown .ensures)))
 
 pub step-spec : {M : Type 1} → statement M
 step-spec =
     tie.close
     (tie.spec
-    read-with-layout-requires
-    enum-known-verdict
+    (λ c κs. search needs)
+    (λ c. search needs)
     refusal-requires
     returns
-    enum-told
-    is-timed-requires
-    refusal-requires-2
-    same-length
+    (λ c. search needs)
+    (λ c κs. search needs)
+    (λ c κs. search needs)
+    (λ c. search needs)
     returns-2
-    slice-read-if2
-    step-requires
-    same-length-2
-    same-length-3
+    site-in-requires
+    read-requires
+    valid-requires
+    (λ c κs. search needs)
+    (λ c. search needs)
     returns-3
-    timed-decoded-requires
-    step-accepted-requires
-    enum-known-outcome
-    timed-encode-requires
-    packed-requires
-    enum-known-outcome-2
-    refusal-requires-3
-    same-length-4
-    same-length-5
+    stray-input-requires
+    (λ c κs. search needs)
+    (λ c. search needs)
     returns-4
-    same-length-6
-    same-length-7
-    returns-5)
+    (λ c. search needs)
+    (λ c κs. search needs)
+    (λ c. search needs)
+    returns-5
+    takes-over-requires
+    change-requires
+    (λ c. search needs)
+    (λ c. search needs)
+    returns-6
+    kept-stepped-requires
+    put-requires
+    shown-requires
+    (λ c. search needs)
+    (λ c. search needs)
+    returns-7)

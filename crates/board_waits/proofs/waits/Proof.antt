@@ -19,12 +19,6 @@ use Rattle.board_waits.proofs.WaitsCalls.{waits-refused, waits-short, w
 use Rattle.board_waits.proofs.waits.Statement.{statement}
 use Rattle.board_waits.proofs.waits.Tie as tie
 
-read-with-layout-requires : tie.Need-read-with-layout-requires
-read-with-layout-requires c κs = search needs
-
-enum-known-verdict : tie.Need-enum-known-verdict
-enum-known-verdict c = search needs
-
 refusal-requires : tie.Need-refusal-requires
 refusal-requires c κs =
     let read = c .before .before .before .read-with-layout in
@@ -74,15 +68,6 @@ add-count c =
     let fine = sound (c .before) in
     omega (arith, fine .phases, fine .movements)
 
-cast-if1 : tie.Need-cast-if1
-cast-if1 c = search needs
-
-mul-if1 : tie.Need-mul-if1
-mul-if1 c = search needs
-
-refusal-requires-2 : tie.Need-refusal-requires-2
-refusal-requires-2 c κs = search needs
-
 returns-2 : tie.Need-returns-2
 returns-2 c =
     let at = c .before .before .before in
@@ -92,18 +77,6 @@ put-waits-requires : tie.Need-put-waits-requires
 put-waits-requires c κs =
     let at = c .before .before .before in
     (sound at, refl, c .before .if1 .left)
-
-cast-packed : tie.Need-cast-packed
-cast-packed c = search needs
-
-mul-packed : tie.Need-mul-packed
-mul-packed c = search needs
-
-packed-requires : tie.Need-packed-requires
-packed-requires c κs = search needs
-
-same-length : tie.Need-same-length
-same-length c = search needs
 
 returns-3 : tie.Need-returns-3
 returns-3 c =
@@ -121,20 +94,20 @@ pub waits-spec : {M : Type 1} → statement M
 waits-spec =
     tie.close
     (tie.spec
-    read-with-layout-requires
-    enum-known-verdict
+    (λ c κs. search needs)
+    (λ c. search needs)
     refusal-requires
     returns
     enum-told
     site-of-requires
     add-count
-    cast-if1
-    mul-if1
-    refusal-requires-2
+    (λ c. search needs)
+    (λ c. search needs)
+    (λ c κs. search needs)
     returns-2
     put-waits-requires
-    cast-packed
-    mul-packed
-    packed-requires
-    same-length
+    (λ c. search needs)
+    (λ c. search needs)
+    (λ c κs. search needs)
+    (λ c. search needs)
     returns-3)

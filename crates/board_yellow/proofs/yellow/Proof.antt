@@ -22,21 +22,6 @@ packed-refused : (a b : Answer) (r : ℕ) {number place : ℕ} → a ≡ b → a
 unfolding packedYellow yellowReportOf stepsOf
 packed-refused a b r e f p = rw (sym e ∙ f, p) (simp add-zero)
 
-yellow-requires : tie.Need-yellow-requires
-yellow-requires c κs = search needs
-
-enum-known-answer : tie.Need-enum-known-answer
-enum-known-answer c = search needs
-
-cast-packed : tie.Need-cast-packed
-cast-packed c = search needs
-
-packed-requires : tie.Need-packed-requires
-packed-requires c κs = search needs
-
-enum-known-answer-2 : tie.Need-enum-known-answer-2
-enum-known-answer-2 c = search needs
-
 refusal-requires : tie.Need-refusal-requires
 refusal-requires c κs =
     let z = refused-place (c .before .before .before .yellow .ensures .1) (c .before .answer2 .given .1) in omega arith
@@ -61,11 +46,11 @@ pub yellow-spec : {M : Type 1} → statement M
 yellow-spec =
     tie.close
     (tie.spec
-    yellow-requires
-    enum-known-answer
-    cast-packed
-    packed-requires
-    enum-known-answer-2
+    (λ c κs. search needs)
+    (λ c. search needs)
+    (λ c. search needs)
+    (λ c κs. search needs)
+    (λ c. search needs)
     refusal-requires
     returns
     returns-2)

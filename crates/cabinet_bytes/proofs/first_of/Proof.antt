@@ -6,18 +6,9 @@ use borrow.Author.Needs.{needs}
 use Rattle.cabinet_bytes.proofs.first_of.Statement.{statement}
 use Rattle.cabinet_bytes.proofs.first_of.Tie as tie
 
-mul-result : tie.Need-mul-result
-mul-result c = search needs
-
-add-result : tie.Need-add-result
-add-result c = search needs
-
-shared-slice-read-result : tie.Need-shared-slice-read-result
-shared-slice-read-result c = search needs
-
 returns : tie.Need-returns
 unfolding byteAt
 returns c = sym (first-read (c .before .pre))
 
 pub first-of-spec : {M : Type 1} → statement M
-first-of-spec = tie.close (tie.spec mul-result add-result shared-slice-read-result returns)
+first-of-spec = tie.close (tie.spec (λ c. search needs) (λ c. search needs) (λ c. search needs) returns)

@@ -11,9 +11,6 @@ use borrow.Author.Needs.{needs}
 use Rattle.cabinet_bytes.proofs.is_free.Statement.{statement}
 use Rattle.cabinet_bytes.proofs.is_free.Tie as tie
 
-has-record-requires : tie.Need-has-record-requires
-has-record-requires c κs = search needs
-
 has : (c : tie.Then1) → let a = c .before .before .before .args in hasRecord (decodedRow (a .row .now)) (a .k) ≡ true
 has c = sym (c .before .has-record .ensures) ∙ c .if1 .taken
 
@@ -35,4 +32,4 @@ returns-2 c = rw (sym (c .before .has-record .ensures) ∙ c .if1 .left)
 
 pub is-free-spec : {M : Type 1} → statement M
 is-free-spec =
-    tie.close (tie.spec has-record-requires mul-result shared-slice-read-result returns returns-2)
+    tie.close (tie.spec (λ c κs. search needs) mul-result shared-slice-read-result returns returns-2)

@@ -6,12 +6,6 @@ use borrow.Author.Needs.{needs}
 use Rattle.cabinet_bytes.proofs.is_held.Statement.{statement}
 use Rattle.cabinet_bytes.proofs.is_held.Tie as tie
 
-has-record-requires : tie.Need-has-record-requires
-has-record-requires c κs = search needs
-
-is-free-requires : tie.Need-is-free-requires
-is-free-requires c κs = search needs
-
 returns : tie.Need-returns
 returns c =
     let a = c .before .before .before .args in
@@ -19,4 +13,4 @@ returns c =
     rw (c .before .has-record .ensures, c .is-free .ensures) (there-not (hasRecord row (a .k)) (isFree (recordOf row (a .k))))
 
 pub is-held-spec : {M : Type 1} → statement M
-is-held-spec = tie.close (tie.spec has-record-requires is-free-requires returns)
+is-held-spec = tie.close (tie.spec (λ c κs. search needs) (λ c κs. search needs) returns)

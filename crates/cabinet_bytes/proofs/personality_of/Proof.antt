@@ -9,27 +9,6 @@ use borrow.Author.Needs.{needs}
 use Rattle.cabinet_bytes.proofs.personality_of.Statement.{statement}
 use Rattle.cabinet_bytes.proofs.personality_of.Tie as tie
 
-mul-start : tie.Need-mul-start
-mul-start c = search needs
-
-add-start : tie.Need-add-start
-add-start c = search needs
-
-size-of-requires : tie.Need-size-of-requires
-size-of-requires c κs = search needs
-
-add-end : tie.Need-add-end
-add-end c = search needs
-
-sub-result : tie.Need-sub-result
-sub-result c = search needs
-
-part-result-start : tie.Need-part-result-start
-part-result-start c = search needs
-
-part-result-end : tie.Need-part-result-end
-part-result-end c = search needs
-
 returns : tie.Need-returns
 returns c =
     let sized = c .before in
@@ -42,11 +21,11 @@ pub personality-of-spec : {M : Type 1} → statement M
 personality-of-spec =
     tie.close
     (tie.spec
-    mul-start
-    add-start
-    size-of-requires
-    add-end
-    sub-result
-    part-result-start
-    part-result-end
+    (λ c. search needs)
+    (λ c. search needs)
+    (λ c κs. search needs)
+    (λ c. search needs)
+    (λ c. search needs)
+    (λ c. search needs)
+    (λ c. search needs)
     returns)

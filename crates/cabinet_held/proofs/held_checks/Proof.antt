@@ -7,24 +7,12 @@ use borrow.Author.Needs.{needs}
 use Rattle.cabinet_held.proofs.held_checks.Statement.{statement}
 use Rattle.cabinet_held.proofs.held_checks.Tie as tie
 
-read-requires : tie.Need-read-requires
-read-requires c κs = search needs
-
 enum-told : tie.Need-enum-told
 enum-told c = search needs
 
 returns : tie.Need-returns
 unfolding heldChecks
 returns c = or-stop _ (c .before .before .read .ensures) (c .enum-told .given .1)
-
-enum-told-2 : tie.Need-enum-told-2
-enum-told-2 c = search needs
-
-outputs-of-requires : tie.Need-outputs-of-requires
-outputs-of-requires c κs = search needs
-
-past-last-requires : tie.Need-past-last-requires
-past-last-requires c κs = search needs
 
 returns-2 : tie.Need-returns-2
 unfolding heldChecks
@@ -44,11 +32,11 @@ pub held-checks-spec : {M : Type 1} → statement M
 held-checks-spec =
     tie.close
     (tie.spec
-    read-requires
+    (λ c κs. search needs)
     enum-told
     returns
-    enum-told-2
-    outputs-of-requires
-    past-last-requires
+    (λ c. search needs)
+    (λ c κs. search needs)
+    (λ c κs. search needs)
     returns-2
     returns-3)

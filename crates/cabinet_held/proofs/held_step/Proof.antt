@@ -15,18 +15,9 @@ use Rattle.cabinet_held.proofs.held_step.Tie as tie
 abbrev start : tie.After-past-last → tie.Start
 start c = c .before .before .before .before .before
 
-outputs-of-requires : tie.Need-outputs-of-requires
-outputs-of-requires c κs = search needs
-
-past-last-requires : tie.Need-past-last-requires
-past-last-requires c κs = search needs
-
 -- what the test says
 tested : (c : tie.After-past-last) → pastLast (start c .args .first) (outputsOf (start c .args .personality .now)) ≡ c .past-last .result
 tested c = sym (c .past-last .ensures ∙ ap (pastLast (start c .args .first)) (c .before .outputs-of .ensures))
-
-held-checks-requires : tie.Need-held-checks-requires
-held-checks-requires c κs = search needs
 
 packed-verdict-requires : tie.Need-packed-verdict-requires
 packed-verdict-requires c κs = subst⁻¹ Near (c .held-checks .ensures) (held-near _ _)
@@ -36,38 +27,11 @@ returns c =
     let asked = c .before .before .before in
     past-step _ _ _ _ _ (tested asked ∙ c .before .before .if1 .taken) (c .packed-verdict .ensures ∙ ap packedVerdict (c .before .held-checks .ensures))
 
-slice-relend-prefix-step : tie.Need-slice-relend-prefix-step
-slice-relend-prefix-step c = search needs
-
-slice-aggregate-step : tie.Need-slice-aggregate-step
-slice-aggregate-step c = search needs
-
-step-requires : tie.Need-step-requires
-step-requires c κs = search needs
-
-same-length : tie.Need-same-length
-same-length c = search needs
-
-same-length-2 : tie.Need-same-length-2
-same-length-2 c = search needs
-
 returns-2 : tie.Need-returns-2
 returns-2 c =
     let called = c .before .before .before .before in
     let asked = called .before .before .before .before .before in
     short-step _ _ _ _ _ (called .step .ensures) (tested asked ∙ called .before .before .before .before .if1 .left) (called .before .before .before .if2 .taken) (c .before .outputs .given .0)
-
-cast-end : tie.Need-cast-end
-cast-end c = search needs
-
-add-end : tie.Need-add-end
-add-end c = search needs
-
-sub-step : tie.Need-sub-step
-sub-step c = search needs
-
-part-step-start : tie.Need-part-step-start
-part-step-start c = search needs
 
 part-step-end : tie.Need-part-step-end
 unfolding pastLast
@@ -76,15 +40,6 @@ part-step-end c =
     let a = start (past .before) .args in
     let within = ltb-false 32 (a .first + outputsOf (a .personality .now)) (tested (past .before) ∙ past .if1 .left) in
     omega (arith, c .before .if2 .left, within, past .before .before .outputs-of .ensures)
-
-step-requires-2 : tie.Need-step-requires-2
-step-requires-2 c κs = search needs
-
-same-length-3 : tie.Need-same-length-3
-same-length-3 c = search needs
-
-same-length-4 : tie.Need-same-length-4
-same-length-4 c = search needs
 
 returns-3 : tie.Need-returns-3
 returns-3 c =
@@ -98,23 +53,23 @@ pub held-step-spec : {M : Type 1} → statement M
 held-step-spec =
     tie.close
     (tie.spec
-    outputs-of-requires
-    past-last-requires
-    held-checks-requires
+    (λ c κs. search needs)
+    (λ c κs. search needs)
+    (λ c κs. search needs)
     packed-verdict-requires
     returns
-    slice-relend-prefix-step
-    slice-aggregate-step
-    step-requires
-    same-length
-    same-length-2
+    (λ c. search needs)
+    (λ c. search needs)
+    (λ c κs. search needs)
+    (λ c. search needs)
+    (λ c. search needs)
     returns-2
-    cast-end
-    add-end
-    sub-step
-    part-step-start
+    (λ c. search needs)
+    (λ c. search needs)
+    (λ c. search needs)
+    (λ c. search needs)
     part-step-end
-    step-requires-2
-    same-length-3
-    same-length-4
+    (λ c κs. search needs)
+    (λ c. search needs)
+    (λ c. search needs)
     returns-3)

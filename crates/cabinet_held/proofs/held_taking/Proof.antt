@@ -8,9 +8,6 @@ use borrow.Author.Needs.{needs}
 use Rattle.cabinet_held.proofs.held_taking.Statement.{statement}
 use Rattle.cabinet_held.proofs.held_taking.Tie as tie
 
-taking-checks-requires : tie.Need-taking-checks-requires
-taking-checks-requires c κs = search needs
-
 enum-told : tie.Need-enum-told
 enum-told c = search needs
 
@@ -19,23 +16,11 @@ returns c =
     let asked = c .before .before .taking-checks in
     (asked .ensures, turned-refused dark _ _ _ (asked .ensures) (c .enum-told .given .1))
 
-enum-told-2 : tie.Need-enum-told-2
-enum-told-2 c = search needs
-
-outputs-of-requires : tie.Need-outputs-of-requires
-outputs-of-requires c κs = search needs
-
-cast-fill : tie.Need-cast-fill
-cast-fill c = search needs
-
 fill-requires : tie.Need-fill-requires
 fill-requires c κs =
     let asked = c .before .before .before .before .taking-checks in
     let told = c .before .before .enum-told2 .given .1 in
     omega (arith, taking-fits _ _ (sym (asked .ensures) ∙ told), c .outputs-of .ensures)
-
-same-length : tie.Need-same-length
-same-length c = search needs
 
 returns-2 : tie.Need-returns-2
 returns-2 c =
@@ -51,12 +36,12 @@ pub held-taking-spec : {M : Type 1} → statement M
 held-taking-spec =
     tie.close
     (tie.spec
-    taking-checks-requires
+    (λ c κs. search needs)
     enum-told
     returns
-    enum-told-2
-    outputs-of-requires
-    cast-fill
+    (λ c. search needs)
+    (λ c κs. search needs)
+    (λ c. search needs)
     fill-requires
-    same-length
+    (λ c. search needs)
     returns-2)

@@ -5,14 +5,8 @@ use borrow.Author.Needs.{needs}
 use Rattle.cabinet_held.proofs.is_accepted.Statement.{statement}
 use Rattle.cabinet_held.proofs.is_accepted.Tie as tie
 
-read-requires : tie.Need-read-requires
-read-requires c κs = search needs
-
 enum-told : tie.Need-enum-told
 enum-told c = search needs
-
-enum-told-2 : tie.Need-enum-told-2
-enum-told-2 c = search needs
 
 returns : tie.Need-returns
 unfolding isAccepted
@@ -23,4 +17,4 @@ unfolding isAccepted
 returns-2 c = rw (sym (c .before .before .read .ensures) ∙ c .enum-told2 .given .1)
 
 pub is-accepted-spec : {M : Type 1} → statement M
-is-accepted-spec = tie.close (tie.spec read-requires enum-told enum-told-2 returns returns-2)
+is-accepted-spec = tie.close (tie.spec (λ c κs. search needs) enum-told (λ c. search needs) returns returns-2)

@@ -5,12 +5,6 @@ use borrow.Author.Needs.{needs}
 use Rattle.cabinet_held.proofs.meet.Statement.{statement}
 use Rattle.cabinet_held.proofs.meet.Tie as tie
 
-add-if1 : tie.Need-add-if1
-add-if1 c = search needs
-
-add-result : tie.Need-add-result
-add-result c = search needs
-
 returns : tie.Need-returns
 unfolding meet
 returns c = rw (lt-ltb _ _ (c .if1 .taken))
@@ -20,4 +14,4 @@ unfolding meet
 returns-2 c = rw (le-ltb _ _ (c .if1 .left))
 
 pub meet-spec : {M : Type 1} → statement M
-meet-spec = tie.close (tie.spec add-if1 add-result returns returns-2)
+meet-spec = tie.close (tie.spec (λ c. search needs) (λ c. search needs) returns returns-2)

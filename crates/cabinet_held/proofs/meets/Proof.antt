@@ -8,12 +8,6 @@ use borrow.Author.Needs.{needs}
 use Rattle.cabinet_held.proofs.meets.Statement.{statement}
 use Rattle.cabinet_held.proofs.meets.Tie as tie
 
-outputs-of-requires : tie.Need-outputs-of-requires
-outputs-of-requires c κs = search needs
-
-meet-requires : tie.Need-meet-requires
-meet-requires c κs = search needs
-
 -- what the test says
 met :
     {t : Bool} (c : tie.After-meet) →
@@ -21,9 +15,6 @@ met :
     let a = c .before .before .before .args in
     meet (a .first) (a .count) (a .own) (outputsOf (a .personality .now)) ≡ t
 met c e = let a = c .before .before .before .args in sym (ap (meet (a .first) (a .count) (a .own)) (c .before .outputs-of .ensures)) ∙ sym (c .meet .ensures) ∙ e
-
-is-accepted-requires : tie.Need-is-accepted-requires
-is-accepted-requires c κs = search needs
 
 returns : tie.Need-returns
 returns c =
@@ -39,4 +30,4 @@ returns-2 c =
 
 pub meets-spec : {M : Type 1} → statement M
 meets-spec =
-    tie.close (tie.spec outputs-of-requires meet-requires is-accepted-requires returns returns-2)
+    tie.close (tie.spec (λ c κs. search needs) (λ c κs. search needs) (λ c κs. search needs) returns returns-2)

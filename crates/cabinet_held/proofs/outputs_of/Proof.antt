@@ -6,12 +6,9 @@ use borrow.Author.Needs.{needs}
 use Rattle.cabinet_held.proofs.outputs_of.Statement.{statement}
 use Rattle.cabinet_held.proofs.outputs_of.Tie as tie
 
-byte-at-requires : tie.Need-byte-at-requires
-byte-at-requires c κs = search needs
-
 returns : tie.Need-returns
 unfolding outputsOf siteOf groupCount
 returns c = c .byte-at .ensures
 
 pub outputs-of-spec : {M : Type 1} → statement M
-outputs-of-spec = tie.close (tie.spec byte-at-requires returns)
+outputs-of-spec = tie.close (tie.spec (λ c κs. search needs) returns)

@@ -8,9 +8,6 @@ use Rattle.cabinet_held.proofs.packed_verdict.Tie as tie
 enum-told : tie.Need-enum-told
 enum-told c = search needs
 
-enum-known-verdict : tie.Need-enum-known-verdict
-enum-known-verdict c = search needs
-
 refusal-requires : tie.Need-refusal-requires
 refusal-requires c κs = c .before .before .before .pre _ _ (c .before .verdict .given .1)
 
@@ -22,4 +19,4 @@ returns-2 c = read-refused _ _ _ refl (c .before .before .verdict .given .1) (c 
 
 pub packed-verdict-spec : {M : Type 1} → statement M
 packed-verdict-spec =
-    tie.close (tie.spec enum-told enum-known-verdict refusal-requires returns returns-2)
+    tie.close (tie.spec enum-told (λ c. search needs) refusal-requires returns returns-2)

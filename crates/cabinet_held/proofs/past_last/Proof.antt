@@ -12,12 +12,9 @@ returns : tie.Need-returns
 unfolding pastLast
 returns c = let past : 32 < c .before .args .first + c .before .args .count = omega (arith, c .if1 .taken) in sym (lt-ltb 32 _ past)
 
-add-result : tie.Need-add-result
-add-result c = search needs
-
 returns-2 : tie.Need-returns-2
 unfolding pastLast
 returns-2 c = refl
 
 pub past-last-spec : {M : Type 1} → statement M
-past-last-spec = tie.close (tie.spec returns add-result returns-2)
+past-last-spec = tie.close (tie.spec returns (λ c. search needs) returns-2)

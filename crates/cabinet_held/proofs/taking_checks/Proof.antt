@@ -7,18 +7,12 @@ use borrow.Author.Needs.{needs}
 use Rattle.cabinet_held.proofs.taking_checks.Statement.{statement}
 use Rattle.cabinet_held.proofs.taking_checks.Tie as tie
 
-held-checks-requires : tie.Need-held-checks-requires
-held-checks-requires c κs = search needs
-
 enum-told : tie.Need-enum-told
 enum-told c = search needs
 
 returns : tie.Need-returns
 unfolding takingChecks
 returns c = or-stop _ (c .before .before .held-checks .ensures) (c .enum-told .given .1)
-
-enum-told-2 : tie.Need-enum-told-2
-enum-told-2 c = search needs
 
 returns-2 : tie.Need-returns-2
 unfolding takingChecks
@@ -30,4 +24,4 @@ returns-3 c = or-next (c .before .before .before .held-checks .ensures) (c .befo
 
 pub taking-checks-spec : {M : Type 1} → statement M
 taking-checks-spec =
-    tie.close (tie.spec held-checks-requires enum-told returns enum-told-2 returns-2 returns-3)
+    tie.close (tie.spec (λ c κs. search needs) enum-told returns (λ c. search needs) returns-2 returns-3)

@@ -19,15 +19,6 @@ use borrow.Author.Needs.{needs}
 use Rattle.cabinet_place.proofs.place.Statement.{statement}
 use Rattle.cabinet_place.proofs.place.Tie as tie
 
-is-free-requires : tie.Need-is-free-requires
-is-free-requires c κs = search needs
-
-placed-nowhere-requires : tie.Need-placed-nowhere-requires
-placed-nowhere-requires c κs = search needs
-
-same-length : tie.Need-same-length
-same-length c = search needs
-
 bytes : (c : tie.After-slice-known) → AreBytes (c .before .args .row .now)
 unfolding byteAt
 bytes c = record { each = λ i. omega (arith, c .slice-known .given i) }
@@ -55,14 +46,8 @@ free c = sym (c .before .is-free .ensures) ∙ not-false _ (c .if1 .left)
 there : (c : tie.Else1) → let a = entry c .before .args in Named (a .row .now) (a .k)
 there c = there-to-place (free c)
 
-outputs-of-requires : tie.Need-outputs-of-requires
-outputs-of-requires c κs = search needs
-
 overlaps-requires : tie.Need-overlaps-requires
 overlaps-requires c κs = there (c .before .before) .long
-
-held-placing-requires : tie.Need-held-placing-requires
-held-placing-requires c κs = search needs
 
 -- the record is free, and whether its outputs are is asked
 abbrev asked : tie.After-held-placing → tie.After-overlaps
@@ -79,18 +64,9 @@ meets c =
     let a = entry (other c) .before .args in
     asked c .overlaps .ensures ∙ ap (overlaps (decodedRow (a .row .now)) (a .k) (a .first)) (asked c .before .before .outputs-of .ensures)
 
-enum-known-verdict : tie.Need-enum-known-verdict
-enum-known-verdict c = search needs
-
 refusal-requires : tie.Need-refusal-requires
 refusal-requires c κs =
     subst⁻¹ Near (c .before .before .before .before .before .held-placing .ensures .0) (placing-near _ _ _ _ _) _ _ (c .before .verdict .given .1)
-
-same-length-2 : tie.Need-same-length-2
-same-length-2 c = search needs
-
-same-length-3 : tie.Need-same-length-3
-same-length-3 c = search needs
 
 returns-2 : tie.Need-returns-2
 returns-2 c =
@@ -123,12 +99,6 @@ mul-at c = omega (arith, there (other (called c)) .below)
 add-end : tie.Need-add-end
 add-end c = omega (arith, there (other (called c)) .below)
 
-sub-hold : tie.Need-sub-hold
-sub-hold c = search needs
-
-part-hold-start : tie.Need-part-hold-start
-part-hold-start c = search needs
-
 part-hold-end : tie.Need-part-hold-end
 part-hold-end c = omega (arith, inside (there (other (called c))))
 
@@ -143,12 +113,6 @@ hold-requires c κs =
     let kept = length-take (at + recordBytes - at) (drop at (a .row .now)) in
     let behind = length-drop at (a .row .now) in
     (omega (arith, kept, behind, inside (there here)), placing-read _ _ _ _ _ (checked (c .before)), called (c .before) .held-placing .ensures .1)
-
-same-length-4 : tie.Need-same-length-4
-same-length-4 c = search needs
-
-same-length-5 : tie.Need-same-length-5
-same-length-5 c = search needs
 
 returns-3 : tie.Need-returns-3
 returns-3 c =
@@ -170,26 +134,26 @@ pub place-spec : {M : Type 1} → statement M
 place-spec =
     tie.close
     (tie.spec
-    is-free-requires
-    placed-nowhere-requires
-    same-length
+    (λ c κs. search needs)
+    (λ c κs. search needs)
+    (λ c. search needs)
     returns
-    outputs-of-requires
+    (λ c κs. search needs)
     overlaps-requires
-    held-placing-requires
-    enum-known-verdict
+    (λ c κs. search needs)
+    (λ c. search needs)
     refusal-requires
-    same-length-2
-    same-length-3
+    (λ c. search needs)
+    (λ c. search needs)
     returns-2
     enum-told
     mul-at
     add-end
-    sub-hold
-    part-hold-start
+    (λ c. search needs)
+    (λ c. search needs)
     part-hold-end
     cast-hold
     hold-requires
-    same-length-4
-    same-length-5
+    (λ c. search needs)
+    (λ c. search needs)
     returns-3)

@@ -10,15 +10,6 @@ use borrow.Author.Needs.{needs}
 use Rattle.cabinet_step.proofs.step.Statement.{statement}
 use Rattle.cabinet_step.proofs.step.Tie as tie
 
-is-held-requires : tie.Need-is-held-requires
-is-held-requires c κs = search needs
-
-refusal-requires : tie.Need-refusal-requires
-refusal-requires c κs = search needs
-
-same-length : tie.Need-same-length
-same-length c = search needs
-
 returns : tie.Need-returns
 unfolding byteAt
 returns c =
@@ -33,16 +24,7 @@ step-held-requires c κs =
     let other = c .before .before in
     there-held (sym (other .before .is-held .ensures) ∙ not-false _ (other .if1 .left))
 
-same-length-2 : tie.Need-same-length-2
-same-length-2 c = search needs
-
-same-length-3 : tie.Need-same-length-3
-same-length-3 c = search needs
-
-returns-2 : tie.Need-returns-2
-returns-2 c = search needs
-
 pub step-spec : {M : Type 1} → statement M
 step-spec =
     tie.close
-    (tie.spec is-held-requires refusal-requires same-length returns step-held-requires same-length-2 same-length-3 returns-2)
+    (tie.spec (λ c κs. search needs) (λ c κs. search needs) (λ c. search needs) returns step-held-requires (λ c. search needs) (λ c. search needs) (λ c. search needs))

@@ -3,21 +3,6 @@ use borrow.Author.Needs.{needs}
 use Rattle.cabinet_step.proofs.step_copy.Statement.{statement}
 use Rattle.cabinet_step.proofs.step_copy.Tie as tie
 
-first-of-requires : tie.Need-first-of-requires
-first-of-requires c κs = search needs
-
-personality-of-requires : tie.Need-personality-of-requires
-personality-of-requires c κs = search needs
-
-held-step-requires : tie.Need-held-step-requires
-held-step-requires c κs = search needs
-
-same-length : tie.Need-same-length
-same-length c = search needs
-
-same-length-2 : tie.Need-same-length-2
-same-length-2 c = search needs
-
 returns : tie.Need-returns
 returns c =
     let called = c .before .before .before .before in
@@ -28,9 +13,9 @@ pub step-copy-spec : {M : Type 1} → statement M
 step-copy-spec =
     tie.close
     (tie.spec
-    first-of-requires
-    personality-of-requires
-    held-step-requires
-    same-length
-    same-length-2
+    (λ c κs. search needs)
+    (λ c κs. search needs)
+    (λ c κs. search needs)
+    (λ c. search needs)
+    (λ c. search needs)
     returns)

@@ -16,15 +16,6 @@ use borrow.Author.Needs.{needs}
 use Rattle.cabinet_take_out.proofs.take_out.Statement.{statement}
 use Rattle.cabinet_take_out.proofs.take_out.Tie as tie
 
-is-held-requires : tie.Need-is-held-requires
-is-held-requires c κs = search needs
-
-refusal-requires : tie.Need-refusal-requires
-refusal-requires c κs = search needs
-
-same-length : tie.Need-same-length
-same-length c = search needs
-
 bytes : (c : tie.After-slice-known) → AreBytes (c .before .args .row .now)
 unfolding byteAt
 bytes c = record { each = λ i. omega (arith, c .slice-known .given i) }
@@ -48,17 +39,8 @@ returns c =
 taking-requires : tie.Need-taking-requires
 taking-requires c κs = held (c .before .before) .0
 
-enum-known-verdict : tie.Need-enum-known-verdict
-enum-known-verdict c = search needs
-
 refusal-requires-2 : tie.Need-refusal-requires-2
 refusal-requires-2 c κs = subst⁻¹ Near (c .before .before .before .before .before .taking .ensures .0) (taking-near _ _ _) _ _ (c .before .verdict .given .1)
-
-same-length-2 : tie.Need-same-length-2
-same-length-2 c = search needs
-
-same-length-3 : tie.Need-same-length-3
-same-length-3 c = search needs
 
 returns-2 : tie.Need-returns-2
 returns-2 c =
@@ -77,12 +59,6 @@ mul-fill c = omega (arith, held (other (c .before .before .before .before .befor
 fill-requires : tie.Need-fill-requires
 fill-requires c κs = omega (arith, inside (held (other (c .before .before .before .before .before)) .0))
 
-same-length-4 : tie.Need-same-length-4
-same-length-4 c = search needs
-
-same-length-5 : tie.Need-same-length-5
-same-length-5 c = search needs
-
 returns-3 : tie.Need-returns-3
 returns-3 c =
     let filled = c .before .before in
@@ -97,19 +73,19 @@ pub take-out-spec : {M : Type 1} → statement M
 take-out-spec =
     tie.close
     (tie.spec
-    is-held-requires
-    refusal-requires
-    same-length
+    (λ c κs. search needs)
+    (λ c κs. search needs)
+    (λ c. search needs)
     returns
     taking-requires
-    enum-known-verdict
+    (λ c. search needs)
     refusal-requires-2
-    same-length-2
-    same-length-3
+    (λ c. search needs)
+    (λ c. search needs)
     returns-2
     enum-told
     mul-fill
     fill-requires
-    same-length-4
-    same-length-5
+    (λ c. search needs)
+    (λ c. search needs)
     returns-3)

@@ -3,18 +3,6 @@ use borrow.Author.Needs.{needs}
 use Rattle.cabinet_take_out.proofs.taking.Statement.{statement}
 use Rattle.cabinet_take_out.proofs.taking.Tie as tie
 
-first-of-requires : tie.Need-first-of-requires
-first-of-requires c κs = search needs
-
-personality-of-requires : tie.Need-personality-of-requires
-personality-of-requires c κs = search needs
-
-held-taking-requires : tie.Need-held-taking-requires
-held-taking-requires c κs = search needs
-
-same-length : tie.Need-same-length
-same-length c = search needs
-
 returns : tie.Need-returns
 returns c =
     let called = c .before .before in
@@ -24,4 +12,4 @@ returns c =
 pub taking-spec : {M : Type 1} → statement M
 taking-spec =
     tie.close
-    (tie.spec first-of-requires personality-of-requires held-taking-requires same-length returns)
+    (tie.spec (λ c κs. search needs) (λ c κs. search needs) (λ c κs. search needs) (λ c. search needs) returns)

@@ -7,17 +7,8 @@ use borrow.Author.Needs.{needs}
 use Rattle.cabinet_work.proofs.holding.Statement.{statement}
 use Rattle.cabinet_work.proofs.holding.Tie as tie
 
-slice-aggregate-store : tie.Need-slice-aggregate-store
-slice-aggregate-store c = search needs
-
 store-requires : tie.Need-store-requires
 store-requires c κs = accepted-fits _ (c .before .before .pre .0)
-
-slice-aggregate-fresh-state : tie.Need-slice-aggregate-fresh-state
-slice-aggregate-fresh-state c = search needs
-
-fresh-state-requires : tie.Need-fresh-state-requires
-fresh-state-requires c κs = search needs
 
 cast-t12 : tie.Need-cast-t12
 cast-t12 c = omega (arith, accepted-fits _ (c .before .before .before .before .before .before .before .pre .0))
@@ -30,9 +21,9 @@ pub holding-spec : {M : Type 1} → statement M
 holding-spec =
     tie.close
     (tie.spec
-    slice-aggregate-store
+    (λ c. search needs)
     store-requires
-    slice-aggregate-fresh-state
-    fresh-state-requires
+    (λ c. search needs)
+    (λ c κs. search needs)
     cast-t12
     returns)

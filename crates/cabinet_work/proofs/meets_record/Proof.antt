@@ -17,17 +17,11 @@ returns : tie.Need-returns
 unfolding meetsRecord hasOutputs
 returns c = rw (free-record (c .before .before .args .own) (c .if1 .taken))
 
-held-size-requires : tie.Need-held-size-requires
-held-size-requires c κs = search needs
-
 array-share-prefix-room : tie.Need-array-share-prefix-room
 array-share-prefix-room c = let start = c .before .before .before .before in room-within (start .args .own) (long start) (c .held-size .ensures)
 
 slice-aggregate-meets : tie.Need-slice-aggregate-meets
 slice-aggregate-meets c = let start = c .before .before .before .before .before in room-length (start .args .own) (long start) (c .before .held-size .ensures)
-
-meets-requires : tie.Need-meets-requires
-meets-requires c κs = search needs
 
 returns-2 : tie.Need-returns-2
 unfolding meetsRecord hasOutputs
@@ -42,8 +36,8 @@ meets-record-spec =
     tie.close
     (tie.spec
     returns
-    held-size-requires
+    (λ c κs. search needs)
     array-share-prefix-room
     slice-aggregate-meets
-    meets-requires
+    (λ c κs. search needs)
     returns-2)

@@ -18,21 +18,6 @@ use Rattle.cabinet_work.proofs.placed_record.Tie as tie
 abbrev noRecord : Record
 noRecord = record { held = 0; first = 0; size = 0; personality = []; state = [] }
 
-mul-own : tie.Need-mul-own
-mul-own c = search needs
-
-array-copy-out-own : tie.Need-array-copy-out-own
-array-copy-out-own c = search needs
-
-outputs-of-requires : tie.Need-outputs-of-requires
-outputs-of-requires c κs = search needs
-
-overlaps-requires : tie.Need-overlaps-requires
-overlaps-requires c κs = search needs
-
-held-placing-requires : tie.Need-held-placing-requires
-held-placing-requires c κs = search needs
-
 abbrev asked : tie.After-held-placing → tie.After-overlaps
 asked c = c .before .before .before
 
@@ -60,16 +45,10 @@ known c =
       shown = c .held-placing .ensures .2;
     }
 
-enum-known-verdict : tie.Need-enum-known-verdict
-enum-known-verdict c = search needs
-
 refusal-requires : tie.Need-refusal-requires
 refusal-requires c κs =
     let called = c .before .before .before .before .before in
     subst⁻¹ Near (called .held-placing .ensures .0) (placing-near _ _ _ _ _) _ _ (c .before .verdict .given .1)
-
-same-length : tie.Need-same-length
-same-length c = search needs
 
 returns : tie.Need-returns
 returns c = placing-refused (known (c .before .before .before .before .before .before)) (c .before .before .verdict .given .1) (c .refusal .ensures)
@@ -89,9 +68,6 @@ holding-requires : tie.Need-holding-requires
 holding-requires c κs =
     (placing-read _ _ _ _ _ (sym (called c .held-placing .ensures .0) ∙ c .before .enum-told .given .1), called c .held-placing .ensures .1)
 
-same-length-2 : tie.Need-same-length-2
-same-length-2 c = search needs
-
 returns-2 : tie.Need-returns-2
 returns-2 c = placing-accepted (known (called (c .before))) (c .before .before .enum-told .given .1) (c .holding .ensures)
 
@@ -99,17 +75,17 @@ pub placed-record-spec : {M : Type 1} → statement M
 placed-record-spec =
     tie.close
     (tie.spec
-    mul-own
-    array-copy-out-own
-    outputs-of-requires
-    overlaps-requires
-    held-placing-requires
-    enum-known-verdict
+    (λ c. search needs)
+    (λ c. search needs)
+    (λ c κs. search needs)
+    (λ c κs. search needs)
+    (λ c κs. search needs)
+    (λ c. search needs)
     refusal-requires
-    same-length
+    (λ c. search needs)
     returns
     enum-told
     cast-holding
     holding-requires
-    same-length-2
+    (λ c. search needs)
     returns-2)

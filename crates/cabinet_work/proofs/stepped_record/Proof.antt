@@ -13,31 +13,16 @@ use Rattle.cabinet_work.proofs.stepped_record.Tie as tie
 long : (c : tie.Start) → length (c .args .own .personality) ≡ greatestLength
 long c = rw length-map at (c .good .0 .1 .1 .1 .1 .1 .0 .1 .0 .1)
 
-refusal-requires : tie.Need-refusal-requires
-refusal-requires c κs = search needs
-
 returns : tie.Need-returns
 returns c =
     let tested = c .before in
     step-free _ _ _ (free-record _ (tested .if1 .taken)) (c .refusal .ensures)
-
-held-size-requires : tie.Need-held-size-requires
-held-size-requires c κs = search needs
 
 array-share-prefix-room : tie.Need-array-share-prefix-room
 array-share-prefix-room c = let start = c .before .before .before .before .before .before in room-within (start .args .own) (long start) (c .held-size .ensures)
 
 slice-aggregate-held-step : tie.Need-slice-aggregate-held-step
 slice-aggregate-held-step c = let start = c .before .before .before .before .before .before .before in room-length (start .args .own) (long start) (c .before .held-size .ensures)
-
-slice-aggregate-held-step-2 : tie.Need-slice-aggregate-held-step-2
-slice-aggregate-held-step-2 c = search needs
-
-held-step-requires : tie.Need-held-step-requires
-held-step-requires c κs = search needs
-
-same-length : tie.Need-same-length
-same-length c = search needs
 
 returns-2 : tie.Need-returns-2
 unfolding withState
@@ -52,12 +37,12 @@ pub stepped-record-spec : {M : Type 1} → statement M
 stepped-record-spec =
     tie.close
     (tie.spec
-    refusal-requires
+    (λ c κs. search needs)
     returns
-    held-size-requires
+    (λ c κs. search needs)
     array-share-prefix-room
     slice-aggregate-held-step
-    slice-aggregate-held-step-2
-    held-step-requires
-    same-length
+    (λ c. search needs)
+    (λ c κs. search needs)
+    (λ c. search needs)
     returns-2)

@@ -17,25 +17,16 @@ use Rattle.cabinet_work.proofs.taken_out_record.Tie as tie
 long : (c : tie.Start) → length (c .args .own .personality) ≡ greatestLength
 long c = rw length-map at (c .good .0 .1 .1 .1 .1 .1 .0 .1 .0 .1)
 
-refusal-requires : tie.Need-refusal-requires
-refusal-requires c κs = search needs
-
 returns : tie.Need-returns
 returns c =
     let tested = c .before in
     taking-free _ _ (free-record _ (tested .if1 .taken)) (c .refusal .ensures)
-
-held-size-requires : tie.Need-held-size-requires
-held-size-requires c κs = search needs
 
 array-share-prefix-room : tie.Need-array-share-prefix-room
 array-share-prefix-room c = let start = c .before .before .before .before .before in room-within (start .args .own) (long start) (c .held-size .ensures)
 
 slice-aggregate-held-taking : tie.Need-slice-aggregate-held-taking
 slice-aggregate-held-taking c = let start = c .before .before .before .before .before .before in room-length (start .args .own) (long start) (c .before .held-size .ensures)
-
-held-taking-requires : tie.Need-held-taking-requires
-held-taking-requires c κs = search needs
 
 enum-told : tie.Need-enum-told
 enum-told c = search needs
@@ -50,25 +41,13 @@ is-held c = held-record (own c) (c .before .before .before .before .before .if1 
 whole : (c : tie.After-held-taking) → take (c .before .before .before .held-size .result) (own c .personality) ≡ personalityOf (own c)
 whole c = room-part (own c) (long (c .before .before .before .before .before .before .before .before)) (c .before .before .before .held-size .ensures)
 
-free-record-requires : tie.Need-free-record-requires
-free-record-requires c κs = search needs
-
-enum-known-verdict : tie.Need-enum-known-verdict
-enum-known-verdict c = search needs
-
 refusal-requires-2 : tie.Need-refusal-requires-2
 refusal-requires-2 c κs = subst⁻¹ Near (c .before .before .before .before .before .held-taking .ensures .0) (taking-near _ _ _) _ _ (c .before .verdict .given .1)
-
-same-length : tie.Need-same-length
-same-length c = search needs
 
 returns-2 : tie.Need-returns-2
 returns-2 c =
     let called = c .before .before .before .before .before in
     taking-accepted (own called) _ (is-held called) (whole called) (called .held-taking .ensures .0) (called .held-taking .ensures .1) (c .before .enum-told .given .1) (c .free-record .ensures)
-
-same-length-2 : tie.Need-same-length-2
-same-length-2 c = search needs
 
 returns-3 : tie.Need-returns-3
 returns-3 c =
@@ -79,17 +58,17 @@ pub taken-out-record-spec : {M : Type 1} → statement M
 taken-out-record-spec =
     tie.close
     (tie.spec
-    refusal-requires
+    (λ c κs. search needs)
     returns
-    held-size-requires
+    (λ c κs. search needs)
     array-share-prefix-room
     slice-aggregate-held-taking
-    held-taking-requires
+    (λ c κs. search needs)
     enum-told
-    free-record-requires
-    enum-known-verdict
+    (λ c κs. search needs)
+    (λ c. search needs)
     refusal-requires-2
-    same-length
+    (λ c. search needs)
     returns-2
-    same-length-2
+    (λ c. search needs)
     returns-3)

@@ -91,9 +91,6 @@ put-walks-requires c κs =
     let start = phased (first (second (third last))) in
     omega (arith, sum (start .args .why), start .pre .1, last .put-told3 .ensures .place, place-3 (third last))
 
-same-length : tie.Need-same-length
-same-length c = search needs
-
 returns : tie.Need-returns
 unfolding lineOf reasonsBy
 returns c =
@@ -123,5 +120,5 @@ put-line-spec =
     put-told-requires-2
     put-told-requires-3
     put-walks-requires
-    same-length
+    (λ c. search needs)
     returns)

@@ -13,9 +13,6 @@ put-reason-requires c κs =
     let a = c .before .before .before .args in
     omega (arith, ap length (told-yes (a .reason) (c .before .if1 .taken)))
 
-same-length : tie.Need-same-length
-same-length c = search needs
-
 returns : tie.Need-returns
 returns c =
     let put = c .before .before in
@@ -28,4 +25,4 @@ returns-2 c =
     put-as (told-no (a .reason) (c .if1 .left)) (put-none (a .at) (a .out .now))
 
 pub put-told-spec : {M : Type 1} → statement M
-put-told-spec = tie.close (tie.spec put-reason-requires same-length returns returns-2)
+put-told-spec = tie.close (tie.spec put-reason-requires (λ c. search needs) returns returns-2)

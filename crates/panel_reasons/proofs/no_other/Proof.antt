@@ -5,7 +5,7 @@ use mathlib.Core.Path.{ap, _∙_}
 use Prim.Native.Nat.{_<_}
 use native.Mathlib.Omega.{arith}
 use Rattle.step_demands.proofs.Sites.{tabled}
-use Rattle.panel_reasons.proofs.Holdings.{holding-sound, holding-valid, no-other-told}
+use Rattle.panel_reasons.proofs.Holdings.{holding-valid, no-other-told}
 use Rattle.panel_reasons.proofs.no_other.Statement.{statement}
 use Rattle.panel_reasons.proofs.no_other.Tie as tie
 
@@ -13,19 +13,16 @@ abbrev start : tie.After-order → tie.Start
 start c = c .before .before .before
 
 small : (c : tie.Start) → c .args .state .core .position .phase < 8
-small c = omega (arith, holding-valid (c .pre) .phase, holding-sound (c .pre) .phases .1)
+small c = omega (arith, holding-valid (c .pre) .phase, c .pre .sound .phases .1)
 
 sense-requires : tie.Need-sense-requires
-sense-requires c κs = (tabled (start c .args .site) (holding-sound (start c .pre)), small (start c))
+sense-requires c κs = (tabled (start c .args .site) (start c .pre .sound), small (start c))
 
 without-requires : tie.Need-without-requires
 without-requires c κs = small (start (c .before))
 
 next-after-requires : tie.Need-next-after-requires
-next-after-requires c κs = holding-sound (start (c .before .before .before) .pre) .phases .1
-
-is-held-requires : tie.Need-is-held-requires
-is-held-requires c κs = search needs
+next-after-requires c κs = start (c .before .before .before) .pre .sound .phases .1
 
 kept-small : (c : tie.Start) → c .args .state .kept < 256
 kept-small c = search needs
@@ -42,4 +39,4 @@ returns c =
 pub no-other-spec : {M : Type 1} → statement M
 no-other-spec =
     tie.close
-    (tie.spec sense-requires without-requires next-after-requires is-held-requires returns)
+    (tie.spec sense-requires without-requires next-after-requires (λ c κs. search needs) returns)

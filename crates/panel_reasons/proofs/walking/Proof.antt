@@ -25,27 +25,6 @@ abbrev μ-loop : tie.MeasureT-loop
 loop-holds : tie.Need-loop-holds Inv-loop μ-loop
 loop-holds c = (omega arith, passing-none (walkingAmong (c .args .t1)))
 
-cast-movement : tie.Need-cast-movement Inv-loop μ-loop
-cast-movement c = search needs
-
-mul-movement : tie.Need-mul-movement Inv-loop μ-loop
-mul-movement c = search needs
-
-array-copy-out-movement : tie.Need-array-copy-out-movement Inv-loop μ-loop
-array-copy-out-movement c = search needs
-
-is-walk-or-first-requires : tie.Need-is-walk-or-first-requires Inv-loop μ-loop
-is-walk-or-first-requires c κs = search needs
-
-with-requires : tie.Need-with-requires Inv-loop μ-loop
-with-requires c κs = search needs
-
-add-k : tie.Need-add-k Inv-loop μ-loop
-add-k c = search needs
-
-loop-less : tie.Need-loop-less Inv-loop μ-loop
-loop-less c = search needs
-
 -- the test of movement k
 own-walking :
     (c : tie.After-is-walk-or-first Inv-loop μ-loop) →
@@ -82,12 +61,12 @@ walking-spec =
     Inv-loop
     μ-loop
     loop-holds
-    cast-movement
-    mul-movement
-    array-copy-out-movement
-    is-walk-or-first-requires
-    with-requires
-    add-k
-    loop-less
+    (λ c. search needs)
+    (λ c. search needs)
+    (λ c. search needs)
+    (λ c κs. search needs)
+    (λ c κs. search needs)
+    (λ c. search needs)
+    (λ c. search needs)
     loop-again
     returns)

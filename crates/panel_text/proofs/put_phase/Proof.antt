@@ -10,18 +10,6 @@ use Rattle.panel_text.proofs.Texts.{line-start}
 use Rattle.panel_text.proofs.put_phase.Statement.{statement}
 use Rattle.panel_text.proofs.put_phase.Tie as tie
 
-add-out : tie.Need-add-out
-add-out c = search needs
-
-slice-write-out : tie.Need-slice-write-out
-slice-write-out c = search needs
-
-slice-aggregate-put-bytes : tie.Need-slice-aggregate-put-bytes
-slice-aggregate-put-bytes c = search needs
-
-put-bytes-requires : tie.Need-put-bytes-requires
-put-bytes-requires c κs = search needs
-
 same-length : tie.Need-same-length
 same-length c =
     let a = c .before .before .before .before .before .before .args in
@@ -38,9 +26,9 @@ pub put-phase-spec : {M : Type 1} → statement M
 put-phase-spec =
     tie.close
     (tie.spec
-    add-out
-    slice-write-out
-    slice-aggregate-put-bytes
-    put-bytes-requires
+    (λ c. search needs)
+    (λ c. search needs)
+    (λ c. search needs)
+    (λ c κs. search needs)
     same-length
     returns)

@@ -11,33 +11,6 @@ use Rattle.panel_text.proofs.reason_length.Tie as tie
 enum-told : tie.Need-enum-told
 enum-told c = search needs
 
-enum-known-reason : tie.Need-enum-known-reason
-enum-known-reason c = search needs
-
-digit-count-requires : tie.Need-digit-count-requires
-digit-count-requires c κs = search needs
-
-add-result : tie.Need-add-result
-add-result c = search needs
-
-enum-known-reason-2 : tie.Need-enum-known-reason-2
-enum-known-reason-2 c = search needs
-
-digit-count-requires-2 : tie.Need-digit-count-requires-2
-digit-count-requires-2 c κs = search needs
-
-add-result-2 : tie.Need-add-result-2
-add-result-2 c = search needs
-
-enum-known-reason-3 : tie.Need-enum-known-reason-3
-enum-known-reason-3 c = search needs
-
-digit-count-requires-3 : tie.Need-digit-count-requires-3
-digit-count-requires-3 c κs = search needs
-
-add-result-3 : tie.Need-add-result-3
-add-result-3 c = search needs
-
 returns : tie.Need-returns
 unfolding reasonText
 returns c = let told = ap (λ (r : Reason). length (reasonText r)) (c .enum-told .given .1) in (omega arith, omega arith)
@@ -65,15 +38,15 @@ reason-length-spec =
     tie.close
     (tie.spec
     enum-told
-    enum-known-reason
-    digit-count-requires
-    add-result
-    enum-known-reason-2
-    digit-count-requires-2
-    add-result-2
-    enum-known-reason-3
-    digit-count-requires-3
-    add-result-3
+    (λ c. search needs)
+    (λ c κs. search needs)
+    (λ c. search needs)
+    (λ c. search needs)
+    (λ c κs. search needs)
+    (λ c. search needs)
+    (λ c. search needs)
+    (λ c κs. search needs)
+    (λ c. search needs)
     returns
     returns-2
     returns-3

@@ -15,15 +15,6 @@ use Rattle.read_conflicts.specs.Refused.{refusedRecord, firstRefused}
 use Rattle.read_conflicts.proofs.conflicts_section.Statement.{statement}
 use Rattle.read_conflicts.proofs.conflicts_section.Tie as tie
 
-cast-sized-section : tie.Need-cast-sized-section
-cast-sized-section c = search needs
-
-mul-sized-section : tie.Need-mul-sized-section
-mul-sized-section c = search needs
-
-sized-section-requires : tie.Need-sized-section-requires
-sized-section-requires c κs = search needs
-
 enum-told : tie.Need-enum-told
 enum-told c = search needs
 
@@ -37,9 +28,6 @@ checked c = let laid = c .before .before .before .pre .0 in rw (laid .conflicts,
 returns : tie.Need-returns
 unfolding conflictsSection
 returns c = or-stop _ (checked (c .before .before)) (c .enum-told .given .1)
-
-enum-told-2 : tie.Need-enum-told-2
-enum-told-2 c = search needs
 
 -- the head has passed: all records are there
 fits :
@@ -89,12 +77,12 @@ pub conflicts-section-spec : {M : Type 1} → statement M
 conflicts-section-spec =
     tie.close
     (tie.spec
-    cast-sized-section
-    mul-sized-section
-    sized-section-requires
+    (λ c. search needs)
+    (λ c. search needs)
+    (λ c κs. search needs)
     enum-told
     returns
-    enum-told-2
+    (λ c. search needs)
     surely-right-requires
     returns-2
     searched-requires

@@ -29,18 +29,6 @@ held c r l =
     let at = c .before .args in
     omega (arith, record-within (at .head) (at .width) (at .count) (8 * at .a + r) l, add-mul (8 * at .a) r (at .width))
 
-mul-left : tie.Need-mul-left
-mul-left c = search needs
-
-sub-left : tie.Need-sub-left
-sub-left c = search needs
-
-add-at : tie.Need-add-at
-add-at c = search needs
-
-mul-at : tie.Need-mul-at
-mul-at c = search needs
-
 mul-at-2 : tie.Need-mul-at-2
 mul-at-2 c = omega (arith, near c)
 
@@ -72,10 +60,10 @@ pub band-tile-spec : {M : Type 1} → statement M
 band-tile-spec =
     tie.close
     (tie.spec
-    mul-left
-    sub-left
-    add-at
-    mul-at
+    (λ c. search needs)
+    (λ c. search needs)
+    (λ c. search needs)
+    (λ c. search needs)
     mul-at-2
     add-at-2
     add-at-3

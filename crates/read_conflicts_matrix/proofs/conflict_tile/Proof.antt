@@ -7,12 +7,6 @@ use Rattle.read_conflicts_matrix.proofs.MatrixRows.{conflict-rows}
 use Rattle.read_conflicts_matrix.proofs.conflict_tile.Statement.{statement}
 use Rattle.read_conflicts_matrix.proofs.conflict_tile.Tie as tie
 
-cast-band-tile : tie.Need-cast-band-tile
-cast-band-tile c = search needs
-
-band-tile-requires : tie.Need-band-tile-requires
-band-tile-requires c κs = search needs
-
 small : (c : tie.After-shared-slice-known) → (i : ℕ) → byteAt (c .before .args .s .now) i < 256
 unfolding byteAt
 small c i = omega (arith, c .shared-slice-known .given i)
@@ -24,4 +18,4 @@ returns c =
     conflict-rows (pre .0 .laid) _ _ (small known) (pre .2) (c .band-tile .ensures)
 
 pub conflict-tile-spec : {M : Type 1} → statement M
-conflict-tile-spec = tie.close (tie.spec cast-band-tile band-tile-requires returns)
+conflict-tile-spec = tie.close (tie.spec (λ c. search needs) (λ c κs. search needs) returns)

@@ -4,14 +4,8 @@ use Rattle.read_conflicts_matrix.proofs.MatrixRows.{set-rows}
 use Rattle.read_conflicts_matrix.proofs.set_tile.Statement.{statement}
 use Rattle.read_conflicts_matrix.proofs.set_tile.Tie as tie
 
-cast-band-tile : tie.Need-cast-band-tile
-cast-band-tile c = search needs
-
-band-tile-requires : tie.Need-band-tile-requires
-band-tile-requires c κs = search needs
-
 returns : tie.Need-returns
 returns c = set-rows (c .before .before .before .pre .0 .laid) _ (c .band-tile .ensures)
 
 pub set-tile-spec : {M : Type 1} → statement M
-set-tile-spec = tie.close (tie.spec cast-band-tile band-tile-requires returns)
+set-tile-spec = tie.close (tie.spec (λ c. search needs) (λ c κs. search needs) returns)

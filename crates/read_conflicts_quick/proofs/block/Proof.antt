@@ -5,18 +5,6 @@ use borrow.Author.Needs.{needs}
 use Rattle.read_conflicts_quick.proofs.block.Statement.{statement}
 use Rattle.read_conflicts_quick.proofs.block.Tie as tie
 
-conflict-tile-requires : tie.Need-conflict-tile-requires
-conflict-tile-requires c κs = search needs
-
-conflict-tile-requires-2 : tie.Need-conflict-tile-requires-2
-conflict-tile-requires-2 c κs = search needs
-
-cast-matched : tie.Need-cast-matched
-cast-matched c = search needs
-
-matched-requires : tie.Need-matched-requires
-matched-requires c κs = search needs
-
 returns : tie.Need-returns
 returns c e =
     let atBack = c .before .before in
@@ -29,8 +17,8 @@ pub block-spec : {M : Type 1} → statement M
 block-spec =
     tie.close
     (tie.spec
-    conflict-tile-requires
-    conflict-tile-requires-2
-    cast-matched
-    matched-requires
+    (λ c κs. search needs)
+    (λ c κs. search needs)
+    (λ c. search needs)
+    (λ c κs. search needs)
     returns)

@@ -4,14 +4,8 @@ use borrow.Author.Needs.{needs}
 use Rattle.read_conflicts_quick.proofs.matched.Statement.{statement}
 use Rattle.read_conflicts_quick.proofs.matched.Tie as tie
 
-mirrored-requires : tie.Need-mirrored-requires
-mirrored-requires c κs = search needs
-
-barred-requires : tie.Need-barred-requires
-barred-requires c κs = search needs
-
 returns : tie.Need-returns
 returns c = let wrong = c .barred .ensures in tile-matched (c .before .mirrored .result) (c .barred .result) (c .before .mirrored .ensures) (wrong .0) (wrong .1)
 
 pub matched-spec : {M : Type 1} → statement M
-matched-spec = tie.close (tie.spec mirrored-requires barred-requires returns)
+matched-spec = tie.close (tie.spec (λ c κs. search needs) (λ c κs. search needs) returns)

@@ -5,15 +5,6 @@ use borrow.Author.Needs.{needs}
 use Rattle.read_conflicts_quick.proofs.own_block.Statement.{statement}
 use Rattle.read_conflicts_quick.proofs.own_block.Tie as tie
 
-conflict-tile-requires : tie.Need-conflict-tile-requires
-conflict-tile-requires c κs = search needs
-
-cast-matched : tie.Need-cast-matched
-cast-matched c = search needs
-
-matched-requires : tie.Need-matched-requires
-matched-requires c κs = search needs
-
 returns : tie.Need-returns
 returns c e =
     let atTile = c .before .before in
@@ -22,4 +13,4 @@ returns c e =
     block-sound (pre .0) tile tile (pre .2) (pre .3) (λ r n h l same. diagonal-bit r n h (omega (arith, same))) (c .matched .ensures e)
 
 pub own-block-spec : {M : Type 1} → statement M
-own-block-spec = tie.close (tie.spec conflict-tile-requires cast-matched matched-requires returns)
+own-block-spec = tie.close (tie.spec (λ c κs. search needs) (λ c. search needs) (λ c κs. search needs) returns)

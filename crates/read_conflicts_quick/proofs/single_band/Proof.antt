@@ -5,21 +5,6 @@ use borrow.Author.Needs.{needs}
 use Rattle.read_conflicts_quick.proofs.single_band.Statement.{statement}
 use Rattle.read_conflicts_quick.proofs.single_band.Tie as tie
 
-set-tile-requires : tie.Need-set-tile-requires
-set-tile-requires c κs = search needs
-
-conflict-tile-requires : tie.Need-conflict-tile-requires
-conflict-tile-requires c κs = search needs
-
-mirrored-requires : tie.Need-mirrored-requires
-mirrored-requires c κs = search needs
-
-cast-matched : tie.Need-cast-matched
-cast-matched c = search needs
-
-matched-requires : tie.Need-matched-requires
-matched-requires c κs = search needs
-
 returns : tie.Need-returns
 returns c e =
     let atMirror = c .before .before in
@@ -37,9 +22,9 @@ pub single-band-spec : {M : Type 1} → statement M
 single-band-spec =
     tie.close
     (tie.spec
-    set-tile-requires
-    conflict-tile-requires
-    mirrored-requires
-    cast-matched
-    matched-requires
+    (λ c κs. search needs)
+    (λ c κs. search needs)
+    (λ c κs. search needs)
+    (λ c. search needs)
+    (λ c κs. search needs)
     returns)

@@ -12,9 +12,6 @@ use Rattle.read_conflicts_quick.proofs.Pairs.{records-good}
 use Rattle.read_conflicts_quick.proofs.surely_right.Statement.{statement}
 use Rattle.read_conflicts_quick.proofs.surely_right.Tie as tie
 
-below-requires : tie.Need-below-requires
-below-requires c κs = search needs
-
 returns : tie.Need-returns
 returns c e = absurd (never-both e refl)
 
@@ -25,14 +22,8 @@ under :
     anyOf (λ g. leb (2 ^ groupCount b) (conflictSet b g)) (groupCount b) ≡ false
 under c = not-true _ (sym (c .before .below .ensures) ∙ not-false _ (c .if1 .left))
 
-single-band-requires : tie.Need-single-band-requires
-single-band-requires c κs = search needs
-
 returns-2 : tie.Need-returns-2
 returns-2 c e = records-good _ (under (c .before .before .before)) (c .single-band .ensures e)
-
-bands-requires : tie.Need-bands-requires
-bands-requires c κs = search needs
 
 returns-3 : tie.Need-returns-3
 returns-3 c e = records-good _ (under (c .before .before .before)) (c .bands .ensures e)
@@ -40,4 +31,4 @@ returns-3 c e = records-good _ (under (c .before .before .before)) (c .bands .en
 pub surely-right-spec : {M : Type 1} → statement M
 surely-right-spec =
     tie.close
-    (tie.spec below-requires returns single-band-requires returns-2 bands-requires returns-3)
+    (tie.spec (λ c κs. search needs) returns (λ c κs. search needs) returns-2 (λ c κs. search needs) returns-3)

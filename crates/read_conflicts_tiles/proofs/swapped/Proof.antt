@@ -4,14 +4,8 @@ use Rattle.read_conflicts_tiles.proofs.TilePlaces.{swapped-from}
 use Rattle.read_conflicts_tiles.proofs.swapped.Statement.{statement}
 use Rattle.read_conflicts_tiles.proofs.swapped.Tie as tie
 
-shr-unlike : tie.Need-shr-unlike
-shr-unlike c = search needs
-
-shl-result : tie.Need-shl-result
-shl-result c = search needs
-
 returns : tie.Need-returns
 returns c = swapped-from (c .args .x) (c .args .low) (c .args .shift) (c .pre .1)
 
 pub swapped-spec : {M : Type 1} → statement M
-swapped-spec = tie.close (tie.spec shr-unlike shl-result returns)
+swapped-spec = tie.close (tie.spec (λ c. search needs) (λ c. search needs) returns)

@@ -5,21 +5,9 @@ use borrow.Author.Needs.{needs}
 use Rattle.read_conflicts_turned.proofs.turned_tile.Statement.{statement}
 use Rattle.read_conflicts_turned.proofs.turned_tile.Tie as tie
 
-conflict-tile-requires : tie.Need-conflict-tile-requires
-conflict-tile-requires c κs = search needs
-
-mirrored-requires : tie.Need-mirrored-requires
-mirrored-requires c κs = search needs
-
 returns : tie.Need-returns
 returns c =
     conflicts-turned _ _ (eq-eqb _ _ (c .before .before .if1 .taken)) (c .before .conflict-tile .ensures) (c .mirrored .ensures)
-
-set-tile-requires : tie.Need-set-tile-requires
-set-tile-requires c κs = search needs
-
-mirrored-requires-2 : tie.Need-mirrored-requires-2
-mirrored-requires-2 c κs = search needs
 
 returns-2 : tie.Need-returns-2
 returns-2 c =
@@ -29,9 +17,9 @@ pub turned-tile-spec : {M : Type 1} → statement M
 turned-tile-spec =
     tie.close
     (tie.spec
-    conflict-tile-requires
-    mirrored-requires
+    (λ c κs. search needs)
+    (λ c κs. search needs)
     returns
-    set-tile-requires
-    mirrored-requires-2
+    (λ c κs. search needs)
+    (λ c κs. search needs)
     returns-2)

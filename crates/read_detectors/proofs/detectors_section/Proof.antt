@@ -18,9 +18,6 @@ sub-length c = omega (arith, detectors-apart (c .before .before .pre .0))
 sub-length-2 : tie.Need-sub-length-2
 sub-length-2 c = omega (arith, detectors-apart (c .before .before .pre .0))
 
-section-at-requires : tie.Need-section-at-requires
-section-at-requires c κs = search needs
-
 enum-told : tie.Need-enum-told
 enum-told c = search needs
 
@@ -37,9 +34,6 @@ checked c =
 returns : tie.Need-returns
 unfolding detectorsSection
 returns c = or-stop _ (checked (c .before .before)) (c .enum-told .given .1)
-
-enum-told-2 : tie.Need-enum-told-2
-enum-told-2 c = search needs
 
 detector-records-requires : tie.Need-detector-records-requires
 unfolding detectorCount
@@ -68,9 +62,9 @@ detectors-section-spec =
     (tie.spec
     sub-length
     sub-length-2
-    section-at-requires
+    (λ c κs. search needs)
     enum-told
     returns
-    enum-told-2
+    (λ c. search needs)
     detector-records-requires
     returns-2)

@@ -9,27 +9,9 @@ use borrow.Author.Needs.{needs}
 use Rattle.read_detectors.proofs.four_good.Statement.{statement}
 use Rattle.read_detectors.proofs.four_good.Tie as tie
 
-add-eight-in : tie.Need-add-eight-in
-add-eight-in c = search needs
-
-mul-eight-in : tie.Need-mul-eight-in
-mul-eight-in c = search needs
-
-add-eight-in-2 : tie.Need-add-eight-in-2
-add-eight-in-2 c = search needs
-
 eight-in-requires : tie.Need-eight-in-requires
 unfolding bodyAt
 eight-in-requires c κs = search needs
-
-cast-limits : tie.Need-cast-limits
-cast-limits c = search needs
-
-sub-limits : tie.Need-sub-limits
-sub-limits c = search needs
-
-mul-limits : tie.Need-mul-limits
-mul-limits c = search needs
 
 add-raised : tie.Need-add-raised
 add-raised c = omega (arith, and-le-r (c .before .eight-in .result) 0x7b7f7b7f7b7f7b7f)
@@ -51,12 +33,12 @@ pub four-good-spec : {M : Type 1} → statement M
 four-good-spec =
     tie.close
     (tie.spec
-    add-eight-in
-    mul-eight-in
-    add-eight-in-2
+    (λ c. search needs)
+    (λ c. search needs)
+    (λ c. search needs)
     eight-in-requires
-    cast-limits
-    sub-limits
-    mul-limits
+    (λ c. search needs)
+    (λ c. search needs)
+    (λ c. search needs)
     add-raised
     returns)

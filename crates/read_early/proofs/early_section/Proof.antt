@@ -9,15 +9,6 @@ use Rattle.read_early.proofs.early_section.Tie as tie
 returns : tie.Need-returns
 returns c = none-early _ (sym (c .before .before .before .pre .hasearly) ∙ not-true _ (c .if1 .taken))
 
-edition-of-requires : tie.Need-edition-of-requires
-edition-of-requires c κs = search needs
-
-cast-phases : tie.Need-cast-phases
-cast-phases c = search needs
-
-timed-section-requires : tie.Need-timed-section-requires
-timed-section-requires c κs = search needs
-
 returns-2 : tie.Need-returns-2
 returns-2 c =
     let tested = c .before .before .before in
@@ -26,4 +17,4 @@ returns-2 c =
 
 pub early-section-spec : {M : Type 1} → statement M
 early-section-spec =
-    tie.close (tie.spec returns edition-of-requires cast-phases timed-section-requires returns-2)
+    tie.close (tie.spec returns (λ c κs. search needs) (λ c. search needs) (λ c κs. search needs) returns-2)

@@ -5,24 +5,9 @@ use borrow.Author.Needs.{needs}
 use Rattle.read_layout.proofs.body_length.Statement.{statement}
 use Rattle.read_layout.proofs.body_length.Tie as tie
 
-add-if1 : tie.Need-add-if1
-add-if1 c = search needs
-
-two-in-requires : tie.Need-two-in-requires
-two-in-requires c κs = search needs
-
-cast-result : tie.Need-cast-result
-cast-result c = search needs
-
 returns : tie.Need-returns
 unfolding bodyLength
 returns c = (c .two-in .ensures, omega arith)
-
-two-at-requires : tie.Need-two-at-requires
-two-at-requires c κs = search needs
-
-cast-result-2 : tie.Need-cast-result-2
-cast-result-2 c = search needs
 
 returns-2 : tie.Need-returns-2
 unfolding bodyLength
@@ -31,4 +16,4 @@ returns-2 c = (c .two-at .ensures, omega arith)
 pub body-length-spec : {M : Type 1} → statement M
 body-length-spec =
     tie.close
-    (tie.spec add-if1 two-in-requires cast-result returns two-at-requires cast-result-2 returns-2)
+    (tie.spec (λ c. search needs) (λ c κs. search needs) (λ c. search needs) returns (λ c κs. search needs) (λ c. search needs) returns-2)

@@ -14,9 +14,6 @@ named : (b : List ℕ) (t : Bool) → hasHead b siteHead 8 ≡ t → (if t then 
 unfolding editionOf
 named b t e = rw e
 
-has-head-requires : tie.Need-has-head-requires
-has-head-requires c κs = search needs
-
 returns : tie.Need-returns
 returns c = named _ true (sym (c .before .has-head .ensures) ∙ c .if1 .taken)
 
@@ -24,4 +21,4 @@ returns-2 : tie.Need-returns-2
 returns-2 c = named _ false (sym (c .before .has-head .ensures) ∙ c .if1 .left)
 
 pub edition-of-spec : {M : Type 1} → statement M
-edition-of-spec = tie.close (tie.spec has-head-requires returns returns-2)
+edition-of-spec = tie.close (tie.spec (λ c κs. search needs) returns returns-2)

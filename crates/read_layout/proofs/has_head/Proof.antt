@@ -5,15 +5,6 @@ use Rattle.rules.specs.Personality.{kindAt, hasHead}
 use Rattle.read_layout.proofs.has_head.Statement.{statement}
 use Rattle.read_layout.proofs.has_head.Tie as tie
 
-add-if1 : tie.Need-add-if1
-add-if1 c = search needs
-
-add-two-in : tie.Need-add-two-in
-add-two-in c = search needs
-
-two-in-requires : tie.Need-two-in-requires
-two-in-requires c κs = search needs
-
 returns : tie.Need-returns
 unfolding hasHead kindAt
 returns c = rw (le-leb _ _ (c .before .if1 .taken), c .two-in .ensures)
@@ -23,4 +14,4 @@ unfolding hasHead
 returns-2 c = rw (lt-leb _ _ (c .if1 .left))
 
 pub has-head-spec : {M : Type 1} → statement M
-has-head-spec = tie.close (tie.spec add-if1 add-two-in two-in-requires returns returns-2)
+has-head-spec = tie.close (tie.spec (λ c. search needs) (λ c. search needs) (λ c κs. search needs) returns returns-2)

@@ -80,72 +80,6 @@ module _
           near = (omega arith, omega arith, omega arith, omega arith, omega arith, omega arith);
         }
 
-byte-at-requires : tie.Need-byte-at-requires
-byte-at-requires c κs = search needs
-
-byte-at-requires-2 : tie.Need-byte-at-requires-2
-byte-at-requires-2 c κs = search needs
-
-cast-groups : tie.Need-cast-groups
-cast-groups c = search needs
-
-mul-groups : tie.Need-mul-groups
-mul-groups c = search needs
-
-add-groups : tie.Need-add-groups
-add-groups c = search needs
-
-add-conflicts : tie.Need-add-conflicts
-add-conflicts c = search needs
-
-cast-conflicts : tie.Need-cast-conflicts
-cast-conflicts c = search needs
-
-mul-conflicts : tie.Need-mul-conflicts
-mul-conflicts c = search needs
-
-add-conflicts-2 : tie.Need-add-conflicts-2
-add-conflicts-2 c = search needs
-
-add-detectors : tie.Need-add-detectors
-add-detectors c = search needs
-
-cast-detectors : tie.Need-cast-detectors
-cast-detectors c = search needs
-
-mul-detectors : tie.Need-mul-detectors
-mul-detectors c = search needs
-
-add-detectors-2 : tie.Need-add-detectors-2
-add-detectors-2 c = search needs
-
-add-pedestrians : tie.Need-add-pedestrians
-add-pedestrians c = search needs
-
-body-length-requires : tie.Need-body-length-requires
-body-length-requires c κs = search needs
-
-add-pedestrians-2 : tie.Need-add-pedestrians-2
-add-pedestrians-2 c = search needs
-
-add-early : tie.Need-add-early
-add-early c = search needs
-
-body-length-requires-2 : tie.Need-body-length-requires-2
-body-length-requires-2 c κs = search needs
-
-add-early-2 : tie.Need-add-early-2
-add-early-2 c = search needs
-
-has-head-requires : tie.Need-has-head-requires
-has-head-requires c κs = search needs
-
-past-section-requires : tie.Need-past-section-requires
-past-section-requires c κs = search needs
-
-has-head-requires-2 : tie.Need-has-head-requires-2
-has-head-requires-2 c κs = search needs
-
 returns : tie.Need-returns
 unfolding phaseCount groupCount pastSection bodyAt
 returns c =
@@ -164,26 +98,26 @@ pub layout-of-spec : {M : Type 1} → statement M
 layout-of-spec =
     tie.close
     (tie.spec
-    byte-at-requires
-    byte-at-requires-2
-    cast-groups
-    mul-groups
-    add-groups
-    add-conflicts
-    cast-conflicts
-    mul-conflicts
-    add-conflicts-2
-    add-detectors
-    cast-detectors
-    mul-detectors
-    add-detectors-2
-    add-pedestrians
-    body-length-requires
-    add-pedestrians-2
-    add-early
-    body-length-requires-2
-    add-early-2
-    has-head-requires
-    past-section-requires
-    has-head-requires-2
+    (λ c κs. search needs)
+    (λ c κs. search needs)
+    (λ c. search needs)
+    (λ c. search needs)
+    (λ c. search needs)
+    (λ c. search needs)
+    (λ c. search needs)
+    (λ c. search needs)
+    (λ c. search needs)
+    (λ c. search needs)
+    (λ c. search needs)
+    (λ c. search needs)
+    (λ c. search needs)
+    (λ c. search needs)
+    (λ c κs. search needs)
+    (λ c. search needs)
+    (λ c. search needs)
+    (λ c κs. search needs)
+    (λ c. search needs)
+    (λ c κs. search needs)
+    (λ c κs. search needs)
+    (λ c κs. search needs)
     returns)

@@ -20,9 +20,6 @@ listed c = kind-told (c .before .args .kind) (not-false _ (c .if1 .left))
 sub-result : tie.Need-sub-result
 sub-result c = omega (arith, listed c)
 
-mul-result : tie.Need-mul-result
-mul-result c = search needs
-
 array-read-result : tie.Need-array-read-result
 array-read-result c = omega (arith, listed c)
 
@@ -45,6 +42,6 @@ head-of-spec =
     (tie.spec
     returns
     sub-result
-    mul-result
+    (λ c. search needs)
     array-read-result
     returns-2)

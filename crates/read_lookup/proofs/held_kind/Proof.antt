@@ -4,12 +4,6 @@ use Rattle.rules.specs.Lookup.{heldKind}
 use Rattle.read_lookup.proofs.held_kind.Statement.{statement}
 use Rattle.read_lookup.proofs.held_kind.Tie as tie
 
-edition-of-requires : tie.Need-edition-of-requires
-edition-of-requires c κs = search needs
-
-site-kind-requires : tie.Need-site-kind-requires
-site-kind-requires c κs = search needs
-
 returns : tie.Need-returns
 unfolding heldKind
 returns c =
@@ -18,4 +12,4 @@ returns c =
     rw (named .site-kind .ensures, named .before .edition-of .ensures, laid .hasearly, laid .hasorder)
 
 pub held-kind-spec : {M : Type 1} → statement M
-held-kind-spec = tie.close (tie.spec edition-of-requires site-kind-requires returns)
+held-kind-spec = tie.close (tie.spec (λ c κs. search needs) (λ c κs. search needs) returns)

@@ -5,14 +5,8 @@ use borrow.Author.Needs.{needs}
 use Rattle.read_lookup.proofs.lookup_report.Statement.{statement}
 use Rattle.read_lookup.proofs.lookup_report.Tie as tie
 
-find-requires : tie.Need-find-requires
-find-requires c κs = search needs
-
 enum-told : tie.Need-enum-told
 enum-told c = search needs
-
-enum-known-verdict : tie.Need-enum-known-verdict
-enum-known-verdict c = search needs
 
 returns : tie.Need-returns
 returns c = report-found _ _ (sym (c .before .before .find .ensures .0) ∙ c .enum-told .given .1)
@@ -22,4 +16,4 @@ returns-2 c = report-refused _ _ (sym (c .before .before .before .find .ensures 
 
 pub lookup-report-spec : {M : Type 1} → statement M
 lookup-report-spec =
-    tie.close (tie.spec find-requires enum-told enum-known-verdict returns returns-2)
+    tie.close (tie.spec (λ c κs. search needs) enum-told (λ c. search needs) returns returns-2)

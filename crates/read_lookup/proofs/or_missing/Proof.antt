@@ -11,9 +11,6 @@ returns : tie.Need-returns
 unfolding _orElse_
 returns c = rw (c .enum-told .given .1)
 
-enum-told-2 : tie.Need-enum-told-2
-enum-told-2 c = search needs
-
 returns-2 : tie.Need-returns-2
 unfolding _orElse_ refuseIf
 returns-2 c = rw (c .before .enum-told2 .given .1, c .if1 .taken)
@@ -23,4 +20,4 @@ unfolding _orElse_ refuseIf
 returns-3 c = rw (c .before .enum-told2 .given .1, c .if1 .left)
 
 pub or-missing-spec : {M : Type 1} → statement M
-or-missing-spec = tie.close (tie.spec enum-told returns enum-told-2 returns-2 returns-3)
+or-missing-spec = tie.close (tie.spec enum-told returns (λ c. search needs) returns-2 returns-3)

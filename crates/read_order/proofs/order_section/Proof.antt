@@ -20,12 +20,6 @@ use Rattle.read_order.proofs.order_section.Tie as tie
 returns : tie.Need-returns
 returns c = none-ordered _ (sym (c .before .before .before .pre .0 .hasorder) ∙ not-true _ (c .if1 .taken))
 
-cast-sized-section : tie.Need-cast-sized-section
-cast-sized-section c = search needs
-
-sized-section-requires : tie.Need-sized-section-requires
-sized-section-requires c κs = search needs
-
 enum-told : tie.Need-enum-told
 enum-told c = search needs
 
@@ -45,9 +39,6 @@ returns-2 : tie.Need-returns-2
 returns-2 c =
     let sized = c .before .before in
     ordered _ (there sized) (or-stop _ (checked sized) (c .enum-told .given .1))
-
-enum-told-2 : tie.Need-enum-told-2
-enum-told-2 c = search needs
 
 each-once-requires : tie.Need-each-once-requires
 unfolding bodyAt
@@ -86,11 +77,11 @@ order-section-spec =
     tie.close
     (tie.spec
     returns
-    cast-sized-section
-    sized-section-requires
+    (λ c. search needs)
+    (λ c κs. search needs)
     enum-told
     returns-2
-    enum-told-2
+    (λ c. search needs)
     each-once-requires
     returns-3
     returns-4)

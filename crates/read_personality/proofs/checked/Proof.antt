@@ -65,18 +65,12 @@ layoutAt c = c .before .before .before .before .args .layout
 
 -- ── The calls ──
 
-site-section-requires : tie.Need-site-section-requires
-site-section-requires c κs = search needs
-
 enum-told : tie.Need-enum-told
 enum-told c = search needs
 
 returns : tie.Need-returns
 unfolding verdictOf
 returns c = or-stop _ (c .before .before .site-section .ensures) (c .enum-told .given .1)
-
-enum-told-2 : tie.Need-enum-told-2
-enum-told-2 c = search needs
 
 -- kind 1 has passed: the answer is that of what follows
 afterSite : (c : tie.After-enum-told2) {v : Verdict} → v ≡ fromPhases (atSite c) → v ≡ verdictOf (atSite c)
@@ -86,33 +80,15 @@ afterSite c e = or-next (c .before .before .site-section .ensures) (c .enum-told
 siteAccepted : (c : tie.After-enum-told2) → siteSection (atSite c) ≡ Accepted
 siteAccepted c = sym (c .before .before .site-section .ensures) ∙ c .enum-told2 .given .1
 
-phases-section-requires : tie.Need-phases-section-requires
-phases-section-requires c κs = search needs
-
-enum-told-3 : tie.Need-enum-told-3
-enum-told-3 c = search needs
-
 returns-2 : tie.Need-returns-2
 returns-2 c = afterSite (c .before .before .before) (or-stop _ (c .before .before .phases-section .ensures) (c .enum-told3 .given .1))
-
-enum-told-4 : tie.Need-enum-told-4
-enum-told-4 c = search needs
 
 -- kind 2 has passed: the answer is that of what follows
 afterPhases : (c : tie.After-enum-told4) {v : Verdict} → v ≡ fromGroups (atPhases c) → v ≡ verdictOf (atPhases c)
 afterPhases c e = afterSite (c .before .before .before) (or-next (c .before .before .phases-section .ensures) (c .enum-told4 .given .1) e)
 
-groups-section-requires : tie.Need-groups-section-requires
-groups-section-requires c κs = search needs
-
-enum-told-5 : tie.Need-enum-told-5
-enum-told-5 c = search needs
-
 returns-3 : tie.Need-returns-3
 returns-3 c = afterPhases (c .before .before .before) (or-stop _ (c .before .before .groups-section .ensures .verdict) (c .enum-told5 .given .1))
-
-enum-told-6 : tie.Need-enum-told-6
-enum-told-6 c = search needs
 
 -- kind 3 has passed: the answer is that of what follows
 afterGroups : (c : tie.After-enum-told6) {v : Verdict} → v ≡ fromConflicts (atGroups c) → v ≡ verdictOf (atGroups c)
@@ -126,14 +102,8 @@ conflicts-section-requires c κs =
     let site = siteBefore c in
     (site .before .before .before .before .pre, siteAccepted site, groupsAccepted c)
 
-enum-told-7 : tie.Need-enum-told-7
-enum-told-7 c = search needs
-
 returns-4 : tie.Need-returns-4
 returns-4 c = afterGroups (c .before .before .before) (or-stop _ (c .before .before .conflicts-section .ensures) (c .enum-told7 .given .1))
-
-enum-told-8 : tie.Need-enum-told-8
-enum-told-8 c = search needs
 
 -- kind 4 has passed: the answer is that of what follows
 afterConflicts : (c : tie.After-enum-told8) {v : Verdict} → v ≡ fromDetectors (atConflicts c) → v ≡ verdictOf (atConflicts c)
@@ -144,14 +114,8 @@ detectors-section-requires c κs =
     let site = c .before .before .before .before .before .before .before .before .before in
     (site .before .before .before .before .pre, siteAccepted site)
 
-enum-told-9 : tie.Need-enum-told-9
-enum-told-9 c = search needs
-
 returns-5 : tie.Need-returns-5
 returns-5 c = afterConflicts (c .before .before .before) (or-stop _ (c .before .before .detectors-section .ensures) (c .enum-told9 .given .1))
-
-enum-told-10 : tie.Need-enum-told-10
-enum-told-10 c = search needs
 
 -- kind 5 has passed: the answer is that of what follows
 afterDetectors : (c : tie.After-enum-told10) {v : Verdict} → v ≡ fromPedestrians (atDetectors c) → v ≡ verdictOf (atDetectors c)
@@ -170,14 +134,8 @@ pedestrians-section-requires c κs =
     let movements = groupsBefore c .before .before .groups-section .ensures .movements (groups .1) in
     (groups .0, movements, omega (arith, movements, groups-accepted _ (groups .1) .movements))
 
-enum-told-11 : tie.Need-enum-told-11
-enum-told-11 c = search needs
-
 returns-6 : tie.Need-returns-6
 returns-6 c = afterDetectors (c .before .before .before) (or-stop _ (c .before .before .pedestrians-section .ensures) (c .enum-told11 .given .1))
-
-enum-told-12 : tie.Need-enum-told-12
-enum-told-12 c = search needs
 
 -- kind 6 has passed: the answer is that of what follows
 pastPedestrians : (c : tie.After-enum-told12) {v : Verdict} → v ≡ afterPedestrians (atPedestrians c) → v ≡ verdictOf (atPedestrians c)
@@ -203,29 +161,29 @@ pub checked-spec : {M : Type 1} → statement M
 checked-spec =
     tie.close
     (tie.spec
-    site-section-requires
+    (λ c κs. search needs)
     enum-told
     returns
-    enum-told-2
-    phases-section-requires
-    enum-told-3
+    (λ c. search needs)
+    (λ c κs. search needs)
+    (λ c. search needs)
     returns-2
-    enum-told-4
-    groups-section-requires
-    enum-told-5
+    (λ c. search needs)
+    (λ c κs. search needs)
+    (λ c. search needs)
     returns-3
-    enum-told-6
+    (λ c. search needs)
     conflicts-section-requires
-    enum-told-7
+    (λ c. search needs)
     returns-4
-    enum-told-8
+    (λ c. search needs)
     detectors-section-requires
-    enum-told-9
+    (λ c. search needs)
     returns-5
-    enum-told-10
+    (λ c. search needs)
     pedestrians-section-requires
-    enum-told-11
+    (λ c. search needs)
     returns-6
-    enum-told-12
+    (λ c. search needs)
     after-pedestrians-requires
     returns-7)

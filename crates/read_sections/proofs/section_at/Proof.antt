@@ -11,9 +11,6 @@ use Rattle.rules.specs.Verdicts.{_orElse_, refuseIf}
 use Rattle.read_sections.proofs.section_at.Statement.{statement}
 use Rattle.read_sections.proofs.section_at.Tie as tie
 
-add-if1 : tie.Need-add-if1
-add-if1 c = search needs
-
 -- ── The tests, each at the place where the code has made it ──
 
 short : (c : tie.Then1) → let at = c .before .before .args in ltb (length (at .s .now)) (at .head + 4) ≡ true
@@ -50,12 +47,6 @@ returns : tie.Need-returns
 unfolding sectionAt refuseIf _orElse_
 returns c = rw (short c)
 
-add-two-in : tie.Need-add-two-in
-add-two-in c = search needs
-
-two-in-requires : tie.Need-two-in-requires
-two-in-requires c κs = search needs
-
 returns-2 : tie.Need-returns-2
 unfolding sectionAt refuseIf _orElse_
 returns-2 c = rw (notShort (c .before .before), otherKind c)
@@ -63,18 +54,6 @@ returns-2 c = rw (notShort (c .before .before), otherKind c)
 returns-3 : tie.Need-returns-3
 unfolding sectionAt refuseIf _orElse_
 returns-3 c = let named = c .before in rw (notShort (named .before .before), rightKind named, c .if3 .taken)
-
-add-if4 : tie.Need-add-if4
-add-if4 c = search needs
-
-two-in-requires-2 : tie.Need-two-in-requires-2
-two-in-requires-2 c κs = search needs
-
-cast-if4 : tie.Need-cast-if4
-cast-if4 c = search needs
-
-add-if4-2 : tie.Need-add-if4-2
-add-if4-2 c = search needs
 
 returns-4 : tie.Need-returns-4
 unfolding sectionAt refuseIf _orElse_
@@ -94,15 +73,15 @@ pub section-at-spec : {M : Type 1} → statement M
 section-at-spec =
     tie.close
     (tie.spec
-    add-if1
+    (λ c. search needs)
     returns
-    add-two-in
-    two-in-requires
+    (λ c. search needs)
+    (λ c κs. search needs)
     returns-2
     returns-3
-    add-if4
-    two-in-requires-2
-    cast-if4
-    add-if4-2
+    (λ c. search needs)
+    (λ c κs. search needs)
+    (λ c. search needs)
+    (λ c. search needs)
     returns-4
     returns-5)

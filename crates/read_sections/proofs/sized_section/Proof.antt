@@ -21,20 +21,8 @@ head-short :
 unfolding sectionAt
 head-short b head kind right h = or-stop _ (refuse-yes 1 head (lt-ltb _ _ h)) refl
 
-add-if1 : tie.Need-add-if1
-add-if1 c = search needs
-
 returns : tie.Need-returns
 returns c = let at = c .before .before .args in head-short (at .s .now) (at .head) (at .kind) _ (c .if1 .taken)
-
-two-in-requires : tie.Need-two-in-requires
-two-in-requires c κs = search needs
-
-cast-section-at : tie.Need-cast-section-at
-cast-section-at c = search needs
-
-section-at-requires : tie.Need-section-at-requires
-section-at-requires c κs = search needs
 
 returns-2 : tie.Need-returns-2
 unfolding bodyLength
@@ -42,4 +30,4 @@ returns-2 c = rw (c .before .two-in .ensures) at (c .section-at .ensures)
 
 pub sized-section-spec : {M : Type 1} → statement M
 sized-section-spec =
-    tie.close (tie.spec add-if1 returns two-in-requires cast-section-at section-at-requires returns-2)
+    tie.close (tie.spec (λ c. search needs) returns (λ c κs. search needs) (λ c. search needs) (λ c κs. search needs) returns-2)

@@ -5,12 +5,6 @@ use Rattle.rules.specs.Verdicts.{refuseIf}
 use Rattle.read_time_records.proofs.time_at.Statement.{statement}
 use Rattle.read_time_records.proofs.time_at.Tie as tie
 
-two-in-requires : tie.Need-two-in-requires
-two-in-requires c κs = search needs
-
-within-requires : tie.Need-within-requires
-within-requires c κs = search needs
-
 returns : tie.Need-returns
 unfolding timeAt refuseIf
 returns c = let e = c .if1 .taken in let f = c .before .within .ensures in let g = c .before .before .two-in .ensures in rw (← g, ← c .before .before .before .before .pre .1, ← f, e)
@@ -20,4 +14,4 @@ unfolding timeAt refuseIf
 returns-2 c = let e = c .if1 .left in let f = c .before .within .ensures in let g = c .before .before .two-in .ensures in rw (← g, ← c .before .before .before .before .pre .1, ← f, e)
 
 pub time-at-spec : {M : Type 1} → statement M
-time-at-spec = tie.close (tie.spec two-in-requires within-requires returns returns-2)
+time-at-spec = tie.close (tie.spec (λ c κs. search needs) (λ c κs. search needs) returns returns-2)

@@ -10,17 +10,11 @@ use Rattle.proof_acceptance.proofs.Sections.{records-held}
 use Rattle.read_time_records.proofs.timed_section.Statement.{statement}
 use Rattle.read_time_records.proofs.timed_section.Tie as tie
 
-mul-sized-section : tie.Need-mul-sized-section
-mul-sized-section c = search needs
-
 mul-sized-section-2 : tie.Need-mul-sized-section-2
 mul-sized-section-2 c =
     let a = c .before .args in
     let near : a .count * (a .fields * 2) ≤ 5100 = mul-le-mul {m₂ = 20} (c .before .pre .0 .3) (omega arith) in
     search needs
-
-sized-section-requires : tie.Need-sized-section-requires
-sized-section-requires c κs = search needs
 
 enum-told : tie.Need-enum-told
 enum-told c = search needs
@@ -28,9 +22,6 @@ enum-told c = search needs
 returns : tie.Need-returns
 unfolding timedSection
 returns c = or-stop _ (c .before .before .sized-section .ensures) (c .enum-told .given .1)
-
-enum-told-2 : tie.Need-enum-told-2
-enum-told-2 c = search needs
 
 time-records-requires : tie.Need-time-records-requires
 unfolding bodyAt
@@ -48,11 +39,11 @@ pub timed-section-spec : {M : Type 1} → statement M
 timed-section-spec =
     tie.close
     (tie.spec
-    mul-sized-section
+    (λ c. search needs)
     mul-sized-section-2
-    sized-section-requires
+    (λ c κs. search needs)
     enum-told
     returns
-    enum-told-2
+    (λ c. search needs)
     time-records-requires
     returns-2)

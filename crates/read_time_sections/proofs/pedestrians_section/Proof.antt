@@ -4,12 +4,6 @@ use Rattle.rules.specs.Personality.{pedestriansSection}
 use Rattle.read_time_sections.proofs.pedestrians_section.Statement.{statement}
 use Rattle.read_time_sections.proofs.pedestrians_section.Tie as tie
 
-edition-of-requires : tie.Need-edition-of-requires
-edition-of-requires c κs = search needs
-
-timed-section-requires : tie.Need-timed-section-requires
-timed-section-requires c κs = search needs
-
 returns : tie.Need-returns
 unfolding pedestriansSection
 returns c =
@@ -17,4 +11,4 @@ returns c =
     rw (asked .0 .pedestrians, asked .1) at (c .timed-section .ensures)
 
 pub pedestrians-section-spec : {M : Type 1} → statement M
-pedestrians-section-spec = tie.close (tie.spec edition-of-requires timed-section-requires returns)
+pedestrians-section-spec = tie.close (tie.spec (λ c κs. search needs) (λ c κs. search needs) returns)

@@ -10,15 +10,6 @@ use Rattle.read_layout.specs.LayoutOf.{LayoutOf}
 use Rattle.read_time_sections.proofs.site_section.Statement.{statement}
 use Rattle.read_time_sections.proofs.site_section.Tie as tie
 
-edition-of-requires : tie.Need-edition-of-requires
-edition-of-requires c κs = search needs
-
-site-kind-requires : tie.Need-site-kind-requires
-site-kind-requires c κs = search needs
-
-sized-section-requires : tie.Need-sized-section-requires
-sized-section-requires c κs = search needs
-
 -- the kind asked for is that of the edition
 headed :
     (c : tie.After-sized-section) →
@@ -32,9 +23,6 @@ enum-told c = search needs
 returns : tie.Need-returns
 unfolding siteSection
 returns c = or-stop _ (headed (c .before .before)) (c .enum-told .given .1)
-
-enum-told-2 : tie.Need-enum-told-2
-enum-told-2 c = search needs
 
 -- what the layout holds
 laid :
@@ -79,12 +67,12 @@ pub site-section-spec : {M : Type 1} → statement M
 site-section-spec =
     tie.close
     (tie.spec
-    edition-of-requires
-    site-kind-requires
-    sized-section-requires
+    (λ c κs. search needs)
+    (λ c κs. search needs)
+    (λ c κs. search needs)
     enum-told
     returns
-    enum-told-2
+    (λ c. search needs)
     returns-2
     returns-3
     time-at-requires

@@ -13,12 +13,6 @@ use borrow.Author.Needs.{needs}
 use Rattle.road_run.proofs.run.Statement.{statement}
 use Rattle.road_run.proofs.run.Tie as tie
 
-fresh-requires : tie.Need-fresh-requires
-fresh-requires c κs = search needs
-
-slice-aggregate-road-steps : tie.Need-slice-aggregate-road-steps
-slice-aggregate-road-steps c = search needs
-
 abbrev entry : tie.After-road-steps → tie.Start
 entry c = c .before .before .before .before .before
 
@@ -46,18 +40,12 @@ ended c b start =
     let whole : 0 + steps ≡ steps = omega arith in
     rw whole at (c .road-steps .ensures .road b steps 0 (omega arith) (begun (c .before .before) b start))
 
-slice-aggregate-put-results : tie.Need-slice-aggregate-put-results
-slice-aggregate-put-results c = search needs
-
 put-results-requires : tie.Need-put-results-requires
 unfolding streamCount
 put-results-requires c κs =
     let ran = c .before .before .before in
     let some = entry ran .pre in
     (ended ran (some .b) (some .start) .room, omega (arith, known-streams _ _ _ (some .start .known) .whole, some .enough))
-
-same-length : tie.Need-same-length
-same-length c = search needs
 
 returns : tie.Need-returns
 unfolding streamCount
@@ -77,10 +65,10 @@ pub run-spec : {M : Type 1} → statement M
 run-spec =
     tie.close
     (tie.spec
-    fresh-requires
-    slice-aggregate-road-steps
+    (λ c κs. search needs)
+    (λ c. search needs)
     road-steps-requires
-    slice-aggregate-put-results
+    (λ c. search needs)
     put-results-requires
-    same-length
+    (λ c. search needs)
     returns)

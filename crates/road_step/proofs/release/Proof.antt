@@ -10,19 +10,10 @@ use borrow.Author.Needs.{needs}
 use Rattle.road_step.proofs.release.Statement.{statement}
 use Rattle.road_step.proofs.release.Tie as tie
 
-traffic-at-requires : tie.Need-traffic-at-requires
-traffic-at-requires c κs = search needs
-
 released-requires : tie.Need-released-requires
 released-requires c κs =
     let pre = c .before .before .before .before .pre in
     rw (c .traffic-at .ensures) (pre .1, pre .2)
-
-put-at-requires : tie.Need-put-at-requires
-put-at-requires c κs = search needs
-
-same-length : tie.Need-same-length
-same-length c = search needs
 
 returns : tie.Need-returns
 returns c =
@@ -36,21 +27,6 @@ returns c =
     ∙ ap (putAt (a .cells .now) (a .i))
     (made .released .ensures colour (e ∙ chosen .if1 .taken) ∙ ap (released colour) (read .traffic-at .ensures))
 
-mul-cells : tie.Need-mul-cells
-mul-cells c = search needs
-
-add-cells : tie.Need-add-cells
-add-cells c = search needs
-
-mul-cells-2 : tie.Need-mul-cells-2
-mul-cells-2 c = search needs
-
-slice-write-cells : tie.Need-slice-write-cells
-slice-write-cells c = search needs
-
-same-length-2 : tie.Need-same-length-2
-same-length-2 c = search needs
-
 returns-2 : tie.Need-returns-2
 unfolding released
 returns-2 c =
@@ -61,14 +37,14 @@ pub release-spec : {M : Type 1} → statement M
 release-spec =
     tie.close
     (tie.spec
-    traffic-at-requires
+    (λ c κs. search needs)
     released-requires
-    put-at-requires
-    same-length
+    (λ c κs. search needs)
+    (λ c. search needs)
     returns
-    mul-cells
-    add-cells
-    mul-cells-2
-    slice-write-cells
-    same-length-2
+    (λ c. search needs)
+    (λ c. search needs)
+    (λ c. search needs)
+    (λ c. search needs)
+    (λ c. search needs)
     returns-2)

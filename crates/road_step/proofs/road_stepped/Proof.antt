@@ -9,13 +9,10 @@ road-steps-requires c κs =
     let some = c .before .before .before .pre in
     record { b = some .b; whole = some .steps; n = some .n; enough = omega (arith, some .before); road = some .road }
 
-same-length : tie.Need-same-length
-same-length c = search needs
-
 returns : tie.Need-returns
 returns c =
     let further = c .before .before .road-steps .ensures in
     record { same = further .same; road = λ b steps n before road. further .road b steps n (omega (arith, before)) road }
 
 pub road-stepped-spec : {M : Type 1} → statement M
-road-stepped-spec = tie.close (tie.spec road-steps-requires same-length returns)
+road-stepped-spec = tie.close (tie.spec road-steps-requires (λ c. search needs) returns)

@@ -4,17 +4,11 @@ use borrow.Author.Needs.{needs}
 use Rattle.road_streams.proofs.arrived.Statement.{statement}
 use Rattle.road_streams.proofs.arrived.Tie as tie
 
-add-sum : tie.Need-add-sum
-add-sum c = search needs
-
 returns : tie.Need-returns
 returns c = nobody-joins _ (c .before .before .args .traffic) (c .if1 .taken)
-
-add-t6 : tie.Need-add-t6
-add-t6 c = search needs
 
 returns-2 : tie.Need-returns-2
 returns-2 c = one-joins _ (c .before .before .before .args .traffic) (c .before .if1 .left)
 
 pub arrived-spec : {M : Type 1} → statement M
-arrived-spec = tie.close (tie.spec add-sum returns add-t6 returns-2)
+arrived-spec = tie.close (tie.spec (λ c. search needs) returns (λ c. search needs) returns-2)

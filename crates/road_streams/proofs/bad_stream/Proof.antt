@@ -5,12 +5,9 @@ use mathlib.Core.Path.{refl}
 use Rattle.road_streams.proofs.bad_stream.Statement.{statement}
 use Rattle.road_streams.proofs.bad_stream.Tie as tie
 
-vehicle-group-requires : tie.Need-vehicle-group-requires
-vehicle-group-requires c κs = search needs
-
 returns : tie.Need-returns
 unfolding badStream
 returns c = rw (c .before .before .before .vehicle-group .ensures) refl
 
 pub bad-stream-spec : {M : Type 1} → statement M
-bad-stream-spec = tie.close (tie.spec vehicle-group-requires returns)
+bad-stream-spec = tie.close (tie.spec (λ c κs. search needs) returns)

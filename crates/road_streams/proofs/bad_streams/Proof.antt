@@ -13,13 +13,10 @@ returns-2 c = many-streams _ _ _ (c .before .if1 .left) (c .if2 .taken)
 returns-3 : tie.Need-returns-3
 returns-3 c = many-steps _ _ _ (c .before .before .if1 .left) (c .before .if2 .left) (c .if3 .taken)
 
-some-bad-requires : tie.Need-some-bad-requires
-some-bad-requires c κs = search needs
-
 returns-4 : tie.Need-returns-4
 returns-4 c =
     let past = c .before in
     each-stream _ _ _ (past .before .before .if1 .left) (past .before .if2 .left) (past .if3 .left) (c .some-bad .ensures)
 
 pub bad-streams-spec : {M : Type 1} → statement M
-bad-streams-spec = tie.close (tie.spec returns returns-2 returns-3 some-bad-requires returns-4)
+bad-streams-spec = tie.close (tie.spec returns returns-2 returns-3 (λ c κs. search needs) returns-4)

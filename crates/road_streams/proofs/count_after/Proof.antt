@@ -5,9 +5,6 @@ use Rattle.road_streams.specs.Road.{queues}
 use Rattle.road_streams.proofs.count_after.Statement.{statement}
 use Rattle.road_streams.proofs.count_after.Tie as tie
 
-add-result : tie.Need-add-result
-add-result c = search needs
-
 returns : tie.Need-returns
 unfolding queues
 returns c = rw (c .before .if1 .taken) refl
@@ -17,4 +14,4 @@ unfolding queues
 returns-2 c = rw (c .if1 .left) refl
 
 pub count-after-spec : {M : Type 1} → statement M
-count-after-spec = tie.close (tie.spec add-result returns returns-2)
+count-after-spec = tie.close (tie.spec (λ c. search needs) returns returns-2)

@@ -4,17 +4,11 @@ use Rattle.road_streams.proofs.One.{some-queue, one-leaves, nobody-leav
 use Rattle.road_streams.proofs.released.Statement.{statement}
 use Rattle.road_streams.proofs.released.Tie as tie
 
-count-after-requires : tie.Need-count-after-requires
-count-after-requires c κs = search needs
-
 sub-t5 : tie.Need-sub-t5
 sub-t5 c =
     let counted = c .before .before in
     let a = counted .before .args in
     some-queue (a .traffic) (a .shows-green) _ (counted .count-after .ensures) (c .before .if1 .taken)
-
-add-t6 : tie.Need-add-t6
-add-t6 c = search needs
 
 returns : tie.Need-returns
 returns c =
@@ -28,4 +22,4 @@ returns-2 c =
     λ colour e. nobody-leaves (a .traffic) (a .shows-green) _ (c .before .count-after .ensures) colour e (c .if1 .left)
 
 pub released-spec : {M : Type 1} → statement M
-released-spec = tie.close (tie.spec count-after-requires sub-t5 add-t6 returns returns-2)
+released-spec = tie.close (tie.spec (λ c κs. search needs) sub-t5 (λ c. search needs) returns returns-2)

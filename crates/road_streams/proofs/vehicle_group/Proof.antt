@@ -7,12 +7,6 @@ use mathlib.Core.Path.{refl}
 use Rattle.road_streams.proofs.vehicle_group.Statement.{statement}
 use Rattle.road_streams.proofs.vehicle_group.Tie as tie
 
-mul-group : tie.Need-mul-group
-mul-group c = search needs
-
-array-copy-out-group : tie.Need-array-copy-out-group
-array-copy-out-group c = search needs
-
 returns : tie.Need-returns
 unfolding vehicleGroup isPedestrian groupOf
 returns c = rw (lt-ltb _ _ (c .before .before .before .if1 .taken)) refl
@@ -22,4 +16,4 @@ unfolding vehicleGroup
 returns-2 c = rw (le-ltb _ _ (c .if1 .left)) refl
 
 pub vehicle-group-spec : {M : Type 1} → statement M
-vehicle-group-spec = tie.close (tie.spec mul-group array-copy-out-group returns returns-2)
+vehicle-group-spec = tie.close (tie.spec (λ c. search needs) (λ c. search needs) returns returns-2)

@@ -11,18 +11,6 @@ use borrow.Author.Needs.{needs}
 use Rattle.run_road.proofs.try_road.Statement.{statement}
 use Rattle.run_road.proofs.try_road.Tie as tie
 
-read-with-layout-requires : tie.Need-read-with-layout-requires
-read-with-layout-requires c κs = search needs
-
-enum-known-verdict : tie.Need-enum-known-verdict
-enum-known-verdict c = search needs
-
-refuse-requires : tie.Need-refuse-requires
-refuse-requires c κs = search needs
-
-returns : tie.Need-returns
-returns c = search needs
-
 enum-told : tie.Need-enum-told
 enum-told c = search needs
 
@@ -36,12 +24,6 @@ site-of-requires c κs = let told = c .before in accepted-fits (accepted told) (
 bad-streams-requires : tie.Need-bad-streams-requires
 unfolding AcceptedIsSound
 bad-streams-requires c κs = subst⁻¹ Sound (c .site-of .ensures) (accepted-is-sound _ (accepted (c .before .before)))
-
-refuse-requires-2 : tie.Need-refuse-requires-2
-refuse-requires-2 c κs = search needs
-
-returns-2 : tie.Need-returns-2
-returns-2 c = search needs
 
 run-and-show-requires : tie.Need-run-and-show-requires
 run-and-show-requires c κs =
@@ -58,21 +40,18 @@ run-and-show-requires c κs =
           };
     }
 
-returns-3 : tie.Need-returns-3
-returns-3 c = search needs
-
 pub try-road-spec : {M : Type 1} → statement M
 try-road-spec =
     tie.close
     (tie.spec
-    read-with-layout-requires
-    enum-known-verdict
-    refuse-requires
-    returns
+    (λ c κs. search needs)
+    (λ c. search needs)
+    (λ c κs. search needs)
+    (λ c. search needs)
     enum-told
     site-of-requires
     bad-streams-requires
-    refuse-requires-2
-    returns-2
+    (λ c κs. search needs)
+    (λ c. search needs)
     run-and-show-requires
-    returns-3)
+    (λ c. search needs))

@@ -8,9 +8,6 @@ use Rattle.laws.proofs.Lists.{entry-same}
 use Rattle.run_text.proofs.colour_letter.Statement.{statement}
 use Rattle.run_text.proofs.colour_letter.Tie as tie
 
-array-read-result : tie.Need-array-read-result
-array-read-result c = search needs
-
 returns : tie.Need-returns
 unfolding colourLetter
 returns c = entry-same (82 ∷ 89 ∷ 71 ∷ 70 ∷ []) (c .before .args .code) 0 82 (c .if1 .taken)
@@ -20,4 +17,4 @@ unfolding colourLetter
 returns-2 c = sym (List·getD-eq-default (82 ∷ 89 ∷ 71 ∷ 70 ∷ []) 82 (c .if1 .left))
 
 pub colour-letter-spec : {M : Type 1} → statement M
-colour-letter-spec = tie.close (tie.spec array-read-result returns returns-2)
+colour-letter-spec = tie.close (tie.spec (λ c. search needs) returns returns-2)

@@ -8,15 +8,9 @@ use Rattle.run_text.proofs.Tails.{space-at}
 use Rattle.run_text.proofs.leading_letter.Statement.{statement}
 use Rattle.run_text.proofs.leading_letter.Tie as tie
 
-phase-letter-requires : tie.Need-phase-letter-requires
-phase-letter-requires c κs = search needs
-
 returns : tie.Need-returns
 unfolding leading
 returns c = rw (c .before .if1 .taken) (c .phase-letter .ensures)
-
-interval-row-requires : tie.Need-interval-row-requires
-interval-row-requires c κs = search needs
 
 returns-2 : tie.Need-returns-2
 unfolding leading letterOf
@@ -30,4 +24,4 @@ returns-3 c =
 
 pub leading-letter-spec : {M : Type 1} → statement M
 leading-letter-spec =
-    tie.close (tie.spec phase-letter-requires returns interval-row-requires returns-2 returns-3)
+    tie.close (tie.spec (λ c κs. search needs) returns (λ c κs. search needs) returns-2 returns-3)

@@ -5,12 +5,6 @@ use Rattle.run_text.proofs.Tails.{before-groups, from-groups}
 use Rattle.run_text.proofs.letter.Statement.{statement}
 use Rattle.run_text.proofs.letter.Tie as tie
 
-leading-letter-requires : tie.Need-leading-letter-requires
-leading-letter-requires c κs = search needs
-
-shown-letter-requires : tie.Need-shown-letter-requires
-shown-letter-requires c κs = search needs
-
 returns : tie.Need-returns
 returns c =
     let a = c .before .before .before .args in
@@ -22,4 +16,4 @@ returns-2 c =
     c .shown-letter .ensures ∙ sym (from-groups (a .position) (a .colours .now) (a .i) (c .before .if1 .left))
 
 pub letter-spec : {M : Type 1} → statement M
-letter-spec = tie.close (tie.spec leading-letter-requires shown-letter-requires returns returns-2)
+letter-spec = tie.close (tie.spec (λ c κs. search needs) (λ c κs. search needs) returns returns-2)

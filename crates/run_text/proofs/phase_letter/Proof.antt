@@ -8,9 +8,6 @@ use Rattle.laws.proofs.Lists.{entry-same}
 use Rattle.run_text.proofs.phase_letter.Statement.{statement}
 use Rattle.run_text.proofs.phase_letter.Tie as tie
 
-array-read-result : tie.Need-array-read-result
-array-read-result c = search needs
-
 returns : tie.Need-returns
 unfolding phaseLetter
 returns c = entry-same (65 ∷ 66 ∷ 67 ∷ 68 ∷ 69 ∷ 70 ∷ 71 ∷ []) (c .before .args .phase) 0 63 (c .if1 .taken)
@@ -20,4 +17,4 @@ unfolding phaseLetter
 returns-2 c = sym (List·getD-eq-default (65 ∷ 66 ∷ 67 ∷ 68 ∷ 69 ∷ 70 ∷ 71 ∷ []) 63 (c .if1 .left))
 
 pub phase-letter-spec : {M : Type 1} → statement M
-phase-letter-spec = tie.close (tie.spec array-read-result returns returns-2)
+phase-letter-spec = tie.close (tie.spec (λ c. search needs) returns returns-2)

@@ -5,12 +5,6 @@ use Rattle.run_text.proofs.Tails.{group-at, end-at}
 use Rattle.run_text.proofs.shown_letter.Statement.{statement}
 use Rattle.run_text.proofs.shown_letter.Tie as tie
 
-shared-slice-read-colour-letter : tie.Need-shared-slice-read-colour-letter
-shared-slice-read-colour-letter c = search needs
-
-colour-letter-requires : tie.Need-colour-letter-requires
-colour-letter-requires c κs = search needs
-
 returns : tie.Need-returns
 returns c =
     let a = c .before .before .before .before .args in
@@ -21,4 +15,4 @@ returns-2 c = let a = c .before .before .args in sym (end-at (a .colours .now) (
 
 pub shown-letter-spec : {M : Type 1} → statement M
 shown-letter-spec =
-    tie.close (tie.spec shared-slice-read-colour-letter colour-letter-requires returns returns-2)
+    tie.close (tie.spec (λ c. search needs) (λ c κs. search needs) returns returns-2)

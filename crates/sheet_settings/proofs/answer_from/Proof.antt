@@ -8,15 +8,6 @@ use Rattle.sheet_settings.specs.Sheet.{highestMinimum, highestGap, withi
 use Rattle.sheet_settings.proofs.answer_from.Statement.{statement}
 use Rattle.sheet_settings.proofs.answer_from.Tie as tie
 
-limits-requires : tie.Need-limits-requires
-limits-requires c κs = search needs
-
-element-copy-out-if1 : tie.Need-element-copy-out-if1
-element-copy-out-if1 c = search needs
-
-element-copy-out-if1-2 : tie.Need-element-copy-out-if1-2
-element-copy-out-if1-2 c = search needs
-
 returns : tie.Need-returns
 unfolding answerFrom withinLimits highestMinimum highestGap limitOf limits
 returns c =
@@ -31,4 +22,4 @@ returns-2 c =
 
 pub answer-from-spec : {M : Type 1} → statement M
 answer-from-spec =
-    tie.close (tie.spec limits-requires element-copy-out-if1 element-copy-out-if1-2 returns returns-2)
+    tie.close (tie.spec (λ c κs. search needs) (λ c. search needs) (λ c. search needs) returns returns-2)

@@ -9,9 +9,6 @@ use Rattle.sheet_settings.proofs.Metres.{le-cast}
 use Rattle.sheet_settings.proofs.in_range.Statement.{statement}
 use Rattle.sheet_settings.proofs.in_range.Tie as tie
 
-metres-of-requires : tie.Need-metres-of-requires
-metres-of-requires c κs = search needs
-
 returns : tie.Need-returns
 unfolding inRange metresInRange ofBits ofInt
 returns c =
@@ -20,4 +17,4 @@ returns c =
     (ap (λ (t : Bool). speedInRange (c .before .args .sheet .speed) && (le (whole 0) x && t)) (le-cast 300 x (lit≤ tt)))
 
 pub in-range-spec : {M : Type 1} → statement M
-in-range-spec = tie.close (tie.spec metres-of-requires returns)
+in-range-spec = tie.close (tie.spec (λ c κs. search needs) returns)

@@ -23,16 +23,10 @@ settled : (s : Sheet) → inRange s ≡ true → answerFrom (minimumGreen (metre
 unfolding answerOf
 settled s e = rw e
 
-in-range-requires : tie.Need-in-range-requires
-in-range-requires c κs = search needs
-
 returns : tie.Need-returns
 returns c =
     let s = c .before .before .args .sheet in
     promised s (refused s (sym (c .before .in-range .ensures) ∙ not-true _ (c .if1 .taken)))
-
-metres-of-requires : tie.Need-metres-of-requires
-metres-of-requires c κs = search needs
 
 -- what the test tells of the sheet
 fine : (c : tie.Else1) → inRange (c .before .before .args .sheet) ≡ true
@@ -46,9 +40,6 @@ passage-time-requires : tie.Need-passage-time-requires
 passage-time-requires c κs =
     in-range-parts (c .before .before .before .before .args .sheet) (fine (c .before .before))
 
-answer-from-requires : tie.Need-answer-from-requires
-answer-from-requires c κs = search needs
-
 returns-2 : tie.Need-returns-2
 returns-2 c =
     let s = c .before .before .before .before .before .before .args .sheet in
@@ -60,10 +51,10 @@ pub settings-spec : {M : Type 1} → statement M
 settings-spec =
     tie.close
     (tie.spec
-    in-range-requires
+    (λ c κs. search needs)
     returns
-    metres-of-requires
+    (λ c κs. search needs)
     minimum-green-requires
     passage-time-requires
-    answer-from-requires
+    (λ c κs. search needs)
     returns-2)

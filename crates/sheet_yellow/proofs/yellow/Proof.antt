@@ -17,9 +17,6 @@ use Rattle.sheet_yellow.proofs.Entries.{column-counted}
 use Rattle.sheet_yellow.proofs.yellow.Statement.{statement}
 use Rattle.sheet_yellow.proofs.yellow.Tie as tie
 
-in-range-requires : tie.Need-in-range-requires
-in-range-requires c κs = search needs
-
 returns : tie.Need-returns
 returns c =
     let a = c .before .before .args in
@@ -33,16 +30,10 @@ fine c = rw (toZ-ofZ (c .before .before .fits .grade)) at (sym (c .before .in-ra
 sub-row : tie.Need-sub-row
 sub-row c = let a = c .before .before .args in omega (arith, in-range-parts (a .speed) (a .grade) (fine c) .0)
 
-cast-row : tie.Need-cast-row
-cast-row c = search needs
-
 column-of-requires : tie.Need-column-of-requires
 column-of-requires c κs =
     let a = c .before .before .args in
     rw (toZ-ofZ (c .before .before .fits .grade)) (in-range-parts (a .speed) (a .grade) (fine c) .2)
-
-table-requires : tie.Need-table-requires
-table-requires c κs = search needs
 
 -- what is then known of row and column
 range : (c : tie.After-table) → inRange (c .before .before .before .before .args .speed) (c .before .before .before .before .args .grade) ≡ true
@@ -91,12 +82,12 @@ pub yellow-spec : {M : Type 1} → statement M
 yellow-spec =
     tie.close
     (tie.spec
-    in-range-requires
+    (λ c κs. search needs)
     returns
     sub-row
-    cast-row
+    (λ c. search needs)
     column-of-requires
-    table-requires
+    (λ c κs. search needs)
     mul-steps
     add-steps
     array-read-steps

@@ -8,12 +8,6 @@ use borrow.Author.Needs.{needs}
 use Rattle.site_rows.proofs.order_in.Statement.{statement}
 use Rattle.site_rows.proofs.order_in.Tie as tie
 
-add-byte-in : tie.Need-add-byte-in
-add-byte-in c = search needs
-
-add-byte-in-2 : tie.Need-add-byte-in-2
-add-byte-in-2 c = search needs
-
 byte-in-requires : tie.Need-byte-in-requires
 unfolding bodyAt
 byte-in-requires c κs =
@@ -33,4 +27,4 @@ unfolding orderIn
 returns-2 c = let laid = c .before .before .pre .0 .laid in rw (sym (laid .hasorder) ∙ c .if1 .left)
 
 pub order-in-spec : {M : Type 1} → statement M
-order-in-spec = tie.close (tie.spec add-byte-in add-byte-in-2 byte-in-requires returns returns-2)
+order-in-spec = tie.close (tie.spec (λ c. search needs) (λ c. search needs) byte-in-requires returns returns-2)

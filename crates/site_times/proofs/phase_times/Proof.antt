@@ -8,12 +8,6 @@ use borrow.Author.Needs.{needs}
 use Rattle.site_times.proofs.phase_times.Statement.{statement}
 use Rattle.site_times.proofs.phase_times.Tie as tie
 
-add-read : tie.Need-add-read
-add-read c = search needs
-
-cast-read : tie.Need-cast-read
-cast-read c = search needs
-
 read-requires : tie.Need-read-requires
 unfolding bodyAt
 read-requires c κs = let fitting = c .before .before .before .pre in (fitting .phases, omega (arith, phases-end fitting), fitting .early)
@@ -24,4 +18,4 @@ returns c =
     c .read .ensures ∙ phases-own (start .args .s .now) (start .args .layout) (start .pre .laid)
 
 pub phase-times-spec : {M : Type 1} → statement M
-phase-times-spec = tie.close (tie.spec add-read cast-read read-requires returns)
+phase-times-spec = tie.close (tie.spec (λ c. search needs) (λ c. search needs) read-requires returns)

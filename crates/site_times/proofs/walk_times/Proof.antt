@@ -7,9 +7,6 @@ use borrow.Author.Needs.{needs}
 use Rattle.site_times.proofs.walk_times.Statement.{statement}
 use Rattle.site_times.proofs.walk_times.Tie as tie
 
-add-read : tie.Need-add-read
-add-read c = search needs
-
 read-requires : tie.Need-read-requires
 unfolding bodyAt
 read-requires c κs =
@@ -22,4 +19,4 @@ returns c =
     rw (start .pre .1) at (c .read .ensures) ∙ walks-own (start .args .s .now) (start .args .layout) (start .pre .0 .laid)
 
 pub walk-times-spec : {M : Type 1} → statement M
-walk-times-spec = tie.close (tie.spec add-read read-requires returns)
+walk-times-spec = tie.close (tie.spec (λ c. search needs) read-requires returns)

@@ -8,37 +8,16 @@ use borrow.Author.Needs.{needs}
 use Rattle.site_whole.proofs.site_of.Statement.{statement}
 use Rattle.site_whole.proofs.site_of.Tie as tie
 
-group-rows-in-requires : tie.Need-group-rows-in-requires
-group-rows-in-requires c κs = search needs
-
 size-requires : tie.Need-size-requires
 unfolding groupRowsIn
 size-requires c κs =
     (c .before .before .pre, ap (λ (x : GroupRows). x .movements) (c .group-rows-in .ensures))
-
-edition-of-requires : tie.Need-edition-of-requires
-edition-of-requires c κs = search needs
-
-conflicts-requires : tie.Need-conflicts-requires
-conflicts-requires c κs = search needs
-
-cast-detectors : tie.Need-cast-detectors
-cast-detectors c = search needs
 
 detectors-requires : tie.Need-detectors-requires
 unfolding siteOf
 detectors-requires c κs =
     let sized = c .before .before .before .before .before in
     (sized .before .before .before .pre, ap (λ (x : Size). x .detectors) (sized .size .ensures))
-
-order-requires : tie.Need-order-requires
-order-requires c κs = search needs
-
-start-red-requires : tie.Need-start-red-requires
-start-red-requires c κs = search needs
-
-phase-times-requires : tie.Need-phase-times-requires
-phase-times-requires c κs = search needs
 
 walk-times-requires : tie.Need-walk-times-requires
 unfolding groupRowsIn
@@ -71,14 +50,14 @@ pub site-of-spec : {M : Type 1} → statement M
 site-of-spec =
     tie.close
     (tie.spec
-    group-rows-in-requires
+    (λ c κs. search needs)
     size-requires
-    edition-of-requires
-    conflicts-requires
-    cast-detectors
+    (λ c κs. search needs)
+    (λ c κs. search needs)
+    (λ c. search needs)
     detectors-requires
-    order-requires
-    start-red-requires
-    phase-times-requires
+    (λ c κs. search needs)
+    (λ c κs. search needs)
+    (λ c κs. search needs)
     walk-times-requires
     returns)

@@ -18,13 +18,10 @@ unfolding detectorCount
 cast-t7 c =
     let fitting = c .before .pre .0 in omega (arith, fitting .detectors, detectors-length (fitting .laid))
 
-cast-t8 : tie.Need-cast-t8
-cast-t8 c = search needs
-
 returns : tie.Need-returns
 unfolding siteOf detectorCount
 returns c =
     let laid = c .before .pre .0 .laid in simp (laid .phasecount, laid .groupcount, detectors-length laid, c .before .pre .1)
 
 pub size-spec : {M : Type 1} → statement M
-size-spec = tie.close (tie.spec sub-t4 sub-t5 cast-t7 cast-t8 returns)
+size-spec = tie.close (tie.spec sub-t4 sub-t5 cast-t7 (λ c. search needs) returns)

@@ -7,19 +7,10 @@ use borrow.Author.Needs.{needs}
 use Rattle.site_whole.proofs.timing_in.Statement.{statement}
 use Rattle.site_whole.proofs.timing_in.Tie as tie
 
-group-rows-in-requires : tie.Need-group-rows-in-requires
-group-rows-in-requires c κs = search needs
-
 size-requires : tie.Need-size-requires
 unfolding groupRowsIn
 size-requires c κs =
     (c .before .before .pre, ap (λ (x : GroupRows). x .movements) (c .group-rows-in .ensures))
-
-start-red-requires : tie.Need-start-red-requires
-start-red-requires c κs = search needs
-
-phase-times-requires : tie.Need-phase-times-requires
-phase-times-requires c κs = search needs
 
 walk-times-requires : tie.Need-walk-times-requires
 unfolding groupRowsIn
@@ -35,4 +26,4 @@ returns c =
     simp (c .walk-times .ensures, c .before .phase-times .ensures, timed .start-red .ensures, sized .size .ensures, sized .before .group-rows-in .ensures)
 
 pub timing-in-spec : {M : Type 1} → statement M
-timing-in-spec = tie.close (tie.spec group-rows-in-requires size-requires start-red-requires phase-times-requires walk-times-requires returns)
+timing-in-spec = tie.close (tie.spec (λ c κs. search needs) size-requires (λ c κs. search needs) (λ c κs. search needs) walk-times-requires returns)

@@ -14,12 +14,6 @@ returns c =
     let other = ne-eqb (length (c .before .before .args .bytes .now)) stateBytes (c .if1 .taken) in
     (sym other, rw other)
 
-put-requires : tie.Need-put-requires
-put-requires c κs = search needs
-
-same-length : tie.Need-same-length
-same-length c = search needs
-
 returns-2 : tie.Need-returns-2
 unfolding encodedOver
 returns-2 c =
@@ -31,4 +25,4 @@ returns-2 c =
     (sym room, rw (room, stored .put .ensures) (written-whole (a .state) (a .bytes .now) size))
 
 pub encode-spec : {M : Type 1} → statement M
-encode-spec = tie.close (tie.spec returns put-requires same-length returns-2)
+encode-spec = tie.close (tie.spec returns (λ c κs. search needs) (λ c. search needs) returns-2)

@@ -10,9 +10,6 @@ returns : tie.Need-returns
 unfolding isState
 returns c = rw (ne-eqb (length (c .before .before .args .bytes .now)) stateBytes (c .if1 .taken))
 
-known-requires : tie.Need-known-requires
-known-requires c κs = search needs
-
 returns-2 : tie.Need-returns-2
 unfolding isState
 returns-2 c =
@@ -21,4 +18,4 @@ returns-2 c =
     rw (c .known .ensures, eq-eqb (length b) stateBytes (tested .if1 .left))
 
 pub is-state-spec : {M : Type 1} → statement M
-is-state-spec = tie.close (tie.spec returns known-requires returns-2)
+is-state-spec = tie.close (tie.spec returns (λ c κs. search needs) returns-2)

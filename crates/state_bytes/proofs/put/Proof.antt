@@ -5,36 +5,6 @@ use borrow.Author.Needs.{needs}
 use Rattle.state_bytes.proofs.put.Statement.{statement}
 use Rattle.state_bytes.proofs.put.Tie as tie
 
-add-put : tie.Need-add-put
-add-put c = search needs
-
-put-requires : tie.Need-put-requires
-put-requires c κs = search needs
-
-add-put-2 : tie.Need-add-put-2
-add-put-2 c = search needs
-
-put-requires-2 : tie.Need-put-requires-2
-put-requires-2 c κs = search needs
-
-add-put-3 : tie.Need-add-put-3
-add-put-3 c = search needs
-
-put-requires-3 : tie.Need-put-requires-3
-put-requires-3 c κs = search needs
-
-add-put-4 : tie.Need-add-put-4
-add-put-4 c = search needs
-
-put-requires-4 : tie.Need-put-requires-4
-put-requires-4 c κs = search needs
-
-add-bytes : tie.Need-add-bytes
-add-bytes c = search needs
-
-slice-write-bytes : tie.Need-slice-write-bytes
-slice-write-bytes c = search needs
-
 same-length : tie.Need-same-length
 same-length c = simp length-set (search needs)
 
@@ -52,15 +22,15 @@ pub put-spec : {M : Type 1} → statement M
 put-spec =
     tie.close
     (tie.spec
-    add-put
-    put-requires
-    add-put-2
-    put-requires-2
-    add-put-3
-    put-requires-3
-    add-put-4
-    put-requires-4
-    add-bytes
-    slice-write-bytes
+    (λ c. search needs)
+    (λ c κs. search needs)
+    (λ c. search needs)
+    (λ c κs. search needs)
+    (λ c. search needs)
+    (λ c κs. search needs)
+    (λ c. search needs)
+    (λ c κs. search needs)
+    (λ c. search needs)
+    (λ c. search needs)
     same-length
     returns)

@@ -8,15 +8,6 @@ use Rattle.state_forms.proofs.Lawful.{tag-known}
 use Rattle.state_forms.proofs.get_held.Statement.{statement}
 use Rattle.state_forms.proofs.get_held.Tie as tie
 
-add-phase : tie.Need-add-phase
-add-phase c = search needs
-
-shared-slice-read-phase : tie.Need-shared-slice-read-phase
-shared-slice-read-phase c = search needs
-
-shared-slice-read-if1 : tie.Need-shared-slice-read-if1
-shared-slice-read-if1 c = search needs
-
 -- a known tag is 0 or 1
 tag : (c : tie.Start) → byteAt (c .args .bytes .now) (c .args .at) < 2
 tag c =
@@ -39,4 +30,4 @@ returns-2 c =
 
 pub get-held-spec : {M : Type 1} → statement M
 get-held-spec =
-    tie.close (tie.spec add-phase shared-slice-read-phase shared-slice-read-if1 returns returns-2)
+    tie.close (tie.spec (λ c. search needs) (λ c. search needs) (λ c. search needs) returns returns-2)

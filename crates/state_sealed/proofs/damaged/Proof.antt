@@ -13,14 +13,8 @@ returns : tie.Need-returns
 unfolding damaged
 returns c = rw (ne-eqb (length (c .before .before .args .sealed .now)) sealedBytes (c .if1 .taken))
 
-four-in-requires : tie.Need-four-in-requires
-four-in-requires c κs = search needs
-
 slice-aggregate-crc : tie.Need-slice-aggregate-crc
 slice-aggregate-crc c = sym (length-take-le 343 (c .before .before .before .before .args .sealed .now) (omega arith))
-
-crc-requires : tie.Need-crc-requires
-crc-requires c κs = search needs
 
 returns-2 : tie.Need-returns-2
 unfolding damaged
@@ -31,4 +25,4 @@ returns-2 c =
 
 pub damaged-spec : {M : Type 1} → statement M
 damaged-spec =
-    tie.close (tie.spec returns four-in-requires slice-aggregate-crc crc-requires returns-2)
+    tie.close (tie.spec returns (λ c κs. search needs) slice-aggregate-crc (λ c κs. search needs) returns-2)

@@ -7,24 +7,12 @@ use Rattle.state_sealed.specs.Sealed.{otherPersonality}
 use Rattle.state_sealed.proofs.other_personality.Statement.{statement}
 use Rattle.state_sealed.proofs.other_personality.Tie as tie
 
-two-in-requires : tie.Need-two-in-requires
-two-in-requires c κs = search needs
-
-cast-if1 : tie.Need-cast-if1
-cast-if1 c = search needs
-
 returns : tie.Need-returns
 unfolding otherPersonality
 returns c =
     let read = c .before in
     let a = read .before .before .before .args in
     rw (ne-eqb (twoAt (a .sealed .now) 1) (length (a .personality .now)) (rw (read .two-in .ensures) at (c .if1 .taken)))
-
-four-in-requires : tie.Need-four-in-requires
-four-in-requires c κs = search needs
-
-crc-requires : tie.Need-crc-requires
-crc-requires c κs = search needs
 
 returns-2 : tie.Need-returns-2
 unfolding otherPersonality
@@ -40,4 +28,4 @@ returns-2 c =
 
 pub other-personality-spec : {M : Type 1} → statement M
 other-personality-spec =
-    tie.close (tie.spec two-in-requires cast-if1 returns four-in-requires crc-requires returns-2)
+    tie.close (tie.spec (λ c κs. search needs) (λ c. search needs) returns (λ c κs. search needs) (λ c κs. search needs) returns-2)

@@ -6,9 +6,6 @@ use Rattle.state_sealed.specs.Sealed.{otherVersion}
 use Rattle.state_sealed.proofs.other_version.Statement.{statement}
 use Rattle.state_sealed.proofs.other_version.Tie as tie
 
-shared-slice-read-result : tie.Need-shared-slice-read-result
-shared-slice-read-result c = search needs
-
 returns : tie.Need-returns
 unfolding otherVersion byteAt
 returns c = simp (lt-ltb _ _ (c .before .if1 .taken))
@@ -18,4 +15,4 @@ unfolding otherVersion
 returns-2 c = simp (le-ltb _ _ (c .if1 .left))
 
 pub other-version-spec : {M : Type 1} → statement M
-other-version-spec = tie.close (tie.spec shared-slice-read-result returns returns-2)
+other-version-spec = tie.close (tie.spec (λ c. search needs) returns returns-2)

@@ -9,17 +9,8 @@ use Rattle.state_sealed.proofs.Written.{body-written}
 use Rattle.state_sealed.proofs.write_body.Statement.{statement}
 use Rattle.state_sealed.proofs.write_body.Tie as tie
 
-slice-write-sealed : tie.Need-slice-write-sealed
-slice-write-sealed c = search needs
-
-cast-put-two : tie.Need-cast-put-two
-cast-put-two c = search needs
-
 put-two-requires : tie.Need-put-two-requires
 put-two-requires c κs = simp length-set (omega arith)
-
-crc-requires : tie.Need-crc-requires
-crc-requires c κs = search needs
 
 abbrev start : tie.After-put-two → tie.Start
 start c = c .before .before .before .before .before
@@ -57,10 +48,10 @@ pub write-body-spec : {M : Type 1} → statement M
 write-body-spec =
     tie.close
     (tie.spec
-    slice-write-sealed
-    cast-put-two
+    (λ c. search needs)
+    (λ c. search needs)
     put-two-requires
-    crc-requires
+    (λ c κs. search needs)
     put-four-requires
     put-all-requires
     same-length

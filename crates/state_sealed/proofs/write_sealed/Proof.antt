@@ -6,23 +6,8 @@ use Rattle.state_sealed.proofs.Written.{sealed-written}
 use Rattle.state_sealed.proofs.write_sealed.Statement.{statement}
 use Rattle.state_sealed.proofs.write_sealed.Tie as tie
 
-write-body-requires : tie.Need-write-body-requires
-write-body-requires c κs = search needs
-
-slice-reshare-prefix-crc : tie.Need-slice-reshare-prefix-crc
-slice-reshare-prefix-crc c = search needs
-
 slice-aggregate-crc : tie.Need-slice-aggregate-crc
 slice-aggregate-crc c = sym (length-take-le 343 (c .before .before .before .write-body .last .1 .1 .0) (search needs))
-
-crc-requires : tie.Need-crc-requires
-crc-requires c κs = search needs
-
-put-four-requires : tie.Need-put-four-requires
-put-four-requires c κs = search needs
-
-same-length : tie.Need-same-length
-same-length c = search needs
 
 returns : tie.Need-returns
 returns c =
@@ -37,10 +22,10 @@ pub write-sealed-spec : {M : Type 1} → statement M
 write-sealed-spec =
     tie.close
     (tie.spec
-    write-body-requires
-    slice-reshare-prefix-crc
+    (λ c κs. search needs)
+    (λ c. search needs)
     slice-aggregate-crc
-    crc-requires
-    put-four-requires
-    same-length
+    (λ c κs. search needs)
+    (λ c κs. search needs)
+    (λ c. search needs)
     returns)

@@ -12,12 +12,6 @@ returns : tie.Need-returns
 unfolding isTimed
 returns c = rw (ne-eqb (length (c .before .before .args .bytes .now)) timedBytes (c .if1 .taken))
 
-known-requires : tie.Need-known-requires
-known-requires c κs = search needs
-
-shared-slice-read-result : tie.Need-shared-slice-read-result
-shared-slice-read-result c = search needs
-
 returns-2 : tie.Need-returns-2
 unfolding byteAt
 returns-2 c =
@@ -25,4 +19,4 @@ returns-2 c =
     rw (c .before .known .ensures) (timed-tested (tested .before .before .args .bytes .now) (tested .if1 .left))
 
 pub is-timed-spec : {M : Type 1} → statement M
-is-timed-spec = tie.close (tie.spec returns known-requires shared-slice-read-result returns-2)
+is-timed-spec = tie.close (tie.spec returns (λ c κs. search needs) (λ c. search needs) returns-2)

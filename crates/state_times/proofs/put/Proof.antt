@@ -4,33 +4,6 @@ use borrow.Author.Needs.{needs}
 use Rattle.state_times.proofs.put.Statement.{statement}
 use Rattle.state_times.proofs.put.Tie as tie
 
-add-put-two : tie.Need-add-put-two
-add-put-two c = search needs
-
-put-two-requires : tie.Need-put-two-requires
-put-two-requires c κs = search needs
-
-add-put : tie.Need-add-put
-add-put c = search needs
-
-put-requires : tie.Need-put-requires
-put-requires c κs = search needs
-
-add-put-2 : tie.Need-add-put-2
-add-put-2 c = search needs
-
-put-requires-2 : tie.Need-put-requires-2
-put-requires-2 c κs = search needs
-
-add-put-early : tie.Need-add-put-early
-add-put-early c = search needs
-
-put-early-requires : tie.Need-put-early-requires
-put-early-requires c κs = search needs
-
-same-length : tie.Need-same-length
-same-length c = search needs
-
 returns : tie.Need-returns
 returns c =
     let early = c .before .before in
@@ -45,13 +18,13 @@ pub put-spec : {M : Type 1} → statement M
 put-spec =
     tie.close
     (tie.spec
-    add-put-two
-    put-two-requires
-    add-put
-    put-requires
-    add-put-2
-    put-requires-2
-    add-put-early
-    put-early-requires
-    same-length
+    (λ c. search needs)
+    (λ c κs. search needs)
+    (λ c. search needs)
+    (λ c κs. search needs)
+    (λ c. search needs)
+    (λ c κs. search needs)
+    (λ c. search needs)
+    (λ c κs. search needs)
+    (λ c. search needs)
     returns)

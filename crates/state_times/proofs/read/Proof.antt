@@ -7,27 +7,6 @@ use borrow.Author.Needs.{needs}
 use Rattle.state_times.proofs.read.Statement.{statement}
 use Rattle.state_times.proofs.read.Tie as tie
 
-add-two-in : tie.Need-add-two-in
-add-two-in c = search needs
-
-two-in-requires : tie.Need-two-in-requires
-two-in-requires c κs = search needs
-
-add-read : tie.Need-add-read
-add-read c = search needs
-
-add-read-2 : tie.Need-add-read-2
-add-read-2 c = search needs
-
-read-requires : tie.Need-read-requires
-read-requires c κs = search needs
-
-add-read-3 : tie.Need-add-read-3
-add-read-3 c = search needs
-
-read-requires-2 : tie.Need-read-requires-2
-read-requires-2 c κs = search needs
-
 returns : tie.Need-returns
 unfolding listOf rowOf
 returns c =
@@ -40,11 +19,11 @@ pub read-spec : {M : Type 1} → statement M
 read-spec =
     tie.close
     (tie.spec
-    add-two-in
-    two-in-requires
-    add-read
-    add-read-2
-    read-requires
-    add-read-3
-    read-requires-2
+    (λ c. search needs)
+    (λ c κs. search needs)
+    (λ c. search needs)
+    (λ c. search needs)
+    (λ c κs. search needs)
+    (λ c. search needs)
+    (λ c κs. search needs)
     returns)

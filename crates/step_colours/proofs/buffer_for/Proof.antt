@@ -12,19 +12,10 @@ use Rattle.step_colours.proofs.Unclosed.{closing-there}
 use Rattle.step_colours.proofs.buffer_for.Statement.{statement}
 use Rattle.step_colours.proofs.buffer_for.Tie as tie
 
-cast-count : tie.Need-cast-count
-cast-count c = search needs
-
-closing-there-requires : tie.Need-closing-there-requires
-closing-there-requires c κs = search needs
-
 buffer-at-requires : tie.Need-buffer-at-requires
 buffer-at-requires c κs =
     let start = c .before .before .before .before .before .before .before .before in
     showable (start .args .site) (length (start .args .buffer .now)) (start .pre .0) (start .pre .1)
-
-same-length : tie.Need-same-length
-same-length c = search needs
 
 returns : tie.Need-returns
 unfolding bufferFor coloursOf shownIn bufferAt
@@ -37,4 +28,4 @@ returns c =
     (list-same _ (shownIn (a .site) (a .state)) (a .site .size .groups) (λ g l. closing-there (a .site) (start .pre .0) (a .state) g)))
 
 pub buffer-for-spec : {M : Type 1} → statement M
-buffer-for-spec = tie.close (tie.spec cast-count closing-there-requires buffer-at-requires same-length returns)
+buffer-for-spec = tie.close (tie.spec (λ c. search needs) (λ c κs. search needs) buffer-at-requires (λ c. search needs) returns)

@@ -7,12 +7,6 @@ use Rattle.step_colours.proofs.held_in.Tie as tie
 enum-told : tie.Need-enum-told
 enum-told c = search needs
 
-enum-known-held : tie.Need-enum-known-held
-enum-known-held c = search needs
-
-bit8-requires : tie.Need-bit8-requires
-bit8-requires c κs = search needs
-
 returns : tie.Need-returns
 unfolding heldIn
 returns c = rw (c .enum-told .given .1)
@@ -22,4 +16,4 @@ unfolding heldIn
 returns-2 c = rw (c .before .before .held .given .1) (c .bit8 .ensures)
 
 pub held-in-spec : {M : Type 1} → statement M
-held-in-spec = tie.close (tie.spec enum-told enum-known-held bit8-requires returns returns-2)
+held-in-spec = tie.close (tie.spec enum-told (λ c. search needs) (λ c κs. search needs) returns returns-2)

@@ -6,33 +6,12 @@ use Rattle.step_colours.proofs.Shown.{pedestrian-passed, vehicle-passed
 use Rattle.step_colours.proofs.pass_group.Statement.{statement}
 use Rattle.step_colours.proofs.pass_group.Tie as tie
 
-movement-colour-requires : tie.Need-movement-colour-requires
-movement-colour-requires c κs = search needs
-
-slice-write-buffer : tie.Need-slice-write-buffer
-slice-write-buffer c = search needs
-
-add-result : tie.Need-add-result
-add-result c = search needs
-
-same-length : tie.Need-same-length
-same-length c = search needs
-
 returns : tie.Need-returns
 returns c =
     let test = c .before in
     let start = test .before .before .before in
     let a = start .args in
     pedestrian-passed (a .g) (start .pre .0) refl (a .group) (a .stage) (a .closes) (a .position) (test .if1 .taken) (c .movement-colour .ensures) refl
-
-vehicle-shown-requires : tie.Need-vehicle-shown-requires
-vehicle-shown-requires c κs = search needs
-
-slice-write-buffer-2 : tie.Need-slice-write-buffer-2
-slice-write-buffer-2 c = search needs
-
-same-length-2 : tie.Need-same-length-2
-same-length-2 c = search needs
 
 returns-2 : tie.Need-returns-2
 returns-2 c =
@@ -45,12 +24,12 @@ pub pass-group-spec : {M : Type 1} → statement M
 pass-group-spec =
     tie.close
     (tie.spec
-    movement-colour-requires
-    slice-write-buffer
-    add-result
-    same-length
+    (λ c κs. search needs)
+    (λ c. search needs)
+    (λ c. search needs)
+    (λ c. search needs)
     returns
-    vehicle-shown-requires
-    slice-write-buffer-2
-    same-length-2
+    (λ c κs. search needs)
+    (λ c. search needs)
+    (λ c. search needs)
     returns-2)

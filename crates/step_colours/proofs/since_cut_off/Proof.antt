@@ -7,12 +7,6 @@ use Rattle.rules.specs.Colours.{sinceCutOff}
 use Rattle.step_colours.proofs.since_cut_off.Statement.{statement}
 use Rattle.step_colours.proofs.since_cut_off.Tie as tie
 
-is-early-requires : tie.Need-is-early-requires
-is-early-requires c κs = search needs
-
-add-result : tie.Need-add-result
-add-result c = search needs
-
 returns : tie.Need-returns
 unfolding sinceCutOff
 returns c =
@@ -20,4 +14,4 @@ returns c =
     ⊎-elim (λ w. rw (test ∙ w .0 .taken, w .1) (zero-add _)) (λ w. rw (test ∙ w .0 .left, w .1)) (c .before .if1 .came)
 
 pub since-cut-off-spec : {M : Type 1} → statement M
-since-cut-off-spec = tie.close (tie.spec is-early-requires add-result returns)
+since-cut-off-spec = tie.close (tie.spec (λ c κs. search needs) (λ c. search needs) returns)

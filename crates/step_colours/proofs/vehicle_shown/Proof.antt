@@ -6,12 +6,6 @@ use Rattle.laws.proofs.Booleans.{chosen, passed-by}
 use Rattle.step_colours.proofs.vehicle_shown.Statement.{statement}
 use Rattle.step_colours.proofs.vehicle_shown.Tie as tie
 
-bit8-requires : tie.Need-bit8-requires
-bit8-requires c κs = search needs
-
-vehicle-colour-requires : tie.Need-vehicle-colour-requires
-vehicle-colour-requires c κs = search needs
-
 returns : tie.Need-returns
 unfolding vehicleShown
 returns c = chosen red (sym (c .before .before .bit8 .ensures) ∙ c .before .if1 .taken) (c .vehicle-colour .ensures)
@@ -26,4 +20,4 @@ returns-2 c =
     refl
 
 pub vehicle-shown-spec : {M : Type 1} → statement M
-vehicle-shown-spec = tie.close (tie.spec bit8-requires vehicle-colour-requires returns returns-2)
+vehicle-shown-spec = tie.close (tie.spec (λ c κs. search needs) (λ c κs. search needs) returns returns-2)

@@ -4,15 +4,9 @@ use Rattle.rules.specs.Counts.{countsAfter}
 use Rattle.step_counts.proofs.counts_after.Statement.{statement}
 use Rattle.step_counts.proofs.counts_after.Tie as tie
 
-gap-after-requires : tie.Need-gap-after-requires
-gap-after-requires c κs = search needs
-
-maximum-after-requires : tie.Need-maximum-after-requires
-maximum-after-requires c κs = search needs
-
 returns : tie.Need-returns
 unfolding countsAfter
 returns c = rw (c .before .gap-after .ensures, c .maximum-after .ensures)
 
 pub counts-after-spec : {M : Type 1} → statement M
-counts-after-spec = tie.close (tie.spec gap-after-requires maximum-after-requires returns)
+counts-after-spec = tie.close (tie.spec (λ c κs. search needs) (λ c κs. search needs) returns)

@@ -6,15 +6,9 @@ use Rattle.rules.specs.Counts.{gapAfter}
 use Rattle.step_counts.proofs.gap_after.Statement.{statement}
 use Rattle.step_counts.proofs.gap_after.Tie as tie
 
-is-green-requires : tie.Need-is-green-requires
-is-green-requires c κs = search needs
-
 returns : tie.Need-returns
 unfolding gapAfter
 returns c = rw (sym (c .before .before .is-green .ensures) ∙ c .before .if1 .taken, c .if2 .taken)
-
-sub-result : tie.Need-sub-result
-sub-result c = search needs
 
 returns-2 : tie.Need-returns-2
 unfolding gapAfter
@@ -30,4 +24,4 @@ returns-4 c = rw (sym (c .before .is-green .ensures) ∙ c .if1 .left)
 
 pub gap-after-spec : {M : Type 1} → statement M
 gap-after-spec =
-    tie.close (tie.spec is-green-requires returns sub-result returns-2 returns-3 returns-4)
+    tie.close (tie.spec (λ c κs. search needs) returns (λ c. search needs) returns-2 returns-3 returns-4)

@@ -7,12 +7,6 @@ use Rattle.step_counts.proofs.Maximum.{rises, still-none, stands}
 use Rattle.step_counts.proofs.maximum_after.Statement.{statement}
 use Rattle.step_counts.proofs.maximum_after.Tie as tie
 
-is-running-requires : tie.Need-is-running-requires
-is-running-requires c κs = search needs
-
-add-result : tie.Need-add-result
-add-result c = search needs
-
 -- X or one more, whichever is less
 returns : tie.Need-returns
 returns c =
@@ -43,4 +37,4 @@ returns-4 c =
 
 pub maximum-after-spec : {M : Type 1} → statement M
 maximum-after-spec =
-    tie.close (tie.spec is-running-requires add-result returns returns-2 returns-3 returns-4)
+    tie.close (tie.spec (λ c κs. search needs) (λ c. search needs) returns returns-2 returns-3 returns-4)

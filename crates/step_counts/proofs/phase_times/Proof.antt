@@ -7,12 +7,6 @@ use Rattle.rules.specs.Site.{noPhaseTimes, phaseTimes}
 use Rattle.step_counts.proofs.phase_times.Statement.{statement}
 use Rattle.step_counts.proofs.phase_times.Tie as tie
 
-mul-result : tie.Need-mul-result
-mul-result c = search needs
-
-array-copy-out-result : tie.Need-array-copy-out-result
-array-copy-out-result c = search needs
-
 returns : tie.Need-returns
 unfolding phaseTimes
 returns c = search needs
@@ -24,4 +18,4 @@ returns-2 c =
     sym (List·getD-eq-default settings noPhaseTimes (omega (arith, rw length-map at (c .before .before .good .0 .1 .1 .1 .0 .1 .0 .1))))
 
 pub phase-times-spec : {M : Type 1} → statement M
-phase-times-spec = tie.close (tie.spec mul-result array-copy-out-result returns returns-2)
+phase-times-spec = tie.close (tie.spec (λ c. search needs) (λ c. search needs) returns returns-2)

@@ -15,18 +15,6 @@ sense-requires c κs =
       omega (arith, start .pre .1, start .pre .0 .phases .1),
     )
 
-in-green-requires : tie.Need-in-green-requires
-in-green-requires c κs = search needs
-
-except-requires : tie.Need-except-requires
-except-requires c κs = search needs
-
-except-requires-2 : tie.Need-except-requires-2
-except-requires-2 c κs = search needs
-
-press-requires : tie.Need-press-requires
-press-requires c κs = search needs
-
 -- where the buttons are pressed: the two sets of phases that detectors demand, and the start
 abbrev demanding : tie.After-press → tie.After-except2
 demanding c = c .before .before .before .before
@@ -60,4 +48,4 @@ returns c =
     (entry .pre .0) (locks-small entry) (kept-small entry)
 
 pub register-spec : {M : Type 1} → statement M
-register-spec = tie.close (tie.spec sense-requires in-green-requires except-requires except-requires-2 press-requires next-after-requires returns)
+register-spec = tie.close (tie.spec sense-requires (λ c κs. search needs) (λ c κs. search needs) (λ c κs. search needs) (λ c κs. search needs) next-after-requires returns)

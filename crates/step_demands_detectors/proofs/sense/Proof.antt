@@ -8,33 +8,6 @@ use Rattle.step_demands_detectors.proofs.Modes.{Of, of-either, of-kind,
 use Rattle.step_demands_detectors.proofs.sense.Statement.{statement}
 use Rattle.step_demands_detectors.proofs.sense.Tie as tie
 
-table-requires : tie.Need-table-requires
-table-requires c κs = search needs
-
-with-mode-requires : tie.Need-with-mode-requires
-with-mode-requires c κs = search needs
-
-with-mode-requires-2 : tie.Need-with-mode-requires-2
-with-mode-requires-2 c κs = search needs
-
-with-mode-requires-3 : tie.Need-with-mode-requires-3
-with-mode-requires-3 c κs = search needs
-
-with-mode-requires-4 : tie.Need-with-mode-requires-4
-with-mode-requires-4 c κs = search needs
-
-with-mode-requires-5 : tie.Need-with-mode-requires-5
-with-mode-requires-5 c κs = search needs
-
-with-mode-requires-6 : tie.Need-with-mode-requires-6
-with-mode-requires-6 c κs = search needs
-
-with-mode-requires-7 : tie.Need-with-mode-requires-7
-with-mode-requires-7 c κs = search needs
-
-bit8-requires : tie.Need-bit8-requires
-bit8-requires c κs = search needs
-
 returns : tie.Need-returns
 returns c =
     let a = c .before in
@@ -60,13 +33,13 @@ pub sense-spec : {M : Type 1} → statement M
 sense-spec =
     tie.close
     (tie.spec
-    table-requires
-    with-mode-requires
-    with-mode-requires-2
-    with-mode-requires-3
-    with-mode-requires-4
-    with-mode-requires-5
-    with-mode-requires-6
-    with-mode-requires-7
-    bit8-requires
+    (λ c κs. search needs)
+    (λ c κs. search needs)
+    (λ c κs. search needs)
+    (λ c κs. search needs)
+    (λ c κs. search needs)
+    (λ c κs. search needs)
+    (λ c κs. search needs)
+    (λ c κs. search needs)
+    (λ c κs. search needs)
     returns)

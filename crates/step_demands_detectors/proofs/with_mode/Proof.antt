@@ -6,18 +6,6 @@ use Rattle.laws.proofs.Bits.{bit-lower, bit-down}
 use Rattle.step_demands_detectors.proofs.with_mode.Statement.{statement}
 use Rattle.step_demands_detectors.proofs.with_mode.Tie as tie
 
-mul-result : tie.Need-mul-result
-mul-result c = search needs
-
-cast-result : tie.Need-cast-result
-cast-result c = search needs
-
-shr-result : tie.Need-shr-result
-shr-result c = search needs
-
-cast-result-2 : tie.Need-cast-result-2
-cast-result-2 c = search needs
-
 returns : tie.Need-returns
 returns c p l =
     let set = c .args .set in
@@ -25,4 +13,4 @@ returns c p l =
     bit-lower 8 p (set / 2 ^ first) l ∙ bit-down set first p
 
 pub with-mode-spec : {M : Type 1} → statement M
-with-mode-spec = tie.close (tie.spec mul-result cast-result shr-result cast-result-2 returns)
+with-mode-spec = tie.close (tie.spec (λ c. search needs) (λ c. search needs) (λ c. search needs) (λ c. search needs) returns)

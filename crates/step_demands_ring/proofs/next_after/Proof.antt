@@ -9,17 +9,8 @@ use Rattle.step_demands_ring.proofs.RingPlaces.{next-later, next-earlie
 use Rattle.step_demands_ring.proofs.next_after.Statement.{statement}
 use Rattle.step_demands_ring.proofs.next_after.Tie as tie
 
-place-of-requires : tie.Need-place-of-requires
-place-of-requires c κs = search needs
-
 add-search : tie.Need-add-search
 add-search c = omega (arith, c .place-of .ensures .within)
-
-search-requires : tie.Need-search-requires
-search-requires c κs = search needs
-
-enum-known-later : tie.Need-enum-known-later
-enum-known-later c = search needs
 
 returns : tie.Need-returns
 returns c =
@@ -48,10 +39,10 @@ pub next-after-spec : {M : Type 1} → statement M
 next-after-spec =
     tie.close
     (tie.spec
-    place-of-requires
+    (λ c κs. search needs)
     add-search
-    search-requires
-    enum-known-later
+    (λ c κs. search needs)
+    (λ c. search needs)
     returns
     enum-told
     search-requires-2

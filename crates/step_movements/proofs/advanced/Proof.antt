@@ -7,24 +7,6 @@ use Rattle.step_movements.proofs.advanced.Tie as tie
 enum-told : tie.Need-enum-told
 enum-told c = search needs
 
-enum-told-2 : tie.Need-enum-told-2
-enum-told-2 c = search needs
-
-lasting-requires : tie.Need-lasting-requires
-lasting-requires c κs = search needs
-
-enum-told-3 : tie.Need-enum-told-3
-enum-told-3 c = search needs
-
-lasting-requires-2 : tie.Need-lasting-requires-2
-lasting-requires-2 c κs = search needs
-
-enum-told-4 : tie.Need-enum-told-4
-enum-told-4 c = search needs
-
-lasting-requires-3 : tie.Need-lasting-requires-3
-lasting-requires-3 c κs = search needs
-
 returns : tie.Need-returns
 unfolding advanced
 returns c = rw (c .enum-told .given .1)
@@ -46,12 +28,12 @@ advanced-spec =
     tie.close
     (tie.spec
     enum-told
-    enum-told-2
-    lasting-requires
-    enum-told-3
-    lasting-requires-2
-    enum-told-4
-    lasting-requires-3
+    (λ c. search needs)
+    (λ c κs. search needs)
+    (λ c. search needs)
+    (λ c κs. search needs)
+    (λ c. search needs)
+    (λ c κs. search needs)
     returns
     returns-2
     returns-3

@@ -14,9 +14,6 @@ returns c =
     let over : (a .may-end && leb (a .setting) (a .age)) ≡ true = c .if1 .taken in
     rw over
 
-older-requires : tie.Need-older-requires
-older-requires c κs = search needs
-
 returns-2 : tie.Need-returns-2
 unfolding lasting
 returns-2 c =
@@ -25,4 +22,4 @@ returns-2 c =
     rw (c .older .ensures, goes-on)
 
 pub lasting-spec : {M : Type 1} → statement M
-lasting-spec = tie.close (tie.spec returns older-requires returns-2)
+lasting-spec = tie.close (tie.spec returns (λ c κs. search needs) returns-2)

@@ -5,9 +5,6 @@ use Rattle.rules.specs.Movements.{older}
 use Rattle.step_movements.proofs.older.Statement.{statement}
 use Rattle.step_movements.proofs.older.Tie as tie
 
-add-result : tie.Need-add-result
-add-result c = search needs
-
 returns : tie.Need-returns
 unfolding older
 returns c = omega arith
@@ -17,4 +14,4 @@ unfolding older
 returns-2 c = omega arith
 
 pub older-spec : {M : Type 1} → statement M
-older-spec = tie.close (tie.spec add-result returns returns-2)
+older-spec = tie.close (tie.spec (λ c. search needs) returns returns-2)

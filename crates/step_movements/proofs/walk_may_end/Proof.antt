@@ -4,12 +4,9 @@ use Rattle.rules.specs.Movements.{walkMayEnd}
 use Rattle.step_movements.proofs.walk_may_end.Statement.{statement}
 use Rattle.step_movements.proofs.walk_may_end.Tie as tie
 
-is-running-requires : tie.Need-is-running-requires
-is-running-requires c κs = search needs
-
 returns : tie.Need-returns
 unfolding walkMayEnd
 returns c = rw (c .is-running .ensures)
 
 pub walk-may-end-spec : {M : Type 1} → statement M
-walk-may-end-spec = tie.close (tie.spec is-running-requires returns)
+walk-may-end-spec = tie.close (tie.spec (λ c κs. search needs) returns)

@@ -4,15 +4,9 @@ use Rattle.rules.specs.State.{demandExists, demandsValid}
 use Rattle.step_valid.proofs.demands_valid.Statement.{statement}
 use Rattle.step_valid.proofs.demands_valid.Tie as tie
 
-all-below-requires : tie.Need-all-below-requires
-all-below-requires c κs = search needs
-
-all-below-requires-2 : tie.Need-all-below-requires-2
-all-below-requires-2 c κs = search needs
-
 returns : tie.Need-returns
 unfolding demandsValid demandExists
 returns c = rw (c .before .all-below .ensures, c .all-below2 .ensures)
 
 pub demands-valid-spec : {M : Type 1} → statement M
-demands-valid-spec = tie.close (tie.spec all-below-requires all-below-requires-2 returns)
+demands-valid-spec = tie.close (tie.spec (λ c κs. search needs) (λ c κs. search needs) returns)

@@ -4,12 +4,9 @@ use Rattle.rules.specs.State.{intervalValid}
 use Rattle.step_valid.proofs.interval_valid.Statement.{statement}
 use Rattle.step_valid.proofs.interval_valid.Tie as tie
 
-is-early-requires : tie.Need-is-early-requires
-is-early-requires c κs = search needs
-
 returns : tie.Need-returns
 unfolding intervalValid
 returns c = rw (c .is-early .ensures)
 
 pub interval-valid-spec : {M : Type 1} → statement M
-interval-valid-spec = tie.close (tie.spec is-early-requires returns)
+interval-valid-spec = tie.close (tie.spec (λ c κs. search needs) returns)

@@ -5,25 +5,10 @@ use Rattle.step_valid.proofs.Records.{idle-valid, busy-valid}
 use Rattle.step_valid.proofs.movement_valid.Statement.{statement}
 use Rattle.step_valid.proofs.movement_valid.Tie as tie
 
-is-idle-requires : tie.Need-is-idle-requires
-is-idle-requires c κs = search needs
-
 returns : tie.Need-returns
 returns c =
     let a = c .before .before .args in
     idle-valid (a .of-phase) (a .interval) (a .movement) (sym (c .before .is-idle .ensures) ∙ c .if1 .taken)
-
-age-valid-requires : tie.Need-age-valid-requires
-age-valid-requires c κs = search needs
-
-is-leaving-requires : tie.Need-is-leaving-requires
-is-leaving-requires c κs = search needs
-
-is-walk-or-first-requires : tie.Need-is-walk-or-first-requires
-is-walk-or-first-requires c κs = search needs
-
-is-start-red-requires : tie.Need-is-start-red-requires
-is-start-red-requires c κs = search needs
 
 returns-2 : tie.Need-returns-2
 returns-2 c =
@@ -39,10 +24,10 @@ pub movement-valid-spec : {M : Type 1} → statement M
 movement-valid-spec =
     tie.close
     (tie.spec
-    is-idle-requires
+    (λ c κs. search needs)
     returns
-    age-valid-requires
-    is-leaving-requires
-    is-walk-or-first-requires
-    is-start-red-requires
+    (λ c κs. search needs)
+    (λ c κs. search needs)
+    (λ c κs. search needs)
+    (λ c κs. search needs)
     returns-2)

@@ -8,21 +8,6 @@ use Rattle.step_valid.proofs.Records.{joined-every}
 use Rattle.step_valid.proofs.position_valid.Statement.{statement}
 use Rattle.step_valid.proofs.position_valid.Tie as tie
 
-interval-valid-requires : tie.Need-interval-valid-requires
-interval-valid-requires c κs = search needs
-
-is-leaving-requires : tie.Need-is-leaving-requires
-is-leaving-requires c κs = search needs
-
-target-valid-requires : tie.Need-target-valid-requires
-target-valid-requires c κs = search needs
-
-previous-valid-requires : tie.Need-previous-valid-requires
-previous-valid-requires c κs = search needs
-
-age-valid-requires : tie.Need-age-valid-requires
-age-valid-requires c κs = search needs
-
 returns : tie.Need-returns
 unfolding positionValid
 returns c =
@@ -47,9 +32,9 @@ pub position-valid-spec : {M : Type 1} → statement M
 position-valid-spec =
     tie.close
     (tie.spec
-    interval-valid-requires
-    is-leaving-requires
-    target-valid-requires
-    previous-valid-requires
-    age-valid-requires
+    (λ c κs. search needs)
+    (λ c κs. search needs)
+    (λ c κs. search needs)
+    (λ c κs. search needs)
+    (λ c κs. search needs)
     returns)

@@ -7,9 +7,6 @@ use Rattle.step_valid.proofs.previous_valid.Tie as tie
 enum-told : tie.Need-enum-told
 enum-told c = search needs
 
-enum-known-previous : tie.Need-enum-known-previous
-enum-known-previous c = search needs
-
 returns : tie.Need-returns
 unfolding previousValid
 returns c = rw (c .enum-told .given .1)
@@ -19,4 +16,4 @@ unfolding previousValid
 returns-2 c = rw (c .before .previous .given .1)
 
 pub previous-valid-spec : {M : Type 1} → statement M
-previous-valid-spec = tie.close (tie.spec enum-told enum-known-previous returns returns-2)
+previous-valid-spec = tie.close (tie.spec enum-told (λ c. search needs) returns returns-2)

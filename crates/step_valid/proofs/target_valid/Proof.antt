@@ -7,9 +7,6 @@ use Rattle.step_valid.proofs.target_valid.Tie as tie
 enum-told : tie.Need-enum-told
 enum-told c = search needs
 
-enum-known-target : tie.Need-enum-known-target
-enum-known-target c = search needs
-
 returns : tie.Need-returns
 unfolding targetValid
 returns c = rw (c .enum-told .given .1)
@@ -19,4 +16,4 @@ unfolding targetValid
 returns-2 c = rw (c .before .target .given .1)
 
 pub target-valid-spec : {M : Type 1} → statement M
-target-valid-spec = tie.close (tie.spec enum-told enum-known-target returns returns-2)
+target-valid-spec = tie.close (tie.spec enum-told (λ c. search needs) returns returns-2)

@@ -7,21 +7,6 @@ use Rattle.step_valid.proofs.Records.{joined-every}
 use Rattle.step_valid.proofs.valid.Statement.{statement}
 use Rattle.step_valid.proofs.valid.Tie as tie
 
-phase-times-requires : tie.Need-phase-times-requires
-phase-times-requires c κs = search needs
-
-position-valid-requires : tie.Need-position-valid-requires
-position-valid-requires c κs = search needs
-
-counts-valid-requires : tie.Need-counts-valid-requires
-counts-valid-requires c κs = search needs
-
-demands-valid-requires : tie.Need-demands-valid-requires
-demands-valid-requires c κs = search needs
-
-movements-valid-requires : tie.Need-movements-valid-requires
-movements-valid-requires c κs = search needs
-
 returns : tie.Need-returns
 unfolding valid
 returns c =
@@ -49,9 +34,9 @@ pub valid-spec : {M : Type 1} → statement M
 valid-spec =
     tie.close
     (tie.spec
-    phase-times-requires
-    position-valid-requires
-    counts-valid-requires
-    demands-valid-requires
-    movements-valid-requires
+    (λ c κs. search needs)
+    (λ c κs. search needs)
+    (λ c κs. search needs)
+    (λ c κs. search needs)
+    (λ c κs. search needs)
     returns)

@@ -8,29 +8,17 @@ use Rattle.step_whole.proofs.Ready.{on, now-on, idle-past}
 use Rattle.step_whole.proofs.kept_stepped.Statement.{statement}
 use Rattle.step_whole.proofs.kept_stepped.Tie as tie
 
-phase-times-requires : tie.Need-phase-times-requires
-phase-times-requires c κs = search needs
-
 register-requires : tie.Need-register-requires
 register-requires c κs =
     let start = c .before .before .before .before in
     (start .pre .0, on (start .args .site) (start .args .state) (start .pre))
 
-is-held-requires : tie.Need-is-held-requires
-is-held-requires c κs = search needs
-
 -- the start, from where the movements are read
 abbrev start : tie.After-stages → tie.Start
 start c = c .before .before .before .before .before .before .before .before .before .before
 
-walk-may-end-requires : tie.Need-walk-may-end-requires
-walk-may-end-requires c κs = search needs
-
 movements-after-requires : tie.Need-movements-after-requires
 movements-after-requires c κs = idle-past (start c .args .site) (start c .args .state) (start c .pre)
-
-counts-after-requires : tie.Need-counts-after-requires
-counts-after-requires c κs = search needs
 
 ends-requires : tie.Need-ends-requires
 ends-requires c κs =
@@ -41,15 +29,6 @@ ends-requires c κs =
     rw (moved .movements-after .ensures)
     (still-past (site .times) _ (state .core .movements) (site .size .movements) (idle-past site state (entry .pre)))
 
-position-after-requires : tie.Need-position-after-requires
-position-after-requires c κs = search needs
-
-starts-requires : tie.Need-starts-requires
-starts-requires c κs = search needs
-
-begun-by-requires : tie.Need-begun-by-requires
-begun-by-requires c κs = search needs
-
 -- the phase that is on after part 4 is one of the site's
 now-within : (c : tie.After-position-after) → c .position-after .result .phase < 8
 now-within c =
@@ -58,9 +37,6 @@ now-within c =
 
 locks-left-requires : tie.Need-locks-left-requires
 locks-left-requires c κs = now-within (c .before .before .before .before)
-
-counts-changed-requires : tie.Need-counts-changed-requires
-counts-changed-requires c κs = search needs
 
 kept-left-requires : tie.Need-kept-left-requires
 kept-left-requires c κs =
@@ -91,17 +67,17 @@ pub kept-stepped-spec : {M : Type 1} → statement M
 kept-stepped-spec =
     tie.close
     (tie.spec
-    phase-times-requires
+    (λ c κs. search needs)
     register-requires
-    is-held-requires
-    walk-may-end-requires
+    (λ c κs. search needs)
+    (λ c κs. search needs)
     movements-after-requires
-    counts-after-requires
+    (λ c κs. search needs)
     ends-requires
-    position-after-requires
-    starts-requires
-    begun-by-requires
+    (λ c κs. search needs)
+    (λ c κs. search needs)
+    (λ c κs. search needs)
     locks-left-requires
-    counts-changed-requires
+    (λ c κs. search needs)
     kept-left-requires
     returns)

@@ -6,18 +6,6 @@ use Rattle.wait_each.proofs.Waits.{movement-fits}
 use Rattle.wait_each.proofs.movement_wait.Statement.{statement}
 use Rattle.wait_each.proofs.movement_wait.Tie as tie
 
-clears-first-requires : tie.Need-clears-first-requires
-clears-first-requires c κs = search needs
-
-own-of-requires : tie.Need-own-of-requires
-own-of-requires c κs = search needs
-
-greater-requires : tie.Need-greater-requires
-greater-requires c κs = search needs
-
-rest-of-requires : tie.Need-rest-of-requires
-rest-of-requires c κs = search needs
-
 add-result : tie.Need-add-result
 unfolding movementWaitBy
 add-result c =
@@ -47,9 +35,9 @@ pub movement-wait-spec : {M : Type 1} → statement M
 movement-wait-spec =
     tie.close
     (tie.spec
-    clears-first-requires
-    own-of-requires
-    greater-requires
-    rest-of-requires
+    (λ c κs. search needs)
+    (λ c κs. search needs)
+    (λ c κs. search needs)
+    (λ c κs. search needs)
     add-result
     returns)

@@ -11,30 +11,6 @@ use Rattle.wait_turns.proofs.Parts.{green-fits, walk-fits}
 use Rattle.wait_each.proofs.own_of.Statement.{statement}
 use Rattle.wait_each.proofs.own_of.Tie as tie
 
-mul-green-of : tie.Need-mul-green-of
-mul-green-of c = search needs
-
-array-copy-out-green-of : tie.Need-array-copy-out-green-of
-array-copy-out-green-of c = search needs
-
-green-of-requires : tie.Need-green-of-requires
-green-of-requires c κs = search needs
-
-mul-own : tie.Need-mul-own
-mul-own c = search needs
-
-array-copy-out-own : tie.Need-array-copy-out-own
-array-copy-out-own c = search needs
-
-cast-clearance : tie.Need-cast-clearance
-cast-clearance c = search needs
-
-cast-clearance-2 : tie.Need-cast-clearance-2
-cast-clearance-2 c = search needs
-
-add-clearance : tie.Need-add-clearance
-add-clearance c = search needs
-
 ending-requires : tie.Need-ending-requires
 unfolding phaseTimes
 ending-requires c κs =
@@ -55,9 +31,6 @@ ending-requires-2 c κs =
     let less : walk .first + walk .second ≤ 6000 = omega (arith, both) in
     (pre .0, pre .1, less, both)
 
-greater-requires : tie.Need-greater-requires
-greater-requires c κs = search needs
-
 returns : tie.Need-returns
 unfolding ownOf phaseTimes walkTimes
 returns c =
@@ -73,15 +46,15 @@ pub own-of-spec : {M : Type 1} → statement M
 own-of-spec =
     tie.close
     (tie.spec
-    mul-green-of
-    array-copy-out-green-of
-    green-of-requires
-    mul-own
-    array-copy-out-own
-    cast-clearance
-    cast-clearance-2
-    add-clearance
+    (λ c. search needs)
+    (λ c. search needs)
+    (λ c κs. search needs)
+    (λ c. search needs)
+    (λ c. search needs)
+    (λ c. search needs)
+    (λ c. search needs)
+    (λ c. search needs)
     ending-requires
     ending-requires-2
-    greater-requires
+    (λ c κs. search needs)
     returns)

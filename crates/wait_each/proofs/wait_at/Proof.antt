@@ -11,16 +11,10 @@ use Rattle.wait_each.proofs.Waits.{wait-fits, movement-fits, phase-fits
 use Rattle.wait_each.proofs.wait_at.Statement.{statement}
 use Rattle.wait_each.proofs.wait_at.Tie as tie
 
-phase-wait-requires : tie.Need-phase-wait-requires
-phase-wait-requires c κs = search needs
-
 cast-result : tie.Need-cast-result
 cast-result c =
     let start = c .before .before in
     omega (arith, c .phase-wait .ensures, wait-fits (start .args .site) (start .pre .0) (start .args .i) (c .before .if1 .taken))
-
-phase-of-movement-requires : tie.Need-phase-of-movement-requires
-phase-of-movement-requires c κs = search needs
 
 -- past the phases it is a movement of the site, and its phase is found
 module _ (c : tie.After-phase-of-movement) where
@@ -67,9 +61,9 @@ pub wait-at-spec : {M : Type 1} → statement M
 wait-at-spec =
     tie.close
     (tie.spec
-    phase-wait-requires
+    (λ c κs. search needs)
     cast-result
-    phase-of-movement-requires
+    (λ c κs. search needs)
     movement-wait-requires
     cast-result-2
     returns

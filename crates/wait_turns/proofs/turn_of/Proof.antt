@@ -10,15 +10,6 @@ use Rattle.wait_turns.proofs.Parts.{none-left-out, green-fits}
 use Rattle.wait_turns.proofs.turn_of.Statement.{statement}
 use Rattle.wait_turns.proofs.turn_of.Tie as tie
 
-mul-green-of : tie.Need-mul-green-of
-mul-green-of c = search needs
-
-array-copy-out-green-of : tie.Need-array-copy-out-green-of
-array-copy-out-green-of c = search needs
-
-green-of-requires : tie.Need-green-of-requires
-green-of-requires c κs = search needs
-
 ending-requires : tie.Need-ending-requires
 unfolding phaseTimes
 ending-requires c κs =
@@ -38,4 +29,4 @@ returns c =
 pub turn-of-spec : {M : Type 1} → statement M
 turn-of-spec =
     tie.close
-    (tie.spec mul-green-of array-copy-out-green-of green-of-requires ending-requires returns)
+    (tie.spec (λ c. search needs) (λ c. search needs) (λ c κs. search needs) ending-requires returns)

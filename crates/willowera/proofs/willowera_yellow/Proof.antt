@@ -6,11 +6,8 @@ use Rattle.board_yellow.specs.YellowCall.{yellowAnswer}
 use Rattle.willowera.proofs.willowera_yellow.Statement.{statement}
 use Rattle.willowera.proofs.willowera_yellow.Tie as tie
 
-yellow-requires : tie.Need-yellow-requires
-yellow-requires c κs = search needs
-
 returns : tie.Need-returns
 returns c = let start = c .before in c .yellow .ensures ∙ ap (yellowAnswer (start .args .speed)) (toZ-ofZ (start .fits .grade))
 
 pub willowera-yellow-spec : {M : Type 1} → statement M
-willowera-yellow-spec = tie.close (tie.spec yellow-requires returns)
+willowera-yellow-spec = tie.close (tie.spec (λ c κs. search needs) returns)

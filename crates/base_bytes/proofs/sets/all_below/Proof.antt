@@ -4,11 +4,8 @@ use Rattle.laws.proofs.ByteSets.{below-told}
 use Rattle.base_bytes.proofs.sets.all_below.Statement.{statement}
 use Rattle.base_bytes.proofs.sets.all_below.Tie as tie
 
-shr-result : tie.Need-shr-result
-shr-result c = search needs
-
 returns : tie.Need-returns
 returns c = below-told (c .args .set) (c .args .count) (search needs)
 
 pub all-below-spec : {M : Type 1} → statement M
-all-below-spec = tie.close (tie.spec shr-result returns)
+all-below-spec = tie.close (tie.spec (λ c. search needs) returns)

@@ -4,11 +4,8 @@ use Rattle.laws.proofs.ByteSets.{except-told}
 use Rattle.base_bytes.proofs.sets.except.Statement.{statement}
 use Rattle.base_bytes.proofs.sets.except.Tie as tie
 
-sub-result : tie.Need-sub-result
-sub-result c = search needs
-
 returns : tie.Need-returns
 returns c = except-told (c .args .set) (c .args .other) (search needs) (search needs)
 
 pub except-spec : {M : Type 1} → statement M
-except-spec = tie.close (tie.spec sub-result returns)
+except-spec = tie.close (tie.spec (λ c. search needs) returns)

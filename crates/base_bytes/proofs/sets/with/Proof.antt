@@ -4,11 +4,8 @@ use Rattle.laws.proofs.ByteSets.{with-told}
 use Rattle.base_bytes.proofs.sets.with.Statement.{statement}
 use Rattle.base_bytes.proofs.sets.with.Tie as tie
 
-shl-result : tie.Need-shl-result
-shl-result c = search needs
-
 returns : tie.Need-returns
 returns c = with-told (c .args .set) (c .args .k) (search needs) (search needs)
 
 pub with-spec : {M : Type 1} → statement M
-with-spec = tie.close (tie.spec shl-result returns)
+with-spec = tie.close (tie.spec (λ c. search needs) returns)

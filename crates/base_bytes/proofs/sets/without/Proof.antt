@@ -4,14 +4,8 @@ use Rattle.laws.proofs.ByteSets.{without-told}
 use Rattle.base_bytes.proofs.sets.without.Statement.{statement}
 use Rattle.base_bytes.proofs.sets.without.Tie as tie
 
-shl-result : tie.Need-shl-result
-shl-result c = search needs
-
-sub-result : tie.Need-sub-result
-sub-result c = search needs
-
 returns : tie.Need-returns
 returns c = without-told (c .args .set) (c .args .k) (search needs) (search needs)
 
 pub without-spec : {M : Type 1} → statement M
-without-spec = tie.close (tie.spec shl-result sub-result returns)
+without-spec = tie.close (tie.spec (λ c. search needs) (λ c. search needs) returns)

@@ -5,12 +5,6 @@ use Rattle.cabinet_held.proofs.Bytes.{copied}
 use Rattle.cabinet_held.proofs.fills.copy.Statement.{statement}
 use Rattle.cabinet_held.proofs.fills.copy.Tie as tie
 
-put-all-requires : tie.Need-put-all-requires
-put-all-requires c κs = search needs
-
-same-length : tie.Need-same-length
-same-length c = search needs
-
 returns : tie.Need-returns
 returns c =
     let made = c .before .before in
@@ -18,4 +12,4 @@ returns c =
     made .put-all .ensures ∙ copied (start .args .from .now) (start .args .to .now) (start .pre)
 
 pub copy-spec : {M : Type 1} → statement M
-copy-spec = tie.close (tie.spec put-all-requires same-length returns)
+copy-spec = tie.close (tie.spec (λ c κs. search needs) (λ c. search needs) returns)

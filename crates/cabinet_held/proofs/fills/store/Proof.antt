@@ -5,18 +5,6 @@ use borrow.Author.Needs.{needs}
 use Rattle.cabinet_held.proofs.fills.store.Statement.{statement}
 use Rattle.cabinet_held.proofs.fills.store.Tie as tie
 
-copy-requires : tie.Need-copy-requires
-copy-requires c κs = search needs
-
-sub-rest : tie.Need-sub-rest
-sub-rest c = search needs
-
-fill-requires : tie.Need-fill-requires
-fill-requires c κs = search needs
-
-same-length : tie.Need-same-length
-same-length c = search needs
-
 returns : tie.Need-returns
 returns c =
     let filled = c .before .before in
@@ -25,4 +13,4 @@ returns c =
     filled .fill .ensures ∙ padded (start .args .personality .now) (start .args .room .now) _ (start .pre) (copied .copy .ensures)
 
 pub store-spec : {M : Type 1} → statement M
-store-spec = tie.close (tie.spec copy-requires sub-rest fill-requires same-length returns)
+store-spec = tie.close (tie.spec (λ c κs. search needs) (λ c. search needs) (λ c κs. search needs) (λ c. search needs) returns)

@@ -12,9 +12,6 @@ enum-told c = search needs
 returns : tie.Need-returns
 returns c = or-stop _ refl (c .enum-told .given .1)
 
-enum-told-2 : tie.Need-enum-told-2
-enum-told-2 c = search needs
-
 returns-2 : tie.Need-returns-2
 returns-2 c = or-next refl (c .before .enum-told2 .given .1) (or-stop _ (refuse-yes 24 0 (c .if1 .taken)) refl)
 
@@ -37,4 +34,4 @@ returns-5 c =
 
 pub checks-spec : {M : Type 1} → statement M
 checks-spec =
-    tie.close (tie.spec enum-told returns enum-told-2 returns-2 returns-3 returns-4 returns-5)
+    tie.close (tie.spec enum-told returns (λ c. search needs) returns-2 returns-3 returns-4 returns-5)

@@ -10,18 +10,6 @@ use borrow.Author.Needs.{needs}
 use Rattle.cabinet_held.proofs.placing.held_placing.Statement.{statement}
 use Rattle.cabinet_held.proofs.placing.held_placing.Tie as tie
 
-read-with-layout-requires : tie.Need-read-with-layout-requires
-read-with-layout-requires c κs = search needs
-
-outputs-of-requires : tie.Need-outputs-of-requires
-outputs-of-requires c κs = search needs
-
-past-last-requires : tie.Need-past-last-requires
-past-last-requires c κs = search needs
-
-checks-requires : tie.Need-checks-requires
-checks-requires c κs = search needs
-
 abbrev start : tie.After-checks → tie.Start
 start c = c .before .before .before .before .before .before .before
 
@@ -38,20 +26,11 @@ checked c =
 enum-told : tie.Need-enum-told
 enum-told c = search needs
 
-cast-fill : tie.Need-cast-fill
-cast-fill c = search needs
-
 fill-requires : tie.Need-fill-requires
 fill-requires c κs =
     let called = c .before .before .before in
     let fits = placing-fits _ _ _ _ _ (sym (checked called) ∙ c .before .enum-told .given .1) in
     omega (arith, fits, called .before .before .outputs-of .ensures)
-
-enum-told-2 : tie.Need-enum-told-2
-enum-told-2 c = search needs
-
-same-length : tie.Need-same-length
-same-length c = search needs
 
 returns : tie.Need-returns
 returns c =
@@ -75,14 +54,14 @@ pub held-placing-spec : {M : Type 1} → statement M
 held-placing-spec =
     tie.close
     (tie.spec
-    read-with-layout-requires
-    outputs-of-requires
-    past-last-requires
-    checks-requires
+    (λ c κs. search needs)
+    (λ c κs. search needs)
+    (λ c κs. search needs)
+    (λ c κs. search needs)
     enum-told
-    cast-fill
+    (λ c. search needs)
     fill-requires
-    enum-told-2
-    same-length
+    (λ c. search needs)
+    (λ c. search needs)
     returns
     returns-2)

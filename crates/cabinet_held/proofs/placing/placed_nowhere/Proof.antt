@@ -7,17 +7,8 @@ use borrow.Author.Needs.{needs}
 use Rattle.cabinet_held.proofs.placing.placed_nowhere.Statement.{statement}
 use Rattle.cabinet_held.proofs.placing.placed_nowhere.Tie as tie
 
-read-requires : tie.Need-read-requires
-read-requires c κs = search needs
-
 enum-told : tie.Need-enum-told
 enum-told c = search needs
-
-refusal-requires : tie.Need-refusal-requires
-refusal-requires c κs = search needs
-
-enum-known-verdict : tie.Need-enum-known-verdict
-enum-known-verdict c = search needs
 
 refusal-requires-2 : tie.Need-refusal-requires-2
 refusal-requires-2 c κs =
@@ -35,4 +26,4 @@ returns-2 c = let told = c .before .before in rw (sym (told .before .before .rea
 pub placed-nowhere-spec : {M : Type 1} → statement M
 placed-nowhere-spec =
     tie.close
-    (tie.spec read-requires enum-told refusal-requires enum-known-verdict refusal-requires-2 returns returns-2)
+    (tie.spec (λ c κs. search needs) enum-told (λ c κs. search needs) (λ c. search needs) refusal-requires-2 returns returns-2)

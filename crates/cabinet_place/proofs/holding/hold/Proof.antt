@@ -9,37 +9,10 @@ use Rattle.cabinet_place.proofs.holding.hold.Tie as tie
 cast-mark : tie.Need-cast-mark
 cast-mark c = omega (arith, accepted-fits _ (c .before .before .before .pre .1))
 
-mark-requires : tie.Need-mark-requires
-mark-requires c κs = search needs
-
-sub-store : tie.Need-sub-store
-sub-store c = search needs
-
-part-store-start : tie.Need-part-store-start
-part-store-start c = search needs
-
-part-store-end : tie.Need-part-store-end
-part-store-end c = search needs
-
 store-requires : tie.Need-store-requires
 store-requires c κs =
     let start = c .before .before .before .before .before .before .before in
     omega (arith, accepted-fits _ (start .pre .1), start .pre .0)
-
-sub-fresh-state : tie.Need-sub-fresh-state
-sub-fresh-state c = search needs
-
-part-fresh-state-start : tie.Need-part-fresh-state-start
-part-fresh-state-start c = search needs
-
-part-fresh-state-end : tie.Need-part-fresh-state-end
-part-fresh-state-end c = search needs
-
-fresh-state-requires : tie.Need-fresh-state-requires
-fresh-state-requires c κs = search needs
-
-same-length : tie.Need-same-length
-same-length c = search needs
 
 returns : tie.Need-returns
 returns c =
@@ -57,14 +30,14 @@ hold-spec =
     tie.close
     (tie.spec
     cast-mark
-    mark-requires
-    sub-store
-    part-store-start
-    part-store-end
+    (λ c κs. search needs)
+    (λ c. search needs)
+    (λ c. search needs)
+    (λ c. search needs)
     store-requires
-    sub-fresh-state
-    part-fresh-state-start
-    part-fresh-state-end
-    fresh-state-requires
-    same-length
+    (λ c. search needs)
+    (λ c. search needs)
+    (λ c. search needs)
+    (λ c κs. search needs)
+    (λ c. search needs)
     returns)

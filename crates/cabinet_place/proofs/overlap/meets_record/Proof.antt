@@ -10,9 +10,6 @@ use borrow.Author.Needs.{needs}
 use Rattle.cabinet_place.proofs.overlap.meets_record.Statement.{statement}
 use Rattle.cabinet_place.proofs.overlap.meets_record.Tie as tie
 
-is-held-requires : tie.Need-is-held-requires
-is-held-requires c κs = search needs
-
 -- the record that is compared
 abbrev own : tie.After-is-held → Record
 own c = let a = c .before .before .args in recordOf (decodedRow (a .row .now)) (a .k)
@@ -23,15 +20,6 @@ returns c =
     let asked = c .before in
     let free : isFree (own asked) ≡ true = there-free (asked .before .before .pre) (sym (asked .is-held .ensures) ∙ not-true _ (c .if1 .taken)) in
     rw free
-
-personality-of-requires : tie.Need-personality-of-requires
-personality-of-requires c κs = search needs
-
-first-of-requires : tie.Need-first-of-requires
-first-of-requires c κs = search needs
-
-meets-requires : tie.Need-meets-requires
-meets-requires c κs = search needs
 
 returns-2 : tie.Need-returns-2
 unfolding meetsRecord hasOutputs
@@ -46,9 +34,9 @@ pub meets-record-spec : {M : Type 1} → statement M
 meets-record-spec =
     tie.close
     (tie.spec
-    is-held-requires
+    (λ c κs. search needs)
     returns
-    personality-of-requires
-    first-of-requires
-    meets-requires
+    (λ c κs. search needs)
+    (λ c κs. search needs)
+    (λ c κs. search needs)
     returns-2)

@@ -5,15 +5,6 @@ use borrow.Author.Needs.{needs}
 use Rattle.read_conflicts.proofs.records.bad_conflict.Statement.{statement}
 use Rattle.read_conflicts.proofs.records.bad_conflict.Tie as tie
 
-conflict-set-requires : tie.Need-conflict-set-requires
-conflict-set-requires c κs = search needs
-
-bit32-requires : tie.Need-bit32-requires
-bit32-requires c κs = search needs
-
-reaches32-requires : tie.Need-reaches32-requires
-reaches32-requires c κs = search needs
-
 returns : tie.Need-returns
 returns c =
     let set = c .before .before in
@@ -22,4 +13,4 @@ returns c =
 
 pub bad-conflict-spec : {M : Type 1} → statement M
 bad-conflict-spec =
-    tie.close (tie.spec conflict-set-requires bit32-requires reaches32-requires returns)
+    tie.close (tie.spec (λ c κs. search needs) (λ c κs. search needs) (λ c κs. search needs) returns)

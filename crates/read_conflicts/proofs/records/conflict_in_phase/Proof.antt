@@ -6,21 +6,6 @@ use borrow.Author.Needs.{needs}
 use Rattle.read_conflicts.proofs.records.conflict_in_phase.Statement.{statement}
 use Rattle.read_conflicts.proofs.records.conflict_in_phase.Tie as tie
 
-group-set-requires : tie.Need-group-set-requires
-group-set-requires c κs = search needs
-
-cast-set : tie.Need-cast-set
-cast-set c = search needs
-
-cast-sharing : tie.Need-cast-sharing
-cast-sharing c = search needs
-
-sharing-requires : tie.Need-sharing-requires
-sharing-requires c κs = search needs
-
-conflict-set-requires : tie.Need-conflict-set-requires
-conflict-set-requires c κs = search needs
-
 returns : tie.Need-returns
 returns c =
     let atSharing = c .before in
@@ -39,9 +24,9 @@ pub conflict-in-phase-spec : {M : Type 1} → statement M
 conflict-in-phase-spec =
     tie.close
     (tie.spec
-    group-set-requires
-    cast-set
-    cast-sharing
-    sharing-requires
-    conflict-set-requires
+    (λ c κs. search needs)
+    (λ c. search needs)
+    (λ c. search needs)
+    (λ c κs. search needs)
+    (λ c κs. search needs)
     returns)

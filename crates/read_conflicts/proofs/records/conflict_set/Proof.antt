@@ -4,15 +4,6 @@ use borrow.Author.Needs.{needs}
 use Rattle.read_conflicts.proofs.records.conflict_set.Statement.{statement}
 use Rattle.read_conflicts.proofs.records.conflict_set.Tie as tie
 
-add-four-in : tie.Need-add-four-in
-add-four-in c = search needs
-
-mul-four-in : tie.Need-mul-four-in
-mul-four-in c = search needs
-
-add-four-in-2 : tie.Need-add-four-in-2
-add-four-in-2 c = search needs
-
 four-in-requires : tie.Need-four-in-requires
 unfolding bodyAt
 four-in-requires c κs = search needs
@@ -23,4 +14,4 @@ returns c = let head = c .before .before .before .pre .0 .laid .conflicts in rw 
 
 pub conflict-set-spec : {M : Type 1} → statement M
 conflict-set-spec =
-    tie.close (tie.spec add-four-in mul-four-in add-four-in-2 four-in-requires returns)
+    tie.close (tie.spec (λ c. search needs) (λ c. search needs) (λ c. search needs) four-in-requires returns)

@@ -8,12 +8,6 @@ use borrow.Author.Needs.{needs}
 use Rattle.read_conflicts.proofs.records.refused_record.Statement.{statement}
 use Rattle.read_conflicts.proofs.records.refused_record.Tie as tie
 
-mul-bad-conflict : tie.Need-mul-bad-conflict
-mul-bad-conflict c = search needs
-
-array-read-bad-conflict : tie.Need-array-read-bad-conflict
-array-read-bad-conflict c = search needs
-
 bad-conflict-requires : tie.Need-bad-conflict-requires
 bad-conflict-requires c κs =
     let pre = c .before .before .pre in (pre .0, pre .2, turned-named _ _ (eq-eqb _ _ (c .if1 .taken)) (pre .3))
@@ -40,8 +34,8 @@ pub refused-record-spec : {M : Type 1} → statement M
 refused-record-spec =
     tie.close
     (tie.spec
-    mul-bad-conflict
-    array-read-bad-conflict
+    (λ c. search needs)
+    (λ c. search needs)
     bad-conflict-requires
     returns
     conflict-in-phase-requires

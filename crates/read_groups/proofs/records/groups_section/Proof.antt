@@ -10,15 +10,6 @@ use Rattle.read_groups.proofs.GroupChecks.{refused-told, told-next}
 use Rattle.read_groups.proofs.records.groups_section.Statement.{statement}
 use Rattle.read_groups.proofs.records.groups_section.Tie as tie
 
-cast-sized-section : tie.Need-cast-sized-section
-cast-sized-section c = search needs
-
-mul-sized-section : tie.Need-mul-sized-section
-mul-sized-section c = search needs
-
-sized-section-requires : tie.Need-sized-section-requires
-sized-section-requires c κs = search needs
-
 enum-told : tie.Need-enum-told
 enum-told c = search needs
 
@@ -29,18 +20,12 @@ checked :
     c .sized-section .result ≡ sectionAt b (groupsHead b) 3 (eqb (bodyLength b (groupsHead b)) (groupCount b * 2))
 checked c = let laid = c .before .before .before .pre in rw (laid .groups, laid .groupcount) at (c .sized-section .ensures)
 
-refused-requires : tie.Need-refused-requires
-refused-requires c κs = search needs
-
 returns : tie.Need-returns
 unfolding groupsSection
 returns c =
     let told = c .before in
     let head = told .enum-told .given .1 in
     refused-told _ (c .refused .ensures ∙ head) (sym head ∙ or-stop _ (checked (told .before .before)) head)
-
-enum-told-2 : tie.Need-enum-told-2
-enum-told-2 c = search needs
 
 group-records-requires : tie.Need-group-records-requires
 group-records-requires c κs =
@@ -57,12 +42,12 @@ pub groups-section-spec : {M : Type 1} → statement M
 groups-section-spec =
     tie.close
     (tie.spec
-    cast-sized-section
-    mul-sized-section
-    sized-section-requires
+    (λ c. search needs)
+    (λ c. search needs)
+    (λ c κs. search needs)
     enum-told
-    refused-requires
+    (λ c κs. search needs)
     returns
-    enum-told-2
+    (λ c. search needs)
     group-records-requires
     returns-2)

@@ -20,18 +20,12 @@ restFrom b = leftOver b (endOf b)
 abbrev callers : List ℕ → Verdict
 callers b = refuseIf (phaseWithoutCaller b) 21 (detectorsHead b)
 
-early-section-requires : tie.Need-early-section-requires
-early-section-requires c κs = search needs
-
 enum-told : tie.Need-enum-told
 enum-told c = search needs
 
 returns : tie.Need-returns
 unfolding afterPedestrians
 returns c = or-stop _ (c .before .before .early-section .ensures) (c .enum-told .given .1)
-
-enum-told-2 : tie.Need-enum-told-2
-enum-told-2 c = search needs
 
 -- kind 7 has passed: the answer is that of what follows
 pastEarly :
@@ -42,17 +36,8 @@ pastEarly :
 unfolding afterPedestrians
 pastEarly c e = or-next (c .before .before .early-section .ensures) (c .enum-told2 .given .1) e
 
-order-section-requires : tie.Need-order-section-requires
-order-section-requires c κs = search needs
-
-enum-told-3 : tie.Need-enum-told-3
-enum-told-3 c = search needs
-
 returns-2 : tie.Need-returns-2
 returns-2 c = pastEarly (c .before .before .before) (or-stop _ (c .before .before .order-section .ensures) (c .enum-told3 .given .1))
-
-enum-told-4 : tie.Need-enum-told-4
-enum-told-4 c = search needs
 
 -- and so has kind 9
 pastOrder :
@@ -62,9 +47,6 @@ pastOrder :
     v ≡ afterPedestrians b
 pastOrder c e =
     pastEarly (c .before .before .before) (or-next (c .before .before .order-section .ensures) (c .enum-told4 .given .1) e)
-
-each-called-requires : tie.Need-each-called-requires
-each-called-requires c κs = search needs
 
 returns-3 : tie.Need-returns-3
 returns-3 c =
@@ -87,23 +69,8 @@ pastCallers c e =
     pastOrder (call .before)
     (or-next refl (refuse-no 21 _ (not-true _ (sym (call .each-called .ensures) ∙ not-false _ (c .if1 .left)))) e)
 
-early-missing-requires : tie.Need-early-missing-requires
-early-missing-requires c κs = search needs
-
-enum-told-5 : tie.Need-enum-told-5
-enum-told-5 c = search needs
-
 returns-4 : tie.Need-returns-4
 returns-4 c = pastCallers (c .before .before .before) (or-stop _ (c .before .before .early-missing .ensures) (c .enum-told5 .given .1))
-
-enum-told-6 : tie.Need-enum-told-6
-enum-told-6 c = search needs
-
-past-section-requires : tie.Need-past-section-requires
-past-section-requires c κs = search needs
-
-left-over-requires : tie.Need-left-over-requires
-left-over-requires c κs = search needs
 
 returns-5 : tie.Need-returns-5
 unfolding endOf
@@ -119,20 +86,20 @@ pub after-pedestrians-spec : {M : Type 1} → statement M
 after-pedestrians-spec =
     tie.close
     (tie.spec
-    early-section-requires
+    (λ c κs. search needs)
     enum-told
     returns
-    enum-told-2
-    order-section-requires
-    enum-told-3
+    (λ c. search needs)
+    (λ c κs. search needs)
+    (λ c. search needs)
     returns-2
-    enum-told-4
-    each-called-requires
+    (λ c. search needs)
+    (λ c κs. search needs)
     returns-3
-    early-missing-requires
-    enum-told-5
+    (λ c κs. search needs)
+    (λ c. search needs)
     returns-4
-    enum-told-6
-    past-section-requires
-    left-over-requires
+    (λ c. search needs)
+    (λ c κs. search needs)
+    (λ c κs. search needs)
     returns-5)

@@ -7,9 +7,6 @@ use borrow.Author.Needs.{needs}
 use Rattle.road_step.proofs.greens.greens_after.Statement.{statement}
 use Rattle.road_step.proofs.greens.greens_after.Tie as tie
 
-greens-in-requires : tie.Need-greens-in-requires
-greens-in-requires c κs = search needs
-
 returns : tie.Need-returns
 returns c = λ old follows held. c .greens-in .ensures
 
@@ -25,4 +22,4 @@ returns-2 c =
     follows held
 
 pub greens-after-spec : {M : Type 1} → statement M
-greens-after-spec = tie.close (tie.spec greens-in-requires returns returns-2)
+greens-after-spec = tie.close (tie.spec (λ c κs. search needs) returns returns-2)

@@ -4,9 +4,6 @@ use borrow.Author.Needs.{needs}
 use Rattle.road_step.proofs.greens.greens_in.Statement.{statement}
 use Rattle.road_step.proofs.greens.greens_in.Tie as tie
 
-closing-there-requires : tie.Need-closing-there-requires
-closing-there-requires c κs = search needs
-
 greens-at-requires : tie.Need-greens-at-requires
 greens-at-requires c κs = c .before .before .before .before .pre .groups .1
 
@@ -17,4 +14,4 @@ returns c =
     green-in (start .args .site) (start .pre) (start .args .state) (c .greens-at .result) (rw (closed .closing-there .ensures) at (c .greens-at .ensures))
 
 pub greens-in-spec : {M : Type 1} → statement M
-greens-in-spec = tie.close (tie.spec closing-there-requires greens-at-requires returns)
+greens-in-spec = tie.close (tie.spec (λ c κs. search needs) greens-at-requires returns)

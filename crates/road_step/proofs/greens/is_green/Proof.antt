@@ -5,12 +5,9 @@ use Rattle.laws.specs.Bytes.{bit}
 use Rattle.road_step.proofs.greens.is_green.Statement.{statement}
 use Rattle.road_step.proofs.greens.is_green.Tie as tie
 
-shr-result : tie.Need-shr-result
-shr-result c = search needs
-
 returns : tie.Need-returns
 unfolding bit
 returns c = refl
 
 pub is-green-spec : {M : Type 1} → statement M
-is-green-spec = tie.close (tie.spec shr-result returns)
+is-green-spec = tie.close (tie.spec (λ c. search needs) returns)

@@ -19,9 +19,6 @@ use Rattle.road_step.proofs.greens.with_bit.Tie as tie
 one-below : (k n : ℕ) → k < n → 1 * 2 ^ k < 2 ^ n
 one-below k n l = omega (arith, pow-mono {i = suc k} {j = n} l, pow-succ' 2 k, pow-pos k)
 
-shl-result : tie.Need-shl-result
-shl-result c = search needs
-
 returns : tie.Need-returns
 returns c =
     let a = c .before .args in
@@ -47,4 +44,4 @@ returns-2 c =
     }
 
 pub with-bit-spec : {M : Type 1} → statement M
-with-bit-spec = tie.close (tie.spec shl-result returns returns-2)
+with-bit-spec = tie.close (tie.spec (λ c. search needs) returns returns-2)

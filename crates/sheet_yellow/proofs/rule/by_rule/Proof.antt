@@ -12,9 +12,6 @@ use Rattle.sheet_yellow.proofs.Stated.{in-range-parts, promise-refused,
 use Rattle.sheet_yellow.proofs.rule.by_rule.Statement.{statement}
 use Rattle.sheet_yellow.proofs.rule.by_rule.Tie as tie
 
-in-range-requires : tie.Need-in-range-requires
-in-range-requires c κs = search needs
-
 returns : tie.Need-returns
 returns c =
     let a = c .before .before .args in
@@ -45,4 +42,4 @@ returns-2 c =
 
 pub by-rule-spec : {M : Type 1} → statement M
 by-rule-spec =
-    tie.close (tie.spec in-range-requires returns column-of-requires entry-at-requires returns-2)
+    tie.close (tie.spec (λ c κs. search needs) returns column-of-requires entry-at-requires returns-2)

@@ -10,24 +10,6 @@ use Rattle.sheet_yellow.proofs.rule.entry_at.Tie as tie
 ceiling-most : (speed column : ℕ) → speed < 111 → ceiling (100000 * speed) (divisorAt column) ≤ 77
 ceiling-most speed column l = div-le-of-le-mul (divisorAt column) (omega arith)
 
-cast-divisor : tie.Need-cast-divisor
-cast-divisor c = search needs
-
-mul-divisor : tie.Need-mul-divisor
-mul-divisor c = search needs
-
-add-divisor : tie.Need-add-divisor
-add-divisor c = search needs
-
-mul-divisor-2 : tie.Need-mul-divisor-2
-mul-divisor-2 c = search needs
-
-mul-ceiling : tie.Need-mul-ceiling
-mul-ceiling c = search needs
-
-ceiling-requires : tie.Need-ceiling-requires
-ceiling-requires c κs = search needs
-
 add-steps : tie.Need-add-steps
 add-steps c =
     let a = c .before .args in
@@ -50,12 +32,12 @@ pub entry-at-spec : {M : Type 1} → statement M
 entry-at-spec =
     tie.close
     (tie.spec
-    cast-divisor
-    mul-divisor
-    add-divisor
-    mul-divisor-2
-    mul-ceiling
-    ceiling-requires
+    (λ c. search needs)
+    (λ c. search needs)
+    (λ c. search needs)
+    (λ c. search needs)
+    (λ c. search needs)
+    (λ c κs. search needs)
     add-steps
     cast-result
     returns

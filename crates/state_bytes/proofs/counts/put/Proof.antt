@@ -7,21 +7,6 @@ use borrow.Author.Needs.{needs}
 use Rattle.state_bytes.proofs.counts.put.Statement.{statement}
 use Rattle.state_bytes.proofs.counts.put.Tie as tie
 
-add-put-two : tie.Need-add-put-two
-add-put-two c = search needs
-
-put-two-requires : tie.Need-put-two-requires
-put-two-requires c κs = search needs
-
-add-put-two-2 : tie.Need-add-put-two-2
-add-put-two-2 c = search needs
-
-put-two-requires-2 : tie.Need-put-two-requires-2
-put-two-requires-2 c κs = search needs
-
-same-length : tie.Need-same-length
-same-length c = search needs
-
 returns : tie.Need-returns
 returns c =
     let second = c .before .before in
@@ -35,4 +20,4 @@ returns c =
 pub put-spec : {M : Type 1} → statement M
 put-spec =
     tie.close
-    (tie.spec add-put-two put-two-requires add-put-two-2 put-two-requires-2 same-length returns)
+    (tie.spec (λ c. search needs) (λ c κs. search needs) (λ c. search needs) (λ c κs. search needs) (λ c. search needs) returns)

@@ -7,18 +7,6 @@ use borrow.Author.Needs.{needs}
 use Rattle.state_bytes.proofs.movements.put_one.Statement.{statement}
 use Rattle.state_bytes.proofs.movements.put_one.Tie as tie
 
-stage-row-requires : tie.Need-stage-row-requires
-stage-row-requires c κs = search needs
-
-add-bytes : tie.Need-add-bytes
-add-bytes c = search needs
-
-slice-write-bytes : tie.Need-slice-write-bytes
-slice-write-bytes c = search needs
-
-add-put-two : tie.Need-add-put-two
-add-put-two c = search needs
-
 put-two-requires : tie.Need-put-two-requires
 put-two-requires c κs = simp length-set (omega arith)
 
@@ -36,10 +24,10 @@ pub put-one-spec : {M : Type 1} → statement M
 put-one-spec =
     tie.close
     (tie.spec
-    stage-row-requires
-    add-bytes
-    slice-write-bytes
-    add-put-two
+    (λ c κs. search needs)
+    (λ c. search needs)
+    (λ c. search needs)
+    (λ c. search needs)
     put-two-requires
     same-length
     returns)

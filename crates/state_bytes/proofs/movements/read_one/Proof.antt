@@ -5,23 +5,11 @@ use borrow.Author.Needs.{needs}
 use Rattle.state_bytes.proofs.movements.read_one.Statement.{statement}
 use Rattle.state_bytes.proofs.movements.read_one.Tie as tie
 
-add-stage-of : tie.Need-add-stage-of
-add-stage-of c = search needs
-
-shared-slice-read-stage-of : tie.Need-shared-slice-read-stage-of
-shared-slice-read-stage-of c = search needs
-
 stage-of-requires : tie.Need-stage-of-requires
 unfolding byteAt
 stage-of-requires c κs =
     let start = c .before .before in
     stage-told (start .args .bytes .now) (start .args .at) (start .pre .1)
-
-add-two-in : tie.Need-add-two-in
-add-two-in c = search needs
-
-two-in-requires : tie.Need-two-in-requires
-two-in-requires c κs = search needs
 
 returns : tie.Need-returns
 unfolding byteAt
@@ -31,9 +19,9 @@ pub read-one-spec : {M : Type 1} → statement M
 read-one-spec =
     tie.close
     (tie.spec
-    add-stage-of
-    shared-slice-read-stage-of
+    (λ c. search needs)
+    (λ c. search needs)
     stage-of-requires
-    add-two-in
-    two-in-requires
+    (λ c. search needs)
+    (λ c κs. search needs)
     returns)

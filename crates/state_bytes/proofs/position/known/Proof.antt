@@ -8,27 +8,6 @@ use borrow.Author.Needs.{needs}
 use Rattle.state_bytes.proofs.position.known.Statement.{statement}
 use Rattle.state_bytes.proofs.position.known.Tie as tie
 
-add-interval-known : tie.Need-add-interval-known
-add-interval-known c = search needs
-
-shared-slice-read-interval-known : tie.Need-shared-slice-read-interval-known
-shared-slice-read-interval-known c = search needs
-
-interval-known-requires : tie.Need-interval-known-requires
-interval-known-requires c κs = search needs
-
-add-held-known : tie.Need-add-held-known
-add-held-known c = search needs
-
-held-known-requires : tie.Need-held-known-requires
-held-known-requires c κs = search needs
-
-add-held-known-2 : tie.Need-add-held-known-2
-add-held-known-2 c = search needs
-
-held-known-requires-2 : tie.Need-held-known-requires-2
-held-known-requires-2 c κs = search needs
-
 returns : tie.Need-returns
 unfolding byteAt
 returns c =
@@ -42,11 +21,11 @@ pub known-spec : {M : Type 1} → statement M
 known-spec =
     tie.close
     (tie.spec
-    add-interval-known
-    shared-slice-read-interval-known
-    interval-known-requires
-    add-held-known
-    held-known-requires
-    add-held-known-2
-    held-known-requires-2
+    (λ c. search needs)
+    (λ c. search needs)
+    (λ c κs. search needs)
+    (λ c. search needs)
+    (λ c κs. search needs)
+    (λ c. search needs)
+    (λ c κs. search needs)
     returns)

@@ -9,35 +9,14 @@ use borrow.Author.Needs.{needs}
 use Rattle.state_bytes.proofs.position.put.Statement.{statement}
 use Rattle.state_bytes.proofs.position.put.Tie as tie
 
-interval-row-requires : tie.Need-interval-row-requires
-interval-row-requires c κs = search needs
-
-add-bytes : tie.Need-add-bytes
-add-bytes c = search needs
-
-slice-write-bytes : tie.Need-slice-write-bytes
-slice-write-bytes c = search needs
-
-add-bytes-2 : tie.Need-add-bytes-2
-add-bytes-2 c = search needs
-
 slice-write-bytes-2 : tie.Need-slice-write-bytes-2
 slice-write-bytes-2 c = simp length-set (omega arith)
-
-add-put-two : tie.Need-add-put-two
-add-put-two c = search needs
 
 put-two-requires : tie.Need-put-two-requires
 put-two-requires c κs = simp length-set (omega arith)
 
-add-put-held : tie.Need-add-put-held
-add-put-held c = search needs
-
 put-held-requires : tie.Need-put-held-requires
 put-held-requires c κs = omega (arith, simp length-set at (c .before .before .before .put-two .kept .0))
-
-add-put-held-2 : tie.Need-add-put-held-2
-add-put-held-2 c = search needs
 
 put-held-requires-2 : tie.Need-put-held-requires-2
 put-held-requires-2 c κs =
@@ -75,16 +54,16 @@ pub put-spec : {M : Type 1} → statement M
 put-spec =
     tie.close
     (tie.spec
-    interval-row-requires
-    add-bytes
-    slice-write-bytes
-    add-bytes-2
+    (λ c κs. search needs)
+    (λ c. search needs)
+    (λ c. search needs)
+    (λ c. search needs)
     slice-write-bytes-2
-    add-put-two
+    (λ c. search needs)
     put-two-requires
-    add-put-held
+    (λ c. search needs)
     put-held-requires
-    add-put-held-2
+    (λ c. search needs)
     put-held-requires-2
     same-length
     returns)

@@ -12,45 +12,6 @@ use Rattle.step_colours.proofs.Colour.vehicle_colour.Tie as tie
 enum-told : tie.Need-enum-told
 enum-told c = search needs
 
-enum-told-2 : tie.Need-enum-told-2
-enum-told-2 c = search needs
-
-held-in-requires : tie.Need-held-in-requires
-held-in-requires c κs = search needs
-
-enum-told-3 : tie.Need-enum-told-3
-enum-told-3 c = search needs
-
-enum-told-4 : tie.Need-enum-told-4
-enum-told-4 c = search needs
-
-enum-told-5 : tie.Need-enum-told-5
-enum-told-5 c = search needs
-
-held-in-requires-2 : tie.Need-held-in-requires-2
-held-in-requires-2 c κs = search needs
-
-of-leaving-requires : tie.Need-of-leaving-requires
-of-leaving-requires c κs = search needs
-
-enum-told-6 : tie.Need-enum-told-6
-enum-told-6 c = search needs
-
-held-in-requires-3 : tie.Need-held-in-requires-3
-held-in-requires-3 c κs = search needs
-
-of-leaving-requires-2 : tie.Need-of-leaving-requires-2
-of-leaving-requires-2 c κs = search needs
-
-enum-told-7 : tie.Need-enum-told-7
-enum-told-7 c = search needs
-
-held-in-requires-4 : tie.Need-held-in-requires-4
-held-in-requires-4 c κs = search needs
-
-of-leaving-requires-3 : tie.Need-of-leaving-requires-3
-of-leaving-requires-3 c κs = search needs
-
 -- the code's test of late start is the rule's
 waits :
     (c : tie.After-held-in) →
@@ -101,19 +62,19 @@ vehicle-colour-spec =
     tie.close
     (tie.spec
     enum-told
-    enum-told-2
-    held-in-requires
-    enum-told-3
-    enum-told-4
-    enum-told-5
-    held-in-requires-2
-    of-leaving-requires
-    enum-told-6
-    held-in-requires-3
-    of-leaving-requires-2
-    enum-told-7
-    held-in-requires-4
-    of-leaving-requires-3
+    (λ c. search needs)
+    (λ c κs. search needs)
+    (λ c. search needs)
+    (λ c. search needs)
+    (λ c. search needs)
+    (λ c κs. search needs)
+    (λ c κs. search needs)
+    (λ c. search needs)
+    (λ c κs. search needs)
+    (λ c κs. search needs)
+    (λ c. search needs)
+    (λ c κs. search needs)
+    (λ c κs. search needs)
     returns
     returns-2
     returns-3

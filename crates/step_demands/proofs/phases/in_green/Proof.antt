@@ -11,12 +11,6 @@ use Rattle.laws.proofs.Booleans.{and-false-right}
 use Rattle.step_demands.proofs.phases.in_green.Statement.{statement}
 use Rattle.step_demands.proofs.phases.in_green.Tie as tie
 
-is-green-requires : tie.Need-is-green-requires
-is-green-requires c κs = search needs
-
-with-requires : tie.Need-with-requires
-with-requires c κs = search needs
-
 returns : tie.Need-returns
 unfolding inGreen
 returns c =
@@ -34,4 +28,4 @@ returns-2 c =
     (λ p l. bit-blank p ∙ sym (and-false-right (eqb p phase) (sym (tested .is-green .ensures) ∙ c .if1 .left)))
 
 pub in-green-spec : {M : Type 1} → statement M
-in-green-spec = tie.close (tie.spec is-green-requires with-requires returns returns-2)
+in-green-spec = tie.close (tie.spec (λ c κs. search needs) (λ c κs. search needs) returns returns-2)

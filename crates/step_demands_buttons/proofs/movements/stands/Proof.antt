@@ -7,9 +7,6 @@ use Rattle.laws.proofs.ByteSets.{self-told, union-told}
 use Rattle.step_demands_buttons.proofs.movements.stands.Statement.{statement}
 use Rattle.step_demands_buttons.proofs.movements.stands.Tie as tie
 
-movement-demands-requires : tie.Need-movement-demands-requires
-movement-demands-requires c κs = search needs
-
 returns : tie.Need-returns
 unfolding stands
 returns c =
@@ -17,4 +14,4 @@ returns c =
     union-told (λ p. bit p locks) _ locks _ (self-told locks (omega arith)) (c .before .movement-demands .ensures)
 
 pub stands-spec : {M : Type 1} → statement M
-stands-spec = tie.close (tie.spec movement-demands-requires returns)
+stands-spec = tie.close (tie.spec (λ c κs. search needs) returns)

@@ -4,15 +4,6 @@ use Rattle.rules.specs.Interval.{countsChanged}
 use Rattle.step_interval.proofs.changes.counts_changed.Statement.{statement}
 use Rattle.step_interval.proofs.changes.counts_changed.Tie as tie
 
-counts-leaving-requires : tie.Need-counts-leaving-requires
-counts-leaving-requires c κs = search needs
-
-phase-times-requires : tie.Need-phase-times-requires
-phase-times-requires c κs = search needs
-
-counts-entering-requires : tie.Need-counts-entering-requires
-counts-entering-requires c κs = search needs
-
 returns : tie.Need-returns
 unfolding countsChanged
 returns c = rw (c .counts-entering .ensures, c .before .phase-times .ensures, c .before .before .counts-leaving .ensures, c .before .before .before .if1 .taken)
@@ -23,4 +14,4 @@ returns-2 c = rw (c .if1 .left)
 
 pub counts-changed-spec : {M : Type 1} → statement M
 counts-changed-spec =
-    tie.close (tie.spec counts-leaving-requires phase-times-requires counts-entering-requires returns returns-2)
+    tie.close (tie.spec (λ c κs. search needs) (λ c κs. search needs) (λ c κs. search needs) returns returns-2)

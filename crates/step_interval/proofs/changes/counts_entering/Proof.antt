@@ -5,12 +5,6 @@ use Rattle.rules.specs.Interval.{countsEntering}
 use Rattle.step_interval.proofs.changes.counts_entering.Statement.{statement}
 use Rattle.step_interval.proofs.changes.counts_entering.Tie as tie
 
-is-minimum-green-requires : tie.Need-is-minimum-green-requires
-is-minimum-green-requires c κs = search needs
-
-is-running-requires : tie.Need-is-running-requires
-is-running-requires c κs = search needs
-
 returns : tie.Need-returns
 unfolding countsEntering
 returns c =
@@ -31,4 +25,4 @@ returns-2 c =
 
 pub counts-entering-spec : {M : Type 1} → statement M
 counts-entering-spec =
-    tie.close (tie.spec is-minimum-green-requires is-running-requires returns returns-2)
+    tie.close (tie.spec (λ c κs. search needs) (λ c κs. search needs) returns returns-2)

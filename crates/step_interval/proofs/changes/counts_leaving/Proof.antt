@@ -4,12 +4,6 @@ use Rattle.rules.specs.Interval.{countsLeaving}
 use Rattle.step_interval.proofs.changes.counts_leaving.Statement.{statement}
 use Rattle.step_interval.proofs.changes.counts_leaving.Tie as tie
 
-is-leaving-requires : tie.Need-is-leaving-requires
-is-leaving-requires c κs = search needs
-
-is-before-start-requires : tie.Need-is-before-start-requires
-is-before-start-requires c κs = search needs
-
 returns : tie.Need-returns
 unfolding countsLeaving
 returns c = rw (← c .before .is-before-start .ensures, ← c .before .before .is-leaving .ensures, c .if1 .taken)
@@ -19,4 +13,4 @@ unfolding countsLeaving
 returns-2 c = rw (← c .before .is-before-start .ensures, ← c .before .before .is-leaving .ensures, c .if1 .left)
 
 pub counts-leaving-spec : {M : Type 1} → statement M
-counts-leaving-spec = tie.close (tie.spec is-leaving-requires is-before-start-requires returns returns-2)
+counts-leaving-spec = tie.close (tie.spec (λ c κs. search needs) (λ c κs. search needs) returns returns-2)

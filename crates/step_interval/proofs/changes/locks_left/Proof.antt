@@ -5,12 +5,6 @@ use Rattle.step_interval.proofs.Locks.{lock-cleared, locks-stand}
 use Rattle.step_interval.proofs.changes.locks_left.Statement.{statement}
 use Rattle.step_interval.proofs.changes.locks_left.Tie as tie
 
-is-minimum-green-requires : tie.Need-is-minimum-green-requires
-is-minimum-green-requires c κs = search needs
-
-without-requires : tie.Need-without-requires
-without-requires c κs = search needs
-
 returns : tie.Need-returns
 returns c =
     let tested = c .before .before in
@@ -24,4 +18,4 @@ returns-2 c =
     locks-stand (a .ended) (a .now) (a .locks) (rw (← tested .is-minimum-green .ensures) (c .if1 .left)) (search needs)
 
 pub locks-left-spec : {M : Type 1} → statement M
-locks-left-spec = tie.close (tie.spec is-minimum-green-requires without-requires returns returns-2)
+locks-left-spec = tie.close (tie.spec (λ c κs. search needs) (λ c κs. search needs) returns returns-2)

@@ -4,12 +4,9 @@ use Rattle.rules.specs.Interval.{starts}
 use Rattle.step_interval.proofs.changes.starts.Statement.{statement}
 use Rattle.step_interval.proofs.changes.starts.Tie as tie
 
-is-before-start-requires : tie.Need-is-before-start-requires
-is-before-start-requires c κs = search needs
-
 returns : tie.Need-returns
 unfolding starts
 returns c = rw (c .is-before-start .ensures)
 
 pub starts-spec : {M : Type 1} → statement M
-starts-spec = tie.close (tie.spec is-before-start-requires returns)
+starts-spec = tie.close (tie.spec (λ c κs. search needs) returns)

@@ -13,30 +13,6 @@ use Rattle.step_interval.proofs.ending.ends.Tie as tie
 enum-told : tie.Need-enum-told
 enum-told c = search needs
 
-enum-told-2 : tie.Need-enum-told-2
-enum-told-2 c = search needs
-
-enum-told-3 : tie.Need-enum-told-3
-enum-told-3 c = search needs
-
-enum-told-4 : tie.Need-enum-told-4
-enum-told-4 c = search needs
-
-under-way-requires : tie.Need-under-way-requires
-under-way-requires c κs = search needs
-
-enum-told-5 : tie.Need-enum-told-5
-enum-told-5 c = search needs
-
-enum-told-6 : tie.Need-enum-told-6
-enum-told-6 c = search needs
-
-enum-told-7 : tie.Need-enum-told-7
-enum-told-7 c = search needs
-
-under-way-requires-2 : tie.Need-under-way-requires-2
-under-way-requires-2 c κs = search needs
-
 returns : tie.Need-returns
 unfolding ends
 returns c =
@@ -95,16 +71,16 @@ ends-spec =
     tie.close
     (tie.spec
     enum-told
-    enum-told-2
-    enum-told-3
-    enum-told-4
+    (λ c. search needs)
+    (λ c. search needs)
+    (λ c. search needs)
     returns
-    under-way-requires
-    enum-told-5
-    enum-told-6
-    enum-told-7
+    (λ c κs. search needs)
+    (λ c. search needs)
+    (λ c. search needs)
+    (λ c. search needs)
     returns-2
-    under-way-requires-2
+    (λ c κs. search needs)
     returns-3
     returns-4
     returns-5

@@ -7,48 +7,6 @@ use Rattle.step_interval.proofs.following.following.Tie as tie
 enum-told : tie.Need-enum-told
 enum-told c = search needs
 
-starting-requires : tie.Need-starting-requires
-starting-requires c κs = search needs
-
-enum-told-2 : tie.Need-enum-told-2
-enum-told-2 c = search needs
-
-entering-requires : tie.Need-entering-requires
-entering-requires c κs = search needs
-
-enum-told-3 : tie.Need-enum-told-3
-enum-told-3 c = search needs
-
-entering-requires-2 : tie.Need-entering-requires-2
-entering-requires-2 c κs = search needs
-
-enum-told-4 : tie.Need-enum-told-4
-enum-told-4 c = search needs
-
-leaving-requires : tie.Need-leaving-requires
-leaving-requires c κs = search needs
-
-enum-told-5 : tie.Need-enum-told-5
-enum-told-5 c = search needs
-
-entering-requires-3 : tie.Need-entering-requires-3
-entering-requires-3 c κs = search needs
-
-enum-told-6 : tie.Need-enum-told-6
-enum-told-6 c = search needs
-
-entering-requires-4 : tie.Need-entering-requires-4
-entering-requires-4 c κs = search needs
-
-enum-told-7 : tie.Need-enum-told-7
-enum-told-7 c = search needs
-
-phase-held-requires : tie.Need-phase-held-requires
-phase-held-requires c κs = search needs
-
-starting-requires-2 : tie.Need-starting-requires-2
-starting-requires-2 c κs = search needs
-
 returns : tie.Need-returns
 unfolding following
 returns c = rw (c .starting .ensures, c .before .enum-told .given .1)
@@ -82,20 +40,20 @@ following-spec =
     tie.close
     (tie.spec
     enum-told
-    starting-requires
-    enum-told-2
-    entering-requires
-    enum-told-3
-    entering-requires-2
-    enum-told-4
-    leaving-requires
-    enum-told-5
-    entering-requires-3
-    enum-told-6
-    entering-requires-4
-    enum-told-7
-    phase-held-requires
-    starting-requires-2
+    (λ c κs. search needs)
+    (λ c. search needs)
+    (λ c κs. search needs)
+    (λ c. search needs)
+    (λ c κs. search needs)
+    (λ c. search needs)
+    (λ c κs. search needs)
+    (λ c. search needs)
+    (λ c κs. search needs)
+    (λ c. search needs)
+    (λ c κs. search needs)
+    (λ c. search needs)
+    (λ c κs. search needs)
+    (λ c κs. search needs)
     returns
     returns-2
     returns-3

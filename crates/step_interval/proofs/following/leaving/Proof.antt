@@ -6,22 +6,13 @@ use Rattle.rules.specs.Interval.{leaving}
 use Rattle.step_interval.proofs.following.leaving.Statement.{statement}
 use Rattle.step_interval.proofs.following.leaving.Tie as tie
 
-phase-times-requires : tie.Need-phase-times-requires
-phase-times-requires c κs = search needs
-
-entering-requires : tie.Need-entering-requires
-entering-requires c κs = search needs
-
 returns : tie.Need-returns
 unfolding leaving
 returns c = rw (c .entering .ensures, sym (c .before .before .before .phase-times .ensures), eq-eqb _ 0 (c .before .if1 .taken))
-
-entering-requires-2 : tie.Need-entering-requires-2
-entering-requires-2 c κs = search needs
 
 returns-2 : tie.Need-returns-2
 unfolding leaving
 returns-2 c = rw (c .entering2 .ensures, sym (c .before .before .before .phase-times .ensures), ne-eqb _ 0 (c .before .if1 .left))
 
 pub leaving-spec : {M : Type 1} → statement M
-leaving-spec = tie.close (tie.spec phase-times-requires entering-requires returns entering-requires-2 returns-2)
+leaving-spec = tie.close (tie.spec (λ c κs. search needs) (λ c κs. search needs) returns (λ c κs. search needs) returns-2)

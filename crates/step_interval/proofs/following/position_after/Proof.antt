@@ -4,19 +4,13 @@ use Rattle.rules.specs.Interval.{positionAfter}
 use Rattle.step_interval.proofs.following.position_after.Statement.{statement}
 use Rattle.step_interval.proofs.following.position_after.Tie as tie
 
-following-requires : tie.Need-following-requires
-following-requires c κs = search needs
-
 returns : tie.Need-returns
 unfolding positionAfter
 returns c = rw (c .following .ensures, c .before .if1 .taken)
-
-staying-requires : tie.Need-staying-requires
-staying-requires c κs = search needs
 
 returns-2 : tie.Need-returns-2
 unfolding positionAfter
 returns-2 c = rw (c .staying .ensures, c .before .if1 .left)
 
 pub position-after-spec : {M : Type 1} → statement M
-position-after-spec = tie.close (tie.spec following-requires returns staying-requires returns-2)
+position-after-spec = tie.close (tie.spec (λ c κs. search needs) returns (λ c κs. search needs) returns-2)

@@ -6,9 +6,6 @@ use Rattle.rules.specs.Interval.{starting}
 use Rattle.step_interval.proofs.following.starting.Statement.{statement}
 use Rattle.step_interval.proofs.following.starting.Tie as tie
 
-phase-times-requires : tie.Need-phase-times-requires
-phase-times-requires c κs = search needs
-
 returns : tie.Need-returns
 unfolding starting
 returns c = rw (sym (c .before .before .phase-times .ensures), eq-eqb _ 0 (c .if1 .taken))
@@ -18,4 +15,4 @@ unfolding starting
 returns-2 c = rw (sym (c .before .before .phase-times .ensures), ne-eqb _ 0 (c .if1 .left))
 
 pub starting-spec : {M : Type 1} → statement M
-starting-spec = tie.close (tie.spec phase-times-requires returns returns-2)
+starting-spec = tie.close (tie.spec (λ c κs. search needs) returns returns-2)

@@ -4,12 +4,9 @@ use Rattle.rules.specs.Interval.{staying}
 use Rattle.step_interval.proofs.following.staying.Statement.{statement}
 use Rattle.step_interval.proofs.following.staying.Tie as tie
 
-older-requires : tie.Need-older-requires
-older-requires c κs = search needs
-
 returns : tie.Need-returns
 unfolding staying
 returns c = rw (c .older .ensures)
 
 pub staying-spec : {M : Type 1} → statement M
-staying-spec = tie.close (tie.spec older-requires returns)
+staying-spec = tie.close (tie.spec (λ c κs. search needs) returns)

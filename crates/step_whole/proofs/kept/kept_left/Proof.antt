@@ -23,24 +23,6 @@ returns c =
     (eqb-true _ _ (and-left locks buttons (c .if1 .taken)))
     (eqb-true _ _ (and-right locks buttons (c .if1 .taken)))
 
-except-requires : tie.Need-except-requires
-except-requires c κs = search needs
-
-except-requires-2 : tie.Need-except-requires-2
-except-requires-2 c κs = search needs
-
-stands-requires : tie.Need-stands-requires
-stands-requires c κs = search needs
-
-stands-requires-2 : tie.Need-stands-requires-2
-stands-requires-2 c κs = search needs
-
-except-requires-3 : tie.Need-except-requires-3
-except-requires-3 c κs = search needs
-
-except-requires-4 : tie.Need-except-requires-4
-except-requires-4 c κs = search needs
-
 -- the phases of the demands that are gone
 gone-told :
     (c : tie.After-stands) →
@@ -65,10 +47,10 @@ kept-left-spec =
     tie.close
     (tie.spec
     returns
-    except-requires
-    except-requires-2
-    stands-requires
-    stands-requires-2
-    except-requires-3
-    except-requires-4
+    (λ c κs. search needs)
+    (λ c κs. search needs)
+    (λ c κs. search needs)
+    (λ c κs. search needs)
+    (λ c κs. search needs)
+    (λ c κs. search needs)
     returns-2)

@@ -1,2 +1,0 @@
-pub mod PlainCalls
-pub mod TimedCalls

@@ -1,3 +1,0 @@
-pub mod WhyCall
-pub mod WhyRefusals
-pub mod Explains

@@ -1,6 +1,0 @@
-pub mod AfterStep
-pub mod Found
-pub mod Steps
-pub mod Inputs
-pub mod Lengths
-pub mod WhyCases

@@ -1,0 +1,2 @@
+pub mod StateOf
+pub mod Decoded

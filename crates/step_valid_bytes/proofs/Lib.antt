@@ -1,4 +1,0 @@
-pub mod AdmittedBytes
-pub mod BlankTimes
-pub mod OwnTimes
-pub mod Words
