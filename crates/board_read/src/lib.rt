@@ -32,11 +32,8 @@ pub fn wait_bound(personality: &[u8]) -> u64
         return refusal(number, place);
     }
     let layout = reading.layout;
-    let timing = site_whole::timing_in(personality, layout);
-    let size = timing.size;
-    let times = timing.times;
-    let crossings = timing.crossings;
-    packed(0, wait_bound::wait_bound_by(size, times, crossings))
+    let site = site_whole::site_of(personality, layout);
+    packed(0, wait_bound::wait_bound(site))
 }
 
 // The number of signal groups of a personality, or its refusal.

@@ -8,7 +8,6 @@ use lib.ListN.{drop}
 use Rattle.rules.specs.declared.site.Site.{Site}
 use Rattle.rules.specs.declared.site.Times.{Times}
 use Rattle.rules.specs.declared.state.KeptState.{KeptState}
-use Rattle.rules.specs.declared.state.State.{State}
 use Rattle.laws.specs.Bytes.{byteAt}
 use Rattle.laws.specs.Folds.{if_then_else_}
 use Rattle.rules.specs.SiteTimes.{under}
@@ -21,7 +20,18 @@ use Rattle.rules.specs.TimedLaws.{ready}
 use Rattle.proof_change.proofs.Timed.{timed-told, plainState, old-sound, new-sound, ready-timed, timed-is-plain}
 use Rattle.state_timed.specs.TimedLayout.{settled, timedDecoded, timedEncoded}
 use Rattle.board_answers.specs.Answers.{packed}
-use Rattle.board_step.specs.Accepted.{Stepping, takesOverIn, Steps}
+use Rattle.board_step.specs.Accepted.{Stepping, takesOverIn, after, Steps}
+
+-- The site and the state from which the plain step goes: they are sound and valid, the step is that of the rules, and the site has the times that
+-- rule after it. `over` says if waiting times take over.
+pub record Goes (site : Site) (old : List ℕ) (over : Bool) (new : Site) (from : KeptState) : Type 0 where
+  pub sound : Sound new
+  pub valid : keptValid new from ≡ true
+  pub same :
+      (inputs : ℕ) (next : KeptState) →
+      next ≡ keptStepped new from inputs →
+      after new next over (timedDecoded old) ≡ timedStepped site (timedDecoded old) inputs
+  pub ruled : under site (if over then new .times else timedDecoded old .ruling) ≡ new
 
 module _ (site : Site) (before : KeptState) (old : List ℕ) (given : Stepping site before old) where
   abbrev s : TimedState
@@ -118,37 +128,59 @@ module _ (site : Site) (before : KeptState) (old : List ℕ) (given : Stepping s
       ∙ next-by inputs false over′
       ∙ sym (same-step inputs)
 
-  -- under the new times the site is sound, and the ready state valid
-  pub change-ready :
-      takesOverIn site old ≡ true → Sound (under site (s .waiting .times)) × (keptValid (under site (s .waiting .times)) (ready before) ≡ true)
-  change-ready over = (
-    subst⁻¹ Sound (same-others (s .waiting .times)) (new-sound own (given .sound) s (given .valid) (sym same-over ∙ over)),
-    ap (λ (x : Site). keptValid x (ready before)) (same-others (s .waiting .times))
-        ∙ ap (λ (k : KeptState). keptValid (under own (s .waiting .times)) (ready k)) (given .kept)
-        ∙ ready-timed own (given .sound) s (given .valid) (s .waiting .times),
-  )
+  -- ── The site and the state from which the plain step goes ──
+
+  pub goes-over :
+      {over : Bool} {new : Site} {from : KeptState} →
+      over ≡ takesOverIn site old →
+      over ≡ true →
+      new ≡ under site (s .waiting .times) →
+      from ≡ ready before →
+      Goes site old over new from
+  goes-over takes e read from =
+      let news = s .waiting .times in
+      let over = sym takes ∙ e in
+      rw (e, read, from)
+      (record {
+        sound = subst⁻¹ Sound (same-others news) (new-sound own (given .sound) s (given .valid) (sym same-over ∙ over));
+        valid =
+            ap (λ (x : Site). keptValid x (ready before)) (same-others news)
+            ∙ ap (λ (k : KeptState). keptValid (under own news) (ready k)) (given .kept)
+            ∙ ready-timed own (given .sound) s (given .valid) news;
+        same = λ inputs next. changed inputs next over;
+        ruled = refl;
+      })
+
+  pub goes-on :
+      {over : Bool} {new : Site} {from : KeptState} →
+      over ≡ takesOverIn site old →
+      over ≡ false →
+      new ≡ site →
+      from ≡ before →
+      Goes site old over new from
+  goes-on takes e same from =
+      rw (e, same, from)
+      (record { sound = site-sound; valid = kept-valid; same = λ inputs next. stayed inputs next (sym takes ∙ e); ruled = same-times })
 
   -- ── What the call gives ──
 
   pub steps :
-      (inputs : ℕ) (buffer : List ℕ) (next : TimedState) {answer : ℕ} {new out : List ℕ} →
-      next ≡ timedStepped site s inputs →
-      new ≡ timedEncoded next →
-      (answer ≡ packed 0 (waitBound (ruledSite site next))) × (out ≡ coloursOf (ruledSite site next) (next .core) ++ drop (site .size .groups) buffer) →
-      Steps site old inputs buffer answer new out
-  steps inputs buffer next e n shown =
+      {over : Bool} {new : Site} {from : KeptState} (goes : Goes site old over new from) (inputs : ℕ) (buffer : List ℕ) (next : KeptState)
+      {answer : ℕ} {bytes out : List ℕ} →
+      next ≡ keptStepped new from inputs →
+      bytes ≡ timedEncoded (after new next over s) →
+      (answer ≡ packed 0 (waitBound new)) × (out ≡ coloursOf new (next .core) ++ drop (new .size .groups) buffer) →
+      Steps site old inputs buffer answer bytes out
+  steps {over} {new} goes inputs buffer next e n shown =
+      let same = goes .same inputs next e in
       record {
-        answered = shown .0 ∙ ap (λ (x : TimedState). packed 0 (waitBound (ruledSite site x))) e;
-        stored = n ∙ ap timedEncoded e;
+        answered =
+            shown .0
+            ∙ ap (λ (x : Site). packed 0 (waitBound x)) (sym (goes .ruled))
+            ∙ ap (λ (x : TimedState). packed 0 (waitBound (ruledSite site x))) same;
+        stored = n ∙ ap timedEncoded same;
         shown =
-            shown .1 ∙ ap (λ (x : TimedState). coloursOf (ruledSite site x) (x .core) ++ drop (site .size .groups) buffer) e;
+            shown .1
+            ∙ ap (λ (x : Site). coloursOf x (next .core) ++ drop (x .size .groups) buffer) (sym (goes .ruled))
+            ∙ ap (λ (x : TimedState). coloursOf (ruledSite site x) (x .core) ++ drop (site .size .groups) buffer) same;
       }
-
-  -- if the times stay, so does the site
-  pub same-shown :
-      (buffer : List ℕ) {answer : ℕ} {out : List ℕ} (core : State) →
-      (answer ≡ packed 0 (waitBound site)) × (out ≡ coloursOf site core ++ drop (site .size .groups) buffer) →
-      let after = under site (s .ruling) in
-      (answer ≡ packed 0 (waitBound after)) × (out ≡ coloursOf after core ++ drop (site .size .groups) buffer)
-  same-shown buffer {answer} {out} core =
-      subst⁻¹ (λ (x : Site). (answer ≡ packed 0 (waitBound x)) × (out ≡ coloursOf x core ++ drop (site .size .groups) buffer)) same-times

@@ -1,5 +1,6 @@
 // The parts of a step from a valid state, with inputs and a buffer that fit the site.
 ghost use Prim.Native.Nat.{_≤_};
+ghost use mathlib.Core.Bool.{true};
 ghost use mathlib.Core.List.{_++_};
 ghost use mathlib.Core.Path.{_≡_};
 ghost use lib.ListN.{length, drop};
@@ -7,12 +8,12 @@ ghost use Rattle.rules.specs.Colours.{coloursOf};
 ghost use Rattle.rules.specs.Laws.{Sound};
 ghost use Rattle.rules.specs.WaitBound.{waitBound};
 ghost use Rattle.board_answers.specs.Answers.{packed};
-ghost use Rattle.board_step.specs.Accepted.{Stepping, takesOverIn, ruledIn, Changing, Steps};
-use read_layout::Layout;
+ghost use Rattle.state_timed.specs.TimedLayout.{isTimed, timedDecoded, timedEncoded};
+ghost use Rattle.board_step.specs.Accepted.{Stepping, takesOverIn, after};
 use rules::site::Site;
 use rules::state::KeptState;
+use state_timed::KEPT;
 use state_timed::PRESENT;
-use state_timed::WAITING;
 
 // Whether times wait and rule from this step on.
 pub fn takes_over(site: Site, before: KeptState, state: &[u8]) -> bool
@@ -25,6 +26,19 @@ pub fn takes_over(site: Site, before: KeptState, state: &[u8]) -> bool
     step_change::starts_next(site, before)
 }
 
+// Writes the state after the step. If times that waited take over, they are those of the site, and none wait after it; else the times stay.
+pub fn put_next(state: &mut [u8], site: Site, next: KeptState, over: bool)
+    requires { ⌜ isTimed (now state) ≡ true ⌝ }
+    ensures { λ _. ⌜ now (state .exit) ≡ timedEncoded (after site next over (timedDecoded (now (state .entry)))) ⌝ }
+{
+    if over {
+        let times = site.times;
+        state_timed::put_settled(state, next, times);
+        return;
+    }
+    state_bytes::put(state, KEPT, next);
+}
+
 // Writes the colours of the new state and answers the wait bound, both by the times of the site.
 pub fn shown(site: Site, next: KeptState, colours: &mut [u8]) -> u64
     requires { ⌜ Sound site × (site .size .groups ≤ length (now colours)) ⌝ }
@@ -33,27 +47,5 @@ pub fn shown(site: Site, next: KeptState, colours: &mut [u8]) -> u64
 {
     let core = next.core;
     step_colours::buffer_for(site, core, colours);
-    let size = site.size;
-    let times = site.times;
-    let crossings = site.crossings;
-    board_answers::packed(0, wait_bound::wait_bound_by(size, times, crossings))
-}
-
-// The step in which waiting times take over: it is the plain step under them, from the ready state, and none wait after it.
-pub fn change(
-    personality: &[u8],
-    layout: Layout,
-    before: KeptState,
-    state: &mut [u8],
-    inputs: u64,
-    colours: &mut [u8],
-) -> u64
-    requires { ⌜ Changing (now personality) layout before (now state) (length (now colours)) ⌝ }
-    ensures { λ r. ⌜ Steps (ruledIn (now (personality .entry)) (now (state .entry))) (now (state .entry)) inputs (now (colours .entry)) r (now (state .exit)) (now (colours .exit)) ⌝ }
-{
-    let site = site_whole::site_in(personality, layout, state, WAITING);
-    let next = step_whole::kept_stepped(site, step_change::ready(before), inputs);
-    let times = site.times;
-    state_timed::put_settled(state, next, times);
-    shown(site, next, colours)
+    board_answers::packed(0, wait_bound::wait_bound(site))
 }

@@ -8,6 +8,7 @@ use board_answers::refusal;
 use rules::answer::Verdict;
 use state_timed::KEPT;
 use state_timed::RULING;
+use state_timed::WAITING;
 
 // One step of 0.1 s: replaces the state by the next state, writes the colours of the groups, and answers the wait bound. A refused step
 // changes nothing. The personality is checked first, then whether the bytes are a valid state of it (13), the inputs (15) and the length of
@@ -26,8 +27,8 @@ pub fn step(personality: &[u8], state: &mut [u8], inputs: u64, colours: &mut [u8
     if !state_timed::is_timed(state) {
         return refusal(13, 0);
     }
-    let site = site_whole::site_in(personality, layout, state, RULING);
-    let before = state_bytes::read(state, KEPT);
+    let mut site = site_whole::site_in(personality, layout, state, RULING);
+    let mut before = state_bytes::read(state, KEPT);
     if !state_valid::valid(personality, layout, site, before, state) {
         return refusal(13, 0);
     }
@@ -37,10 +38,12 @@ pub fn step(personality: &[u8], state: &mut [u8], inputs: u64, colours: &mut [u8
     if colours.len() < site.size.groups as usize {
         return refusal(14, 0);
     }
-    if accepted::takes_over(site, before, state) {
-        return accepted::change(personality, layout, before, state, inputs, colours);
+    let over = accepted::takes_over(site, before, state);
+    if over {
+        site = site_whole::site_in(personality, layout, state, WAITING);
+        before = step_change::ready(before);
     }
     let next = step_whole::kept_stepped(site, before, inputs);
-    state_bytes::put(state, KEPT, next);
+    accepted::put_next(state, site, next, over);
     accepted::shown(site, next, colours)
 }

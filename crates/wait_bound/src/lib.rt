@@ -3,11 +3,10 @@
 // times are inside the limits, so every sum here fits in two bytes.
 ghost use Prim.Native.Nat.{_≤_};
 ghost use mathlib.Core.Path.{_≡_};
-ghost use Rattle.rules.specs.WaitBound.{phaseShare, waitBoundBy};
-ghost use Rattle.rules.specs.Laws.{SoundTimes};
+ghost use Rattle.rules.specs.WaitBound.{phaseShare, waitBound};
+ghost use Rattle.rules.specs.Laws.{Sound};
 use rules::site::PhaseTimes;
-use rules::site::Size;
-use rules::site::Times;
+use rules::site::Site;
 use wait_bound_movements::longest_of;
 
 // The share of a phase, with its A (`walk`) and C (`clearance`).
@@ -21,14 +20,17 @@ fn phase_share(times: PhaseTimes, walk: u16, clearance: u16) -> u16
         + 2 * (walk + times.early + times.yellow + times.red + clearance)
 }
 
-// The wait bound, from the three parts of the site that it needs.
-pub fn wait_bound_by(size: Size, times: Times, crossings: [u8; 8]) -> u32
-    requires { ⌜ (size .phases ≤ 7) × (size .movements ≤ 8) × SoundTimes size times ⌝ }
-    ensures { λ r. ⌜ r ≡ waitBoundBy size times crossings ⌝ }
+// The wait bound of a site. It takes the whole site: a part of a struct is copied to hand it over.
+pub fn wait_bound(site: Site) -> u32
+    requires { ⌜ Sound site ⌝ }
+    ensures { λ r. ⌜ r ≡ waitBound site ⌝ }
 {
+    let size = site.size;
+    let times = site.times;
     let owns = times.phases;
     let phases = size.phases;
     let walks = times.walks;
+    let crossings = site.crossings;
     let longest = longest_of(crossings, walks, size.movements);
     let mut sum: u16 = times.start;
     let mut phase: u8 = 0;

@@ -3,9 +3,11 @@ use mathlib.Core.Path.{_≡_, sym, _∙_}
 use borrow.Author.Needs.{needs}
 use Rattle.rules.specs.declared.answer.Verdict.the-variants.{Accepted}
 use Rattle.rules.specs.Personality.{verdictOf}
+use Rattle.rules.specs.Laws.{AcceptedIsSound}
+use Rattle.proof_acceptance.proofs.Acceptance.{accepted-is-sound}
 use Rattle.site_whole.proofs.Accepted.{accepted-fits}
 use Rattle.board_answers.proofs.Answers.{refused-near}
-use Rattle.board_read.proofs.BoundAnswers.{bound-refused, timing-sound, bound-given}
+use Rattle.board_read.proofs.BoundAnswers.{bound-refused, bound-given}
 use Rattle.board_read.proofs.wait_bound.Statement.{statement}
 use Rattle.board_read.proofs.wait_bound.Tie as tie
 
@@ -23,19 +25,19 @@ returns c =
 accepted : (c : tie.After-enum-told) → verdictOf (c .before .before .before .before .args .personality .now) ≡ Accepted
 accepted c = sym (c .before .before .read-with-layout .ensures .0) ∙ c .enum-told .given .1
 
-timing-in-requires : tie.Need-timing-in-requires
-timing-in-requires c κs = accepted-fits (accepted (c .before)) (c .before .before .before .read-with-layout .ensures .1)
+site-of-requires : tie.Need-site-of-requires
+site-of-requires c κs = accepted-fits (accepted (c .before)) (c .before .before .before .read-with-layout .ensures .1)
 
-wait-bound-by-requires : tie.Need-wait-bound-by-requires
-wait-bound-by-requires c κs =
-    let held = c .before .before .before in
-    timing-sound _ 0 (held .timing-in .result) (accepted (held .before .before)) (held .timing-in .ensures)
+wait-bound-requires : tie.Need-wait-bound-requires
+unfolding AcceptedIsSound
+wait-bound-requires c κs =
+    rw (c .site-of .ensures) (accepted-is-sound _ (accepted (c .before .before)))
 
 returns-2 : tie.Need-returns-2
 returns-2 c =
-    let held = c .before .before .before .before .before in
-    bound-given _ (c .packed .result) (held .timing-in .result) (accepted (held .before .before)) (held .timing-in .ensures)
-    (c .before .wait-bound-by .ensures)
+    let held = c .before .before in
+    bound-given _ (c .packed .result) (held .site-of .result) (accepted (held .before .before)) (held .site-of .ensures)
+    (c .before .wait-bound .ensures)
     (c .packed .ensures)
 
 pub wait-bound-spec : {M : Type 1} → statement M
@@ -47,7 +49,7 @@ wait-bound-spec =
     refusal-requires
     returns
     (λ c. search needs)
-    timing-in-requires
-    wait-bound-by-requires
+    site-of-requires
+    wait-bound-requires
     (λ c κs. search needs)
     returns-2)

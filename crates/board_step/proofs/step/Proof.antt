@@ -2,6 +2,7 @@
 -- a step, in which waiting times take over or not.
 use Prim.Native.Nat.{ℕ, _≤_}
 use mathlib.Core.Bool.{true, false}
+use mathlib.Core.Logic.{⊎-elim}
 use mathlib.Core.Path.{_≡_, refl, sym, ap, subst, _∙_}
 use native.Mathlib.Omega.{arith}
 use lib.ListN.{length}
@@ -9,23 +10,21 @@ use borrow.Author.Needs.{needs}
 use borrow.Author.Tests.{not-true, not-false, lt-ltb, le-ltb}
 use Rattle.rules.specs.declared.answer.Verdict.the-variants.{Accepted}
 use Rattle.rules.specs.declared.site.Site.{Site}
-use Rattle.laws.specs.Bytes.{byteAt}
 use Rattle.rules.specs.Personality.{verdictOf}
 use Rattle.rules.specs.Site.{siteOf}
+use Rattle.rules.specs.SiteTimes.{under}
 use Rattle.rules.specs.Timed.{keptOf}
 use Rattle.rules.specs.Call.{wired, strayInput}
 use Rattle.site_whole.proofs.Accepted.{accepted-fits}
-use Rattle.state_forms.specs.Forms.{AreBytes}
 use Rattle.state_timed.specs.TimedLayout.{isTimed, timedDecoded}
 use Rattle.state_timed.proofs.TimedLaws.{TimedKnown, timed-known}
-use Rattle.state_timed.proofs.TimedWritten.{kept-written}
 use Rattle.state_valid.specs.StateOf.{isStateOf}
 use Rattle.state_valid.specs.Decoded.{Decoded}
 use Rattle.state_valid.proofs.StateTimes.{no-state as none, valid-site, valid-state}
 use Rattle.board_answers.proofs.Answers.{refused-near}
 use Rattle.board_step.specs.Accepted.{Stepping, takesOverIn, ruledIn}
-use Rattle.board_step.proofs.Steps.{site-sound, kept-valid, stayed, steps as made, same-shown}
-use Rattle.board_step.proofs.StepCalls.{refused, no-state, stepping, stray, no-room, steps}
+use Rattle.board_step.proofs.Steps.{site-sound, Goes, goes-over, goes-on, steps as made}
+use Rattle.board_step.proofs.StepCalls.{refused, no-state, stepping, waiting-site, stray, no-room, steps}
 use Rattle.board_step.proofs.step.Statement.{statement}
 use Rattle.board_step.proofs.step.Tie as tie
 
@@ -191,75 +190,64 @@ takes-over-requires c κs = ready (here (c .before .before))
 abbrev roomy : tie.After-takes-over → tie.Else4
 roomy c = c .before .before
 
-change-requires : tie.Need-change-requires
-change-requires c κs =
-    let then = c .before .before in
-    let else = roomy (then .before) in
-    let now = here (else .before) in
-    let a = entry (arrived now) .args in
-    record {
-      accepted = accepted (arrived now);
-      laid = arrived now .before .before .read-with-layout .ensures .1;
-      valid = valid now;
-      kept = kept now;
-      over = ap (λ (x : Site). takesOverIn x (a .state .now)) (sym (ruled now)) ∙ sym (then .before .takes-over .ensures) ∙ then .if5 .taken;
-      enough = room else;
-    }
+site-in-requires-2 : tie.Need-site-in-requires-2
+site-in-requires-2 c κs =
+    let now = here (roomy (c .before .before) .before) in
+    (accepted-fits (accepted (arrived now)) (arrived now .before .before .read-with-layout .ensures .1), omega (arith, sizes (timed (held now)) .size))
 
-returns-6 : tie.Need-returns-6
-returns-6 c =
-    let changed = c .before .before .before .before in
-    let else = roomy (changed .before .before .before .before) in
-    let sized = else .before in
-    let a = entry (arrived (here sized)) .args in
-    steps (a .personality .now) (a .state .now) (a .inputs) (a .colours .now) (accepted (arrived (here sized))) (valid (here sized)) (only sized)
-    (le-ltb (length (a .colours .now)) _ (room else))
-    refl
-    (changed .change .ensures)
+-- waiting times take over, or the step goes on under those that rule
+goes :
+    (c : tie.Joined5) →
+    let now = here (roomy (c .before) .before) in
+    Goes (site now) (entry (arrived now) .args .state .now) (c .before .takes-over .result) (c .if5 .site) (c .if5 .before)
+goes c =
+    let now = here (roomy (c .before) .before) in
+    let a = entry (arrived now) .args in
+    let takes = c .before .takes-over .ensures in
+    ⊎-elim
+    (λ w. goes-over (site now) (held now .read .result) (a .state .now) (ready now) takes (w .0 .taken)
+    (w .4
+    ∙ waiting-site (a .personality .now) (a .state .now) (a .inputs) (a .colours .now) (accepted (arrived now)) (valid now)
+    (ap (λ (x : Site). takesOverIn x (a .state .now)) (sym (ruled now)) ∙ sym takes ∙ w .0 .taken)
+    (w .2 .ensures)
+    ∙ ap (λ (x : Site). under x (timedDecoded (a .state .now) .waiting .times)) (sym (ruled now)))
+    (w .5 ∙ w .3 .ensures))
+    (λ w. goes-on (site now) (held now .read .result) (a .state .now) (ready now) takes (w .0 .left) (w .1) (w .2))
+    (c .if5 .came)
 
 kept-stepped-requires : tie.Need-kept-stepped-requires
-kept-stepped-requires c κs =
-    let now = here (roomy (c .before) .before) in
-    let old = entry (arrived now) .args .state .now in
-    (site-sound (site now) (held now .read .result) old (ready now), kept-valid (site now) (held now .read .result) old (ready now))
+kept-stepped-requires c κs = (goes c .sound, goes c .valid)
 
-put-requires : tie.Need-put-requires
-put-requires c κs =
-    let now = here (roomy (c .before .before .before) .before) in
-    omega (arith, sizes (timed (held now)) .size)
+put-next-requires : tie.Need-put-next-requires
+put-next-requires c κs = known (timed (held (here (roomy (c .before .before .before) .before))))
+
+abbrev went : tie.After-shown-arg → tie.Joined5
+went c = c .before .before .before .before .before .before
 
 shown-requires : tie.Need-shown-requires
 shown-requires c κs =
-    let else = roomy (c .before .before .before .before .before .before .before) in
+    let else = roomy (went c .before) in
     let now = here (else .before) in
-    (site-sound (site now) (held now .read .result) (entry (arrived now) .args .state .now) (ready now), else .if4 .left)
+    let by = goes (went c) in
+    (by .sound, subst (λ (x : Site). x .size .groups ≤ length (entry (arrived now) .args .colours .now)) (by .ruled) (else .if4 .left))
 
-bytes : (c : tie.After-read-with-layout) → AreBytes (start c .args .state .now)
-unfolding byteAt
-bytes c = record { each = λ i. omega (arith, c .before .before .slice-known .given i) }
-
-returns-7 : tie.Need-returns-7
-returns-7 c =
+returns-6 : tie.Need-returns-6
+returns-6 c =
     let shown = c .before .before in
     let put = shown .before .before .before .before in
     let stepped = put .before .before in
-    let stays = stepped .before in
-    let else = roomy (stays .before) in
+    let else = roomy (stepped .before .before) in
     let sized = else .before in
     let now = here sized in
     let a = entry (arrived now) .args in
-    let s = timedDecoded (a .state .now) in
-    let before = held now .read .result in
-    let next = stepped .kept-stepped .result in
     steps (a .personality .now) (a .state .now) (a .inputs) (a .colours .now) (accepted (arrived now)) (valid now) (only sized)
     (le-ltb (length (a .colours .now)) _ (room else))
     (ruled now)
-    (made (site now) before (a .state .now) (ready now) (a .inputs) (a .colours .now)
-    (record { core = next .core; kept = next .kept; ruling = s .ruling; waiting = s .waiting })
-    (stayed (site now) before (a .state .now) (ready now) (a .inputs) next (sym (stays .before .takes-over .ensures) ∙ stays .if5 .left)
-    (stepped .kept-stepped .ensures))
-    (put .put .ensures ∙ kept-written (a .state .now) (bytes (arrived now .before .before)) (known (timed (held now))) next)
-    (same-shown (site now) before (a .state .now) (ready now) (a .colours .now) (next .core) (shown .shown .ensures)))
+    (made (site now) (held now .read .result) (a .state .now) (ready now) (goes (stepped .before)) (a .inputs) (a .colours .now)
+    (stepped .kept-stepped .result)
+    (stepped .kept-stepped .ensures)
+    (put .put-next .ensures)
+    (shown .shown .ensures))
 
 pub step-spec : {M : Type 1} → statement M
 step-spec =
@@ -289,13 +277,11 @@ step-spec =
     (λ c. search needs)
     returns-5
     takes-over-requires
-    change-requires
-    (λ c. search needs)
-    (λ c. search needs)
-    returns-6
+    site-in-requires-2
+    (λ c κs. search needs)
     kept-stepped-requires
-    put-requires
+    put-next-requires
     shown-requires
     (λ c. search needs)
     (λ c. search needs)
-    returns-7)
+    returns-6)

@@ -8,8 +8,8 @@ returns : tie.Need-returns
 unfolding bufferFor
 returns c =
     let waited = c .before in
-    let coloured = waited .before .before .before .before .before .before in
-    (rw (waited .wait-bound-by .ensures) at (c .packed .ensures), coloured .buffer-for .ensures)
+    let coloured = waited .before .before .before in
+    (rw (waited .wait-bound .ensures) at (c .packed .ensures), coloured .buffer-for .ensures)
 
 pub shown-spec : {M : Type 1} → statement M
 shown-spec =

@@ -1,4 +1,4 @@
--- `wait_bound::wait_bound_by` meets its contract. The invariant: the sum is start red and the shares of the phases passed. The measure is the
+-- `wait_bound::wait_bound` meets its contract. The invariant: the sum is start red and the shares of the phases passed. The measure is the
 -- number of phases left.
 use Prim.Native.Nat.{_+_, _-_, _≤_}
 use mathlib.Core.Path.{_≡_, _∙_}
@@ -7,10 +7,10 @@ use native.Mathlib.Omega.{arith}
 use borrow.Author.Needs.{needs}
 use Rattle.laws.specs.Folds.{sumOf}
 use Rattle.rules.specs.Site.{walkTimes}
-use Rattle.rules.specs.WaitBound.{waitBoundBy}
+use Rattle.rules.specs.WaitBound.{waitBound}
 use Rattle.wait_bound.proofs.Sums.{shareAt, all-shares, bound-fits, walk-fits, shares-fit}
-use Rattle.wait_bound.proofs.wait_bound_by.Statement.{statement}
-use Rattle.wait_bound.proofs.wait_bound_by.Tie as tie
+use Rattle.wait_bound.proofs.wait_bound.Statement.{statement}
+use Rattle.wait_bound.proofs.wait_bound.Tie as tie
 
 abbrev Inv-loop : tie.InvT-loop
 Inv-loop owns phases longest sum₀ phase₀ sum phase = (phase ≤ phases) × (sum ≡ sum₀ + sumOf (shareAt owns longest) phase)
@@ -18,11 +18,14 @@ Inv-loop owns phases longest sum₀ phase₀ sum phase = (phase ≤ phases) × (
 abbrev μ-loop : tie.MeasureT-loop
 μ-loop owns phases longest sum₀ phase₀ sum phase = phases - phase
 
+abbrev entry : tie.After-crossings Inv-loop μ-loop → tie.Start Inv-loop μ-loop
+entry c = c .before .before .before .before .before
+
 longest-of-requires : tie.Need-longest-of-requires Inv-loop μ-loop
 unfolding walkTimes
 longest-of-requires c κs =
-    let start = c .before .before in
-    (start .pre .1, walk-fits (start .args .size) (start .args .times) (start .pre .2))
+    let start = entry c in
+    (start .pre .movements, walk-fits (start .args .site .size) (start .args .site .times) (start .pre .times))
 
 loop-holds : tie.Need-loop-holds Inv-loop μ-loop
 unfolding sumOf
@@ -57,16 +60,16 @@ turn-fits :
     (c : tie.In-loop Inv-loop μ-loop) →
     let at = c .before .before in
     c .before .loop .sum
-    + shareAt (at .before .before .before .args .times .phases) (at .longest-of .result) (c .before .loop .phase)
+    + shareAt (entry (at .before) .args .site .times .phases) (at .longest-of .result) (c .before .loop .phase)
     ≤ 65535
 turn-fits c =
     let at = c .before .before in
-    let start = at .before .before .before in
+    let start = entry (at .before) in
     let a = start .args in
     omega (
       arith,
       c .before .loop .inv .1,
-      shares-fit (a .size) (a .times) (a .crossings) (at .longest-of .result) (start .pre .0) (at .longest-of .ensures) (start .pre .2)
+      shares-fit (a .site .size) (a .site .times) (a .site .crossings) (at .longest-of .result) (start .pre .phases .1) (at .longest-of .ensures) (start .pre .times)
           (c .before .loop .phase) (c .loop-test .taken),
     )
 
@@ -91,27 +94,27 @@ loop-again c =
 -- once every phase is passed the sum is the bound
 summed :
     (c : tie.After-loop Inv-loop μ-loop) →
-    let a = c .before .before .before .before .before .args in
-    c .before .loop .sum ≡ waitBoundBy (a .size) (a .times) (a .crossings)
+    let a = entry (c .before .before .before) .args in
+    c .before .loop .sum ≡ waitBound (a .site)
 summed c =
     let at = c .before .before in
-    let start = at .before .before .before in
+    let start = entry (at .before) in
     let a = start .args in
     c .before .loop .inv .1
-    ∙ all-shares (a .size) (a .times) (a .crossings) (at .longest-of .result) (start .pre .0) (at .longest-of .ensures)
+    ∙ all-shares (a .site .size) (a .site .times) (a .site .crossings) (at .longest-of .result) (start .pre .phases .1) (at .longest-of .ensures)
     (c .before .loop .phase) (omega (arith, c .before .loop .inv .0, c .loop-test .left))
 
 cast-result : tie.Need-cast-result Inv-loop μ-loop
 cast-result c =
-    let start = c .before .before .before .before .before in
+    let start = entry (c .before .before .before) in
     let a = start .args in
-    omega (arith, summed c, bound-fits (a .size) (a .times) (a .crossings) (start .pre .0) (start .pre .2))
+    omega (arith, summed c, bound-fits (a .site .size) (a .site .times) (a .site .crossings) (start .pre .phases .1) (start .pre .times))
 
 returns : tie.Need-returns Inv-loop μ-loop
 returns c = summed c
 
-pub wait-bound-by-spec : {M : Type 1} → statement M
-wait-bound-by-spec =
+pub wait-bound-spec : {M : Type 1} → statement M
+wait-bound-spec =
     tie.close
     (tie.spec
     Inv-loop
