@@ -2,8 +2,6 @@
 ghost use Prim.Native.Nat.{_+_, _*_, _<_, _≤_};
 ghost use mathlib.Core.Path.{_≡_};
 ghost use Rattle.laws.specs.Bytes.{byteAt, twoAt, fourAt, eightAt, bit};
-ghost use Rattle.laws.specs.Folds.{anyOf};
-ghost use mathlib.Core.Bool.{_&&_};
 ghost use lib.ListN.{length};
 
 pub mod sets;
@@ -110,11 +108,4 @@ pub fn bit32(k: usize, x: u32) -> bool
     ensures { λ r. ⌜ r ≡ bit k x ⌝ }
 {
     if k < 32 { (x >> k) % 2 == 1 } else { false }
-}
-
-// Whether two sets have a bit in common.
-pub fn overlap(a: u8, b: u8) -> bool
-    ensures { λ r. ⌜ r ≡ anyOf (λ p. bit p a && bit p b) 8 ⌝ }
-{
-    a & b != 0
 }

@@ -3,16 +3,15 @@ use Prim.Native.Nat.{ℕ, _+_, _*_, _<_}
 use mathlib.Core.Bool.{true, and-true}
 use mathlib.Core.List.{List}
 use mathlib.Core.Path.{_≡_}
-use lib.Dec.{eqb}
 use lib.ListN.{length}
-use borrow.Author.Tests.{ltb-true, eqb-true}
+use borrow.Author.Tests.{ltb-true}
 use Rattle.laws.specs.Bytes.{byteAt}
 use Rattle.rules.specs.IntervalTable.{intervals, stages}
 use Rattle.laws.specs.Folds.{allOf}
 use Rattle.rules.specs.State.{idle}
 use Rattle.laws.proofs.Booleans.{and-left, and-split}
 use Rattle.state_forms.specs.Forms.{held, row}
-use Rattle.state_bytes.specs.Layout.{interval, stage, position, movement, movements, movementsAt, state, stateBytes, isState}
+use Rattle.state_bytes.specs.Layout.{interval, stage, position, movement, movements, movementsAt, state}
 
 pub record PositionKnown (b : List ℕ) (at : ℕ) : Type 0 where
   pub code : byteAt b (at + 1) < length intervals
@@ -40,14 +39,3 @@ pub kept-told : (b : List ℕ) (at : ℕ) → state .known b at ≡ true → Kep
 kept-told b at h =
     let first = and-split (position .known b (at + 0)) _ h in
     record { position-known = first .0; movements-known = and-left (movements .known b (at + movementsAt)) true (first .1) }
-
--- of a whole buffer
-pub record StateKnown (b : List ℕ) : Type 0 where
-  pub size : length b ≡ stateBytes
-  pub known : state .known b 0 ≡ true
-
-pub state-told : (b : List ℕ) → isState b ≡ true → StateKnown b
-unfolding isState
-state-told b h =
-    let both = and-split (eqb (length b) stateBytes) _ h in
-    record { size = eqb-true (length b) stateBytes (both .0); known = both .1 }

@@ -1,4 +1,4 @@
 pub mod Laws
-pub mod RoundTrips
+pub mod StateCases
 pub mod KnownBytes
 pub mod Written

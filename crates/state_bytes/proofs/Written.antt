@@ -1,18 +1,17 @@
 -- The parts of a state, stored one behind the other, are the whole layout.
 use Prim.Native.Nat.{ℕ, _+_}
 use mathlib.Core.List.{List, _++_}
-use mathlib.Core.Path.{_≡_, sym, _∙_}
+use mathlib.Core.Path.{_≡_, _∙_}
 use native.Mathlib.Nat.{add-zero}
 use native.Mathlib.Omega.{arith}
-use lib.ListN.{length}
 use lib.Seq.{sets}
 use Rattle.rules.specs.declared.state.KeptState.{KeptState}
 use Rattle.rules.specs.State.{idle}
 use Rattle.state_forms.specs.Forms.{byte}
-use Rattle.laws.proofs.Arrays.{sets-next, sets-whole}
+use Rattle.laws.proofs.Arrays.{sets-next}
 use Rattle.state_forms.proofs.Lawful.{row-law}
-use Rattle.state_bytes.specs.Layout.{position, counts, demands, movement, movements, countsAt, demandsAt, movementsAt, keptAt, state, stateBytes, encoded}
-use Rattle.state_bytes.proofs.Laws.{position-law, counts-law, demands-law, movement-law, state-law}
+use Rattle.state_bytes.specs.Layout.{position, counts, demands, movement, movements, countsAt, demandsAt, movementsAt, keptAt, state}
+use Rattle.state_bytes.proofs.Laws.{position-law, counts-law, demands-law, movement-law}
 
 pub written :
     (s : KeptState) (b : List ℕ) (at : ℕ) →
@@ -42,8 +41,3 @@ written s b at =
     (omega (arith, counts-law .sized (s .core .counts)))
     ∙ sets-next b head (count ++ (demand ++ (records ++ kept))) at (at + countsAt)
     (omega (arith, position-law .sized (s .core .position))))
-
--- into a buffer of their length
-pub written-whole : (s : KeptState) (b : List ℕ) → length b ≡ stateBytes → sets b 0 (state .written s) ≡ encoded s
-unfolding encoded
-written-whole s b e = sets-whole b (state .written s) (state-law .sized s ∙ sym e)

@@ -1,11 +1,7 @@
 -- The layout of a state in bytes. Each record has a table with a row for each field: the place of its first byte in the record, its form,
--- and the field. `encoded` writes the layout, `decoded` reads it, `isState` says which bytes are a state, and `Proper` says which states
--- fit the types of the machine.
+-- and the field.
 use Prim.Native.Nat.{ℕ, _+_}
-use mathlib.Core.Bool.{Bool, _&&_}
 use mathlib.Core.List.{List}
-use lib.Dec.{eqb}
-use lib.ListN.{length}
 use Rattle.rules.specs.declared.state.Counts.{Counts}
 use Rattle.rules.specs.declared.state.Demands.{Demands}
 use Rattle.rules.specs.declared.state.Interval.{Interval}
@@ -16,7 +12,6 @@ use Rattle.rules.specs.declared.state.Stage.{Stage}
 use Rattle.rules.specs.declared.state.Stage.the-variants.{Idle}
 use Rattle.rules.specs.declared.state.KeptState.{KeptState}
 use Rattle.rules.specs.IntervalTable.{intervalRow, intervals, stageRow, stages}
-use Rattle.laws.specs.Folds.{if_then_else_}
 use Rattle.rules.specs.State.{idle}
 use Rattle.state_forms.specs.Forms.{Form, byte, two, coded, held, row, Table, field, _⊗_, made}
 
@@ -114,22 +109,5 @@ stateOf =
 abbrev pub state : Form KeptState
 state = made stateRows stateOf
 
-abbrev pub stateBytes : ℕ
-stateBytes = state .width
-
 unfoldable pub encoded : KeptState → List ℕ
 encoded = state .written
-
-unfoldable pub decoded : List ℕ → KeptState
-decoded b = state .read b 0
-
-unfoldable pub isState : List ℕ → Bool
-isState b = eqb (length b) stateBytes && state .known b 0
-
--- each number fits its type, and there are eight movements
-unfoldable pub Proper : KeptState → Type 0
-Proper = state .fits
-
--- a buffer of another length stays as it is
-unfoldable pub encodedOver : KeptState → List ℕ → List ℕ
-encodedOver s b = if eqb (length b) stateBytes then encoded s else b
