@@ -1,10 +1,12 @@
 #!/usr/bin/env python3
 """Works out the core: the definitions that the statements of demands 1 to 3 over bytes reach, each definition for itself.
 
-    python3 docs/core.py --print        # the definitions of the core in reading order, with their comments
-    python3 docs/core.py --numbers      # definitions and lines, by statement and by file, and the longest definitions
-    python3 docs/core.py --why NAME     # how a statement reaches the definition of this name, one line for each step
-    python3 docs/core.py --self-test    # a small tree with every form of a definition, and mistakes made on purpose; each must be reported
+    python3 docs/core.py --print [STATEMENT]      # the definitions of the core in reading order, with their comments
+    python3 docs/core.py --numbers [STATEMENT]    # definitions and lines, by statement and by file, and the longest definitions
+    python3 docs/core.py --why NAME               # how a statement reaches the definition of this name, one line for each step
+    python3 docs/core.py --self-test              # a small tree with every form of a definition, and mistakes in it; each must be reported
+
+With the name of a statement, as DemandThreeOf, it is what this one reaches.
 
 docs/trusted.py writes the tables of the core into docs/TRUSTED.md and compares them.
 
@@ -51,6 +53,7 @@ STEPS_ALONE = [('crates/rules/specs/StepDemandThree.antt', 'StepDemandThreeOf')]
 LAYERS = ['Types', 'The rules', 'Over bytes', 'Contracts', 'Statements of theorems']
 
 ALL_STATEMENTS = [statement for _, statements in DEMANDS.values() for statement in statements]
+STATEMENTS = ALL_STATEMENTS + ALONE + STEPS_ALONE
 
 # `lines` and `remarks` are the numbers of its lines and of the comments above and in it; `text` is its lines without comments.
 Definition = namedtuple('Definition', 'path name lines remarks text fields variants')
@@ -360,8 +363,8 @@ def filled(page, tree):
 # ── For a reader ──
 
 
-def print_core(page, tree):
-    for path, _, found in in_order(tree.core(ALL_STATEMENTS), page):
+def print_core(page, core, tree):
+    for path, _, found in in_order(core, page):
         lines, shown = tree.text(path).split('\n'), set()
         print(f'━━ {path}: {len(found)} definitions, {lines_of(found)} lines ━━\n')
         for definition in found:
@@ -370,29 +373,27 @@ def print_core(page, tree):
             print('\n'.join(lines[n] for n in numbers) + '\n')
 
 
-def print_numbers(page, tree):
+def print_numbers(page, core, tree):
     show = lambda what, found: print(f'{len(found):5} {lines_of(found):6} {lines_of(found, True):6}  {what}')
     of = lambda statements: tree.core(statements).definitions
-    whole = of(ALL_STATEMENTS)
     print('definitions, lines, and lines with the comments above and in definitions\n')
     for demand, (_, statements) in DEMANDS.items():
         show(f'demand {demand}', of(statements).values())
-    show('demands 1 to 3', whole.values())
+    show('demands 1 to 3', of(ALL_STATEMENTS).values())
     without = of([s for demand, (_, statements) in DEMANDS.items() if demand != '3' for s in statements])
-    show('of these only for demand 3', [d for key, d in whole.items() if key not in without])
+    show('of these only for demand 3', [d for key, d in of(ALL_STATEMENTS).items() if key not in without])
     print()
-    for statement in ALL_STATEMENTS + ALONE + STEPS_ALONE:
+    for statement in STATEMENTS:
         show(statement[1], of([statement]).values())
     print()
-    for path, _, found in in_order(tree.core(ALL_STATEMENTS), page):
+    for path, _, found in in_order(core, page):
         show(path, found)
     print('\nlines of the longest definitions\n')
-    for d in sorted(whole.values(), key=lambda d: (-len(d.lines), d.path, d.name))[:25]:
+    for d in sorted(core.definitions.values(), key=lambda d: (-len(d.lines), d.path, d.name))[:25]:
         print(f'{len(d.lines):5}  {d.path}: {d.name}')
 
 
-def print_why(name, tree):
-    core = tree.core(ALL_STATEMENTS)
+def print_why(name, core):
     for key in [key for key in core.definitions if key[1] == name]:
         way = [key]
         while core.ways[way[0]]:
@@ -539,20 +540,25 @@ def main(words):
     if words == ['--self-test']:
         return 0 if self_test() else 1
     tree = Tree()
-    page = tree.text(PAGE)
-    if words == ['--print']:
-        print_core(page, tree)
-    elif words == ['--numbers']:
-        print_numbers(page, tree)
+    page, asked = tree.text(PAGE), ALL_STATEMENTS
+    if len(words) == 2 and words[0] in ('--print', '--numbers'):
+        asked = [statement for statement in STATEMENTS if statement[1] == words[1]]
+    core = tree.core(asked)
+    if not asked or words[:1] == ['--why'] and not any(name == words[-1] for _, name in core.definitions):
+        print(f'{words[1]}: not in the core; its statements are {", ".join(name for _, name in STATEMENTS)}')
+        return 1
+    if len(words) in (1, 2) and words[0] == '--print':
+        print_core(page, core, tree)
+    elif len(words) in (1, 2) and words[0] == '--numbers':
+        print_numbers(page, core, tree)
     elif len(words) == 2 and words[0] == '--why':
-        print_why(words[1], tree)
+        print_why(words[1], core)
     else:
         print(__doc__)
         return 2
-    wrong = tree.core(ALL_STATEMENTS).wrong
-    for line in wrong:
+    for line in core.wrong:
         print(line, file=sys.stderr)
-    return 1 if wrong else 0
+    return 1 if core.wrong else 0
 
 
 if __name__ == '__main__':
