@@ -214,7 +214,7 @@ class Tree:
     """The files of the repository, some of them with another text in a self-test, and what is worked out of them."""
 
     def __init__(self, changed=None):
-        self.changed, self.reached = changed or {}, {}
+        self.changed, self.files, self.reached = changed or {}, {}, {}
 
     def text(self, path):
         if path in self.changed:
@@ -223,9 +223,11 @@ class Tree:
             return f.read()
 
     def file(self, path):
-        if path not in self.changed and not os.path.exists(os.path.join(ROOT, path)):
-            return File(path, {}, {}, [f'{path}: no such file'])
-        return (source if path.endswith('.rt') else spec)(path, self.text(path))
+        if path not in self.files:
+            there = path in self.changed or os.path.exists(os.path.join(ROOT, path))
+            parsed = source if path.endswith('.rt') else spec
+            self.files[path] = parsed(path, self.text(path)) if there else File(path, {}, {}, [f'{path}: no such file'])
+        return self.files[path]
 
     def meaning(self, path, name, from_outside=False):
         """The file and the name of the definition behind a name in a file, or the library and the name; or None."""

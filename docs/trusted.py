@@ -151,7 +151,7 @@ def filled(page, tree):
 
 def taken(text):
     """(file, names) of each line that takes names from specs/ or from the types, or passes them on."""
-    return [(core.source_of(crate, rest)[0], {n.strip() for n in names.split(',')})
+    return [(core.source_of(crate, rest)[0], {n.split(' as ')[-1].strip() for n in names.split(',')})
             for crate, rest, names in re.findall(r'(?m)^(?:ghost |pub )?use Rattle·(\w+?)(?:·specs)?\.specs\.([\w.-]+)\.\{([^}]*)\}', text)]
 
 
@@ -227,17 +227,18 @@ def self_test():
         'a file of the core that no table lists': (without(core.BOARD), f'{core.BOARD}: it has definitions of the core'),
     }
     path, name = core.BOARD, 'BoardDemandThree'
-    lines, statement = tree.text(path).split('\n'), tree.file(path).definitions[name]
-    other = next(n for n in tree.file(path).definitions if (path, n) not in tree.core(core.ALL_STATEMENTS).definitions)
-    ending = lines[statement.lines[-1]]
+    text = tree.text(path)
+    ending = text.split('\n')[tree.file(path).definitions[name].lines[-1]]
+    first = re.search(r'\nuse Rattle·[^{]*\{(\w+)', text)
+    added = '\nunfoldable pub addedHere : Type 0\naddedHere = Unit {0}\n'
     changes = {
-        'a definition that a statement of the core cites now': (ending, f'{ending} × {other}', 'the tree has: In all the core has'),
-        'a longer definition of the core': (ending, f'{ending}\n    × Unit {{0}}', 'the tree has: In all the core has'),
-        'a name in the core that nothing has': ('DemandThreeOf}', 'NoSuchDemandOf as DemandThreeOf}', 'it takes DemandThreeOf'),
-        'a statement that is gone': (f' {name} :', ' OtherName :', f'no definition {name}'),
+        'a definition that a statement of the core cites now': (text.replace(ending, f'{ending} × addedHere') + added, 'the tree has: In all the core has'),
+        'a longer definition of the core': (text.replace(ending, f'{ending}\n    × Unit {{0}}'), 'the tree has: In all the core has'),
+        'a name in the core that nothing has': (text[:first.start(1)] + 'NoSuchName as ' + text[first.start(1):], f'it takes {first.group(1)}, which'),
+        'a statement that is gone': (text.replace(f' {name} :', ' OtherName :'), f'no definition {name}'),
     }
     reports = {what: (check(text, tree), words) for what, (text, words) in mistakes.items()}
-    reports |= {what: (check(page, core.Tree({path: tree.text(path).replace(old, new)})), words) for what, (old, new, words) in changes.items()}
+    reports |= {what: (check(page, core.Tree({path: text})), words) for what, (text, words) in changes.items()}
     failures = [what for what, (lines, words) in reports.items() if not any(words in line for line in lines)]
     for what in failures:
         print(f'self-test: not reported: {what}')
