@@ -132,7 +132,7 @@ def taken_by(line):
 
 
 @lru_cache(maxsize=None)
-def spec(path, text):
+def parsed_spec(path, text):
     """A file of a specs/ folder."""
     lines, found, takes, wrong = text.split('\n'), {}, {}, []
     numbers = [n for n, line in enumerate(lines) if code(line, '--').strip()]
@@ -178,7 +178,7 @@ def spec(path, text):
 
 
 @lru_cache(maxsize=None)
-def source(path, text):
+def parsed_source(path, text):
     """A file of src/: its types, and the contracts of its functions."""
     lines, found, takes, wrong = text.split('\n'), {}, {}, []
     bare = [code(line, '//') for line in lines]
@@ -225,7 +225,7 @@ class Tree:
     def file(self, path):
         if path not in self.files:
             there = path in self.changed or os.path.exists(os.path.join(ROOT, path))
-            parsed = source if path.endswith('.rt') else spec
+            parsed = parsed_source if path.endswith('.rt') else parsed_spec
             self.files[path] = parsed(path, self.text(path)) if there else File(path, {}, {}, [f'{path}: no such file'])
         return self.files[path]
 
@@ -248,9 +248,10 @@ class Tree:
         return (taken.source, taken.kind) if kind and taken.name in [taken.kind, *kind.variants] else None
 
     def named_by(self, path):
-        """word -> the names that the file knows by it."""
+        """word -> the names that the file knows by it. In src/ a function is none of them: a contract is about specs/ and types."""
         file, known = self.file(path), {}
-        for name in [*file.definitions, *file.takes, *(v for d in file.definitions.values() for v in d.variants)]:
+        own = [d for d in file.definitions.values() if path.endswith('.antt') or d.fields or d.variants]
+        for name in [*(d.name for d in own), *file.takes, *(v for d in own for v in d.variants)]:
             for word in {name, *(parts_of(name) if path.endswith('.antt') or not name[0].isalpha() else [])}:
                 known.setdefault(word, []).append(name)
         return known
@@ -373,6 +374,7 @@ def print_core(page, core, tree):
             numbers = sorted({*definition.lines, *definition.remarks} - shown)
             shown |= set(numbers)
             print('\n'.join(lines[n] for n in numbers) + '\n')
+    print(f'In all {grouped(len(core.definitions))} definitions, {grouped(lines_of(core.definitions.values()))} lines.')
 
 
 def print_numbers(page, core, tree):
