@@ -349,8 +349,8 @@ def block(page, tree):
     libraries = sorted({library for library, _ in whole.outside})
     uses = ', '.join(f'{sum(there == library for there, _ in whole.outside)} of `{library}`' for library in libraries)
     found = whole.definitions.values()
-    rows += ['', f'In all the core has {grouped(len(found))} definitions with {grouped(lines_of(found))} lines, in {len(files)} files. It uses {len(whole.outside)} names of '
-             f'the prover\'s libraries: {uses}.']
+    rows += ['', f'In all the core has {grouped(len(found))} definitions with {grouped(lines_of(found))} lines, in {len(files)} files. '
+             f'It uses {len(whole.outside)} names of the prover\'s libraries: {uses}.']
     return rows, list(dict.fromkeys(wrong))
 
 
