@@ -11,20 +11,22 @@ A row of a table in TRUSTED.md begins with a link to a file. The script fills th
     Edits             the must-fail edits that make this file wrong
     Contract lines    the lines of the contracts of the functions that the column Functions names, without their bodies
 
-and the line below the mark `<!-- totals -->`. The list is complete if
+the line below the mark `<!-- totals -->`, and the tables of the core between their marks, which docs/core.py works out. The list is complete if
 
  1. each file in a specs/ folder is in a table, or its first line begins with `-- Internal:`, and not both (Lib.antt only lists the others);
- 2. what a listed file takes from specs/ or from the types in src/ (its `use` lines) is listed;
+ 2. what a listed file takes from specs/ or from the types in src/ (its lines `use` and `pub use`) is listed;
  3. what a listed contract takes from specs/ (the names in it), and the types of its parameters and answer, are listed;
  4. each function that the library exports is listed with its contract;
  5. each file in a specs/ folder that the README links to is listed.
 """
+import difflib
 import os
 import re
 import sys
 
-ROOT = os.path.dirname(os.path.dirname(os.path.abspath(__file__)))
-PAGE = 'docs/TRUSTED.md'
+import core
+from core import PAGE, ROOT, grouped
+
 TOTALS = '<!-- totals -->'
 
 
@@ -41,10 +43,6 @@ def files_in(folder, ending):
     return sorted(found)
 
 
-def grouped(number):
-    return f'{number:,}'
-
-
 # ── The tables of the page ──
 
 
@@ -59,10 +57,11 @@ def linked_file(cell):
 
 
 def rows_of(page):
-    """(line number, titles, cells, file) of each row that begins with a link to a file."""
-    rows, titles, before = [], None, ''
+    """(line number, titles, cells, file) of each row that begins with a link to a file, outside the core."""
+    rows, titles, before, inside = [], None, '', False
     for number, line in enumerate(page.split('\n')):
-        if not line.startswith('|'):
+        inside = line == core.BEGIN or inside and line != core.END
+        if inside or not line.startswith('|'):
             titles = None
         elif re.match(r'\|[-| ]+\|$', line):
             titles = cells_of(before)
@@ -133,34 +132,27 @@ def totals(rows):
             f'{sum(map(is_internal, spec_files()))} other files in `specs/` folders are internal.')
 
 
-def filled(page):
-    """The page with its counts as the tree has them, and what is wrong with its rows."""
-    lines, edits, wrong, rows = page.split('\n'), edits_by_file(), [], []
+def filled(page, tree):
+    """The page with its counts and its core as the tree has them, and what is wrong with its rows."""
+    page, wrong = core.filled(page, tree)
+    lines, edits, rows, strange = page.split('\n'), edits_by_file(), [], []
     for number, titles, cells, path in rows_of(page):
         cells, mistakes = counted(titles, cells, path, edits)
-        wrong += [f'{PAGE}:{number + 1}: {mistake}' for mistake in mistakes]
+        strange += [f'{PAGE}:{number + 1}: {mistake}' for mistake in mistakes]
         lines[number] = '| ' + ' | '.join(cells) + ' |'
         rows.append((number, titles, cells, path))
-    if TOTALS in lines and not wrong:
+    if TOTALS in lines and not strange:
         lines[lines.index(TOTALS) + 1] = totals(rows)
-    return '\n'.join(lines), wrong
+    return '\n'.join(lines), wrong + strange
 
 
 # ── Whether the list is complete ──
 
 
-def spec_or_type(crate, rest):
-    """The file behind `Rattle.crate.specs.File` or `Rattle.crate.specs.declared.module.Type`."""
-    parts = rest.split('.')
-    if parts[0] == 'declared':
-        return f'crates/{crate}/src/{parts[1] if parts[1][0].islower() else "lib"}.rt'
-    return f'crates/{crate}/specs/{parts[0]}.antt'
-
-
 def taken(text):
-    """(file, names) of each line that takes names from specs/ or from the types."""
-    return [(spec_or_type(crate, rest), {n.strip() for n in names.split(',')})
-            for crate, rest, names in re.findall(r'(?m)^(?:ghost )?use Rattle·(\w+?)(?:·specs)?\.specs\.([\w.-]+)\.\{([^}]*)\}', text)]
+    """(file, names) of each line that takes names from specs/ or from the types, or passes them on."""
+    return [(core.source_of(crate, rest)[0], {n.split(' as ')[-1].strip() for n in names.split(',')})
+            for crate, rest, names in re.findall(r'(?m)^(?:ghost |pub )?use Rattle·(\w+?)(?:·specs)?\.specs\.([\w.-]+)\.\{([^}]*)\}', text)]
 
 
 def missing(page):
@@ -194,11 +186,13 @@ def missing(page):
     return list(dict.fromkeys(wrong))
 
 
-def check(page):
-    right, wrong = filled(page)
-    for number, (old, new) in enumerate(zip(page.split('\n'), right.split('\n')), 1):
-        if old != new:
-            wrong.append(f'{PAGE}:{number}: the tree has: {new}')
+def check(page, tree):
+    right, wrong = filled(page, tree)
+    old, new = page.split('\n'), right.split('\n')
+    for what, first, last, start, stop in difflib.SequenceMatcher(None, old, new, False).get_opcodes():
+        if what != 'equal':
+            wrong += [f'{PAGE}:{first + 1}: the tree has: {line}' for line in new[start:stop]]
+            wrong += [f'{PAGE}:{n + 1}: the tree does not have: {old[n]}' for n in range(first, last) if start == stop]
     return wrong + missing(page)
 
 
@@ -206,48 +200,70 @@ def check(page):
 
 
 def self_test():
-    page = read(PAGE)
+    page, tree = read(PAGE), core.Tree()
     without = lambda path: '\n'.join(line for line in page.split('\n') if f'(../{path})' not in line)
     rows = rows_of(page)
     spec = next(path for _, _, _, path in rows if path.startswith('crates/rules/specs/'))
     kind = next(path for _, _, _, path in rows if path.startswith('crates/rules/src/'))
     function = next(f for _, titles, cells, path in rows if path.startswith('crates/willowera/') for f in functions_of(titles, cells))
     internal = next(f for f in spec_files() if is_internal(f))
+    passing = next(f for f in spec_files() if '\npub use ' in read(f))
+    passed = taken(read(passing))[0][0]
     wrong_count = re.sub(r'(?m)^(\| \[`[^|]*\| )(\d)', lambda m: m.group(1) + str((int(m.group(2)) + 1) % 10), page, count=1)
+    core_row = next(line for line in page[page.index(core.BEGIN):].split('\n') if line.startswith('| [`'))
     mistakes = {
         'a count that is not that of the file': (wrong_count, 'the tree has'),
         'a file of definitions that is not listed': (without(spec), f'{spec}: not in {PAGE}'),
         'a file of types that is not listed': (without(kind), f'{kind}, which {PAGE} does not list'),
+        'a file of types that a `pub use` line passes on': (without(passed), f'{passing}: it takes names from {passed}'),
         'an exported function that is not listed': (page.replace(f'`{function}`', ''), f'exported function {function}'),
         'a function that is gone': (page.replace(f'`{function}`', '`no_such_function`'), 'no function no_such_function'),
         'a file that is gone': (page.replace(f'(../{spec})', '(../crates/rules/specs/NoSuchFile.antt)'), 'no file'),
         'an internal file in a table': (page + f'\n| File | Lines |\n|---|---|\n| [`x`](../{internal}) | 1 |\n', 'internal'),
+        'a row of the core left out': (page.replace(core_row + '\n', ''), f'the tree has: {core_row}'),
+        'a row too many in the core': (page.replace(core_row, f'{core_row}\n{core_row}'), f'the tree does not have: {core_row}'),
+        'a count of the core that is not that of the tree': (page.replace('In all the core has ', 'In all the core has 1'), 'the tree has: In all the core has'),
+        'the marks of the core left out': (page.replace(core.BEGIN, ''), 'the marks'),
+        'a file of the core that no table lists': (without(core.BOARD), f'{core.BOARD}: it has definitions of the core'),
     }
-    failures = [what for what, (text, words) in mistakes.items() if not any(words in line for line in check(text))]
+    path, name = core.BOARD, 'BoardDemandThree'
+    text = tree.text(path)
+    ending = text.split('\n')[tree.file(path).definitions[name].lines[-1]]
+    first = re.search(r'\nuse Rattle·[^{]*\{(\w+)', text)
+    added = '\nunfoldable pub addedHere : Type 0\naddedHere = Unit {0}\n'
+    changes = {
+        'a definition that a statement of the core cites now': (text.replace(ending, f'{ending} × addedHere') + added, 'the tree has: In all the core has'),
+        'a longer definition of the core': (text.replace(ending, f'{ending}\n    × Unit {{0}}'), 'the tree has: In all the core has'),
+        'a name in the core that nothing has': (text[:first.start(1)] + 'NoSuchName as ' + text[first.start(1):], f'it takes {first.group(1)}, which'),
+        'a statement that is gone': (text.replace(f' {name} :', ' OtherName :'), f'no definition {name}'),
+    }
+    reports = {what: (check(text, tree), words) for what, (text, words) in mistakes.items()}
+    reports |= {what: (check(page, core.Tree({path: text})), words) for what, (text, words) in changes.items()}
+    failures = [what for what, (lines, words) in reports.items() if not any(words in line for line in lines)]
     for what in failures:
         print(f'self-test: not reported: {what}')
-    print(f'self-test: {len(mistakes)} mistakes, {len(mistakes) - len(failures)} reported')
+    print(f'self-test: {len(reports)} mistakes, {len(reports) - len(failures)} reported')
     return not failures
 
 
 def main(words):
     if words == ['--self-test']:
         return 0 if self_test() else 1
-    page = read(PAGE)
+    page, tree = read(PAGE), core.Tree()
     if words == ['--write']:
-        page, wrong = filled(page)
+        page, wrong = filled(page, tree)
         with open(os.path.join(ROOT, PAGE), 'w', encoding='utf-8') as f:
             f.write(page)
         wrong += missing(page)
     elif words == ['--check']:
-        wrong = check(page)
+        wrong = check(page, tree)
     else:
         print(__doc__)
         return 2
     for line in wrong:
         print(line)
     print(f'{len(rows_of(page))} rows, {len(wrong)} mistakes')
-    return 1 if wrong or words == ['--check'] and not self_test() else 0
+    return 1 if wrong or words == ['--check'] and not (core.self_test() and self_test()) else 0
 
 
 if __name__ == '__main__':
