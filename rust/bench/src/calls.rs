@@ -1,4 +1,4 @@
-//! The calls that are timed: those of the model and those of the library.
+//! The calls that are timed: those of the model, those of the library, and a step in C.
 
 use model::packed::{self, Board, Model};
 
@@ -15,16 +15,28 @@ pub const MODEL: Calls = Calls {
     step: packed::step,
 };
 
-/// The sets that are timed: the model, and the library.
+/// The sets of which steps are timed. A step in C starts from a state of the model.
 #[cfg(feature = "linked")]
-pub const BOARDS: &[Calls] = &[
+pub const WITH_C: &[Calls] = &[
     MODEL,
     Calls {
         name: "library",
         board: &compare::Library,
         step: willowera::packed::step,
     },
+    Calls {
+        name: "C",
+        step: crate::c_step::step,
+        ..MODEL
+    },
 ];
 
+/// The sets of which everything else is timed: the model, and the library.
+#[cfg(feature = "linked")]
+pub const BOARDS: &[Calls] = WITH_C.split_at(2).0;
+
 #[cfg(not(feature = "linked"))]
-pub const BOARDS: &[Calls] = &[MODEL];
+pub const WITH_C: &[Calls] = &[MODEL];
+
+#[cfg(not(feature = "linked"))]
+pub const BOARDS: &[Calls] = WITH_C;

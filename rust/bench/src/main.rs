@@ -2,15 +2,18 @@
 //!
 //! `bench [seed] [rounds]`. A step call reads and checks the personality, then steps: by
 //! the personality's own times, by others that took over (retimed), or while times wait;
-//! alone, or in a cabinet. An inner step starts from a
+//! alone, or in a cabinet. Steps are timed in plain C too. An inner step starts from a
 //! site already read. A line says why a phase holds, of a state in running. Such states
 //! are retimed, sealed, and resumed from their records. A road is an hour of steps in one
 //! call. Each time is the median of the rounds, with the best round behind it; a ratio is
 //! the median of the rounds' own ratios, with that of the best rounds behind it. `at most`
 //! is the ratio to the model that is asked for.
 
-#![forbid(unsafe_code)]
+#![deny(unsafe_code)]
 
+#[cfg(feature = "linked")]
+#[allow(unsafe_code)]
+mod c_step;
 mod calls;
 mod clock;
 mod road;

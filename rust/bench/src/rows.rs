@@ -1,6 +1,6 @@
 //! What is timed of a site, row by row.
 
-use crate::calls::{Calls, BOARDS};
+use crate::calls::{Calls, BOARDS, WITH_C};
 use crate::clock::{longest_ns, times_of, Longest, Time, Work};
 use crate::site::{Bench, INPUTS};
 
@@ -13,9 +13,9 @@ struct Row(&'static str, Worker, &'static [Calls], Option<f64>);
 
 const ROWS: [Row; 10] = [
     Row("read", Bench::reader, BOARDS, None),
-    Row("step", Bench::stepper, BOARDS, Some(1.0)),
-    Row("retimed step", Bench::retimed_stepper, BOARDS, Some(1.0)),
-    Row("times waiting", Bench::waiting_stepper, BOARDS, Some(1.0)),
+    Row("step", Bench::stepper, WITH_C, Some(1.0)),
+    Row("retimed step", Bench::retimed_stepper, WITH_C, Some(1.0)),
+    Row("times waiting", Bench::waiting_stepper, WITH_C, Some(1.0)),
     Row("cabinet step", Bench::cabinet_stepper, BOARDS, Some(1.0)),
     Row("retime", Bench::retimer, BOARDS, Some(1.3)),
     Row("line", Bench::teller, BOARDS, None),
@@ -25,11 +25,13 @@ const ROWS: [Row; 10] = [
 ];
 
 /// The columns after the name, with their widths. Without the library there is one.
-const COLUMNS: [(&str, usize); 4] = [
+const COLUMNS: [(&str, usize); 6] = [
     ("model", 18),
     ("library", 18),
     ("ratio", 14),
     ("at most", 14),
+    ("C", 18),
+    ("library to C", 14),
 ];
 
 /// Times the site and prints what was seen.
@@ -59,12 +61,16 @@ fn print_longest(name: &str, bench: &Bench, worker: Worker, count: usize) {
     print_row(name, &cells.collect::<Vec<_>>());
 }
 
-/// The cells of a row: the times of the model, and of the library if it is there.
+/// The cells of a row: the times of the model, of the library and in C, as far as they
+/// are there.
 fn cells(times: &[Time], bar: Option<f64>) -> Vec<String> {
     let mut cells = vec![shown(&times[0])];
-    if let [model, library] = times {
+    if let [model, library, in_c @ ..] = times {
         let judged = judged(library.over(model), bar);
         cells.extend([shown(library), library.ratio(model), judged]);
+        for in_c in in_c {
+            cells.extend([shown(in_c), library.ratio(in_c)]);
+        }
     }
     cells
 }
