@@ -18,21 +18,17 @@ pub struct Time {
 
 /// The times of several works. Each round times all of them, one after the
 /// other, so that they share what else the machine does.
-pub fn times_of<const WORKS: usize>(rounds: usize, works: [Work; WORKS]) -> [Time; WORKS] {
+pub fn times_of(rounds: usize, works: Vec<Work>) -> Vec<Time> {
     times_of_calls(rounds, CALLS, works)
 }
 
 /// The times of several works that take long, so that a round is one call of each.
-pub fn times_of_long<const WORKS: usize>(rounds: usize, works: [Work; WORKS]) -> [Time; WORKS] {
+pub fn times_of_long(rounds: usize, works: Vec<Work>) -> Vec<Time> {
     times_of_calls(rounds, 1, works)
 }
 
-fn times_of_calls<const WORKS: usize>(
-    rounds: usize,
-    calls: usize,
-    mut works: [Work; WORKS],
-) -> [Time; WORKS] {
-    let mut times = [const { Vec::new() }; WORKS];
+fn times_of_calls(rounds: usize, calls: usize, mut works: Vec<Work>) -> Vec<Time> {
+    let mut times = vec![Vec::new(); works.len()];
     for round in 0..=rounds {
         for (work, times) in works.iter_mut().zip(&mut times) {
             let time = round_ns(round * calls, calls, work);
@@ -42,7 +38,7 @@ fn times_of_calls<const WORKS: usize>(
             }
         }
     }
-    times.map(Time::of)
+    times.into_iter().map(Time::of).collect()
 }
 
 fn round_ns(first: usize, calls: usize, work: &mut Work) -> f64 {
@@ -70,6 +66,12 @@ impl Time {
                 .map(|(one, other)| one / other)
                 .collect(),
         )
+    }
+
+    /// The same as text, with the ratio of the best rounds behind it.
+    pub fn ratio(&self, other: &Time) -> String {
+        let (median, best) = (self.over(other), self.best / other.best);
+        format!("{median:.2} ({best:.2})")
     }
 }
 

@@ -1,7 +1,8 @@
 //! A simulated hour at the four-phase example site, timed.
 
+use crate::calls::{Calls, BOARDS};
 use crate::clock::{times_of_long, Time, Work};
-use model::{packed, Stream, MAX_STREAMS, STATE_LEN, STREAM_LEN};
+use model::{Stream, MAX_STREAMS, STATE_LEN, STREAM_LEN};
 use std::hint::black_box;
 
 const PERSONALITY: &[u8] = include_bytes!("../../../examples/four_phases/personality.bin");
@@ -27,18 +28,6 @@ const LANES: [(u8, u8, u16); 8] = [
 /// The numbers of streams that are timed.
 const COUNTS: [usize; 7] = [1, 2, 4, 8, 16, 32, MAX_STREAMS];
 
-/// What is timed, in this order.
-const NAMES: [&str; 2] = ["model", "library"];
-
-/// A road, of the model or of the library.
-type RoadCall = fn(&[u8], &[u8], u32, &mut [u8], &mut [u8]) -> u64;
-
-#[cfg(feature = "linked")]
-const LIBRARY: Option<RoadCall> = Some(willowera::packed::road);
-
-#[cfg(not(feature = "linked"))]
-const LIBRARY: Option<RoadCall> = None;
-
 /// Times the hour with each number of streams and prints what was seen.
 pub fn print(rounds: usize) {
     let rounds = rounds.min(MOST_ROUNDS);
@@ -46,10 +35,10 @@ pub fn print(rounds: usize) {
     println!("simulated hour of the four-phase site, {HOUR} steps: median of {rounds} rounds");
     let hour = times(rounds, LANES.len());
     let in_ms = |time: &Time| format!("{:.2} ms ({:.2})", time.median / 1e6, time.best / 1e6);
-    let each: Vec<String> = NAMES
+    let each: Vec<String> = BOARDS
         .iter()
         .zip(&hour)
-        .map(|(name, time)| format!("{name} {}", in_ms(time)))
+        .map(|(calls, time)| format!("{} {}", calls.name, in_ms(time)))
         .collect();
     println!(
         "{} streams: {} {}",
@@ -85,39 +74,27 @@ pub fn print(rounds: usize) {
 /// The ratio of the library to the model; no text if the library is not linked.
 fn ratio(times: &[Time]) -> String {
     match times {
-        [model, library] => {
-            let (median, best) = (library.over(model), library.best / model.best);
-            format!("ratio {median:.2} ({best:.2})")
-        }
+        [model, library] => format!("ratio {}", library.ratio(model)),
         _ => String::new(),
     }
 }
 
 /// The times of the model, and of the library if it is linked.
 fn times(rounds: usize, count: usize) -> Vec<Time> {
-    match LIBRARY {
-        None => times_of_long(rounds, [runner(packed::road, count)]).into(),
-        Some(library) => {
-            let works = [runner(packed::road, count), runner(library, count)];
-            times_of_long(rounds, works).into()
-        }
-    }
+    let works = BOARDS.iter().map(|calls| runner(calls, count));
+    times_of_long(rounds, works.collect())
 }
 
 /// Runs the hour once a call.
-fn runner(road: RoadCall, count: usize) -> Work<'static> {
+fn runner(calls: &'static Calls, count: usize) -> Work<'static> {
     let streams = streams(count);
     let mut state = [0; STATE_LEN];
     let mut results = [0; STREAM_LEN * MAX_STREAMS];
     Box::new(move |_| {
-        let streams = black_box(streams.as_slice());
-        let answer = road(
-            black_box(PERSONALITY),
-            streams,
-            HOUR,
-            &mut state,
-            &mut results,
-        );
+        let (personality, streams) = (black_box(PERSONALITY), black_box(streams.as_slice()));
+        let answer = calls
+            .board
+            .road(personality, streams, HOUR, &mut state, &mut results);
         assert_eq!(black_box(answer), 0);
         black_box((&state, &results));
     })
