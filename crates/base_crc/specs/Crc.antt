@@ -1,6 +1,5 @@
 -- The check value CRC-32 of Ethernet (IEEE 802.3) and zlib, bit by bit. It finds damage, and it is no protection against intent.
-use Prim.Native.Nat.{ℕ, zero, suc, _/_}
-use mathlib.Core.List.{List, [], _∷_}
+use Rattle.laws.specs.Ground.{ℕ, zero, suc, _/_, List, [], _∷_}
 use lib.Bits.{bitXor}
 use Rattle.laws.specs.Bytes.{bit}
 use Rattle.laws.specs.Folds.{if_then_else_, listOf}

@@ -1,6 +1,5 @@
 -- Worked values of the check value.
-use mathlib.Core.List.{[], _∷_}
-use mathlib.Core.Path.{_≡_}
+use Rattle.laws.specs.Ground.{[], _∷_, _≡_}
 use Rattle.base_crc.specs.Crc.{crc}
 
 -- no bytes

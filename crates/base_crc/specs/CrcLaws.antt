@@ -1,11 +1,6 @@
 -- What the check value finds: of two lists of bytes that differ, but only within 32 neighbouring bits, it is never the same. So it finds every
 -- change of one byte, and every change of several within four neighbouring bytes.
-use Prim.Native.Nat.{ℕ, _+_, _*_, _/_, _%_, _^_, _≤_, _<_}
-use mathlib.Core.Bool.{Bool}
-use mathlib.Core.List.{List}
-use mathlib.Core.Logic.{_⊎_}
-use mathlib.Core.Path.{_≡_}
-use lib.ListN.{length, take}
+use Rattle.laws.specs.Ground.{ℕ, _+_, _*_, _/_, _%_, _^_, _≤_, _<_, Bool, List, _⊎_, _≡_, length, take}
 use Rattle.laws.specs.Bytes.{byteAt, fourAt, bit}
 use Rattle.base_crc.specs.Crc.{crc}
 

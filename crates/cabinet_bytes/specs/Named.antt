@@ -1,8 +1,5 @@
 -- Internal: no promise cites this file. What the inner functions ask of a row and a record.
-use Prim.Native.Nat.{ℕ, _<_}
-use mathlib.Core.List.{List}
-use mathlib.Core.Path.{_≡_}
-use lib.ListN.{length}
+use Rattle.laws.specs.Ground.{ℕ, _<_, List, _≡_, length}
 use Rattle.cabinet_records.specs.Cabinet.{recordCount}
 use Rattle.cabinet_records.specs.Layout.{rowBytes}
 

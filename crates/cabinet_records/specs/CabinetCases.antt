@@ -1,9 +1,6 @@
 -- Worked cases of the cabinet's calls, in a single list with one statement: each of them holds. The site is the junction of two phases, which has two
 -- outputs and a wait bound of 270.
-use Prim.Native.Nat.{ℕ, _-_}
-use mathlib.Core.List.{List, [], _∷_, _++_}
-use mathlib.Core.Path.{_≡_}
-use lib.ListN.{length, set, take, replicate}
+use Rattle.laws.specs.Ground.{ℕ, _-_, List, [], _∷_, _++_, _≡_, length, take, replicate, set}
 use Rattle.rules.specs.Junctions.{junction, slower}
 use Rattle.rules.specs.Kept.{freshKept}
 use Rattle.rules.specs.CallCases.{AllHold, ruledBy}

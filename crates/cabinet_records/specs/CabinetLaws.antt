@@ -1,10 +1,6 @@
 -- What a call of the cabinet leaves alone, stated: every other record, every other output, and on a refusal everything. It holds of any row, whatever its
 -- records hold, and of an output buffer of any length and content.
-use Prim.Native.Nat.{ℕ, _+_, _*_, _%_, _≤_, _<_}
-use mathlib.Core.List.{List}
-use mathlib.Core.Logic.{_⊎_}
-use mathlib.Core.Path.{_≡_}
-use lib.ListN.{length}
+use Rattle.laws.specs.Ground.{ℕ, _+_, _*_, _%_, _≤_, _<_, List, _⊎_, _≡_, length}
 use Rattle.laws.specs.Bytes.{byteAt}
 use Rattle.state_forms.specs.Forms.{AreBytes}
 use Rattle.cabinet_records.specs.declared.Record.{Record}

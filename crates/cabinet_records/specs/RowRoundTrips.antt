@@ -1,9 +1,6 @@
 -- The round trips of a row and its bytes, stated: writing and reading undo each other, on any four records whose arrays have their lengths and on any
 -- bytes of the length of a row.
-use Prim.Native.Nat.{ℕ}
-use mathlib.Core.List.{List}
-use mathlib.Core.Path.{_≡_}
-use lib.ListN.{length, replicate}
+use Rattle.laws.specs.Ground.{ℕ, List, _≡_, length, replicate}
 use Rattle.state_forms.specs.Forms.{AreBytes}
 use Rattle.cabinet_records.specs.declared.Record.{Record}
 use Rattle.cabinet_records.specs.Cabinet.{recordCount, freeRecord, recordOf}

@@ -1,9 +1,6 @@
 -- Internal: no promise cites this file. The calls of a cabinet by the one record that they name.
-use Prim.Native.Nat.{ℕ}
-use mathlib.Core.List.{List}
-use lib.ListN.{length, set, replicate}
-use Rattle.rules.specs.declared.answer.Verdict.{Verdict}
-use Rattle.rules.specs.declared.answer.Verdict.the-variants.{Accepted, Refused}
+use Rattle.laws.specs.Ground.{ℕ, List, length, replicate, set}
+use Rattle.rules.specs.Types.{Verdict, Accepted, Refused}
 use Rattle.rules.specs.Verdicts.{_orElse_, refuseIf}
 use Rattle.rules.specs.Colours.{red}
 use Rattle.board_answers.specs.Answers.{packedVerdict}

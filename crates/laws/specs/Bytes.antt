@@ -1,9 +1,5 @@
 -- Little-endian numbers and bits. A byte past the end reads as 0.
-use Prim.Native.Nat.{ℕ, _+_, _*_, _/_, _%_, _^_}
-use mathlib.Core.Bool.{Bool}
-use mathlib.Core.List.{List}
-use lib.Dec.{eqb}
-use lib.ListN.{getD}
+use Rattle.laws.specs.Ground.{ℕ, _+_, _*_, _/_, _%_, _^_, Bool, List, eqb, getD}
 
 unfoldable pub byteAt : List ℕ → ℕ → ℕ
 byteAt b i = getD b i 0

@@ -1,8 +1,5 @@
 -- Choice by a test, and rows by index: what is said of the things 0 to n - 1, the last one outermost.
-use Prim.Native.Nat.{ℕ, zero, suc, _+_, _-_, _^_, max}
-use mathlib.Core.Bool.{Bool, true, false, _&&_, _||_}
-use mathlib.Core.List.{List, [], _∷_, _++_}
-use lib.ListN.{replicate}
+use Rattle.laws.specs.Ground.{ℕ, zero, suc, _+_, _-_, _^_, max, Bool, true, false, _&&_, _||_, List, [], _∷_, _++_, replicate}
 
 infix 6 if_then_else_
 abbrev pub if_then_else_ {ℓ} : {A : Type ℓ} → Bool → A → A → A

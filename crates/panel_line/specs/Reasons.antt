@@ -1,8 +1,5 @@
 -- The reasons of a line, in their order.
-use Prim.Native.Nat.{ℕ, zero, suc}
-use mathlib.Core.Bool.{Bool}
-use mathlib.Core.List.{List, [], _∷_, _++_}
-use lib.Dec.{ltb}
+use Rattle.laws.specs.Ground.{ℕ, zero, suc, Bool, List, [], _∷_, _++_, ltb}
 use Rattle.laws.specs.Bytes.{bit}
 use Rattle.laws.specs.Folds.{if_then_else_}
 use Rattle.panel_text.specs.declared.Reason.{Reason}

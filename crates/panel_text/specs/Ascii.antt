@@ -1,8 +1,8 @@
 -- A quoted text as the list of its bytes.
-use Prim.Native.Nat.{ℕ}
+use Rattle.laws.specs.Ground.{ℕ, List}
 use Prim.Native.Char.{code}
 use Prim.Native.String.{String, [], _∷_}
-use mathlib.Core.List.{List, [] as []ᴸ, _∷_ as _∷ᴸ_}
+use mathlib.Core.List.{[] as []ᴸ, _∷_ as _∷ᴸ_}
 
 -- one byte for each character; every text here is ASCII
 abbrev pub ascii : String → List ℕ

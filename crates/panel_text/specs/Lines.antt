@@ -1,9 +1,6 @@
 -- Statements about lines: each reads back as its phase and its reasons, so different lists of reasons never read alike, and no line is empty. The
 -- reasons may be any list, of any length and order and with any numbers. Decimals have no leading zeros.
-use Prim.Native.Nat.{ℕ, _<_}
-use mathlib.Core.List.{List, []}
-use mathlib.Core.Path.{_≡_}
-use lib.ListN.{getD}
+use Rattle.laws.specs.Ground.{ℕ, _<_, List, [], _≡_, getD}
 use Rattle.panel_text.specs.declared.Reason.{Reason}
 use Rattle.panel_text.specs.Decimal.{decimal}
 use Rattle.panel_text.specs.Text.{line}

@@ -1,9 +1,5 @@
 -- A reader that parses a line back into its phase and its reasons.
-use Prim.Native.Nat.{ℕ, _+_, _-_, _*_}
-use mathlib.Core.Bool.{Bool, _&&_}
-use mathlib.Core.List.{List, [], _∷_, _++_}
-use lib.Dec.{leb, eqb}
-use lib.ListN.{getD}
+use Rattle.laws.specs.Ground.{ℕ, _+_, _-_, _*_, Bool, _&&_, List, [], _∷_, _++_, eqb, leb, getD}
 use Rattle.laws.specs.Folds.{if_then_else_}
 use Rattle.panel_text.specs.declared.Reason.{Reason}
 use Rattle.panel_text.specs.declared.Reason.the-variants.{NoOtherDemand, Gap, Max, Walk}

@@ -1,6 +1,5 @@
 -- A phase and a list of reasons as one line of ASCII, without a terminator.
-use Prim.Native.Nat.{ℕ}
-use mathlib.Core.List.{List, [], _∷_, _++_}
+use Rattle.laws.specs.Ground.{ℕ, List, [], _∷_, _++_}
 use Rattle.rules.specs.TraceText.{phaseLetter}
 use Rattle.panel_text.specs.declared.Reason.{Reason}
 use Rattle.panel_text.specs.declared.Reason.the-variants.{NoOtherDemand, Gap, Max, Walk}

@@ -1,11 +1,6 @@
 -- The theorem of the cabinet, stated for a row of records and for the bytes of a row. The first call gets any row whatever, each later one the row
 -- that the call before returned. New times may be handed over between the calls. The output buffers may have any length and content.
-use Prim.Native.Nat.{ℕ}
-use mathlib.Core.Bool.{Bool, true, false, not, _&&_}
-use mathlib.Core.List.{List, [], _∷_}
-use mathlib.Core.Path.{_≡_}
-use lib.Dec.{eqb}
-use lib.ListN.{length, replicate}
+use Rattle.laws.specs.Ground.{ℕ, Bool, true, false, not, _&&_, List, [], _∷_, _≡_, eqb, length, replicate}
 use Rattle.laws.specs.Folds.{if_then_else_}
 use Rattle.rules.specs.Site.{siteOf}
 use Rattle.rules.specs.Colours.{red}

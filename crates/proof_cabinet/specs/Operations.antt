@@ -1,10 +1,6 @@
 -- What a caller does to a cabinet: it calls the cabinet, or it hands over new times for the site in a record. For new times the cabinet has no call:
 -- the caller calls `willowera_retime` with pointers to the personality and to the state that stand in the record.
-use Prim.Native.Nat.{ℕ, _+_, _*_, _%_, _≤_, _<_}
-use mathlib.Core.List.{List}
-use mathlib.Core.Logic.{_⊎_}
-use mathlib.Core.Path.{_≡_}
-use lib.ListN.{length, set}
+use Rattle.laws.specs.Ground.{ℕ, _+_, _*_, _%_, _≤_, _<_, List, _⊎_, _≡_, length, set}
 use Rattle.laws.specs.Bytes.{byteAt}
 use Rattle.laws.specs.Folds.{if_then_else_}
 use Rattle.state_timed.specs.TimedLayout.{timedBytes}

@@ -1,12 +1,6 @@
 -- The answers of sealing and resuming: every refusal has a written number and place, and a refused call writes nothing.
-use Prim.Native.Nat.{ℕ}
-use mathlib.Core.Bool.{Bool, true, _&&_, _||_}
-use mathlib.Core.List.{List}
-use mathlib.Core.Logic.{_⊎_}
-use mathlib.Core.Path.{_≡_}
-use lib.Dec.{leb, eqb}
-use Rattle.rules.specs.declared.answer.Verdict.{Verdict}
-use Rattle.rules.specs.declared.answer.Verdict.the-variants.{Refused}
+use Rattle.laws.specs.Ground.{ℕ, Bool, true, _&&_, _||_, List, _⊎_, _≡_, eqb, leb}
+use Rattle.rules.specs.Types.{Verdict, Refused}
 use Rattle.rules.specs.Laws.{readingNumber, PlaceIn}
 use Rattle.board_seal.specs.SealCall.{sealVerdict, sealAnswer, sealAfter, resumeVerdict, resumeAnswer, resumeAfter}
 

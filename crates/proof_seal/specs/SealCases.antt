@@ -1,10 +1,6 @@
 -- Worked cases: the junction of two phases, its fresh state and the sealed record of this state, and what other records are refused with.
-use Prim.Native.Nat.{ℕ}
-use mathlib.Core.List.{List, [], _∷_, _++_}
-use mathlib.Core.Path.{_≡_}
-use lib.ListN.{length, take, set, replicate}
-use Rattle.rules.specs.declared.answer.Verdict.{Verdict}
-use Rattle.rules.specs.declared.answer.Verdict.the-variants.{Accepted, Refused}
+use Rattle.laws.specs.Ground.{ℕ, List, [], _∷_, _++_, _≡_, length, take, replicate, set}
+use Rattle.rules.specs.Types.{Verdict, Accepted, Refused}
 use Rattle.rules.specs.Site.{siteOf}
 use Rattle.rules.specs.Timed.{freshTimed}
 use Rattle.rules.specs.Kept.{freshKept}

@@ -1,6 +1,5 @@
 -- The personalities of example sites, section by section. That of the junction of two phases is `junction`.
-use Prim.Native.Nat.{ℕ}
-use mathlib.Core.List.{List, [], _∷_, _++_}
+use Rattle.laws.specs.Ground.{ℕ, List, [], _∷_, _++_}
 use Rattle.rules.specs.Junctions.{two, twos, fours, sections, cutOffs}
 
 -- the T-junction with three phases, examples/t_junction

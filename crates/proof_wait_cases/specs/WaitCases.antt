@@ -1,10 +1,5 @@
 -- The waits of example sites as numbers, and that they are reached.
-use Prim.Native.Nat.{ℕ, zero, suc, _+_, _^_}
-use mathlib.Core.Bool.{Bool, true, false}
-use mathlib.Core.List.{List, [], _∷_, _++_}
-use mathlib.Core.Path.{_≡_}
-use lib.Dec.{eqb}
-use lib.ListN.{drop, replicate}
+use Rattle.laws.specs.Ground.{ℕ, zero, suc, _+_, _^_, Bool, true, false, List, [], _∷_, _++_, _≡_, eqb, drop, replicate}
 use Rattle.laws.specs.Folds.{if_then_else_}
 use Rattle.rules.specs.Site.{siteOf}
 use Rattle.rules.specs.State.{fresh}

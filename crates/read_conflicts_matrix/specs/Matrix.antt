@@ -1,9 +1,6 @@
 -- Internal: no promise cites this file. The conflicts as a matrix of bits in tiles. Band a has the eight groups 8 a to 8 a + 7. A tile is a
 -- number of 64 bits in eight rows of eight; bit c of row r is bit 8 r + c.
-use Prim.Native.Nat.{ℕ, _+_, _*_, _≤_, _<_}
-use mathlib.Core.List.{List}
-use mathlib.Core.Path.{_≡_}
-use lib.ListN.{length, getD}
+use Rattle.laws.specs.Ground.{ℕ, _+_, _*_, _≤_, _<_, List, _≡_, length, getD}
 use Rattle.laws.specs.Bytes.{byteAt, bit}
 use Rattle.rules.specs.Personality.{bodyAt, recordAt, groupCount, groupSet, conflictSet}
 use Rattle.read_layout.specs.declared.Layout.{Layout}

@@ -1,8 +1,5 @@
 -- Internal: no promise cites this file. What the quick test requires of two tiles, and what follows for two groups, two bands, all groups.
-use Prim.Native.Nat.{ℕ, _+_, _*_, _≤_, _<_}
-use mathlib.Core.Bool.{true, false}
-use mathlib.Core.List.{List}
-use mathlib.Core.Path.{_≡_}
+use Rattle.laws.specs.Ground.{ℕ, _+_, _*_, _≤_, _<_, true, false, List, _≡_}
 use Rattle.laws.specs.Bytes.{bit}
 use Rattle.rules.specs.Personality.{phaseCount, groupCount, groupSet, conflictSet}
 

@@ -1,11 +1,6 @@
 -- Internal: no promise cites this file. The sets of a personality turned round: for each group the groups that name it, and for each phase
 -- the groups that are in it.
-use Prim.Native.Nat.{ℕ, _+_, _*_, _<_}
-use mathlib.Core.Bool.{Bool}
-use mathlib.Core.List.{List}
-use mathlib.Core.Path.{_≡_}
-use lib.Dec.{eqb}
-use lib.ListN.{getD}
+use Rattle.laws.specs.Ground.{ℕ, _+_, _*_, _<_, Bool, List, _≡_, eqb, getD}
 use Rattle.laws.specs.Bytes.{bit}
 use Rattle.laws.specs.Folds.{if_then_else_}
 use Rattle.rules.specs.Personality.{groupCount, groupSet, conflictSet}

@@ -1,7 +1,5 @@
 -- Internal: no promise cites this file. What the layout of a personality holds.
-use Prim.Native.Nat.{ℕ, _≤_}
-use mathlib.Core.List.{List}
-use mathlib.Core.Path.{_≡_}
+use Rattle.laws.specs.Ground.{ℕ, _≤_, List, _≡_}
 use Rattle.rules.specs.Personality.{phaseCount, groupCount, groupsHead, conflictsHead, detectorsHead, pedestriansHead, earlyHead, hasEarly, orderHead, hasOrder}
 use Rattle.read_layout.specs.declared.Layout.{Layout}
 

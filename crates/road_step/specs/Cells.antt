@@ -1,7 +1,5 @@
 -- Internal: no promise cites this file. The traffic of the streams in a row of cells, four numbers a stream.
-use Prim.Native.Nat.{ℕ, _+_, _*_}
-use mathlib.Core.List.{List}
-use lib.ListN.{getD, set}
+use Rattle.laws.specs.Ground.{ℕ, _+_, _*_, List, getD, set}
 use Rattle.laws.specs.Folds.{listOf}
 use Rattle.road_streams.specs.declared.Traffic.{Traffic}
 

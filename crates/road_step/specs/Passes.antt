@@ -1,9 +1,5 @@
 -- Internal: no promise cites this file. What the two passes over the streams take for granted and give.
-use Prim.Native.Nat.{ℕ, _*_, _≤_, _<_}
-use mathlib.Core.List.{List}
-use mathlib.Core.Path.{_≡_}
-use lib.Dec.{eqb}
-use lib.ListN.{length}
+use Rattle.laws.specs.Ground.{ℕ, _*_, _≤_, _<_, List, _≡_, eqb, length}
 use Rattle.laws.specs.Bytes.{bit, byteAt}
 use Rattle.rules.specs.Colours.{green}
 use Rattle.road_streams.specs.declared.Stream.{Stream}

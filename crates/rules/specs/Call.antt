@@ -1,9 +1,5 @@
 -- A step call: from personality bytes, a state, 64 input bits and a colour buffer of any content to the answer and the buffer afterwards.
-use Prim.Native.Nat.{ℕ, _+_}
-use mathlib.Core.Bool.{Bool, not, _&&_, _||_}
-use mathlib.Core.List.{List, _++_}
-use lib.Dec.{leb, ltb}
-use lib.ListN.{length, drop}
+use Rattle.laws.specs.Ground.{ℕ, _+_, Bool, not, _&&_, _||_, List, _++_, leb, ltb, length, drop}
 use Rattle.rules.specs.Types.{Outcome, Stepped, StepRefused, Verdict, Accepted, Refused, Site, KeptState, State}
 use Rattle.laws.specs.Folds.{anyOf}
 use Rattle.laws.specs.Bytes.{bit}

@@ -1,10 +1,7 @@
 -- Worked cases of one call each, as one list with one statement: every case holds. Each can be checked by hand with the papers. All of them
 -- compute in less than a second, and each must-fail edit of the rules makes one of them fail. Those about times are in TimedCases. All other
 -- worked cases are in proof_cases, also the starred ones of document 01; two of those are repeated here, because an edit needs them.
-use Prim.Native.Nat.{ℕ, _^_}
-use mathlib.Core.Path.{_≡_}
-use mathlib.Core.List.{List, [], _∷_, _++_}
-use lib.ListN.{set, replicate}
+use Rattle.laws.specs.Ground.{ℕ, _^_, List, [], _∷_, _++_, _≡_, replicate, set}
 use Rattle.rules.specs.Types.{Outcome, Stepped, StepRefused, Verdict, Accepted, Refused, Counts, Demands, Held, Nothing, Phase, Interval, Running, EarlyCutOff, Yellow, AllRed, KeptState, Movement, Position, Stage, Walk, ClearanceOne, ClearanceTwo}
 use Rattle.rules.specs.Personality.{groupCount, verdictOf}
 use Rattle.rules.specs.Lookup.{lookupVerdict}

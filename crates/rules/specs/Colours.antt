@@ -1,10 +1,5 @@
 -- The colours that the groups show in a state.
-use Prim.Native.Nat.{ℕ, _+_}
-use mathlib.Core.Bool.{Bool, not, _&&_, _||_}
-use mathlib.Core.List.{List, _++_}
-use mathlib.Core.Path.{_≡_}
-use lib.Dec.{leb, eqb}
-use lib.ListN.{getD, drop}
+use Rattle.laws.specs.Ground.{ℕ, _+_, Bool, not, _&&_, _||_, List, _++_, _≡_, eqb, leb, drop, getD}
 use Rattle.rules.specs.Types.{Group, PhaseTimes, Site, Times, Held, Interval, StartRed, LateStart, MinimumGreen, Running, EarlyCutOff, Yellow, AllRed, Movement, Position, Stage, Idle, Walk, ClearanceOne, ClearanceTwo, State}
 use Rattle.laws.specs.Folds.{if_then_else_, listOf}
 use Rattle.laws.specs.Bytes.{bit}

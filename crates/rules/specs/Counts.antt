@@ -1,7 +1,5 @@
 -- Part 3 of a step: the gap count and the maximum count, in minimum green and running.
-use Prim.Native.Nat.{ℕ, _+_, _-_, min}
-use mathlib.Core.Bool.{Bool, _&&_, _||_}
-use lib.Dec.{ltb}
+use Rattle.laws.specs.Ground.{ℕ, _+_, _-_, min, Bool, _&&_, _||_, ltb}
 use Rattle.rules.specs.Types.{PhaseTimes, Counts, Interval}
 use Rattle.laws.specs.Folds.{if_then_else_}
 use Rattle.rules.specs.IntervalTable.{isGreen, isRunning}

@@ -1,9 +1,5 @@
 -- Part 1 of a step: demands.
-use Prim.Native.Nat.{ℕ, _+_, _%_}
-use mathlib.Core.Bool.{Bool, not, _&&_, _||_}
-use mathlib.Core.List.{List, [], _∷_, _++_}
-use lib.Dec.{leb, eqb}
-use lib.ListN.{getD}
+use Rattle.laws.specs.Ground.{ℕ, _+_, _%_, Bool, not, _&&_, _||_, List, [], _∷_, _++_, eqb, leb, getD}
 use Rattle.rules.specs.Types.{Detector, Site, Demands, Held, Nothing, Phase, Movement, Position, State}
 use Rattle.laws.specs.Folds.{if_then_else_, anyOf, setOf}
 use Rattle.laws.specs.Bytes.{bit}

@@ -1,9 +1,5 @@
 -- Part 4 of a step: the interval. At most one change is made in a step.
-use Prim.Native.Nat.{ℕ}
-use mathlib.Core.Bool.{Bool, not, _&&_, _||_}
-use mathlib.Core.List.{List}
-use lib.Dec.{leb, eqb}
-use lib.ListN.{getD}
+use Rattle.laws.specs.Ground.{ℕ, Bool, not, _&&_, _||_, List, eqb, leb, getD}
 use Rattle.rules.specs.Types.{PhaseTimes, Times, Counts, Held, Nothing, Phase, Interval, StartRed, LateStart, MinimumGreen, Running, EarlyCutOff, Yellow, AllRed, Movement, Position, Stage}
 use Rattle.laws.specs.Bytes.{bit}
 use Rattle.laws.specs.Folds.{if_then_else_, anyOf, setOf}

@@ -1,7 +1,5 @@
 -- A table row for each interval and each stage, the tests of the rules that read the row, and tests of a phase-or-none value.
-use Prim.Native.Nat.{ℕ}
-use mathlib.Core.Bool.{Bool, true, false, _&&_}
-use mathlib.Core.List.{List, [], _∷_}
+use Rattle.laws.specs.Ground.{ℕ, Bool, true, false, _&&_, List, [], _∷_}
 use Rattle.rules.specs.Types.{Held, Nothing, Phase, Interval, StartRed, LateStart, MinimumGreen, Running, EarlyCutOff, Yellow, AllRed, IntervalRow, Stage, Idle, Walk, ClearanceOne, ClearanceTwo, StageRow}
 use Rattle.laws.specs.Bytes.{bit}
 

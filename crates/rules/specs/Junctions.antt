@@ -1,7 +1,5 @@
 -- The personalities of the worked cases, section by section.
-use Prim.Native.Nat.{ℕ, _+_, _/_, _%_}
-use mathlib.Core.List.{List, [], _∷_, _++_}
-use lib.ListN.{length, set}
+use Rattle.laws.specs.Ground.{ℕ, _+_, _/_, _%_, List, [], _∷_, _++_, length, set}
 
 -- ── Writing bytes ──
 

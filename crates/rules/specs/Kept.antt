@@ -1,9 +1,6 @@
 -- The kept set: the phases that have a locked demand or a demanded movement, kept in the state and updated in each step. Calls without lock
 -- count beside it, in their step only.
-use Prim.Native.Nat.{ℕ}
-use mathlib.Core.Bool.{Bool, not, _&&_, _||_}
-use mathlib.Core.List.{List}
-use lib.Dec.{eqb}
+use Rattle.laws.specs.Ground.{ℕ, Bool, not, _&&_, _||_, List, eqb}
 use Rattle.rules.specs.Types.{Site, Times, Demands, Held, KeptState, Movement}
 use Rattle.laws.specs.Bytes.{bit}
 use Rattle.laws.specs.Folds.{anyOf, setOf}

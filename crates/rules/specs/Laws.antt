@@ -1,13 +1,7 @@
 -- Statements that show that the rules fit together: what each table of limits must provide, what is known of an accepted site, which refusals
 -- there are, how long a personality and how large a wait bound can be, what the buffer holds at each point of the pass over the groups, and that
 -- every phase can be called. What needs acceptance is stated over the bytes of an accepted personality.
-use Prim.Native.Nat.{ℕ, _+_, _*_, _%_, _^_, _≤_, _<_}
-use mathlib.Core.Bool.{Bool, true, false, _&&_, _||_}
-use mathlib.Core.List.{List}
-use mathlib.Core.Logic.{_⊎_}
-use mathlib.Core.Path.{_≡_}
-use lib.Dec.{leb, eqb}
-use lib.ListN.{length, getD}
+use Rattle.laws.specs.Ground.{ℕ, _+_, _*_, _%_, _^_, _≤_, _<_, Bool, true, false, _&&_, _||_, List, _⊎_, _≡_, eqb, leb, length, getD}
 use Rattle.rules.specs.Types.{Accepted, Edition, PhaseTimes, Range, Site, Size, Times, WalkTimes, State}
 use Rattle.laws.specs.Folds.{if_then_else_, allOf, countOf}
 use Rattle.rules.specs.Limits.{limits, limitOf, startRedSetting, phaseSettings, walkSettings, earlySetting, settingCount}

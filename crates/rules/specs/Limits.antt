@@ -1,10 +1,6 @@
 -- The tables of the lowest and highest values of all time settings, one for each edition of the limits. The settings are numbered in this
 -- order: start red; L, M, X, G, Y, R of a phase; W, C1, C2 of a movement; early cut-off green of a phase.
-use Prim.Native.Nat.{ℕ, _+_}
-use mathlib.Core.Bool.{Bool, _&&_}
-use mathlib.Core.List.{List, [], _∷_}
-use lib.Dec.{leb}
-use lib.ListN.{getD, set}
+use Rattle.laws.specs.Ground.{ℕ, _+_, Bool, _&&_, List, [], _∷_, leb, getD, set}
 use Rattle.rules.specs.Types.{Edition, One, Two, Range}
 
 -- ── The numbers of the settings ──

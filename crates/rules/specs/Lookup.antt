@@ -1,9 +1,5 @@
 -- The section lookup: the body of a section as a part of the personality, and the number and place of the report.
-use Prim.Native.Nat.{ℕ, _-_}
-use mathlib.Core.Bool.{Bool, not, _&&_, _||_}
-use mathlib.Core.List.{List, [], _∷_}
-use lib.Dec.{leb, eqb}
-use lib.ListN.{getD, take, drop}
+use Rattle.laws.specs.Ground.{ℕ, _-_, Bool, not, _&&_, _||_, List, [], _∷_, eqb, leb, take, drop, getD}
 use Rattle.rules.specs.Types.{Verdict, Accepted, Refused, Report}
 use Rattle.rules.specs.Verdicts.{_orElse_, refuseIf, reportOf}
 use Rattle.rules.specs.Personality.{verdictOf, bodyAt, bodyLength, editionOf, siteKind, siteHead, phasesHead, groupsHead, conflictsHead, detectorsHead, pedestriansHead, earlyHead, hasEarly, orderHead, hasOrder}

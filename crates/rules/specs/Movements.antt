@@ -1,10 +1,6 @@
 -- Part 2 of a step: movements. Walk, C1 and C2 follow each other; each ends when its age has reached its setting, and then the movement is
 -- idle. A walk also goes on until it may end.
-use Prim.Native.Nat.{ℕ, _+_, min}
-use mathlib.Core.Bool.{Bool, true, _&&_, _||_}
-use mathlib.Core.List.{List}
-use lib.Dec.{leb, eqb}
-use lib.ListN.{getD}
+use Rattle.laws.specs.Ground.{ℕ, _+_, min, Bool, true, _&&_, _||_, List, eqb, leb, getD}
 use Rattle.rules.specs.Types.{PhaseTimes, Times, WalkTimes, Counts, Interval, Movement, Stage, Idle, Walk, ClearanceOne, ClearanceTwo}
 use Rattle.laws.specs.Folds.{if_then_else_, listOf}
 use Rattle.rules.specs.Site.{walkTimes}

@@ -1,9 +1,5 @@
 -- Once each while you wait, beside demand 3: from the step that registers a demand until it is met, no phase starts twice.
-use Prim.Native.Nat.{ℕ, _+_, _≤_, _<_}
-use mathlib.Core.Bool.{Bool, true, not, _&&_, _||_}
-use mathlib.Core.List.{List, [], _∷_, _++_}
-use mathlib.Core.Path.{_≡_}
-use lib.Dec.{eqb}
+use Rattle.laws.specs.Ground.{ℕ, _+_, _≤_, _<_, Bool, true, not, _&&_, _||_, List, [], _∷_, _++_, _≡_, eqb}
 use Rattle.rules.specs.Types.{Site, Interval}
 use Rattle.laws.specs.Folds.{if_then_else_}
 use Rattle.rules.specs.Site.{siteOf, crosses}

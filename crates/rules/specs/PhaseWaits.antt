@@ -1,11 +1,6 @@
 -- A wait for every approach and every crossing, beside demand 3: statements about every list of step and retiming calls on an accepted
 -- personality. Some of the calls may be refused.
-use Prim.Native.Nat.{ℕ, _+_, _≤_, _<_, max}
-use mathlib.Core.Bool.{Bool, true, false, not, _&&_, _||_}
-use mathlib.Core.List.{List, [], _∷_, _++_}
-use mathlib.Core.Path.{_≡_}
-use lib.Dec.{eqb}
-use lib.ListN.{length}
+use Rattle.laws.specs.Ground.{ℕ, _+_, _≤_, _<_, max, Bool, true, false, not, _&&_, _||_, List, [], _∷_, _++_, _≡_, eqb, length}
 use Rattle.rules.specs.Types.{Accepted, Site, Times, State}
 use Rattle.rules.specs.Personality.{verdictOf}
 use Rattle.rules.specs.Site.{siteOf, phaseTimes, crosses}

@@ -1,9 +1,5 @@
 -- Runs: lists of step and retiming calls on one personality, and how a controller takes them. Some of the calls may be refused.
-use Prim.Native.Nat.{ℕ}
-use mathlib.Core.Bool.{Bool, not, _&&_}
-use mathlib.Core.List.{List, [], _∷_}
-use mathlib.Core.Path.{_≡_}
-use lib.ListN.{length}
+use Rattle.laws.specs.Ground.{ℕ, Bool, not, _&&_, List, [], _∷_, _≡_, length}
 use Rattle.rules.specs.Types.{Outcome, Stepped, StepRefused, Verdict, Accepted, Site, Times, State}
 use Rattle.rules.specs.Personality.{verdictOf}
 use Rattle.rules.specs.Site.{siteOf, timesIn}

@@ -1,9 +1,5 @@
 -- The site that an accepted personality describes.
-use Prim.Native.Nat.{ℕ, _+_}
-use mathlib.Core.Bool.{Bool}
-use mathlib.Core.List.{List}
-use lib.Dec.{eqb}
-use lib.ListN.{getD}
+use Rattle.laws.specs.Ground.{ℕ, _+_, Bool, List, eqb, getD}
 use Rattle.rules.specs.Types.{Detector, Group, PhaseTimes, Site, Times, WalkTimes}
 use Rattle.laws.specs.Folds.{if_then_else_, listOf, rowOf, countOf, indicesOf}
 use Rattle.laws.specs.Bytes.{twoAt, bit}

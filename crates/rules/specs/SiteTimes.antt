@@ -1,9 +1,5 @@
 -- The times of a site as a value that may be replaced: the site with other times, and the times that a site may have.
-use Prim.Native.Nat.{ℕ, _+_}
-use mathlib.Core.Bool.{Bool, _||_}
-use mathlib.Core.List.{List, [], _∷_}
-use lib.Dec.{ltb, eqb}
-use lib.ListN.{replicate}
+use Rattle.laws.specs.Ground.{ℕ, _+_, Bool, _||_, List, [], _∷_, eqb, ltb, replicate}
 use Rattle.rules.specs.Types.{PhaseTimes, Range, Site, Times, WalkTimes}
 use Rattle.laws.specs.Folds.{if_then_else_, allOf}
 use Rattle.rules.specs.Limits.{limits, within, startRedSetting, phaseSettings, walkSettings, earlySetting}

@@ -1,5 +1,5 @@
 -- One step: the five parts in order. The phase that is demanded next is an argument.
-use Prim.Native.Nat.{ℕ}
+use Rattle.laws.specs.Ground.{ℕ}
 use Rattle.rules.specs.Types.{Site, Times, Held, State}
 use Rattle.rules.specs.Site.{phaseTimes}
 use Rattle.rules.specs.IntervalTable.{isHeld}

@@ -1,9 +1,5 @@
 -- Demand 3 for lists of step calls alone. The personality's own times rule in such a run, and no step is a change. It follows from demand 3.
-use Prim.Native.Nat.{ℕ, _≤_, _<_}
-use mathlib.Core.Bool.{Bool, true}
-use mathlib.Core.List.{List, _∷_, _++_, map}
-use mathlib.Core.Path.{_≡_}
-use lib.ListN.{length, take}
+use Rattle.laws.specs.Ground.{ℕ, _≤_, _<_, Bool, true, List, _∷_, _++_, map, _≡_, length, take}
 use Rattle.rules.specs.Types.{Accepted, Site}
 use Rattle.rules.specs.Site.{siteOf}
 use Rattle.rules.specs.WaitBound.{waitBound}

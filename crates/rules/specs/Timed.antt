@@ -1,7 +1,6 @@
 -- New times while running. The state has the times that rule, and beside them times that may wait. Waiting times rule from the next start
 -- of a phase on.
-use Prim.Native.Nat.{ℕ}
-use mathlib.Core.Bool.{Bool, true, false, _&&_}
+use Rattle.laws.specs.Ground.{ℕ, Bool, true, false, _&&_}
 use Rattle.rules.specs.Types.{Site, Times, KeptState, State}
 use Rattle.laws.specs.Folds.{if_then_else_}
 use Rattle.rules.specs.Site.{phaseTimes}

@@ -1,9 +1,5 @@
 -- The calls on a timed state: the step call, and the retiming call, which hands over the times of a second personality.
-use Prim.Native.Nat.{ℕ}
-use mathlib.Core.Bool.{Bool, true, not, _&&_, _||_}
-use mathlib.Core.List.{List}
-use lib.Dec.{leb, ltb, eqb}
-use lib.ListN.{length}
+use Rattle.laws.specs.Ground.{ℕ, Bool, true, not, _&&_, _||_, List, eqb, leb, ltb, length}
 use Rattle.rules.specs.Types.{Verdict, Site, Times}
 use Rattle.laws.specs.Bytes.{byteAt}
 use Rattle.laws.specs.Folds.{anyOf}

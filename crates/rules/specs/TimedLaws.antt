@@ -1,12 +1,6 @@
 -- Statements about timed states: what a step with waiting times does, that valid states stay valid, that the kept set changes nothing else, and
 -- which times are admitted and which personalities may hand them over. All are over the bytes of an accepted personality.
-use Prim.Native.Nat.{ℕ, _-_, _/_, _%_, _<_}
-use mathlib.Core.Bool.{Bool, true, false, not, _&&_, _||_}
-use mathlib.Core.List.{List, [], _∷_}
-use mathlib.Core.Logic.{_⊎_}
-use mathlib.Core.Path.{_≡_}
-use lib.Dec.{eqb}
-use lib.ListN.{length, getD, replicate}
+use Rattle.laws.specs.Ground.{ℕ, _-_, _/_, _%_, _<_, Bool, true, false, not, _&&_, _||_, List, [], _∷_, _⊎_, _≡_, eqb, length, getD, replicate}
 use Rattle.rules.specs.Types.{Accepted, Refused, PhaseTimes, Times, WalkTimes, KeptState, State}
 use Rattle.laws.specs.Bytes.{byteAt}
 use Rattle.laws.specs.Folds.{if_then_else_, listOf}

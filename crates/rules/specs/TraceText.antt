@@ -1,7 +1,5 @@
 -- What the trace program prints, in ASCII: the header, and the part of each line after the step number.
-use Prim.Native.Nat.{ℕ}
-use mathlib.Core.List.{List, [], _∷_, _++_, map}
-use lib.ListN.{getD}
+use Rattle.laws.specs.Ground.{ℕ, List, [], _∷_, _++_, map, getD}
 use Rattle.rules.specs.Types.{Position}
 use Rattle.rules.specs.IntervalTable.{letterOf}
 

@@ -1,6 +1,5 @@
 -- A verdict is acceptance, or a refusal with its number and place. Of several checks in order, the first refusal is the verdict.
-use Prim.Native.Nat.{ℕ, zero, suc}
-use mathlib.Core.Bool.{Bool}
+use Rattle.laws.specs.Ground.{ℕ, zero, suc, Bool}
 use Rattle.rules.specs.Types.{Verdict, Accepted, Refused, Outcome, Stepped, StepRefused, Report}
 use Rattle.laws.specs.Folds.{if_then_else_}
 

@@ -1,7 +1,5 @@
 -- The wait bound: start red plus the sum over the phases of L + M + X + 2 × (A + E + Y + R + C). E is the time of early cut-off green.
-use Prim.Native.Nat.{ℕ, _+_, _*_}
-use mathlib.Core.List.{List}
-use lib.ListN.{getD}
+use Rattle.laws.specs.Ground.{ℕ, _+_, _*_, List, getD}
 use Rattle.rules.specs.Types.{PhaseTimes, Site, Size, Times, WalkTimes}
 use Rattle.laws.specs.Folds.{if_then_else_, sumOf, greatestOf}
 use Rattle.rules.specs.Site.{noWalkTimes, phaseTimes, crosses}

@@ -1,9 +1,6 @@
 -- A wait for each phase and each movement, by the times alone: what may be under way when the demand comes, then one turn of every other phase,
 -- then the own late start. They stand beside the wait bound, which is one number for the whole site.
-use Prim.Native.Nat.{ℕ, _+_, max}
-use mathlib.Core.Bool.{Bool, true, not, _&&_}
-use mathlib.Core.List.{List, _++_}
-use lib.Dec.{eqb}
+use Rattle.laws.specs.Ground.{ℕ, _+_, max, Bool, true, not, _&&_, List, _++_, eqb}
 use Rattle.rules.specs.Types.{PhaseTimes, Site, WalkTimes}
 use Rattle.laws.specs.Folds.{if_then_else_, sumOf, greatestOf, listOf}
 use Rattle.rules.specs.Site.{phaseTimes, walkTimes, crosses, ring}

@@ -1,8 +1,5 @@
 -- Part 5 of a step: walks.
-use Prim.Native.Nat.{ℕ}
-use mathlib.Core.Bool.{Bool, not, _&&_, _||_}
-use mathlib.Core.List.{List}
-use lib.ListN.{getD}
+use Rattle.laws.specs.Ground.{ℕ, Bool, not, _&&_, _||_, List, getD}
 use Rattle.rules.specs.Types.{Movement, Position, Walk}
 use Rattle.laws.specs.Bytes.{bit}
 use Rattle.laws.specs.Folds.{if_then_else_, listOf, setOf}

@@ -1,7 +1,5 @@
 -- Worked cases, in a single list with one statement: each of them holds.
-use Prim.Native.Nat.{ℕ}
-use mathlib.Core.List.{List, [], _∷_}
-use mathlib.Core.Path.{_≡_}
+use Rattle.laws.specs.Ground.{ℕ, List, [], _∷_, _≡_}
 use lib.IntN.{pos}
 use lib.Ieee.{Float, binary64, ofInt, ofBits}
 use Rattle.rules.specs.CallCases.{AllHold}

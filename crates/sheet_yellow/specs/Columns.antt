@@ -1,6 +1,5 @@
 -- Internal: the table by rows and columns. Row 0 is 40 km/h, column 0 is −10 percent.
-use Prim.Native.Nat.{ℕ, suc, _+_, _-_, _*_, _/_, _%_, max}
-use mathlib.Core.List.{List}
+use Rattle.laws.specs.Ground.{ℕ, suc, _+_, _-_, _*_, _/_, _%_, max, List}
 use lib.IntN.{ℤ, pos, negsuc}
 use Rattle.laws.specs.Folds.{listOf}
 

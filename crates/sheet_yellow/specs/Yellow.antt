@@ -1,14 +1,9 @@
 -- Request nine of document 02: the yellow time by speed and grade. The speed is in whole km/h, the grade in whole percent, uphill
 -- positive.
-use Prim.Native.Nat.{ℕ, _+_, _-_, _*_, max}
-use mathlib.Core.Bool.{Bool, true, false, _&&_}
-use mathlib.Core.List.{List}
-use mathlib.Core.Path.{_≡_}
-use lib.Dec.{leb}
+use Rattle.laws.specs.Ground.{ℕ, _+_, _-_, _*_, max, Bool, true, false, _&&_, List, _≡_, leb, length, getD}
 use lib.IntN.{ℤ, pos, negsuc, natAbs, _+ℤ_, _*ℤ_}
-use lib.ListN.{length, getD}
 use lib.Signed.{leZ}
-use Rattle.rules.specs.declared.answer.Report.{Report}
+use Rattle.rules.specs.Types.{Report}
 use Rattle.laws.specs.Folds.{if_then_else_}
 use Rattle.sheet_settings.specs.Extremes.{Smallest, smallestFrom}
 use Rattle.sheet_yellow.specs.declared.Answer.{Answer}

@@ -1,10 +1,6 @@
 -- Internal: no promise cites this file. What the decoders require of the bytes and their layout, and what one pass over the groups
 -- finds.
-use Prim.Native.Nat.{ℕ, _+_, _*_, _≤_}
-use mathlib.Core.Bool.{true}
-use mathlib.Core.List.{List}
-use mathlib.Core.Path.{_≡_}
-use lib.ListN.{length}
+use Rattle.laws.specs.Ground.{ℕ, _+_, _*_, _≤_, true, List, _≡_, length}
 use Rattle.rules.specs.Personality.{bodyAt, detectorCount, movementCount}
 use Rattle.rules.specs.Site.{siteOf}
 use Rattle.read_layout.specs.declared.Layout.{Layout}

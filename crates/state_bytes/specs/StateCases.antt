@@ -1,11 +1,6 @@
 -- Two states, byte by byte.
-use Prim.Native.Nat.{_+_}
-use mathlib.Core.List.{[], _∷_}
-use mathlib.Core.Path.{_≡_}
-use Rattle.rules.specs.declared.state.Held.the-variants.{Phase}
-use Rattle.rules.specs.declared.state.Interval.the-variants.{Yellow}
-use Rattle.rules.specs.declared.state.Stage.the-variants.{ClearanceOne, ClearanceTwo}
-use Rattle.rules.specs.declared.state.KeptState.{KeptState}
+use Rattle.laws.specs.Ground.{_+_, [], _∷_, _≡_}
+use Rattle.rules.specs.Types.{Phase, Yellow, KeptState, ClearanceOne, ClearanceTwo}
 use Rattle.rules.specs.State.{idle}
 use Rattle.rules.specs.Kept.{freshKept}
 use Rattle.state_bytes.specs.Layout.{encoded}

@@ -5,11 +5,7 @@
 --   7 to 342    the state
 --   343 to 346  the check value of all bytes before
 -- Numbers are little-endian. Check values find damage; they are no protection against intent.
-use Prim.Native.Nat.{ℕ, _+_}
-use mathlib.Core.Bool.{Bool, not, _&&_, _||_}
-use mathlib.Core.List.{List, _∷_, _++_}
-use lib.Dec.{ltb, eqb}
-use lib.ListN.{length, take, drop}
+use Rattle.laws.specs.Ground.{ℕ, _+_, Bool, not, _&&_, _||_, List, _∷_, _++_, eqb, ltb, length, take, drop}
 use Rattle.laws.specs.Bytes.{byteAt, twoAt, fourAt}
 use Rattle.rules.specs.Junctions.{two, four}
 use Rattle.base_crc.specs.Crc.{crc}

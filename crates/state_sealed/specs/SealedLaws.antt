@@ -1,10 +1,6 @@
 -- What holds of sealed records. A record reads back as it was written, and damage and another personality are found, if what differs is within 32
 -- neighbouring bits, and so within four neighbouring bytes. A longer difference can be missed; of all records 1 in 2³² has the right check value.
-use Prim.Native.Nat.{ℕ, _<_}
-use mathlib.Core.Bool.{true, false}
-use mathlib.Core.List.{List}
-use mathlib.Core.Path.{_≡_}
-use lib.ListN.{length}
+use Rattle.laws.specs.Ground.{ℕ, _<_, true, false, List, _≡_, length}
 use Rattle.base_crc.specs.CrcLaws.{SameAround}
 use Rattle.state_forms.specs.Forms.{AreBytes}
 use Rattle.state_timed.specs.TimedLayout.{timedBytes}

@@ -1,7 +1,5 @@
 -- The valid states of a personality, as bytes. A call that takes other bytes is refused with 13 at 0.
-use Prim.Native.Nat.{ℕ}
-use mathlib.Core.Bool.{Bool, _&&_}
-use mathlib.Core.List.{List}
+use Rattle.laws.specs.Ground.{ℕ, Bool, _&&_, List}
 use Rattle.rules.specs.Site.{siteOf}
 use Rattle.rules.specs.Timed.{timedValid}
 use Rattle.state_timed.specs.TimedLayout.{isTimed, timedDecoded}

@@ -1,8 +1,5 @@
 -- Internal: no promise cites this file. An order of phases: the entries of a row from a place on, and the place of a phase.
-use Prim.Native.Nat.{ℕ, zero, suc, _≤_, _<_}
-use mathlib.Core.List.{List, [], _∷_}
-use mathlib.Core.Path.{_≡_}
-use lib.ListN.{getD}
+use Rattle.laws.specs.Ground.{ℕ, zero, suc, _≤_, _<_, List, [], _∷_, _≡_, getD}
 
 -- the n entries from place i on
 unfoldable pub run : List ℕ → ℕ → ℕ → List ℕ

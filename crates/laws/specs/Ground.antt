@@ -1,0 +1,8 @@
+-- The prover's own names in which the definitions are written: numbers from 0 up, tests, lists, either of two, and equality.
+pub use Prim.Native.Nat.{ℕ, zero, suc, _+_, _-_, _*_, _/_, _%_, _^_, _≤_, _<_, max, min}
+pub use mathlib.Core.Bool.{Bool, true, false, not, _&&_, _||_}
+pub use mathlib.Core.List.{List, [], _∷_, _++_, map}
+pub use mathlib.Core.Logic.{_⊎_}
+pub use mathlib.Core.Path.{_≡_}
+pub use lib.Dec.{eqb, leb, ltb}
+pub use lib.ListN.{length, take, drop, getD, replicate, set}
