@@ -167,8 +167,10 @@ board-runs-hold Claim holds buffer long b read calls =
 -- ── The demand ──
 
 pub board-demand-three : BoardDemandThree
-unfolding BoardDemandThree BoardRunsHold DemandThree DemandThreeOf
-board-demand-three = board-runs-hold SafeRun demand-three
+unfolding BoardDemandThree BoardRunsHold DemandThree DemandThreeOf board byRules
+board-demand-three buffer long b read calls =
+    subst (λ (reading : List ℕ → Verdict). SafeRun reading b (takenFrom (board buffer) b (freshAfter b buffer) calls)) (λ i new. sym (read-back new) i)
+    (board-runs-hold (SafeRun verdictOf) demand-three buffer long b read calls)
 
 pub board-once-each : BoardOnceEach
 unfolding BoardOnceEach BoardRunsHold RunsStartOnceEach OnceEachOf

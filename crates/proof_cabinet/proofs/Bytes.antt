@@ -9,6 +9,7 @@ use borrow.Author.Tests.{eqb-true}
 use lib.Dec.{eqb}
 use lib.ListN.{length, set, replicate}
 use Rattle.laws.specs.Folds.{if_then_else_}
+use Rattle.rules.specs.Personality.{verdictOf}
 use Rattle.rules.specs.Site.{siteOf}
 use Rattle.rules.specs.Colours.{red}
 use Rattle.rules.specs.Runs.{Taken, acceptedSteps}
@@ -168,7 +169,7 @@ cabinet-runs-hold-on-bytes Claim holds b out p k first e calls stays =
 
 pub cabinet-demand-three-on-bytes : CabinetDemandThree onBytes
 unfolding CabinetDemandThree CabinetRunsHold DemandThree DemandThreeOf
-cabinet-demand-three-on-bytes = cabinet-runs-hold-on-bytes SafeRun demand-three
+cabinet-demand-three-on-bytes = cabinet-runs-hold-on-bytes (SafeRun verdictOf) demand-three
 
 pub cabinet-once-each-on-bytes : CabinetOnceEach onBytes
 unfolding CabinetOnceEach CabinetRunsHold RunsStartOnceEach OnceEachOf

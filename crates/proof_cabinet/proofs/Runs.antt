@@ -172,7 +172,7 @@ cabinet-runs-hold Claim holds row out b k first e calls stays =
 
 pub cabinet-demand-three : CabinetDemandThree onRecords
 unfolding CabinetDemandThree CabinetRunsHold DemandThree DemandThreeOf
-cabinet-demand-three = cabinet-runs-hold SafeRun demand-three
+cabinet-demand-three = cabinet-runs-hold (SafeRun verdictOf) demand-three
 
 pub cabinet-once-each : CabinetOnceEach onRecords
 unfolding CabinetOnceEach CabinetRunsHold RunsStartOnceEach OnceEachOf

@@ -186,7 +186,7 @@ module _ {Row : Type 0} (cabinet : Cabinet Row) where
       (λ b k first placed.
       (calls : List CabinetCall) →
       StaysIn k (placed .row) calls →
-      SafeRun b (seenAt k (placed .row) calls))
+      SafeRun verdictOf b (seenAt k (placed .row) calls))
 
   -- While a demand waits, no phase starts twice.
   unfoldable pub CabinetOnceEach : Type 0

@@ -68,7 +68,7 @@ module _ (b : List ℕ) (known : verdictOf b ≡ Accepted) where
 
   -- ── Lists of calls ──
 
-  own-from : (calls : List Call) (s : TimedState) → timedValid (siteOf b) s ≡ true → Each (λ call later. AnswersOwn b call) (takenFrom byRules b s calls)
+  own-from : (calls : List Call) (s : TimedState) → timedValid (siteOf b) s ≡ true → Each (λ call later. AnswersOwn verdictOf b call) (takenFrom byRules b s calls)
   unfolding takenFrom byRules AnswersOwn
   own-from [] s valid = tt
   own-from (stepCall c ∷ calls) s valid =
@@ -81,7 +81,7 @@ module _ (b : List ℕ) (known : verdictOf b ≡ Accepted) where
       let v = retimeVerdict b s new in
       (retime-own s valid new, own-from calls (handedBack v (retimed s (timesIn new)) s) (retime-valid s valid new v refl))
 
-  pub no-dead-end : (calls : List Call) (s : TimedState) → timedValid (siteOf b) s ≡ true → NoDeadEnd b (takenFrom byRules b s calls)
+  pub no-dead-end : (calls : List Call) (s : TimedState) → timedValid (siteOf b) s ≡ true → NoDeadEnd verdictOf b (takenFrom byRules b s calls)
   unfolding NoDeadEnd
   no-dead-end calls s valid earlier later call split =
-      each-at (λ call later. AnswersOwn b call) (takenFrom byRules b s calls) earlier later call split (own-from calls s valid)
+      each-at (λ call later. AnswersOwn verdictOf b call) (takenFrom byRules b s calls) earlier later call split (own-from calls s valid)

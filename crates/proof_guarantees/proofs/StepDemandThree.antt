@@ -12,6 +12,7 @@ use Rattle.rules.specs.declared.answer.Verdict.{Verdict}
 use Rattle.rules.specs.declared.answer.Verdict.the-variants.{Accepted, Refused}
 use Rattle.rules.specs.declared.site.Site.{Site}
 use Rattle.rules.specs.declared.site.Times.{Times}
+use Rattle.rules.specs.Personality.{verdictOf}
 use Rattle.rules.specs.Site.{siteOf}
 use Rattle.rules.specs.SiteTimes.{under}
 use Rattle.rules.specs.Timed.{TimedState, noneWaiting, freshTimed, timedStepped, takesOver, rulingNext}
@@ -128,7 +129,7 @@ module _ (b : List ℕ) where
           λ k l r. in-time step later rest long (walkBegins k) (met .1 k l r),
         )
 
-  answers-own : (calls : List Taken) → Each (λ call later. OwnTaken call) calls → NoDeadEnd b calls → AnswersBound site calls
+  answers-own : (calls : List Taken) → Each (λ call later. OwnTaken call) calls → NoDeadEnd verdictOf b calls → AnswersBound site calls
   unfolding NoDeadEnd AnswersOwn AnswersBound OwnTaken
   answers-own calls own holds earlier later step split =
       let at = each-at (λ call later. OwnTaken call) calls earlier later (stepTaken step) split own in

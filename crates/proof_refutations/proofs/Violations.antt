@@ -225,7 +225,7 @@ module _ {S : Type 0} (controller : Controller S) (b : List ℕ) (known : contro
   told (stepTaken step) = (step .outcome, boundFor (ownVerdict (siteOf b) step) (waitBound (siteAfter (siteOf b) step)))
   told (retimeTaken new verdict) = (StepRefused 0 0, StepRefused 0 0)
 
-  told-same : (call : Taken) → AnswersOwn b call → told call .0 ≡ told call .1
+  told-same : (call : Taken) → AnswersOwn (controller .verdict) b call → told call .0 ≡ told call .1
   unfolding AnswersOwn
   told-same (stepTaken step) own = own
   told-same (retimeTaken new verdict) own = refl

@@ -3,7 +3,6 @@ use Rattle.laws.specs.Ground.{ℕ, _+_, _≤_, _<_, Bool, true, false, not, _&&
 use Rattle.rules.specs.Types.{Verdict, Site, State}
 use Rattle.laws.specs.Folds.{if_then_else_}
 use Rattle.rules.specs.Verdicts.{_orElse_, refuseIf}
-use Rattle.rules.specs.Personality.{verdictOf}
 use Rattle.rules.specs.Site.{siteOf, phaseTimes, walkTimes, isPedestrian, movementOf, conflict}
 use Rattle.rules.specs.IntervalTable.{isMinimumGreen, isRunning, isWalk}
 use Rattle.rules.specs.State.{movement}
@@ -144,25 +143,25 @@ DemandsMet site steps =
 abbrev pub ownVerdict : Site → Step → Verdict
 ownVerdict site step = refuseIf (strayInput site (step .inputs)) 15 0 orElse refuseIf (ltb (step .room) (site .size .groups)) 14 0
 
--- Every other step call is accepted, and its answer has the wait of the times that rule after it. A retiming call is refused as its new
--- personality is, else with 26 at 0 if this differs elsewhere; every other one is accepted.
-unfoldable pub AnswersOwn : List ℕ → Taken → Type 0
-AnswersOwn b (stepTaken step) = step .outcome ≡ boundFor (ownVerdict (siteOf b) step) (waitBound (siteAfter (siteOf b) step))
-AnswersOwn b (retimeTaken new verdict) = verdict ≡ (verdictOf new orElse refuseIf (differsElsewhere b new) 26 0)
+-- Every other step call is accepted, and its answer has the wait of the times that rule after it. A retiming call is refused as `read` refuses its
+-- new personality, else with 26 at 0 if this differs elsewhere; every other one is accepted. `read` is the controller's own verdict on bytes.
+unfoldable pub AnswersOwn : (List ℕ → Verdict) → List ℕ → Taken → Type 0
+AnswersOwn read b (stepTaken step) = step .outcome ≡ boundFor (ownVerdict (siteOf b) step) (waitBound (siteAfter (siteOf b) step))
+AnswersOwn read b (retimeTaken new verdict) = verdict ≡ (read new orElse refuseIf (differsElsewhere b new) 26 0)
 
-unfoldable pub NoDeadEnd : List ℕ → List Taken → Type 0
-NoDeadEnd b calls = (earlier later : List Taken) (call : Taken) → calls ≡ earlier ++ call ∷ later → AnswersOwn b call
+unfoldable pub NoDeadEnd : (List ℕ → Verdict) → List ℕ → List Taken → Type 0
+NoDeadEnd read b calls = (earlier later : List Taken) (call : Taken) → calls ≡ earlier ++ call ∷ later → AnswersOwn read b call
 
 -- ── The demand ──
 
-pub record SafeRun (b : List ℕ) (calls : List Taken) : Type 0 where
+pub record SafeRun (read : List ℕ → Verdict) (b : List ℕ) (calls : List Taken) : Type 0 where
   pub noConflictingGreens : NoConflictingGreens (siteOf b) (acceptedSteps calls)
   pub fullClearances : FullClearances (siteOf b) (acceptedSteps calls)
   pub demandsMet : DemandsMet (siteOf b) (acceptedSteps calls)
-  pub noDeadEnd : NoDeadEnd b calls
+  pub noDeadEnd : NoDeadEnd read b calls
 
 unfoldable pub DemandThreeOf : {S : Type 0} → Controller S → Type 0
-DemandThreeOf controller = OfEveryRun controller SafeRun
+DemandThreeOf controller = OfEveryRun controller (SafeRun (controller .verdict))
 
 unfoldable pub DemandThree : Type 0
 DemandThree = DemandThreeOf byRules
@@ -179,4 +178,4 @@ unfoldable pub RunsMeetDemands : Type 0
 RunsMeetDemands = OfEveryRun byRules (λ b calls. DemandsMet (siteOf b) (acceptedSteps calls))
 
 unfoldable pub RunsHaveNoDeadEnd : Type 0
-RunsHaveNoDeadEnd = OfEveryRun byRules NoDeadEnd
+RunsHaveNoDeadEnd = OfEveryRun byRules (NoDeadEnd (byRules .verdict))
