@@ -189,5 +189,5 @@ pub fn blank(bytes: &[u8], at: usize) -> bool
     requires { ⌜ at + timesForm .width ≤ length (now bytes) ⌝ }
     ensures { λ r. ⌜ ((site : Site) → r ≡ blank site (timesForm .read (now (bytes .entry)) at)) ⌝ }
 {
-    zeros::all(bytes, at, TIMES_BYTES)
+    zeros::all(bytes, at, TIMES_BYTES / 4)
 }
