@@ -1,19 +1,12 @@
--- The table of each edition has an entry for each setting, and a setting outside a table admits 0 alone.
+-- A setting outside a table admits 0 alone.
 use Prim.Native.Nat.{ℕ, zero, suc, _≤_}
 use mathlib.Core.Bool.{_&&_}
 use mathlib.Core.List.{List}
 use mathlib.Core.Path.{_≡_, refl, subst⁻¹}
 use lib.Dec.{leb, eqb, leb·zero, leb·suc-zero, eqb·suc-zero}
 use lib.ListN.{length, List·getD-eq-default}
-use Rattle.rules.specs.declared.site.Edition.{Edition}
-use Rattle.rules.specs.declared.site.Edition.the-variants.{One, Two}
 use Rattle.rules.specs.declared.site.Range.{Range}
-use Rattle.rules.specs.Limits.{limits, limitOf, within, settingCount}
-
-pub table-length : (edition : Edition) → length (limits edition) ≡ settingCount
-unfolding limits
-table-length One = refl
-table-length Two = refl
+use Rattle.rules.specs.Limits.{limitOf, within}
 
 zero-alone : (v : ℕ) → eqb v 0 ≡ (leb 0 v && leb v 0)
 zero-alone zero = refl

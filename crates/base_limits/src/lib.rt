@@ -1,5 +1,6 @@
-// The tables of the lowest and highest values of the time settings, in steps of 0.1 s, one for each edition of the limits. The reader checks
-// every time with the table of the personality's edition, and the largest possible wait bound is computed from it.
+// The tables of the lowest and highest values of the time settings, in steps of 0.1 s, one for each edition of the limits. The reader takes
+// the table of the personality's edition once for each section and checks every time of the section with it; the test of a state takes it
+// once for a set of times.
 ghost use mathlib.Core.Path.{_≡_};
 ghost use Rattle.rules.specs.Limits.{limits, within};
 use rules::site::Edition;
@@ -51,13 +52,12 @@ pub fn limits(edition: Edition) -> [Range; 11]
     }
 }
 
-// Whether the edition allows the value for the setting. A setting outside the table allows only 0.
-pub fn within(edition: Edition, setting: usize, value: u16) -> bool
-    ensures { λ r. ⌜ r ≡ within (limits edition) setting value ⌝ }
+// Whether a table allows the value for the setting. A setting outside the table allows only 0.
+pub fn within(table: [Range; 11], setting: usize, value: u16) -> bool
+    ensures { λ r. ⌜ r ≡ within table setting value ⌝ }
 {
-    let ranges = limits(edition);
-    if setting < ranges.len() {
-        let range = ranges[setting];
+    if setting < table.len() {
+        let range = table[setting];
         (range.low <= value) & (value <= range.high)
     } else {
         value == 0

@@ -4,6 +4,7 @@ ghost use Rattle.rules.specs.declared.answer.Verdict.the-variants.{Accepted};
 ghost use Rattle.laws.specs.Folds.{anyOf};
 ghost use Rattle.rules.specs.Personality.{groupCount, groupsSection, stopsEarly, earlySection, earlyMissing};
 ghost use Rattle.read_layout.specs.LayoutOf.{LayoutOf};
+use base_limits::limits;
 use read_layout::Layout;
 use read_layout::edition_of;
 use read_sections::records::pair_at;
@@ -18,9 +19,9 @@ pub fn early_section(s: &[u8], layout: Layout) -> Verdict
     if !layout.hasearly {
         return Verdict::Accepted;
     }
-    let edition = edition_of(s);
+    let table = limits(edition_of(s));
     let phases = layout.phasecount as usize;
-    timed_section(s, edition, layout.early, 7, 10, 1, phases)
+    timed_section(s, table, layout.early, 7, 10, 1, phases)
 }
 
 // 17: if kind 7 is missing, refuses at the first group that stops early. `some` says if there is one. Kind 3 is accepted before.

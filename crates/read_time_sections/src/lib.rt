@@ -3,6 +3,7 @@ ghost use Prim.Native.Nat.{_≤_};
 ghost use mathlib.Core.Path.{_≡_};
 ghost use Rattle.rules.specs.Personality.{movementCount, siteSection, phasesSection, pedestriansSection};
 ghost use Rattle.read_layout.specs.LayoutOf.{LayoutOf};
+use base_limits::limits;
 use read_layout::Layout;
 use read_layout::edition_of;
 use read_layout::site_kind;
@@ -35,7 +36,7 @@ pub fn site_section(s: &[u8], layout: Layout) -> Verdict
             place: 5,
         };
     }
-    time_at(s, edition, 6, 0)
+    time_at(s, limits(edition), 6, 0)
 }
 
 // Kind 2: a record of L, M, X, G, Y, R for each phase.
@@ -43,8 +44,8 @@ pub fn phases_section(s: &[u8], layout: Layout) -> Verdict
     requires { ⌜ LayoutOf (now s) layout ⌝ }
     ensures { λ r. ⌜ r ≡ phasesSection (now (s .entry)) ⌝ }
 {
-    let edition = edition_of(s);
-    timed_section(s, edition, 8, 2, 1, 6, layout.phasecount as usize)
+    let table = limits(edition_of(s));
+    timed_section(s, table, 8, 2, 1, 6, layout.phasecount as usize)
 }
 
 // Kind 6: a record of W, C1, C2 for each movement.
@@ -52,6 +53,6 @@ pub fn pedestrians_section(s: &[u8], layout: Layout, movements: usize) -> Verdic
     requires { ⌜ LayoutOf (now s) layout × (movements ≡ movementCount (now s)) × (movements ≤ 8) ⌝ }
     ensures { λ r. ⌜ r ≡ pedestriansSection (now (s .entry)) ⌝ }
 {
-    let edition = edition_of(s);
-    timed_section(s, edition, layout.pedestrians, 6, 7, 3, movements)
+    let table = limits(edition_of(s));
+    timed_section(s, table, layout.pedestrians, 6, 7, 3, movements)
 }

@@ -1,14 +1,15 @@
--- Several bytes as one number. Equal numbers have equal pairs of bytes, and the number is 0 exactly if each pair is.
-use Prim.Native.Nat.{ℕ, _+_, _*_, _<_}
+-- Several bytes as one number. Equal numbers have equal pairs of bytes, and the number is 0 exactly if each of its bytes is.
+use Prim.Native.Nat.{ℕ, suc, _+_, _*_, _<_}
 use mathlib.Core.Bool.{Bool, _&&_, and-assoc}
 use mathlib.Core.List.{List, []}
-use mathlib.Core.Path.{_≡_, ap, _∙_}
-use native.Mathlib.Nat.{add-zero}
+use mathlib.Core.Path.{_≡_, refl, ap, _∙_}
+use native.Mathlib.Nat.{add-zero, mul-zero, suc-mul}
 use native.Mathlib.Omega.{arith}
 use lib.Dec.{eqb}
 use borrow.Author.Tests.{eqb-true, eq-eqb}
-use Rattle.laws.specs.Bytes.{twoAt, fourAt, eightAt}
+use Rattle.laws.specs.Bytes.{byteAt, twoAt, fourAt, eightAt}
 use Rattle.laws.proofs.Booleans.{and-left, and-right, and-both, same-tests}
+use Rattle.laws.proofs.Folds.{Tested, tested-more}
 use Rattle.state_forms.specs.Forms.{AreBytes}
 use Rattle.rules.specs.SiteTimes.{phaseWithin, walkWithin}
 use Rattle.state_times.specs.TimesLayout.{phaseRows, phaseOf, walk}
@@ -64,26 +65,44 @@ module _ {a b : List ℕ} (first : AreBytes a) (second : AreBytes b) where
 
 -- ── The number 0 ──
 
+-- a number and a multiple of another add up to 0 exactly if both numbers are 0
+sum-zero : (m x y : ℕ) → eqb (x + suc m * y) 0 ≡ (eqb x 0 && eqb y 0)
+sum-zero m x y =
+    same-tests _ _
+    (λ t. let e = eqb-true (x + suc m * y) 0 t in and-both (eq-eqb x 0 (omega (arith, e))) (eq-eqb y 0 (omega (arith, e, suc-mul m y))))
+    (λ t.
+    let low = eqb-true x 0 (and-left _ _ t) in
+    let high = eqb-true y 0 (and-right (eqb x 0) _ t) in
+    rw (low, high, mul-zero (suc m)))
+
 module _ (b : List ℕ) where
+  two-zero : (i : ℕ) → eqb (twoAt b i) 0 ≡ (eqb (byteAt b i) 0 && eqb (byteAt b (i + 1)) 0)
+  unfolding twoAt
+  two-zero i = sum-zero 255 (byteAt b i) (byteAt b (i + 1))
+
   four-zero : (i : ℕ) → eqb (fourAt b i) 0 ≡ (eqb (twoAt b i) 0 && eqb (twoAt b (i + 2)) 0)
   unfolding fourAt
-  four-zero i =
-      same-tests _ _
-      (λ t. let e = eqb-true (twoAt b i + 65536 * twoAt b (i + 2)) 0 t in and-both (eq-eqb (twoAt b i) 0 (omega (arith, e))) (eq-eqb (twoAt b (i + 2)) 0 (omega (arith, e))))
-      (λ t.
-      let low = eqb-true (twoAt b i) 0 (and-left _ _ t) in
-      let high = eqb-true (twoAt b (i + 2)) 0 (and-right (eqb (twoAt b i) 0) _ t) in
-      eq-eqb (twoAt b i + 65536 * twoAt b (i + 2)) 0 (omega (arith, low, high)))
+  four-zero i = sum-zero 65535 (twoAt b i) (twoAt b (i + 2))
 
   eight-zero : (i : ℕ) → eqb (eightAt b i) 0 ≡ (eqb (fourAt b i) 0 && eqb (fourAt b (i + 4)) 0)
   unfolding eightAt
-  eight-zero i =
-      same-tests _ _
-      (λ t. let e = eqb-true (fourAt b i + 4294967296 * fourAt b (i + 4)) 0 t in and-both (eq-eqb (fourAt b i) 0 (omega (arith, e))) (eq-eqb (fourAt b (i + 4)) 0 (omega (arith, e))))
-      (λ t.
-      let low = eqb-true (fourAt b i) 0 (and-left _ _ t) in
-      let high = eqb-true (fourAt b (i + 4)) 0 (and-right (eqb (fourAt b i) 0) _ t) in
-      eq-eqb (fourAt b i + 4294967296 * fourAt b (i + 4)) 0 (omega (arith, low, high)))
+  eight-zero i = sum-zero 4294967295 (fourAt b i) (fourAt b (i + 4))
+
+  -- a run of bytes, tested by four at once
+  pub four-tested :
+      (at : ℕ) {n i : ℕ} {all own : Bool} →
+      Tested (λ k. eqb (byteAt b (at + k)) 0) (4 * n) all (4 * i) →
+      i < n →
+      own ≡ eqb (fourAt b (at + 4 * i)) 0 →
+      Tested (λ k. eqb (byteAt b (at + k)) 0) (4 * n) (all && own) (4 * (i + 1))
+  four-tested at {n} {i} h l e =
+      let k = 4 * i in
+      let last = tested-more (tested-more (tested-more (tested-more h (omega arith) refl) (omega arith) refl) (omega arith) refl) (omega arith) refl in
+      let next : 4 * (i + 1) ≡ k + 1 + 1 + 1 + 1 = omega arith in
+      let second : at + k + 1 ≡ at + (k + 1) = omega arith in
+      let third : at + k + 2 ≡ at + (k + 1 + 1) = omega arith in
+      let fourth : at + (k + 1 + 1) + 1 ≡ at + (k + 1 + 1 + 1) = omega arith in
+      rw (next, e, four-zero (at + k), two-zero (at + k), two-zero (at + k + 2), second, third, fourth) (simp and-assoc (simp and-assoc at last))
 
   pub phase-zero :
       (at early : ℕ) (has : Bool) →

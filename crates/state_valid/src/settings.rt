@@ -18,11 +18,12 @@ ghost use Rattle.state_times.specs.TimeRows.{phaseIn, walkIn};
 use crate::same;
 use crate::zeros;
 use base_bytes::two_in;
+use base_limits::limits;
 use base_limits::within;
 use read_layout::Layout;
 use read_layout::edition_of;
-use rules::site::Edition;
 use rules::site::PhaseTimes;
+use rules::site::Range;
 use rules::site::WalkTimes;
 use state_times::EARLIES;
 use state_times::EARLY;
@@ -35,26 +36,24 @@ use state_times::phases;
 use state_times::walks;
 
 // The settings of a phase of the site, by their numbers in the table; `early` says if it has a section of kind 7.
-fn phase_within(edition: Edition, early: bool, times: PhaseTimes) -> bool
-    ensures { λ r. ⌜ r ≡ phaseWithin (limits edition) early times ⌝ }
+fn phase_within(table: [Range; 11], early: bool, times: PhaseTimes) -> bool
+    ensures { λ r. ⌜ r ≡ phaseWithin table early times ⌝ }
 {
-    within(edition, 1, times.late)
-        & within(edition, 2, times.minimum)
-        & within(edition, 3, times.maximum)
-        & within(edition, 4, times.gap)
-        & within(edition, 5, times.yellow)
-        & within(edition, 6, times.red)
-        & within(edition, 10, times.early)
+    within(table, 1, times.late)
+        & within(table, 2, times.minimum)
+        & within(table, 3, times.maximum)
+        & within(table, 4, times.gap)
+        & within(table, 5, times.yellow)
+        & within(table, 6, times.red)
+        & within(table, 10, times.early)
         & (early | (times.early == 0))
 }
 
 // The settings of a movement of the site.
-fn walk_within(edition: Edition, times: WalkTimes) -> bool
-    ensures { λ r. ⌜ r ≡ walkWithin (limits edition) times ⌝ }
+fn walk_within(table: [Range; 11], times: WalkTimes) -> bool
+    ensures { λ r. ⌜ r ≡ walkWithin table times ⌝ }
 {
-    within(edition, 7, times.walk)
-        & within(edition, 8, times.first)
-        & within(edition, 9, times.second)
+    within(table, 7, times.walk) & within(table, 8, times.first) & within(table, 9, times.second)
 }
 
 // Whether the times of phase p, which the site has, are the personality's own: its record at a place, and its kind 7 time.
@@ -72,14 +71,14 @@ fn is_own_phase(s: &[u8], layout: Layout, p: usize, bytes: &[u8], place: usize, 
 fn own_phase_admitted(
     s: &[u8],
     layout: Layout,
-    edition: Edition,
+    table: [Range; 11],
     bytes: &[u8],
     at: usize,
     p: usize,
 ) -> bool
-    requires { ⌜ (verdictOf (now s) ≡ Accepted) × LayoutOf (now s) layout × (edition ≡ editionOf (now s)) × (p < layout .phasecount)
+    requires { ⌜ (verdictOf (now s) ≡ Accepted) × LayoutOf (now s) layout × (table ≡ limits (editionOf (now s))) × (p < layout .phasecount)
         × (at + timesForm .width ≤ length (now bytes)) ⌝ }
-    ensures { λ r. ⌜ r ≡ phaseWithin (limits edition) (layout .hasearly) (phaseIn (now (bytes .entry)) (at + phasesAt) (at + earliesAt) true p) ⌝ }
+    ensures { λ r. ⌜ r ≡ phaseWithin table (layout .hasearly) (phaseIn (now (bytes .entry)) (at + phasesAt) (at + earliesAt) true p) ⌝ }
 {
     let place = at + PHASES + p * PHASE;
     let early = two_in(bytes, at + EARLIES + p * EARLY);
@@ -87,7 +86,7 @@ fn own_phase_admitted(
         return true;
     }
     phase_within(
-        edition,
+        table,
         layout.hasearly,
         phases::read_one(bytes, place, early),
     )
@@ -97,30 +96,30 @@ fn own_phase_admitted(
 fn phase_admitted(
     s: &[u8],
     layout: Layout,
-    edition: Edition,
+    table: [Range; 11],
     bytes: &[u8],
     at: usize,
     p: usize,
 ) -> bool
-    requires { ⌜ (verdictOf (now s) ≡ Accepted) × LayoutOf (now s) layout × (edition ≡ editionOf (now s)) × (p < 7) × (at + timesForm .width ≤ length (now bytes)) ⌝ }
-    ensures { λ r. ⌜ r ≡ phaseWithin (recordLimits (limits edition) (layout .phasecount) p) (layout .hasearly)
+    requires { ⌜ (verdictOf (now s) ≡ Accepted) × LayoutOf (now s) layout × (table ≡ limits (editionOf (now s))) × (p < 7) × (at + timesForm .width ≤ length (now bytes)) ⌝ }
+    ensures { λ r. ⌜ r ≡ phaseWithin (recordLimits table (layout .phasecount) p) (layout .hasearly)
         (phaseIn (now (bytes .entry)) (at + phasesAt) (at + earliesAt) true p) ⌝ }
 {
     if p < layout.phasecount as usize {
-        return own_phase_admitted(s, layout, edition, bytes, at, p);
+        return own_phase_admitted(s, layout, table, bytes, at, p);
     }
     let early = two_in(bytes, at + EARLIES + p * EARLY);
     zeros::phase(bytes, at + PHASES + p * PHASE, early)
 }
 
-fn phases_admitted(s: &[u8], layout: Layout, edition: Edition, bytes: &[u8], at: usize) -> bool
-    requires { ⌜ (verdictOf (now s) ≡ Accepted) × LayoutOf (now s) layout × (edition ≡ editionOf (now s)) × (at + timesForm .width ≤ length (now bytes)) ⌝ }
-    ensures { λ r. ⌜ r ≡ allOf (λ p. phaseWithin (recordLimits (limits edition) (layout .phasecount) p) (layout .hasearly)
+fn phases_admitted(s: &[u8], layout: Layout, table: [Range; 11], bytes: &[u8], at: usize) -> bool
+    requires { ⌜ (verdictOf (now s) ≡ Accepted) × LayoutOf (now s) layout × (table ≡ limits (editionOf (now s))) × (at + timesForm .width ≤ length (now bytes)) ⌝ }
+    ensures { λ r. ⌜ r ≡ allOf (λ p. phaseWithin (recordLimits table (layout .phasecount) p) (layout .hasearly)
         (phaseIn (now (bytes .entry)) (at + phasesAt) (at + earliesAt) true p)) 7 ⌝ }
 {
     let mut p: usize = 0;
     while p < 7 {
-        if !phase_admitted(s, layout, edition, bytes, at, p) {
+        if !phase_admitted(s, layout, table, bytes, at, p) {
             return false;
         }
         p += 1;
@@ -132,22 +131,22 @@ fn phases_admitted(s: &[u8], layout: Layout, edition: Edition, bytes: &[u8], at:
 fn walk_admitted(
     s: &[u8],
     layout: Layout,
-    edition: Edition,
+    table: [Range; 11],
     movements: usize,
     bytes: &[u8],
     at: usize,
     k: usize,
 ) -> bool
-    requires { ⌜ (verdictOf (now s) ≡ Accepted) × LayoutOf (now s) layout × (edition ≡ editionOf (now s)) × (movements ≡ movementCount (now s)) × (k < 8)
+    requires { ⌜ (verdictOf (now s) ≡ Accepted) × LayoutOf (now s) layout × (table ≡ limits (editionOf (now s))) × (movements ≡ movementCount (now s)) × (k < 8)
         × (at + timesForm .width ≤ length (now bytes)) ⌝ }
-    ensures { λ r. ⌜ r ≡ walkWithin (recordLimits (limits edition) movements k) (walkIn (now (bytes .entry)) (at + walksAt) k) ⌝ }
+    ensures { λ r. ⌜ r ≡ walkWithin (recordLimits table movements k) (walkIn (now (bytes .entry)) (at + walksAt) k) ⌝ }
 {
     let place = at + WALKS + k * WALK;
     if k < movements {
         if same::walk(s, layout.pedestrians + 4 + k * WALK, bytes, place) {
             return true;
         }
-        return walk_within(edition, walks::read_one(bytes, place));
+        return walk_within(table, walks::read_one(bytes, place));
     }
     zeros::walk(bytes, place)
 }
@@ -155,18 +154,18 @@ fn walk_admitted(
 fn walks_admitted(
     s: &[u8],
     layout: Layout,
-    edition: Edition,
+    table: [Range; 11],
     movements: usize,
     bytes: &[u8],
     at: usize,
 ) -> bool
-    requires { ⌜ (verdictOf (now s) ≡ Accepted) × LayoutOf (now s) layout × (edition ≡ editionOf (now s)) × (movements ≡ movementCount (now s))
+    requires { ⌜ (verdictOf (now s) ≡ Accepted) × LayoutOf (now s) layout × (table ≡ limits (editionOf (now s))) × (movements ≡ movementCount (now s))
         × (at + timesForm .width ≤ length (now bytes)) ⌝ }
-    ensures { λ r. ⌜ r ≡ allOf (λ k. walkWithin (recordLimits (limits edition) movements k) (walkIn (now (bytes .entry)) (at + walksAt) k)) 8 ⌝ }
+    ensures { λ r. ⌜ r ≡ allOf (λ k. walkWithin (recordLimits table movements k) (walkIn (now (bytes .entry)) (at + walksAt) k)) 8 ⌝ }
 {
     let mut k: usize = 0;
     while k < 8 {
-        if !walk_admitted(s, layout, edition, movements, bytes, at, k) {
+        if !walk_admitted(s, layout, table, movements, bytes, at, k) {
             return false;
         }
         k += 1;
@@ -179,10 +178,10 @@ pub fn admitted(s: &[u8], layout: Layout, movements: usize, bytes: &[u8], at: us
     requires { ⌜ (verdictOf (now s) ≡ Accepted) × LayoutOf (now s) layout × (movements ≡ movementCount (now s)) × (at + timesForm .width ≤ length (now bytes)) ⌝ }
     ensures { λ r. ⌜ r ≡ admitted (siteOf (now (s .entry))) (timesForm .read (now (bytes .entry)) at) ⌝ }
 {
-    let edition = edition_of(s);
-    within(edition, 0, two_in(bytes, at))
-        & phases_admitted(s, layout, edition, bytes, at)
-        & walks_admitted(s, layout, edition, movements, bytes, at)
+    let table = limits(edition_of(s));
+    within(table, 0, two_in(bytes, at))
+        & phases_admitted(s, layout, table, bytes, at)
+        & walks_admitted(s, layout, table, movements, bytes, at)
 }
 
 // Whether every time in these bytes is 0. This does not depend on the site.
@@ -190,5 +189,5 @@ pub fn blank(bytes: &[u8], at: usize) -> bool
     requires { ⌜ at + timesForm .width ≤ length (now bytes) ⌝ }
     ensures { λ r. ⌜ ((site : Site) → r ≡ blank site (timesForm .read (now (bytes .entry)) at)) ⌝ }
 {
-    zeros::all(bytes, at, TIMES_BYTES)
+    zeros::all(bytes, at, TIMES_BYTES / 4)
 }

@@ -1,5 +1,5 @@
 // Whether times are 0: the settings of a record that a site does not have, and a run of bytes.
-ghost use Prim.Native.Nat.{_+_, _≤_};
+ghost use Prim.Native.Nat.{_+_, _*_, _≤_};
 ghost use mathlib.Core.Bool.{Bool};
 ghost use mathlib.Core.List.{[]};
 ghost use mathlib.Core.Path.{_≡_};
@@ -29,15 +29,15 @@ pub fn walk(bytes: &[u8], at: usize) -> bool
     (four_in(bytes, at) == 0) & (two_in(bytes, at + 4) == 0)
 }
 
-// All of so many bytes. The loop tests them all, so that the compiler tests many at once.
-pub fn all(bytes: &[u8], at: usize, count: usize) -> bool
-    requires { ⌜ at + count ≤ length (now bytes) ⌝ }
-    ensures { λ r. ⌜ r ≡ allOf (λ i. eqb (byteAt (now (bytes .entry)) (at + i)) 0) count ⌝ }
+// A run of bytes, as numbers of four bytes; `fours` is how many.
+pub fn all(bytes: &[u8], at: usize, fours: usize) -> bool
+    requires { ⌜ at + 4 * fours ≤ length (now bytes) ⌝ }
+    ensures { λ r. ⌜ r ≡ allOf (λ i. eqb (byteAt (now (bytes .entry)) (at + i)) 0) (4 * fours) ⌝ }
 {
     let mut zero = true;
     let mut i: usize = 0;
-    while i < count {
-        zero = zero & (bytes[at + i] == 0);
+    while i < fours {
+        zero = zero & (four_in(bytes, at + 4 * i) == 0);
         i += 1;
     }
     zero

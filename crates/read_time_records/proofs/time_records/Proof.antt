@@ -13,11 +13,11 @@ use Rattle.read_time_records.proofs.time_records.Statement.{statement}
 use Rattle.read_time_records.proofs.time_records.Tie as tie
 
 abbrev Inv-loop : tie.InvT-loop
-Inv-loop s edition head setting fields count place₀ i₀ place i =
+Inv-loop s table head setting fields count place₀ i₀ place i =
     (i ≤ count) × (place ≡ recordAt head (fields * 2) i) × (timeRecords s head setting fields i ≡ Accepted)
 
 abbrev μ-loop : tie.MeasureT-loop
-μ-loop s edition head setting fields count place₀ i₀ place i = count - i
+μ-loop s table head setting fields count place₀ i₀ place i = count - i
 
 add-place : tie.Need-add-place Inv-loop μ-loop
 add-place c = search needs

@@ -17,10 +17,10 @@ abbrev fieldOf : List ℕ → ℕ → ℕ → ℕ → Verdict
 fieldOf b place setting f = timeAt b (place + f * 2) (setting + f)
 
 abbrev Inv-loop : tie.InvT-loop
-Inv-loop s edition place setting fields f₀ f = (f ≤ fields) × (firstOf (fieldOf s place setting) f ≡ Accepted)
+Inv-loop s table place setting fields f₀ f = (f ≤ fields) × (firstOf (fieldOf s place setting) f ≡ Accepted)
 
 abbrev μ-loop : tie.MeasureT-loop
-μ-loop s edition place setting fields f₀ f = fields - f
+μ-loop s table place setting fields f₀ f = fields - f
 
 loop-holds : tie.Need-loop-holds Inv-loop μ-loop
 unfolding firstOf

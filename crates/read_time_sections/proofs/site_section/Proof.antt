@@ -1,7 +1,8 @@
 -- `read_time_sections::site_section` meets its contract: head of the edition's kind, the two counts and start red in order, the first refusal being the answer.
-use mathlib.Core.Path.{_≡_, refl, sym, _∙_}
+use mathlib.Core.Path.{_≡_, refl, sym, ap, _∙_}
 use lib.Dec.{eqb}
 use native.Mathlib.Omega.{arith}
+use Rattle.rules.specs.Limits.{limits}
 use Rattle.rules.specs.Personality.{bodyAt, bodyLength, siteHead, siteKind, editionOf, sectionAt, siteSection}
 use Rattle.rules.proofs.Verdicts.{refuse-yes, refuse-no, or-next, or-stop}
 use Rattle.proof_acceptance.proofs.Sections.{records-held}
@@ -49,15 +50,15 @@ returns-3 c =
 time-at-requires : tie.Need-time-at-requires
 unfolding bodyAt
 time-at-requires c κs =
-    let passed = c .before .before in (
+    let passed = c .before .before .before in (
       omega (arith, records-held _ siteHead _ 1 4 (sym (headed (passed .before .before)) ∙ passed .enum-told2 .given .1)),
-      passed .before .before .before .before .edition-of .ensures,
+      c .limits .ensures ∙ ap limits (passed .before .before .before .before .edition-of .ensures),
     )
 
 returns-4 : tie.Need-returns-4
 unfolding siteSection
 returns-4 c =
-    let counted = c .before in
+    let counted = c .before .before in
     let passed = counted .before .before in
     or-next (headed (passed .before .before)) (passed .enum-told2 .given .1)
     (or-next refl (refuse-no 4 4 (rw (laid passed .phasecount) at (counted .before .if1 .left)))
@@ -75,5 +76,6 @@ site-section-spec =
     (λ c. search needs)
     returns-2
     returns-3
+    (λ c κs. search needs)
     time-at-requires
     returns-4)

@@ -44,7 +44,7 @@ returns-2 : tie.Need-returns-2
 returns-2 c =
     let read = c .before .before .before .before in
     let a = read .before .before .before .args in
-    c .phase-within .ensures ∙ ap (phaseWithin (limits (a .edition)) (a .layout .hasearly)) (c .before .read-one .ensures ∙ ap (phaseOf _) (read .two-in .ensures))
+    c .phase-within .ensures ∙ ap (phaseWithin (a .table) (a .layout .hasearly)) (c .before .read-one .ensures ∙ ap (phaseOf _) (read .two-in .ensures))
 
 pub own-phase-admitted-spec : {M : Type 1} → statement M
 own-phase-admitted-spec =

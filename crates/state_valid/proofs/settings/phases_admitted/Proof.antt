@@ -5,8 +5,7 @@ use mathlib.Core.List.{List}
 use mathlib.Core.Path.{sym, _∙_}
 use borrow.Author.Tests.{not-true, not-false}
 use Rattle.laws.proofs.Folds.{Tested, tested-none, tested-more, tested-all, all-fails}
-use Rattle.rules.specs.declared.site.Edition.{Edition}
-use Rattle.rules.specs.Limits.{limits}
+use Rattle.rules.specs.declared.site.Range.{Range}
 use Rattle.rules.specs.SiteTimes.{recordLimits, phaseWithin}
 use Rattle.read_layout.specs.declared.Layout.{Layout}
 use Rattle.state_times.specs.TimesLayout.{phasesAt, earliesAt}
@@ -17,15 +16,15 @@ use Rattle.state_valid.proofs.settings.phases_admitted.Statement.{state
 use Rattle.state_valid.proofs.settings.phases_admitted.Tie as tie
 
 -- the test of phase p
-abbrev passes : Layout → Edition → List ℕ → ℕ → ℕ → Bool
-passes layout edition b at p =
-    phaseWithin (recordLimits (limits edition) (layout .phasecount) p) (layout .hasearly) (phaseIn b (at + phasesAt) (at + earliesAt) true p)
+abbrev passes : Layout → List Range → List ℕ → ℕ → ℕ → Bool
+passes layout table b at p =
+    phaseWithin (recordLimits table (layout .phasecount) p) (layout .hasearly) (phaseIn b (at + phasesAt) (at + earliesAt) true p)
 
 abbrev Inv-loop : tie.InvT-loop
-Inv-loop s layout edition bytes at p₀ p = Tested (passes layout edition bytes at) 7 true p
+Inv-loop s layout table bytes at p₀ p = Tested (passes layout table bytes at) 7 true p
 
 abbrev μ-loop : tie.MeasureT-loop
-μ-loop s layout edition bytes at p₀ p = 7 - p
+μ-loop s layout table bytes at p₀ p = 7 - p
 
 loop-holds : tie.Need-loop-holds Inv-loop μ-loop
 loop-holds c = tested-none
@@ -38,7 +37,7 @@ returns c =
     let tested = c .before in
     let head = tested .before .before in
     let a = head .before .before .before .args in
-    all-fails (passes (a .layout) (a .edition) (a .bytes .now) (a .at)) 7 (head .loop .p) (omega arith)
+    all-fails (passes (a .layout) (a .table) (a .bytes .now) (a .at)) 7 (head .loop .p) (omega arith)
     (sym (tested .phase-admitted .ensures) ∙ not-true (tested .phase-admitted .result) (c .if1 .taken))
 
 add-p : tie.Need-add-p Inv-loop μ-loop

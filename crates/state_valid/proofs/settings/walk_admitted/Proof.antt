@@ -40,7 +40,7 @@ returns-2 c =
     let here = c .before .before .before .before .before in
     let a = here .before .before .before .args in
     rw (lt-ltb (a .k) (a .movements) (here .if1 .taken))
-    (c .walk-within .ensures ∙ ap (walkWithin (limits (a .edition))) (c .before .read-one .ensures))
+    (c .walk-within .ensures ∙ ap (walkWithin (a .table)) (c .before .read-one .ensures))
 
 returns-3 : tie.Need-returns-3
 returns-3 c =

@@ -5,8 +5,7 @@ use mathlib.Core.List.{List}
 use mathlib.Core.Path.{sym, _∙_}
 use borrow.Author.Tests.{not-true, not-false}
 use Rattle.laws.proofs.Folds.{Tested, tested-none, tested-more, tested-all, all-fails}
-use Rattle.rules.specs.declared.site.Edition.{Edition}
-use Rattle.rules.specs.Limits.{limits}
+use Rattle.rules.specs.declared.site.Range.{Range}
 use Rattle.rules.specs.SiteTimes.{recordLimits, walkWithin}
 use Rattle.state_times.specs.TimesLayout.{walksAt}
 use Rattle.state_times.specs.TimeRows.{walkIn}
@@ -16,14 +15,14 @@ use Rattle.state_valid.proofs.settings.walks_admitted.Statement.{statem
 use Rattle.state_valid.proofs.settings.walks_admitted.Tie as tie
 
 -- the test of movement k
-abbrev passes : Edition → ℕ → List ℕ → ℕ → ℕ → Bool
-passes edition movements b at k = walkWithin (recordLimits (limits edition) movements k) (walkIn b (at + walksAt) k)
+abbrev passes : List Range → ℕ → List ℕ → ℕ → ℕ → Bool
+passes table movements b at k = walkWithin (recordLimits table movements k) (walkIn b (at + walksAt) k)
 
 abbrev Inv-loop : tie.InvT-loop
-Inv-loop s layout edition movements bytes at k₀ k = Tested (passes edition movements bytes at) 8 true k
+Inv-loop s layout table movements bytes at k₀ k = Tested (passes table movements bytes at) 8 true k
 
 abbrev μ-loop : tie.MeasureT-loop
-μ-loop s layout edition movements bytes at k₀ k = 8 - k
+μ-loop s layout table movements bytes at k₀ k = 8 - k
 
 loop-holds : tie.Need-loop-holds Inv-loop μ-loop
 loop-holds c = tested-none
@@ -36,7 +35,7 @@ returns c =
     let tested = c .before in
     let head = tested .before .before in
     let a = head .before .before .before .args in
-    all-fails (passes (a .edition) (a .movements) (a .bytes .now) (a .at)) 8 (head .loop .k) (omega arith)
+    all-fails (passes (a .table) (a .movements) (a .bytes .now) (a .at)) 8 (head .loop .k) (omega arith)
     (sym (tested .walk-admitted .ensures) ∙ not-true (tested .walk-admitted .result) (c .if1 .taken))
 
 add-k : tie.Need-add-k Inv-loop μ-loop
