@@ -207,7 +207,7 @@ def self_test():
     kind = next(path for _, _, _, path in rows if path.startswith('crates/rules/src/'))
     function = next(f for _, titles, cells, path in rows if path.startswith('crates/willowera/') for f in functions_of(titles, cells))
     internal = next(f for f in spec_files() if is_internal(f))
-    passing = next(f for f in spec_files() if '\npub use ' in read(f))
+    passing = next(f for f in spec_files() if '\npub use Rattle' in read(f))
     passed = taken(read(passing))[0][0]
     wrong_count = re.sub(r'(?m)^(\| \[`[^|]*\| )(\d)', lambda m: m.group(1) + str((int(m.group(2)) + 1) % 10), page, count=1)
     core_row = next(line for line in page[page.index(core.BEGIN):].split('\n') if line.startswith('| [`'))

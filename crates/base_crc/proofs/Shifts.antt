@@ -10,7 +10,7 @@ use lib.Bits.{bitXor, xor-comm, xor-lt, xor-shr, xor-zero-r}
 use lib.ListN.{getD}
 use lib.Pow.{shr-shr}
 use Rattle.laws.specs.Bytes.{bit}
-use Rattle.laws.specs.Folds.{if_then_else_}
+use Rattle.laws.specs.Ground.{if_then_else_}
 use Rattle.laws.proofs.Bits.{half-bit, bit-down, even-bit}
 use Rattle.laws.proofs.Lists.{list-at}
 use Rattle.laws.proofs.JoinedBits.{other, other-none, other-twice, bit-xor}

@@ -1,8 +1,8 @@
 -- The check value CRC-32 of Ethernet (IEEE 802.3) and zlib, bit by bit. It finds damage, and it is no protection against intent.
-use Rattle.laws.specs.Ground.{ℕ, zero, suc, _/_, List, [], _∷_}
+use Rattle.laws.specs.Ground.{ℕ, zero, suc, _/_, List, [], _∷_, if_then_else_}
 use lib.Bits.{bitXor}
 use Rattle.laws.specs.Bytes.{bit}
-use Rattle.laws.specs.Folds.{if_then_else_, listOf}
+use Rattle.laws.specs.Folds.{listOf}
 
 -- the polynomial in reflected form: bit 31 stands for x⁰ and bit 0 for x³¹; x³² is left out
 abbrev pub polynomial : ℕ

@@ -1,7 +1,8 @@
 -- An answer of the board interface: its lowest byte is the number of the refusal, 0 if the call is accepted; the bytes above it are the place of
 -- a refusal or the result of an accepted call.
 use Rattle.laws.specs.Ground.{ℕ, _+_, _*_}
-use Rattle.rules.specs.Types.{Outcome, Verdict}
+use Rattle.rules.specs.declared.answer.Outcome.{Outcome}
+use Rattle.rules.specs.declared.answer.Verdict.{Verdict}
 use Rattle.rules.specs.Verdicts.{reportOf, stepReportOf, waitOf}
 
 unfoldable pub packed : ℕ → ℕ → ℕ

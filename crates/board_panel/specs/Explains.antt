@@ -1,6 +1,6 @@
 -- Internal: no promise cites this file. What the checks of both calls leave to say, and a line put into a buffer of any length.
 use Rattle.laws.specs.Ground.{ℕ, _≤_, _<_, List, [], _++_, _≡_, ltb, length, drop}
-use Rattle.rules.specs.Types.{Accepted, Refused}
+use Rattle.rules.specs.declared.answer.Verdict.the-variants.{Accepted, Refused}
 use Rattle.rules.specs.Verdicts.{refuseIf}
 use Rattle.rules.specs.Call.{boundFor, handedBack}
 use Rattle.rules.specs.Laws.{greatestLength}

@@ -1,7 +1,7 @@
 -- The calls for the panel's line with the state as bytes: one answers how many bytes it has, and the other also writes it to the start of a buffer.
 -- Their arguments are personality, state, input bits, and the buffer or its length.
 use Rattle.laws.specs.Ground.{ℕ, not, List, _++_, ltb, length, drop}
-use Rattle.rules.specs.Types.{Verdict}
+use Rattle.rules.specs.declared.answer.Verdict.{Verdict}
 use Rattle.rules.specs.Verdicts.{_orElse_, refuseIf}
 use Rattle.rules.specs.Personality.{verdictOf}
 use Rattle.rules.specs.Site.{siteOf}

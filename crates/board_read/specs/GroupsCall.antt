@@ -1,6 +1,7 @@
 -- The number of signal groups of a personality: as many bytes as an accepted step writes.
 use Rattle.laws.specs.Ground.{ℕ, List}
-use Rattle.rules.specs.Types.{Verdict, Accepted, Refused}
+use Rattle.rules.specs.declared.answer.Verdict.{Verdict}
+use Rattle.rules.specs.declared.answer.Verdict.the-variants.{Accepted, Refused}
 use Rattle.rules.specs.Personality.{verdictOf}
 use Rattle.rules.specs.Site.{siteOf}
 use Rattle.board_answers.specs.Answers.{packed, packedVerdict}

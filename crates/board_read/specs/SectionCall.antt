@@ -1,6 +1,7 @@
 -- The section lookup of the board interface: the offset of the body in the personality, and its length.
 use Rattle.laws.specs.Ground.{ℕ, _+_, _*_, List}
-use Rattle.rules.specs.Types.{Verdict, Accepted, Refused}
+use Rattle.rules.specs.declared.answer.Verdict.{Verdict}
+use Rattle.rules.specs.declared.answer.Verdict.the-variants.{Accepted, Refused}
 use Rattle.rules.specs.Personality.{bodyAt, bodyLength}
 use Rattle.rules.specs.Lookup.{lookupVerdict, headOf}
 use Rattle.board_answers.specs.Answers.{packedVerdict}

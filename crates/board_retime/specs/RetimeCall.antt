@@ -1,6 +1,6 @@
 -- The retiming call with the state as bytes: personality, state, new personality. A refused call leaves the state as it is.
 use Rattle.laws.specs.Ground.{ℕ, not, List}
-use Rattle.rules.specs.Types.{Verdict}
+use Rattle.rules.specs.declared.answer.Verdict.{Verdict}
 use Rattle.rules.specs.Verdicts.{_orElse_, refuseIf}
 use Rattle.rules.specs.Personality.{verdictOf}
 use Rattle.rules.specs.Site.{timesIn}

@@ -1,7 +1,7 @@
 -- The simulated road over the board interface. The answer is 0, or the number of the refusal in the lowest byte and the place above it. A refused
 -- call leaves both buffers as they are.
 use Rattle.laws.specs.Ground.{ℕ, List, eqb, length}
-use Rattle.rules.specs.Types.{Verdict}
+use Rattle.rules.specs.declared.answer.Verdict.{Verdict}
 use Rattle.rules.specs.Site.{siteOf}
 use Rattle.rules.specs.Timed.{withOwnTimes}
 use Rattle.rules.specs.Call.{handedBack}

@@ -1,8 +1,7 @@
 -- The settings of a site sheet over the board interface. The lowest byte of the answer is the number of the refusal, 0 if there are settings. Above
 -- it are the place, or minimum green in 16 bits and then the passage time in 16 bits.
-use Rattle.laws.specs.Ground.{ℕ, _+_, _*_, eqb}
+use Rattle.laws.specs.Ground.{ℕ, _+_, _*_, eqb, if_then_else_}
 use lib.Ieee.{Float}
-use Rattle.laws.specs.Folds.{if_then_else_}
 use Rattle.sheet_settings.specs.declared.Answer.{Answer}
 use Rattle.sheet_settings.specs.declared.Detector.the-variants.{Advance, StopLine}
 use Rattle.sheet_settings.specs.Sheet.{settingsReportOf, minimumOf, passageOf, answerOf}

@@ -9,7 +9,7 @@ use Rattle.rules.specs.declared.site.Site.{Site}
 use Rattle.rules.specs.declared.site.Times.{Times}
 use Rattle.rules.specs.declared.state.KeptState.{KeptState}
 use Rattle.laws.specs.Bytes.{byteAt}
-use Rattle.laws.specs.Folds.{if_then_else_}
+use Rattle.laws.specs.Ground.{if_then_else_}
 use Rattle.rules.specs.SiteTimes.{under}
 use Rattle.rules.specs.Kept.{keptValid, keptStepped}
 use Rattle.rules.specs.Timed.{TimedState, keptOf, ruledSite, noneWaiting, startsNext, takesOver, rulingNext, timedStepped}

@@ -1,8 +1,8 @@
 -- Internal: no promise cites this file. The step from a valid state: what it takes and what it gives. The site has the times that rule in the
 -- state. With some times it is the site of a personality; neither the valid state nor the step looks at those.
-use Rattle.laws.specs.Ground.{ℕ, Bool, true, List, _++_, _≡_, drop}
-use Rattle.rules.specs.Types.{Site, KeptState}
-use Rattle.laws.specs.Folds.{if_then_else_}
+use Rattle.laws.specs.Ground.{ℕ, Bool, true, List, _++_, _≡_, drop, if_then_else_}
+use Rattle.rules.specs.declared.site.Site.{Site}
+use Rattle.rules.specs.declared.state.KeptState.{KeptState}
 use Rattle.rules.specs.Site.{siteOf}
 use Rattle.rules.specs.Timed.{TimedState, keptOf, ruledSite, noneWaiting, timedValid, takesOver, timedStepped}
 use Rattle.rules.specs.Colours.{coloursOf}

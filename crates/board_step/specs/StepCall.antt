@@ -1,6 +1,6 @@
 -- The step call with the state as bytes: personality, state, input bits, and the colour buffer or its length.
 use Rattle.laws.specs.Ground.{ℕ, List, length}
-use Rattle.rules.specs.Types.{Verdict}
+use Rattle.rules.specs.declared.answer.Verdict.{Verdict}
 use Rattle.rules.specs.Verdicts.{_orElse_}
 use Rattle.rules.specs.Personality.{verdictOf}
 use Rattle.rules.specs.Site.{siteOf}

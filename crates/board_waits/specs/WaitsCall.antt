@@ -1,7 +1,8 @@
 -- The call for the waits of a personality, by its own times: two bytes for each phase, then two for each movement, the lower byte first.
 use Rattle.laws.specs.Ground.{ℕ, _+_, _*_, List, ltb, length, getD}
 use lib.Seq.{sets}
-use Rattle.rules.specs.Types.{Verdict, Site}
+use Rattle.rules.specs.declared.answer.Verdict.{Verdict}
+use Rattle.rules.specs.declared.site.Site.{Site}
 use Rattle.rules.specs.Verdicts.{_orElse_, refuseIf}
 use Rattle.rules.specs.Personality.{verdictOf}
 use Rattle.rules.specs.Site.{siteOf}

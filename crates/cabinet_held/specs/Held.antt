@@ -1,6 +1,7 @@
 -- Internal: no promise cites this file. The calls of a cabinet by what a record holds: the parts of specs/Cabinet.antt of `cabinet_records` that do not look at the row.
 use Rattle.laws.specs.Ground.{ℕ, _≤_, Bool, not, _||_, List, _≡_, ltb, length, replicate}
-use Rattle.rules.specs.Types.{Verdict, Accepted, Refused}
+use Rattle.rules.specs.declared.answer.Verdict.{Verdict}
+use Rattle.rules.specs.declared.answer.Verdict.the-variants.{Accepted, Refused}
 use Rattle.rules.specs.Call.{handedBack}
 use Rattle.rules.specs.Colours.{red}
 use Rattle.rules.specs.Laws.{greatestLength}

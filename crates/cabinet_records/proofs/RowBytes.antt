@@ -11,7 +11,8 @@ use lib.ListN.{length, getD, set, take, drop, length-drop, length-replicate, Lis
 use lib.Seq.{getD-set-same, getD-set-other, take-all, set-out}
 use borrow.Author.Tests.{eqb-true}
 use Rattle.laws.specs.Bytes.{byteAt}
-use Rattle.laws.specs.Folds.{if_then_else_, allOf}
+use Rattle.laws.specs.Ground.{if_then_else_}
+use Rattle.laws.specs.Folds.{allOf}
 use Rattle.laws.proofs.Bytes.{part, record-within}
 use Rattle.laws.proofs.Indices.{below-or-past}
 use Rattle.laws.proofs.Lists.{list-length, list-at}

@@ -1,8 +1,9 @@
 -- Request ten of document 02: four sites in one cabinet. The cabinet has a row of four records and 32 outputs. One call places a site, one steps it,
 -- one takes it out. A step does to its record's bytes and to its own outputs what the step call on bytes does (board_step/specs/StepCall.antt).
-use Rattle.laws.specs.Ground.{ℕ, _+_, _-_, Bool, true, false, not, _&&_, _||_, List, [], _++_, eqb, ltb, length, take, drop, getD, replicate, set}
-use Rattle.rules.specs.Types.{Verdict, Accepted, Refused}
-use Rattle.laws.specs.Folds.{if_then_else_, anyOf}
+use Rattle.laws.specs.Ground.{ℕ, _+_, _-_, Bool, true, false, not, _&&_, _||_, List, [], _++_, eqb, ltb, length, take, drop, getD, replicate, set, if_then_else_}
+use Rattle.rules.specs.declared.answer.Verdict.{Verdict}
+use Rattle.rules.specs.declared.answer.Verdict.the-variants.{Accepted, Refused}
+use Rattle.laws.specs.Folds.{anyOf}
 use Rattle.rules.specs.Verdicts.{_orElse_, refuseIf}
 use Rattle.rules.specs.Personality.{verdictOf}
 use Rattle.rules.specs.Site.{siteOf}

@@ -1,7 +1,6 @@
 -- The cabinet's row as bytes, for callers in C and Rust: four records, one after the other. Each has a mark (0 if it is free), the first output, the
 -- length of the personality in two bytes, room for the longest personality, and the bytes of the state.
-use Rattle.laws.specs.Ground.{ℕ, _+_, List, [], _≡_, eqb, length}
-use Rattle.laws.specs.Folds.{if_then_else_}
+use Rattle.laws.specs.Ground.{ℕ, _+_, List, [], _≡_, eqb, length, if_then_else_}
 use Rattle.rules.specs.Laws.{greatestLength}
 use Rattle.state_forms.specs.Forms.{Form, Table, byte, two, row, field, _⊗_, made}
 use Rattle.state_timed.specs.TimedLayout.{timedBytes}

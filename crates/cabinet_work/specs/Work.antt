@@ -1,6 +1,7 @@
 -- Internal: no promise cites this file. The calls of a cabinet by the one record that they name.
 use Rattle.laws.specs.Ground.{ℕ, List, length, replicate, set}
-use Rattle.rules.specs.Types.{Verdict, Accepted, Refused}
+use Rattle.rules.specs.declared.answer.Verdict.{Verdict}
+use Rattle.rules.specs.declared.answer.Verdict.the-variants.{Accepted, Refused}
 use Rattle.rules.specs.Verdicts.{_orElse_, refuseIf}
 use Rattle.rules.specs.Colours.{red}
 use Rattle.board_answers.specs.Answers.{packedVerdict}

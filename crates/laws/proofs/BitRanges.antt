@@ -11,7 +11,8 @@ use lib.Dec.{leb, eqb}
 use lib.Pow.{pow-mono, pow-pos, shl-exact, shr-le}
 use borrow.Author.Tests.{leb-true, leb-false, lt-leb, ne-eqb}
 use Rattle.laws.specs.Bytes.{bit}
-use Rattle.laws.specs.Folds.{if_then_else_, countOf}
+use Rattle.laws.specs.Ground.{if_then_else_}
+use Rattle.laws.specs.Folds.{countOf}
 use Rattle.laws.proofs.Booleans.{decided, never-both}
 use Rattle.laws.proofs.Indices.{below-or-past}
 use Rattle.laws.proofs.Bits.{bit-blank, bit-above, bit-lower, bit-down, half-bit, odd-bit, same-bits, no-bits}

@@ -11,7 +11,8 @@ use native.Mathlib.Nat.{not-suc-le-zero, eq-or-lt-of-le}
 use native.Mathlib.Numerals.{add-one}
 use native.Mathlib.Omega.{arith}
 use borrow.Author.Tests.{eqb-true}
-use Rattle.laws.specs.Folds.{if_then_else_, anyOf, countOf, sumOf, indicesOf}
+use Rattle.laws.specs.Ground.{if_then_else_}
+use Rattle.laws.specs.Folds.{anyOf, countOf, sumOf, indicesOf}
 use Rattle.laws.proofs.Folds.{fold-same, any-found}
 use Rattle.laws.proofs.Indices.{last-or-below, below-or-past}
 use Rattle.laws.proofs.Sums.{sum-within, sum-both, sum-least-with}

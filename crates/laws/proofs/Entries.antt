@@ -6,7 +6,8 @@ use native.Mathlib.Omega.{arith}
 use borrow.Author.Tests.{eq-eqb, ne-eqb}
 use lib.Dec.{eqb}
 use lib.ListN.{length}
-use Rattle.laws.specs.Folds.{if_then_else_, sumOf}
+use Rattle.laws.specs.Ground.{if_then_else_}
+use Rattle.laws.specs.Folds.{sumOf}
 
 -- the sum of f over the entries
 unfoldable pub total : (ℕ → ℕ) → List ℕ → ℕ

@@ -6,7 +6,8 @@ use native.Mathlib.Nat.{not-suc-le-zero, suc-mul}
 use native.Mathlib.Omega.{arith}
 use lib.Dec.{eqb}
 use borrow.Author.Tests.{eq-eqb, ne-eqb}
-use Rattle.laws.specs.Folds.{if_then_else_, sumOf, greatestOf}
+use Rattle.laws.specs.Ground.{if_then_else_}
+use Rattle.laws.specs.Folds.{sumOf, greatestOf}
 use Rattle.laws.proofs.Folds.{fold-same, fold-at}
 use Rattle.laws.proofs.Indices.{last-or-below, same-or-apart}
 

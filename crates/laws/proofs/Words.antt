@@ -7,7 +7,8 @@ use native.Mathlib.Nat.{add-zero, add-div-right, div-eq-of-lt, pow-succ', not-su
 use native.Mathlib.Omega.{arith}
 use lib.Pow.{pow-pos, low}
 use Rattle.laws.specs.Bytes.{bit}
-use Rattle.laws.specs.Folds.{if_then_else_, sumOf}
+use Rattle.laws.specs.Ground.{if_then_else_}
+use Rattle.laws.specs.Folds.{sumOf}
 use Rattle.laws.proofs.Indices.{last-or-below}
 use Rattle.laws.proofs.Bits.{bit-above, bit-lower}
 

@@ -1,10 +1,5 @@
--- Choice by a test, and rows by index: what is said of the things 0 to n - 1, the last one outermost.
-use Rattle.laws.specs.Ground.{ℕ, zero, suc, _+_, _-_, _^_, max, Bool, true, false, _&&_, _||_, List, [], _∷_, _++_, replicate}
-
-infix 6 if_then_else_
-abbrev pub if_then_else_ {ℓ} : {A : Type ℓ} → Bool → A → A → A
-if true then a else b = a
-if false then a else b = b
+-- Rows by index: what is said of the things 0 to n - 1, the last one outermost.
+use Rattle.laws.specs.Ground.{ℕ, zero, suc, _+_, _-_, _^_, max, Bool, true, false, _&&_, _||_, List, [], _∷_, _++_, replicate, if_then_else_}
 
 -- some index below n passes
 unfoldable pub anyOf : (ℕ → Bool) → ℕ → Bool

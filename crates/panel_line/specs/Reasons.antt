@@ -1,7 +1,6 @@
 -- The reasons of a line, in their order.
-use Rattle.laws.specs.Ground.{ℕ, zero, suc, Bool, List, [], _∷_, _++_, ltb}
+use Rattle.laws.specs.Ground.{ℕ, zero, suc, Bool, List, [], _∷_, _++_, ltb, if_then_else_}
 use Rattle.laws.specs.Bytes.{bit}
-use Rattle.laws.specs.Folds.{if_then_else_}
 use Rattle.panel_text.specs.declared.Reason.{Reason}
 use Rattle.panel_text.specs.declared.Reason.the-variants.{NoOtherDemand, Gap, Max, Walk}
 use Rattle.panel_text.specs.Text.{line}

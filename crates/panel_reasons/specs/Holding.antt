@@ -1,6 +1,7 @@
 -- Internal: no promise cites this file. A state whose phase holds, and what the code gives of it. The site has the times that rule in the state.
 use Rattle.laws.specs.Ground.{ℕ, _<_, true, _≡_}
-use Rattle.rules.specs.Types.{Site, KeptState}
+use Rattle.rules.specs.declared.site.Site.{Site}
+use Rattle.rules.specs.declared.state.KeptState.{KeptState}
 use Rattle.rules.specs.IntervalTable.{isRunning}
 use Rattle.rules.specs.Kept.{keptValid}
 use Rattle.rules.specs.Timed.{TimedState, keptOf, ruledSite}

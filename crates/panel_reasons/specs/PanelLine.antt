@@ -1,7 +1,8 @@
 -- Why the phase of a state in running holds. It is read from the state after a step and, of that step's inputs, from the non-locking calls only.
-use Rattle.laws.specs.Ground.{ℕ, _-_, Bool, not, _||_, List, [], getD}
-use Rattle.rules.specs.Types.{Site, KeptState, Movement}
-use Rattle.laws.specs.Folds.{if_then_else_}
+use Rattle.laws.specs.Ground.{ℕ, _-_, Bool, not, _||_, List, [], getD, if_then_else_}
+use Rattle.rules.specs.declared.site.Site.{Site}
+use Rattle.rules.specs.declared.state.KeptState.{KeptState}
+use Rattle.rules.specs.declared.state.Movement.{Movement}
 use Rattle.rules.specs.Site.{phaseTimes, ring}
 use Rattle.rules.specs.IntervalTable.{isRunning, isWalkOrFirst, isHeld}
 use Rattle.rules.specs.State.{idle}

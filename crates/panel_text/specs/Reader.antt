@@ -1,6 +1,5 @@
 -- A reader that parses a line back into its phase and its reasons.
-use Rattle.laws.specs.Ground.{ℕ, _+_, _-_, _*_, Bool, _&&_, List, [], _∷_, _++_, eqb, leb, getD}
-use Rattle.laws.specs.Folds.{if_then_else_}
+use Rattle.laws.specs.Ground.{ℕ, _+_, _-_, _*_, Bool, _&&_, List, [], _∷_, _++_, eqb, leb, getD, if_then_else_}
 use Rattle.panel_text.specs.declared.Reason.{Reason}
 use Rattle.panel_text.specs.declared.Reason.the-variants.{NoOtherDemand, Gap, Max, Walk}
 

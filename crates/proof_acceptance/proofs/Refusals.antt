@@ -12,7 +12,7 @@ use native.Mathlib.Omega.{arith}
 use Rattle.rules.specs.declared.answer.Verdict.{Verdict}
 use Rattle.rules.specs.declared.answer.Verdict.the-variants.{Accepted, Refused}
 use Rattle.rules.specs.Limits.{phaseSettings, walkSettings, earlySetting}
-use Rattle.laws.specs.Folds.{if_then_else_}
+use Rattle.laws.specs.Ground.{if_then_else_}
 use Rattle.rules.specs.Verdicts.{_orElse_, refuseIf, firstOf}
 use Rattle.rules.specs.Personality.{siteKind, editionOf, bodyAt, bodyLength, recordAt, phaseCount, groupCount, siteHead, phasesHead, groupsHead, conflictsHead, detectorsHead, pedestriansHead, movementCount, detectorCount, pastSection, earlyHead, hasEarly, orderHead, hasOrder, endOf, sectionAt, timeAt, timesAt, siteSection, timeRecords, timedSection, phasesSection, groupRecord, groupsSection, conflictsSection, detectorRecord, detectorsSection, pedestriansSection, earlySection, orderSection, phaseWithoutCaller, earlyMissing, leftOver, afterPedestrians, verdictOf}
 use Rattle.rules.specs.Site.{siteOf}

@@ -11,7 +11,7 @@ use Rattle.rules.specs.declared.site.Edition.the-variants.{One, Two}
 use Rattle.rules.specs.declared.site.Range.{Range}
 use Rattle.rules.specs.declared.site.Size.{Size}
 use Rattle.rules.specs.declared.site.Times.{Times}
-use Rattle.laws.specs.Folds.{if_then_else_}
+use Rattle.laws.specs.Ground.{if_then_else_}
 use Rattle.rules.specs.Limits.{limits, limitOf}
 use Rattle.rules.specs.Site.{phaseTimes, walkTimes, crosses, siteOf}
 use Rattle.rules.specs.WaitBound.{phaseShare, longestWalk, longestClearance, waitBoundBy}

@@ -1,6 +1,7 @@
 -- The greatest length and the greatest wait bound are reached: in each edition one accepted personality has both.
 use Rattle.laws.specs.Ground.{ℕ, zero, suc, List, [], _∷_, _++_, _≡_, length, replicate}
-use Rattle.rules.specs.Types.{Accepted, Edition}
+use Rattle.rules.specs.declared.answer.Verdict.the-variants.{Accepted}
+use Rattle.rules.specs.declared.site.Edition.{Edition}
 use Rattle.rules.specs.Personality.{siteKind, verdictOf}
 use Rattle.rules.specs.Site.{siteOf}
 use Rattle.rules.specs.WaitBound.{waitBound}

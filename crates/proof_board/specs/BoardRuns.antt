@@ -1,8 +1,10 @@
 -- Demand 3 of the library that a buyer links: the same demand, said of the numbers that its calls answer and of the bytes that they leave in the
 -- caller's buffers. The calls are step and retiming calls, in any order.
-use Rattle.laws.specs.Ground.{ℕ, _/_, _%_, List, _≡_, eqb, length}
-use Rattle.rules.specs.Types.{Outcome, Stepped, StepRefused, Verdict, Accepted, Refused}
-use Rattle.laws.specs.Folds.{if_then_else_}
+use Rattle.laws.specs.Ground.{ℕ, _/_, _%_, List, _≡_, eqb, length, if_then_else_}
+use Rattle.rules.specs.declared.answer.Outcome.{Outcome}
+use Rattle.rules.specs.declared.answer.Outcome.the-variants.{Stepped, StepRefused}
+use Rattle.rules.specs.declared.answer.Verdict.{Verdict}
+use Rattle.rules.specs.declared.answer.Verdict.the-variants.{Accepted, Refused}
 use Rattle.rules.specs.Personality.{verdictOf}
 use Rattle.rules.specs.Runs.{Controller, byRules, Call, Taken, takenFrom, OfEveryRun}
 use Rattle.rules.specs.DemandThree.{DemandThreeOf}

@@ -1,6 +1,6 @@
 -- The states of a run fit the types of the machine, and so the bytes of a state.
 use Rattle.laws.specs.Ground.{ℕ, true, false, List, _≡_}
-use Rattle.rules.specs.Types.{Accepted}
+use Rattle.rules.specs.declared.answer.Verdict.the-variants.{Accepted}
 use Rattle.rules.specs.Personality.{verdictOf}
 use Rattle.rules.specs.Site.{timesIn, siteOf}
 use Rattle.rules.specs.Timed.{TimedState, freshTimed, timedValid, timedStepped}

@@ -8,7 +8,7 @@ use mathlib.Core.Path.{_≡_, refl, sym, subst, ap, _∙_}
 use borrow.Author.Tests.{eqb-true}
 use lib.Dec.{eqb}
 use lib.ListN.{length, set, replicate}
-use Rattle.laws.specs.Folds.{if_then_else_}
+use Rattle.laws.specs.Ground.{if_then_else_}
 use Rattle.rules.specs.Personality.{verdictOf}
 use Rattle.rules.specs.Site.{siteOf}
 use Rattle.rules.specs.Colours.{red}

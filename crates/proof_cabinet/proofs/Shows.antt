@@ -14,7 +14,7 @@ use Rattle.rules.specs.declared.answer.Outcome.the-variants.{Stepped, StepRefus
 use Rattle.rules.specs.declared.answer.Verdict.{Verdict}
 use Rattle.rules.specs.declared.answer.Verdict.the-variants.{Accepted, Refused}
 use Rattle.laws.specs.Bytes.{byteAt}
-use Rattle.laws.specs.Folds.{if_then_else_}
+use Rattle.laws.specs.Ground.{if_then_else_}
 use Rattle.rules.specs.Colours.{red}
 use Rattle.rules.specs.Runs.{Taken, ifAccepted, acceptedSteps}
 use Rattle.rules.proofs.Verdicts.{refused-not-accepted}

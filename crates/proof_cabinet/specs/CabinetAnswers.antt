@@ -1,6 +1,6 @@
 -- What the calls of the cabinet and new times answer, and the sizes of the records that they store, stated.
 use Rattle.laws.specs.Ground.{ℕ, _/_, _%_, Bool, true, not, _||_, List, _⊎_, _≡_, eqb}
-use Rattle.rules.specs.Types.{Verdict}
+use Rattle.rules.specs.declared.answer.Verdict.{Verdict}
 use Rattle.rules.specs.Verdicts.{_orElse_, refuseIf}
 use Rattle.rules.specs.Personality.{verdictOf}
 use Rattle.rules.specs.Site.{siteOf}

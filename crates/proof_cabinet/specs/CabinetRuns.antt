@@ -1,7 +1,7 @@
 -- The theorem of the cabinet, stated for a row of records and for the bytes of a row. The first call gets any row whatever, each later one the row
 -- that the call before returned. New times may be handed over between the calls. The output buffers may have any length and content.
-use Rattle.laws.specs.Ground.{ℕ, Bool, true, false, not, _&&_, List, [], _∷_, _≡_, eqb, length, replicate}
-use Rattle.laws.specs.Folds.{if_then_else_}
+use Rattle.laws.specs.Ground.{ℕ, Bool, true, false, not, _&&_, List, [], _∷_, _≡_, eqb, length, replicate, if_then_else_}
+use Rattle.rules.specs.Personality.{verdictOf}
 use Rattle.rules.specs.Site.{siteOf}
 use Rattle.rules.specs.Colours.{red}
 use Rattle.rules.specs.Runs.{byRules, Call, stepCall, retimeCall, Step, Taken, stepTaken, retimeTaken, takenFrom, acceptedSteps, OfEveryRun}

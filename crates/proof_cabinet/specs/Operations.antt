@@ -1,8 +1,7 @@
 -- What a caller does to a cabinet: it calls the cabinet, or it hands over new times for the site in a record. For new times the cabinet has no call:
 -- the caller calls `willowera_retime` with pointers to the personality and to the state that stand in the record.
-use Rattle.laws.specs.Ground.{ℕ, _+_, _*_, _%_, _≤_, _<_, List, _⊎_, _≡_, length, set}
+use Rattle.laws.specs.Ground.{ℕ, _+_, _*_, _%_, _≤_, _<_, List, _⊎_, _≡_, length, set, if_then_else_}
 use Rattle.laws.specs.Bytes.{byteAt}
-use Rattle.laws.specs.Folds.{if_then_else_}
 use Rattle.state_timed.specs.TimedLayout.{timedBytes}
 use Rattle.board_retime.specs.RetimeCall.{retimeAnswer, retimeAfter}
 use Rattle.cabinet_records.specs.declared.Record.{Record}

@@ -1,8 +1,10 @@
 -- The worked cases: document 01's starred ones, and our own below them, with one statement: each of them holds. The cases of
 -- one call that a must-fail edit of the rules needs stand in rules/specs/CallCases.antt; two of the starred ones are among those and here too.
-use Rattle.laws.specs.Ground.{ℕ, _+_, _^_, _&&_, _||_, List, [], _∷_, _++_, _≡_, eqb, leb, set}
-use Rattle.rules.specs.Types.{Accepted, Refused, Nothing, StartRed, LateStart, MinimumGreen, Running, EarlyCutOff, Yellow, AllRed, KeptState}
-use Rattle.laws.specs.Folds.{if_then_else_}
+use Rattle.laws.specs.Ground.{ℕ, _+_, _^_, _&&_, _||_, List, [], _∷_, _++_, _≡_, eqb, leb, set, if_then_else_}
+use Rattle.rules.specs.declared.answer.Verdict.the-variants.{Accepted, Refused}
+use Rattle.rules.specs.declared.state.Held.the-variants.{Nothing}
+use Rattle.rules.specs.declared.state.Interval.the-variants.{StartRed, LateStart, MinimumGreen, Running, EarlyCutOff, Yellow, AllRed}
+use Rattle.rules.specs.declared.state.KeptState.{KeptState}
 use Rattle.rules.specs.State.{idle}
 use Rattle.rules.specs.Kept.{freshKept}
 use Rattle.rules.specs.Colours.{red, yellow, green, flashing}

@@ -1,8 +1,7 @@
 -- Worked cases of runs with retiming calls, on the junction of two phases and others: each of them holds. Cases of one call are in
 -- rules/specs/TimedCases.antt.
-use Rattle.laws.specs.Ground.{ℕ, _^_, List, [], _∷_, _++_, _≡_, eqb, set}
-use Rattle.rules.specs.Types.{StartRed, LateStart, MinimumGreen, Running, Yellow, AllRed}
-use Rattle.laws.specs.Folds.{if_then_else_}
+use Rattle.laws.specs.Ground.{ℕ, _^_, List, [], _∷_, _++_, _≡_, eqb, set, if_then_else_}
+use Rattle.rules.specs.declared.state.Interval.the-variants.{StartRed, LateStart, MinimumGreen, Running, Yellow, AllRed}
 use Rattle.rules.specs.Colours.{red, yellow, green, flashing}
 use Rattle.rules.specs.Junctions.{junction, putTwo, slower, crossing}
 use Rattle.rules.specs.CallCases.{AllHold}

@@ -1,8 +1,9 @@
 -- What a run shows, line by line: the rules take the calls one after the other from the fresh state, until a step call is refused. A refused
 -- retiming call hands the state on.
-use Rattle.laws.specs.Ground.{ℕ, zero, suc, _+_, Bool, true, false, _&&_, List, [], _∷_, _++_, map, eqb, replicate}
-use Rattle.rules.specs.Types.{Outcome, Stepped, StepRefused, Interval}
-use Rattle.laws.specs.Folds.{if_then_else_}
+use Rattle.laws.specs.Ground.{ℕ, zero, suc, _+_, Bool, true, false, _&&_, List, [], _∷_, _++_, map, eqb, replicate, if_then_else_}
+use Rattle.rules.specs.declared.answer.Outcome.{Outcome}
+use Rattle.rules.specs.declared.answer.Outcome.the-variants.{Stepped, StepRefused}
+use Rattle.rules.specs.declared.state.Interval.{Interval}
 use Rattle.rules.specs.Personality.{groupCount}
 use Rattle.rules.specs.IntervalTable.{letterOf}
 use Rattle.rules.specs.Runs.{byRules, Call, stepCall, retimeCall, Taken, stepTaken, retimeTaken, takenFrom}

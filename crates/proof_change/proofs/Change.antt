@@ -21,7 +21,8 @@ use Rattle.rules.specs.declared.state.Position.{Position}
 use Rattle.rules.specs.declared.state.Stage.{Stage}
 use Rattle.rules.specs.declared.state.Stage.the-variants.{Idle, Walk, ClearanceOne, ClearanceTwo}
 use Rattle.rules.specs.declared.state.State.{State}
-use Rattle.laws.specs.Folds.{if_then_else_, setOf}
+use Rattle.laws.specs.Ground.{if_then_else_}
+use Rattle.laws.specs.Folds.{setOf}
 use Rattle.rules.specs.Site.{phaseTimes, walkTimes, crosses, ring}
 use Rattle.rules.specs.IntervalTable.{isHeld, isIdle, isWalk, isWalkOrFirst, isSecond, isBeforeStart}
 use Rattle.rules.specs.State.{highestAge, idle, locked, asked, movement, valid}

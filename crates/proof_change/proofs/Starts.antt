@@ -20,7 +20,7 @@ use Rattle.rules.specs.Timed.{startsNext}
 use Rattle.rules.specs.TimedLaws.{startsPhase}
 use Rattle.rules.specs.Step.{stepped}
 use Rattle.rules.specs.Demands.{nextDemanded}
-use Rattle.laws.specs.Folds.{if_then_else_}
+use Rattle.laws.specs.Ground.{if_then_else_}
 use Rattle.laws.proofs.Booleans.{and-left}
 use Rattle.proof_runs.proofs.Steps.{ended, moving, started}
 use Rattle.proof_runs.proofs.Ends.{ended-in, next-in, started-in}

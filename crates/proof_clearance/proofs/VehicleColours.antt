@@ -14,7 +14,7 @@ use Rattle.rules.specs.declared.state.Held.the-variants.{Nothing, Phase}
 use Rattle.rules.specs.declared.state.Interval.{Interval}
 use Rattle.rules.specs.declared.state.Interval.the-variants.{StartRed, LateStart, MinimumGreen, Running, EarlyCutOff, Yellow, AllRed}
 use Rattle.rules.specs.declared.state.Position.{Position}
-use Rattle.laws.specs.Folds.{if_then_else_}
+use Rattle.laws.specs.Ground.{if_then_else_}
 use Rattle.rules.specs.Site.{groupOf, inPhase, phaseTimes}
 use Rattle.rules.specs.IntervalTable.{heldIn, phaseHeld}
 use Rattle.rules.specs.Interval.{entering, starting, leaving, following}

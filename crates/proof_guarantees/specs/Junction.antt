@@ -1,6 +1,6 @@
 -- Demand 3 read at the junction of two phases of document 01, for lists of step calls: what it says of a real site, in numbers.
 use Rattle.laws.specs.Ground.{_≤_, _<_, true, List, _∷_, _++_, map, _≡_, length}
-use Rattle.rules.specs.Types.{Stepped}
+use Rattle.rules.specs.declared.answer.Outcome.the-variants.{Stepped}
 use Rattle.rules.specs.Site.{siteOf}
 use Rattle.rules.specs.Colours.{green}
 use Rattle.rules.specs.Runs.{byRules, StepCall, stepCall, Step, Taken, stepTaken, takenFrom, acceptedSteps}

@@ -20,7 +20,8 @@ use Rattle.rules.specs.declared.state.KeptState.{KeptState}
 use Rattle.rules.specs.declared.state.Movement.{Movement}
 use Rattle.rules.specs.declared.state.Position.{Position}
 use Rattle.laws.specs.Bytes.{bit}
-use Rattle.laws.specs.Folds.{if_then_else_, setOf}
+use Rattle.laws.specs.Ground.{if_then_else_}
+use Rattle.laws.specs.Folds.{setOf}
 use Rattle.rules.specs.Site.{phaseTimes, crosses, ring}
 use Rattle.rules.specs.IntervalTable.{isRunning, isHeld, phaseHeld}
 use Rattle.rules.specs.Demands.{calls, inGreen, demandsAfter, firstIn, nextAfter}

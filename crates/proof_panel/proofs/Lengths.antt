@@ -11,7 +11,7 @@ use Rattle.rules.specs.declared.answer.Verdict.{Verdict}
 use Rattle.rules.specs.declared.answer.Verdict.the-variants.{Accepted, Refused}
 use Rattle.rules.specs.declared.site.Edition.{Edition}
 use Rattle.rules.specs.declared.site.Edition.the-variants.{One, Two}
-use Rattle.laws.specs.Folds.{if_then_else_}
+use Rattle.laws.specs.Ground.{if_then_else_}
 use Rattle.rules.specs.Verdicts.{_orElse_, refuseIf}
 use Rattle.rules.specs.Limits.{limits, limitOf, phaseSettings}
 use Rattle.rules.specs.Personality.{verdictOf}

@@ -1,7 +1,9 @@
 -- Statements about the panel's line: what it says after a step, what of the inputs it reads, how long it can be, and how its calls refuse. Those
 -- about a line are over the bytes of a personality and a timed state, and those about the calls are over bytes.
 use Rattle.laws.specs.Ground.{ℕ, _≤_, _<_, Bool, true, false, not, _||_, List, _⊎_, _≡_, eqb, length}
-use Rattle.rules.specs.Types.{Accepted, Refused, Site, State}
+use Rattle.rules.specs.declared.answer.Verdict.the-variants.{Accepted, Refused}
+use Rattle.rules.specs.declared.site.Site.{Site}
+use Rattle.rules.specs.declared.state.State.{State}
 use Rattle.rules.specs.Personality.{verdictOf}
 use Rattle.rules.specs.Site.{siteOf, detectorOf}
 use Rattle.rules.specs.IntervalTable.{isRunning, isHeld}

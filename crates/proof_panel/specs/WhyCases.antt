@@ -1,7 +1,13 @@
 -- Worked lines as one list with one statement: every case holds. Each can be checked by hand with the papers.
 use Rattle.laws.specs.Ground.{ℕ, zero, suc, _^_, List, [], _∷_, _++_, _≡_, replicate}
 use Prim.Native.String.{String}
-use Rattle.rules.specs.Types.{Accepted, Refused, Nothing, Interval, MinimumGreen, Running, KeptState, Movement, Walk, ClearanceOne, ClearanceTwo}
+use Rattle.rules.specs.declared.answer.Verdict.the-variants.{Accepted, Refused}
+use Rattle.rules.specs.declared.state.Held.the-variants.{Nothing}
+use Rattle.rules.specs.declared.state.Interval.{Interval}
+use Rattle.rules.specs.declared.state.Interval.the-variants.{MinimumGreen, Running}
+use Rattle.rules.specs.declared.state.KeptState.{KeptState}
+use Rattle.rules.specs.declared.state.Movement.{Movement}
+use Rattle.rules.specs.declared.state.Stage.the-variants.{Walk, ClearanceOne, ClearanceTwo}
 use Rattle.rules.specs.Site.{siteOf}
 use Rattle.rules.specs.State.{idle}
 use Rattle.rules.specs.Timed.{TimedState, timedStepped}

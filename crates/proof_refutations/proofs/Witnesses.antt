@@ -4,7 +4,7 @@ use mathlib.Core.Bool.{_||_}
 use mathlib.Core.List.{List, [], _∷_, _++_, map}
 use lib.Dec.{leb, eqb}
 use lib.ListN.{replicate}
-use Rattle.laws.specs.Folds.{if_then_else_}
+use Rattle.laws.specs.Ground.{if_then_else_}
 use Rattle.rules.specs.Junctions.{two, twos, fours, sections, shortPhase, junction, cutOffs}
 use Rattle.rules.specs.Runs.{StepCall, Call, stepCall, retimeCall}
 

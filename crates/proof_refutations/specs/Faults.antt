@@ -1,9 +1,20 @@
 -- Controllers that must not pass. Each but one is the controller of the scanning rules with its verdict, its step, its wait or its search for the next
 -- phase replaced. For the same calls the scanning rules answer as the rules do (`RunForgets`). The last is the controller of the rules with its
 -- retiming replaced.
-use Rattle.laws.specs.Ground.{ℕ, _+_, _-_, _^_, Bool, not, _&&_, _||_, List, map, eqb, leb}
-use Rattle.rules.specs.Types.{Verdict, Accepted, Refused, Site, Times, Counts, Held, Nothing, Phase, Interval, StartRed, EarlyCutOff, Yellow, AllRed, Movement, Position, State}
-use Rattle.laws.specs.Folds.{if_then_else_, sumOf}
+use Rattle.laws.specs.Ground.{ℕ, _+_, _-_, _^_, Bool, not, _&&_, _||_, List, map, eqb, leb, if_then_else_}
+use Rattle.rules.specs.declared.answer.Verdict.{Verdict}
+use Rattle.rules.specs.declared.answer.Verdict.the-variants.{Accepted, Refused}
+use Rattle.rules.specs.declared.site.Site.{Site}
+use Rattle.rules.specs.declared.site.Times.{Times}
+use Rattle.rules.specs.declared.state.Counts.{Counts}
+use Rattle.rules.specs.declared.state.Held.{Held}
+use Rattle.rules.specs.declared.state.Held.the-variants.{Nothing, Phase}
+use Rattle.rules.specs.declared.state.Interval.{Interval}
+use Rattle.rules.specs.declared.state.Interval.the-variants.{StartRed, EarlyCutOff, Yellow, AllRed}
+use Rattle.rules.specs.declared.state.Movement.{Movement}
+use Rattle.rules.specs.declared.state.Position.{Position}
+use Rattle.rules.specs.declared.state.State.{State}
+use Rattle.laws.specs.Folds.{sumOf}
 use Rattle.rules.specs.Site.{phaseTimes, ring}
 use Rattle.rules.specs.IntervalTable.{intervalRow, isIdle, isWalk, isSecond, isStartRed, isHeld}
 use Rattle.rules.specs.Personality.{verdictOf}

@@ -11,7 +11,8 @@ use borrow.Author.Tests.{eqb-true, eqb-false, eq-eqb, ne-eqb}
 use lib.Dec.{eqb}
 use lib.ListN.{length}
 use Rattle.rules.specs.declared.state.Held.the-variants.{Phase}
-use Rattle.laws.specs.Folds.{if_then_else_, sumOf}
+use Rattle.laws.specs.Ground.{if_then_else_}
+use Rattle.laws.specs.Folds.{sumOf}
 use Rattle.rules.specs.IntervalTable.{isHeld}
 use Rattle.rules.specs.Demands.{after, before, firstIn}
 use Rattle.laws.proofs.Booleans.{or-right, decided, never-both}

@@ -8,7 +8,7 @@ use lib.Dec.{ltb, eqb}
 use native.Mathlib.Nat.{mul-suc, mul-zero, mul-add-div, mul-add-mod-self-left, div-eq-of-lt, mod-eq-of-lt, mul-le-mul}
 use native.Mathlib.Omega.{arith}
 use borrow.Author.Tests.{ltb-true, ltb-false, eqb-false}
-use Rattle.laws.specs.Folds.{if_then_else_}
+use Rattle.laws.specs.Ground.{if_then_else_}
 use Rattle.laws.specs.Bytes.{byteAt}
 use Rattle.laws.proofs.Booleans.{and-right}
 use Rattle.laws.proofs.Lists.{list-at}

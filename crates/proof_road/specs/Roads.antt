@@ -1,7 +1,7 @@
 -- What is promised of the simulated road: its vehicles are counted right, no step call in it is refused, demand 3 holds of it, and every refusal of the call
 -- is a written one.
 use Rattle.laws.specs.Ground.{ℕ, _+_, _*_, _/_, _%_, _≤_, _<_, Bool, true, false, _||_, List, map, _⊎_, _≡_, eqb, length}
-use Rattle.rules.specs.Types.{Accepted, Refused}
+use Rattle.rules.specs.declared.answer.Verdict.the-variants.{Accepted, Refused}
 use Rattle.laws.specs.Folds.{listOf}
 use Rattle.rules.specs.Personality.{verdictOf}
 use Rattle.rules.specs.Site.{siteOf}

@@ -13,7 +13,7 @@ use Rattle.rules.specs.declared.state.Interval.the-variants.{Running, EarlyCutO
 use Rattle.rules.specs.declared.state.Position.{Position}
 use Rattle.rules.specs.declared.state.Stage.{Stage}
 use Rattle.rules.specs.declared.state.State.{State}
-use Rattle.laws.specs.Folds.{if_then_else_}
+use Rattle.laws.specs.Ground.{if_then_else_}
 use Rattle.rules.specs.Site.{phaseTimes}
 use Rattle.rules.specs.IntervalTable.{isWalkOrFirst, isBeforeStart}
 use Rattle.rules.specs.State.{idle}

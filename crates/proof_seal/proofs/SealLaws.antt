@@ -11,7 +11,7 @@ use lib.Seq.{getD-set-same, getD-set-other}
 use borrow.Author.Tests.{lt-ltb, ne-eqb}
 use Rattle.rules.specs.declared.answer.Verdict.the-variants.{Accepted, Refused}
 use Rattle.laws.specs.Bytes.{byteAt}
-use Rattle.laws.specs.Folds.{if_then_else_}
+use Rattle.laws.specs.Ground.{if_then_else_}
 use Rattle.laws.proofs.Booleans.{and-false-right}
 use Rattle.laws.proofs.Indices.{same-or-apart}
 use Rattle.rules.specs.Verdicts.{_orElse_, refuseIf}

@@ -1,6 +1,7 @@
 -- The answers of sealing and resuming: every refusal has a written number and place, and a refused call writes nothing.
 use Rattle.laws.specs.Ground.{ℕ, Bool, true, _&&_, _||_, List, _⊎_, _≡_, eqb, leb}
-use Rattle.rules.specs.Types.{Verdict, Refused}
+use Rattle.rules.specs.declared.answer.Verdict.{Verdict}
+use Rattle.rules.specs.declared.answer.Verdict.the-variants.{Refused}
 use Rattle.rules.specs.Laws.{readingNumber, PlaceIn}
 use Rattle.board_seal.specs.SealCall.{sealVerdict, sealAnswer, sealAfter, resumeVerdict, resumeAnswer, resumeAfter}
 

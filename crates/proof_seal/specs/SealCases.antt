@@ -1,6 +1,7 @@
 -- Worked cases: the junction of two phases, its fresh state and the sealed record of this state, and what other records are refused with.
 use Rattle.laws.specs.Ground.{ℕ, List, [], _∷_, _++_, _≡_, length, take, replicate, set}
-use Rattle.rules.specs.Types.{Verdict, Accepted, Refused}
+use Rattle.rules.specs.declared.answer.Verdict.{Verdict}
+use Rattle.rules.specs.declared.answer.Verdict.the-variants.{Accepted, Refused}
 use Rattle.rules.specs.Site.{siteOf}
 use Rattle.rules.specs.Timed.{freshTimed}
 use Rattle.rules.specs.Kept.{freshKept}

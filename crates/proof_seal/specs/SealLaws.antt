@@ -1,9 +1,8 @@
 -- What sealing and resuming promise, over the bytes that C and Rust hold. A saved state is resumed as it was, or refused: for another version of
 -- the interface, for damage, or for another personality.
-use Rattle.laws.specs.Ground.{ℕ, _<_, true, List, _≡_, eqb, length, set}
-use Rattle.rules.specs.Types.{Accepted}
+use Rattle.laws.specs.Ground.{ℕ, _<_, true, List, _≡_, eqb, length, set, if_then_else_}
+use Rattle.rules.specs.declared.answer.Verdict.the-variants.{Accepted}
 use Rattle.laws.specs.Bytes.{byteAt}
-use Rattle.laws.specs.Folds.{if_then_else_}
 use Rattle.rules.specs.Personality.{verdictOf}
 use Rattle.base_crc.specs.CrcLaws.{SameAround, SameBytesAround}
 use Rattle.state_forms.specs.Forms.{AreBytes}

@@ -1,7 +1,7 @@
 -- Runs of the library that are sealed and resumed in the middle. The library is the controller of proof_board: a run is a list of step and retiming
 -- calls from the fresh state of an accepted personality, and its states are the caller's bytes.
 use Rattle.laws.specs.Ground.{ℕ, List, _++_, _≡_, length}
-use Rattle.rules.specs.Types.{Accepted}
+use Rattle.rules.specs.declared.answer.Verdict.the-variants.{Accepted}
 use Rattle.rules.specs.Personality.{verdictOf}
 use Rattle.rules.specs.Runs.{Controller, Call, takenFrom, leftBy}
 use Rattle.state_timed.specs.TimedLayout.{timedBytes}

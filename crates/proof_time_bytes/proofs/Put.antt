@@ -16,7 +16,8 @@ use Rattle.rules.specs.declared.site.Site.{Site}
 use Rattle.rules.specs.declared.site.Times.{Times}
 use Rattle.rules.specs.declared.site.WalkTimes.{WalkTimes}
 use Rattle.laws.specs.Bytes.{byteAt, twoAt}
-use Rattle.laws.specs.Folds.{if_then_else_, rowOf}
+use Rattle.laws.specs.Ground.{if_then_else_}
+use Rattle.laws.specs.Folds.{rowOf}
 use Rattle.rules.specs.Personality.{bodyAt, recordAt, phasesHead, groupsHead, conflictsHead, detectorsHead, pedestriansHead, pastSection, earlyHead, hasEarly, orderHead, phaseCount, movementCount, verdictOf}
 use Rattle.rules.specs.Site.{noPhaseTimes, noWalkTimes, earlyTimeAt, phaseTimesAt, walkTimesAt, timesIn, siteOf, phaseTimes, walkTimes}
 use Rattle.rules.specs.SiteTimes.{under, timesWithin, admitted}

@@ -10,7 +10,8 @@ use lib.ListN.{length, getD}
 use Rattle.rules.specs.declared.site.Detector.{Detector}
 use Rattle.rules.specs.declared.site.Group.{Group}
 use Rattle.rules.specs.declared.site.Range.{Range}
-use Rattle.laws.specs.Folds.{if_then_else_, countOf, rowOf, indicesOf}
+use Rattle.laws.specs.Ground.{if_then_else_}
+use Rattle.laws.specs.Folds.{countOf, rowOf, indicesOf}
 use Rattle.laws.specs.Bytes.{byteAt, twoAt, fourAt, bit}
 use Rattle.rules.specs.Personality.{bodyLength, kindAt, bodyAt, recordAt, siteKind, editionOf, phaseCount, groupCount, groupsHead, conflictsHead, detectorsHead, pedestriansHead, pastSection, hasHead, earlyHead, hasEarly, orderHead, hasOrder, endOf, groupSet, groupMark, pedestrian, pedestriansBefore, movementCount, conflictSet, detectorCount, detectorPhase, detectorMode, orderAt}
 use Rattle.rules.specs.Site.{timesIn, crossingAt, orderIn, siteOf}

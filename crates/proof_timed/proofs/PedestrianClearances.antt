@@ -15,7 +15,7 @@ use Rattle.rules.specs.declared.site.WalkTimes.{WalkTimes}
 use Rattle.rules.specs.declared.state.Movement.{Movement}
 use Rattle.rules.specs.declared.state.Stage.the-variants.{Idle, ClearanceOne, ClearanceTwo}
 use Rattle.rules.specs.declared.state.State.{State}
-use Rattle.laws.specs.Folds.{if_then_else_}
+use Rattle.laws.specs.Ground.{if_then_else_}
 use Rattle.rules.specs.Site.{walkTimes, isPedestrian, movementOf, conflict}
 use Rattle.rules.specs.IntervalTable.{isIdle, isWalk}
 use Rattle.rules.specs.State.{idle, movement}

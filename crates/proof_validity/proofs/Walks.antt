@@ -13,7 +13,7 @@ use Rattle.rules.specs.declared.state.Interval.the-variants.{StartRed, LateStar
 use Rattle.rules.specs.declared.state.Position.{Position}
 use Rattle.rules.specs.declared.state.Stage.the-variants.{Walk}
 use Rattle.rules.specs.declared.state.State.{State}
-use Rattle.laws.specs.Folds.{if_then_else_}
+use Rattle.laws.specs.Ground.{if_then_else_}
 use Rattle.rules.specs.Site.{crosses}
 use Rattle.rules.specs.IntervalTable.{isIdle, isRunning, isBeforeStart, phaseHeld}
 use Rattle.rules.specs.State.{movement}

@@ -1,6 +1,5 @@
 -- The waits of example sites as numbers, and that they are reached.
-use Rattle.laws.specs.Ground.{ℕ, zero, suc, _+_, _^_, Bool, true, false, List, [], _∷_, _++_, _≡_, eqb, drop, replicate}
-use Rattle.laws.specs.Folds.{if_then_else_}
+use Rattle.laws.specs.Ground.{ℕ, zero, suc, _+_, _^_, Bool, true, false, List, [], _∷_, _++_, _≡_, eqb, drop, replicate, if_then_else_}
 use Rattle.rules.specs.Site.{siteOf}
 use Rattle.rules.specs.State.{fresh}
 use Rattle.rules.specs.Waits.{phaseWait, movementWait, waitsOf}

@@ -15,7 +15,8 @@ use Rattle.rules.specs.declared.state.Position.{Position}
 use Rattle.rules.specs.declared.state.State.{State}
 use Rattle.rules.specs.declared.state.Stage.{Stage}
 use Rattle.rules.specs.declared.state.Stage.the-variants.{Idle, Walk, ClearanceOne, ClearanceTwo}
-use Rattle.laws.specs.Folds.{if_then_else_, greatestOf}
+use Rattle.laws.specs.Ground.{if_then_else_}
+use Rattle.laws.specs.Folds.{greatestOf}
 use Rattle.rules.specs.Site.{walkTimes, crosses}
 use Rattle.rules.specs.IntervalTable.{isIdle, isWalk, isWalkOrFirst, isSecond, isLeaving}
 use Rattle.rules.specs.State.{highestAge, movement}

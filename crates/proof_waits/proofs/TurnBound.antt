@@ -13,7 +13,8 @@ use Rattle.rules.specs.declared.state.Held.the-variants.{Nothing, Phase}
 use Rattle.rules.specs.declared.state.Interval.{Interval}
 use Rattle.rules.specs.declared.state.Interval.the-variants.{StartRed, LateStart, MinimumGreen, Running, EarlyCutOff, Yellow, AllRed}
 use Rattle.rules.specs.declared.state.State.{State}
-use Rattle.laws.specs.Folds.{if_then_else_, sumOf, greatestOf}
+use Rattle.laws.specs.Ground.{if_then_else_}
+use Rattle.laws.specs.Folds.{sumOf, greatestOf}
 use Rattle.rules.specs.Site.{walkTimes}
 use Rattle.rules.specs.IntervalTable.{phaseHeld, isHeld, isLeaving, isBeforeStart}
 use Rattle.rules.specs.State.{movement, targetValid}

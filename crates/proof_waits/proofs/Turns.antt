@@ -15,7 +15,8 @@ use Rattle.rules.specs.declared.state.Interval.{Interval}
 use Rattle.rules.specs.declared.state.Interval.the-variants.{StartRed, LateStart, MinimumGreen, Running, EarlyCutOff, Yellow, AllRed}
 use Rattle.rules.specs.declared.state.Position.{Position}
 use Rattle.rules.specs.declared.state.State.{State}
-use Rattle.laws.specs.Folds.{if_then_else_, greatestOf}
+use Rattle.laws.specs.Ground.{if_then_else_}
+use Rattle.laws.specs.Folds.{greatestOf}
 use Rattle.rules.specs.Site.{phaseTimes, walkTimes, crosses}
 use Rattle.rules.specs.IntervalTable.{phaseHeld, isIdle, isGreen, isRunning, isBeforeStart, isLeaving}
 use Rattle.rules.specs.State.{highestAge, movement}

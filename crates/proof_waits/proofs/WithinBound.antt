@@ -5,7 +5,8 @@ use mathlib.Core.Path.{_≡_, refl}
 use native.Mathlib.Omega.{arith}
 use lib.Dec.{eqb}
 use Rattle.rules.specs.declared.site.Site.{Site}
-use Rattle.laws.specs.Folds.{if_then_else_, greatestOf}
+use Rattle.laws.specs.Ground.{if_then_else_}
+use Rattle.laws.specs.Folds.{greatestOf}
 use Rattle.rules.specs.Site.{phaseTimes, walkTimes, crosses}
 use Rattle.rules.specs.WaitBound.{waitBound}
 use Rattle.rules.specs.Waits.{leavingOf, greenOf, walkEnding, ending, turnOf, restOf, comesAfter, clearingOf, clearsFirst, ownOf, phaseWaitBy, movementWaitBy, phaseWait, movementWait, phaseOfMovement}

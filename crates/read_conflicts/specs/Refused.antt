@@ -1,10 +1,9 @@
 -- Internal: no promise cites this file. Numbers 9 and 10 of kind 4 as one test, which takes the number, and what the sets hold that a record
 -- is compared with.
-use Rattle.laws.specs.Ground.{ℕ, _/_, _%_, _^_, _<_, Bool, false, _&&_, _||_, List, _≡_, eqb, getD}
-use Rattle.rules.specs.Types.{Verdict}
+use Rattle.laws.specs.Ground.{ℕ, _/_, _%_, _^_, _<_, Bool, false, _&&_, _||_, List, _≡_, eqb, getD, if_then_else_}
+use Rattle.rules.specs.declared.answer.Verdict.{Verdict}
 use Rattle.laws.specs.Bytes.{bit}
 use Rattle.rules.specs.Personality.{recordAt, groupCount, groupSet, conflictsHead, conflictSet, badConflict, conflictInPhase}
-use Rattle.laws.specs.Folds.{if_then_else_}
 use Rattle.rules.specs.Verdicts.{refuseIf, firstOf}
 use Rattle.read_conflicts_turned.specs.Turned.{Turned}
 

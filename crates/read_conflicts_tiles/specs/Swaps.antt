@@ -1,8 +1,8 @@
 -- Internal: no promise cites this file. Swaps of bits in pairs, in a number of 64 bits: the lower place of each pair is a bit of `low`, and
 -- the upper place is `shift` above it.
-use Rattle.laws.specs.Ground.{ℕ, _+_, _-_, Bool, not, _&&_, leb, ltb}
+use Rattle.laws.specs.Ground.{ℕ, _+_, _-_, Bool, not, _&&_, leb, ltb, if_then_else_}
 use Rattle.laws.specs.Bytes.{bit}
-use Rattle.laws.specs.Folds.{if_then_else_, allOf}
+use Rattle.laws.specs.Folds.{allOf}
 
 -- k is the upper place of a pair
 unfoldable pub upper : ℕ → ℕ → ℕ → Bool

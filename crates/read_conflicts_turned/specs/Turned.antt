@@ -1,8 +1,7 @@
 -- Internal: no promise cites this file. The sets of a personality turned round: for each group the groups that name it, and for each phase
 -- the groups that are in it.
-use Rattle.laws.specs.Ground.{ℕ, _+_, _*_, _<_, Bool, List, _≡_, eqb, getD}
+use Rattle.laws.specs.Ground.{ℕ, _+_, _*_, _<_, Bool, List, _≡_, eqb, getD, if_then_else_}
 use Rattle.laws.specs.Bytes.{bit}
-use Rattle.laws.specs.Folds.{if_then_else_}
 use Rattle.rules.specs.Personality.{groupCount, groupSet, conflictSet}
 
 -- with 9: group j names group r of band a; with another number: group j is in phase r

@@ -1,6 +1,7 @@
 -- Internal: no promise cites this file. What the reading of kind 3 answers: its verdict and, if it is accepted, what the marks say.
 use Rattle.laws.specs.Ground.{ℕ, _^_, _<_, List, _≡_}
-use Rattle.rules.specs.Types.{Verdict, Accepted}
+use Rattle.rules.specs.declared.answer.Verdict.{Verdict}
+use Rattle.rules.specs.declared.answer.Verdict.the-variants.{Accepted}
 use Rattle.laws.specs.Bytes.{bit}
 use Rattle.laws.specs.Folds.{anyOf}
 use Rattle.rules.specs.Personality.{phaseCount, groupCount, movementCount, walksPhase, stopsEarly}

@@ -1,7 +1,7 @@
 // The edition of a personality, and the places of its sections.
 ghost use Prim.Native.Nat.{_+_, _≤_};
 ghost use mathlib.Core.Path.{_≡_};
-ghost use Rattle.laws.specs.Folds.{if_then_else_};
+ghost use Rattle.laws.specs.Ground.{if_then_else_};
 ghost use Rattle.rules.specs.Personality.{siteKind, editionOf, bodyLength, pastSection, hasHead};
 ghost use Rattle.read_layout.specs.LayoutOf.{LayoutOf};
 use base_bytes::byte_at;

@@ -1,6 +1,8 @@
 -- Internal: no promise cites this file. A road from its start to its end, in cells, and then in results.
 use Rattle.laws.specs.Ground.{ℕ, _≤_, false, List, _≡_, length}
-use Rattle.rules.specs.Types.{Accepted, Site, KeptState}
+use Rattle.rules.specs.declared.answer.Verdict.the-variants.{Accepted}
+use Rattle.rules.specs.declared.site.Site.{Site}
+use Rattle.rules.specs.declared.state.KeptState.{KeptState}
 use Rattle.rules.specs.Personality.{verdictOf}
 use Rattle.rules.specs.Site.{siteOf}
 use Rattle.rules.specs.Kept.{freshKept}

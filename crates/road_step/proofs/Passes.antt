@@ -10,7 +10,8 @@ use lib.Pow.{pow-pos}
 use native.Mathlib.Numerals.{add-one}
 use native.Mathlib.Omega.{arith}
 use Rattle.laws.specs.Bytes.{bit, byteAt}
-use Rattle.laws.specs.Folds.{if_then_else_, anyOf, listOf}
+use Rattle.laws.specs.Ground.{if_then_else_}
+use Rattle.laws.specs.Folds.{anyOf, listOf}
 use Rattle.laws.proofs.Folds.{any-same}
 use Rattle.laws.proofs.Lists.{list-same, list-at}
 use Rattle.laws.proofs.Bits.{bit-blank, same-bits}

@@ -1,7 +1,9 @@
 -- Internal: no promise cites this file. The vehicle groups that show green, as a set of bits.
 use Rattle.laws.specs.Ground.{ℕ, _^_, _<_, Bool, false, _&&_, _||_, _⊎_, _≡_, eqb}
 use Rattle.laws.specs.Bytes.{bit}
-use Rattle.rules.specs.Types.{Site, Position, State}
+use Rattle.rules.specs.declared.site.Site.{Site}
+use Rattle.rules.specs.declared.state.Position.{Position}
+use Rattle.rules.specs.declared.state.State.{State}
 use Rattle.rules.specs.Site.{isPedestrian}
 use Rattle.rules.specs.Colours.{green, shownIn}
 

@@ -1,6 +1,8 @@
 -- Internal: no promise cites this file. A state and a row of cells that hold the road after n steps, and one step of it.
 use Rattle.laws.specs.Ground.{ℕ, _+_, _*_, _≤_, _<_, false, List, _≡_, length}
-use Rattle.rules.specs.Types.{Accepted, Site, KeptState}
+use Rattle.rules.specs.declared.answer.Verdict.the-variants.{Accepted}
+use Rattle.rules.specs.declared.site.Site.{Site}
+use Rattle.rules.specs.declared.state.KeptState.{KeptState}
 use Rattle.rules.specs.Personality.{verdictOf}
 use Rattle.rules.specs.Site.{siteOf}
 use Rattle.road_streams.specs.Road.{streamCount, badStreams, roadAfter}

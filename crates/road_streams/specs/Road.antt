@@ -1,8 +1,11 @@
 -- Request eight of document 02: vehicles on a simulated road. Streams join queues and leave them, and the controller runs from the fresh state on what its
 -- detectors see of the queues. Each step of the controller is a step call of the rules, by the personality's own times.
-use Rattle.laws.specs.Ground.{ℕ, zero, suc, _+_, _-_, _*_, _/_, _%_, _^_, Bool, not, _&&_, _||_, List, _++_, eqb, ltb, length, drop, getD, replicate}
-use Rattle.rules.specs.Types.{Verdict, Accepted, Refused, Site, KeptState}
-use Rattle.laws.specs.Folds.{if_then_else_, anyOf, sumOf, listOf}
+use Rattle.laws.specs.Ground.{ℕ, zero, suc, _+_, _-_, _*_, _/_, _%_, _^_, Bool, not, _&&_, _||_, List, _++_, eqb, ltb, length, drop, getD, replicate, if_then_else_}
+use Rattle.rules.specs.declared.answer.Verdict.{Verdict}
+use Rattle.rules.specs.declared.answer.Verdict.the-variants.{Accepted, Refused}
+use Rattle.rules.specs.declared.site.Site.{Site}
+use Rattle.rules.specs.declared.state.KeptState.{KeptState}
+use Rattle.laws.specs.Folds.{anyOf, sumOf, listOf}
 use Rattle.laws.specs.Bytes.{byteAt, twoAt}
 use Rattle.rules.specs.Verdicts.{_orElse_, refuseIf}
 use Rattle.rules.specs.Personality.{verdictOf}

@@ -1,6 +1,9 @@
 -- Worked cases of the simulated road, in a single list with one statement: each of them holds. The site is the junction of two phases.
 use Rattle.laws.specs.Ground.{ℕ, zero, suc, Bool, true, false, List, [], _∷_, _++_, map, _≡_}
-use Rattle.rules.specs.Types.{Verdict, Accepted, Refused, Interval, StartRed, MinimumGreen, Running}
+use Rattle.rules.specs.declared.answer.Verdict.{Verdict}
+use Rattle.rules.specs.declared.answer.Verdict.the-variants.{Accepted, Refused}
+use Rattle.rules.specs.declared.state.Interval.{Interval}
+use Rattle.rules.specs.declared.state.Interval.the-variants.{StartRed, MinimumGreen, Running}
 use Rattle.rules.specs.Junctions.{junction, crossing}
 use Rattle.rules.specs.CallCases.{AllHold}
 use Rattle.road_streams.specs.declared.Traffic.{Traffic}

@@ -9,7 +9,8 @@ use lib.Dec.{leb, eqb}
 use native.Mathlib.Omega.{arith}
 use borrow.Author.Tests.{leb-true, eqb-true}
 use Rattle.rules.specs.Types.{One, Two, PhaseTimes, Range, Site, WalkTimes}
-use Rattle.laws.specs.Folds.{if_then_else_, allOf}
+use Rattle.laws.specs.Ground.{if_then_else_}
+use Rattle.laws.specs.Folds.{allOf}
 use Rattle.rules.specs.Limits.{limits, limitOf, startRedSetting, phaseSettings, walkSettings, earlySetting, settingCount}
 use Rattle.rules.specs.Site.{phaseTimes, walkTimes}
 use Rattle.rules.specs.State.{highestAge}

@@ -1,7 +1,7 @@
 -- The colours that the groups show in a state.
-use Rattle.laws.specs.Ground.{ℕ, _+_, Bool, not, _&&_, _||_, List, _++_, _≡_, eqb, leb, drop, getD}
+use Rattle.laws.specs.Ground.{ℕ, _+_, Bool, not, _&&_, _||_, List, _++_, _≡_, eqb, leb, drop, getD, if_then_else_}
 use Rattle.rules.specs.Types.{Group, PhaseTimes, Site, Times, Held, Interval, StartRed, LateStart, MinimumGreen, Running, EarlyCutOff, Yellow, AllRed, Movement, Position, Stage, Idle, Walk, ClearanceOne, ClearanceTwo, State}
-use Rattle.laws.specs.Folds.{if_then_else_, listOf}
+use Rattle.laws.specs.Folds.{listOf}
 use Rattle.laws.specs.Bytes.{bit}
 use Rattle.rules.specs.Site.{groupOf, phaseTimes, isPedestrian, movementOf}
 use Rattle.rules.specs.IntervalTable.{isEarly, heldIn}

@@ -1,7 +1,6 @@
 -- Part 3 of a step: the gap count and the maximum count, in minimum green and running.
-use Rattle.laws.specs.Ground.{ℕ, _+_, _-_, min, Bool, _&&_, _||_, ltb}
+use Rattle.laws.specs.Ground.{ℕ, _+_, _-_, min, Bool, _&&_, _||_, ltb, if_then_else_}
 use Rattle.rules.specs.Types.{PhaseTimes, Counts, Interval}
-use Rattle.laws.specs.Folds.{if_then_else_}
 use Rattle.rules.specs.IntervalTable.{isGreen, isRunning}
 
 -- in minimum green and running the gap count is G if a detector extends the phase; else it counts down to 0

@@ -1,7 +1,6 @@
 -- Demand 3 as one statement about every run: every list of step and retiming calls on an accepted personality. Some of the calls may be refused.
-use Rattle.laws.specs.Ground.{ℕ, _+_, _≤_, _<_, Bool, true, false, not, _&&_, _||_, List, [], _∷_, _++_, map, _≡_, eqb, ltb, length, getD, replicate}
+use Rattle.laws.specs.Ground.{ℕ, _+_, _≤_, _<_, Bool, true, false, not, _&&_, _||_, List, [], _∷_, _++_, map, _≡_, eqb, ltb, length, getD, replicate, if_then_else_}
 use Rattle.rules.specs.Types.{Verdict, Site, State}
-use Rattle.laws.specs.Folds.{if_then_else_}
 use Rattle.rules.specs.Verdicts.{_orElse_, refuseIf}
 use Rattle.rules.specs.Site.{siteOf, phaseTimes, walkTimes, isPedestrian, movementOf, conflict}
 use Rattle.rules.specs.IntervalTable.{isMinimumGreen, isRunning, isWalk}

@@ -1,7 +1,7 @@
 -- Part 1 of a step: demands.
-use Rattle.laws.specs.Ground.{ℕ, _+_, _%_, Bool, not, _&&_, _||_, List, [], _∷_, _++_, eqb, leb, getD}
+use Rattle.laws.specs.Ground.{ℕ, _+_, _%_, Bool, not, _&&_, _||_, List, [], _∷_, _++_, eqb, leb, getD, if_then_else_}
 use Rattle.rules.specs.Types.{Detector, Site, Demands, Held, Nothing, Phase, Movement, Position, State}
-use Rattle.laws.specs.Folds.{if_then_else_, anyOf, setOf}
+use Rattle.laws.specs.Folds.{anyOf, setOf}
 use Rattle.laws.specs.Bytes.{bit}
 use Rattle.rules.specs.Site.{detectorOf, crosses, ring}
 use Rattle.rules.specs.IntervalTable.{isWalk, isGreen}

@@ -1,8 +1,8 @@
 -- Part 4 of a step: the interval. At most one change is made in a step.
-use Rattle.laws.specs.Ground.{ℕ, Bool, not, _&&_, _||_, List, eqb, leb, getD}
+use Rattle.laws.specs.Ground.{ℕ, Bool, not, _&&_, _||_, List, eqb, leb, getD, if_then_else_}
 use Rattle.rules.specs.Types.{PhaseTimes, Times, Counts, Held, Nothing, Phase, Interval, StartRed, LateStart, MinimumGreen, Running, EarlyCutOff, Yellow, AllRed, Movement, Position, Stage}
 use Rattle.laws.specs.Bytes.{bit}
-use Rattle.laws.specs.Folds.{if_then_else_, anyOf, setOf}
+use Rattle.laws.specs.Folds.{anyOf, setOf}
 use Rattle.rules.specs.Site.{phaseTimes}
 use Rattle.rules.specs.IntervalTable.{isWalkOrFirst, isSecond, isMinimumGreen, isRunning, isBeforeStart, isAllRed, phaseHeld}
 use Rattle.rules.specs.State.{idle}

@@ -1,9 +1,9 @@
 -- Statements that show that the rules fit together: what each table of limits must provide, what is known of an accepted site, which refusals
 -- there are, how long a personality and how large a wait bound can be, what the buffer holds at each point of the pass over the groups, and that
 -- every phase can be called. What needs acceptance is stated over the bytes of an accepted personality.
-use Rattle.laws.specs.Ground.{ℕ, _+_, _*_, _%_, _^_, _≤_, _<_, Bool, true, false, _&&_, _||_, List, _⊎_, _≡_, eqb, leb, length, getD}
+use Rattle.laws.specs.Ground.{ℕ, _+_, _*_, _%_, _^_, _≤_, _<_, Bool, true, false, _&&_, _||_, List, _⊎_, _≡_, eqb, leb, length, getD, if_then_else_}
 use Rattle.rules.specs.Types.{Accepted, Edition, PhaseTimes, Range, Site, Size, Times, WalkTimes, State}
-use Rattle.laws.specs.Folds.{if_then_else_, allOf, countOf}
+use Rattle.laws.specs.Folds.{allOf, countOf}
 use Rattle.rules.specs.Limits.{limits, limitOf, startRedSetting, phaseSettings, walkSettings, earlySetting, settingCount}
 use Rattle.rules.specs.Personality.{kindAt, siteHead, siteKind, knownMode, verdictOf}
 use Rattle.rules.specs.Site.{siteOf, groupOf, detectorOf, phaseTimes, walkTimes, inPhase, crosses, isPedestrian, movementOf, conflict}

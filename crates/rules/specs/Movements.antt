@@ -1,8 +1,8 @@
 -- Part 2 of a step: movements. Walk, C1 and C2 follow each other; each ends when its age has reached its setting, and then the movement is
 -- idle. A walk also goes on until it may end.
-use Rattle.laws.specs.Ground.{ℕ, _+_, min, Bool, true, _&&_, _||_, List, eqb, leb, getD}
+use Rattle.laws.specs.Ground.{ℕ, _+_, min, Bool, true, _&&_, _||_, List, eqb, leb, getD, if_then_else_}
 use Rattle.rules.specs.Types.{PhaseTimes, Times, WalkTimes, Counts, Interval, Movement, Stage, Idle, Walk, ClearanceOne, ClearanceTwo}
-use Rattle.laws.specs.Folds.{if_then_else_, listOf}
+use Rattle.laws.specs.Folds.{listOf}
 use Rattle.rules.specs.Site.{walkTimes}
 use Rattle.rules.specs.IntervalTable.{isRunning}
 use Rattle.rules.specs.State.{highestAge, idle}

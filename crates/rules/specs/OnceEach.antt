@@ -1,7 +1,6 @@
 -- Once each while you wait, beside demand 3: from the step that registers a demand until it is met, no phase starts twice.
-use Rattle.laws.specs.Ground.{ℕ, _+_, _≤_, _<_, Bool, true, not, _&&_, _||_, List, [], _∷_, _++_, _≡_, eqb}
+use Rattle.laws.specs.Ground.{ℕ, _+_, _≤_, _<_, Bool, true, not, _&&_, _||_, List, [], _∷_, _++_, _≡_, eqb, if_then_else_}
 use Rattle.rules.specs.Types.{Site, Interval}
-use Rattle.laws.specs.Folds.{if_then_else_}
 use Rattle.rules.specs.Site.{siteOf, crosses}
 use Rattle.rules.specs.IntervalTable.{isRunning, isLeaving, isBeforeStart}
 use Rattle.rules.specs.Runs.{Step, Controller, byRules, acceptedSteps, OfEveryRun}

@@ -1,7 +1,7 @@
 -- The sections of a personality and their checks in order: numbers 1 to 12, 17, 18 and 21, each with its place. A place is a byte offset.
-use Rattle.laws.specs.Ground.{ℕ, _+_, _*_, _/_, _%_, _^_, Bool, not, _&&_, _||_, List, eqb, leb, ltb, length}
+use Rattle.laws.specs.Ground.{ℕ, _+_, _*_, _/_, _%_, _^_, Bool, not, _&&_, _||_, List, eqb, leb, ltb, length, if_then_else_}
 use Rattle.rules.specs.Types.{Verdict, Accepted, Edition, One, Two}
-use Rattle.laws.specs.Folds.{if_then_else_, anyOf, countOf}
+use Rattle.laws.specs.Folds.{anyOf, countOf}
 use Rattle.laws.specs.Bytes.{byteAt, twoAt, fourAt, bit}
 use Rattle.rules.specs.Limits.{limits, within, startRedSetting, phaseSettings, walkSettings, earlySetting}
 use Rattle.rules.specs.Verdicts.{_orElse_, refuseIf, firstOf}

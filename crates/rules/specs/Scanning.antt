@@ -1,8 +1,7 @@
 -- The rules without the kept set: each step finds the demanded phases by a scan. And the statements that the kept set equals this scan and
 -- changes nothing else.
-use Rattle.laws.specs.Ground.{ℕ, _<_, Bool, true, _&&_, List, _≡_}
+use Rattle.laws.specs.Ground.{ℕ, _<_, Bool, true, _&&_, List, _≡_, if_then_else_}
 use Rattle.rules.specs.Types.{Accepted, Site, Held, KeptState, State}
-use Rattle.laws.specs.Folds.{if_then_else_}
 use Rattle.rules.specs.Personality.{verdictOf}
 use Rattle.rules.specs.Site.{siteOf}
 use Rattle.rules.specs.State.{valid}

@@ -1,7 +1,7 @@
 -- The site that an accepted personality describes.
-use Rattle.laws.specs.Ground.{ℕ, _+_, Bool, List, eqb, getD}
+use Rattle.laws.specs.Ground.{ℕ, _+_, Bool, List, eqb, getD, if_then_else_}
 use Rattle.rules.specs.Types.{Detector, Group, PhaseTimes, Site, Times, WalkTimes}
-use Rattle.laws.specs.Folds.{if_then_else_, listOf, rowOf, countOf, indicesOf}
+use Rattle.laws.specs.Folds.{listOf, rowOf, countOf, indicesOf}
 use Rattle.laws.specs.Bytes.{twoAt, bit}
 use Rattle.rules.specs.Personality.{phaseCount, groupCount, detectorCount, movementCount, groupSet, groupMark, conflictSet, detectorPhase, detectorMode, pedestrian, phasesHead, pedestriansHead, earlyHead, hasEarly, hasOrder, orderAt, recordAt, editionOf}
 

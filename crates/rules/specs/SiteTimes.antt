@@ -1,7 +1,7 @@
 -- The times of a site as a value that may be replaced: the site with other times, and the times that a site may have.
-use Rattle.laws.specs.Ground.{ℕ, _+_, Bool, _||_, List, [], _∷_, eqb, ltb, replicate}
+use Rattle.laws.specs.Ground.{ℕ, _+_, Bool, _||_, List, [], _∷_, eqb, ltb, replicate, if_then_else_}
 use Rattle.rules.specs.Types.{PhaseTimes, Range, Site, Times, WalkTimes}
-use Rattle.laws.specs.Folds.{if_then_else_, allOf}
+use Rattle.laws.specs.Folds.{allOf}
 use Rattle.rules.specs.Limits.{limits, within, startRedSetting, phaseSettings, walkSettings, earlySetting}
 use Rattle.rules.specs.Site.{noPhaseTimes, noWalkTimes, phaseTimes, walkTimes}
 use Rattle.rules.specs.State.{every}

@@ -1,9 +1,9 @@
 -- Statements about timed states: what a step with waiting times does, that valid states stay valid, that the kept set changes nothing else, and
 -- which times are admitted and which personalities may hand them over. All are over the bytes of an accepted personality.
-use Rattle.laws.specs.Ground.{ℕ, _-_, _/_, _%_, _<_, Bool, true, false, not, _&&_, _||_, List, [], _∷_, _⊎_, _≡_, eqb, length, getD, replicate}
+use Rattle.laws.specs.Ground.{ℕ, _-_, _/_, _%_, _<_, Bool, true, false, not, _&&_, _||_, List, [], _∷_, _⊎_, _≡_, eqb, length, getD, replicate, if_then_else_}
 use Rattle.rules.specs.Types.{Accepted, Refused, PhaseTimes, Times, WalkTimes, KeptState, State}
 use Rattle.laws.specs.Bytes.{byteAt}
-use Rattle.laws.specs.Folds.{if_then_else_, listOf}
+use Rattle.laws.specs.Folds.{listOf}
 use Rattle.rules.specs.Personality.{bodyAt, phasesHead, groupsHead, pedestriansHead, earlyHead, hasEarly, orderHead, verdictOf}
 use Rattle.rules.specs.Site.{siteOf, timesIn, phaseTimes, walkTimes}
 use Rattle.rules.specs.IntervalTable.{isBeforeStart}

@@ -1,7 +1,6 @@
 -- A verdict is acceptance, or a refusal with its number and place. Of several checks in order, the first refusal is the verdict.
-use Rattle.laws.specs.Ground.{ℕ, zero, suc, Bool}
+use Rattle.laws.specs.Ground.{ℕ, zero, suc, Bool, if_then_else_}
 use Rattle.rules.specs.Types.{Verdict, Accepted, Refused, Outcome, Stepped, StepRefused, Report}
-use Rattle.laws.specs.Folds.{if_then_else_}
 
 infixr 5 _orElse_
 unfoldable pub _orElse_ : Verdict → Verdict → Verdict

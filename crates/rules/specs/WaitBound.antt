@@ -1,7 +1,7 @@
 -- The wait bound: start red plus the sum over the phases of L + M + X + 2 × (A + E + Y + R + C). E is the time of early cut-off green.
-use Rattle.laws.specs.Ground.{ℕ, _+_, _*_, List, getD}
+use Rattle.laws.specs.Ground.{ℕ, _+_, _*_, List, getD, if_then_else_}
 use Rattle.rules.specs.Types.{PhaseTimes, Site, Size, Times, WalkTimes}
-use Rattle.laws.specs.Folds.{if_then_else_, sumOf, greatestOf}
+use Rattle.laws.specs.Folds.{sumOf, greatestOf}
 use Rattle.rules.specs.Site.{noWalkTimes, phaseTimes, crosses}
 
 -- a phase's share, by its times and its A and C

@@ -1,8 +1,8 @@
 -- A wait for each phase and each movement, by the times alone: what may be under way when the demand comes, then one turn of every other phase,
 -- then the own late start. They stand beside the wait bound, which is one number for the whole site.
-use Rattle.laws.specs.Ground.{ℕ, _+_, max, Bool, true, not, _&&_, List, _++_, eqb}
+use Rattle.laws.specs.Ground.{ℕ, _+_, max, Bool, true, not, _&&_, List, _++_, eqb, if_then_else_}
 use Rattle.rules.specs.Types.{PhaseTimes, Site, WalkTimes}
-use Rattle.laws.specs.Folds.{if_then_else_, sumOf, greatestOf, listOf}
+use Rattle.laws.specs.Folds.{sumOf, greatestOf, listOf}
 use Rattle.rules.specs.Site.{phaseTimes, walkTimes, crosses, ring}
 use Rattle.rules.specs.IntervalTable.{isHeld, phaseHeld}
 use Rattle.rules.specs.Demands.{nextAfter}

@@ -1,8 +1,8 @@
 -- Part 5 of a step: walks.
-use Rattle.laws.specs.Ground.{ℕ, Bool, not, _&&_, _||_, List, getD}
+use Rattle.laws.specs.Ground.{ℕ, Bool, not, _&&_, _||_, List, getD, if_then_else_}
 use Rattle.rules.specs.Types.{Movement, Position, Walk}
 use Rattle.laws.specs.Bytes.{bit}
-use Rattle.laws.specs.Folds.{if_then_else_, listOf, setOf}
+use Rattle.laws.specs.Folds.{listOf, setOf}
 use Rattle.rules.specs.Site.{crosses}
 use Rattle.rules.specs.IntervalTable.{isIdle, isRunning}
 use Rattle.rules.specs.State.{idle}

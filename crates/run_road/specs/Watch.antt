@@ -1,6 +1,6 @@
 -- Internal: no promise cites this file. What the program's functions take for granted: lengths, and a road that may start.
 use Rattle.laws.specs.Ground.{ℕ, _*_, _≤_, List, length}
-use Rattle.rules.specs.Types.{Site}
+use Rattle.rules.specs.declared.site.Site.{Site}
 use Rattle.road_streams.specs.Road.{streamCount}
 use Rattle.road_run.specs.Whole.{OfPersonality}
 

@@ -1,8 +1,7 @@
 -- Internal: no promise cites this file. What comes out of a trace: a buffer with a line's text at its start.
-use Rattle.laws.specs.Ground.{ℕ, _+_, _≤_, List, [], _∷_, _++_, map, _≡_, leb, length, take, drop}
-use Rattle.rules.specs.Types.{Position}
+use Rattle.laws.specs.Ground.{ℕ, _+_, _≤_, List, [], _∷_, _++_, map, _≡_, leb, length, take, drop, if_then_else_}
+use Rattle.rules.specs.declared.state.Position.{Position}
 use Rattle.rules.specs.IntervalTable.{letterOf}
-use Rattle.laws.specs.Folds.{if_then_else_}
 use Rattle.rules.specs.TraceText.{phaseLetter, colourLetter, lineTail}
 
 -- the two parts of a line's tail: up to the groups' letters, and from there on

@@ -5,7 +5,7 @@ use mathlib.Core.Bool.{Bool, true, false}
 use mathlib.Core.Logic.{⊎-elim}
 use mathlib.Core.Path.{_≡_, refl, sym}
 use native.Mathlib.Nat.{add-zero, add-suc, suc-add, eq-or-lt-of-le, le-antisymm}
-use Rattle.laws.specs.Folds.{if_then_else_}
+use Rattle.laws.specs.Ground.{if_then_else_}
 use Rattle.laws.proofs.Booleans.{never-both}
 use Rattle.laws.proofs.Indices.{below-or-past, below-more, fails-to}
 use Rattle.sheet_settings.specs.Extremes.{Largest, Smallest, largestTo, smallestFrom}

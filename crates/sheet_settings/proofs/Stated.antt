@@ -10,7 +10,7 @@ use lib.IntN.{pos}
 use lib.Ieee.{Float, fin, binary64, le, mul, ofInt}
 use lib.Ieee.Positive.{num, den, den-pos}
 use borrow.Author.Tests.{leb-true, le-leb}
-use Rattle.laws.specs.Folds.{if_then_else_}
+use Rattle.laws.specs.Ground.{if_then_else_}
 use Rattle.rules.specs.declared.site.Edition.{Edition}
 use Rattle.rules.specs.declared.site.Edition.the-variants.{One, Two}
 use Rattle.rules.specs.Limits.{limits, limitOf, within, phaseSettings}

@@ -1,6 +1,5 @@
 -- The largest and the smallest whole number that passes a test: what they are, and how they are found.
-use Rattle.laws.specs.Ground.{ℕ, zero, suc, _<_, Bool, true, false, _≡_}
-use Rattle.laws.specs.Folds.{if_then_else_}
+use Rattle.laws.specs.Ground.{ℕ, zero, suc, _<_, Bool, true, false, _≡_, if_then_else_}
 
 -- ── What they are ──
 

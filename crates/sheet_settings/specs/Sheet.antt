@@ -1,10 +1,11 @@
 -- Request six of document 02: the settings of a site sheet, by source document 002. Metres are binary64 values; a whole number beside
 -- them is that number, unrounded.
-use Rattle.laws.specs.Ground.{ℕ, _+_, _*_, Bool, true, false, _&&_, _≡_, leb}
+use Rattle.laws.specs.Ground.{ℕ, _+_, _*_, Bool, true, false, _&&_, _≡_, leb, if_then_else_}
 use lib.IntN.{pos}
 use lib.Ieee.{Float, fin, binary64, le, mul}
-use Rattle.rules.specs.Types.{Report, Edition, One}
-use Rattle.laws.specs.Folds.{if_then_else_}
+use Rattle.rules.specs.declared.answer.Report.{Report}
+use Rattle.rules.specs.declared.site.Edition.{Edition}
+use Rattle.rules.specs.declared.site.Edition.the-variants.{One}
 use Rattle.rules.specs.Limits.{limits, limitOf, within, phaseSettings}
 use Rattle.sheet_settings.specs.declared.Answer.{Answer}
 use Rattle.sheet_settings.specs.declared.Answer.the-variants.{Settings, Refused}

@@ -1,10 +1,9 @@
 -- Request nine of document 02: the yellow time by speed and grade. The speed is in whole km/h, the grade in whole percent, uphill
 -- positive.
-use Rattle.laws.specs.Ground.{ℕ, _+_, _-_, _*_, max, Bool, true, false, _&&_, List, _≡_, leb, length, getD}
+use Rattle.laws.specs.Ground.{ℕ, _+_, _-_, _*_, max, Bool, true, false, _&&_, List, _≡_, leb, length, getD, if_then_else_}
 use lib.IntN.{ℤ, pos, negsuc, natAbs, _+ℤ_, _*ℤ_}
 use lib.Signed.{leZ}
-use Rattle.rules.specs.Types.{Report}
-use Rattle.laws.specs.Folds.{if_then_else_}
+use Rattle.rules.specs.declared.answer.Report.{Report}
 use Rattle.sheet_settings.specs.Extremes.{Smallest, smallestFrom}
 use Rattle.sheet_yellow.specs.declared.Answer.{Answer}
 use Rattle.sheet_yellow.specs.declared.Answer.the-variants.{Yellow, Refused}

@@ -2,7 +2,7 @@
 use Rattle.laws.specs.Ground.{ℕ, _+_, _≤_, true, _≡_}
 use lib.IntN.{ℤ}
 use lib.Signed.{leZ}
-use Rattle.rules.specs.Types.{Edition}
+use Rattle.rules.specs.declared.site.Edition.{Edition}
 use Rattle.rules.specs.Limits.{limits, within, phaseSettings}
 use Rattle.sheet_yellow.specs.declared.Answer.the-variants.{Yellow}
 use Rattle.sheet_yellow.specs.Yellow.{answerOf}

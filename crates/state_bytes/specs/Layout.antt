@@ -1,7 +1,15 @@
 -- The layout of a state in bytes. Each record has a table with a row for each field: the place of its first byte in the record, its form,
 -- and the field.
 use Rattle.laws.specs.Ground.{ℕ, _+_, List}
-use Rattle.rules.specs.Types.{Counts, Demands, Interval, StartRed, KeptState, Movement, Position, Stage, Idle}
+use Rattle.rules.specs.declared.state.Counts.{Counts}
+use Rattle.rules.specs.declared.state.Demands.{Demands}
+use Rattle.rules.specs.declared.state.Interval.{Interval}
+use Rattle.rules.specs.declared.state.Interval.the-variants.{StartRed}
+use Rattle.rules.specs.declared.state.KeptState.{KeptState}
+use Rattle.rules.specs.declared.state.Movement.{Movement}
+use Rattle.rules.specs.declared.state.Position.{Position}
+use Rattle.rules.specs.declared.state.Stage.{Stage}
+use Rattle.rules.specs.declared.state.Stage.the-variants.{Idle}
 use Rattle.rules.specs.IntervalTable.{intervalRow, intervals, stageRow, stages}
 use Rattle.rules.specs.State.{idle}
 use Rattle.state_forms.specs.Forms.{Form, byte, two, coded, held, row, Table, field, _⊗_, made}

@@ -1,6 +1,9 @@
 -- Two states, byte by byte.
 use Rattle.laws.specs.Ground.{_+_, [], _∷_, _≡_}
-use Rattle.rules.specs.Types.{Phase, Yellow, KeptState, ClearanceOne, ClearanceTwo}
+use Rattle.rules.specs.declared.state.Held.the-variants.{Phase}
+use Rattle.rules.specs.declared.state.Interval.the-variants.{Yellow}
+use Rattle.rules.specs.declared.state.KeptState.{KeptState}
+use Rattle.rules.specs.declared.state.Stage.the-variants.{ClearanceOne, ClearanceTwo}
 use Rattle.rules.specs.State.{idle}
 use Rattle.rules.specs.Kept.{freshKept}
 use Rattle.state_bytes.specs.Layout.{encoded}

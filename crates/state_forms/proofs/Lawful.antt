@@ -14,7 +14,8 @@ use Rattle.rules.specs.declared.state.Held.{Held}
 use Rattle.rules.specs.declared.state.Held.the-variants.{Nothing, Phase}
 use Rattle.laws.specs.Bytes.{byteAt, twoAt}
 use Rattle.rules.specs.IntervalTable.{isHeld, phaseHeld}
-use Rattle.laws.specs.Folds.{if_then_else_, allOf, listOf}
+use Rattle.laws.specs.Ground.{if_then_else_}
+use Rattle.laws.specs.Folds.{allOf, listOf}
 use Rattle.laws.proofs.Booleans.{decided, and-left, and-right, and-both, or-cases}
 use Rattle.laws.proofs.Folds.{all-at}
 use Rattle.laws.proofs.Lists.{list-length, list-at, listed}

@@ -1,10 +1,11 @@
 -- How values are written in bytes. A form says how many bytes a value has, which bytes they are, whether the bytes at a place are such a
 -- value, and which value they are. `fits` says which values the type of the machine has. Numbers are little-endian.
-use Rattle.laws.specs.Ground.{ℕ, zero, suc, _+_, _*_, _/_, _%_, _<_, Bool, true, _&&_, _||_, List, [], _∷_, _++_, _≡_, eqb, ltb, length, getD}
-use Rattle.rules.specs.Types.{Held, Nothing, Phase}
+use Rattle.laws.specs.Ground.{ℕ, zero, suc, _+_, _*_, _/_, _%_, _<_, Bool, true, _&&_, _||_, List, [], _∷_, _++_, _≡_, eqb, ltb, length, getD, if_then_else_}
+use Rattle.rules.specs.declared.state.Held.{Held}
+use Rattle.rules.specs.declared.state.Held.the-variants.{Nothing, Phase}
 use Rattle.laws.specs.Bytes.{byteAt, twoAt}
 use Rattle.rules.specs.IntervalTable.{isHeld, phaseHeld}
-use Rattle.laws.specs.Folds.{if_then_else_, allOf, listOf}
+use Rattle.laws.specs.Folds.{allOf, listOf}
 
 pub record Form (A : Type 0) : Type 1 where
   pub width : ℕ

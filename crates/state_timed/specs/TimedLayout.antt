@@ -1,9 +1,9 @@
 -- The layout of a timed state in 336 bytes: the state in 39, the ruling times in 148, a flag that is 1 if times wait and else 0, and the
 -- waiting times in 148. Another flag is no state. If none wait, whether every waiting time is 0 is a test of the valid state (`waitingValid`)
 -- and not of the bytes; both are 13.
-use Rattle.laws.specs.Ground.{ℕ, _+_, Bool, true, false, _&&_, List, [], _∷_, eqb, length}
-use Rattle.rules.specs.Types.{Times, KeptState}
-use Rattle.laws.specs.Folds.{if_then_else_}
+use Rattle.laws.specs.Ground.{ℕ, _+_, Bool, true, false, _&&_, List, [], _∷_, eqb, length, if_then_else_}
+use Rattle.rules.specs.declared.site.Times.{Times}
+use Rattle.rules.specs.declared.state.KeptState.{KeptState}
 use Rattle.rules.specs.Timed.{TimedState, Waiting, keptOf, noneWaiting}
 use Rattle.state_forms.specs.Forms.{Form, coded, flagCode, Table, field, _⊗_, made}
 use Rattle.state_bytes.specs.Layout.{state}

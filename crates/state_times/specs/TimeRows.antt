@@ -1,9 +1,11 @@
 -- Internal: no promise cites this file. Rows of time records in bytes. A personality and a state have records of the same form, at different places; a site has as many of them as
 -- it has phases and movements.
-use Rattle.laws.specs.Ground.{ℕ, _+_, _*_, Bool, List}
-use Rattle.rules.specs.Types.{PhaseTimes, Times, WalkTimes}
+use Rattle.laws.specs.Ground.{ℕ, _+_, _*_, Bool, List, if_then_else_}
+use Rattle.rules.specs.declared.site.PhaseTimes.{PhaseTimes}
+use Rattle.rules.specs.declared.site.Times.{Times}
+use Rattle.rules.specs.declared.site.WalkTimes.{WalkTimes}
 use Rattle.laws.specs.Bytes.{twoAt}
-use Rattle.laws.specs.Folds.{if_then_else_, rowOf}
+use Rattle.laws.specs.Folds.{rowOf}
 use Rattle.rules.specs.Site.{noPhaseTimes, noWalkTimes}
 use Rattle.state_times.specs.TimesLayout.{phaseRows, phaseOf, walk, phasesAt, walksAt, earliesAt}
 

@@ -1,7 +1,9 @@
 -- The layout of times in 148 bytes: start red; L, M, X, G, Y, R of each of seven phases; W, C1, C2 of each of eight movements; then the
 -- kind 7 time of each of the seven phases. Each time has two bytes. Any 148 bytes are times.
 use Rattle.laws.specs.Ground.{ℕ, _+_, List, map, getD}
-use Rattle.rules.specs.Types.{PhaseTimes, Times, WalkTimes}
+use Rattle.rules.specs.declared.site.PhaseTimes.{PhaseTimes}
+use Rattle.rules.specs.declared.site.Times.{Times}
+use Rattle.rules.specs.declared.site.WalkTimes.{WalkTimes}
 use Rattle.laws.specs.Folds.{listOf}
 use Rattle.rules.specs.Site.{noPhaseTimes, noWalkTimes}
 use Rattle.state_forms.specs.Forms.{Form, two, row, Table, field, _⊗_, made}

@@ -8,7 +8,8 @@ use native.Mathlib.Omega.{arith}
 use Rattle.rules.specs.declared.site.PhaseTimes.{PhaseTimes}
 use Rattle.rules.specs.declared.site.Site.{Site}
 use Rattle.laws.specs.Bytes.{twoAt}
-use Rattle.laws.specs.Folds.{if_then_else_, rowOf}
+use Rattle.laws.specs.Ground.{if_then_else_}
+use Rattle.laws.specs.Folds.{rowOf}
 use Rattle.rules.specs.Site.{noPhaseTimes, noWalkTimes, phaseTimes, walkTimes}
 use Rattle.rules.specs.SiteTimes.{admitted}
 use Rattle.laws.proofs.Lists.{list-length, row-told}

@@ -12,7 +12,8 @@ use Rattle.rules.specs.declared.site.Range.{Range}
 use Rattle.rules.specs.declared.site.Site.{Site}
 use Rattle.rules.specs.declared.site.Times.{Times}
 use Rattle.rules.specs.declared.site.WalkTimes.{WalkTimes}
-use Rattle.laws.specs.Folds.{if_then_else_, allOf}
+use Rattle.laws.specs.Ground.{if_then_else_}
+use Rattle.laws.specs.Folds.{allOf}
 use Rattle.rules.specs.Limits.{within}
 use Rattle.rules.specs.Site.{noPhaseTimes, noWalkTimes, phaseTimes, walkTimes}
 use Rattle.rules.specs.State.{every}

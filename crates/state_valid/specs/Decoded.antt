@@ -1,6 +1,7 @@
 -- Internal: no promise cites this file. What the check of a state takes and tests.
 use Rattle.laws.specs.Ground.{ℕ, Bool, true, _&&_, List, _≡_}
-use Rattle.rules.specs.Types.{Site, KeptState}
+use Rattle.rules.specs.declared.site.Site.{Site}
+use Rattle.rules.specs.declared.state.KeptState.{KeptState}
 use Rattle.rules.specs.Personality.{phaseCount, movementCount, hasEarly}
 use Rattle.rules.specs.Site.{siteOf}
 use Rattle.rules.specs.SiteTimes.{under, admitted}

@@ -4,7 +4,7 @@ ghost use mathlib.Core.Bool.{_&&_};
 ghost use mathlib.Core.Path.{_≡_};
 ghost use lib.ListN.{length};
 ghost use Rattle.rules.specs.IntervalTable.{heldIn};
-ghost use Rattle.laws.specs.Folds.{if_then_else_};
+ghost use Rattle.laws.specs.Ground.{if_then_else_};
 ghost use Rattle.rules.specs.Colours.{red, yellow, green, sinceCutOff, closing, vehicleColour, movementColour, vehicleShown, colourOf, bufferAt};
 ghost use Rattle.rules.specs.Call.{bufferFor};
 ghost use Rattle.rules.specs.declared.answer.Verdict.the-variants.{Accepted};

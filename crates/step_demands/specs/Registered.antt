@@ -1,6 +1,7 @@
 -- Internal: no promise cites this file. What part 1 hands on.
 use Rattle.laws.specs.Ground.{ℕ, _≡_}
-use Rattle.rules.specs.Types.{Site, KeptState}
+use Rattle.rules.specs.declared.site.Site.{Site}
+use Rattle.rules.specs.declared.state.KeptState.{KeptState}
 use Rattle.laws.specs.Folds.{setOf}
 use Rattle.rules.specs.Demands.{extending, detected, demandsAfter}
 use Rattle.rules.specs.Kept.{keptAfter, nextKept}

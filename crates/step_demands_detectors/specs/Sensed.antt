@@ -1,6 +1,6 @@
 -- Internal: no promise cites this file. What a list of detectors asks for, and what is required of the list.
 use Rattle.laws.specs.Ground.{ℕ, _≤_, _<_, List, _≡_}
-use Rattle.rules.specs.Types.{Detector}
+use Rattle.rules.specs.declared.site.Detector.{Detector}
 use Rattle.laws.specs.Bytes.{bit}
 use Rattle.rules.specs.Site.{detectorOf}
 use Rattle.rules.specs.Demands.{calling, locking, extending, detectedAmong}

@@ -13,7 +13,8 @@ use Rattle.rules.specs.declared.state.Movement.{Movement}
 use Rattle.rules.specs.declared.state.Position.{Position}
 use Rattle.rules.specs.declared.state.Stage.the-variants.{Walk}
 use Rattle.laws.specs.Bytes.{bit}
-use Rattle.laws.specs.Folds.{if_then_else_, listOf, setOf}
+use Rattle.laws.specs.Ground.{if_then_else_}
+use Rattle.laws.specs.Folds.{listOf, setOf}
 use Rattle.rules.specs.Site.{crosses}
 use Rattle.rules.specs.IntervalTable.{isIdle, isRunning}
 use Rattle.rules.specs.State.{idle}

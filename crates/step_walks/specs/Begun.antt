@@ -1,6 +1,6 @@
 -- Internal: no promise cites this file. What part 5 hands on.
 use Rattle.laws.specs.Ground.{ℕ, Bool, List}
-use Rattle.rules.specs.Types.{Movement}
+use Rattle.rules.specs.declared.state.Movement.{Movement}
 use Rattle.rules.specs.Walks.{walksBegun, buttonsLeft}
 use Rattle.step_walks.specs.declared.Begun.{Begun}
 

@@ -12,7 +12,8 @@ use lib.ListN.{length, getD, set, replicate, length-set, getD-replicate}
 use lib.Seq.{getD-set-same, getD-set-other}
 use Rattle.rules.specs.declared.site.WalkTimes.{WalkTimes}
 use Rattle.laws.specs.Bytes.{bit}
-use Rattle.laws.specs.Folds.{if_then_else_, greatestOf}
+use Rattle.laws.specs.Ground.{if_then_else_}
+use Rattle.laws.specs.Folds.{greatestOf}
 use Rattle.rules.specs.Site.{noWalkTimes, crosses}
 use Rattle.rules.specs.WaitBound.{longestWalk, longestClearance}
 use Rattle.laws.proofs.Booleans.{decided, and-left}

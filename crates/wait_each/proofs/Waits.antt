@@ -11,7 +11,8 @@ use Rattle.rules.specs.declared.site.PhaseTimes.{PhaseTimes}
 use Rattle.rules.specs.declared.site.Site.{Site}
 use Rattle.rules.specs.declared.state.Held.{Held}
 use Rattle.laws.specs.Bytes.{bit}
-use Rattle.laws.specs.Folds.{if_then_else_, sumOf, greatestOf, listOf}
+use Rattle.laws.specs.Ground.{if_then_else_}
+use Rattle.laws.specs.Folds.{sumOf, greatestOf, listOf}
 use Rattle.rules.specs.Site.{noPhaseTimes, phaseTimes, walkTimes, crosses, ring}
 use Rattle.rules.specs.IntervalTable.{isHeld, phaseHeld}
 use Rattle.rules.specs.Demands.{nextAfter}

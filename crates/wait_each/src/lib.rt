@@ -4,7 +4,7 @@ ghost use mathlib.Core.Bool.{true, _&&_};
 ghost use mathlib.Core.Path.{_≡_};
 ghost use lib.Dec.{eqb};
 ghost use lib.ListN.{getD};
-ghost use Rattle.laws.specs.Folds.{if_then_else_};
+ghost use Rattle.laws.specs.Ground.{if_then_else_};
 ghost use Rattle.rules.specs.Site.{crosses};
 ghost use Rattle.rules.specs.IntervalTable.{isHeld, phaseHeld};
 ghost use Rattle.rules.specs.Waits.{leavingOf, turnOf, restOf, clearsFirst, ownOf, phaseWait, movementWait, phaseOfMovement, waitsOf};

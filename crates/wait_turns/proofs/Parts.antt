@@ -11,7 +11,8 @@ use lib.ListN.{getD}
 use Rattle.rules.specs.declared.site.Site.{Site}
 use Rattle.rules.specs.declared.site.WalkTimes.{WalkTimes}
 use Rattle.laws.specs.Bytes.{bit}
-use Rattle.laws.specs.Folds.{if_then_else_, greatestOf}
+use Rattle.laws.specs.Ground.{if_then_else_}
+use Rattle.laws.specs.Folds.{greatestOf}
 use Rattle.rules.specs.Site.{noWalkTimes, phaseTimes, walkTimes, crosses}
 use Rattle.rules.specs.State.{highestAge}
 use Rattle.rules.specs.Waits.{leavingOf, greenOf, walkEnding, ending}

@@ -3,7 +3,7 @@ ghost use Prim.Native.Nat.{_≤_, _<_, max};
 ghost use mathlib.Core.Bool.{not};
 ghost use mathlib.Core.Path.{_≡_};
 ghost use lib.Dec.{eqb};
-ghost use Rattle.laws.specs.Folds.{if_then_else_};
+ghost use Rattle.laws.specs.Ground.{if_then_else_};
 ghost use Rattle.rules.specs.State.{highestAge};
 ghost use Rattle.rules.specs.Waits.{leavingOf, greenOf, walkEnding, ending as endingOf, turnOf};
 ghost use Rattle.rules.specs.Laws.{Sound};

@@ -5,7 +5,7 @@ use mathlib.Core.List.{List}
 use mathlib.Core.Path.{_≡_, sym, _∙_}
 use borrow.Author.Needs.{needs}
 use Rattle.rules.specs.declared.site.Edition.the-variants.{One, Two}
-use Rattle.laws.specs.Folds.{if_then_else_}
+use Rattle.laws.specs.Ground.{if_then_else_}
 use Rattle.rules.specs.Personality.{siteHead, hasHead, editionOf}
 use Rattle.read_layout.proofs.edition_of.Statement.{statement}
 use Rattle.read_layout.proofs.edition_of.Tie as tie
