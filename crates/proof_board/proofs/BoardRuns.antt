@@ -17,7 +17,7 @@ use Rattle.rules.specs.Timed.{TimedState, freshTimed, timedValid, timedStepped}
 use Rattle.rules.specs.Call.{handedBack, checksBy}
 use Rattle.rules.specs.TimedCall.{timedVerdict, retimeChecksBy, retimeVerdict, retimed}
 use Rattle.rules.specs.TimedLaws.{FreshIsValid, StepKeepsValid, RetimeKeepsValid}
-use Rattle.rules.specs.Runs.{byRules, stepCall, acceptedSteps}
+use Rattle.rules.specs.Runs.{byRules, stepCall, acceptedSteps, takenFrom}
 use Rattle.rules.specs.DemandThree.{SafeRun, DemandThreeOf, DemandThree}
 use Rattle.rules.specs.StepDemandThree.{SafeStepRun, StepDemandThreeOf, StepDemandThree}
 use Rattle.rules.specs.OnceEach.{OnceEach, OnceEachOf, RunsStartOnceEach}
