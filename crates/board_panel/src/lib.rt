@@ -11,7 +11,7 @@ use panel_line::Why;
 use panel_line::line_length;
 use panel_line::put_line;
 use rules::answer::Verdict;
-use state_timed::KEPT;
+use state_timed::REST;
 use state_timed::RULING;
 
 // What the checks of both calls leave to say: a refusal, nothing in other intervals than running, or why the phase holds.
@@ -38,7 +38,7 @@ fn explained(personality: &[u8], state: &[u8], inputs: u64) -> Explanation
         };
     }
     let site = site_whole::site_in(personality, layout, state, RULING);
-    let kept = state_bytes::read(state, KEPT);
+    let kept = state_bytes::read(state, REST);
     if !state_valid::valid(personality, layout, site, kept, state) {
         return Explanation::Refusal {
             number: 13,

@@ -12,8 +12,8 @@ ghost use Rattle.state_timed.specs.TimedLayout.{isTimed, timedDecoded, timedEnc
 ghost use Rattle.board_step.specs.Accepted.{Stepping, takesOverIn, after};
 use rules::site::Site;
 use rules::state::KeptState;
-use state_timed::KEPT;
 use state_timed::PRESENT;
+use state_timed::REST;
 
 // Whether times wait and rule from this step on.
 pub fn takes_over(site: Site, before: KeptState, state: &[u8]) -> bool
@@ -36,7 +36,7 @@ pub fn put_next(state: &mut [u8], site: Site, next: KeptState, over: bool)
         state_timed::put_settled(state, next, times);
         return;
     }
-    state_bytes::put(state, KEPT, next);
+    state_bytes::put(state, REST, next);
 }
 
 // Writes the colours of the new state and answers the wait bound, both by the times of the site.

@@ -6,7 +6,7 @@ ghost use lib.ListN.{length};
 ghost use Rattle.board_step.specs.StepCall.{stepAnswer, stateAfter, coloursAfter};
 use board_answers::refusal;
 use rules::answer::Verdict;
-use state_timed::KEPT;
+use state_timed::REST;
 use state_timed::RULING;
 use state_timed::WAITING;
 
@@ -28,7 +28,7 @@ pub fn step(personality: &[u8], state: &mut [u8], inputs: u64, colours: &mut [u8
         return refusal(13, 0);
     }
     let mut site = site_whole::site_in(personality, layout, state, RULING);
-    let mut before = state_bytes::read(state, KEPT);
+    let mut before = state_bytes::read(state, REST);
     if !state_valid::valid(personality, layout, site, before, state) {
         return refusal(13, 0);
     }

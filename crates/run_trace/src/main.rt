@@ -5,7 +5,7 @@ use libc::STDIN_FILENO;
 use libc::STDOUT_FILENO;
 use rules::answer::Verdict;
 use rules::state::Position;
-use state_timed::KEPT;
+use state_timed::REST;
 use state_timed::TIMED_BYTES;
 
 // An hour of steps. What the input holds past them is not read.
@@ -62,7 +62,7 @@ fn advance(personality: &[u8], groups: u8, state: &mut [u8], bits: u64, step: u6
     if !state_timed::is_timed(state) {
         return false;
     }
-    let kept = state_bytes::read(state, KEPT);
+    let kept = state_bytes::read(state, REST);
     let core = kept.core;
     let position = core.position;
     show(step, position, &colours, groups);

@@ -7,8 +7,8 @@ ghost use Rattle.state_timed.specs.TimedLayout.{settled, timedBytes, isT
 use rules::site::Times;
 use rules::state::KeptState;
 
-// The places of the parts of a timed state in its bytes.
-pub const KEPT: usize = 0;
+// The places of the parts of a timed state in its bytes: the state without its times, the ruling times, whether times wait, and these.
+pub const REST: usize = 0;
 
 pub const RULING: usize = 39;
 
@@ -29,7 +29,7 @@ pub fn is_timed(bytes: &[u8]) -> bool
     if bytes.len() != TIMED_BYTES {
         return false;
     }
-    state_bytes::known(bytes, KEPT) & (bytes[PRESENT] < 2)
+    state_bytes::known(bytes, REST) & (bytes[PRESENT] < 2)
 }
 
 // Writes a state in which these times rule and none wait.
@@ -37,7 +37,7 @@ pub fn put_settled(bytes: &mut [u8], state: KeptState, ruling: Times)
     requires { ⌜ length (now bytes) ≡ timedBytes ⌝ }
     ensures { λ _. ⌜ now (bytes .exit) ≡ timedEncoded (settled ruling state) ⌝ }
 {
-    state_bytes::put(bytes, KEPT, state);
+    state_bytes::put(bytes, REST, state);
     state_times::put(bytes, RULING, ruling);
     state_forms::put_all(bytes, PRESENT, &NONE_WAITING);
 }

@@ -14,8 +14,8 @@ ghost use Rattle.state_valid.specs.Decoded.{timesValid, Decoded};
 use read_layout::Layout;
 use rules::site::Site;
 use rules::state::KeptState;
-use state_timed::KEPT;
 use state_timed::PRESENT;
+use state_timed::REST;
 use state_timed::RULING;
 use state_timed::WAITING;
 
@@ -55,6 +55,6 @@ pub fn is_state_of(personality: &[u8], layout: Layout, bytes: &[u8]) -> bool
         return false;
     }
     let site = site_whole::site_in(personality, layout, bytes, RULING);
-    let state = state_bytes::read(bytes, KEPT);
+    let state = state_bytes::read(bytes, REST);
     valid(personality, layout, site, state, bytes)
 }
