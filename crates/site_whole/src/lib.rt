@@ -1,11 +1,12 @@
-// The site, decoded from the bytes of a personality, which reach to the end of its last section. Each section is read once.
+// The site, decoded from the bytes of a personality, which reach to the end of its last section. Each section is read once. The times are the
+// personality's own, or stand in the bytes of a state; all else is read by one function.
 ghost use Prim.Native.Nat.{_+_, _≤_};
 ghost use mathlib.Core.Path.{_≡_};
 ghost use lib.ListN.{length};
 ghost use Rattle.rules.specs.Personality.{phaseCount, movementCount, hasEarly};
-ghost use Rattle.rules.specs.Site.{siteOf};
+ghost use Rattle.rules.specs.Site.{siteOf, timesIn};
 ghost use Rattle.rules.specs.SiteTimes.{under};
-ghost use Rattle.site_rows.specs.Fitting.{Fitting};
+ghost use Rattle.site_rows.specs.Fitting.{Fitting, groupRowsIn};
 ghost use Rattle.state_times.specs.TimesLayout.{times as timesForm};
 ghost use Rattle.state_times.specs.TimeRows.{siteTimes};
 ghost use Rattle.site_whole.specs.Decoding.{timingIn};
@@ -15,13 +16,11 @@ use read_layout::edition_of;
 use rules::site::Site;
 use rules::site::Size;
 use rules::site::Times;
+use site_rows::GroupRows;
 use site_rows::conflicts;
 use site_rows::detectors;
 use site_rows::group_rows_in;
 use site_rows::order;
-use site_times::phase_times;
-use site_times::start_red;
-use site_times::walk_times;
 use state_times::EARLIES;
 use state_times::PHASES;
 use state_times::WALKS;
@@ -41,65 +40,91 @@ pub fn size(s: &[u8], layout: Layout, movements: usize) -> Size
     }
 }
 
+// ---- The times ----
+
+// The personality's own times: start red in kind 1, the records of the phases in kind 2, their times of early cut-off green in kind 7, if it
+// is present, and the records of the movements in kind 6.
+fn times_in(s: &[u8], layout: Layout, movements: usize) -> Times
+    requires { ⌜ Fitting (now s) layout × (movements ≡ movementCount (now s)) ⌝ }
+    ensures { λ r. ⌜ r ≡ timesIn (now (s .entry)) ⌝ }
+{
+    Times {
+        start: two_in(s, 6),
+        phases: phases::read(
+            s,
+            12,
+            layout.early + 4,
+            layout.hasearly,
+            layout.phasecount as usize,
+        ),
+        walks: walks::read(s, layout.pedestrians + 4, movements),
+    }
+}
+
+// The times in the bytes of times from a place on. Only the times that the site has are read, so a site with few phases is decoded quickly.
+fn site_times(layout: Layout, movements: usize, bytes: &[u8], at: usize) -> Times
+    requires { ⌜ (layout .phasecount ≤ 7) × (movements ≤ 8) × (at + timesForm .width ≤ length (now bytes)) ⌝ }
+    ensures { λ r. ⌜ r ≡ siteTimes (layout .phasecount) movements (layout .hasearly) (now (bytes .entry)) at ⌝ }
+{
+    Times {
+        start: two_in(bytes, at),
+        phases: phases::read(
+            bytes,
+            at + PHASES,
+            at + EARLIES,
+            layout.hasearly,
+            layout.phasecount as usize,
+        ),
+        walks: walks::read(bytes, at + WALKS, movements),
+    }
+}
+
+// ---- The site ----
+
+// The site with these times. What one pass over the groups found is given, because the times are read by its count of movements.
+fn decoded(s: &[u8], layout: Layout, found: GroupRows, times: Times) -> Site
+    requires { ⌜ Fitting (now s) layout × (found ≡ groupRowsIn (now s)) ⌝ }
+    ensures { λ r. ⌜ r ≡ under (siteOf (now (s .entry))) times ⌝ }
+{
+    let groups = found.groups;
+    let crossings = found.crossings;
+    let conflicts = conflicts(s, layout);
+    let size = size(s, layout, found.movements);
+    let edition = edition_of(s);
+    Site {
+        size,
+        groups,
+        conflicts,
+        detectors: detectors(s, layout, size.detectors as usize),
+        crossings,
+        edition,
+        early: layout.hasearly,
+        order: order(s, layout),
+        times,
+    }
+}
+
 pub fn site_of(s: &[u8], layout: Layout) -> Site
     requires { ⌜ Fitting (now s) layout ⌝ }
     ensures { λ r. ⌜ r ≡ siteOf (now (s .entry)) ⌝ }
 {
     let found = group_rows_in(s, layout);
-    let size = size(s, layout, found.movements);
-    let rows = found.groups;
-    let sets = found.crossings;
-    let edition = edition_of(s);
-    Site {
-        size,
-        groups: rows,
-        conflicts: conflicts(s, layout),
-        detectors: detectors(s, layout, size.detectors as usize),
-        crossings: sets,
-        edition,
-        early: layout.hasearly,
-        order: order(s, layout),
-        times: Times {
-            start: start_red(s, layout),
-            phases: phase_times(s, layout),
-            walks: walk_times(s, layout, found.movements),
-        },
-    }
+    decoded(s, layout, found, times_in(s, layout, found.movements))
 }
 
-// The site with the times in the bytes of times from a place on. Only the times that the site has are read, so a site with few phases is
-// decoded quickly.
+// The site with the times in the bytes of times from a place on.
 pub fn site_in(s: &[u8], layout: Layout, bytes: &[u8], at: usize) -> Site
     requires { ⌜ Fitting (now s) layout × (at + timesForm .width ≤ length (now bytes)) ⌝ }
     ensures { λ r. ⌜ r ≡ under (siteOf (now (s .entry)))
         (siteTimes (phaseCount (now (s .entry))) (movementCount (now (s .entry))) (hasEarly (now (s .entry))) (now (bytes .entry)) at) ⌝ }
 {
     let found = group_rows_in(s, layout);
-    let size = size(s, layout, found.movements);
-    let rows = found.groups;
-    let sets = found.crossings;
-    let edition = edition_of(s);
-    Site {
-        size,
-        groups: rows,
-        conflicts: conflicts(s, layout),
-        detectors: detectors(s, layout, size.detectors as usize),
-        crossings: sets,
-        edition,
-        early: layout.hasearly,
-        order: order(s, layout),
-        times: Times {
-            start: two_in(bytes, at),
-            phases: phases::read(
-                bytes,
-                at + PHASES,
-                at + EARLIES,
-                layout.hasearly,
-                layout.phasecount as usize,
-            ),
-            walks: walks::read(bytes, at + WALKS, found.movements),
-        },
-    }
+    decoded(
+        s,
+        layout,
+        found,
+        site_times(layout, found.movements, bytes, at),
+    )
 }
 
 // The parts of the site that the wait bound needs.
@@ -115,15 +140,10 @@ pub fn timing_in(s: &[u8], layout: Layout) -> Timing
     ensures { λ r. ⌜ r ≡ timingIn (siteOf (now (s .entry))) ⌝ }
 {
     let found = group_rows_in(s, layout);
-    let size = size(s, layout, found.movements);
-    let sets = found.crossings;
+    let crossings = found.crossings;
     Timing {
-        size,
-        times: Times {
-            start: start_red(s, layout),
-            phases: phase_times(s, layout),
-            walks: walk_times(s, layout, found.movements),
-        },
-        crossings: sets,
+        size: size(s, layout, found.movements),
+        times: times_in(s, layout, found.movements),
+        crossings,
     }
 }

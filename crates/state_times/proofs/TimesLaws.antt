@@ -1,20 +1,18 @@
 -- The laws of the layout of times: each follows from the laws of its rows. The kind 7 times stand apart from the other times of a phase, so
 -- the records of the phases are put together from two lists.
-use Prim.Native.Nat.{ℕ, _+_, _*_}
+use Prim.Native.Nat.{ℕ}
 use mathlib.Core.Bool.{true}
 use mathlib.Core.List.{List, map}
 use mathlib.Core.Path.{_≡_, refl, sym, ap, _∙_}
-use native.Mathlib.Omega.{arith}
 use lib.ListN.{length, getD, length-map, List·getD-map}
 use Rattle.rules.specs.declared.site.PhaseTimes.{PhaseTimes}
 use Rattle.rules.specs.declared.site.Times.{Times}
-use Rattle.laws.specs.Bytes.{twoAt}
 use Rattle.laws.specs.Folds.{listOf, allOf}
 use Rattle.rules.specs.Site.{noPhaseTimes, noWalkTimes}
-use Rattle.laws.proofs.Lists.{list-length, list-at, list-same, list-told, listed}
+use Rattle.laws.proofs.Lists.{list-length, list-at, list-told, listed}
 use Rattle.state_forms.specs.Forms.{two}
 use Rattle.state_forms.proofs.Lawful.{Lawful, two-law, row-law, placed-law, both-law, made-law, made-fitting}
-use Rattle.state_times.specs.TimesLayout.{phaseRows, phaseOf, phaseDefault, walkRows, walkOf, walk, phases, earlies, phasesAt, walksAt, earliesAt, timesRows, timesOf, times}
+use Rattle.state_times.specs.TimesLayout.{phaseRows, phaseOf, phaseDefault, walkRows, walkOf, walk, phases, phasesAt, walksAt, earliesAt, timesRows, timesOf, times}
 
 pub phase-law : Lawful (phaseRows .form) 0
 phase-law =
@@ -35,21 +33,6 @@ earlyOf t = t .early
 
 abbrev pub joined : List (phaseRows .Fields) → List ℕ → List PhaseTimes
 joined l early = listOf (λ p. phaseOf (getD l p phaseDefault) (getD early p 0)) 7
-
-pub joined-read :
-    (b : List ℕ) (at early : ℕ) →
-    listOf (λ p. phaseOf (phaseRows .form .read b (at + p * 12)) (twoAt b (early + p * 2))) 7
-    ≡ joined (phases .read b at) (earlies .read b early)
-joined-read b at early =
-    list-same
-    (λ p. phaseOf (phaseRows .form .read b (at + p * 12)) (twoAt b (early + p * 2)))
-    (λ p. phaseOf (getD (phases .read b at) p phaseDefault) (getD (earlies .read b early) p 0))
-    7
-    (λ p h.
-    rw (
-      list-at (λ k. phaseRows .form .read b (at + k * 12)) 7 p phaseDefault h,
-      list-at (λ k. twoAt b (early + k * 2)) 7 p 0 h,
-    ))
 
 joined-back : (l : List PhaseTimes) → length l ≡ 7 → joined (map (phaseRows .fields) l) (map earlyOf l) ≡ l
 joined-back l e =

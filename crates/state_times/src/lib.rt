@@ -28,17 +28,6 @@ pub const EARLY: usize = 2;
 // How many bytes times have.
 pub const TIMES_BYTES: usize = 148;
 
-pub fn read(bytes: &[u8], at: usize) -> Times
-    requires { ⌜ at + timesForm .width ≤ length (now bytes) ⌝ }
-    ensures { λ r. ⌜ r ≡ timesForm .read (now (bytes .entry)) at ⌝ }
-{
-    Times {
-        start: base_bytes::two_in(bytes, at + START),
-        phases: phases::read(bytes, at + PHASES, at + EARLIES, true, 7),
-        walks: walks::read(bytes, at + WALKS, 8),
-    }
-}
-
 pub fn put(bytes: &mut [u8], at: usize, times: Times)
     requires { ⌜ at + timesForm .width ≤ length (now bytes) ⌝ }
     ensures { λ _. ⌜ now (bytes .exit) ≡ sets (now (bytes .entry)) at (timesForm .written times) ⌝ }

@@ -39,6 +39,7 @@ pub fn early_in(bytes: &[u8], early: usize, present: bool, p: usize) -> u16
 }
 
 // The times of the first phases, and zeros for the others. The records are at one place, and the kind 7 times, if there are some, at another.
+// These are read in a loop of their own: one loop with a test in it is compiled twice, and is then too long to be inlined into a step.
 pub fn read(bytes: &[u8], at: usize, early: usize, present: bool, count: usize) -> [PhaseTimes; 7]
     requires { ⌜ (count ≤ 7) × (at + count * 12 ≤ length (now bytes)) × (present ≡ true → early + count * 2 ≤ length (now bytes)) ⌝ }
     ensures { λ r. ⌜ r ≡ rowOf (phaseIn (now (bytes .entry)) at early present) count 7 noPhaseTimes ⌝ }
@@ -55,7 +56,17 @@ pub fn read(bytes: &[u8], at: usize, early: usize, present: bool, count: usize) 
     let mut records = [blank; 7];
     let mut p: usize = 0;
     while p < count {
-        records[p] = read_one(bytes, at + p * PHASE, early_in(bytes, early, present, p));
+        records[p] = read_one(bytes, at + p * PHASE, 0);
+        p += 1;
+    }
+    if !present {
+        return records;
+    }
+    p = 0;
+    while p < count {
+        let mut own = records[p];
+        own.early = base_bytes::two_in(bytes, early + p * EARLY);
+        records[p] = own;
         p += 1;
     }
     records

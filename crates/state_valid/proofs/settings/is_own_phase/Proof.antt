@@ -5,7 +5,7 @@ use borrow.Author.Tests.{eqb-true}
 use Rattle.rules.specs.Personality.{bodyAt}
 use Rattle.laws.proofs.Booleans.{never-both}
 use Rattle.site_rows.proofs.Ends.{phases-end}
-use Rattle.site_times.proofs.SameRows.{phase-own}
+use Rattle.site_whole.proofs.SameRows.{phase-own}
 use Rattle.state_times.specs.TimesLayout.{phaseOf}
 use borrow.Author.Needs.{needs}
 use Rattle.state_valid.proofs.settings.is_own_phase.Statement.{statement}

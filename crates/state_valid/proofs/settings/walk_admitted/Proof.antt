@@ -8,7 +8,7 @@ use Rattle.rules.specs.declared.site.WalkTimes.{WalkTimes}
 use Rattle.rules.specs.Limits.{limits}
 use Rattle.rules.specs.Personality.{bodyAt, editionOf}
 use Rattle.rules.specs.SiteTimes.{walkWithin}
-use Rattle.site_times.proofs.SameRows.{walk-own}
+use Rattle.site_whole.proofs.SameRows.{walk-own}
 use Rattle.site_whole.proofs.Accepted.{accepted-fits}
 use Rattle.state_valid.proofs.OwnTimes.{own-walk}
 use borrow.Author.Needs.{needs}
