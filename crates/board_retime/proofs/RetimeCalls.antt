@@ -3,16 +3,14 @@
 use Prim.Native.Nat.{ℕ}
 use mathlib.Core.Bool.{true, false}
 use mathlib.Core.List.{List}
-use mathlib.Core.Path.{_≡_, refl, ap}
+use mathlib.Core.Path.{_≡_, refl}
 use Rattle.rules.specs.declared.answer.Verdict.the-variants.{Accepted, Refused}
 use Rattle.rules.specs.declared.site.Times.{Times}
 use Rattle.rules.specs.Verdicts.{_orElse_, refuseIf}
 use Rattle.rules.specs.Personality.{verdictOf}
-use Rattle.rules.specs.Site.{siteOf, timesIn}
+use Rattle.rules.specs.Site.{timesIn}
 use Rattle.rules.specs.Call.{handedBack}
 use Rattle.rules.specs.TimedCall.{differsElsewhere, retimed}
-use Rattle.site_whole.specs.declared.Timing.{Timing}
-use Rattle.site_whole.specs.Decoding.{timingIn}
 use Rattle.state_timed.specs.TimedLayout.{timedEncoded, timedDecoded}
 use Rattle.state_valid.specs.StateOf.{isStateOf}
 use Rattle.board_answers.specs.Answers.{packed}
@@ -48,13 +46,13 @@ module _ (b old new : List ℕ) where
         differs-refused r e p = declines r (rw (first, valid, second, e)) p
 
         pub retimes :
-            (timing : Timing) (out : List ℕ) →
+            (times : Times) (out : List ℕ) →
             differsElsewhere b new ≡ false →
-            timing ≡ timingIn (siteOf new) →
-            out ≡ timedEncoded (retimed (timedDecoded old) (timing .times)) →
+            times ≡ timesIn new →
+            out ≡ timedEncoded (retimed (timedDecoded old) times) →
             Retimes b old new 0 out
-        unfolding retimeAnswer retimeAfter retimeChecks _orElse_ refuseIf handedBack siteOf
-        retimes timing out e read written = (
+        unfolding retimeAnswer retimeAfter retimeChecks _orElse_ refuseIf handedBack
+        retimes times out e read written = (
           read-accepted (retimeChecks b old new) _ refl (rw (first, valid, second, e)),
-          rw (first, valid, second, e, written, ap (λ (t : Timing). t .times) read),
+          rw (first, valid, second, e, written, read),
         )

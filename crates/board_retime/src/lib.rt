@@ -30,8 +30,7 @@ pub fn retime(personality: &[u8], state: &mut [u8], new: &[u8]) -> u64
         return refusal(26, 0);
     }
     let places = second.layout;
-    let timing = site_whole::timing_in(new, places);
-    let times = timing.times;
+    let times = site_whole::own_times(new, places);
     state_timed::put_waiting(state, times);
     0
 }

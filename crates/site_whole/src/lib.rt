@@ -9,7 +9,6 @@ ghost use Rattle.rules.specs.SiteTimes.{under};
 ghost use Rattle.site_rows.specs.Fitting.{Fitting, groupRowsIn};
 ghost use Rattle.state_times.specs.TimesLayout.{times as timesForm};
 ghost use Rattle.state_times.specs.TimeRows.{siteTimes};
-ghost use Rattle.site_whole.specs.Decoding.{timingIn};
 use base_bytes::two_in;
 use read_layout::Layout;
 use read_layout::edition_of;
@@ -127,23 +126,11 @@ pub fn site_in(s: &[u8], layout: Layout, bytes: &[u8], at: usize) -> Site
     )
 }
 
-// The parts of the site that the wait bound needs.
-pub struct Timing {
-    pub size: Size,
-    pub times: Times,
-    pub crossings: [u8; 8],
-}
-
-// Only these parts are decoded: the wait bound needs no groups, conflicts, detectors or order.
-pub fn timing_in(s: &[u8], layout: Layout) -> Timing
+// The personality's own times alone.
+pub fn own_times(s: &[u8], layout: Layout) -> Times
     requires { ⌜ Fitting (now s) layout ⌝ }
-    ensures { λ r. ⌜ r ≡ timingIn (siteOf (now (s .entry))) ⌝ }
+    ensures { λ r. ⌜ r ≡ timesIn (now (s .entry)) ⌝ }
 {
     let found = group_rows_in(s, layout);
-    let crossings = found.crossings;
-    Timing {
-        size: size(s, layout, found.movements),
-        times: times_in(s, layout, found.movements),
-        crossings,
-    }
+    times_in(s, layout, found.movements)
 }

@@ -52,7 +52,6 @@ pub fn put_fresh(personality: &[u8], layout: Layout, state: &mut [u8])
     requires { ⌜ (verdictOf (now personality) ≡ Accepted) × LayoutOf (now personality) layout × (length (now state) ≡ timedBytes) ⌝ }
     ensures { λ _. ⌜ now (state .exit) ≡ timedEncoded (freshTimed (siteOf (now (personality .entry)))) ⌝ }
 {
-    let timing = site_whole::timing_in(personality, layout);
-    let times = timing.times;
+    let times = site_whole::own_times(personality, layout);
     state_timed::put_settled(state, fresh(), times);
 }

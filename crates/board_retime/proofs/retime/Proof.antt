@@ -101,28 +101,28 @@ returns-4 c =
     (sym (compared .differs-elsewhere .ensures) ∙ c .before .if2 .taken)
     (c .refusal4 .ensures)
 
-timing-in-requires : tie.Need-timing-in-requires
-timing-in-requires c κs =
+own-times-requires : tie.Need-own-times-requires
+own-times-requires c κs =
     let both = c .before .before .before in
     accepted-fits (second both) (both .before .before .read-with-layout2 .ensures .1)
 
 put-waiting-requires : tie.Need-put-waiting-requires
 unfolding isStateOf
 put-waiting-requires c κs =
-    let both = c .before .before .before .before .before .before in
+    let both = c .before .before .before .before .before in
     and-left (isTimed (entry (first (here both)) .args .state .now)) _ (valid (here both))
 
 returns-5 : tie.Need-returns-5
 returns-5 c =
     let written = c .before .before in
-    let read = written .before .before .before in
+    let read = written .before .before in
     let else = read .before .before in
     let compared = else .before in
     let both = compared .before in
     let a = entry (first (here both)) .args in
-    retimes (a .personality .now) (a .state .now) (a .new .now) (accepted (first (here both))) (valid (here both)) (second both) (read .timing-in .result) _
+    retimes (a .personality .now) (a .state .now) (a .new .now) (accepted (first (here both))) (valid (here both)) (second both) (read .own-times .result) _
     (sym (compared .differs-elsewhere .ensures) ∙ else .if2 .left)
-    (read .timing-in .ensures)
+    (read .own-times .ensures)
     (written .put-waiting .ensures)
 
 pub retime-spec : {M : Type 1} → statement M
@@ -148,7 +148,7 @@ retime-spec =
     (λ c κs. search needs)
     (λ c. search needs)
     returns-4
-    timing-in-requires
+    own-times-requires
     put-waiting-requires
     (λ c. search needs)
     returns-5)
