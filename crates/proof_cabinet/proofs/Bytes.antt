@@ -12,7 +12,7 @@ use Rattle.laws.specs.Ground.{if_then_else_}
 use Rattle.rules.specs.Personality.{verdictOf}
 use Rattle.rules.specs.Site.{siteOf}
 use Rattle.rules.specs.Colours.{red}
-use Rattle.rules.specs.Runs.{Taken, acceptedSteps}
+use Rattle.rules.specs.Runs.{byRules, Taken, acceptedSteps}
 use Rattle.rules.specs.DemandThree.{SafeRun, DemandThree, DemandThreeOf}
 use Rattle.rules.specs.OnceEach.{OnceEach, OnceEachOf, RunsStartOnceEach}
 use Rattle.rules.specs.PhaseWaits.{WaitsMet, PlainWaitsMet, EveryWaitMetOf, EveryWaitMet, EveryPlainWaitMetOf, EveryPlainWaitMet}
@@ -168,7 +168,7 @@ cabinet-runs-hold-on-bytes Claim holds b out p k first e calls stays =
     (cabinet-runs-hold Claim holds (decodedRow b) out p k first e calls (begun-stays b out p k first calls stays))
 
 pub cabinet-demand-three-on-bytes : CabinetDemandThree onBytes
-unfolding CabinetDemandThree CabinetRunsHold DemandThree DemandThreeOf
+unfolding CabinetDemandThree CabinetRunsHold DemandThree DemandThreeOf byRules
 cabinet-demand-three-on-bytes = cabinet-runs-hold-on-bytes (SafeRun verdictOf) demand-three
 
 pub cabinet-once-each-on-bytes : CabinetOnceEach onBytes

@@ -171,7 +171,7 @@ cabinet-runs-hold Claim holds row out b k first e calls stays =
     subst (Claim b) (sym same) (holds b accepted alone)
 
 pub cabinet-demand-three : CabinetDemandThree onRecords
-unfolding CabinetDemandThree CabinetRunsHold DemandThree DemandThreeOf
+unfolding CabinetDemandThree CabinetRunsHold DemandThree DemandThreeOf byRules
 cabinet-demand-three = cabinet-runs-hold (SafeRun verdictOf) demand-three
 
 pub cabinet-once-each : CabinetOnceEach onRecords

@@ -12,9 +12,11 @@ ghost use Rattle.state_times.specs.TimeRows.{siteTimes};
 use base_bytes::two_in;
 use read_layout::Layout;
 use read_layout::edition_of;
+use rules::site::PhaseTimes;
 use rules::site::Site;
 use rules::site::Size;
 use rules::site::Times;
+use rules::site::WalkTimes;
 use site_rows::GroupRows;
 use site_rows::conflicts;
 use site_rows::detectors;
@@ -41,23 +43,29 @@ pub fn size(s: &[u8], layout: Layout, movements: usize) -> Size
 
 // ---- The times ----
 
-// The personality's own times: start red in kind 1, the records of the phases in kind 2, their times of early cut-off green in kind 7, if it
-// is present, and the records of the movements in kind 6.
-fn times_in(s: &[u8], layout: Layout, movements: usize) -> Times
-    requires { ⌜ Fitting (now s) layout × (movements ≡ movementCount (now s)) ⌝ }
-    ensures { λ r. ⌜ r ≡ timesIn (now (s .entry)) ⌝ }
+// Each part of the personality's own times has its function: one for all would not be inlined, and a call that decodes the site would need more
+// stack.
+
+// The times of the phases: their records in kind 2, and in kind 7, if it is present, their times of early cut-off green.
+fn phase_times(s: &[u8], layout: Layout) -> [PhaseTimes; 7]
+    requires { ⌜ Fitting (now s) layout ⌝ }
+    ensures { λ r. ⌜ r ≡ timesIn (now (s .entry)) .phases ⌝ }
 {
-    Times {
-        start: two_in(s, 6),
-        phases: phases::read(
-            s,
-            12,
-            layout.early + 4,
-            layout.hasearly,
-            layout.phasecount as usize,
-        ),
-        walks: walks::read(s, layout.pedestrians + 4, movements),
-    }
+    phases::read(
+        s,
+        12,
+        layout.early + 4,
+        layout.hasearly,
+        layout.phasecount as usize,
+    )
+}
+
+// The times of the movements, in kind 6.
+fn walk_times(s: &[u8], layout: Layout, count: usize) -> [WalkTimes; 8]
+    requires { ⌜ Fitting (now s) layout × (count ≡ movementCount (now s)) ⌝ }
+    ensures { λ r. ⌜ r ≡ timesIn (now (s .entry)) .walks ⌝ }
+{
+    walks::read(s, layout.pedestrians + 4, count)
 }
 
 // The times in the bytes of times from a place on. Only the times that the site has are read, so a site with few phases is decoded quickly.
@@ -108,7 +116,12 @@ pub fn site_of(s: &[u8], layout: Layout) -> Site
     ensures { λ r. ⌜ r ≡ siteOf (now (s .entry)) ⌝ }
 {
     let found = group_rows_in(s, layout);
-    decoded(s, layout, found, times_in(s, layout, found.movements))
+    let times = Times {
+        start: two_in(s, 6),
+        phases: phase_times(s, layout),
+        walks: walk_times(s, layout, found.movements),
+    };
+    decoded(s, layout, found, times)
 }
 
 // The site with the times in the bytes of times from a place on.
@@ -132,5 +145,9 @@ pub fn own_times(s: &[u8], layout: Layout) -> Times
     ensures { λ r. ⌜ r ≡ timesIn (now (s .entry)) ⌝ }
 {
     let found = group_rows_in(s, layout);
-    times_in(s, layout, found.movements)
+    Times {
+        start: two_in(s, 6),
+        phases: phase_times(s, layout),
+        walks: walk_times(s, layout, found.movements),
+    }
 }

@@ -5,7 +5,7 @@ use mathlib.Core.Bool.{true, false}
 use mathlib.Core.List.{List}
 use mathlib.Core.Path.{_≡_, ap, _∙_}
 use native.Mathlib.Omega.{arith}
-use lib.ListN.{length, getD, replicate, length-append, length-replicate}
+use lib.ListN.{length, replicate, length-append, length-replicate}
 use lib.Seq.{drop-at}
 use Rattle.rules.specs.declared.site.PhaseTimes.{PhaseTimes}
 use Rattle.laws.specs.Folds.{listOf, rowOf}
@@ -21,14 +21,14 @@ use Rattle.state_times.proofs.phases.read.Tie as tie
 
 -- ── A row that is filled once more ──
 
-module _ (f g : ℕ → PhaseTimes) (n : ℕ) where
+module _ (f : ℕ → PhaseTimes) (n : ℕ) where
   row-room : n ≤ 7 → length (rowOf f n 7 noPhaseTimes) ≡ 7
   unfolding rowOf
   row-room h =
       length-append (listOf f n) (replicate (7 - n) noPhaseTimes)
       ∙ omega (arith, list-length f n, length-replicate (7 - n) noPhaseTimes)
 
-  filled-again : {row : List PhaseTimes} → fill.Filled g (rowOf f n 7 noPhaseTimes) row n → row ≡ rowOf g n 7 noPhaseTimes
+  filled-again : {g : ℕ → PhaseTimes} {row : List PhaseTimes} → fill.Filled g (rowOf f n 7 noPhaseTimes) row n → row ≡ rowOf g n 7 noPhaseTimes
   unfolding rowOf
   filled-again h = rw (h .told, drop-at (listOf f n) (replicate (7 - n) noPhaseTimes) n (list-length f n))
 
@@ -83,7 +83,7 @@ loop2-again c =
     let a = turn .before .before .before .before .before .before .args in
     let plain = phaseIn (a .bytes .now) (a .at) (a .early) false in
     let p = turn .before .loop2 .p in
-    let room : p < length (rowOf plain (a .count) 7 noPhaseTimes) = omega (arith, row-room plain plain (a .count) (omega arith)) in
+    let room : p < length (rowOf plain (a .count) 7 noPhaseTimes) = omega (arith, row-room plain (a .count) (omega arith)) in
     let filled = turn .before .loop2 .inv .1 in
     let own = fill.fill-boundary noPhaseTimes p filled room ∙ row-at plain (a .count) 7 p noPhaseTimes (turn .loop2-test .taken) in
     (omega arith, fill.fill-step filled room (ap (λ (t : PhaseTimes). timed t (c .two-in .result)) own ∙ ap (timed (plain p)) (c .two-in .ensures)))
@@ -93,7 +93,7 @@ returns-2 c =
     let a = c .before .before .before .before .before .before .args in
     let last : c .before .loop2 .p ≡ a .count = omega (arith, c .before .loop2 .inv .0) in
     rw (not-false (a .present) (c .before .before .if1 .left))
-    (filled-again (phaseIn (a .bytes .now) (a .at) (a .early) false) _ (a .count) (rw last at (c .before .loop2 .inv .1)))
+    (filled-again (phaseIn (a .bytes .now) (a .at) (a .early) false) (a .count) (rw last at (c .before .loop2 .inv .1)))
 
 pub read-spec : {M : Type 1} → statement M
 read-spec =
