@@ -6,6 +6,7 @@ import tempfile
 from pathlib import Path
 
 import build
+import stack
 from build import TARGETS
 from kit import BUILT, ROOT, Alone, Refused, said_by, told, tool
 from module import module
@@ -119,7 +120,10 @@ def step(site, folder):
 
 
 def levels():
-    """The levels of optimisation on Cortex-M4: code, bound of the stack of a step, and steps of the largest example site."""
+    """The levels of optimisation on Cortex-M4: code, bound of the stack of a step, and steps of the largest example site. At another level the
+    code may call memmove as well."""
+    listed = build.allowed
+    build.allowed = stack.allowed = lambda target: listed(target) | {"memmove"}
     for level in ("-O3", "-O2", "-Os", "-Oz"):
         build.LEVEL, folder = level, BUILT / f"level{level}"
         shutil.rmtree(folder, ignore_errors=True)
