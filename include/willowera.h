@@ -273,7 +273,10 @@ uint64_t willowera_groups(const uint8_t *personality, uint64_t personality_lengt
 uint64_t willowera_fresh(const uint8_t *personality, uint64_t personality_length, uint8_t *state, uint64_t state_length);
 
 /* One step of 0.1 s. Replaces the state by the next state, writes the colours, and answers the wait bound of the times that rule after
- * the step (WILLOWERA_WAIT); or a refusal. */
+ * the step (WILLOWERA_WAIT); or a refusal.
+ *
+ * The checks: the personality; then 13 (the bytes are not a valid state of it); then 15 (an input that the site does not have); then 14
+ * (colours_length is less than the number of groups). */
 uint64_t willowera_step(const uint8_t *personality, uint64_t personality_length, uint8_t *state, uint64_t state_length,
                         uint64_t inputs, uint8_t *colours, uint64_t colours_length);
 
