@@ -3,7 +3,7 @@
 use Prim.Native.Nat.{ℕ}
 use mathlib.Core.Bool.{true, false}
 use mathlib.Core.List.{List}
-use mathlib.Core.Path.{_≡_, refl, sym, ap, subst, _∙_}
+use mathlib.Core.Path.{_≡_, refl, ap, subst, _∙_}
 use lib.Dec.{ltb}
 use lib.ListN.{length}
 use Rattle.rules.specs.declared.answer.Verdict.the-variants.{Accepted, Refused}
@@ -13,7 +13,7 @@ use Rattle.rules.specs.Verdicts.{_orElse_, refuseIf}
 use Rattle.rules.specs.Personality.{phaseCount, movementCount, hasEarly, verdictOf}
 use Rattle.rules.specs.Site.{siteOf}
 use Rattle.rules.specs.SiteTimes.{under}
-use Rattle.rules.specs.Timed.{keptOf, ruledSite, rulingNext, takesOver, timedValid, timedStepped}
+use Rattle.rules.specs.Timed.{keptOf, ruledSite, rulingNext, takesOver, timedStepped}
 use Rattle.rules.specs.Call.{wired, strayInput, stepVerdict, boundFor, handedBack, bufferFor}
 use Rattle.rules.specs.Laws.{AcceptedIsSound}
 use Rattle.laws.proofs.Booleans.{and-left, and-right}
@@ -23,7 +23,7 @@ use Rattle.state_times.specs.TimeRows.{siteTimes}
 use Rattle.state_timed.specs.TimedLayout.{isTimed, timedDecoded}
 use Rattle.state_valid.specs.StateOf.{isStateOf}
 use Rattle.state_valid.proofs.AdmittedTimes.{site-times}
-use Rattle.board_answers.specs.Answers.{packed, packedOutcome}
+use Rattle.board_answers.specs.Answers.{packed}
 use Rattle.board_answers.proofs.Answers.{outcome-stepped, outcome-declined}
 use Rattle.board_step.specs.StepCall.{stepChecks, steppedIn, stepAnswer, stateAfter, coloursAfter}
 use Rattle.board_step.specs.Accepted.{Stepping, takesOverIn, ruledIn, Steps}

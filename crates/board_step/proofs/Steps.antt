@@ -1,7 +1,7 @@
 -- The step from a valid state: what its calls ask for, and that the state which they make is that of the rules. Neither the valid state nor the step
 -- looks at the site's own times.
 use Prim.Native.Nat.{ℕ}
-use mathlib.Core.Bool.{Bool, true, false, _&&_}
+use mathlib.Core.Bool.{Bool, true, false}
 use mathlib.Core.List.{List, _++_}
 use mathlib.Core.Path.{_≡_, refl, sym, ap, subst⁻¹, _∙_}
 use lib.ListN.{drop}

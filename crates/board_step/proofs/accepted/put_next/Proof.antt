@@ -1,6 +1,6 @@
 -- `board_step::accepted::put_next` meets its contract: a change writes the whole state, any other step its first part.
 use mathlib.Core.Bool.{Bool}
-use mathlib.Core.Path.{_≡_, sym, ap, _∙_}
+use mathlib.Core.Path.{sym, ap, _∙_}
 use native.Mathlib.Omega.{arith}
 use borrow.Author.Needs.{needs}
 use Rattle.laws.specs.Bytes.{byteAt}

@@ -1,5 +1,4 @@
 -- `board_step::accepted::takes_over` meets its contract, by the flag.
-use Prim.Native.Nat.{ℕ}
 use mathlib.Core.Bool.{true}
 use mathlib.Core.Path.{_≡_}
 use native.Mathlib.Omega.{arith}
@@ -7,7 +6,6 @@ use Rattle.laws.specs.Bytes.{byteAt}
 use Rattle.state_timed.specs.TimedLayout.{timedDecoded}
 use Rattle.state_timed.proofs.TimedLaws.{TimedKnown, timed-known}
 use Rattle.board_step.proofs.Steps.{site-sound, kept-valid, none-waits, by-start}
-use borrow.Author.Needs.{needs}
 use Rattle.board_step.proofs.accepted.takes_over.Statement.{statement}
 use Rattle.board_step.proofs.accepted.takes_over.Tie as tie
 
