@@ -3,7 +3,6 @@ use Prim.Native.Nat.{ℕ, _+_, _*_, _≤_, min}
 use mathlib.Core.Bool.{Bool, true, false, not, _&&_}
 use mathlib.Core.List.{List}
 use mathlib.Core.Path.{_≡_, refl, sym, ap, _∙_}
-use native.Mathlib.Nat.{add-zero}
 use native.Mathlib.Omega.{arith}
 use borrow.Author.Tests.{eq-eqb, eqb-true, ltb-true, lt-ltb, not-true, not-false}
 use lib.Dec.{eqb, ltb}
@@ -78,7 +77,7 @@ module _ {b : List ℕ} {k : ℕ} (there : Named b k) where
   read = record-read b (there .long) k (there .below)
 
   pub held-read : own .held ≡ byteAt b (k * recordBytes)
-  held-read = ap (λ (r : Record). r .held) read ∙ ap (byteAt b) (add-zero (k * recordBytes))
+  held-read = ap (λ (r : Record). r .held) read
 
   pub first-read : own .first ≡ byteAt b (k * recordBytes + firstAt)
   first-read = ap (λ (r : Record). r .first) read

@@ -87,8 +87,8 @@ module _ (r : Record) (shaped : Shaped r) (p q : List ℕ) (at : ℕ) (e : lengt
   behind-personality : whole ≡ (p ++ (mark ++ (size ++ r .personality))) ++ (r .state ++ q)
   behind-personality = spread ∙ sym (append-assoc p (mark ++ (size ++ r .personality)) _)
 
-  held-back : byteAt whole (at + 0) ≡ r .held
-  held-back = rw spread (first-byte p _ (r .held) (at + 0) (omega arith))
+  held-back : byteAt whole at ≡ r .held
+  held-back = rw spread (first-byte p _ (r .held) at e)
 
   first-back : byteAt whole (at + firstAt) ≡ r .first
   first-back = rw spread (second-byte p _ (r .held) (r .first) at e)

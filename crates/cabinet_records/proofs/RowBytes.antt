@@ -79,10 +79,8 @@ module _ (b : List ℕ) (bytes : AreBytes b) (long : length b ≡ rowBytes) wher
   unfolding allOf
   own-bytes j below =
       let inside = record-within recordBytes j recordCount below in
-      let at : j * recordBytes + 0 ≡ j * recordBytes = omega arith in
       ap (recordForm .written) (record-read b long j below)
       ∙ record-law .same b (j * recordBytes) bytes (omega (arith, inside)) refl
-      ∙ ap (λ (i : ℕ). part b i recordBytes) at
 
   module _ (k m : ℕ) (four : k + suc m ≡ recordCount) (r : Record) where
     abbrev new : List Record

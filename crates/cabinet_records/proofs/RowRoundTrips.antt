@@ -11,27 +11,24 @@ use Rattle.laws.specs.Bytes.{byteAt, twoAt}
 use Rattle.laws.proofs.Lists.{list-told, row-past}
 use Rattle.rules.specs.Laws.{greatestLength}
 use Rattle.state_forms.specs.Forms.{byte, partsOf}
-use Rattle.state_forms.proofs.Lawful.{Lawful, byte-law, two-law, row-law, placed-law, both-law, made-law}
+use Rattle.state_forms.proofs.Lawful.{Lawful, byte-law, two-law, row-law, both-law, made-law}
 use Rattle.state_forms.proofs.Parts.{parts-length}
 use Rattle.state_timed.specs.TimedLayout.{timedBytes}
 use Rattle.cabinet_records.specs.declared.Record.{Record}
 use Rattle.cabinet_records.specs.Cabinet.{recordCount, freeRecord, recordOf}
-use Rattle.cabinet_records.specs.Layout.{firstAt, sizeAt, personalityAt, stateAt, recordRows, recordFrom, recordForm, recordBytes, Shaped, rowForm, rowBytes, decodedRow, encodedRow, ProperRow}
+use Rattle.cabinet_records.specs.Layout.{firstAt, sizeAt, personalityAt, stateAt, recordForm, recordBytes, Shaped, rowForm, rowBytes, decodedRow, encodedRow, ProperRow}
 use Rattle.cabinet_records.specs.RowRoundTrips.{RowSizes, EncodedRowIsLong, EncodedRowIsBytes, DecodedEncodedRow, DecodedRowIsProper, EncodedDecodedRow, ZerosAreFree}
 use Rattle.cabinet_records.proofs.RecordBytes.{parts-split, record-back}
 
 pub row-sizes : RowSizes
 row-sizes = (refl, refl, refl)
 
-pub record-law : Lawful recordForm 0
+pub record-law : Lawful recordForm
 record-law =
-    made-law recordRows recordFrom (λ r. refl) (λ a. refl)
-    (both-law (placed-law 0 byte-law)
-    (both-law (placed-law firstAt byte-law)
-    (both-law (placed-law sizeAt two-law)
-    (both-law (placed-law personalityAt (row-law byte byte-law greatestLength 0)) (placed-law stateAt (row-law byte byte-law timedBytes 0))))))
+    made-law (λ r. ((((r .held, r .first), r .size), r .personality), r .state)) _ (λ r. refl) (λ a. refl)
+    (both-law (both-law (both-law (both-law byte-law byte-law) two-law) (row-law byte byte-law greatestLength 0)) (row-law byte byte-law timedBytes 0))
 
-pub row-of-records : Lawful rowForm 0
+pub row-of-records : Lawful rowForm
 row-of-records = row-law recordForm record-law recordCount freeRecord
 
 -- ── From a row to bytes and back ──
@@ -90,7 +87,7 @@ module _ (b : List ℕ) (zeros : (i : ℕ) → byteAt b i ≡ 0) where
   free-read : (at : ℕ) → recordForm .read b at ≡ freeRecord
   unfolding freeRecord twoAt
   free-read at =
-      let held = zeros (at + 0) in
+      let held = zeros at in
       let first = zeros (at + firstAt) in
       let low = zeros (at + sizeAt) in
       let high = zeros (at + sizeAt + 1) in

@@ -2,7 +2,7 @@
 -- length of the personality in two bytes, room for the longest personality, and the bytes of the state.
 use Rattle.laws.specs.Ground.{ℕ, _+_, List, [], _≡_, eqb, length, if_then_else_}
 use Rattle.rules.specs.Laws.{greatestLength}
-use Rattle.state_forms.specs.Forms.{Form, Table, byte, two, row, field, _⊗_, made}
+use Rattle.state_forms.specs.Forms.{Form, byte, two, row, _⊗_, made}
 use Rattle.state_timed.specs.TimedLayout.{timedBytes}
 use Rattle.cabinet_records.specs.declared.Record.{Record}
 use Rattle.cabinet_records.specs.Cabinet.{recordCount, freeRecord, Returned, Act, doing}
@@ -15,6 +15,13 @@ personalityRoom = row greatestLength 0 byte
 abbrev pub stateRoom : Form (List ℕ)
 stateRoom = row timedBytes 0 byte
 
+abbrev pub recordForm : Form Record
+recordForm =
+    made (byte ⊗ byte ⊗ two ⊗ personalityRoom ⊗ stateRoom) (λ r. ((((r .held, r .first), r .size), r .personality), r .state))
+    (λ ((((held, first), size), personality), state).
+    record { held = held; first = first; size = size; personality = personality; state = state })
+
+-- where the fields behind the first stand
 abbrev pub firstAt : ℕ
 firstAt = 1
 
@@ -27,22 +34,6 @@ personalityAt = 4
 -- byte 481
 abbrev pub stateAt : ℕ
 stateAt = personalityAt + greatestLength
-
-abbrev pub recordRows : Table Record
-recordRows =
-    field 0 byte (λ r. r .held)
-    ⊗ field firstAt byte (λ r. r .first)
-    ⊗ field sizeAt two (λ r. r .size)
-    ⊗ field personalityAt personalityRoom (λ r. r .personality)
-    ⊗ field stateAt stateRoom (λ r. r .state)
-
-abbrev pub recordFrom : recordRows .Fields → Record
-recordFrom =
-    λ (held, (first, (size, (personality, state)))).
-    record { held = held; first = first; size = size; personality = personality; state = state }
-
-abbrev pub recordForm : Form Record
-recordForm = made recordRows recordFrom
 
 abbrev pub recordBytes : ℕ
 recordBytes = recordForm .width

@@ -79,11 +79,11 @@ kept-fits site sound s validState locks buttons movements kept =
     let previous = came-below (site .size .phases) (place .previous) (told .previous) (omega arith) in
     let target = target-below (site .size .phases) (place .phase) (isLeaving (place .interval)) (place .target) (told .target) (omega arith) in
     let position : positionForm .fits place =
-    (omega (arith, told .phase), (record {}, (omega (arith, told .age), (omega (arith, previous), omega (arith, target))))) in
+    ((((omega (arith, told .phase), record {}), omega (arith, told .age)), omega (arith, previous)), omega (arith, target)) in
     let counts : countsForm .fits (s .core .counts) = (omega (arith, told .gap, times .gap), omega (arith, told .maximum, times .maximum .1)) in
     let demands : demandsForm .fits (s .core .demands) = (locks, buttons) in
     let records : movementsForm .fits (s .core .movements) = (movements, λ k below. (record {}, omega (arith, told .movements k below .age))) in
-    (position, (counts, (demands, (records, kept))))
+    ((((position, counts), demands), records), kept)
 
 -- ── Timed states ──
 
@@ -94,18 +94,18 @@ fresh-timed-is-proper b known =
     let sound = accepted-is-sound b known in
     let told = timed-told site (freshTimed site) (fresh-is-valid b known) in
     let core = kept-fits site sound freshKept (told .rest) (omega arith) (omega arith) refl (omega arith) in
-    (core, (read-fit site sound b known (told .ruling), none-fit))
+    ((core, read-fit site sound b known (told .ruling)), none-fit)
 
 module _ (s : TimedState) (proper : ProperTimed s) where
   ruling-fits : (t : Bool) → timesForm .fits (if t then s .waiting .times else s .ruling)
   unfolding ProperTimed
-  ruling-fits true = proper .1 .1 .1
-  ruling-fits false = proper .1 .0
+  ruling-fits true = proper .1 .1
+  ruling-fits false = proper .0 .1
 
   waiting-fits : (t : Bool) → waitingForm .fits (if t then noneWaiting else s .waiting)
   unfolding ProperTimed
   waiting-fits true = none-fit
-  waiting-fits false = proper .1 .1
+  waiting-fits false = proper .1
 
 pub timed-step-is-proper : TimedStepIsProper
 unfolding TimedStepIsProper ProperTimed StepKeepsValid AcceptedIsSound timedStepped rulingNext steppedInto locksLeft walksBegun buttonsLeft
@@ -114,8 +114,11 @@ timed-step-is-proper b known s validState proper inputs wired =
     let next = timedStepped site s inputs in
     let told = timed-told site next (step-keeps-valid b known s validState inputs wired) in
     let sound = admitted-is-sound site (next .ruling) (accepted-is-sound b known) (told .ruling) in (
-      kept-fits (ruledSite site next) sound (keptOf next) (told .rest) (set-small _) (set-small _) (list-length _ 8) (set-small _),
-      (ruling-fits s proper (takesOver site s), waiting-fits s proper (takesOver site s)),
+      (
+        kept-fits (ruledSite site next) sound (keptOf next) (told .rest) (set-small _) (set-small _) (list-length _ 8) (set-small _),
+        ruling-fits s proper (takesOver site s),
+      ),
+      waiting-fits s proper (takesOver site s),
     )
 
 module _ (b : List ℕ) (known : verdictOf b ≡ Accepted) (s : TimedState) (validState : timedValid (siteOf b) s ≡ true) where
@@ -131,4 +134,4 @@ retime-is-proper b known s validState proper new e =
     let next = retimed s (timesIn new) in
     let told = timed-told site next (retime-keeps-valid b known s validState new e) in
     let ok = waiting-admitted site (next .waiting) (told .waiting) refl in
-    (proper .0, (proper .1 .0, (record {}, read-fit site (accepted-is-sound b known) new (new-read b known s validState new e) ok)))
+    (proper .0, (record {}, read-fit site (accepted-is-sound b known) new (new-read b known s validState new e) ok))

@@ -20,7 +20,7 @@ use Rattle.rules.specs.Laws.{Sound, AcceptedIsSound}
 use Rattle.laws.proofs.Indices.{below-or-past}
 use Rattle.laws.proofs.Lists.{list-length}
 use Rattle.rules.proofs.Settings.{phase-timed, walk-reached, start-timed}
-use Rattle.state_times.specs.TimesLayout.{phaseRows, walk as walkForm, times as timesForm}
+use Rattle.state_times.specs.TimesLayout.{six, sixOf, walk as walkForm, times as timesForm}
 use Rattle.state_times.proofs.TimesLaws.{earlyOf}
 use Rattle.state_timed.specs.TimedLayout.{waiting as waitingForm}
 use Rattle.proof_acceptance.proofs.Acceptance.{accepted-is-sound}
@@ -28,7 +28,7 @@ use Rattle.proof_change.proofs.Admitted.{admitted-told, admitted-is-sound}
 
 -- the times of a phase
 abbrev PhaseFits : PhaseTimes → Type 0
-PhaseFits t = phaseRows .form .fits (phaseRows .fields t) × (t .early < 65536)
+PhaseFits t = six .fits (sixOf t) × (t .early < 65536)
 
 times-fit :
     (t : Times) →
@@ -40,14 +40,14 @@ times-fit :
     timesForm .fits t
 unfolding phaseTimes walkTimes
 times-fit t start seven eight phases walks = (
-  start,
   (
-    (length-map (t .phases) (phaseRows .fields) ∙ seven, λ p l. rw (List·getD-map (phaseRows .fields) (t .phases) p noPhaseTimes) (phases p l .0)),
     (
-      (eight, walks),
-      (length-map (t .phases) earlyOf ∙ seven, λ p l. rw (List·getD-map earlyOf (t .phases) p noPhaseTimes) (phases p l .1)),
+      start,
+      (length-map (t .phases) sixOf ∙ seven, λ p l. rw (List·getD-map sixOf (t .phases) p noPhaseTimes) (phases p l .0)),
     ),
+    (eight, walks),
   ),
+  (length-map (t .phases) earlyOf ∙ seven, λ p l. rw (List·getD-map earlyOf (t .phases) p noPhaseTimes) (phases p l .1)),
 )
 
 pub none-fit : waitingForm .fits noneWaiting

@@ -81,7 +81,7 @@ front-same :
     recordForm .read after at ≡ withState (recordForm .read b at) (recordForm .read after at .state)
 unfolding withState twoAt
 front-same b after at same =
-    let held = same (at + 0) (omega arith) (omega arith) in
+    let held = same at (omega arith) (omega arith) in
     let first = same (at + firstAt) (omega arith) (omega arith) in
     let low = same (at + sizeAt) (omega arith) (omega arith) in
     let high = same (at + sizeAt + 1) (omega arith) (omega arith) in

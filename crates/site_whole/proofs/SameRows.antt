@@ -2,7 +2,6 @@
 use Prim.Native.Nat.{ℕ, _+_}
 use mathlib.Core.List.{List}
 use mathlib.Core.Path.{_≡_, ap, fun-ext}
-use native.Mathlib.Nat.{add-zero}
 use Rattle.rules.specs.declared.site.PhaseTimes.{PhaseTimes}
 use Rattle.rules.specs.declared.site.WalkTimes.{WalkTimes}
 use Rattle.laws.specs.Folds.{rowOf}
@@ -15,11 +14,11 @@ use Rattle.state_times.specs.TimeRows.{phaseIn, walkIn}
 module _ (b : List ℕ) (w : Layout) (laid : LayoutOf b w) where
   pub phase-own : (p : ℕ) → phaseIn b 12 (w .early + 4) (w .hasearly) p ≡ phaseTimesAt b p
   unfolding phaseTimesAt earlyTimeAt recordAt bodyAt
-  phase-own p = rw (laid .early, laid .hasearly, add-zero)
+  phase-own p = rw (laid .early, laid .hasearly)
 
   pub walk-own : (k : ℕ) → walkIn b (w .pedestrians + 4) k ≡ walkTimesAt b k
   unfolding walkTimesAt recordAt bodyAt
-  walk-own k = rw (laid .pedestrians, add-zero)
+  walk-own k = rw (laid .pedestrians)
 
   pub phases-own : rowOf (phaseIn b 12 (w .early + 4) (w .hasearly)) (w .phasecount) 7 noPhaseTimes ≡ timesIn b .phases
   unfolding timesIn

@@ -1,4 +1,4 @@
--- The laws of the layout's forms, table by table: each follows from the laws of its rows.
+-- The laws of the layout's forms, record by record: each follows from the laws of its fields.
 use mathlib.Core.Path.{_≡_, refl}
 use native.Mathlib.Omega.{arith}
 use lib.ListN.{getD}
@@ -8,8 +8,8 @@ use Rattle.rules.specs.declared.state.Stage.{Stage}
 use Rattle.rules.specs.declared.state.Stage.the-variants.{Idle, Walk, ClearanceOne, ClearanceTwo}
 use Rattle.rules.specs.IntervalTable.{intervalRow, intervals, stageRow, stages}
 use Rattle.rules.specs.State.{idle}
-use Rattle.state_forms.proofs.Lawful.{Lawful, inOrder, byte-law, two-law, coded-law, held-law, row-law, placed-law, both-law, made-law}
-use Rattle.state_bytes.specs.Layout.{interval, stage, positionRows, positionOf, position, countsRows, countsOf, counts, demandsRows, demandsOf, demands, movementRows, movementOf, movement, countsAt, demandsAt, movementsAt, keptAt, stateRows, stateOf, state}
+use Rattle.state_forms.proofs.Lawful.{Lawful, inOrder, byte-law, two-law, coded-law, held-law, row-law, both-law, made-law}
+use Rattle.state_bytes.specs.Layout.{interval, stage, position, counts, demands, movement, state}
 
 -- ── Intervals and stages by their codes ──
 
@@ -22,7 +22,7 @@ interval-back EarlyCutOff = refl
 interval-back Yellow = refl
 interval-back AllRed = refl
 
-interval-law : Lawful interval 0
+interval-law : Lawful interval
 unfolding inOrder
 interval-law = coded-law StartRed (λ i. intervalRow i .code) intervals (omega arith) (omega arith) interval-back refl
 
@@ -32,33 +32,27 @@ stage-back Walk = refl
 stage-back ClearanceOne = refl
 stage-back ClearanceTwo = refl
 
-stage-law : Lawful stage 0
+stage-law : Lawful stage
 unfolding inOrder
 stage-law = coded-law Idle (λ s. stageRow s .code) stages (omega arith) (omega arith) stage-back refl
 
--- ── The layout, table by table ──
+-- ── The layout, record by record ──
 
-pub position-law : Lawful position 0
+pub position-law : Lawful position
 position-law =
-    made-law positionRows positionOf (λ p. refl) (λ a. refl)
-    (both-law (placed-law 0 byte-law)
-    (both-law (placed-law 1 interval-law)
-    (both-law (placed-law 2 two-law) (both-law (placed-law 4 held-law) (placed-law 6 held-law)))))
+    made-law (λ p. ((((p .phase, p .interval), p .age), p .previous), p .target)) _ (λ p. refl) (λ a. refl)
+    (both-law (both-law (both-law (both-law byte-law interval-law) two-law) held-law) held-law)
 
-pub counts-law : Lawful counts 0
-counts-law = made-law countsRows countsOf (λ c. refl) (λ a. refl) (both-law (placed-law 0 two-law) (placed-law 2 two-law))
+pub counts-law : Lawful counts
+counts-law = made-law _ _ (λ c. refl) (λ a. refl) (both-law two-law two-law)
 
-pub demands-law : Lawful demands 0
-demands-law =
-    made-law demandsRows demandsOf (λ d. refl) (λ a. refl) (both-law (placed-law 0 byte-law) (placed-law 1 byte-law))
+pub demands-law : Lawful demands
+demands-law = made-law _ _ (λ d. refl) (λ a. refl) (both-law byte-law byte-law)
 
-pub movement-law : Lawful movement 0
-movement-law = made-law movementRows movementOf (λ m. refl) (λ a. refl) (both-law (placed-law 0 stage-law) (placed-law 1 two-law))
+pub movement-law : Lawful movement
+movement-law = made-law (λ m. (m .stage, m .age)) _ (λ m. refl) (λ a. refl) (both-law stage-law two-law)
 
-pub state-law : Lawful state 0
+pub state-law : Lawful state
 state-law =
-    made-law stateRows stateOf (λ s. refl) (λ a. refl)
-    (both-law (placed-law 0 position-law)
-    (both-law (placed-law countsAt counts-law)
-    (both-law (placed-law demandsAt demands-law)
-    (both-law (placed-law movementsAt (row-law movement movement-law 8 idle)) (placed-law keptAt byte-law)))))
+    made-law (λ s. ((((s .core .position, s .core .counts), s .core .demands), s .core .movements), s .kept)) _ (λ s. refl) (λ a. refl)
+    (both-law (both-law (both-law (both-law position-law counts-law) demands-law) (row-law movement movement-law 8 idle)) byte-law)

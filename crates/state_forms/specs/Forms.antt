@@ -34,23 +34,18 @@ coded all first code =
       fits = λ x. record {};
     }
 
--- a phase or none: a tag of 1 and the phase, or 0 and 0 for none
+-- 1 for true, 0 for false
 abbrev pub flagCode : Bool → ℕ
 flagCode flag = if flag then 1 else 0
 
-abbrev pub heldKnown : ℕ → ℕ → Bool
-heldKnown tag phase = eqb tag 1 || (eqb tag 0 && eqb phase 0)
-
-abbrev pub heldOf : ℕ → ℕ → Held
-heldOf tag phase = if eqb tag 1 then Phase phase else Nothing
-
+-- a phase or none: a tag of 1 and the phase, or 0 and 0 for none
 abbrev pub held : Form Held
 held =
     record {
       width = 2;
       written = λ h. flagCode (isHeld h) ∷ phaseHeld h ∷ [];
-      known = λ b at. heldKnown (byteAt b at) (byteAt b (at + 1));
-      read = λ b at. heldOf (byteAt b at) (byteAt b (at + 1));
+      known = λ b at. eqb (byteAt b at) 1 || (eqb (byteAt b at) 0 && eqb (byteAt b (at + 1)) 0);
+      read = λ b at. if eqb (byteAt b at) 1 then Phase (byteAt b (at + 1)) else Nothing;
       fits = λ h. phaseHeld h < 256;
     }
 
@@ -74,56 +69,27 @@ row n default form =
 
 -- ── Records ──
 
--- the value is `place` bytes further on
-abbrev pub placed : {A : Type 0} → ℕ → Form A → Form A
-placed place form =
-    record {
-      width = form .width;
-      written = form .written;
-      known = λ b at. form .known b (at + place);
-      read = λ b at. form .read b (at + place);
-      fits = form .fits;
-    }
-
--- two values, each at its own place
-abbrev pub both : {A B : Type 0} → Form A → Form B → Form (A × B)
-both f g =
+-- two values, one after the other
+infixl 5 _⊗_
+abbrev pub _⊗_ : {A B : Type 0} → Form A → Form B → Form (A × B)
+f ⊗ g =
     record {
       width = f .width + g .width;
       written = λ p. f .written (p .0) ++ g .written (p .1);
-      known = λ b at. f .known b at && g .known b at;
-      read = λ b at. (f .read b at, g .read b at);
+      known = λ b at. f .known b at && g .known b (at + f .width);
+      read = λ b at. (f .read b at, g .read b (at + f .width));
       fits = λ p. f .fits (p .0) × g .fits (p .1);
     }
 
--- A record's fields, and their form.
-pub record Table (S : Type 0) : Type 1 where
-  pub Fields : Type 0
-  pub fields : S → Fields
-  pub form : Form Fields
-
--- a row of a table: the place of the field's first byte in the record, its form, and the field
-abbrev pub field : {S A : Type 0} → ℕ → Form A → (S → A) → Table S
-field {A = A} place form own = record { Fields = A; fields = own; form = placed place form }
-
-infixr 5 _⊗_
-abbrev pub _⊗_ : {S : Type 0} → Table S → Table S → Table S
-t ⊗ u =
+-- a record: the form of its fields, its fields, and the record that is made of them
+abbrev pub made : {F S : Type 0} → Form F → (S → F) → (F → S) → Form S
+made form fields make =
     record {
-      Fields = t .Fields × u .Fields;
-      fields = λ s. (t .fields s, u .fields s);
-      form = both (t .form) (u .form);
-    }
-
--- the record that is made of the fields
-abbrev pub made : {S : Type 0} (t : Table S) → (t .Fields → S) → Form S
-made t make =
-    record {
-      width = t .form .width;
-      written = λ s. t .form .written (t .fields s);
-      known = t .form .known;
-      read = λ b at. make (t .form .read b at);
-      fits = λ s. t .form .fits (t .fields s);
+      width = form .width;
+      written = λ s. form .written (fields s);
+      known = form .known;
+      read = λ b at. make (form .read b at);
+      fits = λ s. form .fits (fields s);
     }
 
 -- ── Bytes ──

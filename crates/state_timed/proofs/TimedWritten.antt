@@ -4,7 +4,7 @@ use mathlib.Core.Bool.{true}
 use mathlib.Core.List.{List, [], _∷_, _++_, append-assoc, append-nil}
 use mathlib.Core.Path.{_≡_, refl, sym, ap, _∙_}
 use native.Mathlib.Omega.{arith}
-use lib.ListN.{length, length-append, set, take, drop, replicate}
+use lib.ListN.{length, set, take, drop, replicate}
 use lib.Seq.{sets, sets-eq, drop-at, take-at, drop-length}
 use Rattle.rules.specs.declared.site.Times.{Times}
 use Rattle.rules.specs.declared.state.KeptState.{KeptState}
@@ -13,6 +13,7 @@ use Rattle.rules.specs.Timed.{TimedState, keptOf, noneWaiting}
 use Rattle.rules.specs.TimedCall.{retimed}
 use Rattle.laws.proofs.Arrays.{sets-next, sets-whole}
 use Rattle.state_forms.specs.Forms.{AreBytes, partsOf}
+use Rattle.state_forms.proofs.Lawful.{both-law}
 use Rattle.state_bytes.specs.Layout.{state}
 use Rattle.state_bytes.proofs.Laws.{state-law}
 use Rattle.state_times.specs.TimesLayout.{times}
@@ -27,6 +28,9 @@ none-written : waiting .written noneWaiting ≡ replicate 149 0
 unfolding noneWaiting noTimes partsOf
 none-written = refl
 
+before-long : (s : KeptState) (ruling : Times) → length (state .written s ++ times .written ruling) ≡ 187
+before-long s ruling = both-law state-law times-law .sized (s, ruling)
+
 pub settled-written :
     (b : List ℕ) (s : KeptState) (ruling : Times) →
     length b ≡ timedBytes →
@@ -37,9 +41,9 @@ settled-written b s ruling e =
     let rules = times .written ruling in
     let none = waiting .written noneWaiting in
     ap (sets (sets (sets b 0 kept) 39 rules) 187) (sym none-written)
-    ∙ sets-next (sets b 0 kept) rules none 39 187 (omega (arith, times-law .sized ruling))
-    ∙ sets-next b kept (rules ++ none) 0 39 (omega (arith, state-law .sized s))
-    ∙ sets-whole b (kept ++ (rules ++ none)) (timed-law .sized (settled ruling s) ∙ sym e)
+    ∙ ap (λ (l : List ℕ). sets l 187 none) (sets-next b kept rules 0 39 (omega (arith, state-law .sized s)))
+    ∙ sets-next b (kept ++ rules) none 0 187 (omega (arith, before-long s ruling))
+    ∙ sets-whole b (kept ++ rules ++ none) (timed-law .sized (settled ruling s) ∙ sym e)
 
 module _ (b : List ℕ) (bytes : AreBytes b) (known : isTimed b ≡ true) where
   abbrev s : TimedState
@@ -58,20 +62,18 @@ module _ (b : List ℕ) (bytes : AreBytes b) (known : isTimed b ≡ true) where
   kept-written k =
       let sized : 0 + length (state .written k) ≡ 39 = omega (arith, state-law .sized k) in
       let left : drop 39 b ≡ behind =
-      ap (drop 39) (sym (encoded-decoded b bytes known)) ∙ drop-at (state .written (keptOf s)) behind 39 (state-law .sized (keptOf s)) in
+      ap (drop 39)
+      (sym (encoded-decoded b bytes known) ∙ append-assoc (state .written (keptOf s)) (times .written (s .ruling)) (waiting .written (s .waiting)))
+      ∙ drop-at (state .written (keptOf s)) behind 39 (state-law .sized (keptOf s)) in
       sets-eq (state .written k) b 0 (omega (arith, timed-known b known .size, sized))
       ∙ ap (λ (n : ℕ). state .written k ++ drop n b) sized
       ∙ ap (λ (rest : List ℕ). state .written k ++ rest) left
+      ∙ sym (append-assoc (state .written k) (times .written (s .ruling)) (waiting .written (s .waiting)))
 
   -- ── Times that wait, behind the ruling times ──
 
   abbrev before : List ℕ
   before = state .written (keptOf s) ++ times .written (s .ruling)
-
-  before-long : length before ≡ 187
-  before-long =
-      length-append (state .written (keptOf s)) (times .written (s .ruling))
-      ∙ omega (arith, state-law .sized (keptOf s), times-law .sized (s .ruling))
 
   pub waiting-written :
       (new : Times) → sets (set b 187 1) 188 (times .written new) ≡ timedEncoded (retimed s new)
@@ -80,13 +82,10 @@ module _ (b : List ℕ) (bytes : AreBytes b) (known : isTimed b ≡ true) where
       let written : List ℕ = 1 ∷ times .written new in
       let sized : 187 + length written ≡ length b = omega (arith, times-law .sized new, timed-known b known .size) in
       let kept : take 187 b ≡ before =
-      ap (take 187)
-      (sym (encoded-decoded b bytes known) ∙ sym (append-assoc (state .written (keptOf s)) (times .written (s .ruling)) (waiting .written (s .waiting))))
-      ∙ take-at before (waiting .written (s .waiting)) 187 before-long in
+      ap (take 187) (sym (encoded-decoded b bytes known)) ∙ take-at before (waiting .written (s .waiting)) 187 (before-long (keptOf s) (s .ruling)) in
       sets-next b (1 ∷ []) (times .written new) 187 188 (omega arith)
       ∙ sets-eq written b 187 (omega (arith, sized))
       ∙ ap (λ (front : List ℕ). front ++ written ++ drop (187 + length written) b) kept
       ∙ ap (λ (n : ℕ). before ++ written ++ drop n b) sized
       ∙ ap (λ (rest : List ℕ). before ++ written ++ rest) (drop-length b)
       ∙ append-nil (before ++ written)
-      ∙ append-assoc (state .written (keptOf s)) (times .written (s .ruling)) written

@@ -7,16 +7,16 @@ use lib.ListN.{getD}
 use Rattle.laws.specs.Bytes.{twoAt}
 use Rattle.rules.specs.Site.{noPhaseTimes, noWalkTimes, phaseTimes, walkTimes}
 use Rattle.laws.proofs.Lists.{list-at}
-use Rattle.state_times.specs.TimesLayout.{phaseRows, phaseOf, phaseDefault, phasesAt, walksAt, earliesAt, phases, earlies, times}
-use Rattle.state_times.specs.TimeRows.{phaseIn, walkIn}
+use Rattle.state_times.specs.TimesLayout.{six, sixOf, phaseOf, phases, earlies, times}
+use Rattle.state_times.specs.TimeRows.{phasesAt, walksAt, earliesAt, phaseIn, walkIn}
 
 module _ (b : List ℕ) (at : ℕ) where
   pub phase-read : (p : ℕ) → p < 7 → phaseTimes (times .read b at) p ≡ phaseIn b (at + phasesAt) (at + earliesAt) true p
   unfolding phaseTimes
   phase-read p l =
-      list-at (λ k. phaseOf (getD (phases .read b (at + phasesAt)) k phaseDefault) (getD (earlies .read b (at + earliesAt)) k 0)) 7 p noPhaseTimes l
+      list-at (λ k. phaseOf (getD (phases .read b (at + phasesAt)) k (sixOf noPhaseTimes)) (getD (earlies .read b (at + earliesAt)) k 0)) 7 p noPhaseTimes l
       ∙ rw (
-        list-at (λ k. phaseRows .form .read b (at + phasesAt + k * 12)) 7 p phaseDefault l,
+        list-at (λ k. six .read b (at + phasesAt + k * 12)) 7 p (sixOf noPhaseTimes) l,
         list-at (λ k. twoAt b (at + earliesAt + k * 2)) 7 p 0 l,
       )
 

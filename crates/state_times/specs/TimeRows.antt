@@ -7,7 +7,17 @@ use Rattle.rules.specs.declared.site.WalkTimes.{WalkTimes}
 use Rattle.laws.specs.Bytes.{twoAt}
 use Rattle.laws.specs.Folds.{rowOf}
 use Rattle.rules.specs.Site.{noPhaseTimes, noWalkTimes}
-use Rattle.state_times.specs.TimesLayout.{phaseRows, phaseOf, walk, phasesAt, walksAt, earliesAt}
+use Rattle.state_times.specs.TimesLayout.{six, phaseOf, walk}
+
+-- where the phases, the movements and the kind 7 times stand in the bytes of times
+abbrev pub phasesAt : ℕ
+phasesAt = 2
+
+abbrev pub walksAt : ℕ
+walksAt = 86
+
+abbrev pub earliesAt : ℕ
+earliesAt = 134
 
 -- the kind 7 time of phase p, 0 if there are none
 abbrev pub earlyIn : List ℕ → ℕ → Bool → ℕ → ℕ
@@ -15,7 +25,7 @@ earlyIn b early present p = if present then twoAt b (early + p * 2) else 0
 
 -- the times of phase p: its record, and its kind 7 time
 abbrev pub phaseIn : List ℕ → ℕ → ℕ → Bool → ℕ → PhaseTimes
-phaseIn b at early present p = phaseOf (phaseRows .form .read b (at + p * 12)) (earlyIn b early present p)
+phaseIn b at early present p = phaseOf (six .read b (at + p * 12)) (earlyIn b early present p)
 
 abbrev pub walkIn : List ℕ → ℕ → ℕ → WalkTimes
 walkIn b at k = walk .read b (at + k * 6)

@@ -7,15 +7,15 @@ ghost use lib.ListN.{length};
 ghost use lib.Seq.{sets};
 ghost use Rattle.laws.specs.Folds.{rowOf};
 ghost use Rattle.rules.specs.Site.{noPhaseTimes};
-ghost use Rattle.state_times.specs.TimesLayout.{phaseRows, phaseOf, phases as phasesForm, earlies};
+ghost use Rattle.state_times.specs.TimesLayout.{six, sixOf, phaseOf, phases as phasesForm, earlies};
 ghost use Rattle.state_times.specs.TimeRows.{earlyIn, phaseIn};
 use crate::EARLY;
 use crate::PHASE;
 use rules::site::PhaseTimes;
 
 pub fn read_one(bytes: &[u8], at: usize, early: u16) -> PhaseTimes
-    requires { ⌜ at + phaseRows .form .width ≤ length (now bytes) ⌝ }
-    ensures { λ r. ⌜ r ≡ phaseOf (phaseRows .form .read (now (bytes .entry)) at) early ⌝ }
+    requires { ⌜ at + six .width ≤ length (now bytes) ⌝ }
+    ensures { λ r. ⌜ r ≡ phaseOf (six .read (now (bytes .entry)) at) early ⌝ }
 {
     PhaseTimes {
         late: base_bytes::two_in(bytes, at),
@@ -73,8 +73,8 @@ pub fn read(bytes: &[u8], at: usize, early: usize, present: bool, count: usize) 
 }
 
 fn put_one(bytes: &mut [u8], at: usize, own: PhaseTimes)
-    requires { ⌜ at + phaseRows .form .width ≤ length (now bytes) ⌝ }
-    ensures { λ _. ⌜ now (bytes .exit) ≡ sets (now (bytes .entry)) at (phaseRows .form .written (phaseRows .fields own)) ⌝ }
+    requires { ⌜ at + six .width ≤ length (now bytes) ⌝ }
+    ensures { λ _. ⌜ now (bytes .exit) ≡ sets (now (bytes .entry)) at (six .written (sixOf own)) ⌝ }
 {
     state_forms::put_two(bytes, at, own.late);
     state_forms::put_two(bytes, at + 2, own.minimum);
@@ -86,7 +86,7 @@ fn put_one(bytes: &mut [u8], at: usize, own: PhaseTimes)
 
 pub fn put(bytes: &mut [u8], at: usize, records: [PhaseTimes; 7])
     requires { ⌜ at + phasesForm .width ≤ length (now bytes) ⌝ }
-    ensures { λ _. ⌜ now (bytes .exit) ≡ sets (now (bytes .entry)) at (phasesForm .written (map (phaseRows .fields) records)) ⌝ }
+    ensures { λ _. ⌜ now (bytes .exit) ≡ sets (now (bytes .entry)) at (phasesForm .written (map sixOf records)) ⌝ }
 {
     let mut p: usize = 0;
     while p < 7 {

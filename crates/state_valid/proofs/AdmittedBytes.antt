@@ -3,7 +3,6 @@ use Prim.Native.Nat.{ℕ, _+_}
 use mathlib.Core.Bool.{Bool, true, _&&_}
 use mathlib.Core.List.{List}
 use mathlib.Core.Path.{_≡_, sym, ap}
-use native.Mathlib.Nat.{add-zero}
 use lib.ListN.{getD}
 use Rattle.rules.specs.declared.site.PhaseTimes.{PhaseTimes}
 use Rattle.rules.specs.declared.site.WalkTimes.{WalkTimes}
@@ -13,8 +12,8 @@ use Rattle.rules.specs.Limits.{limits, within}
 use Rattle.rules.specs.Personality.{phaseCount, movementCount, hasEarly, editionOf}
 use Rattle.rules.specs.Site.{noPhaseTimes, noWalkTimes, siteOf, phaseTimes, walkTimes}
 use Rattle.rules.specs.SiteTimes.{recordLimits, phaseWithin, walkWithin, admitted}
-use Rattle.state_times.specs.TimesLayout.{phasesAt, walksAt, earliesAt, times}
-use Rattle.state_times.specs.TimeRows.{phaseIn, walkIn}
+use Rattle.state_times.specs.TimesLayout.{times}
+use Rattle.state_times.specs.TimeRows.{phasesAt, walksAt, earliesAt, phaseIn, walkIn}
 use Rattle.state_times.proofs.TimesRead.{phase-read, walk-read}
 use Rattle.state_valid.proofs.Records.{all-same, admitted-tested}
 
@@ -33,9 +32,7 @@ module _ (s b : List ℕ) (at : ℕ) where
   unfolding siteOf phaseTimes walkTimes
   admitted-bytes =
       let t = times .read b at in
-      let start : twoAt b at ≡ t .start = ap (twoAt b) (sym (add-zero at)) in
       rw (
-        start,
         all-same (λ p. phaseTest (phaseIn b (at + phasesAt) (at + earliesAt) true p) p) (λ p. phaseTest (getD (t .phases) p noPhaseTimes) p) 7
             (λ p l. ap (λ (own : PhaseTimes). phaseTest own p) (sym (phase-read b at p l))),
         all-same (λ k. walkTest (walkIn b (at + walksAt) k) k) (λ k. walkTest (getD (t .walks) k noWalkTimes) k) 8

@@ -3,7 +3,6 @@ use Prim.Native.Nat.{ℕ, _+_, _*_, _≤_, _<_}
 use mathlib.Core.Bool.{Bool, true, false}
 use mathlib.Core.List.{List}
 use mathlib.Core.Path.{_≡_, refl, sym, ap, _∙_}
-use native.Mathlib.Nat.{add-zero}
 use native.Mathlib.Omega.{arith}
 use Rattle.rules.specs.declared.site.PhaseTimes.{PhaseTimes}
 use Rattle.rules.specs.declared.site.Site.{Site}
@@ -14,8 +13,8 @@ use Rattle.rules.specs.Site.{noPhaseTimes, noWalkTimes, phaseTimes, walkTimes}
 use Rattle.rules.specs.SiteTimes.{admitted}
 use Rattle.laws.proofs.Lists.{list-length, row-told}
 use Rattle.proof_change.proofs.Admitted.{Admitted, admitted-told}
-use Rattle.state_times.specs.TimesLayout.{phaseRows, phaseOf, phasesAt, walksAt, earliesAt, times}
-use Rattle.state_times.specs.TimeRows.{phaseIn, walkIn, siteTimes}
+use Rattle.state_times.specs.TimesLayout.{six, phaseOf, times}
+use Rattle.state_times.specs.TimeRows.{phasesAt, walksAt, earliesAt, phaseIn, walkIn, siteTimes}
 use Rattle.state_times.proofs.TimesRead.{phase-read, walk-read}
 
 module _
@@ -37,13 +36,13 @@ module _
     phase-same : (p : ℕ) → p < site .size .phases → phaseIn b (at + phasesAt) (at + earliesAt) (site .early) p ≡ phaseTimes (times .read b at) p
     phase-same p l =
         let read = phase-read b at p (omega arith) in
-        ap (phaseOf (phaseRows .form .read b (at + phasesAt + p * 12)))
+        ap (phaseOf (six .read b (at + phasesAt + p * 12)))
         (early-same (site .early) (twoAt b (at + earliesAt + p * 2)) (λ none. sym (ap (λ (t : PhaseTimes). t .early) read) ∙ fine .noEarly p l none))
         ∙ sym read
 
     pub site-times : siteTimes (site .size .phases) (site .size .movements) (site .early) b at ≡ times .read b at
     unfolding phaseTimes walkTimes
-    site-times = rw (add-zero at, phases-same, walks-same)
+    site-times = rw (phases-same, walks-same)
       where
         phases-same :
             rowOf (phaseIn b (at + phasesAt) (at + earliesAt) (site .early)) (site .size .phases) 7 noPhaseTimes ≡ times .read b at .phases

@@ -2,8 +2,7 @@
 use Prim.Native.Nat.{ℕ, _+_, _*_, _≤_, _<_}
 use mathlib.Core.Bool.{Bool, true, _&&_}
 use mathlib.Core.List.{List, []}
-use mathlib.Core.Path.{_≡_, refl, sym, ap, subst, _∙_}
-use native.Mathlib.Nat.{add-zero}
+use mathlib.Core.Path.{_≡_, refl, sym, ap, _∙_}
 use native.Mathlib.Omega.{arith}
 use lib.Dec.{eqb}
 use lib.ListN.{length, getD, drop, replicate, getD-replicate}
@@ -24,8 +23,8 @@ use Rattle.laws.proofs.Folds.{all-at, all-each}
 use Rattle.laws.proofs.Lists.{list-length, list-told}
 use Rattle.proof_change.proofs.Timed.{none-valid}
 use Rattle.state_forms.specs.Forms.{partsOf, AreBytes}
-use Rattle.state_times.specs.TimesLayout.{phasesAt, walksAt, earliesAt, times}
-use Rattle.state_times.specs.TimeRows.{phaseIn, walkIn}
+use Rattle.state_times.specs.TimesLayout.{times}
+use Rattle.state_times.specs.TimeRows.{phasesAt, walksAt, earliesAt, phaseIn, walkIn}
 use Rattle.state_times.proofs.TimesLaws.{times-law, times-known}
 use Rattle.state_times.proofs.TimesRead.{phase-read, walk-read}
 use Rattle.state_valid.proofs.Records.{phase-absent, walk-absent, blank-tested}
@@ -68,7 +67,7 @@ module _ (b : List ℕ) (at : ℕ) where
     phase-zeros : (p : ℕ) → p < 7 → phaseIn b (at + phasesAt) (at + earliesAt) true p ≡ noPhaseTimes
     phase-zeros p l =
         rw (
-          two-at (at + phasesAt + p * 12 + 0) (2 + p * 12) (omega arith) (omega arith),
+          two-at (at + phasesAt + p * 12) (2 + p * 12) (omega arith) (omega arith),
           two-at (at + phasesAt + p * 12 + 2) (4 + p * 12) (omega arith) (omega arith),
           two-at (at + phasesAt + p * 12 + 4) (6 + p * 12) (omega arith) (omega arith),
           two-at (at + phasesAt + p * 12 + 6) (8 + p * 12) (omega arith) (omega arith),
@@ -80,7 +79,7 @@ module _ (b : List ℕ) (at : ℕ) where
     walk-zeros : (k : ℕ) → k < 8 → walkIn b (at + walksAt) k ≡ noWalkTimes
     walk-zeros k l =
         rw (
-          two-at (at + walksAt + k * 6 + 0) (86 + k * 6) (omega arith) (omega arith),
+          two-at (at + walksAt + k * 6) (86 + k * 6) (omega arith) (omega arith),
           two-at (at + walksAt + k * 6 + 2) (88 + k * 6) (omega arith) (omega arith),
           two-at (at + walksAt + k * 6 + 4) (90 + k * 6) (omega arith) (omega arith),
         )
@@ -112,8 +111,7 @@ module _ (b : List ℕ) (at : ℕ) where
   none-written bytes room none i l =
       let written : times .written noTimes ≡ replicate 148 0 = refl in
       let same : part b at 148 ≡ replicate 148 0 =
-      subst (λ (place : ℕ). part b place 148 ≡ replicate 148 0) (add-zero at)
-      (sym (times-law .same b at bytes (omega (arith, room)) (times-known b at)) ∙ ap (times .written) none ∙ written) in
+      sym (times-law .same b at bytes room (times-known b at)) ∙ ap (times .written) none ∙ written in
       sym (getD-take 148 (drop at b) i 0 l ∙ getD-drop at b i 0)
       ∙ ap (λ (l : List ℕ). getD l i 0) same
       ∙ getD-replicate 148 i 0 0 l
@@ -151,7 +149,7 @@ module _ (b : List ℕ) (at : ℕ) where
         (λ all.
         let zero : (i : ℕ) → i < 148 → byteAt b (at + i) ≡ 0 = λ i l. eqb-true _ 0 (all-at (λ k. eqb (byteAt b (at + k)) 0) 148 i all l) in
         ap (blank site)
-        (none-read (two-at zero (at + 0) 0 refl (omega arith)) (λ p l. phase-read b at p l ∙ phase-zeros zero p l)
+        (none-read (two-at zero at 0 (omega arith) (omega arith)) (λ p l. phase-read b at p l ∙ phase-zeros zero p l)
         (λ k l. walk-read b at k l ∙ walk-zeros zero k l))
         ∙ blank-none)
         (λ ok. all-each (λ k. eqb (byteAt b (at + k)) 0) 148 (λ i l. eq-eqb _ 0 (none-written bytes room (blank-told ok) i l)))

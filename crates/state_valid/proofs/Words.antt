@@ -3,7 +3,7 @@ use Prim.Native.Nat.{ℕ, suc, _+_, _*_, _<_}
 use mathlib.Core.Bool.{Bool, _&&_, and-assoc}
 use mathlib.Core.List.{List, []}
 use mathlib.Core.Path.{_≡_, refl, ap, _∙_}
-use native.Mathlib.Nat.{add-zero, mul-zero, suc-mul}
+use native.Mathlib.Nat.{mul-zero, suc-mul}
 use native.Mathlib.Omega.{arith}
 use lib.Dec.{eqb}
 use borrow.Author.Tests.{eqb-true, eq-eqb}
@@ -12,7 +12,7 @@ use Rattle.laws.proofs.Booleans.{and-left, and-right, and-both, same-tests}
 use Rattle.laws.proofs.Folds.{Tested, tested-more}
 use Rattle.state_forms.specs.Forms.{AreBytes}
 use Rattle.rules.specs.SiteTimes.{phaseWithin, walkWithin}
-use Rattle.state_times.specs.TimesLayout.{phaseRows, phaseOf, walk}
+use Rattle.state_times.specs.TimesLayout.{six, phaseOf, walk}
 use Rattle.state_valid.proofs.Records.{phase-absent, walk-absent}
 
 -- ── Equal numbers ──
@@ -40,13 +40,13 @@ module _ {a b : List ℕ} (first : AreBytes a) (second : AreBytes b) where
       (i j : ℕ) →
       eightAt a i ≡ eightAt b j →
       fourAt a (i + 8) ≡ fourAt b (j + 8) →
-      phaseRows .form .read a i ≡ phaseRows .form .read b j
+      six .read a i ≡ six .read b j
   phase-same i j eight four =
       let halves = eight-same i j eight in
       let low = four-same i j (halves .0) in
       let middle = four-same (i + 4) (j + 4) (halves .1) in
       let high = four-same (i + 8) (j + 8) four in
-      rw (add-zero i, add-zero j, low .0, low .1, middle .0, further 4 2 6 (omega arith) (middle .1), high .0, further 8 2 10 (omega arith) (high .1))
+      rw (low .0, low .1, middle .0, further 4 2 6 (omega arith) (middle .1), high .0, further 8 2 10 (omega arith) (high .1))
     where
       further : (m n k : ℕ) → m + n ≡ k → twoAt a (i + m + n) ≡ twoAt b (j + m + n) → twoAt a (i + k) ≡ twoAt b (j + k)
       further m n k e same =
@@ -61,7 +61,7 @@ module _ {a b : List ℕ} (first : AreBytes a) (second : AreBytes b) where
       walk .read a i ≡ walk .read b j
   walk-same i j four two =
       let low = four-same i j four in
-      rw (add-zero i, add-zero j, low .0, low .1, two)
+      rw (low .0, low .1, two)
 
 -- ── The number 0 ──
 
@@ -106,12 +106,12 @@ module _ (b : List ℕ) where
 
   pub phase-zero :
       (at early : ℕ) (has : Bool) →
-      (eqb (eightAt b at) 0 && eqb (fourAt b (at + 8)) 0 && eqb early 0) ≡ phaseWithin [] has (phaseOf (phaseRows .form .read b at) early)
+      (eqb (eightAt b at) 0 && eqb (fourAt b (at + 8)) 0 && eqb early 0) ≡ phaseWithin [] has (phaseOf (six .read b at) early)
   phase-zero at early has =
-      let six : at + 4 + 2 ≡ at + 6 = omega arith in
-      let ten : at + 8 + 2 ≡ at + 10 = omega arith in
-      rw (eight-zero at, four-zero at, four-zero (at + 4), four-zero (at + 8), six, ten)
-      (simp (and-assoc, add-zero) (simp (and-assoc, add-zero) at (phase-absent has (phaseOf (phaseRows .form .read b at) early))))
+      let sixth : at + 4 + 2 ≡ at + 6 = omega arith in
+      let tenth : at + 8 + 2 ≡ at + 10 = omega arith in
+      rw (eight-zero at, four-zero at, four-zero (at + 4), four-zero (at + 8), sixth, tenth)
+      (simp and-assoc (simp and-assoc at (phase-absent has (phaseOf (six .read b at) early))))
 
   pub walk-zero : (at : ℕ) → (eqb (fourAt b at) 0 && eqb (twoAt b (at + 4)) 0) ≡ walkWithin [] (walk .read b at)
-  walk-zero at = rw (four-zero at) (simp add-zero (simp add-zero at (walk-absent (walk .read b at))))
+  walk-zero at = rw (four-zero at) (walk-absent (walk .read b at))

@@ -8,7 +8,7 @@ use Rattle.rules.specs.SiteTimes.{under, admitted}
 use Rattle.rules.specs.Timed.{TimedState, waitingValid}
 use Rattle.state_bytes.specs.Layout.{state}
 use Rattle.state_times.specs.TimeRows.{siteTimes}
-use Rattle.state_timed.specs.TimedLayout.{rulingAt, isTimed}
+use Rattle.state_timed.specs.TimedLayout.{isTimed}
 
 -- the part of the valid state that is about its times
 abbrev pub timesValid : List ℕ → TimedState → Bool
@@ -17,5 +17,5 @@ timesValid b s = admitted (siteOf b) (s .ruling) && waitingValid (siteOf b) (s .
 -- what is decoded of bytes that are a state: the site under the times in them, and the state without its times
 pub record Decoded (b bytes : List ℕ) (site : Site) (kept : KeptState) : Type 0 where
   pub known : isTimed bytes ≡ true
-  pub under-times : site ≡ under (siteOf b) (siteTimes (phaseCount b) (movementCount b) (hasEarly b) bytes rulingAt)
+  pub under-times : site ≡ under (siteOf b) (siteTimes (phaseCount b) (movementCount b) (hasEarly b) bytes 39)
   pub rest : kept ≡ state .read bytes 0

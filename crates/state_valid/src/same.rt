@@ -3,15 +3,15 @@ ghost use Prim.Native.Nat.{_+_, _≤_};
 ghost use mathlib.Core.Bool.{true};
 ghost use mathlib.Core.Path.{_≡_};
 ghost use lib.ListN.{length};
-ghost use Rattle.state_times.specs.TimesLayout.{phaseRows, walk as walkForm};
+ghost use Rattle.state_times.specs.TimesLayout.{six, walk as walkForm};
 use base_bytes::eight_in;
 use base_bytes::four_in;
 use base_bytes::two_in;
 
 // The 12 bytes of a phase.
 pub fn phase(s: &[u8], i: usize, t: &[u8], j: usize) -> bool
-    requires { ⌜ (i + phaseRows .form .width ≤ length (now s)) × (j + phaseRows .form .width ≤ length (now t)) ⌝ }
-    ensures { λ r. ⌜ (r ≡ true → phaseRows .form .read (now (s .entry)) i ≡ phaseRows .form .read (now (t .entry)) j) ⌝ }
+    requires { ⌜ (i + six .width ≤ length (now s)) × (j + six .width ≤ length (now t)) ⌝ }
+    ensures { λ r. ⌜ (r ≡ true → six .read (now (s .entry)) i ≡ six .read (now (t .entry)) j) ⌝ }
 {
     (eight_in(s, i) == eight_in(t, j)) & (four_in(s, i + 8) == four_in(t, j + 8))
 }

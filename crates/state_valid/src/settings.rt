@@ -13,8 +13,8 @@ ghost use Rattle.rules.specs.Site.{phaseTimesAt, siteOf};
 ghost use Rattle.rules.specs.SiteTimes.{recordLimits, phaseWithin, walkWithin, admitted, blank};
 ghost use Rattle.read_layout.specs.LayoutOf.{LayoutOf};
 ghost use Rattle.site_rows.specs.Fitting.{Fitting};
-ghost use Rattle.state_times.specs.TimesLayout.{phaseRows, phaseOf, phasesAt, walksAt, earliesAt, times as timesForm};
-ghost use Rattle.state_times.specs.TimeRows.{phaseIn, walkIn};
+ghost use Rattle.state_times.specs.TimesLayout.{six, phaseOf, times as timesForm};
+ghost use Rattle.state_times.specs.TimeRows.{phasesAt, walksAt, earliesAt, phaseIn, walkIn};
 use crate::same;
 use crate::zeros;
 use base_bytes::two_in;
@@ -58,8 +58,8 @@ fn walk_within(table: [Range; 11], times: WalkTimes) -> bool
 
 // Whether the times of phase p, which the site has, are the personality's own: its record at a place, and its kind 7 time.
 fn is_own_phase(s: &[u8], layout: Layout, p: usize, bytes: &[u8], place: usize, early: u16) -> bool
-    requires { ⌜ Fitting (now s) layout × (p < layout .phasecount) × (place + phaseRows .form .width ≤ length (now bytes)) ⌝ }
-    ensures { λ r. ⌜ (r ≡ true → phaseTimesAt (now (s .entry)) p ≡ phaseOf (phaseRows .form .read (now (bytes .entry)) place) early) ⌝ }
+    requires { ⌜ Fitting (now s) layout × (p < layout .phasecount) × (place + six .width ≤ length (now bytes)) ⌝ }
+    ensures { λ r. ⌜ (r ≡ true → phaseTimesAt (now (s .entry)) p ≡ phaseOf (six .read (now (bytes .entry)) place) early) ⌝ }
 {
     if same::phase(s, 12 + p * PHASE, bytes, place) {
         return early == phases::early_in(s, layout.early + 4, layout.hasearly, p);

@@ -8,15 +8,15 @@ ghost use lib.ListN.{length};
 ghost use Rattle.laws.specs.Bytes.{byteAt};
 ghost use Rattle.laws.specs.Folds.{allOf};
 ghost use Rattle.rules.specs.SiteTimes.{phaseWithin, walkWithin};
-ghost use Rattle.state_times.specs.TimesLayout.{phaseRows, phaseOf, walk as walkForm};
+ghost use Rattle.state_times.specs.TimesLayout.{six, phaseOf, walk as walkForm};
 use base_bytes::eight_in;
 use base_bytes::four_in;
 use base_bytes::two_in;
 
 // The settings of a phase: its 12 bytes, and its kind 7 time.
 pub fn phase(bytes: &[u8], at: usize, early: u16) -> bool
-    requires { ⌜ at + phaseRows .form .width ≤ length (now bytes) ⌝ }
-    ensures { λ r. ⌜ ((has : Bool) → r ≡ phaseWithin [] has (phaseOf (phaseRows .form .read (now (bytes .entry)) at) early)) ⌝ }
+    requires { ⌜ at + six .width ≤ length (now bytes) ⌝ }
+    ensures { λ r. ⌜ ((has : Bool) → r ≡ phaseWithin [] has (phaseOf (six .read (now (bytes .entry)) at) early)) ⌝ }
 {
     (eight_in(bytes, at) == 0) & (four_in(bytes, at + 8) == 0) & (early == 0)
 }

@@ -1,4 +1,5 @@
 -- `state_bytes::read` meets its contract: each part is read from bytes that the test passed.
+use native.Mathlib.Nat.{add-zero}
 use native.Mathlib.Omega.{arith}
 use Rattle.laws.specs.Bytes.{byteAt}
 use Rattle.state_bytes.proofs.KnownBytes.{KeptKnown, kept-told}
@@ -24,6 +25,7 @@ returns c =
       c .before .before .read3 .ensures,
       c .before .before .before .read2 .ensures,
       c .before .before .before .before .read .ensures,
+      add-zero,
     )
 
 pub read-spec : {M : Type 1} → statement M

@@ -1,4 +1,5 @@
 -- `state_bytes::movements::read_one` meets its contract: the stage by its code, and the age behind it.
+use native.Mathlib.Nat.{add-zero}
 use Rattle.laws.specs.Bytes.{byteAt}
 use Rattle.state_bytes.proofs.KnownBytes.{stage-told}
 use borrow.Author.Needs.{needs}
@@ -13,7 +14,7 @@ stage-of-requires c κs =
 
 returns : tie.Need-returns
 unfolding byteAt
-returns c = rw (c .two-in .ensures, c .before .stage-of .ensures)
+returns c = rw (c .two-in .ensures, c .before .stage-of .ensures, add-zero)
 
 pub read-one-spec : {M : Type 1} → statement M
 read-one-spec =

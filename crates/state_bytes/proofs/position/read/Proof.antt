@@ -1,4 +1,5 @@
 -- `state_bytes::position::read` meets its contract: each field at its place.
+use native.Mathlib.Nat.{add-zero}
 use native.Mathlib.Omega.{arith}
 use Rattle.laws.specs.Bytes.{byteAt}
 use Rattle.state_bytes.proofs.KnownBytes.{PositionKnown, position-told}
@@ -28,6 +29,7 @@ returns c =
       c .before .get-held .ensures,
       c .before .before .two-in .ensures,
       c .before .before .before .interval-of .ensures,
+      add-zero,
     )
 
 pub read-spec : {M : Type 1} → statement M

@@ -7,14 +7,14 @@ use Rattle.rules.specs.Site.{noPhaseTimes}
 use Rattle.state_forms.specs.Forms.{partsOf}
 use Rattle.laws.proofs.Arrays.{Stored, stored-none, stored-length, stored-all}
 use Rattle.state_forms.proofs.Parts.{stored-record}
-use Rattle.state_times.specs.TimesLayout.{phaseRows, phaseDefault}
+use Rattle.state_times.specs.TimesLayout.{six, sixOf}
 use borrow.Author.Needs.{needs}
 use native.Mathlib.Omega.{arith}
 use Rattle.state_times.proofs.phases.put.Statement.{statement}
 use Rattle.state_times.proofs.phases.put.Tie as tie
 
 abbrev Inv-loop : tie.InvT-loop
-Inv-loop bytes₀ at records p₀ bytes p = Stored (partsOf (λ k. phaseRows .form .written (getD (map (phaseRows .fields) records) k phaseDefault))) bytes₀ at 7 bytes p
+Inv-loop bytes₀ at records p₀ bytes p = Stored (partsOf (λ k. six .written (getD (map sixOf records) k (sixOf noPhaseTimes)))) bytes₀ at 7 bytes p
 
 abbrev μ-loop : tie.MeasureT-loop
 μ-loop bytes₀ at records p₀ bytes p = 7 - p
@@ -49,8 +49,8 @@ loop-again c =
     let turn = c .before .before .before .before .before in
     let own = turn .before .before .before .args .t3 in
     rw (c .before .before .put-one .ensures)
-    (stored-record (λ k. phaseRows .form .written (getD (map (phaseRows .fields) own) k phaseDefault)) 12 (λ k. refl) _ _ (turn .before .loop .inv) (turn .loop-test .taken) refl
-    (ap (phaseRows .form .written) (sym (List·getD-map (phaseRows .fields) own (turn .before .loop .p) noPhaseTimes))))
+    (stored-record (λ k. six .written (getD (map sixOf own) k (sixOf noPhaseTimes))) 12 (λ k. refl) _ _ (turn .before .loop .inv) (turn .loop-test .taken) refl
+    (ap (six .written) (sym (List·getD-map sixOf own (turn .before .loop .p) noPhaseTimes))))
 
 same-length : tie.Need-same-length Inv-loop μ-loop
 same-length c = stored-length (c .before .loop .inv)

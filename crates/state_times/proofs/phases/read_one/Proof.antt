@@ -1,5 +1,4 @@
 -- `state_times::phases::read_one` meets its contract: six times, two bytes apart, and the seventh is given.
-use native.Mathlib.Nat.{add-zero}
 use borrow.Author.Needs.{needs}
 use Rattle.state_times.proofs.phases.read_one.Statement.{statement}
 use Rattle.state_times.proofs.phases.read_one.Tie as tie
@@ -14,7 +13,6 @@ returns c =
       third .two-in3 .ensures,
       third .before .two-in2 .ensures,
       third .before .before .two-in .ensures,
-      add-zero,
     )
 
 pub read-one-spec : {M : Type 1} → statement M

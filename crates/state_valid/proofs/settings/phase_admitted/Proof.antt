@@ -4,7 +4,7 @@ use mathlib.Core.List.{[]}
 use mathlib.Core.Path.{ap, _∙_}
 use borrow.Author.Tests.{lt-ltb, le-ltb}
 use Rattle.rules.specs.SiteTimes.{phaseWithin}
-use Rattle.state_times.specs.TimesLayout.{phaseRows, phaseOf}
+use Rattle.state_times.specs.TimesLayout.{six, phaseOf}
 use borrow.Author.Needs.{needs}
 use Rattle.state_valid.proofs.settings.phase_admitted.Statement.{statement}
 use Rattle.state_valid.proofs.settings.phase_admitted.Tie as tie
@@ -20,9 +20,9 @@ returns-2 c =
     let read = c .before in
     let past = read .before in
     let a = past .before .before .before .before .args in
-    let six = phaseRows .form .read (a .bytes .now) (a .at + 2 + a .p * 12) in
+    let own = six .read (a .bytes .now) (a .at + 2 + a .p * 12) in
     rw (le-ltb (a .p) (a .layout .phasecount) (past .if1 .left))
-    (c .phase .ensures (a .layout .hasearly) ∙ ap (λ (early : ℕ). phaseWithin [] (a .layout .hasearly) (phaseOf six early)) (read .two-in .ensures))
+    (c .phase .ensures (a .layout .hasearly) ∙ ap (λ (early : ℕ). phaseWithin [] (a .layout .hasearly) (phaseOf own early)) (read .two-in .ensures))
 
 pub phase-admitted-spec : {M : Type 1} → statement M
 phase-admitted-spec =

@@ -8,8 +8,7 @@ use Rattle.laws.proofs.Folds.{Tested, tested-none, tested-more, tested-all, all
 use Rattle.rules.specs.declared.site.Range.{Range}
 use Rattle.rules.specs.SiteTimes.{recordLimits, phaseWithin}
 use Rattle.read_layout.specs.declared.Layout.{Layout}
-use Rattle.state_times.specs.TimesLayout.{phasesAt, earliesAt}
-use Rattle.state_times.specs.TimeRows.{phaseIn}
+use Rattle.state_times.specs.TimeRows.{phasesAt, earliesAt, phaseIn}
 use borrow.Author.Needs.{needs}
 use native.Mathlib.Omega.{arith}
 use Rattle.state_valid.proofs.settings.phases_admitted.Statement.{statement}

@@ -7,8 +7,7 @@ use borrow.Author.Tests.{not-true, not-false}
 use Rattle.laws.proofs.Folds.{Tested, tested-none, tested-more, tested-all, all-fails}
 use Rattle.rules.specs.declared.site.Range.{Range}
 use Rattle.rules.specs.SiteTimes.{recordLimits, walkWithin}
-use Rattle.state_times.specs.TimesLayout.{walksAt}
-use Rattle.state_times.specs.TimeRows.{walkIn}
+use Rattle.state_times.specs.TimeRows.{walksAt, walkIn}
 use borrow.Author.Needs.{needs}
 use native.Mathlib.Omega.{arith}
 use Rattle.state_valid.proofs.settings.walks_admitted.Statement.{statement}
