@@ -2,13 +2,11 @@
 use Prim.Native.Nat.{ℕ, _≤_}
 use mathlib.Core.List.{List}
 use mathlib.Core.Path.{_≡_, sym, _∙_}
-use native.Mathlib.Nat.{zero-add, add-zero}
 use native.Mathlib.Omega.{arith}
 use Rattle.rules.specs.declared.answer.Outcome.{Outcome}
 use Rattle.rules.specs.declared.answer.Outcome.the-variants.{Stepped, StepRefused}
 use Rattle.rules.specs.declared.answer.Verdict.{Verdict}
 use Rattle.rules.specs.declared.answer.Verdict.the-variants.{Accepted, Refused}
-use Rattle.rules.specs.Verdicts.{reportOf, stepReportOf, waitOf}
 use Rattle.rules.specs.Personality.{verdictOf}
 use Rattle.rules.specs.Site.{siteOf}
 use Rattle.rules.specs.WaitBound.{waitBound}
@@ -22,18 +20,18 @@ pub refused-near : (b : List ℕ) (v : Verdict) {number place : ℕ} → v ≡ v
 refused-near b v {number} {place} e f = personality-named b number place (sym e ∙ f) .1
 
 pub read-accepted : (v w : Verdict) → w ≡ v → w ≡ Accepted → 0 ≡ packedVerdict v
-unfolding packedVerdict packed reportOf
+unfolding packedVerdict packed
 read-accepted v w e f = rw (sym e ∙ f)
 
 pub read-refused : (v w : Verdict) (r : ℕ) {number place : ℕ} → w ≡ v → w ≡ Refused number place → r ≡ packed number place → r ≡ packedVerdict v
-unfolding packedVerdict reportOf
+unfolding packedVerdict
 read-refused v w r e f p = rw (sym e ∙ f, p)
 
 -- ── One outcome ──
 
 pub outcome-stepped : (o q : Outcome) (r : ℕ) {wait : ℕ} → o ≡ q → o ≡ Stepped wait → r ≡ packed 0 wait → r ≡ packedOutcome q
-unfolding packedOutcome stepReportOf waitOf
-outcome-stepped o q r {wait} e f p = rw (sym e ∙ f, p, zero-add wait)
+unfolding packedOutcome
+outcome-stepped o q r e f p = rw (sym e ∙ f, p)
 
 pub outcome-declined :
     (o q : Outcome) (r : ℕ) {number place : ℕ} →
@@ -41,8 +39,8 @@ pub outcome-declined :
     o ≡ StepRefused number place →
     r ≡ packed number place →
     r ≡ packedOutcome q
-unfolding packedOutcome stepReportOf waitOf
-outcome-declined o q r {place = place} e f p = rw (sym e ∙ f, p, add-zero place)
+unfolding packedOutcome
+outcome-declined o q r e f p = rw (sym e ∙ f, p)
 
 stepped-not-declined : {w n p : ℕ} → Stepped w ≡ StepRefused n p → ⊥
 stepped-not-declined h = let z : _≡_ {A = ℕ} 0 1 = cc in omega arith

@@ -2,15 +2,17 @@
 -- a refusal or the result of an accepted call.
 use Rattle.laws.specs.Ground.{ℕ, _+_, _*_}
 use Rattle.rules.specs.declared.answer.Outcome.{Outcome}
+use Rattle.rules.specs.declared.answer.Outcome.the-variants.{Stepped, StepRefused}
 use Rattle.rules.specs.declared.answer.Verdict.{Verdict}
-use Rattle.rules.specs.Verdicts.{reportOf, stepReportOf, waitOf}
+use Rattle.rules.specs.declared.answer.Verdict.the-variants.{Accepted, Refused}
 
 unfoldable pub packed : ℕ → ℕ → ℕ
 packed number value = number + 256 * value
 
 unfoldable pub packedVerdict : Verdict → ℕ
-packedVerdict v = packed (reportOf v .number) (reportOf v .place)
+packedVerdict Accepted = packed 0 0
+packedVerdict (Refused number place) = packed number place
 
--- either the place or the wait bound is 0
 unfoldable pub packedOutcome : Outcome → ℕ
-packedOutcome o = packed (stepReportOf o .number) (stepReportOf o .place + waitOf o)
+packedOutcome (Stepped wait) = packed 0 wait
+packedOutcome (StepRefused number place) = packed number place

@@ -4,7 +4,6 @@ use mathlib.Core.List.{List}
 use mathlib.Core.Path.{_≡_}
 use Rattle.rules.specs.declared.answer.Verdict.the-variants.{Accepted, Refused}
 use Rattle.laws.specs.Bytes.{twoAt}
-use Rattle.rules.specs.Verdicts.{reportOf}
 use Rattle.rules.specs.Personality.{bodyAt, bodyLength}
 use Rattle.rules.specs.Lookup.{lookupVerdict, headOf}
 use Rattle.board_answers.specs.Answers.{packed, packedVerdict}
@@ -16,7 +15,7 @@ module _ (b : List ℕ) (kind : ℕ) where
   section-near {number} {place} e = lookup-named b kind number place e .1
 
   pub section-refused : {number place : ℕ} (r : ℕ) → lookupVerdict b kind ≡ Refused number place → r ≡ packed number place → r ≡ sectionAnswer b kind
-  unfolding sectionAnswer sectionFor packedVerdict reportOf
+  unfolding sectionAnswer sectionFor packedVerdict
   section-refused r e p = rw (e, p)
 
   pub section-found :

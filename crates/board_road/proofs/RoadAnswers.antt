@@ -9,7 +9,7 @@ use borrow.Author.Tests.{lt-ltb, le-ltb, eq-eqb, ne-eqb}
 use Rattle.rules.specs.declared.answer.Verdict.the-variants.{Accepted, Refused}
 use Rattle.rules.specs.declared.site.Site.{Site}
 use Rattle.rules.specs.declared.state.KeptState.{KeptState}
-use Rattle.rules.specs.Verdicts.{_orElse_, refuseIf, reportOf}
+use Rattle.rules.specs.Verdicts.{_orElse_, refuseIf}
 use Rattle.rules.specs.Personality.{verdictOf}
 use Rattle.rules.specs.Site.{siteOf}
 use Rattle.rules.specs.Timed.{withOwnTimes}
@@ -59,7 +59,7 @@ module _ (b streams : List ℕ) (steps : ℕ) (state old : List ℕ) where
       boardVerdict b streams steps state (length old) ≡ Refused number place →
       r ≡ packed number place →
       Answers b streams steps state old r state old
-  unfolding roadAnswer lastState resultsAfter boardVerdict roadResults handedBack resultsFor packedVerdict reportOf
+  unfolding roadAnswer lastState resultsAfter boardVerdict roadResults handedBack resultsFor packedVerdict
   declines e p = (rw (e, p), rw e, rw e)
 
   pub goes-on :
@@ -70,5 +70,5 @@ module _ (b streams : List ℕ) (steps : ℕ) (state old : List ℕ) where
       new ≡ timedEncoded (withOwnTimes site last) →
       out ≡ resultsFor Accepted (resultsOf streams (roadAfter b streams steps .traffic)) old →
       Answers b streams steps state old 0 new out
-  unfolding roadAnswer lastState resultsAfter boardVerdict roadResults handedBack packedVerdict packed reportOf
+  unfolding roadAnswer lastState resultsAfter boardVerdict roadResults handedBack packedVerdict packed
   goes-on e s l n w = (rw e, n ∙ rw (e, s, l), w ∙ rw e)

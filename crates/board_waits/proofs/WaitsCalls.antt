@@ -8,7 +8,7 @@ use lib.ListN.{length, getD}
 use lib.Seq.{sets}
 use Rattle.rules.specs.declared.answer.Verdict.the-variants.{Accepted, Refused}
 use Rattle.rules.specs.declared.site.Site.{Site}
-use Rattle.rules.specs.Verdicts.{_orElse_, refuseIf, stepReportOf, waitOf}
+use Rattle.rules.specs.Verdicts.{_orElse_, refuseIf}
 use Rattle.rules.specs.Personality.{verdictOf}
 use Rattle.rules.specs.Site.{siteOf}
 use Rattle.rules.specs.Waits.{waitsOf}
@@ -27,7 +27,7 @@ pub waits-refused :
     verdictOf b ≡ Refused number place →
     answer ≡ packed number place →
     (answer ≡ waitsAnswer b (length buffer)) × (buffer ≡ waitsAfter b buffer)
-unfolding waitsAnswer waitsAfter waitsVerdict boundFor handedBack packedOutcome packed _orElse_ stepReportOf waitOf
+unfolding waitsAnswer waitsAfter waitsVerdict boundFor handedBack packedOutcome packed _orElse_
 waits-refused b buffer number place answer e own = (rw (e, own) (omega arith), rw e)
 
 pub waits-short :
@@ -36,7 +36,7 @@ pub waits-short :
     length buffer < 2 * waitCount (siteOf b) →
     answer ≡ packed 14 0 →
     (answer ≡ waitsAnswer b (length buffer)) × (buffer ≡ waitsAfter b buffer)
-unfolding waitsAnswer waitsAfter waitsVerdict boundFor handedBack packedOutcome packed _orElse_ refuseIf stepReportOf waitOf
+unfolding waitsAnswer waitsAfter waitsVerdict boundFor handedBack packedOutcome packed _orElse_ refuseIf
 waits-short b buffer answer e short own =
     let test = lt-ltb (length buffer) (2 * waitCount (siteOf b)) short in
     (rw (e, test, own), rw (e, test))
@@ -47,7 +47,7 @@ pub waits-written :
     2 * waitCount (siteOf b) ≤ length buffer →
     answer ≡ packed 0 (2 * waitCount (siteOf b)) →
     (answer ≡ waitsAnswer b (length buffer)) × (sets buffer 0 (waitBytes (siteOf b)) ≡ waitsAfter b buffer)
-unfolding waitsAnswer waitsAfter waitsVerdict boundFor handedBack packedOutcome packed _orElse_ refuseIf stepReportOf waitOf
+unfolding waitsAnswer waitsAfter waitsVerdict boundFor handedBack packedOutcome packed _orElse_ refuseIf
 waits-written b buffer answer e long own =
     let test = le-ltb (length buffer) (2 * waitCount (siteOf b)) long in
     (rw (e, test, own) (omega arith), rw (e, test))

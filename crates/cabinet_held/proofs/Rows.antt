@@ -9,7 +9,7 @@ use lib.Seq.{set-getD}
 use Rattle.rules.specs.declared.answer.Verdict.{Verdict}
 use Rattle.rules.specs.declared.answer.Verdict.the-variants.{Accepted, Refused}
 use Rattle.rules.specs.Personality.{verdictOf}
-use Rattle.rules.specs.Verdicts.{_orElse_, refuseIf, reportOf}
+use Rattle.rules.specs.Verdicts.{_orElse_, refuseIf}
 use Rattle.board_answers.specs.Answers.{packed, packedVerdict}
 use Rattle.cabinet_records.specs.declared.Record.{Record}
 use Rattle.cabinet_records.specs.Cabinet.{outputCount, isFree, personalityOf, freeRecord, withState, recordOf, hasRecord, outputsOf, overlaps, isShort, ownOutputs, placingVerdict, heldVerdict, takingVerdict, returnedFor, placing, stepped, stepping, takingOut}
@@ -95,9 +95,9 @@ module _ (row : List Record) (out : List ℕ) (k : ℕ) where
   -- no such record, or it is free
   module _ (none : (hasRecord row k && not (isFree own)) ≡ false) where
     pub stepping-none : (inputs : ℕ) → record { answer = 24; row = row; outputs = out } ≡ stepping row out k inputs
-    unfolding stepping heldVerdict returnedFor refuseIf _orElse_ packedVerdict packed reportOf
+    unfolding stepping heldVerdict returnedFor refuseIf _orElse_ packedVerdict packed
     stepping-none inputs = rw (not-and-not (hasRecord row k) (isFree own), none)
 
     pub taking-none : record { answer = 24; row = row; outputs = out } ≡ takingOut row out k
-    unfolding takingOut takingVerdict heldVerdict returnedFor refuseIf _orElse_ packedVerdict packed reportOf
+    unfolding takingOut takingVerdict heldVerdict returnedFor refuseIf _orElse_ packedVerdict packed
     taking-none = rw (not-and-not (hasRecord row k) (isFree own), none)

@@ -9,7 +9,7 @@ use lib.ListN.{length, take, drop, length-take, length-drop}
 use Rattle.rules.specs.declared.answer.Verdict.{Verdict}
 use Rattle.rules.specs.declared.answer.Verdict.the-variants.{Accepted, Refused}
 use Rattle.rules.specs.Personality.{verdictOf}
-use Rattle.rules.specs.Verdicts.{_orElse_, refuseIf, reportOf}
+use Rattle.rules.specs.Verdicts.{_orElse_, refuseIf}
 use Rattle.board_answers.specs.Answers.{packedVerdict}
 use Rattle.board_step.proofs.StepCalls.{Answers, refused}
 use Rattle.cabinet_records.specs.Cabinet.{outputsOf, pastLast, isShort, outputsIn, writtenAt}
@@ -49,7 +49,7 @@ module _ (b : List ℕ) (first : ℕ) (old : List ℕ) (inputs : ℕ) (out : Lis
       (v : Verdict) →
       verdictOf b ≡ v →
       record { answer = r; state = new; outputs = all } ≡ heldStep b first old inputs out
-  unfolding heldStep heldStepFor heldStepped heldChecks _orElse_ refuseIf packedVerdict reportOf
+  unfolding heldStep heldStepFor heldStepped heldChecks _orElse_ refuseIf packedVerdict
   own-for part steps within own stored kept Accepted e = rw (e, within, stored, ← own, steps .0, steps .1, steps .2)
   own-for part steps within own stored kept (Refused number place) e =
       let same = refused b old inputs part (packedVerdict (Refused number place)) e refl in

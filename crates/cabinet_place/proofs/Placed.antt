@@ -8,7 +8,7 @@ use Rattle.rules.specs.declared.answer.Verdict.{Verdict}
 use Rattle.rules.specs.declared.answer.Verdict.the-variants.{Accepted, Refused}
 use Rattle.rules.specs.Call.{handedBack}
 use Rattle.rules.specs.Personality.{verdictOf}
-use Rattle.rules.specs.Verdicts.{_orElse_, reportOf}
+use Rattle.rules.specs.Verdicts.{_orElse_}
 use Rattle.state_forms.specs.Forms.{AreBytes}
 use Rattle.board_answers.specs.Answers.{packed, packedVerdict}
 use Rattle.cabinet_records.specs.Cabinet.{isFree, holding, freshBytes, recordOf, hasRecord, outputsOf, overlaps, writtenAt, placingVerdict, returnedFor, placing, placeSite, doing}
@@ -48,7 +48,7 @@ module _ (b out p : List ℕ) (k first : ℕ) (bytes : AreBytes b) where
         v ≡ Refused number place →
         answer ≡ packed number place →
         record { answer = answer; row = b; outputs = after } ≡ doingBytes b out (placeSite p k first)
-    unfolding turned handedBack doing placing returnedFor packedVerdict reportOf
+    unfolding turned handedBack doing placing returnedFor packedVerdict
     place-refused f said = rw (shown, sym told ∙ f, said) (leaves b out (placeSite p k first) bytes (rw (verdict ∙ f)))
 
     pub place-accepted :

@@ -1,6 +1,5 @@
 -- Every worked case of the cabinet holds: what the definitions compute is, case by case, what it must be.
 use mathlib.Core.Path.{refl}
-use Rattle.rules.specs.Verdicts.{reportOf, stepReportOf, waitOf}
 use Rattle.rules.proofs.Opened.{opened}
 use Rattle.state_forms.specs.Forms.{partsOf}
 use Rattle.state_timed.specs.TimedLayout.{timedEncoded, timedDecoded, isTimed}

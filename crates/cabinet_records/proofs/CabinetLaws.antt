@@ -10,7 +10,6 @@ use Rattle.rules.specs.declared.answer.Verdict.{Verdict}
 use Rattle.rules.specs.declared.answer.Verdict.the-variants.{Accepted, Refused}
 use Rattle.rules.specs.declared.site.Site.{Site}
 use Rattle.rules.specs.declared.state.State.{State}
-use Rattle.rules.specs.Verdicts.{stepReportOf, waitOf}
 use Rattle.rules.specs.Colours.{red}
 use Rattle.rules.specs.Call.{boundFor, handedBack, bufferFor}
 use Rattle.board_answers.specs.Answers.{packed, packedOutcome}
@@ -98,7 +97,7 @@ module _ (b s : List ℕ) (inputs : ℕ) (buffer : List ℕ) where
   left-for :
       (v : Verdict) (wait : ℕ) (ruled : Site) (next : State) (new : List ℕ) →
       Left (packedOutcome (boundFor v wait)) (handedBack v new s) (bufferFor v ruled next buffer)
-  unfolding boundFor handedBack bufferFor packedOutcome packed stepReportOf waitOf
+  unfolding boundFor handedBack bufferFor packedOutcome packed
   left-for Accepted wait ruled next new refused = absurd (refused (omega arith))
   left-for (Refused number at) wait ruled next new refused = (refl, refl)
 

@@ -9,7 +9,7 @@ use lib.Seq.{sets}
 use Rattle.rules.specs.declared.answer.Verdict.{Verdict}
 use Rattle.rules.specs.declared.answer.Verdict.the-variants.{Accepted, Refused}
 use Rattle.rules.specs.Call.{handedBack}
-use Rattle.rules.specs.Verdicts.{_orElse_, refuseIf, reportOf}
+use Rattle.rules.specs.Verdicts.{_orElse_, refuseIf}
 use Rattle.state_forms.specs.Forms.{AreBytes}
 use Rattle.board_answers.specs.Answers.{packed, packedVerdict}
 use Rattle.cabinet_records.specs.Cabinet.{isFree, personalityOf, freeRecord, recordOf, hasRecord, writtenAt, takingVerdict, returnedFor, takingOut, takeOut, doing}
@@ -59,7 +59,7 @@ module _
       v ≡ Refused number place →
       answer ≡ packed number place →
       record { answer = answer; row = b; outputs = after } ≡ doingBytes b out (takeOut k)
-  unfolding turned handedBack doing takingOut returnedFor packedVerdict reportOf
+  unfolding turned handedBack doing takingOut returnedFor packedVerdict
   take-refused f said = rw (shown, sym e ∙ f, said) (leaves b out (takeOut k) bytes (rw (verdict ∙ f)))
 
   pub take-accepted :

@@ -8,7 +8,7 @@ use borrow.Author.Tests.{eq-eqb, ne-eqb}
 use Rattle.rules.specs.declared.answer.Verdict.{Verdict}
 use Rattle.rules.specs.declared.answer.Verdict.the-variants.{Accepted, Refused}
 use Rattle.rules.specs.Call.{handedBack}
-use Rattle.rules.specs.Verdicts.{_orElse_, refuseIf, reportOf}
+use Rattle.rules.specs.Verdicts.{_orElse_, refuseIf}
 use Rattle.board_answers.specs.Answers.{packed, packedVerdict}
 use Rattle.cabinet_records.specs.declared.Record.{Record}
 use Rattle.cabinet_records.specs.Cabinet.{isFree, personalityOf, freeRecord, withState, ownOutputs}
@@ -27,7 +27,7 @@ held-record r e = ne-eqb (r .held) 0 e
 
 module _ (r : Record) (out : List ℕ) (inputs : ℕ) where
   pub step-free : {answer : ℕ} → isFree r ≡ true → answer ≡ packed 24 0 → record { answer = answer; kept = r; outputs = out } ≡ steppedRecord r out inputs
-  unfolding steppedRecord onRecordFor _orElse_ refuseIf packedVerdict reportOf
+  unfolding steppedRecord onRecordFor _orElse_ refuseIf packedVerdict
   step-free free e = rw (free, e)
 
   -- by the verdict on the held personality
@@ -55,7 +55,7 @@ module _ (r : Record) (out : List ℕ) (inputs : ℕ) where
 
 module _ (r : Record) (out : List ℕ) where
   pub taking-free : {answer : ℕ} → isFree r ≡ true → answer ≡ packed 24 0 → record { answer = answer; kept = r; outputs = out } ≡ takenOutRecord r out
-  unfolding takenOutRecord onRecordFor _orElse_ refuseIf packedVerdict reportOf
+  unfolding takenOutRecord onRecordFor _orElse_ refuseIf packedVerdict
   taking-free free e = rw (free, e)
 
   module _
@@ -77,5 +77,5 @@ module _ (r : Record) (out : List ℕ) where
         v ≡ Refused number place →
         answer ≡ packed number place →
         record { answer = answer; kept = r; outputs = after } ≡ takenOutRecord r out
-    unfolding takenOutRecord onRecordFor _orElse_ refuseIf turned handedBack packedVerdict reportOf
+    unfolding takenOutRecord onRecordFor _orElse_ refuseIf turned handedBack packedVerdict
     taking-refused f p = rw (shown, own, held, checked ∙ f, p)

@@ -8,7 +8,6 @@ use borrow.Author.Tests.{eq-eqb, lt-ltb}
 use Rattle.rules.specs.declared.answer.Verdict.{Verdict}
 use Rattle.rules.specs.declared.answer.Verdict.the-variants.{Accepted, Refused}
 use Rattle.rules.specs.Call.{handedBack}
-use Rattle.rules.specs.Verdicts.{reportOf}
 use Rattle.laws.proofs.Booleans.{and-both}
 use Rattle.board_answers.specs.Answers.{packed, packedVerdict}
 use Rattle.cabinet_records.specs.declared.Record.{Record}
@@ -47,7 +46,7 @@ module _
       v ≡ Refused number place →
       answer ≡ packed number place →
       record { answer = answer; kept = own; outputs = after } ≡ placedRecord row out b k first
-  unfolding placedRecord onRecordFor turned handedBack packedVerdict reportOf
+  unfolding placedRecord onRecordFor turned handedBack packedVerdict
   placing-refused f p = rw (known .shown, sym (known .told) ∙ f, verdict ∙ f, known .read, p)
 
   pub placing-accepted :

@@ -1,5 +1,6 @@
 -- Boolean tests: what a joined or negated test says of its parts, and how to put one together from them.
-use mathlib.Core.Bool.{Bool, true, false, not, _&&_, _||_, true≢false}
+use mathlib.Core.Bool.{Bool, true, false, not, _&&_, _||_, true≢false, and-true, and-assoc}
+use mathlib.Core.List.{List, [], _∷_}
 use mathlib.Core.Logic.{_⊎_, inl, inr}
 use mathlib.Core.Path.{_≡_, refl, sym, ap, _∙_}
 use borrow.Author.Tests.{not-false}
@@ -140,3 +141,28 @@ module _ {ℓ} {A : Type ℓ} {c : A} {t : Bool} where
 
   pub passed-by : (a : A) {b : A} → t ≡ false → c ≡ b → c ≡ if t then a else b
   passed-by a e p = rw e p
+
+-- ── Several tests ──
+
+-- joined from the left
+abbrev pub joined : Bool → List Bool → Bool
+joined test [] = test
+joined test (next ∷ rest) = joined (test && next) rest
+
+-- the tests of a list that all pass
+unfoldable pub every : List Bool → Bool
+every [] = true
+every (test ∷ tests) = test && every tests
+
+pub joined-every : (test : Bool) (rest : List Bool) → joined test rest ≡ every (test ∷ rest)
+unfolding every
+joined-every test [] = sym (and-true test)
+joined-every test (next ∷ rest) = joined-every (test && next) rest ∙ and-assoc test next (every rest)
+
+pub every-head : (test : Bool) (tests : List Bool) → every (test ∷ tests) ≡ true → test ≡ true
+unfolding every
+every-head test tests h = and-left test (every tests) h
+
+pub every-tail : (test : Bool) (tests : List Bool) → every (test ∷ tests) ≡ true → every tests ≡ true
+unfolding every
+every-tail test tests h = and-right test (every tests) h

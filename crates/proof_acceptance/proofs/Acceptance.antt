@@ -17,7 +17,7 @@ use Rattle.rules.specs.declared.site.Range.{Range}
 use Rattle.laws.specs.Folds.{anyOf, countOf, indicesOf}
 use Rattle.laws.specs.Bytes.{twoAt, bit}
 use Rattle.rules.specs.Limits.{limits, phaseSettings, walkSettings, earlySetting}
-use Rattle.rules.specs.Personality.{editionOf, recordAt, phasesHead, pedestriansHead, phaseCount, groupCount, detectorCount, movementCount, groupSet, groupMark, conflictSet, detectorPhase, knownMode, pedestrian, pedestriansBefore, hasEarly, hasOrder, callsPhase, walksPhase}
+use Rattle.rules.specs.Personality.{editionOf, recordAt, phasesHead, pedestriansHead, phaseCount, groupCount, detectorCount, movementCount, groupSet, groupMark, conflictSet, detectorPhase, knownMode, pedestrian, hasEarly, hasOrder, callsPhase, walksPhase}
 use Rattle.rules.specs.Site.{earlyTimeAt, phaseTimesAt, walkTimesAt, timesIn, crossingAt, orderIn, siteOf, groupOf, phaseTimes, inPhase, crosses, isPedestrian, movementOf, conflict}
 use Rattle.rules.specs.Laws.{InTable, PhaseTimesIn, WalkTimesIn, TimesIn, mayBeZero, OnePhase, Caller, Sound, AcceptedIsSound, EditionIsNamed, AcceptedIsInTable}
 use Rattle.laws.proofs.Booleans.{decided, never-both, and-left, and-right, or-cases}
@@ -162,7 +162,7 @@ abbrev groupOfMovement : List ℕ → ℕ → ℕ
 groupOfMovement b k = getD (indicesOf (pedestrian b) (groupCount b)) k 0
 
 movement-group : (b : List ℕ) (k : ℕ) → k < movementCount b → IthPassing (pedestrian b) (groupCount b) k (groupOfMovement b k)
-unfolding movementCount pedestriansBefore
+unfolding movementCount
 movement-group b k l = indices-at (pedestrian b) (groupCount b) k l
 
 one-phase : (b : List ℕ) → GroupsAccepted b → (k : ℕ) → k < movementCount b → OnePhase (siteOf b) k
@@ -184,7 +184,7 @@ movement-of-group :
     g < groupCount b →
     isPedestrian (siteOf b .groups) g ≡ true →
     movementOf (siteOf b .groups) g < movementCount b
-unfolding movementCount pedestriansBefore
+unfolding movementCount
 movement-of-group b g l e =
     omega (arith, movement-at b g l, count-before (pedestrian b) g (groupCount b) l (sym (pedestrian-at b g l) ∙ e))
 
@@ -194,7 +194,7 @@ crossing-of-group :
     isPedestrian (siteOf b .groups) g ≡ true →
     (p : ℕ) →
     crosses (siteOf b .crossings) (movementOf (siteOf b .groups) g) p ≡ inPhase (siteOf b .groups) g p
-unfolding crossingAt pedestriansBefore
+unfolding crossingAt
 crossing-of-group b g l e p =
     let k = movementOf (siteOf b .groups) g in
     let m = movement-of-group b g l e in

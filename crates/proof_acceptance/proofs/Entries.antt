@@ -8,7 +8,8 @@ use lib.ListN.{getD}
 use native.Mathlib.Omega.{arith}
 use Rattle.rules.specs.declared.site.Group.{Group}
 use Rattle.laws.specs.Bytes.{bit}
-use Rattle.rules.specs.Personality.{phaseCount, groupCount, detectorCount, movementCount, groupSet, groupMark, conflictSet, detectorPhase, detectorMode, pedestrian, pedestriansBefore}
+use Rattle.laws.specs.Folds.{countOf}
+use Rattle.rules.specs.Personality.{phaseCount, groupCount, detectorCount, movementCount, groupSet, groupMark, conflictSet, detectorPhase, detectorMode, pedestrian}
 use Rattle.rules.specs.Site.{noPhaseTimes, noWalkTimes, noGroup, noDetector, phaseTimesAt, walkTimesAt, timesIn, crossingAt, orderIn, siteOf, groupOf, detectorOf, phaseTimes, walkTimes, inPhase, crosses, isPedestrian, movementOf, conflict}
 use Rattle.laws.proofs.Counting.{count-same}
 use Rattle.laws.proofs.Lists.{row-at, row-past}
@@ -89,6 +90,6 @@ module _ (b : List ℕ) where
   unfolding crosses siteOf
   crosses-past k p l = ap (bit p) (row-past (crossingAt b) (movementCount b) 8 k 0 l) ∙ bit-blank p
 
-  pub movement-at : (g : ℕ) → g < groupCount b → movementOf (siteOf b .groups) g ≡ pedestriansBefore b g
-  unfolding movementOf pedestriansBefore
+  pub movement-at : (g : ℕ) → g < groupCount b → movementOf (siteOf b .groups) g ≡ countOf (pedestrian b) g
+  unfolding movementOf
   movement-at g l = count-same (isPedestrian (siteOf b .groups)) (pedestrian b) g (λ i m. pedestrian-at i (omega arith))

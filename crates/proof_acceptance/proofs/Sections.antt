@@ -14,7 +14,7 @@ use Rattle.laws.specs.Folds.{anyOf, countOf}
 use Rattle.laws.specs.Bytes.{twoAt, bit}
 use Rattle.rules.specs.Limits.{limits, within, startRedSetting, phaseSettings, walkSettings, earlySetting}
 use Rattle.rules.specs.Verdicts.{firstOf}
-use Rattle.rules.specs.Personality.{kindAt, siteKind, editionOf, bodyLength, bodyAt, pastSection, recordAt, phaseCount, groupCount, siteHead, phasesHead, groupsHead, conflictsHead, detectorsHead, pedestriansHead, groupSet, groupMark, pedestrian, pedestriansBefore, movementCount, conflictSet, detectorCount, detectorPhase, sectionAt, timeAt, timesAt, siteSection, timeRecords, timedSection, phasesSection, badGroup, badGroupAt, ninthPedestrian, groupRecord, phaseWithoutGroup, groupsSection, badConflict, sharePhase, conflictInPhase, conflictsSection, badDetector, badDetectorAt, detectorRecord, detectorsSection, pedestriansSection, earlyHead, hasEarly, earlySection, orderHead, hasOrder, orderAt, phaseNotOnce, orderSection, callsPhase, walksPhase, phaseWithoutCaller, stopsEarly, earlyMissing, leftOver, afterPedestrians, endOf, verdictOf, detectorMode, knownMode}
+use Rattle.rules.specs.Personality.{kindAt, siteKind, editionOf, bodyLength, bodyAt, pastSection, recordAt, phaseCount, groupCount, siteHead, phasesHead, groupsHead, conflictsHead, detectorsHead, pedestriansHead, groupSet, groupMark, pedestrian, movementCount, conflictSet, detectorCount, detectorPhase, sectionAt, timeAt, timesAt, siteSection, timeRecords, timedSection, phasesSection, badGroup, ninthPedestrian, groupRecord, phaseWithoutGroup, groupsSection, badConflict, sharePhase, conflictInPhase, conflictsSection, badDetector, badDetectorAt, detectorRecord, detectorsSection, pedestriansSection, earlyHead, hasEarly, earlySection, orderHead, hasOrder, orderAt, phaseNotOnce, orderSection, callsPhase, walksPhase, phaseWithoutCaller, stopsEarly, earlyMissing, leftOver, afterPedestrians, endOf, verdictOf, detectorMode, knownMode}
 use Rattle.rules.specs.Laws.{InTable}
 use Rattle.laws.proofs.Booleans.{and-right, or-false-left, or-false-right, never-both, both-passed, or-false-three, and-false-rest}
 use Rattle.laws.proofs.Folds.{any-false, any-found}
@@ -165,7 +165,7 @@ phases-accepted b h =
     }
 
 pub groups-accepted : (b : List ℕ) → groupsSection b ≡ Accepted → GroupsAccepted b
-unfolding groupsSection conflictsHead groupRecord badGroupAt badGroup pedestrian ninthPedestrian phaseWithoutGroup movementCount pedestriansBefore
+unfolding groupsSection conflictsHead groupRecord badGroup pedestrian ninthPedestrian phaseWithoutGroup movementCount
 groups-accepted b h =
     record {
       next = records-held b (groupsHead b) 3 (groupCount b) 2 (or-first _ _ h);

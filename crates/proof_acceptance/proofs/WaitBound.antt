@@ -12,9 +12,10 @@ use Rattle.rules.specs.declared.site.Range.{Range}
 use Rattle.rules.specs.declared.site.Size.{Size}
 use Rattle.rules.specs.declared.site.Times.{Times}
 use Rattle.laws.specs.Ground.{if_then_else_}
+use Rattle.laws.specs.Folds.{sumOf}
 use Rattle.rules.specs.Limits.{limits, limitOf}
 use Rattle.rules.specs.Site.{phaseTimes, walkTimes, crosses, siteOf}
-use Rattle.rules.specs.WaitBound.{phaseShare, longestWalk, longestClearance, waitBoundBy}
+use Rattle.rules.specs.WaitBound.{phaseShare, longestWalk, longestClearance, waitBound}
 use Rattle.rules.specs.Laws.{TimesIn, AcceptedIsSound, AcceptedIsInTable, highest, highestPhase, highestWalk, greatestShare, greatestWait, greatestBound, WaitIsInTable}
 use Rattle.laws.proofs.Sums.{greatest-most, sum-within}
 use Rattle.proof_acceptance.proofs.Acceptance.{accepted-is-sound, accepted-is-in-table}
@@ -28,6 +29,13 @@ greatest-wait Two = refl
 chosen-within : (t : Bool) (n m : ℕ) → n ≤ m → (if t then n else 0) ≤ m
 chosen-within true n m l = l
 chosen-within false n m l = omega arith
+
+-- the bound by the parts of a site that it needs
+abbrev pub boundBy : Size → Times → List ℕ → ℕ
+boundBy size times crossings =
+    let a = longestWalk crossings (times .walks) (size .movements) in
+    let c = longestClearance crossings (times .walks) (size .movements) in
+    times .start + sumOf (λ p. phaseShare (phaseTimes times p) (a p) (c p)) (size .phases)
 
 module _ (table : List Range) (size : Size) (times : Times) (crossings : List ℕ) (sound : TimesIn table size times) where
   -- A and C of a phase
@@ -69,8 +77,8 @@ module _ (table : List Range) (size : Size) (times : Times) (crossings : List �
         clearance-within p,
       )
 
-  pub wait-within : size .phases ≤ 7 → waitBoundBy size times crossings ≤ greatestWait table
-  unfolding waitBoundBy greatestWait highest
+  pub wait-within : size .phases ≤ 7 → boundBy size times crossings ≤ greatestWait table
+  unfolding greatestWait highest
   wait-within few =
       omega (
         arith,
@@ -80,7 +88,7 @@ module _ (table : List Range) (size : Size) (times : Times) (crossings : List �
       )
 
 pub wait-is-in-table : WaitIsInTable
-unfolding WaitIsInTable AcceptedIsSound AcceptedIsInTable
+unfolding WaitIsInTable waitBound AcceptedIsSound AcceptedIsInTable
 wait-is-in-table = (
   greatest-wait,
   λ b h.

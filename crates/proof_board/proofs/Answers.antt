@@ -11,7 +11,6 @@ use lib.Dec.{eqb}
 use Rattle.rules.specs.declared.answer.Outcome.the-variants.{Stepped, StepRefused}
 use Rattle.rules.specs.declared.answer.Verdict.{Verdict}
 use Rattle.rules.specs.declared.answer.Verdict.the-variants.{Accepted, Refused}
-use Rattle.rules.specs.Verdicts.{reportOf, stepReportOf, waitOf}
 use Rattle.rules.specs.Personality.{verdictOf}
 use Rattle.rules.specs.Site.{siteOf}
 use Rattle.rules.specs.Timed.{TimedState, timedValid}
@@ -55,12 +54,12 @@ unfolding outcomeIn
 outcome-stepped wait = rw (low-part 0 wait (omega arith), high-part 0 wait (omega arith))
 
 outcome-for : (v : Verdict) (wait : ℕ) → Refusals Fits v → outcomeIn (packedOutcome (boundFor v wait)) ≡ boundFor v wait
-unfolding boundFor packedOutcome stepReportOf waitOf
+unfolding boundFor packedOutcome
 outcome-for Accepted wait fits = rw (zero-add wait) (outcome-stepped wait)
 outcome-for (Refused number place) wait fits = rw (add-zero place) (outcome-refused number place (fits number place refl))
 
 verdict-for : (v : Verdict) → Refusals Fits v → verdictIn (packedVerdict v) ≡ v
-unfolding packedVerdict packed reportOf verdictIn
+unfolding packedVerdict packed verdictIn
 verdict-for Accepted fits = refl
 verdict-for (Refused number place) fits = verdict-refused number place (fits number place refl)
 

@@ -10,7 +10,7 @@ use lib.Dec.{eqb}
 use lib.ListN.{length}
 use Rattle.rules.specs.declared.answer.Verdict.{Verdict}
 use Rattle.rules.specs.declared.answer.Verdict.the-variants.{Accepted, Refused}
-use Rattle.rules.specs.Verdicts.{_orElse_, refuseIf, reportOf}
+use Rattle.rules.specs.Verdicts.{_orElse_, refuseIf}
 use Rattle.rules.specs.Personality.{verdictOf}
 use Rattle.rules.specs.Site.{timesIn, siteOf}
 use Rattle.rules.specs.Timed.{TimedState, freshTimed, timedValid, timedStepped}
@@ -127,12 +127,12 @@ module _ (b : List ℕ) (known : verdictOf b ≡ Accepted) where
 -- ── From the fresh state ──
 
 answer-zero : (fits : Bool) → packedVerdict (refuseIf (not fits) 13 0) ≡ 0 → fits ≡ true
-unfolding packedVerdict packed refuseIf reportOf
+unfolding packedVerdict packed refuseIf
 answer-zero true e = refl
 answer-zero false e = absurd (omega (arith, e))
 
 pub fresh-accepts : FreshAccepts
-unfolding FreshAccepts freshAnswer freshVerdict packedVerdict packed refuseIf reportOf _orElse_
+unfolding FreshAccepts freshAnswer freshVerdict packedVerdict packed refuseIf _orElse_
 fresh-accepts b buffer known = (
   λ e. eqb-true (length buffer) timedBytes (answer-zero (eqb (length buffer) timedBytes) (rw known at e)),
   λ e. rw (known, eq-eqb (length buffer) timedBytes e),

@@ -11,7 +11,7 @@ use lib.Dec.{ltb, eqb}
 use lib.ListN.{length, take, drop, length-take, length-drop}
 use Rattle.rules.specs.declared.answer.Verdict.{Verdict}
 use Rattle.rules.specs.declared.answer.Verdict.the-variants.{Accepted, Refused}
-use Rattle.rules.specs.Verdicts.{_orElse_, refuseIf, reportOf, stepReportOf, waitOf}
+use Rattle.rules.specs.Verdicts.{_orElse_, refuseIf}
 use Rattle.rules.specs.Personality.{verdictOf}
 use Rattle.rules.specs.Site.{siteOf}
 use Rattle.rules.specs.Timed.{ruledSite}
@@ -51,12 +51,12 @@ module _ (Allowed : ℕ → ℕ → Type 0) (fits : (n p : ℕ) → Allowed n p 
       subst (λ (m : ℕ). Allowed m ((n + 256 * p) / 256)) (sym low) (subst (Allowed n) (sym high) w)
 
   verdict-told : (v : Verdict) → Refusals Allowed v → ToldAnswer Allowed (packedVerdict v)
-  unfolding packedVerdict reportOf packed
+  unfolding packedVerdict packed
   verdict-told Accepted told refused = absurd (refused (omega arith))
   verdict-told (Refused n p) told refused = packed-told n p (told n p refl) refused
 
   outcome-told : (v : Verdict) (wait : ℕ) → Refusals Allowed v → ToldAnswer Allowed (packedOutcome (boundFor v wait))
-  unfolding boundFor packedOutcome stepReportOf waitOf packed
+  unfolding boundFor packedOutcome packed
   outcome-told Accepted wait told = λ refused. absurd (refused (omega arith))
   outcome-told (Refused n p) wait told = rw (add-zero p) (packed-told n p (told n p refl))
 
@@ -197,7 +197,7 @@ returned-answer :
     (v w : Verdict) (wait : ℕ) (done : Returned (List Record)) (row : List Record) (out : List ℕ) →
     (v ≡ Accepted → done .answer ≡ packedOutcome (boundFor w wait)) →
     returnedFor v done row out .answer ≡ packedOutcome (boundFor (v orElse w) wait)
-unfolding returnedFor _orElse_ boundFor packedVerdict packedOutcome reportOf stepReportOf waitOf
+unfolding returnedFor _orElse_ boundFor packedVerdict packedOutcome
 returned-answer Accepted w wait done row out h = h refl
 returned-answer (Refused number at) w wait done row out h = rw (add-zero at)
 

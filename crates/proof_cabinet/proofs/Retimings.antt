@@ -17,7 +17,6 @@ use Rattle.laws.specs.Bytes.{byteAt, twoAt}
 use Rattle.laws.proofs.Bytes.{part, record-within}
 use Rattle.laws.proofs.Indices.{below-or-past}
 use Rattle.laws.proofs.Lists.{list-same, list-set}
-use Rattle.rules.specs.Verdicts.{reportOf}
 use Rattle.rules.specs.Site.{timesIn}
 use Rattle.rules.specs.Call.{handedBack}
 use Rattle.rules.specs.TimedCall.{retimed}
@@ -51,7 +50,7 @@ module _ (b old new : List ℕ) where
   retimed-length e = length-for (retimeChecks b old new) e
 
   left-for : (v : Verdict) (next : List ℕ) → (packedVerdict v % 256 ≡ 0 → ⊥) → handedBack v next old ≡ old
-  unfolding handedBack packedVerdict packed reportOf
+  unfolding handedBack packedVerdict packed
   left-for Accepted next refused = absurd (refused refl)
   left-for (Refused number place) next refused = refl
 

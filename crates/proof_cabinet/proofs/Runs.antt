@@ -9,7 +9,7 @@ use lib.ListN.{length, set, replicate, length-set, length-replicate}
 use lib.Seq.{getD-set-same}
 use Rattle.rules.specs.declared.answer.Verdict.{Verdict}
 use Rattle.rules.specs.declared.answer.Verdict.the-variants.{Accepted, Refused}
-use Rattle.rules.specs.Verdicts.{refuseIf, reportOf}
+use Rattle.rules.specs.Verdicts.{refuseIf}
 use Rattle.rules.specs.Personality.{verdictOf}
 use Rattle.rules.specs.Site.{siteOf}
 use Rattle.rules.specs.Runs.{byRules, Call, Taken, stepTaken, retimeTaken, takenFrom, acceptedSteps}
@@ -52,7 +52,7 @@ accepted-for :
     Refusals Above v →
     returnedFor v done row out .answer ≡ 0 →
     v ≡ Accepted
-unfolding returnedFor packedVerdict packed reportOf
+unfolding returnedFor packedVerdict packed
 accepted-for Accepted done row out some e = refl
 accepted-for (Refused n p) done row out some e = absurd (omega (arith, e, some n p refl))
 

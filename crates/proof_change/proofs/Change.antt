@@ -25,7 +25,7 @@ use Rattle.laws.specs.Ground.{if_then_else_}
 use Rattle.laws.specs.Folds.{setOf}
 use Rattle.rules.specs.Site.{phaseTimes, walkTimes, crosses, ring}
 use Rattle.rules.specs.IntervalTable.{isHeld, isIdle, isWalk, isWalkOrFirst, isSecond, isBeforeStart}
-use Rattle.rules.specs.State.{highestAge, idle, locked, asked, movement, valid}
+use Rattle.rules.specs.State.{noCounts, highestAge, idle, locked, asked, movement, valid}
 use Rattle.rules.specs.Demands.{pressed, detected, inGreen, registersLock, registersButton, calls, locksAfter, buttonsAfter, demandsAfter, movementDemands, stands, nextAfter}
 use Rattle.rules.specs.Movements.{older, lasting, advanced, movementsAfter, walkMayEnd}
 use Rattle.rules.specs.Counts.{gapAfter, maximumAfter, countsAfter}
@@ -45,9 +45,6 @@ use Rattle.laws.proofs.ByteSets.{set-same}
 use Rattle.rules.proofs.Settings.{phase-timed, start-timed}
 use Rattle.proof_runs.proofs.ValidStates.{ValidMovement, ValidState, state-told, state-holds}
 use Rattle.proof_validity.proofs.Stages.{idle-valid}
-
-abbrev noCounts : Counts
-noCounts = record { gap = 0; maximum = 0 }
 
 -- ── A movement before a start ──
 

@@ -16,7 +16,7 @@ use Rattle.laws.specs.Ground.{if_then_else_}
 use Rattle.rules.specs.Limits.{limitOf, within}
 use Rattle.rules.specs.Site.{noPhaseTimes, noWalkTimes, phaseTimes, walkTimes}
 use Rattle.rules.specs.IntervalTable.{isBeforeStart}
-use Rattle.rules.specs.State.{every, valid}
+use Rattle.rules.specs.State.{valid}
 use Rattle.rules.specs.SiteTimes.{under, noTimes, recordLimits, phaseWithin, walkWithin, timesWithin, admitted, blank}
 use Rattle.rules.specs.Demands.{registersLock, calls, nextDemanded}
 use Rattle.rules.specs.Step.{steppedInto, stepped}
@@ -59,15 +59,13 @@ waiting-admitted site waiting v e = rw e at v
 
 -- if none wait, every time is 0
 pub none-valid : (site : Site) → waitingValid site noneWaiting ≡ true
-unfolding waitingValid noneWaiting blank timesWithin every noTimes phaseTimes walkTimes within limitOf
+unfolding waitingValid noneWaiting blank timesWithin noTimes phaseTimes walkTimes within limitOf
 none-valid site =
     and-both
     (all-each (λ p. phaseWithin (recordLimits [] (site .size .phases) p) (site .early) (phaseTimes noTimes p)) 7
     (λ p l. phase p l (ltb p (site .size .phases)) (site .early)))
-    (and-both
     (all-each (λ k. walkWithin (recordLimits [] (site .size .movements) k) (walkTimes noTimes k)) 8
     (λ k l. walk k l (ltb k (site .size .movements))))
-    refl)
   where
     phase : (p : ℕ) → p < 7 → (t early : Bool) → phaseWithin (if t then [] else []) early (phaseTimes noTimes p) ≡ true
     phase p l true early = rw (getD-replicate 7 p noPhaseTimes noPhaseTimes l) (phase-blank early)

@@ -18,9 +18,9 @@ use Rattle.rules.specs.SiteTimes.{under}
 use Rattle.rules.specs.Timed.{TimedState, noneWaiting, freshTimed, timedStepped, takesOver, rulingNext}
 use Rattle.rules.specs.WaitBound.{waitBound}
 use Rattle.rules.specs.Call.{boundFor, handedBack}
-use Rattle.rules.specs.Runs.{byRules, StepCall, stepCall, Step, Taken, stepTaken, retimeTaken, nextOf, takenFrom, ifAccepted, acceptedSteps}
-use Rattle.rules.specs.DemandThree.{Cleared, ClearedBy, FullClearances, minimumGreenBegins, walkBegins, someStep, changedWaits, MetInTime, DemandsMet, ownVerdict, AnswersOwn, NoDeadEnd, DemandThreeOf, DemandThree}
-use Rattle.rules.specs.StepDemandThree.{OwnClearances, comesWithin, MetWithin, AnswersBound, StepDemandThreeOf, StepDemandThree, StepDemandFollows}
+use Rattle.rules.specs.Runs.{byRules, StepCall, stepCall, Step, Taken, stepTaken, retimeTaken, nextOf, takenFrom, ifAccepted, acceptedSteps, siteAfter}
+use Rattle.rules.specs.DemandThree.{Cleared, FullClearances, minimumGreenBegins, walkBegins, someStep, changedWaits, MetInTime, DemandsMet, ownVerdict, AnswersOwn, NoDeadEnd, DemandThreeOf, DemandThree}
+use Rattle.rules.specs.StepDemandThree.{comesWithin, MetWithin, AnswersBound, StepDemandThreeOf, StepDemandThree, StepDemandFollows}
 use Rattle.laws.proofs.Booleans.{not-false-true}
 use Rattle.proof_runs.proofs.Each.{Each, each-at}
 use Rattle.proof_guarantees.proofs.DemandThree.{demand-three}
@@ -107,8 +107,8 @@ module _ (b : List ℕ) where
       ))
 
   module _ (steps : List Step) (own : Each (λ step later. OwnStep step) steps) where
-    clearances-own : FullClearances site steps → OwnClearances site steps
-    unfolding FullClearances OwnClearances ClearedBy
+    clearances-own : FullClearances (siteAfter site) site steps → FullClearances (λ last. site) site steps
+    unfolding FullClearances
     clearances-own holds earlier since later last start split g j apart starts greenJ never =
         let at =
         each-at (λ step later. OwnStep step) steps earlier (since ++ start ∷ later) last

@@ -1,8 +1,8 @@
 -- A valid state, read clause by clause: each field is what one clause of the definition tells, and the fields together give it back.
 use Prim.Native.Nat.{ℕ, _≤_, _<_}
-use mathlib.Core.Bool.{Bool, true, false, not, _&&_, true≢false}
-use mathlib.Core.List.{List, _∷_}
-use mathlib.Core.Path.{_≡_, refl, sym}
+use mathlib.Core.Bool.{Bool, true, false, not, _&&_, _||_, true≢false}
+use mathlib.Core.List.{[], _∷_}
+use mathlib.Core.Path.{_≡_, sym, _∙_}
 use lib.Dec.{leb, ltb, eqb}
 use borrow.Author.Tests.{ltb-true, leb-true, eqb-true, lt-ltb, le-leb, eq-eqb}
 use Rattle.rules.specs.declared.site.Site.{Site}
@@ -13,9 +13,10 @@ use Rattle.rules.specs.declared.state.Position.{Position}
 use Rattle.rules.specs.declared.state.State.{State}
 use Rattle.rules.specs.Site.{phaseTimes, crosses}
 use Rattle.rules.specs.IntervalTable.{isIdle, isWalkOrFirst, isStartRed, isLeaving, phaseHeld}
+use Rattle.laws.specs.Bytes.{bit}
 use Rattle.laws.specs.Folds.{allOf}
-use Rattle.rules.specs.State.{highestAge, locked, asked, movement, intervalValid, targetValid, previousValid, ageValid, every, positionValid, countsValid, demandExists, demandsValid, movementIn, movementValid, movementsValid, valid}
-use Rattle.laws.proofs.Booleans.{and-left, and-right, and-both, implied, implies, otherwise, else-holds, not-both, excludes}
+use Rattle.rules.specs.State.{highestAge, locked, asked, movement, intervalValid, targetValid, previousValid, ageValid, positionValid, countsValid, demandsValid, movementValid, movementsValid, valid}
+use Rattle.laws.proofs.Booleans.{and-left, and-right, and-both, joined-every, every-head, every-tail, implied, implies, otherwise, else-holds, not-both, excludes}
 use Rattle.laws.proofs.Folds.{all-at, all-each}
 
 abbrev pub Aged : ℕ → Type 0
@@ -51,27 +52,26 @@ age-holds : (age : ℕ) → Aged age → ageValid age ≡ true
 unfolding ageValid
 age-holds age h = and-both (le-leb 1 age (h .0)) (le-leb age highestAge (h .1))
 
--- the tests of a list, one after the other
-pub every-head : (test : Bool) (tests : List Bool) → every (test ∷ tests) ≡ true → test ≡ true
-unfolding every
-every-head test tests h = and-left test (every tests) h
-
-pub every-tail : (test : Bool) (tests : List Bool) → every (test ∷ tests) ≡ true → every tests ≡ true
-unfolding every
-every-tail test tests h = and-right test (every tests) h
-
 movement-told :
-    (site : Site) (position : Position) (k : ℕ) (m : Movement) → movementValid (movementIn (site .size .movements) (site .crossings) (position .phase) k) (position .interval) m ≡ true → ValidMovement site position k m
-unfolding movementValid movementIn
+    (site : Site) (position : Position) (k : ℕ) (m : Movement) → movementValid (ltb k (site .size .movements) && crosses (site .crossings) k (position .phase)) (position .interval) m ≡ true → ValidMovement site position k m
+unfolding movementValid
 movement-told site position k m h =
-    let h1 = every-tail _ _ h in
+    let ofPhase = ltb k (site .size .movements) && crosses (site .crossings) k (position .phase) in
+    let tests =
+    (ofPhase || isIdle (m .stage))
+    ∷ not (isLeaving (position .interval) && isWalkOrFirst (m .stage))
+    ∷ (not (isStartRed (position .interval)) || isIdle (m .stage))
+    ∷ (not (isIdle (m .stage)) || eqb (m .age) 1)
+    ∷ [] in
+    let h0 = sym (joined-every (ageValid (m .age)) tests) ∙ h in
+    let h1 = every-tail _ _ h0 in
     let h2 = every-tail _ _ h1 in
     let h3 = every-tail _ _ h2 in
     let h4 = every-tail _ _ h3 in
     record {
-      age = age-told (m .age) (every-head _ _ h);
+      age = age-told (m .age) (every-head _ _ h0);
       ofPhase = λ q.
-          let both = otherwise (ltb k (site .size .movements) && crosses (site .crossings) k (position .phase)) (isIdle (m .stage)) (every-head _ _ h1) q in (
+          let both = otherwise ofPhase (isIdle (m .stage)) (every-head _ _ h1) q in (
             ltb-true k (site .size .movements) (and-left (ltb k (site .size .movements)) (crosses (site .crossings) k (position .phase)) both),
             and-right (ltb k (site .size .movements)) (crosses (site .crossings) k (position .phase)) both,
           );
@@ -81,39 +81,53 @@ movement-told site position k m h =
     }
 
 movement-holds :
-    (site : Site) (position : Position) (k : ℕ) (m : Movement) → ValidMovement site position k m → movementValid (movementIn (site .size .movements) (site .crossings) (position .phase) k) (position .interval) m ≡ true
-unfolding movementValid movementIn every
+    (site : Site) (position : Position) (k : ℕ) (m : Movement) → ValidMovement site position k m → movementValid (ltb k (site .size .movements) && crosses (site .crossings) k (position .phase)) (position .interval) m ≡ true
+unfolding movementValid
 movement-holds site position k m v =
-    and-both (age-holds (m .age) (v .age))
+    and-both
     (and-both
+    (and-both
+    (and-both (age-holds (m .age) (v .age))
     (else-holds (ltb k (site .size .movements) && crosses (site .crossings) k (position .phase)) (isIdle (m .stage))
-    (λ q. and-both (lt-ltb k (site .size .movements) (v .ofPhase q .0)) (v .ofPhase q .1)))
-    (and-both (excludes (isLeaving (position .interval)) (isWalkOrFirst (m .stage)) (v .leaving))
-    (and-both (implies (isStartRed (position .interval)) (isIdle (m .stage)) (v .startRed))
-    (and-both (implies (isIdle (m .stage)) (eqb (m .age) 1) (λ q. eq-eqb (m .age) 1 (v .idleAge q))) refl))))
+    (λ q. and-both (lt-ltb k (site .size .movements) (v .ofPhase q .0)) (v .ofPhase q .1))))
+    (excludes (isLeaving (position .interval)) (isWalkOrFirst (m .stage)) (v .leaving)))
+    (implies (isStartRed (position .interval)) (isIdle (m .stage)) (v .startRed)))
+    (implies (isIdle (m .stage)) (eqb (m .age) 1) (λ q. eq-eqb (m .age) 1 (v .idleAge q)))
 
 pub state-told : (site : Site) (s : State) → valid site s ≡ true → ValidState site s
-unfolding valid positionValid countsValid movementsValid demandExists demandsValid locked asked movement
+unfolding valid positionValid countsValid movementsValid demandsValid locked asked movement
 state-told site s h =
     let times = phaseTimes (site .times) (s .position .phase) in
     let gap = leb (s .counts .gap) (times .gap) in
     let maximum = leb (s .counts .maximum) (times .maximum) in
-    let position = every-head _ _ h in
-    let p1 = every-tail _ _ position in
+    let position = s .position in
+    let placed = positionValid (site .early) (site .size .phases) position in
+    let counted = countsValid times (s .counts) in
+    let demands = demandsValid (site .size .phases) (site .size .movements) (s .demands) in
+    let movements = movementsValid (site .size .movements) (site .crossings) position (s .movements) in
+    let h0 = sym (joined-every placed (counted ∷ demands ∷ movements ∷ [])) ∙ h in
+    let h1 = every-tail _ _ h0 in
+    let h2 = every-tail _ _ h1 in
+    let h3 = every-tail _ _ h2 in
+    let tests =
+    intervalValid (site .early) (position .interval)
+    ∷ targetValid (site .size .phases) (position .phase) (isLeaving (position .interval)) (position .target)
+    ∷ previousValid (site .size .phases) (position .previous)
+    ∷ ageValid (position .age)
+    ∷ [] in
+    let p0 = sym (joined-every (ltb (position .phase) (site .size .phases)) tests) ∙ every-head _ _ h0 in
+    let p1 = every-tail _ _ p0 in
     let p2 = every-tail _ _ p1 in
     let p3 = every-tail _ _ p2 in
     let p4 = every-tail _ _ p3 in
-    let h1 = every-tail _ _ h in
-    let h2 = every-tail _ _ h1 in
-    let h3 = every-tail _ _ h2 in
-    let locks = demandExists (s .demands .locks) (site .size .phases) in
-    let buttons = demandExists (s .demands .buttons) (site .size .movements) in
+    let locks : ℕ → Bool = λ p. not (bit p (s .demands .locks)) || ltb p (site .size .phases) in
+    let buttons : ℕ → Bool = λ k. not (bit k (s .demands .buttons)) || ltb k (site .size .movements) in
     record {
-      phase = ltb-true _ _ (every-head _ _ position);
+      phase = ltb-true _ _ (every-head _ _ p0);
       interval = every-head _ _ p1;
       target = every-head _ _ p2;
       previous = every-head _ _ p3;
-      age = age-told (s .position .age) (every-head _ _ p4);
+      age = age-told (position .age) (every-head _ _ p4);
       gap = leb-true _ _ (and-left gap maximum (every-head _ _ h1));
       maximum = leb-true _ _ (and-right gap maximum (every-head _ _ h1));
       locks = λ p l q.
@@ -130,31 +144,30 @@ state-told site s h =
           movement-told site (s .position) k (movement s k)
           (all-at
           (λ (k : ℕ).
-          movementValid (movementIn (site .size .movements) (site .crossings) (s .position .phase) k) (s .position .interval) (movement s k))
+          movementValid (ltb k (site .size .movements) && crosses (site .crossings) k (s .position .phase)) (s .position .interval) (movement s k))
           8 k (every-head _ _ h3) l);
     }
 
 pub state-holds : (site : Site) (s : State) → ValidState site s → valid site s ≡ true
-unfolding valid positionValid countsValid movementsValid demandExists demandsValid locked asked movement every
+unfolding valid positionValid countsValid movementsValid demandsValid locked asked movement
 state-holds site s v =
     and-both
-    (and-both (lt-ltb (s .position .phase) (site .size .phases) (v .phase))
-    (and-both (v .interval) (and-both (v .target) (and-both (v .previous) (and-both (age-holds (s .position .age) (v .age)) refl)))))
     (and-both
+    (and-both
+    (and-both
+    (and-both (and-both (and-both (lt-ltb (s .position .phase) (site .size .phases) (v .phase)) (v .interval)) (v .target)) (v .previous))
+    (age-holds (s .position .age) (v .age)))
     (and-both (le-leb (s .counts .gap) (phaseTimes (site .times) (s .position .phase) .gap) (v .gap))
-    (le-leb (s .counts .maximum) (phaseTimes (site .times) (s .position .phase) .maximum) (v .maximum)))
+    (le-leb (s .counts .maximum) (phaseTimes (site .times) (s .position .phase) .maximum) (v .maximum))))
     (and-both
-    (and-both
-    (all-each (demandExists (s .demands .locks) (site .size .phases)) 8
+    (all-each (λ p. not (bit p (s .demands .locks)) || ltb p (site .size .phases)) 8
     (λ p l. implies (locked s p) (ltb p (site .size .phases)) (λ q. lt-ltb p (site .size .phases) (v .locks p l q))))
-    (all-each (demandExists (s .demands .buttons) (site .size .movements)) 8
-    (λ k l. implies (asked s k) (ltb k (site .size .movements)) (λ q. lt-ltb k (site .size .movements) (v .buttons k l q)))))
-    (and-both
+    (all-each (λ k. not (bit k (s .demands .buttons)) || ltb k (site .size .movements)) 8
+    (λ k l. implies (asked s k) (ltb k (site .size .movements)) (λ q. lt-ltb k (site .size .movements) (v .buttons k l q))))))
     (all-each
     (λ (k : ℕ).
-    movementValid (movementIn (site .size .movements) (site .crossings) (s .position .phase) k) (s .position .interval) (movement s k))
+    movementValid (ltb k (site .size .movements) && crosses (site .crossings) k (s .position .phase)) (s .position .interval) (movement s k))
     8 (λ k l. movement-holds site (s .position) k (movement s k) (v .movements k l)))
-    refl)))
 
 -- ── The target ──
 

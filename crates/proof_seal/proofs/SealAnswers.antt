@@ -6,7 +6,6 @@ use mathlib.Core.Path.{_≡_, refl}
 use native.Mathlib.Omega.{arith}
 use Rattle.rules.specs.declared.answer.Verdict.{Verdict}
 use Rattle.rules.specs.declared.answer.Verdict.the-variants.{Accepted, Refused}
-use Rattle.rules.specs.Verdicts.{reportOf}
 use Rattle.rules.specs.Personality.{verdictOf}
 use Rattle.rules.specs.Call.{handedBack}
 use Rattle.rules.proofs.Verdicts.{or-later}
@@ -48,7 +47,7 @@ resume-refusal-is-written b sealed old =
 -- ── An answer of 0 ──
 
 answer-accepted : (v : Verdict) → Refusals (λ number place. 1 ≤ number) v → packedVerdict v ≡ 0 → v ≡ Accepted
-unfolding packedVerdict packed reportOf
+unfolding packedVerdict packed
 answer-accepted Accepted named e = refl
 answer-accepted (Refused number place) named e = absurd (omega (arith, named number place refl, e))
 
@@ -67,7 +66,7 @@ resume-accepted b sealed old e =
 -- ── Nothing is written ──
 
 leaves : (v : Verdict) (new old : List ℕ) → (packedVerdict v ≡ 0 → ⊥) → handedBack v new old ≡ old
-unfolding packedVerdict packed reportOf handedBack
+unfolding packedVerdict packed handedBack
 leaves Accepted new old refused = absurd (refused refl)
 leaves (Refused number place) new old refused = refl
 

@@ -13,13 +13,13 @@ use Rattle.rules.specs.declared.site.Range.{Range}
 use Rattle.laws.specs.Ground.{if_then_else_}
 use Rattle.laws.specs.Folds.{countOf, rowOf, indicesOf}
 use Rattle.laws.specs.Bytes.{byteAt, twoAt, fourAt, bit}
-use Rattle.rules.specs.Personality.{bodyLength, kindAt, bodyAt, recordAt, siteKind, editionOf, phaseCount, groupCount, groupsHead, conflictsHead, detectorsHead, pedestriansHead, pastSection, hasHead, earlyHead, hasEarly, orderHead, hasOrder, endOf, groupSet, groupMark, pedestrian, pedestriansBefore, movementCount, conflictSet, detectorCount, detectorPhase, detectorMode, orderAt}
+use Rattle.rules.specs.Personality.{bodyLength, kindAt, bodyAt, recordAt, siteKind, editionOf, phaseCount, groupCount, groupsHead, conflictsHead, detectorsHead, pedestriansHead, pastSection, hasHead, earlyHead, hasEarly, orderHead, hasOrder, endOf, groupSet, groupMark, pedestrian, movementCount, conflictSet, detectorCount, detectorPhase, detectorMode, orderAt, badDetectorAt}
 use Rattle.rules.specs.Site.{timesIn, crossingAt, orderIn, siteOf}
 use Rattle.rules.specs.declared.answer.Verdict.{Verdict}
 use Rattle.rules.specs.declared.answer.Verdict.the-variants.{Accepted}
 use Rattle.rules.specs.Limits.{limits, within, startRedSetting, phaseSettings, walkSettings, earlySetting}
 use Rattle.rules.specs.Verdicts.{_orElse_, refuseIf, firstOf}
-use Rattle.rules.specs.Personality.{sectionAt, timeAt, timesAt, timeRecords, timedSection, siteSection, phasesSection, badGroupAt, ninthPedestrian, groupRecord, phaseWithoutGroup, groupsSection, badConflict, sharePhase, conflictInPhase, conflictsSection, badDetectorAt, detectorRecord, detectorsSection, pedestriansSection, earlySection, phaseNotOnce, orderSection, callsPhase, walksPhase, phaseWithoutCaller, stopsEarly, earlyMissing, leftOver, afterPedestrians, verdictOf}
+use Rattle.rules.specs.Personality.{sectionAt, timeAt, timesAt, timeRecords, timedSection, siteSection, phasesSection, ninthPedestrian, groupRecord, phaseWithoutGroup, groupsSection, badConflict, sharePhase, conflictInPhase, conflictsSection, detectorRecord, detectorsSection, pedestriansSection, earlySection, phaseNotOnce, orderSection, callsPhase, walksPhase, phaseWithoutCaller, stopsEarly, earlyMissing, leftOver, afterPedestrians, verdictOf}
 use Rattle.rules.specs.SiteTimes.{under, admitted}
 use Rattle.laws.proofs.Counting.{count-same, indices-at}
 use native.Mathlib.Nat.{add-zero}
@@ -198,7 +198,7 @@ module _ (b b' : List ℕ) (len : length b' ≡ length b) (same : (i : ℕ) → 
   detectors-same = rw detectors-length
 
   pub movements-same : movementCount b' ≡ movementCount b
-  unfolding movementCount pedestriansBefore
+  unfolding movementCount
   movements-same =
       ap (λ (n : ℕ). countOf (pedestrian b') n) groups-same ∙ count-same (pedestrian b') (pedestrian b) (groupCount b) pedestrian-same
 
@@ -209,7 +209,7 @@ module _ (b b' : List ℕ) (len : length b' ≡ length b) (same : (i : ℕ) → 
   -- ── The site ──
 
   crossing-same : (k : ℕ) → k < movementCount b → crossingAt b' k ≡ crossingAt b k
-  unfolding crossingAt movementCount pedestriansBefore
+  unfolding crossingAt movementCount
   crossing-same k l =
       ap (λ (n : ℕ). groupSet b' (getD (indicesOf (pedestrian b') n) k 0)) groups-same
       ∙ ap (λ (at : List ℕ). groupSet b' (getD at k 0)) (indices-same (pedestrian b') (pedestrian b) (groupCount b) pedestrian-same)
@@ -246,12 +246,11 @@ module _ (b b' : List ℕ) (len : length b' ≡ length b) (same : (i : ℕ) → 
   section-same head kind right h =
       rw (len, h (head + 2) (omega arith) (omega arith), h (head + 2 + 1) (omega arith) (omega arith), h head (omega arith) (omega arith), h (head + 1) (omega arith) (omega arith))
 
-  before-same : (g : ℕ) → g ≤ groupCount b → pedestriansBefore b' g ≡ pedestriansBefore b g
-  unfolding pedestriansBefore
+  before-same : (g : ℕ) → g ≤ groupCount b → countOf (pedestrian b') g ≡ countOf (pedestrian b) g
   before-same g l = count-same (pedestrian b') (pedestrian b) g (λ i h. pedestrian-same i (omega arith))
 
   groups-section : groupsSection b' ≡ groupsSection b
-  unfolding groupsSection bodyLength twoAt groupRecord badGroupAt ninthPedestrian phaseWithoutGroup conflictsHead detectorsHead pedestriansHead bodyAt
+  unfolding groupsSection bodyLength twoAt groupRecord ninthPedestrian phaseWithoutGroup conflictsHead detectorsHead pedestriansHead bodyAt
   groups-section =
       let head : (i : ℕ) → groupsHead b ≤ i → i < groupsHead b + 4 → byteAt b' i ≡ byteAt b i = λ i h l. middle-bytes i h (omega arith) in
       rw (groups-head, groups-same, phases-same, head (groupsHead b) (omega arith) (omega arith), head (groupsHead b + 1) (omega arith) (omega arith))

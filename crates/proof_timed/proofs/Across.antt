@@ -13,11 +13,10 @@ use Rattle.rules.specs.Demands.{pressed, detected, inGreen, registersLock, regi
 use Rattle.rules.specs.SiteTimes.{under}
 use Rattle.rules.specs.TimedLaws.{readyCore}
 use Rattle.rules.specs.Runs.{Step}
-use Rattle.rules.specs.DemandThree.{inMinimumGreen, inWalk, registersLocked, registersPressed, minimumGreenBegins, walkBegins}
+use Rattle.rules.specs.DemandThree.{inMinimumGreen, inWalk, minimumGreenBegins, walkBegins}
 use Rattle.rules.specs.PhaseWaits.{hasStarted, demandedIn}
 use Rattle.laws.proofs.Booleans.{and-left, and-both}
 use Rattle.laws.proofs.ByteSets.{set-same}
-use Rattle.proof_waits.proofs.Registers.{lock-same, button-same}
 use Rattle.proof_waits.proofs.Locked.{LockStands}
 use Rattle.proof_waits.proofs.Pressed.{ButtonStands}
 use Rattle.proof_waits.proofs.TurnDemands.{metOrDropped, Away}
@@ -71,12 +70,12 @@ button-seen k l step still h = and-both (and-left (inWalk (step .after) k) _ h) 
 module _ (site : Site) (s : State) (ruling : Times) (step : Step) (link : TimedLink site s ruling step) where
   pub lock-from :
       (p : ℕ) →
-      registersLocked site step p ≡ true →
+      registersLock site (step .before) (step .inputs) p ≡ true →
       registersLock (under site (step .ruling)) (plainFrom (step .changed) s) (step .inputs) p ≡ true
   unfolding registersLock detected inGreen
   lock-from p r =
       by-change (step .changed)
-      (ap (λ (b : State). registersLock site b (step .inputs) p) (sym (link .before)) ∙ sym (lock-same site step p) ∙ r)
+      (ap (λ (b : State). registersLock site b (step .inputs) p) (sym (link .before)) ∙ r)
     where
       by-change :
           (c : Bool) →
@@ -88,12 +87,12 @@ module _ (site : Site) (s : State) (ruling : Times) (step : Step) (link : TimedL
   pub button-from :
       (k : ℕ) →
       k < 8 →
-      registersPressed step k ≡ true →
+      registersButton (step .before .movements) (step .inputs) k ≡ true →
       registersButton (plainFrom (step .changed) s .movements) (step .inputs) k ≡ true
   unfolding registersButton
   button-from k l r =
       by-change (step .changed)
-      (ap (λ (b : State). registersButton (b .movements) (step .inputs) k) (sym (link .before)) ∙ sym (button-same step k) ∙ r)
+      (ap (λ (b : State). registersButton (b .movements) (step .inputs) k) (sym (link .before)) ∙ r)
     where
       by-change :
           (c : Bool) →

@@ -9,8 +9,8 @@ use Rattle.rules.specs.declared.state.State.{State}
 use Rattle.rules.specs.Site.{isPedestrian, conflict}
 use Rattle.rules.specs.Colours.{green}
 use Rattle.rules.specs.SiteTimes.{under}
-use Rattle.rules.specs.Runs.{Step}
-use Rattle.rules.specs.DemandThree.{shows, StartsGreen, VehicleCleared, PedestrianCleared, Cleared, ClearedBy, FullClearances}
+use Rattle.rules.specs.Runs.{Step, siteAfter}
+use Rattle.rules.specs.DemandThree.{shows, StartsGreen, VehicleCleared, PedestrianCleared, Cleared, FullClearances}
 use Rattle.rules.specs.Laws.{Sound}
 use Rattle.rules.proofs.Settings.{phase-timed}
 use Rattle.proof_timed.proofs.Induction.{TimedLink, TimedRun, past}
@@ -46,8 +46,8 @@ cleared site g j apart start later greenG s ruling last steps link e since = by-
         since)
 
 pub timed-clearances :
-    (site : Site) (s : State) (ruling : Times) (steps : List Step) → TimedRun site s ruling steps → FullClearances site steps
-unfolding FullClearances ClearedBy StartsGreen
+    (site : Site) (s : State) (ruling : Times) (steps : List Step) → TimedRun site s ruling steps → FullClearances (siteAfter site) site steps
+unfolding FullClearances StartsGreen
 timed-clearances site s ruling steps run earlier since later last start split g j apart starts greenJ never =
     let rest = since ++ start ∷ later in
     let whole =

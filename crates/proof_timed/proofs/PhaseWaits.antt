@@ -23,7 +23,6 @@ use Rattle.proof_runs.proofs.Chains.{ValidLink}
 use Rattle.proof_runs.proofs.Demanded.{lock-below}
 use Rattle.proof_runs.proofs.Each.{Each}
 use Rattle.proof_waits.proofs.Demand.{Waits}
-use Rattle.proof_waits.proofs.Registers.{green-same}
 use Rattle.proof_waits.proofs.Away.{away-told}
 use Rattle.proof_waits.proofs.Locked.{LockStands, registers-away}
 use Rattle.proof_waits.proofs.Pressed.{ButtonStands, registers-still, button-room}
@@ -212,7 +211,7 @@ waits-met site sound s ruling steps kept run =
     record {
       lasting = λ earlier between later step e q below off all.
           let cut = from-here earlier between later step e in
-          let away : inGreen (cut .0 .position) q ≡ false = green-same (cut .0) q ∙ (rw (cut .3 .0 .before) at off) in
+          let away : inGreen (cut .0 .position) q ≡ false = rw (cut .3 .0 .before) at off in
           lasting-comes site (cut .0) (cut .1) step between (cut .3) (cut .2) q below (away-told (cut .0) q away) all;
       locks = λ earlier between later step e q r.
           let cut = from-here earlier between later step e in

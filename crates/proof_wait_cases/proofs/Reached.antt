@@ -15,8 +15,9 @@ use Rattle.rules.specs.State.{idle}
 use Rattle.rules.specs.Timed.{TimedState, noneWaiting}
 use Rattle.rules.specs.Waits.{phaseWait, movementWait}
 use Rattle.rules.specs.Runs.{byRules, Call, Step, leftBy}
-use Rattle.rules.specs.DemandThree.{registersLocked, registersPressed, minimumGreenBegins, walkBegins, someStep}
+use Rattle.rules.specs.DemandThree.{minimumGreenBegins, walkBegins, someStep}
 use Rattle.rules.proofs.Opened.{opened}
+use Rattle.rules.specs.Demands.{registersLock, registersButton}
 use Rattle.proof_wait_cases.specs.Examples.{staggered}
 use Rattle.proof_wait_cases.specs.WaitCases.{saturated, saturatedFrom, saturatedCalls, saturatedSteps, passing, firstPasses, WaitsFor, WaitsReached}
 use Rattle.proof_wait_cases.proofs.Parts.{stepsOf, steps-append, drop-part, first-part, passing-part, some-part}
@@ -54,10 +55,10 @@ third = standing 1 Running 140 (Phase 0) Nothing 25 139 5 1 5
 -- ── What each part shows ──
 
 abbrev pressing : Step → Bool
-pressing step = registersPressed step 0
+pressing step = registersButton (step .before .movements) (step .inputs) 0
 
 abbrev locking : Step → Bool
-locking step = registersLocked (siteOf staggered) step 0
+locking step = registersLock (siteOf staggered) (step .before) (step .inputs) 0
 
 -- the steps of a part
 abbrev part : TimedState → List Call → List Step

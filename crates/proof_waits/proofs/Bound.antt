@@ -7,7 +7,7 @@ use native.Mathlib.Omega.{arith}
 use Rattle.rules.specs.declared.site.Site.{Site}
 use Rattle.laws.specs.Folds.{sumOf}
 use Rattle.rules.specs.Site.{phaseTimes}
-use Rattle.rules.specs.WaitBound.{phaseShare, waitBound, waitBoundBy}
+use Rattle.rules.specs.WaitBound.{phaseShare, waitBound}
 use Rattle.rules.specs.Waits.{leavingOf}
 use Rattle.laws.proofs.Sums.{sum-at, sum-both}
 use Rattle.proof_waits.proofs.Stages.{longestWalk, longestClearance}
@@ -32,7 +32,7 @@ unfolding phaseShare visit again
 share site p = omega arith
 
 pub bound-parts : (site : Site) (p : ℕ) → p < site .size .phases → site .times .start + visits site + again site p ≤ waitBound site
-unfolding waitBoundBy
+unfolding waitBound
 bound-parts site p h =
     omega (
       arith,

@@ -6,7 +6,7 @@ use mathlib.Core.List.{List}
 use mathlib.Core.Path.{_≡_, refl, sym, _∙_}
 use borrow.Author.Tests.{leb-false}
 use Rattle.laws.specs.Bytes.{bit}
-use Rattle.rules.specs.Personality.{phaseCount, groupCount, groupSet, badGroup, badGroupAt, ninthPedestrian, groupRecord, groupsSection, sharePhase}
+use Rattle.rules.specs.Personality.{phaseCount, groupCount, groupSet, badGroup, ninthPedestrian, groupRecord, groupsSection, sharePhase, groupMark}
 use Rattle.laws.specs.Folds.{anyOf}
 use Rattle.rules.specs.Verdicts.{_orElse_}
 use Rattle.rules.specs.declared.answer.Verdict.{Verdict}
@@ -17,7 +17,7 @@ use Rattle.rules.proofs.Verdicts.{refused-not-accepted, or-first, or-later, ref
 use Rattle.read_groups.specs.declared.records.Groups.{Groups}
 use Rattle.read_groups.specs.GroupsRead.{GroupsRead}
 
-pub group-passed : (b : List ℕ) (g : ℕ) → badGroupAt b g ≡ false → ninthPedestrian b g ≡ false → groupRecord b g ≡ Accepted
+pub group-passed : (b : List ℕ) (g : ℕ) → badGroup (phaseCount b) (groupSet b g) (groupMark b g) ≡ false → ninthPedestrian b g ≡ false → groupRecord b g ≡ Accepted
 unfolding groupRecord
 group-passed b g p q = sym (or-next refl (refuse-no 6 _ p) (sym (refuse-no 7 _ q)))
 
@@ -46,7 +46,7 @@ told-next b e passed told =
 -- ── The sets ──
 
 set-below : (b : List ℕ) (g : ℕ) → groupsSection b ≡ Accepted → g < groupCount b → groupSet b g < 2 ^ phaseCount b
-unfolding groupsSection groupRecord badGroupAt badGroup
+unfolding groupsSection groupRecord badGroup
 set-below b g h l =
     let passed = first-each (groupRecord b) (groupCount b) g (or-first _ _ (or-later _ _ h)) l in
     leb-false _ _ (or-false-left _ _ (or-false-left _ _ (refuse-passed _ _ _ (or-first _ _ passed))))

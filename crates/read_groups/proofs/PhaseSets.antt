@@ -11,7 +11,7 @@ use lib.Bits.{bitOr, or-lt}
 use lib.Pow.{pow-pos}
 use borrow.Author.Tests.{leb-false, not-false}
 use Rattle.laws.specs.Bytes.{bit}
-use Rattle.rules.specs.Personality.{phaseCount, groupCount, groupSet, pedestrian, badGroup, badGroupAt, phaseWithoutGroup, walksPhase}
+use Rattle.rules.specs.Personality.{phaseCount, groupCount, groupSet, pedestrian, badGroup, phaseWithoutGroup, walksPhase, groupMark}
 use Rattle.laws.specs.Folds.{anyOf}
 use Rattle.laws.proofs.Bits.{bit-blank}
 use Rattle.laws.proofs.Folds.{any-none, any-false}
@@ -32,15 +32,15 @@ module _ (b : List ℕ) where
   gathered-none = (omega arith, pow-pos (phaseCount b), bit-blank)
 
   -- the set of a group that is not bad
-  set-within : (g : ℕ) → badGroupAt b g ≡ false → groupSet b g < 2 ^ phaseCount b
-  unfolding badGroupAt badGroup
+  set-within : (g : ℕ) → badGroup (phaseCount b) (groupSet b g) (groupMark b g) ≡ false → groupSet b g < 2 ^ phaseCount b
+  unfolding badGroup
   set-within g good = leb-false _ _ (or-false-left _ _ (or-false-left _ _ good))
 
   pub gathered-more :
       (served g : ℕ) {set : ℕ} →
       set < 256 →
       set ≡ groupSet b g →
-      badGroupAt b g ≡ false →
+      badGroup (phaseCount b) (groupSet b g) (groupMark b g) ≡ false →
       Gathered served g →
       Gathered (bitOr served set) (g + 1)
   unfolding anyOf
@@ -56,7 +56,7 @@ module _ (b : List ℕ) where
   crossed-none = record { within = pow-pos (phaseCount b); told = bit-blank }
 
   module _ {crossed g : ℕ} (gathered : CrossedPhases b crossed g) where
-    pub crossed-more : {set : ℕ} → set ≡ groupSet b g → badGroupAt b g ≡ false → pedestrian b g ≡ true → CrossedPhases b (bitOr crossed set) (g + 1)
+    pub crossed-more : {set : ℕ} → set ≡ groupSet b g → badGroup (phaseCount b) (groupSet b g) (groupMark b g) ≡ false → pedestrian b g ≡ true → CrossedPhases b (bitOr crossed set) (g + 1)
     unfolding anyOf walksPhase
     crossed-more {set} e good walks =
         record {

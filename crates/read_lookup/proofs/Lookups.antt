@@ -10,9 +10,8 @@ use lib.ListN.{length, getD, take, drop, List·getD-eq-default}
 use borrow.Author.Tests.{leb-true, leb-false, not-false}
 use Rattle.rules.specs.declared.answer.Verdict.the-variants.{Accepted, Refused}
 use Rattle.laws.specs.Bytes.{twoAt}
-use Rattle.rules.specs.Verdicts.{reportOf}
 use Rattle.rules.specs.Personality.{bodyAt, bodyLength, verdictOf}
-use Rattle.rules.specs.Lookup.{heldKind, heads, headOf, lookupVerdict, lookupReport, sectionPart, partFor, sectionOf}
+use Rattle.rules.specs.Lookup.{heldKind, heads, headOf, lookupVerdict, reportOf, lookupReport, sectionPart, partFor, sectionOf}
 use Rattle.laws.proofs.Booleans.{and-left, and-right, and-false-cases}
 use Rattle.rules.proofs.Verdicts.{or-first, or-later, refuse-passed}
 use Rattle.read_lookup.proofs.Accepted.{section-within}

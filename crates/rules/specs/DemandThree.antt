@@ -5,7 +5,7 @@ use Rattle.rules.specs.Verdicts.{_orElse_, refuseIf}
 use Rattle.rules.specs.Site.{siteOf, phaseTimes, walkTimes, isPedestrian, movementOf, conflict}
 use Rattle.rules.specs.IntervalTable.{isMinimumGreen, isRunning, isWalk}
 use Rattle.rules.specs.State.{movement}
-use Rattle.rules.specs.Demands.{pressed, locking, detected}
+use Rattle.rules.specs.Demands.{pressed, locking, detected, registersLock, registersButton}
 use Rattle.rules.specs.Colours.{red, yellow, green, flashing}
 use Rattle.rules.specs.WaitBound.{waitBound}
 use Rattle.rules.specs.Call.{strayInput, boundFor}
@@ -68,8 +68,8 @@ Cleared site g last since = if isPedestrian (site .groups) g then PedestrianClea
 
 -- Group g starts a green at `start`, and the conflicting group j was green for the last time after `last`. `by` gives the site whose times its
 -- clearance goes by.
-unfoldable pub ClearedBy : (Step → Site) → Site → List Step → Type 0
-ClearedBy by site steps =
+unfoldable pub FullClearances : (Step → Site) → Site → List Step → Type 0
+FullClearances by site steps =
     (earlier since later : List Step) (last start : Step) →
     steps ≡ (earlier ++ last ∷ since) ++ start ∷ later →
     (g j : ℕ) →
@@ -79,10 +79,6 @@ ClearedBy by site steps =
     NeverGreen j since →
     Cleared (by last) j last since
 
--- it goes by the times that rule after `last`
-unfoldable pub FullClearances : Site → List Step → Type 0
-FullClearances site steps = ClearedBy (siteAfter site) site steps
-
 -- ── Part c: every demand that a step registers is met in time ──
 
 unfoldable pub inMinimumGreen : State → ℕ → Bool
@@ -90,19 +86,6 @@ inMinimumGreen s p = eqb (s .position .phase) p && isMinimumGreen (s .position .
 
 unfoldable pub inWalk : State → ℕ → Bool
 inWalk s k = isWalk (movement s k .stage)
-
-unfoldable pub inRunning : State → ℕ → Bool
-inRunning s p = eqb (s .position .phase) p && isRunning (s .position .interval)
-
--- A step registers a locked demand of a phase if one of its locking detectors is occupied. Exception: in the state handed in the phase is
--- in minimum green or running.
-unfoldable pub registersLocked : Site → Step → ℕ → Bool
-registersLocked site step p =
-    detected locking site (step .inputs) p && not (inMinimumGreen (step .before) p || inRunning (step .before) p)
-
--- A step registers a button demand if the button is pressed. Exception: in the state handed in the movement is in walk.
-unfoldable pub registersPressed : Step → ℕ → Bool
-registersPressed step k = pressed (step .inputs) k && not (inWalk (step .before) k)
 
 -- minimum green of phase p begins in the step; an interval that begins was another one before
 unfoldable pub minimumGreenBegins : ℕ → Step → Bool
@@ -133,8 +116,8 @@ unfoldable pub DemandsMet : Site → List Step → Type 0
 DemandsMet site steps =
     (earlier between later : List Step) (step : Step) →
     steps ≡ earlier ++ step ∷ (between ++ later) →
-    ((p : ℕ) → registersLocked site step p ≡ true → MetInTime site (minimumGreenBegins p) step between)
-    × ((k : ℕ) → k < site .size .movements → registersPressed step k ≡ true → MetInTime site (walkBegins k) step between)
+    ((p : ℕ) → registersLock site (step .before) (step .inputs) p ≡ true → MetInTime site (minimumGreenBegins p) step between)
+    × ((k : ℕ) → k < site .size .movements → registersButton (step .before .movements) (step .inputs) k ≡ true → MetInTime site (walkBegins k) step between)
 
 -- ── Part d: no call is refused for the state that the calls before it left ──
 
@@ -155,7 +138,7 @@ NoDeadEnd read b calls = (earlier later : List Taken) (call : Taken) → calls �
 
 pub record SafeRun (read : List ℕ → Verdict) (b : List ℕ) (calls : List Taken) : Type 0 where
   pub noConflictingGreens : NoConflictingGreens (siteOf b) (acceptedSteps calls)
-  pub fullClearances : FullClearances (siteOf b) (acceptedSteps calls)
+  pub fullClearances : FullClearances (siteAfter (siteOf b)) (siteOf b) (acceptedSteps calls)
   pub demandsMet : DemandsMet (siteOf b) (acceptedSteps calls)
   pub noDeadEnd : NoDeadEnd read b calls
 
@@ -171,7 +154,7 @@ unfoldable pub RunsHaveNoConflictingGreens : Type 0
 RunsHaveNoConflictingGreens = OfEveryRun byRules (λ b calls. NoConflictingGreens (siteOf b) (acceptedSteps calls))
 
 unfoldable pub RunsHaveFullClearances : Type 0
-RunsHaveFullClearances = OfEveryRun byRules (λ b calls. FullClearances (siteOf b) (acceptedSteps calls))
+RunsHaveFullClearances = OfEveryRun byRules (λ b calls. FullClearances (siteAfter (siteOf b)) (siteOf b) (acceptedSteps calls))
 
 unfoldable pub RunsMeetDemands : Type 0
 RunsMeetDemands = OfEveryRun byRules (λ b calls. DemandsMet (siteOf b) (acceptedSteps calls))

@@ -5,7 +5,7 @@ use Rattle.laws.specs.Bytes.{bit}
 use Rattle.laws.specs.Folds.{anyOf, setOf}
 use Rattle.rules.specs.Site.{phaseTimes}
 use Rattle.rules.specs.IntervalTable.{isWalkOrFirst, isSecond, isMinimumGreen, isRunning, isBeforeStart, isAllRed, phaseHeld}
-use Rattle.rules.specs.State.{idle}
+use Rattle.rules.specs.State.{idle, noCounts}
 use Rattle.rules.specs.Movements.{older}
 
 -- some movement is in a stage that passes the test
@@ -28,10 +28,14 @@ ends AllRed start times age another movements counts = leb (times .red) age && n
 
 -- ── What follows it ──
 
+-- an interval of the same phase, at an age
+abbrev pub samePhase : Interval → ℕ → Held → Position → Position
+samePhase interval age target position =
+    record { phase = position .phase; interval = interval; age = age; previous = position .previous; target = target }
+
 -- the next interval of the same phase, at age 1
 unfoldable pub entering : Interval → Held → Position → Position
-entering interval target position =
-    record { phase = position .phase; interval = interval; age = 1; previous = position .previous; target = target }
+entering interval target position = samePhase interval 1 target position
 
 -- the position in which phase p starts: late start, or minimum green if its L is 0
 unfoldable pub starting : Times → ℕ → Held → Position
@@ -60,14 +64,7 @@ following AllRed times next position = starting times (phaseHeld (position .targ
 
 -- the same interval, one step older
 unfoldable pub staying : Position → Position
-staying position =
-    record {
-      phase = position .phase;
-      interval = position .interval;
-      age = older (position .age);
-      previous = position .previous;
-      target = position .target;
-    }
+staying position = samePhase (position .interval) (older (position .age)) (position .target) position
 
 unfoldable pub positionAfter : Bool → Times → Held → Position → Position
 positionAfter ended times next position =
@@ -77,7 +74,7 @@ positionAfter ended times next position =
 
 -- both counts are 0 after all-red
 unfoldable pub countsLeaving : Interval → Counts → Counts
-countsLeaving interval counts = if isAllRed interval then record { gap = 0; maximum = 0 } else counts
+countsLeaving interval counts = if isAllRed interval then noCounts else counts
 
 -- minimum green begins with a gap count of G, running with a maximum count of 0
 unfoldable pub countsEntering : Interval → PhaseTimes → Counts → Counts

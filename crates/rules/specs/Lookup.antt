@@ -1,7 +1,7 @@
 -- The section lookup: the body of a section as a part of the personality, and the number and place of the report.
 use Rattle.laws.specs.Ground.{ℕ, _-_, Bool, not, _&&_, _||_, List, [], _∷_, eqb, leb, take, drop, getD}
 use Rattle.rules.specs.Types.{Verdict, Accepted, Refused, Report}
-use Rattle.rules.specs.Verdicts.{_orElse_, refuseIf, reportOf}
+use Rattle.rules.specs.Verdicts.{_orElse_, refuseIf}
 use Rattle.rules.specs.Personality.{verdictOf, bodyAt, bodyLength, editionOf, siteKind, siteHead, phasesHead, groupsHead, conflictsHead, detectorsHead, pedestriansHead, earlyHead, hasEarly, orderHead, hasOrder}
 
 -- the site section's kind, which is 1 or 8; kinds 2 to 6, and 7 and 9 if they are present
@@ -33,6 +33,11 @@ headOf b kind = getD (heads b) (kind - 1) 0
 -- The refusal of the personality, else 2 at 0 for a kind that is not held.
 unfoldable pub lookupVerdict : List ℕ → ℕ → Verdict
 lookupVerdict b kind = verdictOf b orElse refuseIf (not (heldKind b kind)) 2 0
+
+-- the number and place of a verdict, 0 and 0 if it is acceptance
+unfoldable pub reportOf : Verdict → Report
+reportOf Accepted = record { number = 0; place = 0 }
+reportOf (Refused number place) = record { number = number; place = place }
 
 unfoldable pub lookupReport : List ℕ → ℕ → Report
 lookupReport b kind = reportOf (lookupVerdict b kind)

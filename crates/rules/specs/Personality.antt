@@ -95,12 +95,8 @@ groupMark b g = byteAt b (recordAt (groupsHead b) 2 g + 1)
 unfoldable pub pedestrian : List ℕ → ℕ → Bool
 pedestrian b g = eqb (groupMark b g) 2
 
--- how many pedestrian groups come before group g
-unfoldable pub pedestriansBefore : List ℕ → ℕ → ℕ
-pedestriansBefore b g = countOf (pedestrian b) g
-
 unfoldable pub movementCount : List ℕ → ℕ
-movementCount b = pedestriansBefore b (groupCount b)
+movementCount b = countOf (pedestrian b) (groupCount b)
 
 unfoldable pub conflictSet : List ℕ → ℕ → ℕ
 conflictSet b g = fourAt b (recordAt (conflictsHead b) 4 g)
@@ -162,17 +158,13 @@ unfoldable pub badGroup : ℕ → ℕ → ℕ → Bool
 badGroup phases set mark =
     leb (2 ^ phases) set || ltb 3 mark || (eqb mark 2 && not (eqb (countOf (λ p. bit p set) phases) 1))
 
--- group record g is bad
-unfoldable pub badGroupAt : List ℕ → ℕ → Bool
-badGroupAt b g = badGroup (phaseCount b) (groupSet b g) (groupMark b g)
-
 -- 7: the ninth pedestrian group
 unfoldable pub ninthPedestrian : List ℕ → ℕ → Bool
-ninthPedestrian b g = pedestrian b g && eqb (pedestriansBefore b g) 8
+ninthPedestrian b g = pedestrian b g && eqb (countOf (pedestrian b) g) 8
 
 unfoldable pub groupRecord : List ℕ → ℕ → Verdict
 groupRecord b g =
-    refuseIf (badGroupAt b g) 6 (recordAt (groupsHead b) 2 g)
+    refuseIf (badGroup (phaseCount b) (groupSet b g) (groupMark b g)) 6 (recordAt (groupsHead b) 2 g)
     orElse refuseIf (ninthPedestrian b g) 7 (recordAt (groupsHead b) 2 g)
 
 -- 8: a phase in no group's set

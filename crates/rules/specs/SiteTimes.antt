@@ -1,10 +1,9 @@
 -- The times of a site as a value that may be replaced: the site with other times, and the times that a site may have.
-use Rattle.laws.specs.Ground.{ℕ, _+_, Bool, _||_, List, [], _∷_, eqb, ltb, replicate, if_then_else_}
+use Rattle.laws.specs.Ground.{ℕ, suc, Bool, true, _&&_, _||_, List, [], _∷_, eqb, ltb, replicate, if_then_else_}
 use Rattle.rules.specs.Types.{PhaseTimes, Range, Site, Times, WalkTimes}
 use Rattle.laws.specs.Folds.{allOf}
 use Rattle.rules.specs.Limits.{limits, within, startRedSetting, phaseSettings, walkSettings, earlySetting}
 use Rattle.rules.specs.Site.{noPhaseTimes, noWalkTimes, phaseTimes, walkTimes}
-use Rattle.rules.specs.State.{every}
 
 -- the site with other times
 abbrev pub under : Site → Times → Site
@@ -27,47 +26,35 @@ noTimes = record { start = 0; phases = replicate 7 noPhaseTimes; walks = replica
 
 -- ── The times that a site may have ──
 
--- the table that holds for the site
-abbrev pub siteLimits : Site → List Range
-siteLimits site = limits (site .edition)
-
 -- the limits of record i, if the site has n of them; for a record that it does not have the table is empty, which allows only 0
 abbrev pub recordLimits : List Range → ℕ → ℕ → List Range
 recordLimits table n i = if ltb i n then table else []
 
+-- the values are in the table's limits of the settings from this one on
+unfoldable pub eachWithin : List Range → ℕ → List ℕ → Bool
+eachWithin table setting [] = true
+eachWithin table setting (value ∷ values) = within table setting value && eachWithin table (suc setting) values
+
 -- without a section of kind 7 the time of early cut-off green is 0
 unfoldable pub phaseWithin : List Range → Bool → PhaseTimes → Bool
 phaseWithin table early times =
-    every
-    (within table phaseSettings (times .late)
-    ∷ within table (phaseSettings + 1) (times .minimum)
-    ∷ within table (phaseSettings + 2) (times .maximum)
-    ∷ within table (phaseSettings + 3) (times .gap)
-    ∷ within table (phaseSettings + 4) (times .yellow)
-    ∷ within table (phaseSettings + 5) (times .red)
-    ∷ within table earlySetting (times .early)
-    ∷ (early || eqb (times .early) 0)
-    ∷ [])
+    eachWithin table phaseSettings
+    (times .late ∷ times .minimum ∷ times .maximum ∷ times .gap ∷ times .yellow ∷ times .red ∷ [])
+    && within table earlySetting (times .early)
+    && (early || eqb (times .early) 0)
 
 unfoldable pub walkWithin : List Range → WalkTimes → Bool
-walkWithin table times =
-    every
-    (within table walkSettings (times .walk)
-    ∷ within table (walkSettings + 1) (times .first)
-    ∷ within table (walkSettings + 2) (times .second)
-    ∷ [])
+walkWithin table times = eachWithin table walkSettings (times .walk ∷ times .first ∷ times .second ∷ [])
 
 -- each setting that the site has is in the table, and each that it does not have is 0
 unfoldable pub timesWithin : List Range → Site → Times → Bool
 timesWithin table site times =
-    every
-    (within table startRedSetting (times .start)
-    ∷ allOf (λ p. phaseWithin (recordLimits table (site .size .phases) p) (site .early) (phaseTimes times p)) 7
-    ∷ allOf (λ k. walkWithin (recordLimits table (site .size .movements) k) (walkTimes times k)) 8
-    ∷ [])
+    within table startRedSetting (times .start)
+    && allOf (λ p. phaseWithin (recordLimits table (site .size .phases) p) (site .early) (phaseTimes times p)) 7
+    && allOf (λ k. walkWithin (recordLimits table (site .size .movements) k) (walkTimes times k)) 8
 
 unfoldable pub admitted : Site → Times → Bool
-admitted site times = timesWithin (siteLimits site) site times
+admitted site times = timesWithin (limits (site .edition)) site times
 
 -- every setting is 0
 unfoldable pub blank : Site → Times → Bool

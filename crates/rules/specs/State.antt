@@ -9,12 +9,15 @@ use Rattle.rules.specs.Site.{phaseTimes, crosses}
 abbrev pub idle : Movement
 idle = record { stage = Idle; age = 1 }
 
+abbrev pub noCounts : Counts
+noCounts = record { gap = 0; maximum = 0 }
+
 -- Start red of phase A at age 1; no came-from, no target, both counts 0, no demands, all movements idle.
 unfoldable pub fresh : State
 fresh =
     record {
       position = record { phase = 0; interval = StartRed; age = 1; previous = Nothing; target = Nothing };
-      counts = record { gap = 0; maximum = 0 };
+      counts = noCounts;
       demands = record { locks = 0; buttons = 0 };
       movements = replicate 8 idle;
     }
@@ -34,10 +37,6 @@ unfoldable pub movement : State → ℕ → Movement
 movement s k = getD (s .movements) k idle
 
 -- ── The valid state ──
-
-unfoldable pub every : List Bool → Bool
-every [] = true
-every (test ∷ tests) = test && every tests
 
 -- without a section of kind 7 a state in early cut-off green is not valid
 unfoldable pub intervalValid : Bool → Interval → Bool
@@ -59,52 +58,38 @@ ageValid age = leb 1 age && leb age highestAge
 -- the phase below P, the interval, the target, came-from and the age
 unfoldable pub positionValid : Bool → ℕ → Position → Bool
 positionValid early phases position =
-    every
-    (ltb (position .phase) phases
-    ∷ intervalValid early (position .interval)
-    ∷ targetValid phases (position .phase) (isLeaving (position .interval)) (position .target)
-    ∷ previousValid phases (position .previous)
-    ∷ ageValid (position .age)
-    ∷ [])
+    ltb (position .phase) phases
+    && intervalValid early (position .interval)
+    && targetValid phases (position .phase) (isLeaving (position .interval)) (position .target)
+    && previousValid phases (position .previous)
+    && ageValid (position .age)
 
 -- the gap count is not above G of the phase, and the maximum count not above X
 unfoldable pub countsValid : PhaseTimes → Counts → Bool
 countsValid times counts = leb (counts .gap) (times .gap) && leb (counts .maximum) (times .maximum)
 
--- if demand i is stored, it is below the count of phases or movements
-unfoldable pub demandExists : ℕ → ℕ → ℕ → Bool
-demandExists demands count i = not (bit i demands) || ltb i count
-
 -- demands only for phases and movements that exist
 unfoldable pub demandsValid : ℕ → ℕ → Demands → Bool
 demandsValid phases movements demands =
-    allOf (demandExists (demands .locks) phases) 8 && allOf (demandExists (demands .buttons) movements) 8
-
--- movement k is one of the site's, and it is of phase p
-unfoldable pub movementIn : ℕ → List ℕ → ℕ → ℕ → Bool
-movementIn count crossings p k = ltb k count && crosses crossings k p
+    allOf (λ p. not (bit p (demands .locks)) || ltb p phases) 8 && allOf (λ k. not (bit k (demands .buttons)) || ltb k movements) 8
 
 -- One movement record. A record that is not of the phase is idle; `ofPhase` says which it is. In start red every record is idle, and in a
 -- leaving interval none is in walk or C1. An idle record has age 1.
 unfoldable pub movementValid : Bool → Interval → Movement → Bool
 movementValid ofPhase interval m =
-    every
-    (ageValid (m .age)
-    ∷ (ofPhase || isIdle (m .stage))
-    ∷ not (isLeaving interval && isWalkOrFirst (m .stage))
-    ∷ (not (isStartRed interval) || isIdle (m .stage))
-    ∷ (not (isIdle (m .stage)) || eqb (m .age) 1)
-    ∷ [])
+    ageValid (m .age)
+    && (ofPhase || isIdle (m .stage))
+    && not (isLeaving interval && isWalkOrFirst (m .stage))
+    && (not (isStartRed interval) || isIdle (m .stage))
+    && (not (isIdle (m .stage)) || eqb (m .age) 1)
 
 unfoldable pub movementsValid : ℕ → List ℕ → Position → List Movement → Bool
 movementsValid count crossings position movements =
-    allOf (λ k. movementValid (movementIn count crossings (position .phase) k) (position .interval) (getD movements k idle)) 8
+    allOf (λ k. movementValid (ltb k count && crosses crossings k (position .phase)) (position .interval) (getD movements k idle)) 8
 
 unfoldable pub valid : Site → State → Bool
 valid site s =
-    every
-    (positionValid (site .early) (site .size .phases) (s .position)
-    ∷ countsValid (phaseTimes (site .times) (s .position .phase)) (s .counts)
-    ∷ demandsValid (site .size .phases) (site .size .movements) (s .demands)
-    ∷ movementsValid (site .size .movements) (site .crossings) (s .position) (s .movements)
-    ∷ [])
+    positionValid (site .early) (site .size .phases) (s .position)
+    && countsValid (phaseTimes (site .times) (s .position .phase)) (s .counts)
+    && demandsValid (site .size .phases) (site .size .movements) (s .demands)
+    && movementsValid (site .size .movements) (site .crossings) (s .position) (s .movements)

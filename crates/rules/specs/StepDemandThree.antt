@@ -5,12 +5,10 @@ use Rattle.rules.specs.Site.{siteOf}
 use Rattle.rules.specs.WaitBound.{waitBound}
 use Rattle.rules.specs.Call.{boundFor}
 use Rattle.rules.specs.Runs.{Controller, byRules, StepCall, stepCall, Step, Taken, stepTaken, takenFrom, acceptedSteps}
-use Rattle.rules.specs.DemandThree.{NoConflictingGreens, ClearedBy, registersLocked, registersPressed, minimumGreenBegins, walkBegins, someStep, ownVerdict, DemandThree}
+use Rattle.rules.specs.DemandThree.{NoConflictingGreens, FullClearances, minimumGreenBegins, walkBegins, someStep, ownVerdict, DemandThree}
+use Rattle.rules.specs.Demands.{registersLock, registersButton}
 
 -- ── Part b: the clearances go by the site's own times ──
-
-unfoldable pub OwnClearances : Site → List Step → Type 0
-OwnClearances site steps = ClearedBy (λ last. site) site steps
 
 -- ── Part c: every demand that a step registers is met within the wait bound ──
 
@@ -25,8 +23,8 @@ MetWithin site wait steps =
     (earlier later : List Step) (step : Step) →
     steps ≡ earlier ++ step ∷ later →
     wait ≤ length later →
-    ((p : ℕ) → registersLocked site step p ≡ true → comesWithin wait (minimumGreenBegins p) step later ≡ true)
-    × ((k : ℕ) → k < site .size .movements → registersPressed step k ≡ true → comesWithin wait (walkBegins k) step later ≡ true)
+    ((p : ℕ) → registersLock site (step .before) (step .inputs) p ≡ true → comesWithin wait (minimumGreenBegins p) step later ≡ true)
+    × ((k : ℕ) → k < site .size .movements → registersButton (step .before .movements) (step .inputs) k ≡ true → comesWithin wait (walkBegins k) step later ≡ true)
 
 -- ── Part d: no call is refused for the state that the calls before it left ──
 
@@ -41,7 +39,7 @@ AnswersBound site calls =
 
 pub record SafeStepRun (site : Site) (calls : List Taken) : Type 0 where
   pub noConflictingGreens : NoConflictingGreens site (acceptedSteps calls)
-  pub fullClearances : OwnClearances site (acceptedSteps calls)
+  pub fullClearances : FullClearances (λ last. site) site (acceptedSteps calls)
   pub demandsMet : MetWithin site (waitBound site) (acceptedSteps calls)
   pub noDeadEnd : AnswersBound site calls
 

@@ -8,6 +8,7 @@ use Rattle.rules.specs.IntervalTable.{isBeforeStart}
 use Rattle.rules.specs.Movements.{movementsAfter}
 use Rattle.rules.specs.Interval.{ends}
 use Rattle.rules.specs.Kept.{freshKept, keptValid, keptSteppedInto}
+use Rattle.rules.specs.State.{noCounts}
 
 -- The times that wait until a phase next starts, if some do. If none do, every time is 0.
 pub record Waiting : Type 0 where
@@ -69,16 +70,8 @@ takesOver site s = s .waiting .present && startsNext (ruledSite site s) (s .core
 -- both counts set to 0
 abbrev pub withoutCounts : KeptState → KeptState
 withoutCounts s =
-    record {
-      core =
-          record {
-            position = s .core .position;
-            counts = record { gap = 0; maximum = 0 };
-            demands = s .core .demands;
-            movements = s .core .movements;
-          };
-      kept = s .kept;
-    }
+    let core : State = record { position = s .core .position; counts = noCounts; demands = s .core .demands; movements = s .core .movements } in
+    record { core = core; kept = s .kept }
 
 -- the times that rule after the next step
 unfoldable pub rulingNext : Site → TimedState → Times

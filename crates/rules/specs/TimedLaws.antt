@@ -7,7 +7,7 @@ use Rattle.laws.specs.Folds.{listOf}
 use Rattle.rules.specs.Personality.{bodyAt, phasesHead, groupsHead, pedestriansHead, earlyHead, hasEarly, orderHead, verdictOf}
 use Rattle.rules.specs.Site.{siteOf, timesIn, phaseTimes, walkTimes}
 use Rattle.rules.specs.IntervalTable.{isBeforeStart}
-use Rattle.rules.specs.State.{highestAge, idle}
+use Rattle.rules.specs.State.{highestAge, idle, noCounts}
 use Rattle.rules.specs.SiteTimes.{under, admitted}
 use Rattle.rules.specs.Demands.{nextDemanded}
 use Rattle.rules.specs.Step.{steppedInto}
@@ -29,7 +29,7 @@ readyCore s =
     let old = s .position in
     record {
       position = record { phase = old .phase; interval = old .interval; age = highestAge; previous = old .previous; target = old .target };
-      counts = record { gap = 0; maximum = 0 };
+      counts = noCounts;
       demands = s .demands;
       movements = replicate 8 idle;
     }

@@ -1,6 +1,6 @@
 -- The wait bound: start red plus the sum over the phases of L + M + X + 2 × (A + E + Y + R + C). E is the time of early cut-off green.
 use Rattle.laws.specs.Ground.{ℕ, _+_, _*_, List, getD, if_then_else_}
-use Rattle.rules.specs.Types.{PhaseTimes, Site, Size, Times, WalkTimes}
+use Rattle.rules.specs.Types.{PhaseTimes, Site, WalkTimes}
 use Rattle.laws.specs.Folds.{sumOf, greatestOf}
 use Rattle.rules.specs.Site.{noWalkTimes, phaseTimes, crosses}
 
@@ -19,12 +19,8 @@ module _ (crossings : List ℕ) (walks : List WalkTimes) (n : ℕ) where
   unfoldable pub longestClearance : ℕ → ℕ
   longestClearance p = greatestOf (λ k. if crosses crossings k p then getD walks k noWalkTimes .second else 0) n
 
--- the bound from the parts of a site that it needs: the counts, the times and the phase set of each movement
-unfoldable pub waitBoundBy : Size → Times → List ℕ → ℕ
-waitBoundBy size times crossings =
-    let a = longestWalk crossings (times .walks) (size .movements) in
-    let c = longestClearance crossings (times .walks) (size .movements) in
-    times .start + sumOf (λ p. phaseShare (phaseTimes times p) (a p) (c p)) (size .phases)
-
-abbrev pub waitBound : Site → ℕ
-waitBound site = waitBoundBy (site .size) (site .times) (site .crossings)
+unfoldable pub waitBound : Site → ℕ
+waitBound site =
+    let a = longestWalk (site .crossings) (site .times .walks) (site .size .movements) in
+    let c = longestClearance (site .crossings) (site .times .walks) (site .size .movements) in
+    site .times .start + sumOf (λ p. phaseShare (phaseTimes (site .times) p) (a p) (c p)) (site .size .phases)

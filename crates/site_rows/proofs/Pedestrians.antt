@@ -9,7 +9,7 @@ use lib.ListN.{length, getD, drop, set, replicate, length-map, List·getD-map}
 use lib.Seq.{ext-getD}
 use borrow.Author.Tests.{eq-eqb, ne-eqb}
 use Rattle.laws.specs.Folds.{listOf, countOf, indicesOf, rowOf}
-use Rattle.rules.specs.Personality.{groupCount, groupSet, groupMark, pedestrian, pedestriansBefore, movementCount}
+use Rattle.rules.specs.Personality.{groupCount, groupSet, groupMark, pedestrian, movementCount}
 use Rattle.rules.specs.Site.{crossingAt, siteOf}
 use Rattle.laws.proofs.Counting.{indices-length, count-passed, count-failed, count-before}
 use Rattle.laws.proofs.Lists.{list-length, list-at}
@@ -68,7 +68,7 @@ module _ (b : List ℕ) where
 
     -- and there is room for it
     pub room-left : mark ≡ 2 → g < groupCount b → movementCount b ≤ 8 → count < 8
-    unfolding movementCount pedestriansBefore pedestrian
+    unfolding movementCount pedestrian
     room-left h l fits =
         let e = eq-eqb (groupMark b g) 2 (sym read ∙ h) in
         omega (arith, passed .counted, count-before (pedestrian b) g (groupCount b) l e)
@@ -76,7 +76,7 @@ module _ (b : List ℕ) where
   -- the end: every movement has its group's set
   pub passed-whole :
       {g count : ℕ} {sets : List ℕ} → Passed b g count sets → g ≡ groupCount b → (count ≡ movementCount b) × (sets ≡ siteOf b .crossings)
-  unfolding siteOf rowOf crossingAt movementCount pedestriansBefore
+  unfolding siteOf rowOf crossingAt movementCount
   passed-whole {g} {count} {sets} passed e =
       let indices = indicesOf (pedestrian b) (groupCount b) in
       let row : listOf (λ k. groupSet b (getD indices k 0)) (countOf (pedestrian b) (groupCount b)) ≡ map (groupSet b) indices =

@@ -15,7 +15,8 @@ use Rattle.rules.specs.declared.site.WalkTimes.{WalkTimes}
 use Rattle.laws.specs.Bytes.{byteAt, twoAt}
 use Rattle.laws.specs.Folds.{allOf, listOf}
 use Rattle.rules.specs.Site.{noPhaseTimes, noWalkTimes, phaseTimes, walkTimes}
-use Rattle.rules.specs.SiteTimes.{noTimes, siteLimits, recordLimits, phaseWithin, walkWithin, blank}
+use Rattle.rules.specs.Limits.{limits}
+use Rattle.rules.specs.SiteTimes.{noTimes, recordLimits, phaseWithin, walkWithin, blank}
 use Rattle.rules.specs.Timed.{noneWaiting, waitingValid}
 use Rattle.laws.proofs.Booleans.{and-left, and-right, same-tests}
 use Rattle.laws.proofs.Bytes.{part}
@@ -120,10 +121,10 @@ module _ (b : List ℕ) (at : ℕ) where
 
   module _ (site : Site) where
     abbrev phaseTest : Times → ℕ → Bool
-    phaseTest t p = phaseWithin (recordLimits (siteLimits site) 0 p) (site .early) (getD (t .phases) p noPhaseTimes)
+    phaseTest t p = phaseWithin (recordLimits (limits (site .edition)) 0 p) (site .early) (getD (t .phases) p noPhaseTimes)
 
     abbrev walkTest : Times → ℕ → Bool
-    walkTest t k = walkWithin (recordLimits (siteLimits site) 0 k) (getD (t .walks) k noWalkTimes)
+    walkTest t k = walkWithin (recordLimits (limits (site .edition)) 0 k) (getD (t .walks) k noWalkTimes)
 
     blank-told : blank site (times .read b at) ≡ true → times .read b at ≡ noTimes
     unfolding phaseTimes walkTimes

@@ -14,22 +14,22 @@ use Rattle.rules.specs.TimedLaws.{AcceptedIsAdmitted}
 use Rattle.laws.proofs.Folds.{all-at}
 use Rattle.laws.proofs.Lists.{row-at}
 use Rattle.proof_acceptance.proofs.Sections.{sections-accepted}
-use Rattle.proof_runs.proofs.ValidStates.{every-head, every-tail}
+use Rattle.proof_change.proofs.Admitted.{within-parts}
 use Rattle.proof_time_bytes.proofs.Elsewhere.{accepted-is-admitted}
 
 module _ (b : List ℕ) (known : verdictOf b ≡ Accepted) where
   pub own-phase : (p : ℕ) → p < phaseCount b → phaseWithin (limits (editionOf b)) (hasEarly b) (phaseTimesAt b p) ≡ true
-  unfolding AcceptedIsAdmitted admitted timesWithin siteOf timesIn phaseTimes
+  unfolding AcceptedIsAdmitted admitted siteOf timesIn phaseTimes
   own-phase p l =
       rw (lt-ltb p (phaseCount b) l, row-at (phaseTimesAt b) (phaseCount b) 7 p noPhaseTimes l) at
       (all-at (λ q. phaseWithin (recordLimits (limits (editionOf b)) (phaseCount b) q) (hasEarly b) (phaseTimes (timesIn b) q)) 7 p
-      (every-head _ _ (every-tail _ _ (accepted-is-admitted b known)))
+      (within-parts (siteOf b) (timesIn b) (limits (editionOf b)) (accepted-is-admitted b known) .1)
       (omega (arith, sections-accepted b known .site .phases .1)))
 
   pub own-walk : (k : ℕ) → k < movementCount b → walkWithin (limits (editionOf b)) (walkTimesAt b k) ≡ true
-  unfolding AcceptedIsAdmitted admitted timesWithin siteOf timesIn walkTimes
+  unfolding AcceptedIsAdmitted admitted siteOf timesIn walkTimes
   own-walk k l =
       rw (lt-ltb k (movementCount b) l, row-at (walkTimesAt b) (movementCount b) 8 k noWalkTimes l) at
       (all-at (λ q. walkWithin (recordLimits (limits (editionOf b)) (movementCount b) q) (walkTimes (timesIn b) q)) 8 k
-      (every-head _ _ (every-tail _ _ (every-tail _ _ (accepted-is-admitted b known))))
+      (within-parts (siteOf b) (timesIn b) (limits (editionOf b)) (accepted-is-admitted b known) .2)
       (omega (arith, sections-accepted b known .groups .movements)))

@@ -14,13 +14,11 @@ use Rattle.rules.specs.declared.site.Times.{Times}
 use Rattle.rules.specs.declared.site.WalkTimes.{WalkTimes}
 use Rattle.laws.specs.Ground.{if_then_else_}
 use Rattle.laws.specs.Folds.{allOf}
-use Rattle.rules.specs.Limits.{within}
+use Rattle.rules.specs.Limits.{limits, within}
 use Rattle.rules.specs.Site.{noPhaseTimes, noWalkTimes, phaseTimes, walkTimes}
-use Rattle.rules.specs.State.{every}
-use Rattle.rules.specs.SiteTimes.{siteLimits, recordLimits, phaseWithin, walkWithin, timesWithin, admitted, blank}
+use Rattle.rules.specs.SiteTimes.{recordLimits, eachWithin, phaseWithin, walkWithin, timesWithin, admitted, blank}
 use Rattle.laws.proofs.Folds.{fold-same}
 use Rattle.base_limits.proofs.Past.{past-the-table}
-use Rattle.step_valid.proofs.Records.{joined-every}
 
 -- ── One record ──
 
@@ -32,7 +30,7 @@ pub phase-absent :
     (early : Bool) (t : PhaseTimes) →
     (eqb (t .late) 0 && eqb (t .minimum) 0 && eqb (t .maximum) 0 && eqb (t .gap) 0 && eqb (t .yellow) 0 && eqb (t .red) 0 && eqb (t .early) 0)
     ≡ phaseWithin [] early t
-unfolding phaseWithin every
+unfolding phaseWithin eachWithin
 phase-absent early t =
     rw (
       ← zero 1 (t .late),
@@ -52,8 +50,29 @@ phase-absent early t =
     last false false = refl
 
 pub walk-absent : (t : WalkTimes) → (eqb (t .walk) 0 && eqb (t .first) 0 && eqb (t .second) 0) ≡ walkWithin [] t
-unfolding walkWithin every
+unfolding walkWithin eachWithin
 walk-absent t = rw (← zero 7 (t .walk), ← zero 8 (t .first), ← zero 9 (t .second)) (simp (and-assoc, and-true))
+
+-- the settings of a record, tested from the left
+pub phase-joined :
+    (table : List Range) (early : Bool) (t : PhaseTimes) →
+    (within table 1 (t .late)
+    && within table 2 (t .minimum)
+    && within table 3 (t .maximum)
+    && within table 4 (t .gap)
+    && within table 5 (t .yellow)
+    && within table 6 (t .red)
+    && within table 10 (t .early)
+    && (early || eqb (t .early) 0))
+    ≡ phaseWithin table early t
+unfolding phaseWithin eachWithin
+phase-joined table early t = simp (and-assoc, and-true)
+
+pub walk-joined :
+    (table : List Range) (t : WalkTimes) →
+    (within table 7 (t .walk) && within table 8 (t .first) && within table 9 (t .second)) ≡ walkWithin table t
+unfolding walkWithin eachWithin
+walk-joined table t = simp (and-assoc, and-true)
 
 -- ── All times ──
 
@@ -94,22 +113,21 @@ blank-walks table n l =
 module _ (site : Site) (times : Times) where
   pub blank-tested :
       (eqb (times .start) 0
-      && allOf (λ p. phaseWithin (recordLimits (siteLimits site) 0 p) (site .early) (getD (times .phases) p noPhaseTimes)) 7
-      && allOf (λ k. walkWithin (recordLimits (siteLimits site) 0 k) (getD (times .walks) k noWalkTimes)) 8)
+      && allOf (λ p. phaseWithin (recordLimits (limits (site .edition)) 0 p) (site .early) (getD (times .phases) p noPhaseTimes)) 7
+      && allOf (λ k. walkWithin (recordLimits (limits (site .edition)) 0 k) (getD (times .walks) k noWalkTimes)) 8)
       ≡ blank site times
   unfolding blank timesWithin phaseTimes walkTimes
   blank-tested =
       rw (
-        blank-phases (siteLimits site) (site .size .phases) (site .early) (times .phases),
-        blank-walks (siteLimits site) (site .size .movements) (times .walks),
+        blank-phases (limits (site .edition)) (site .size .phases) (site .early) (times .phases),
+        blank-walks (limits (site .edition)) (site .size .movements) (times .walks),
         zero 0 (times .start),
       )
-      (joined-every _ (_ ∷ _ ∷ []))
 
   pub admitted-tested :
-      (within (siteLimits site) 0 (times .start)
-      && allOf (λ p. phaseWithin (recordLimits (siteLimits site) (site .size .phases) p) (site .early) (getD (times .phases) p noPhaseTimes)) 7
-      && allOf (λ k. walkWithin (recordLimits (siteLimits site) (site .size .movements) k) (getD (times .walks) k noWalkTimes)) 8)
+      (within (limits (site .edition)) 0 (times .start)
+      && allOf (λ p. phaseWithin (recordLimits (limits (site .edition)) (site .size .phases) p) (site .early) (getD (times .phases) p noPhaseTimes)) 7
+      && allOf (λ k. walkWithin (recordLimits (limits (site .edition)) (site .size .movements) k) (getD (times .walks) k noWalkTimes)) 8)
       ≡ admitted site times
   unfolding admitted timesWithin phaseTimes walkTimes
-  admitted-tested = joined-every _ (_ ∷ _ ∷ [])
+  admitted-tested = refl

@@ -1,4 +1,4 @@
--- Tests joined from the left are the tests of a list; and a movement record passes by whether it is idle.
+-- A movement record passes by whether it is idle.
 use mathlib.Core.Bool.{Bool, true, false, not, _&&_, and-assoc, and-true, and-false, or-true, or-false}
 use mathlib.Core.List.{List, [], _∷_}
 use mathlib.Core.Logic.{⊎-elim}
@@ -8,27 +8,14 @@ use borrow.Author.Tests.{eqb-true}
 use Rattle.rules.specs.declared.state.Interval.{Interval}
 use Rattle.rules.specs.declared.state.Movement.{Movement}
 use Rattle.rules.specs.IntervalTable.{isIdle, isWalkOrFirst, isLeaving, isStartRed}
-use Rattle.rules.specs.State.{ageValid, every, movementValid}
+use Rattle.rules.specs.State.{ageValid, movementValid}
 use Rattle.laws.proofs.Booleans.{decided}
 use Rattle.rules.proofs.IntervalTests.{idle-not-walking}
-
--- ── Tests joined ──
-
-abbrev pub joined : Bool → List Bool → Bool
-joined test [] = test
-joined test (next ∷ rest) = joined (test && next) rest
-
-pub joined-every : (test : Bool) (rest : List Bool) → joined test rest ≡ every (test ∷ rest)
-unfolding every
-joined-every test [] = sym (and-true test)
-joined-every test (next ∷ rest) = joined-every (test && next) rest ∙ and-assoc test next (every rest)
-
--- ── Movement records ──
 
 module _ (of-phase : Bool) (interval : Interval) (m : Movement) where
   -- an idle record passes at age 1 alone, wherever it is
   pub idle-valid : isIdle (m .stage) ≡ true → eqb (m .age) 1 ≡ movementValid of-phase interval m
-  unfolding movementValid every ageValid
+  unfolding movementValid ageValid
   idle-valid idle-now =
       let none = idle-not-walking (m .stage) idle-now in
       ⊎-elim
@@ -40,5 +27,5 @@ module _ (of-phase : Bool) (interval : Interval) (m : Movement) where
       isIdle (m .stage) ≡ false →
       (ageValid (m .age) && of-phase && not (isLeaving interval && isWalkOrFirst (m .stage)) && not (isStartRed interval))
       ≡ movementValid of-phase interval m
-  unfolding movementValid every
+  unfolding movementValid
   busy-valid busy = simp (busy, or-false, and-true, and-assoc)

@@ -11,10 +11,10 @@ use Rattle.rules.specs.declared.site.Size.{Size}
 use Rattle.rules.specs.declared.site.Times.{Times}
 use Rattle.laws.specs.Folds.{sumOf}
 use Rattle.rules.specs.Site.{noPhaseTimes, phaseTimes, walkTimes}
-use Rattle.rules.specs.WaitBound.{phaseShare, longestWalk, longestClearance, waitBoundBy}
+use Rattle.rules.specs.WaitBound.{phaseShare, longestWalk, longestClearance}
 use Rattle.rules.specs.Laws.{SoundTimes}
 use Rattle.rules.proofs.Settings.{walk-told, wait-two-bytes}
-use Rattle.proof_acceptance.proofs.WaitBound.{wait-within}
+use Rattle.proof_acceptance.proofs.WaitBound.{boundBy, wait-within}
 use Rattle.laws.proofs.Sums.{sum-same, sum-part}
 
 -- ── The shares ──
@@ -27,7 +27,7 @@ pub bound-fits :
     (size : Size) (times : Times) (crossings : List ℕ) →
     size .phases ≤ 7 →
     SoundTimes size times →
-    waitBoundBy size times crossings ≤ 65535
+    boundBy size times crossings ≤ 65535
 bound-fits size times crossings few sound =
     le-trans
     (wait-within (sound .table) size times crossings (sound .inTable) few)
@@ -54,8 +54,8 @@ module _
     abbrev shares : ℕ → ℕ
     shares = shareAt (times .phases) longest
 
-    pub all-shares : (p : ℕ) → p ≡ size .phases → times .start + sumOf shares p ≡ waitBoundBy size times crossings
-    unfolding waitBoundBy phaseTimes
+    pub all-shares : (p : ℕ) → p ≡ size .phases → times .start + sumOf shares p ≡ boundBy size times crossings
+    unfolding phaseTimes
     all-shares p e =
         ap (λ (n : ℕ). times .start + n)
         (ap (sumOf shares) e ∙ sum-same shares _ (size .phases) (λ p l. let own = each p (omega arith) in rw (own .0, own .1)))

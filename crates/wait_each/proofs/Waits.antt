@@ -16,7 +16,7 @@ use Rattle.laws.specs.Folds.{sumOf, greatestOf, listOf}
 use Rattle.rules.specs.Site.{noPhaseTimes, phaseTimes, walkTimes, crosses, ring}
 use Rattle.rules.specs.IntervalTable.{isHeld, phaseHeld}
 use Rattle.rules.specs.Demands.{nextAfter}
-use Rattle.rules.specs.WaitBound.{longestClearance}
+use Rattle.rules.specs.WaitBound.{waitBound, longestClearance}
 use Rattle.rules.specs.Waits.{leavingOf, turnOf, restOf, comesAfter, clearingOf, clearsFirst, phaseWaitBy, phaseWait, movementWait, phaseOfMovement, waitsOf}
 use Rattle.rules.specs.Laws.{Sound}
 use Rattle.laws.proofs.BitRanges.{full-each}
@@ -35,11 +35,13 @@ otherTurn site q p = if eqb p q then 0 else turnOf site p
 
 module _ (site : Site) (sound : Sound site) (q : ℕ) (below : q < site .size .phases) where
   pub wait-fits : phaseWait site q ≤ 65535
+  unfolding waitBound
   wait-fits =
       le-trans (phase-wait-within site sound q below)
       (bound-fits (site .size) (site .times) (site .crossings) (sound .phases .1) (sound .times))
 
   pub movement-fits : (m : ℕ) → m < site .size .movements → crosses (site .crossings) m q ≡ true → movementWait site q m ≤ 65535
+  unfolding waitBound
   movement-fits m exists crossing =
       le-trans (movement-wait-within site sound q below m exists crossing)
       (bound-fits (site .size) (site .times) (site .crossings) (sound .phases .1) (sound .times))

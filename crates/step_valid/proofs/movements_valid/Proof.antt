@@ -13,7 +13,7 @@ use Rattle.rules.specs.declared.state.Position.{Position}
 use Rattle.rules.specs.declared.state.Stage.the-variants.{Idle}
 use Rattle.laws.specs.Bytes.{bit}
 use Rattle.rules.specs.Site.{crosses}
-use Rattle.rules.specs.State.{idle, movementIn, movementValid, movementsValid}
+use Rattle.rules.specs.State.{idle, movementValid, movementsValid}
 use Rattle.laws.proofs.Folds.{Tested, tested-none, tested-more, tested-all, all-fails}
 use Rattle.laws.proofs.Lists.{entry-same}
 use Rattle.step_valid.proofs.movements_valid.Statement.{statement}
@@ -22,7 +22,7 @@ use Rattle.step_valid.proofs.movements_valid.Tie as tie
 -- the test of record k
 abbrev passes : ℕ → List ℕ → Position → List Movement → ℕ → Bool
 passes count crossings position movements k =
-    movementValid (movementIn count crossings (position .phase) k) (position .interval) (getD movements k idle)
+    movementValid (ltb k count && crosses crossings k (position .phase)) (position .interval) (getD movements k idle)
 
 abbrev Inv-loop : tie.InvT-loop
 Inv-loop count position crossings movements interval k₀ k = Tested (passes count crossings position movements) 8 true k
@@ -56,7 +56,7 @@ own-valid :
     let head = c .before .before .before .before in
     let a = head .before .args in
     c .movement-valid .result ≡ passes (a .count) (a .t2) (a .position) (a .t4) (head .loop .k)
-unfolding movementIn crosses
+unfolding crosses
 own-valid c =
     let turn = c .before .before .before in
     let start = turn .before .before in

@@ -1,9 +1,7 @@
--- `step_valid::valid` meets its contract: its tests are those of the rule's list.
-use mathlib.Core.List.{[], _∷_}
+-- `step_valid::valid` meets its contract: its four tests are those of the rule.
 use borrow.Author.Needs.{needs}
 use Rattle.rules.specs.Site.{phaseTimes}
 use Rattle.rules.specs.State.{positionValid, countsValid, demandsValid, movementsValid, valid}
-use Rattle.step_valid.proofs.Records.{joined-every}
 use Rattle.step_valid.proofs.valid.Statement.{statement}
 use Rattle.step_valid.proofs.valid.Tie as tie
 
@@ -15,12 +13,6 @@ returns c =
     let placed = counted .before in
     let own = placed .before .before .before .before .before in
     let entry = own .before .before .before in
-    let site = entry .args .site in
-    let s = entry .args .state in
-    let place = positionValid (site .early) (site .size .phases) (s .position) in
-    let counts = countsValid (phaseTimes (site .times) (s .position .phase)) (s .counts) in
-    let demands = demandsValid (site .size .phases) (site .size .movements) (s .demands) in
-    let movements = movementsValid (site .size .movements) (site .crossings) (s .position) (s .movements) in
     rw (
       placed .position-valid .ensures,
       counted .counts-valid .ensures,
@@ -28,7 +20,6 @@ returns c =
       c .movements-valid .ensures,
       own .phase-times .ensures,
     )
-    (joined-every place (counts ∷ demands ∷ movements ∷ []))
 
 pub valid-spec : {M : Type 1} → statement M
 valid-spec =

@@ -96,6 +96,7 @@ summed :
     (c : tie.After-loop Inv-loop μ-loop) →
     let a = entry (c .before .before .before) .args in
     c .before .loop .sum ≡ waitBound (a .site)
+unfolding waitBound
 summed c =
     let at = c .before .before in
     let start = entry (at .before) in
@@ -105,6 +106,7 @@ summed c =
     (c .before .loop .phase) (omega (arith, c .before .loop .inv .0, c .loop-test .left))
 
 cast-result : tie.Need-cast-result Inv-loop μ-loop
+unfolding waitBound
 cast-result c =
     let start = entry (c .before .before .before) in
     let a = start .args in

@@ -1,6 +1,6 @@
 -- `cabinet_held::placing::placed_nowhere` meets its contract, by the two cases of the verdict.
 use mathlib.Core.Path.{sym, _∙_}
-use Rattle.rules.specs.Verdicts.{_orElse_, reportOf}
+use Rattle.rules.specs.Verdicts.{_orElse_}
 use Rattle.board_answers.specs.Answers.{packedVerdict}
 use Rattle.board_answers.proofs.Answers.{refused-near}
 use borrow.Author.Needs.{needs}
@@ -16,11 +16,11 @@ refusal-requires-2 c κs =
     refused-near _ (read .result) (read .ensures) (c .before .verdict .given .1)
 
 returns : tie.Need-returns
-unfolding _orElse_ packedVerdict reportOf
+unfolding _orElse_ packedVerdict
 returns c = let told = c .before in rw (sym (told .before .before .read .ensures) ∙ told .enum-told .given .1, c .refusal .ensures)
 
 returns-2 : tie.Need-returns-2
-unfolding _orElse_ packedVerdict reportOf
+unfolding _orElse_ packedVerdict
 returns-2 c = let told = c .before .before in rw (sym (told .before .before .read .ensures) ∙ told .verdict .given .1, c .refusal2 .ensures)
 
 pub placed-nowhere-spec : {M : Type 1} → statement M

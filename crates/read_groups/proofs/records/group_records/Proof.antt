@@ -9,7 +9,7 @@ use native.Mathlib.Omega.{arith}
 use lib.Dec.{eqb}
 use borrow.Author.Needs.{needs}
 use borrow.Author.Tests.{eq-eqb, ne-eqb}
-use Rattle.rules.specs.Personality.{bodyAt, recordAt, phaseCount, groupCount, groupsHead, groupSet, groupMark, pedestrian, pedestriansBefore, movementCount, badGroupAt, ninthPedestrian, groupRecord, phaseWithoutGroup, stopsEarly}
+use Rattle.rules.specs.Personality.{bodyAt, recordAt, phaseCount, groupCount, groupsHead, groupSet, groupMark, pedestrian, movementCount, ninthPedestrian, groupRecord, phaseWithoutGroup, stopsEarly, badGroup}
 use Rattle.laws.specs.Folds.{anyOf, countOf}
 use Rattle.rules.specs.Verdicts.{_orElse_, refuseIf, firstOf}
 use Rattle.rules.specs.declared.answer.Verdict.{Verdict}
@@ -85,8 +85,8 @@ recordRead :
     let g = atLoop .loop .g in
     (c .before .pair-at .result .first ≡ groupSet b g)
     × (c .before .pair-at .result .second ≡ groupMark b g)
-    × (c .bad-group .result ≡ badGroupAt b g)
-unfolding groupSet groupMark badGroupAt
+    × (c .bad-group .result ≡ badGroup (phaseCount b) (groupSet b g) (groupMark b g))
+unfolding groupSet groupMark
 recordRead c =
     let atLoop = c .before .before .before in
     let laid = atLoop .before .before .before .before .pre .0 in
@@ -123,7 +123,7 @@ refused-requires-2 : tie.Need-refused-requires-2 Inv-loop μ-loop
 refused-requires-2 c κs = search needs
 
 returns-2 : tie.Need-returns-2 Inv-loop μ-loop
-unfolding groupRecord pedestrian pedestriansBefore ninthPedestrian
+unfolding groupRecord pedestrian ninthPedestrian
 returns-2 c =
     let atTest = c .before in
     let atRecord = atTest .before .before .before in
@@ -155,7 +155,7 @@ counted :
     let b = atLoop .before .before .before .before .args .s .now in
     let g = atLoop .loop .g in
     (c .if2 .movements ≡ countOf (pedestrian b) (g + 1)) × CrossedPhases b (c .if2 .crossed) (g + 1) × (ninthPedestrian b g ≡ false)
-unfolding pedestrian ninthPedestrian pedestriansBefore
+unfolding pedestrian ninthPedestrian
 counted c =
     let atLoop = c .before .before .before .before .before in
     let b = atLoop .before .before .before .before .args .s .now in
@@ -219,7 +219,7 @@ afterRecords c =
     )
 
 returns-3 : tie.Need-returns-3 Inv-loop μ-loop
-unfolding movementCount pedestriansBefore
+unfolding movementCount
 returns-3 c =
     let passed = afterRecords (c .before) in
     let inv = c .before .before .loop .inv in

@@ -1,13 +1,10 @@
--- `state_valid::settings::phase_within` meets its contract: its tests are those of the rule's list.
-use mathlib.Core.List.{[], _∷_}
-use Rattle.rules.specs.SiteTimes.{phaseWithin}
-use Rattle.step_valid.proofs.Records.{joined-every}
+-- `state_valid::settings::phase_within` meets its contract: its tests are those of the rule.
+use Rattle.state_valid.proofs.Records.{phase-joined}
 use borrow.Author.Needs.{needs}
 use Rattle.state_valid.proofs.settings.phase_within.Statement.{statement}
 use Rattle.state_valid.proofs.settings.phase_within.Tie as tie
 
 returns : tie.Need-returns
-unfolding phaseWithin
 returns c =
     let seventh = c .before in
     let sixth = seventh .before in
@@ -25,7 +22,7 @@ returns c =
       second .within2 .ensures,
       first .within .ensures,
     )
-    (joined-every _ (_ ∷ _ ∷ _ ∷ _ ∷ _ ∷ _ ∷ _ ∷ []))
+    (phase-joined _ _ _)
 
 pub phase-within-spec : {M : Type 1} → statement M
 phase-within-spec =
