@@ -49,7 +49,21 @@ check 'docs/TRUSTED.md' python3 docs/trusted.py --check
 
 log=$(mktemp)
 room=$(mktemp -d)
-trap 'rm -rf "$log" "$room"' EXIT
+proving=''
+trap 'rm -rf "$log" "$room" "$proving"' EXIT
+
+# Each check of a crate writes the checked modules of all that the crate uses, up to 300 MB, to the folder for temporary files. On a disk that takes
+# a second or two of processor time. So the proofs have a folder in memory, if 8 GB of memory are left, 4 GB of them may be such a folder, and programs may run
+# from it: `rt ci` runs the proved programs there as nobody, who has to reach it.
+left() { awk '$1 == "MemAvailable:" { print $2 }' /proc/meminfo; }
+folder_in_memory() {
+    [ "$(stat -f -c %T /dev/shm 2>/dev/null)" = tmpfs ] && [ "$(left)" -ge 8000000 ] || return 1
+    [ "$(df --output=avail /dev/shm | tail -n 1)" -ge 4000000 ] || return 1
+    made=$(mktemp -d /dev/shm/willowera.XXXXXX) || return 1
+    if chmod 711 "$made" && cp /bin/true "$made/true" && "$made/true"; then echo "$made"; else rm -rf "$made" && return 1; fi
+}
+proving=$(folder_in_memory) || proving=$(mktemp -d)
+chmod 711 "$proving"
 
 # Long checks run beside others, which leave a processor idle: `beside` keeps what a check prints, and `passed_beside` prints and judges it.
 beside() { # NAME COMMAND..
@@ -63,7 +77,7 @@ passed_beside() { cat "$room/$1.out" && [ -e "$room/$1.passed" ]; }
 try_edits() {
     for edit in must-fail-rules/*.edit; do
         edit=$(basename "$edit" .edit)
-        beside "$edit" must-fail-rules/run.sh "$edit"
+        TMPDIR=$proving beside "$edit" must-fail-rules/run.sh "$edit"
     done
 }
 if [ -n "$proves" ]; then try_edits & edits=$!; fi
@@ -75,7 +89,7 @@ installing=$!
 
 # rt ci counts crates, edits and programs itself: its last line has the counts, and a line above it the names of what failed.
 prove() {
-    if [ -n "$proves" ]; then rt ci; else rt check; fi 2>&1 | tee "$log"
+    if [ -n "$proves" ]; then TMPDIR=$proving rt ci; else TMPDIR=$proving rt check; fi 2>&1 | tee "$log"
     status=${PIPESTATUS[0]}
     good=$(sed -n '$s/^\([0-9][0-9]*\) passed, [0-9][0-9]* failed$/\1/p' "$log")
     bad=$(sed -n 's/^rt: FAILED://p' "$log")

@@ -6,7 +6,7 @@ use Rattle.rules.specs.declared.answer.Verdict.{Verdict}
 use Rattle.rules.specs.declared.answer.Verdict.the-variants.{Accepted, Refused}
 use Rattle.rules.specs.Personality.{groupCount, verdictOf}
 use Rattle.rules.specs.Site.{siteOf}
-use Rattle.board_answers.specs.Answers.{packed, packedVerdict}
+use Rattle.board_answers.specs.Answers.{packed}
 use Rattle.board_answers.proofs.Answers.{read-refused}
 use Rattle.board_read.specs.GroupsCall.{groupsFor, groupsAnswer}
 

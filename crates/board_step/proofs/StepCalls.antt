@@ -14,7 +14,7 @@ use Rattle.rules.specs.Personality.{phaseCount, movementCount, hasEarly, verdic
 use Rattle.rules.specs.Site.{siteOf}
 use Rattle.rules.specs.SiteTimes.{under}
 use Rattle.rules.specs.Timed.{keptOf, ruledSite, rulingNext, takesOver, timedStepped}
-use Rattle.rules.specs.Call.{wired, strayInput, stepVerdict, boundFor, handedBack, bufferFor}
+use Rattle.rules.specs.Call.{strayInput, stepVerdict, boundFor, handedBack, bufferFor}
 use Rattle.rules.specs.Laws.{AcceptedIsSound}
 use Rattle.laws.proofs.Booleans.{and-left, and-right}
 use Rattle.proof_acceptance.proofs.Acceptance.{accepted-is-sound}

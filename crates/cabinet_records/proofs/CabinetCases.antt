@@ -11,7 +11,7 @@ use Rattle.cabinet_records.specs.CabinetCases.{answersOf, outputsAfter, 
 
 pub cabinet-cases-hold : CabinetCasesHold
 unfolding
-    opened partsOf reportOf stepReportOf waitOf timedEncoded timedDecoded isTimed packed packedVerdict packedOutcome isStateOf stepChecks steppedIn stepAnswer stateAfter coloursAfter
+    opened partsOf timedEncoded timedDecoded isTimed packed packedVerdict packedOutcome isStateOf stepChecks steppedIn stepAnswer stateAfter coloursAfter
     isFree personalityOf freeRecord holding withState recordOf hasRecord outputsOf pastLast isAccepted hasOutputs meet meetsRecord overlaps isShort writtenAt
     outputsIn ownOutputs placingVerdict heldVerdict takingVerdict returnedFor placing stepped stepping takingOut doing answersOf outputsAfter answersEach fourFree
     redOutputs beyond stateless oldBytes refusedSite oddRow placedRow retimedRow cases CabinetCasesHold

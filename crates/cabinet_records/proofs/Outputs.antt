@@ -13,7 +13,6 @@ use lib.Seq.{getD-append-add, getD-take, getD-drop, take-at, drop-at, drop-drop}
 use Rattle.rules.specs.declared.answer.Verdict.{Verdict}
 use Rattle.rules.specs.declared.answer.Verdict.the-variants.{Accepted, Refused}
 use Rattle.laws.specs.Bytes.{byteAt}
-use Rattle.laws.specs.Ground.{if_then_else_}
 use Rattle.rules.specs.Verdicts.{_orElse_, refuseIf}
 use Rattle.rules.specs.Personality.{verdictOf}
 use Rattle.rules.specs.Site.{siteOf}

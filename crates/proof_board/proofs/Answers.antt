@@ -4,7 +4,6 @@ use mathlib.Core.Bool.{true}
 use mathlib.Core.List.{List}
 use mathlib.Core.Logic.{inl, inr, ⊎-elim}
 use mathlib.Core.Path.{_≡_, refl}
-use native.Mathlib.Nat.{zero-add, add-zero}
 use native.Mathlib.Omega.{arith}
 use borrow.Author.Tests.{eqb-true, ne-eqb}
 use lib.Dec.{eqb}
@@ -55,8 +54,8 @@ outcome-stepped wait = rw (low-part 0 wait (omega arith), high-part 0 wait (omeg
 
 outcome-for : (v : Verdict) (wait : ℕ) → Refusals Fits v → outcomeIn (packedOutcome (boundFor v wait)) ≡ boundFor v wait
 unfolding boundFor packedOutcome
-outcome-for Accepted wait fits = rw (zero-add wait) (outcome-stepped wait)
-outcome-for (Refused number place) wait fits = rw (add-zero place) (outcome-refused number place (fits number place refl))
+outcome-for Accepted wait fits = outcome-stepped wait
+outcome-for (Refused number place) wait fits = outcome-refused number place (fits number place refl)
 
 verdict-for : (v : Verdict) → Refusals Fits v → verdictIn (packedVerdict v) ≡ v
 unfolding packedVerdict packed verdictIn

@@ -1,10 +1,9 @@
 -- Every refusal has a written number and place; and stepping and new times answer the first refusal in the order of their checks.
 use Prim.Native.Nat.{ℕ, _+_, _*_, _%_, _/_, _<_}
-use mathlib.Core.Bool.{Bool, true, false, not, _&&_, _||_}
+use mathlib.Core.Bool.{Bool, true, false, not, _||_}
 use mathlib.Core.List.{List}
 use mathlib.Core.Logic.{_⊎_, inl, inr, ⊎-elim}
-use mathlib.Core.Path.{_≡_, refl, sym, subst, ap}
-use native.Mathlib.Nat.{add-zero}
+use mathlib.Core.Path.{_≡_, refl, sym, subst}
 use native.Mathlib.Omega.{arith}
 use borrow.Author.Tests.{eqb-true, ltb-false, lt-ltb, le-ltb}
 use lib.Dec.{ltb, eqb}
@@ -58,7 +57,7 @@ module _ (Allowed : ℕ → ℕ → Type 0) (fits : (n p : ℕ) → Allowed n p 
   outcome-told : (v : Verdict) (wait : ℕ) → Refusals Allowed v → ToldAnswer Allowed (packedOutcome (boundFor v wait))
   unfolding boundFor packedOutcome packed
   outcome-told Accepted wait told = λ refused. absurd (refused (omega arith))
-  outcome-told (Refused n p) wait told = rw (add-zero p) (packed-told n p (told n p refl))
+  outcome-told (Refused n p) wait told = packed-told n p (told n p refl)
 
 -- ── The calls of the cabinet ──
 
@@ -199,7 +198,7 @@ returned-answer :
     returnedFor v done row out .answer ≡ packedOutcome (boundFor (v orElse w) wait)
 unfolding returnedFor _orElse_ boundFor packedVerdict packedOutcome
 returned-answer Accepted w wait done row out h = h refl
-returned-answer (Refused number at) w wait done row out h = rw (add-zero at)
+returned-answer (Refused number at) w wait done row out h = refl
 
 pub stepping-answers : SteppingAnswers
 unfolding SteppingAnswers steppingVerdict stepping stepped steppedIn

@@ -73,7 +73,7 @@ unfoldable pub changes : List ℕ → (ℕ → ℕ) → (ℕ → List (List ℕ)
 changes b inputs handed n = changesIn sameTold (linesFrom 1 (takenFrom byRules b (byRules .fresh b) (callsFrom b inputs handed 1 n)))
 
 -- the same of step calls alone, without the waits
-abbrev unsaid : Told → Line
+abbrev pub unsaid : Told → Line
 unsaid (l reports wait) = l
 
 unfoldable pub plainChanges : List ℕ → (ℕ → ℕ) → ℕ → List Line

@@ -1,5 +1,5 @@
 -- Lists of step calls alone: the personality's own times rule in every state, and no step is a change. So demand 3 gives the demand for them.
-use Prim.Native.Nat.{ℕ, zero, suc, _+_, _≤_}
+use Prim.Native.Nat.{ℕ, zero, suc, _≤_}
 use mathlib.Core.Bool.{Bool, true, false}
 use mathlib.Core.List.{List, [], _∷_, _++_, map, append-assoc}
 use mathlib.Core.Path.{_≡_, refl, sym, subst, ap, _∙_}

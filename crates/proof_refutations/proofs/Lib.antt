@@ -1,3 +1,4 @@
 pub mod Violations
 pub mod Witnesses
+pub mod Quickly
 pub mod Refutations

@@ -3,3 +3,4 @@ pub mod Flow
 pub mod Steps
 pub mod Runs
 pub mod Refusals
+pub mod RoadCases

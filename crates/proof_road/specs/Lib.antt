@@ -1,1 +1,2 @@
 pub mod Roads
+pub mod RoadCases

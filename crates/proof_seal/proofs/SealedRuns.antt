@@ -10,7 +10,7 @@ use Rattle.rules.specs.declared.answer.Verdict.the-variants.{Accepted, Refused}
 use Rattle.rules.specs.Personality.{verdictOf}
 use Rattle.rules.specs.Site.{timesIn, siteOf}
 use Rattle.rules.specs.Timed.{TimedState, freshTimed, timedValid, timedStepped}
-use Rattle.rules.specs.Call.{boundFor, handedBack, checksBy}
+use Rattle.rules.specs.Call.{handedBack, checksBy}
 use Rattle.rules.specs.TimedCall.{timedVerdict, retimeChecksBy, retimeVerdict, retimed}
 use Rattle.rules.specs.TimedLaws.{FreshIsValid, StepKeepsValid, RetimeKeepsValid}
 use Rattle.rules.specs.Runs.{Call, stepCall, retimeCall, leftBy}

@@ -1,5 +1,5 @@
 -- Part b with changes of times: a group that was green is cleared by the times in force when its green ended, be it a vehicle or a pedestrian group.
-use Prim.Native.Nat.{ℕ, _+_}
+use Prim.Native.Nat.{ℕ}
 use mathlib.Core.Bool.{Bool, true, false}
 use mathlib.Core.List.{List, _∷_, _++_, append-assoc}
 use mathlib.Core.Path.{_≡_, refl, sym, subst, _∙_}

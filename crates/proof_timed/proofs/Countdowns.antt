@@ -1,6 +1,6 @@
 -- The steps from a group's last green to a conflicting group's green, and two inductions over them. A colour that counts down while the phase is
 -- one of the group's is shown in a row, and all before the conflicting green; and red lasts if each step keeps it.
-use Prim.Native.Nat.{ℕ, zero, suc, _+_}
+use Prim.Native.Nat.{ℕ, zero, suc}
 use mathlib.Core.Bool.{Bool, true, false}
 use mathlib.Core.List.{List, [], _∷_, _++_}
 use mathlib.Core.Path.{_≡_, refl, ap₂, subst, _∙_}

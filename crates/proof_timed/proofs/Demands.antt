@@ -1,6 +1,5 @@
 -- Locked and button demands are met within the wait bound, through changes of times within the sum: each is met within its own wait, which is no more.
 use mathlib.Core.List.{List}
-use mathlib.Core.Path.{sym, _∙_}
 use native.Mathlib.Omega.{arith}
 use Rattle.rules.specs.declared.site.Site.{Site}
 use Rattle.rules.specs.Laws.{Sound}

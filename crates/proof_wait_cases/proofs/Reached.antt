@@ -12,12 +12,13 @@ use Rattle.rules.specs.declared.state.Interval.{Interval}
 use Rattle.rules.specs.declared.state.Interval.the-variants.{MinimumGreen, Running, EarlyCutOff}
 use Rattle.rules.specs.Site.{siteOf, timesIn}
 use Rattle.rules.specs.State.{idle}
-use Rattle.rules.specs.Timed.{TimedState, noneWaiting}
+use Rattle.rules.specs.Timed.{TimedState, noneWaiting, freshTimed}
 use Rattle.rules.specs.Waits.{phaseWait, movementWait}
-use Rattle.rules.specs.Runs.{byRules, Call, Step, leftBy}
+use Rattle.rules.specs.Demands.{registersLock, registersButton}
+use Rattle.rules.specs.Runs.{byRules, Call, Step, leftBy, acceptedSteps}
 use Rattle.rules.specs.DemandThree.{minimumGreenBegins, walkBegins, someStep}
 use Rattle.rules.proofs.Opened.{opened}
-use Rattle.rules.specs.Demands.{registersLock, registersButton}
+use Rattle.proof_quick_runs.proofs.QuickRuns.{timesFit, callsFit, quickRules, rules-quickly}
 use Rattle.proof_wait_cases.specs.Examples.{staggered}
 use Rattle.proof_wait_cases.specs.WaitCases.{saturated, saturatedFrom, saturatedCalls, saturatedSteps, passing, firstPasses, WaitsFor, WaitsReached}
 use Rattle.proof_wait_cases.proofs.Parts.{stepsOf, steps-append, drop-part, first-part, passing-part, some-part}
@@ -62,14 +63,14 @@ locking step = registersLock (siteOf staggered) (step .before) (step .inputs) 0
 
 -- the steps of a part
 abbrev part : TimedState → List Call → List Step
-part = stepsOf byRules staggered
+part = stepsOf quickRules staggered
 
 -- the state that a part leads to, how many steps it has, whether its first registers the button demand and the lock, and whether a walk and a minimum
 -- green of A begin in it
 shows : TimedState → List Call → TimedState × ℕ × Bool × Bool × Bool × Bool
 shows s calls =
     let steps = part s calls in (
-      leftBy byRules staggered s calls,
+      leftBy quickRules staggered s calls,
       length steps,
       firstPasses pressing steps,
       firstPasses locking steps,
@@ -78,7 +79,7 @@ shows s calls =
     )
 
 abbrev start : TimedState
-start = byRules .fresh staggered
+start = freshTimed (siteOf staggered)
 
 one : shows start (saturatedFrom 1 40) ≡ (first, 40, false, true, false, true)
 unfolding opened staggered saturated saturatedFrom stepsOf standing first shows firstPasses
@@ -127,25 +128,39 @@ module _ (calls : List Call) where
   after-one : part start (saturatedFrom 1 40 ++ calls) ≡ partOne ++ part first calls
   unfolding shows
   after-one =
-      steps-append byRules staggered start (saturatedFrom 1 40) calls
+      steps-append quickRules staggered start (saturatedFrom 1 40) calls
       ∙ ap (λ (s : TimedState). partOne ++ part s calls) (λ i. one i .0)
 
   after-two : part first (saturatedFrom 41 235 ++ calls) ≡ partTwo ++ part second calls
   unfolding shows
   after-two =
-      steps-append byRules staggered first (saturatedFrom 41 235) calls
+      steps-append quickRules staggered first (saturatedFrom 41 235) calls
       ∙ ap (λ (s : TimedState). partTwo ++ part s calls) (λ i. two i .0)
 
   after-three : part second (saturatedFrom 276 279 ++ calls) ≡ partThree ++ part third calls
   unfolding shows
   after-three =
-      steps-append byRules staggered second (saturatedFrom 276 279) calls
+      steps-append quickRules staggered second (saturatedFrom 276 279) calls
       ∙ ap (λ (s : TimedState). partThree ++ part s calls) (λ i. three i .0)
 
+-- the times fit, so that the run may be computed without the test of the times
+own-fit : timesFit (siteOf staggered) start ≡ true
+unfolding opened staggered
+own-fit = refl
+
+calls-fit : callsFit (siteOf staggered) saturatedCalls ≡ true
+unfolding saturatedCalls saturatedFrom callsFit
+calls-fit = refl
+
+quick-steps : saturatedSteps ≡ part start saturatedCalls
+unfolding saturatedSteps stepsOf byRules
+quick-steps = ap acceptedSteps (rules-quickly staggered own-fit saturatedCalls calls-fit)
+
 all-parts : saturatedSteps ≡ partOne ++ (partTwo ++ (partThree ++ partFour))
-unfolding saturatedSteps saturatedCalls stepsOf
+unfolding saturatedCalls
 all-parts =
-    after-one (saturatedFrom 41 235 ++ (saturatedFrom 276 279 ++ saturatedFrom 555 278))
+    quick-steps
+    ∙ after-one (saturatedFrom 41 235 ++ (saturatedFrom 276 279 ++ saturatedFrom 555 278))
     ∙ ap (λ (l : List Step). partOne ++ l) (after-two (saturatedFrom 276 279 ++ saturatedFrom 555 278))
     ∙ ap (λ (l : List Step). partOne ++ (partTwo ++ l)) (after-three (saturatedFrom 555 278))
 

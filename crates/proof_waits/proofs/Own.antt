@@ -1,6 +1,6 @@
 -- The late start of a demanded phase, for any measure of the way ahead: once the phase starts only that is left before its minimum green.
 use Prim.Native.Nat.{ℕ, suc, _+_, _-_, _≤_, _<_}
-use mathlib.Core.Bool.{Bool, true, false, not, _&&_, _||_, and-or-distrib-left}
+use mathlib.Core.Bool.{Bool, true, false, not, _&&_, and-or-distrib-left}
 use mathlib.Core.Logic.{_⊎_, inl, inr, ⊎-elim}
 use mathlib.Core.Path.{_≡_, refl, sym, ap, subst, _∙_}
 use native.Mathlib.Omega.{arith}

@@ -1,7 +1,7 @@
 -- What the tiles hold: the rows of a band are the bytes of its records, and so the conflict sets or the phase sets of its groups.
 use Prim.Native.Nat.{ℕ, _+_, _*_, _<_}
 use mathlib.Core.List.{List}
-use mathlib.Core.Path.{_≡_, sym, ap, _∙_}
+use mathlib.Core.Path.{sym, ap, _∙_}
 use native.Mathlib.Nat.{add-mul}
 use native.Mathlib.Omega.{arith}
 use Rattle.laws.specs.Bytes.{byteAt, bit}

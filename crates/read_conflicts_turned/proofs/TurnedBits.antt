@@ -10,7 +10,7 @@ use lib.ListN.{getD}
 use Rattle.laws.specs.Bytes.{byteAt, twoAt, fourAt, bit}
 use Rattle.laws.proofs.Bits.{bit-lower, bit-down}
 use Rattle.laws.proofs.Bytes.{four-bit}
-use Rattle.rules.specs.Personality.{groupCount, groupSet, conflictSet}
+use Rattle.rules.specs.Personality.{groupCount}
 use Rattle.read_conflicts_matrix.specs.Matrix.{ConflictRows, SetRows}
 use Rattle.read_conflicts_turned.specs.Turned.{turnedBit, TurnedTile, TurnedTiles, RowOf, TurnedRow}
 

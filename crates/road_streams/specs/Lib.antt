@@ -1,2 +1,1 @@
 pub mod Road
-pub mod RoadCases

@@ -1,12 +1,11 @@
 -- A step call: from personality bytes, a state, 64 input bits and a colour buffer of any content to the answer and the buffer afterwards.
-use Rattle.laws.specs.Ground.{ℕ, _+_, Bool, not, _&&_, _||_, List, _++_, leb, ltb, length, drop}
-use Rattle.rules.specs.Types.{Outcome, Stepped, StepRefused, Verdict, Accepted, Refused, Site, KeptState, State}
+use Rattle.laws.specs.Ground.{ℕ, _+_, Bool, not, _&&_, _||_, List, _++_, leb, ltb, drop}
+use Rattle.rules.specs.Types.{Outcome, Stepped, StepRefused, Verdict, Accepted, Refused, Site, State}
 use Rattle.laws.specs.Folds.{anyOf}
 use Rattle.laws.specs.Bytes.{bit}
 use Rattle.rules.specs.Verdicts.{_orElse_, refuseIf}
 use Rattle.rules.specs.Personality.{verdictOf}
 use Rattle.rules.specs.Site.{siteOf}
-use Rattle.rules.specs.Kept.{keptValid, keptStepped}
 use Rattle.rules.specs.Colours.{coloursOf}
 use Rattle.rules.specs.WaitBound.{waitBound}
 

@@ -3,9 +3,9 @@ use Rattle.laws.specs.Ground.{ℕ, _+_, _≤_, _<_, Bool, true, false, not, _&&
 use Rattle.rules.specs.Types.{Verdict, Site, State}
 use Rattle.rules.specs.Verdicts.{_orElse_, refuseIf}
 use Rattle.rules.specs.Site.{siteOf, phaseTimes, walkTimes, isPedestrian, movementOf, conflict}
-use Rattle.rules.specs.IntervalTable.{isMinimumGreen, isRunning, isWalk}
+use Rattle.rules.specs.IntervalTable.{isMinimumGreen, isWalk}
 use Rattle.rules.specs.State.{movement}
-use Rattle.rules.specs.Demands.{pressed, locking, detected, registersLock, registersButton}
+use Rattle.rules.specs.Demands.{registersLock, registersButton}
 use Rattle.rules.specs.Colours.{red, yellow, green, flashing}
 use Rattle.rules.specs.WaitBound.{waitBound}
 use Rattle.rules.specs.Call.{strayInput, boundFor}

@@ -10,7 +10,7 @@ use Rattle.rules.specs.Demands.{demanded, registersLock, registersButton
 use Rattle.rules.specs.WaitBound.{waitBound}
 use Rattle.rules.specs.Waits.{turnOf, phaseWaitBy, movementWaitBy, phaseWait, movementWait, phaseOfMovement}
 use Rattle.rules.specs.Runs.{Step, Controller, byRules, acceptedSteps, siteAfter, OfEveryRun}
-use Rattle.rules.specs.DemandThree.{inMinimumGreen, minimumGreenBegins, walkBegins, someStep, changedWaits}
+use Rattle.rules.specs.DemandThree.{minimumGreenBegins, walkBegins, someStep, changedWaits}
 
 -- ── A demand that lasts ──
 

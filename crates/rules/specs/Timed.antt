@@ -1,6 +1,6 @@
 -- New times while running. The state has the times that rule, and beside them times that may wait. Waiting times rule from the next start
 -- of a phase on.
-use Rattle.laws.specs.Ground.{ℕ, Bool, true, false, _&&_, if_then_else_}
+use Rattle.laws.specs.Ground.{ℕ, Bool, false, _&&_, if_then_else_}
 use Rattle.rules.specs.Types.{Site, Times, KeptState, State}
 use Rattle.rules.specs.Site.{phaseTimes}
 use Rattle.rules.specs.SiteTimes.{under, noTimes, admitted, blank}

@@ -5,10 +5,9 @@ use Rattle.laws.specs.Bytes.{byteAt}
 use Rattle.laws.specs.Folds.{anyOf}
 use Rattle.rules.specs.Verdicts.{_orElse_, refuseIf}
 use Rattle.rules.specs.Personality.{bodyAt, phasesHead, groupsHead, pedestriansHead, earlyHead, hasEarly, orderHead, verdictOf}
-use Rattle.rules.specs.Site.{timesIn, siteOf}
-use Rattle.rules.specs.Timed.{TimedState, ruledSite, timedValid, timedStepped}
-use Rattle.rules.specs.WaitBound.{waitBound}
-use Rattle.rules.specs.Call.{boundFor, handedBack, bufferFor, checksBy}
+use Rattle.rules.specs.Site.{siteOf}
+use Rattle.rules.specs.Timed.{TimedState, timedValid}
+use Rattle.rules.specs.Call.{checksBy}
 
 -- ── The step call ──
 

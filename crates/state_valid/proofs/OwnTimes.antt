@@ -9,7 +9,7 @@ use Rattle.rules.specs.declared.answer.Verdict.the-variants.{Accepted}
 use Rattle.rules.specs.Limits.{limits}
 use Rattle.rules.specs.Personality.{phaseCount, movementCount, hasEarly, editionOf, verdictOf}
 use Rattle.rules.specs.Site.{noPhaseTimes, noWalkTimes, phaseTimesAt, walkTimesAt, timesIn, siteOf, phaseTimes, walkTimes}
-use Rattle.rules.specs.SiteTimes.{recordLimits, phaseWithin, walkWithin, timesWithin, admitted}
+use Rattle.rules.specs.SiteTimes.{recordLimits, phaseWithin, walkWithin, admitted}
 use Rattle.rules.specs.TimedLaws.{AcceptedIsAdmitted}
 use Rattle.laws.proofs.Folds.{all-at}
 use Rattle.laws.proofs.Lists.{row-at}

@@ -1,8 +1,7 @@
 -- A movement record passes by whether it is idle.
 use mathlib.Core.Bool.{Bool, true, false, not, _&&_, and-assoc, and-true, and-false, or-true, or-false}
-use mathlib.Core.List.{List, [], _∷_}
 use mathlib.Core.Logic.{⊎-elim}
-use mathlib.Core.Path.{_≡_, sym, _∙_}
+use mathlib.Core.Path.{_≡_}
 use lib.Dec.{eqb}
 use borrow.Author.Tests.{eqb-true}
 use Rattle.rules.specs.declared.state.Interval.{Interval}

@@ -1,8 +1,5 @@
 -- `road_step::release` meets its contract: green is released by `road_streams::released`, and any other colour sets the count to 0.
-use Prim.Native.Nat.{ℕ}
-use mathlib.Core.List.{List}
-use mathlib.Core.Path.{sym, ap, _∙_}
-use Rattle.road_streams.specs.declared.Traffic.{Traffic}
+use mathlib.Core.Path.{ap, _∙_}
 use Rattle.road_streams.specs.Road.{released}
 use Rattle.road_step.specs.Cells.{putAt}
 use Rattle.road_step.proofs.Cells.{count-cleared}

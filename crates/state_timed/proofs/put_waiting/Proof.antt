@@ -6,7 +6,6 @@ use Rattle.laws.specs.Bytes.{byteAt}
 use Rattle.state_forms.specs.Forms.{AreBytes}
 use Rattle.state_timed.proofs.TimedLaws.{TimedKnown, timed-known}
 use Rattle.state_timed.proofs.TimedWritten.{waiting-written}
-use borrow.Author.Needs.{needs}
 use Rattle.state_timed.proofs.put_waiting.Statement.{statement}
 use Rattle.state_timed.proofs.put_waiting.Tie as tie
 

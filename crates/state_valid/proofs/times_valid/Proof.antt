@@ -9,7 +9,6 @@ use Rattle.rules.specs.SiteTimes.{admitted}
 use Rattle.state_times.specs.TimesLayout.{times}
 use Rattle.state_timed.proofs.TimedLaws.{TimedKnown, timed-known}
 use Rattle.state_valid.proofs.StateTimes.{ruling-fails, none-wait, some-wait}
-use borrow.Author.Needs.{needs}
 use Rattle.state_valid.proofs.times_valid.Statement.{statement}
 use Rattle.state_valid.proofs.times_valid.Tie as tie
 

@@ -1,7 +1,6 @@
 -- `step_valid::valid` meets its contract: its four tests are those of the rule.
 use borrow.Author.Needs.{needs}
-use Rattle.rules.specs.Site.{phaseTimes}
-use Rattle.rules.specs.State.{positionValid, countsValid, demandsValid, movementsValid, valid}
+use Rattle.rules.specs.State.{valid}
 use Rattle.step_valid.proofs.valid.Statement.{statement}
 use Rattle.step_valid.proofs.valid.Tie as tie
 

@@ -1,5 +1,4 @@
 -- `records::bad_conflict` meets its contract: the set is tested against the groups that name g as a whole.
-use mathlib.Core.Path.{_∙_}
 use Rattle.read_conflicts.proofs.ComparedSets.{named-tested}
 use borrow.Author.Needs.{needs}
 use Rattle.read_conflicts.proofs.records.bad_conflict.Statement.{statement}

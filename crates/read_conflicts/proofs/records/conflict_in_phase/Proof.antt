@@ -1,5 +1,4 @@
 -- `records::conflict_in_phase` meets its contract: the set is tested against the groups that share a phase with g as a whole.
-use mathlib.Core.Path.{_≡_, sym, ap, _∙_}
 use native.Mathlib.Omega.{arith}
 use Rattle.read_conflicts.proofs.ComparedSets.{members-tested}
 use borrow.Author.Needs.{needs}

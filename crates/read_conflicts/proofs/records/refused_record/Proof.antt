@@ -1,5 +1,4 @@
 -- `records::refused_record` meets its contract, number by number: the sets that are turned are those that the test of the number needs.
-use mathlib.Core.Path.{_∙_}
 use native.Mathlib.Omega.{arith}
 use borrow.Author.Tests.{eq-eqb, ne-eqb}
 use Rattle.read_conflicts.specs.Refused.{refusedRecord}

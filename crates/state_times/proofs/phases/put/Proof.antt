@@ -1,7 +1,7 @@
 -- `state_times::phases::put` meets its contract. The invariant: the records passed are stored from the place on. The measure is the number left.
-use Prim.Native.Nat.{_-_, _<_}
+use Prim.Native.Nat.{_-_}
 use mathlib.Core.List.{map}
-use mathlib.Core.Path.{_≡_, refl, sym, ap}
+use mathlib.Core.Path.{refl, sym, ap}
 use lib.ListN.{getD, List·getD-map}
 use Rattle.rules.specs.Site.{noPhaseTimes}
 use Rattle.state_forms.specs.Forms.{partsOf}

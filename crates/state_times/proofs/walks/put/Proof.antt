@@ -1,7 +1,7 @@
 -- `state_times::walks::put` meets its contract. The invariant: the records passed are stored from the place on. The measure is the number left.
-use Prim.Native.Nat.{_-_, _<_}
-use mathlib.Core.Path.{refl, ap}
-use lib.ListN.{length, getD}
+use Prim.Native.Nat.{_-_}
+use mathlib.Core.Path.{refl}
+use lib.ListN.{getD}
 use Rattle.rules.specs.Site.{noWalkTimes}
 use Rattle.state_forms.specs.Forms.{partsOf}
 use Rattle.laws.proofs.Arrays.{Stored, stored-none, stored-length, stored-all}
