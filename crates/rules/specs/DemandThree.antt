@@ -138,6 +138,7 @@ NoDeadEnd read b calls = (earlier later : List Taken) (call : Taken) → calls �
 
 pub record SafeRun (read : List ℕ → Verdict) (b : List ℕ) (calls : List Taken) : Type 0 where
   pub noConflictingGreens : NoConflictingGreens (siteOf b) (acceptedSteps calls)
+  -- by the times that rule after the group's last green step
   pub fullClearances : FullClearances (siteAfter (siteOf b)) (siteOf b) (acceptedSteps calls)
   pub demandsMet : DemandsMet (siteOf b) (acceptedSteps calls)
   pub noDeadEnd : NoDeadEnd read b calls

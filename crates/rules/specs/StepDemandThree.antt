@@ -8,8 +8,6 @@ use Rattle.rules.specs.Runs.{Controller, byRules, StepCall, stepCall, St
 use Rattle.rules.specs.DemandThree.{NoConflictingGreens, FullClearances, minimumGreenBegins, walkBegins, someStep, ownVerdict, DemandThree}
 use Rattle.rules.specs.Demands.{registersLock, registersButton}
 
--- ── Part b: the clearances go by the site's own times ──
-
 -- ── Part c: every demand that a step registers is met within the wait bound ──
 
 -- the event comes in the step or within n of the later ones
@@ -39,6 +37,7 @@ AnswersBound site calls =
 
 pub record SafeStepRun (site : Site) (calls : List Taken) : Type 0 where
   pub noConflictingGreens : NoConflictingGreens site (acceptedSteps calls)
+  -- by the site's own times
   pub fullClearances : FullClearances (λ last. site) site (acceptedSteps calls)
   pub demandsMet : MetWithin site (waitBound site) (acceptedSteps calls)
   pub noDeadEnd : AnswersBound site calls
