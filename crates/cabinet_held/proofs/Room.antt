@@ -7,22 +7,20 @@ use lib.ListN.{length, take, length-take}
 use lib.Seq.{take-all}
 use Rattle.rules.specs.Laws.{greatestLength}
 use Rattle.laws.proofs.Indices.{below-or-past}
+use Rattle.state_forms.specs.Forms.{two}
 use Rattle.cabinet_records.specs.declared.Record.{Record}
-use Rattle.cabinet_records.specs.Cabinet.{personalityOf}
+use Rattle.cabinet_records.specs.Cabinet.{lengthOf, personalityOf}
 
-module _ (r : Record) (long : length (r .personality) ≡ greatestLength) {n : ℕ} (e : n ≡ min (r .size) greatestLength) where
-  pub room-within : n ≤ length (r .personality)
-  room-within = omega (arith, e, long)
-
+module _ (r : Record) (long : length (r .personality) ≡ greatestLength) {n : ℕ} (e : n ≡ min (two .read (r .length) 0) greatestLength) where
   pub room-length : n ≡ length (take n (r .personality))
   room-length = omega (arith, e, long, length-take n (r .personality))
 
   -- a length above the room counts as the room
   pub room-part : take n (r .personality) ≡ personalityOf r
-  unfolding personalityOf
+  unfolding personalityOf lengthOf
   room-part =
       ⊎-elim
-      (λ (l : r .size < greatestLength). let same : n ≡ r .size = omega (arith, e) in ap (λ (m : ℕ). take m (r .personality)) same)
-      (λ (l : greatestLength ≤ r .size).
-      take-all n (r .personality) (omega (arith, e, long)) ∙ sym (take-all (r .size) (r .personality) (omega (arith, long))))
-      (below-or-past (r .size) greatestLength)
+      (λ (l : lengthOf r < greatestLength). let same : n ≡ lengthOf r = omega (arith, e) in ap (λ (m : ℕ). take m (r .personality)) same)
+      (λ (l : greatestLength ≤ lengthOf r).
+      take-all n (r .personality) (omega (arith, e, long)) ∙ sym (take-all (lengthOf r) (r .personality) (omega (arith, long))))
+      (below-or-past (lengthOf r) greatestLength)

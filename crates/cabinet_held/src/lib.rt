@@ -1,11 +1,11 @@
-// The calls of a cabinet on the personality that a record holds: what they check, and what they write to the outputs. They take slices, so
-// that a row of structs and a row of bytes share them.
+// The calls of a cabinet on the personality that a record holds: what they check, and what they write to the outputs.
 ghost use Prim.Native.Nat.{min};
 ghost use mathlib.Core.Bool.{_&&_};
 ghost use mathlib.Core.Path.{_≡_};
 ghost use lib.ListN.{length};
 ghost use Rattle.rules.specs.Laws.{greatestLength};
 ghost use Rattle.rules.specs.Personality.{verdictOf};
+ghost use Rattle.state_forms.specs.Forms.{two};
 ghost use Rattle.board_answers.specs.Answers.{packedVerdict};
 ghost use Rattle.cabinet_records.specs.Cabinet.{outputsOf, isAccepted, meet, pastLast};
 ghost use Rattle.cabinet_held.specs.Held.{Near, heldChecks, takingChecks, darkened, heldStep};
@@ -20,11 +20,12 @@ const RED: u8 = 0;
 
 const DARK: u8 = 4;
 
-// How many bytes of its room the personality of a record has. A length above the room counts as the room.
-pub fn held_size(size: u16) -> usize
-    ensures { λ r. ⌜ r ≡ min size greatestLength ⌝ }
+// How many bytes of its room the personality of a record has, by the two bytes of its length. A length above the room counts as the room.
+pub fn held_size(size: &[u8; 2]) -> usize
+    ensures { λ r. ⌜ r ≡ min (two .read (now (size .entry)) 0) greatestLength ⌝ }
 {
-    if size < 477 { size as usize } else { 477 }
+    let told = base_bytes::two_at(size, 0);
+    if told < 477 { told as usize } else { 477 }
 }
 
 // How many outputs a personality has.

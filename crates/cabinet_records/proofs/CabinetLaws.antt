@@ -27,7 +27,7 @@ abbrev pub Written : List Record → ℕ → List Record → Type 0
 Written row k after = (after ≡ row) ⊎ ((r : Record) × (after ≡ set row k r))
 
 written-for :
-    (v : Verdict) (done : Returned (List Record)) (row : List Record) (out : List ℕ) (k : ℕ) (r : Record) →
+    (v : Verdict) (done : Returned) (row : List Record) (out : List ℕ) (k : ℕ) (r : Record) →
     done .row ≡ set row k r →
     Written row k (returnedFor v done row out .row)
 unfolding returnedFor
@@ -59,7 +59,7 @@ others-stay row out act =
 -- ── Other outputs ──
 
 outside-for :
-    (v : Verdict) (done : Returned (List Record)) (row : List Record) (out : List ℕ) {first count : ℕ} →
+    (v : Verdict) (done : Returned) (row : List Record) (out : List ℕ) {first count : ℕ} →
     (v ≡ Accepted → SameOutside first count out (done .outputs)) →
     SameOutside first count out (returnedFor v done row out .outputs)
 unfolding returnedFor
@@ -105,10 +105,10 @@ module _ (b s : List ℕ) (inputs : ℕ) (buffer : List ℕ) where
   unfolding stepAnswer stateAfter coloursAfter
   step-left = left-for (stepChecks b s inputs (length buffer)) _ _ _ _
 
-abbrev Leaves : Returned (List Record) → List Record → List ℕ → Type 0
+abbrev Leaves : Returned → List Record → List ℕ → Type 0
 Leaves done row out = (done .answer % 256 ≡ 0 → ⊥) → (done .row ≡ row) × (done .outputs ≡ out)
 
-leaves-for : (v : Verdict) (done : Returned (List Record)) (row : List Record) (out : List ℕ) → (v ≡ Accepted → Leaves done row out) → Leaves (returnedFor v done row out) row out
+leaves-for : (v : Verdict) (done : Returned) (row : List Record) (out : List ℕ) → (v ≡ Accepted → Leaves done row out) → Leaves (returnedFor v done row out) row out
 unfolding returnedFor
 leaves-for Accepted done row out h = h refl
 leaves-for (Refused number at) done row out h = λ refused. (refl, refl)

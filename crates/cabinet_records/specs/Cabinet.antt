@@ -1,6 +1,6 @@
 -- Request ten of document 02: four sites in one cabinet. The cabinet has a row of four records and 32 outputs. One call places a site, one steps it,
 -- one takes it out. A step does to its record's bytes and to its own outputs what the step call on bytes does (board_step/specs/StepCall.antt).
-use Rattle.laws.specs.Ground.{ℕ, _+_, _-_, Bool, true, false, not, _&&_, _||_, List, [], _++_, eqb, ltb, length, take, drop, getD, replicate, set, if_then_else_}
+use Rattle.laws.specs.Ground.{ℕ, _+_, _-_, Bool, true, false, not, _&&_, _||_, List, [], _++_, _≡_, eqb, ltb, length, take, drop, getD, replicate, set, if_then_else_}
 use Rattle.rules.specs.declared.answer.Verdict.{Verdict}
 use Rattle.rules.specs.declared.answer.Verdict.the-variants.{Accepted, Refused}
 use Rattle.laws.specs.Folds.{anyOf}
@@ -10,6 +10,7 @@ use Rattle.rules.specs.Site.{siteOf}
 use Rattle.rules.specs.Timed.{freshTimed}
 use Rattle.rules.specs.Colours.{red}
 use Rattle.rules.specs.Laws.{greatestLength}
+use Rattle.state_forms.specs.Forms.{two}
 use Rattle.state_timed.specs.TimedLayout.{timedBytes, timedEncoded}
 use Rattle.board_answers.specs.Answers.{packedVerdict}
 use Rattle.board_step.specs.StepCall.{stepAnswer, stateAfter, coloursAfter}
@@ -30,21 +31,38 @@ dark = 4
 unfoldable pub isFree : Record → Bool
 isFree r = eqb (r .held) 0
 
+-- the length of the personality, in two bytes, the lower one first
+unfoldable pub lengthOf : Record → ℕ
+lengthOf r = two .read (r .length) 0
+
 -- the personality that a record holds; a length above the room counts as the room
 unfoldable pub personalityOf : Record → List ℕ
-personalityOf r = take (r .size) (r .personality)
+personalityOf r = take (lengthOf r) (r .personality)
 
 -- a record of zeros
 unfoldable pub freeRecord : Record
-freeRecord = record { held = 0; first = 0; size = 0; personality = replicate greatestLength 0; state = replicate timedBytes 0 }
+freeRecord =
+    record { held = 0; first = 0; length = two .written 0; personality = replicate greatestLength 0; state = replicate timedBytes 0 }
 
 -- a record that holds a personality, with zeros behind it, a first output and the bytes of a state
 unfoldable pub holding : List ℕ → ℕ → List ℕ → Record
 holding b first state =
-    record { held = 1; first = first; size = length b; personality = b ++ replicate (greatestLength - length b) 0; state = state }
+    record {
+      held = 1;
+      first = first;
+      length = two .written (length b);
+      personality = b ++ replicate (greatestLength - length b) 0;
+      state = state;
+    }
 
 unfoldable pub withState : Record → List ℕ → Record
-withState r state = record { held = r .held; first = r .first; size = r .size; personality = r .personality; state = state }
+withState r state = record { held = r .held; first = r .first; length = r .length; personality = r .personality; state = state }
+
+-- the arrays have their lengths; every record of the type is such a record (`cabinet_records::shaped`)
+pub record Shaped (r : Record) : Type 0 where
+  pub size : length (r .length) ≡ two .width
+  pub personality : length (r .personality) ≡ greatestLength
+  pub state : length (r .state) ≡ timedBytes
 
 -- ── The row ──
 
@@ -122,14 +140,14 @@ takingVerdict row out k = heldVerdict row k orElse refuseIf (isShort out) 14 0
 
 -- ── The calls ──
 
--- The answer, and the row and the outputs as the call returns. The row is a list of records, or bytes that hold them.
-pub record Returned (Row : Type 0) : Type 0 where
+-- the answer, and the row and the outputs as the call returns
+pub record Returned : Type 0 where
   pub answer : ℕ
-  pub row : Row
+  pub row : List Record
   pub outputs : List ℕ
 
 -- a refusal leaves the row and the outputs
-unfoldable pub returnedFor : Verdict → Returned (List Record) → List Record → List ℕ → Returned (List Record)
+unfoldable pub returnedFor : Verdict → Returned → List Record → List ℕ → Returned
 returnedFor Accepted done row out = done
 returnedFor (Refused number place) done row out = record { answer = packedVerdict (Refused number place); row = row; outputs = out }
 
@@ -138,7 +156,7 @@ abbrev pub freshBytes : List ℕ → List ℕ
 freshBytes b = timedEncoded (freshTimed (siteOf b))
 
 -- a site begins fresh, with its outputs red
-unfoldable pub placing : List Record → List ℕ → List ℕ → ℕ → ℕ → Returned (List Record)
+unfoldable pub placing : List Record → List ℕ → List ℕ → ℕ → ℕ → Returned
 placing row out b k first =
     returnedFor (placingVerdict row out b k first)
     (record {
@@ -150,7 +168,7 @@ placing row out b k first =
     out
 
 -- the step call on the record's bytes, with a part of the outputs as its colour buffer: it may refuse with 13, 15 or 14
-unfoldable pub stepped : List Record → List ℕ → ℕ → ℕ → Record → List ℕ → Returned (List Record)
+unfoldable pub stepped : List Record → List ℕ → ℕ → ℕ → Record → List ℕ → Returned
 stepped row out k inputs r part =
     record {
       answer = stepAnswer (personalityOf r) (r .state) inputs (length part);
@@ -158,12 +176,12 @@ stepped row out k inputs r part =
       outputs = writtenAt out (r .first) (coloursAfter (personalityOf r) (r .state) inputs part);
     }
 
-unfoldable pub stepping : List Record → List ℕ → ℕ → ℕ → Returned (List Record)
+unfoldable pub stepping : List Record → List ℕ → ℕ → ℕ → Returned
 stepping row out k inputs =
     returnedFor (heldVerdict row k) (stepped row out k inputs (recordOf row k) (ownOutputs (recordOf row k) out)) row out
 
 -- the record is free, and its outputs are dark
-unfoldable pub takingOut : List Record → List ℕ → ℕ → Returned (List Record)
+unfoldable pub takingOut : List Record → List ℕ → ℕ → Returned
 takingOut row out k =
     returnedFor (takingVerdict row out k)
     (record {
@@ -182,7 +200,7 @@ pub data Act : Type 0 where
   stepSite : ℕ → ℕ → Act
   takeOut : ℕ → Act
 
-unfoldable pub doing : List Record → List ℕ → Act → Returned (List Record)
+unfoldable pub doing : List Record → List ℕ → Act → Returned
 doing row out (placeSite b k first) = placing row out b k first
 doing row out (stepSite k inputs) = stepping row out k inputs
 doing row out (takeOut k) = takingOut row out k

@@ -4,6 +4,7 @@ use Rattle.laws.specs.Ground.{ℕ, _-_, List, [], _∷_, _++_, _≡_, length, t
 use Rattle.rules.specs.Junctions.{junction, slower}
 use Rattle.rules.specs.Kept.{freshKept}
 use Rattle.rules.specs.CallCases.{AllHold, ruledBy}
+use Rattle.state_forms.specs.Forms.{two}
 use Rattle.state_timed.specs.TimedLayout.{timedBytes, timedEncoded}
 use Rattle.board_answers.specs.Answers.{packed}
 use Rattle.cabinet_records.specs.declared.Record.{Record}
@@ -14,7 +15,7 @@ use Rattle.cabinet_records.specs.Cabinet.{freeRecord, holding, freshByte
 pub data Case : Type 0 where
   calling : List Record → List ℕ → List Act → List ℕ → List ℕ → Case
   answering : List Record → List ℕ → List Act → List ℕ → Case
-  returning : List Record → List ℕ → Act → Returned (List Record) → Case
+  returning : List Record → List ℕ → Act → Returned → Case
 
 unfoldable pub answersOf : List Record → List ℕ → List Act → List ℕ
 answersOf row out [] = []
@@ -44,19 +45,27 @@ redOutputs = replicate 32 0
 
 -- held by another number than 1; its length is above its room; its second output is the 33rd; its state is none
 unfoldable pub beyond : Record
-beyond = record { held = 7; first = 31; size = 65535; personality = junction; state = [] }
+beyond = record { held = 7; first = 31; length = 255 ∷ 255 ∷ []; personality = junction; state = [] }
 
 -- its state is none, and bytes are left behind its personality
 unfoldable pub stateless : Record
-stateless = record { held = 255; first = 0; size = length junction; personality = junction ++ 9 ∷ 9 ∷ []; state = replicate timedBytes 255 }
+stateless = record { held = 255; first = 0; length = two .written (length junction); personality = junction ++ 9 ∷ 9 ∷ []; state = replicate timedBytes 255 }
 
 -- free, with the bytes of a site in it
 unfoldable pub oldBytes : Record
-oldBytes = record { held = 0; first = 4; size = length junction; personality = junction; state = freshBytes junction }
+oldBytes = record { held = 0; first = 4; length = two .written (length junction); personality = junction; state = freshBytes junction }
 
 -- its personality would be refused: the last head, at 64, is cut
 unfoldable pub refusedSite : Record
-refusedSite = record { held = 1; first = 8; size = length junction - 1; personality = junction; state = freshBytes junction }
+refusedSite = record { held = 1; first = 8; length = two .written (length junction - 1); personality = junction; state = freshBytes junction }
+
+-- the same, and its second output would be the 33rd
+unfoldable pub refusedPast : Record
+refusedPast = record { held = 1; first = 31; length = two .written (length junction - 1); personality = junction; state = freshBytes junction }
+
+-- its length is 324, by its higher byte, and zeros stand behind the junction
+unfoldable pub longer : Record
+longer = record { held = 1; first = 8; length = 68 ∷ 1 ∷ []; personality = junction ++ replicate 409 0; state = freshBytes junction }
 
 unfoldable pub oddRow : List Record
 oddRow = beyond ∷ stateless ∷ oldBytes ∷ refusedSite ∷ []
@@ -113,6 +122,10 @@ cases =
     ∷ takeOut 4
     ∷ [])
     (25 ∷ 25 ∷ 13 ∷ 14 ∷ 24 ∷ 24 ∷ packed 1 64 ∷ packed 1 64 ∷ 24 ∷ 24 ∷ [])
+    -- a held personality is refused for itself, and not for its outputs past the 32nd
+    ∷ answering (set oddRow 3 refusedPast) [] (stepSite 3 4 ∷ takeOut 3 ∷ []) (packed 1 64 ∷ packed 1 64 ∷ [])
+    -- both bytes of a length count
+    ∷ answering (set oddRow 3 longer) redOutputs (stepSite 3 0 ∷ takeOut 3 ∷ []) (packed 12 68 ∷ packed 12 68 ∷ [])
     -- placing without an output buffer: the personality; no such record; not free; past the 32nd output; overlapping one, two; short
     ∷ answering oddRow []
     (placeSite [] 4 99

@@ -1,11 +1,9 @@
 -- What a call of the cabinet leaves alone, stated: every other record, every other output, and on a refusal everything. It holds of any row, whatever its
 -- records hold, and of an output buffer of any length and content.
-use Rattle.laws.specs.Ground.{ℕ, _+_, _*_, _%_, _≤_, _<_, List, _⊎_, _≡_, length}
+use Rattle.laws.specs.Ground.{ℕ, _+_, _%_, _≤_, _<_, List, _⊎_, _≡_, length}
 use Rattle.laws.specs.Bytes.{byteAt}
-use Rattle.state_forms.specs.Forms.{AreBytes}
 use Rattle.cabinet_records.specs.declared.Record.{Record}
 use Rattle.cabinet_records.specs.Cabinet.{personalityOf, recordOf, outputsOf, Act, placeSite, stepSite, takeOut, doing}
-use Rattle.cabinet_records.specs.Layout.{recordBytes, doingBytes}
 
 -- the record that a call names
 unfoldable pub recordNamed : Act → ℕ
@@ -47,21 +45,3 @@ RefusalLeaves =
     (row : List Record) (out : List ℕ) (act : Act) →
     (doing row out act .answer % 256 ≡ 0 → ⊥) →
     (doing row out act .row ≡ row) × (doing row out act .outputs ≡ out)
-
--- ── The same of a row of bytes, of any length ──
-
--- no call alters a byte outside the record that it names, or the number of bytes
-unfoldable pub BytesStay : Type 0
-BytesStay =
-    (b out : List ℕ) (act : Act) →
-    AreBytes b →
-    let from = recordNamed act * recordBytes in
-    ((i : ℕ) → (i < from) ⊎ (from + recordBytes ≤ i) → byteAt (doingBytes b out act .row) i ≡ byteAt b i)
-    × (length (doingBytes b out act .row) ≡ length b)
-
-unfoldable pub RefusalLeavesBytes : Type 0
-RefusalLeavesBytes =
-    (b out : List ℕ) (act : Act) →
-    AreBytes b →
-    (doingBytes b out act .answer % 256 ≡ 0 → ⊥) →
-    (doingBytes b out act .row ≡ b) × (doingBytes b out act .outputs ≡ out)

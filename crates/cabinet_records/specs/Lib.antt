@@ -1,5 +1,3 @@
 pub mod Cabinet
-pub mod CabinetCases
 pub mod CabinetLaws
-pub mod Layout
-pub mod RowRoundTrips
+pub mod CabinetCases

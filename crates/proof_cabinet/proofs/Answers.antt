@@ -113,7 +113,7 @@ module _ (b s : List ℕ) (inputs room : ℕ) where
       (call-refusals b (CabinetWritten b) (λ n p known l. inl (known, l)) (isStateOf b s) inputs room (λ n known. inr (rw known, refl)))
 
 returned-told :
-    (b : List ℕ) (v : Verdict) (done : Returned (List Record)) (row : List Record) (out : List ℕ) →
+    (b : List ℕ) (v : Verdict) (done : Returned) (row : List Record) (out : List ℕ) →
     Refusals (CabinetWritten b) v →
     ToldAnswer (CabinetWritten b) (done .answer) →
     ToldAnswer (CabinetWritten b) (returnedFor v done row out .answer)
@@ -193,7 +193,7 @@ module _ (row : List Record) (out : List ℕ) (k : ℕ) (held : heldVerdict row 
   state-for inputs = rw (held-read row k held, room-for (isShort out) refl)
 
 returned-answer :
-    (v w : Verdict) (wait : ℕ) (done : Returned (List Record)) (row : List Record) (out : List ℕ) →
+    (v w : Verdict) (wait : ℕ) (done : Returned) (row : List Record) (out : List ℕ) →
     (v ≡ Accepted → done .answer ≡ packedOutcome (boundFor w wait)) →
     returnedFor v done row out .answer ≡ packedOutcome (boundFor (v orElse w) wait)
 unfolding returnedFor _orElse_ boundFor packedVerdict packedOutcome

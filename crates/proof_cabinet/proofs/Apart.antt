@@ -15,11 +15,11 @@ use Rattle.laws.proofs.Booleans.{decided, and-false-rest}
 use Rattle.laws.proofs.Indices.{below-or-past, same-or-apart}
 use Rattle.laws.proofs.Folds.{any-false}
 use Rattle.cabinet_records.specs.declared.Record.{Record}
-use Rattle.cabinet_records.specs.Cabinet.{recordCount, isFree, personalityOf, freeRecord, holding, withState, recordOf, outputsOf, isAccepted, hasOutputs, meet, meetsRecord, overlaps, outputsIn, freshBytes, placingVerdict, heldVerdict, takingVerdict, Returned, returnedFor, placing, stepped, stepping, takingOut, Act, placeSite, stepSite, takeOut, doing}
+use Rattle.cabinet_records.specs.Cabinet.{recordCount, isFree, lengthOf, personalityOf, freeRecord, holding, withState, recordOf, outputsOf, isAccepted, hasOutputs, meet, meetsRecord, overlaps, outputsIn, freshBytes, placingVerdict, heldVerdict, takingVerdict, Returned, returnedFor, placing, stepped, stepping, takingOut, Act, placeSite, stepSite, takeOut, doing}
 use Rattle.cabinet_records.proofs.Checks.{row-length, placing-there, placing-clear}
 use Rattle.rules.specs.Runs.{Call}
 use Rattle.proof_cabinet.specs.Operations.{retiming, Operation, cabinetAct, retimeSite, operating}
-use Rattle.proof_cabinet.specs.CabinetRuns.{onRecords, CabinetCall, OwnCall, steps, retimes, nothing, callOn, aloneFor, aloneAt, stateAlone, Clear, Apart, StaysIn, rowAfter, PlacedHolds, PlacedApart}
+use Rattle.proof_cabinet.specs.CabinetRuns.{CabinetCall, OwnCall, steps, retimes, nothing, callOn, aloneFor, aloneAt, stateAlone, Clear, Apart, StaysIn, rowAfter, PlacedHolds, PlacedApart}
 use Rattle.proof_cabinet.proofs.Placed.{holding-personality, Placed, nextFor, own-personality, own-first, own-state, not-free, placed-next}
 use Rattle.proof_cabinet.proofs.Runs.{placing-accepted, placed-row, placed-fresh}
 
@@ -52,7 +52,7 @@ clear-free first count e = absurd (true≢false (sym e))
 
 -- a step alters the state only
 clear-stepped : (first count : ℕ) (r : Record) (s : List ℕ) → Clear first count r → Clear first count (withState r s)
-unfolding Clear hasOutputs personalityOf isFree withState
+unfolding Clear hasOutputs personalityOf lengthOf isFree withState
 clear-stepped first count r s clear = clear
 
 clear-overlaps :
@@ -92,7 +92,7 @@ module _ (k first count : ℕ) where
       (same-or-apart i j)
 
   apart-for :
-      (v : Verdict) (done : Returned (List Record)) (row : List Record) (out : List ℕ) →
+      (v : Verdict) (done : Returned) (row : List Record) (out : List ℕ) →
       Apart k first count row →
       (v ≡ Accepted → Apart k first count (done .row)) →
       Apart k first count (returnedFor v done row out .row)
@@ -169,10 +169,10 @@ module _ (b : List ℕ) (k first : ℕ) where
       (calls : List CabinetCall) (row : List Record) (s : List ℕ) →
       Placed b k first row s →
       Apart k first (outputsOf b) row →
-      StaysIn onRecords k row calls →
-      Placed b k first (rowAfter onRecords row calls) (stateAlone b s (aloneAt k first (outputsOf b) calls))
-      × Apart k first (outputsOf b) (rowAfter onRecords row calls)
-  unfolding rowAfter onRecords stateAlone aloneAt
+      StaysIn k row calls →
+      Placed b k first (rowAfter row calls) (stateAlone b s (aloneAt k first (outputsOf b) calls))
+      × Apart k first (outputsOf b) (rowAfter row calls)
+  unfolding rowAfter stateAlone aloneAt
   still-placed [] row s placed apart stays = (placed, apart)
   still-placed (c ∷ calls) row s placed apart stays =
       let after = operating row (c .outputs) (c .operation) .row in
@@ -182,7 +182,7 @@ module _ (b : List ℕ) (k first : ℕ) where
       still-placed calls after (nextFor b k first s (c .outputs) call) (placed-next b k first row s placed (c .operation) (c .outputs) (stays .0))
       (apart-next b k first row s placed apart (c .operation) (c .outputs))
       (stays .1) in
-      (subst (Placed b k first (rowAfter onRecords after calls)) (next-alone s (c .outputs) rest call) (still .0), still .1)
+      (subst (Placed b k first (rowAfter after calls)) (next-alone s (c .outputs) rest call) (still .0), still .1)
 
 module _ (row : List Record) (out b : List ℕ) (k first : ℕ) (e : placingVerdict row out b k first ≡ Accepted) where
   apart-before : Apart k first (outputsOf b) row
@@ -205,20 +205,20 @@ module _ (row : List Record) (out b : List ℕ) (k first : ℕ) (e : placingVerd
   pub placed-still :
       (calls : List CabinetCall) →
       let begun = placing row out b k first .row in
-      StaysIn onRecords k begun calls →
-      Placed b k first (rowAfter onRecords begun calls) (stateAlone b (freshBytes b) (aloneAt k first (outputsOf b) calls))
-      × Apart k first (outputsOf b) (rowAfter onRecords begun calls)
+      StaysIn k begun calls →
+      Placed b k first (rowAfter begun calls) (stateAlone b (freshBytes b) (aloneAt k first (outputsOf b) calls))
+      × Apart k first (outputsOf b) (rowAfter begun calls)
   placed-still calls stays =
       still-placed b k first calls (placing row out b k first .row) (freshBytes b) (placed-fresh row out b k first e) apart-placed stays
 
-pub placed-holds : PlacedHolds onRecords
-unfolding PlacedHolds onRecords operating doing
+pub placed-holds : PlacedHolds
+unfolding PlacedHolds operating doing
 placed-holds row out b k first answer calls stays =
-    let last = rowAfter onRecords (placing row out b k first .row) calls in
+    let last = rowAfter (placing row out b k first .row) calls in
     let s = stateAlone b (freshBytes b) (aloneAt k first (outputsOf b) calls) in
     let placed = placed-still row out b k first (placing-accepted row out b k first answer) calls stays .0 in
     (not-free b k first last s placed, own-first b k first last s placed, own-personality b k first last s placed, own-state b k first last s placed)
 
-pub placed-apart : PlacedApart onRecords
-unfolding PlacedApart onRecords operating doing
+pub placed-apart : PlacedApart
+unfolding PlacedApart operating doing
 placed-apart row out b k first answer calls stays = placed-still row out b k first (placing-accepted row out b k first answer) calls stays .1

@@ -5,4 +5,3 @@ pub mod Apart
 pub mod Shows
 pub mod Answers
 pub mod Shapes
-pub mod Bytes

@@ -1,6 +1,6 @@
 -- A record that an accepted placing stored stays, except for its state, until it is taken out. A step of it and new times for it do what the call
 -- does alone.
-use Prim.Native.Nat.{ℕ, _+_, _-_, _≤_, _<_}
+use Prim.Native.Nat.{ℕ, _+_, _*_, _-_, _/_, _%_, _≤_, _<_}
 use mathlib.Core.Bool.{Bool, true, false, true≢false}
 use mathlib.Core.List.{List}
 use mathlib.Core.Path.{_≡_, refl, sym, subst, ap, _∙_}
@@ -11,6 +11,7 @@ use lib.ListN.{length, set, replicate, length-set}
 use lib.Seq.{getD-set-same, take-at}
 use Rattle.rules.specs.declared.answer.Verdict.{Verdict}
 use Rattle.rules.specs.declared.answer.Verdict.the-variants.{Accepted, Refused}
+use Rattle.laws.specs.Bytes.{byteAt, twoAt}
 use Rattle.laws.specs.Ground.{if_then_else_}
 use Rattle.rules.specs.Verdicts.{_orElse_, refuseIf}
 use Rattle.rules.specs.Personality.{verdictOf}
@@ -18,7 +19,7 @@ use Rattle.rules.specs.Laws.{greatestLength}
 use Rattle.board_step.specs.StepCall.{stepAnswer, stateAfter, coloursAfter}
 use Rattle.board_retime.specs.RetimeCall.{retimeAnswer, retimeAfter}
 use Rattle.cabinet_records.specs.declared.Record.{Record}
-use Rattle.cabinet_records.specs.Cabinet.{recordCount, outputCount, isFree, personalityOf, freeRecord, holding, withState, recordOf, hasRecord, outputsOf, pastLast, outputsIn, writtenAt, ownOutputs, placingVerdict, heldVerdict, takingVerdict, Returned, returnedFor, placing, stepped, stepping, takingOut, Act, placeSite, stepSite, takeOut, doing}
+use Rattle.cabinet_records.specs.Cabinet.{recordCount, outputCount, isFree, lengthOf, personalityOf, freeRecord, holding, withState, recordOf, hasRecord, outputsOf, pastLast, outputsIn, writtenAt, ownOutputs, placingVerdict, heldVerdict, takingVerdict, Returned, returnedFor, placing, stepped, stepping, takingOut, Act, placeSite, stepSite, takeOut, doing}
 use Rattle.cabinet_records.specs.CabinetLaws.{recordNamed, OthersStay}
 use Rattle.cabinet_records.proofs.Checks.{placing-free}
 use Rattle.cabinet_records.proofs.CabinetLaws.{others-stay}
@@ -29,7 +30,7 @@ use Rattle.proof_cabinet.proofs.Retimings.{retiming-others-stay}
 -- ── What an operation does that is a step of record k, or new times for it ──
 
 module _ (k : ℕ) (row : List Record) (out : List ℕ) where
-  abbrev pub Did : OwnCall → Returned (List Record) → Type 0
+  abbrev pub Did : OwnCall → Returned → Type 0
   Did (steps inputs) done = done ≡ stepping row out k inputs
   Did (retimes new) done = done ≡ retiming row out k new
   Did nothing done = Unit {0}
@@ -52,8 +53,10 @@ module _ (k : ℕ) (row : List Record) (out : List ℕ) where
 -- ── A placed record ──
 
 pub holding-personality : (b : List ℕ) (first : ℕ) (s : List ℕ) → personalityOf (holding b first s) ≡ b
-unfolding personalityOf holding
-holding-personality b first s = take-at b (replicate (greatestLength - length b) 0) (length b) refl
+unfolding personalityOf lengthOf holding twoAt byteAt
+holding-personality b first s =
+    let told : length b % 256 + 256 * (length b / 256) ≡ length b = omega arith in
+    rw told (take-at b (replicate (greatestLength - length b) 0) (length b) refl)
 
 module _ (b : List ℕ) (k first : ℕ) where
   -- record k holds the personality b at this first output, with the state s
@@ -65,7 +68,7 @@ module _ (b : List ℕ) (k first : ℕ) where
     pub at : recordOf row k ≡ holding b first s
 
   -- what the step call does with this personality and these outputs
-  abbrev pub alone : List Record → List ℕ → List ℕ → ℕ → Returned (List Record)
+  abbrev pub alone : List Record → List ℕ → List ℕ → ℕ → Returned
   alone row s out inputs =
       let part = outputsIn out first (outputsOf b) in
       record {
@@ -75,7 +78,7 @@ module _ (b : List ℕ) (k first : ℕ) where
       }
 
   -- what the retiming call does
-  abbrev pub retimedAlone : List Record → List ℕ → List ℕ → List ℕ → Returned (List Record)
+  abbrev pub retimedAlone : List Record → List ℕ → List ℕ → List ℕ → Returned
   retimedAlone row s out new =
       record { answer = retimeAnswer b s new; row = set row k (holding b first (retimeAfter b s new)); outputs = out }
 
@@ -139,7 +142,7 @@ module _ (b : List ℕ) (k first : ℕ) where
           at = getD-set-same row k (holding b first s₁) freeRecord (omega (arith, placed .four, placed .below));
         }
 
-    after : (done : Returned (List Record)) (s₁ : List ℕ) → done .row ≡ set row k (holding b first s₁) → Placed (done .row) s₁
+    after : (done : Returned) (s₁ : List ℕ) → done .row ≡ set row k (holding b first s₁) → Placed (done .row) s₁
     after done s₁ e = subst (λ (r : List Record). Placed r s₁) (sym e) (again s₁)
 
     -- ── Any other operation ──
@@ -165,7 +168,7 @@ module _ (b : List ℕ) (k first : ℕ) where
     place-refused :
         (c out : List ℕ) (g : ℕ) (v : Verdict) →
         placingVerdict row out c k g ≡ v →
-        (done : Returned (List Record)) →
+        (done : Returned) →
         returnedFor v done row out .row ≡ row
     unfolding returnedFor
     place-refused c out g Accepted e done = absurd (true≢false (sym (placing-free row out c k g e) ∙ not-free))
@@ -173,7 +176,7 @@ module _ (b : List ℕ) (k first : ℕ) where
 
     -- taking out is refused, since it is not accepted
     take-refused :
-        (out : List ℕ) (v : Verdict) (done : Returned (List Record)) →
+        (out : List ℕ) (v : Verdict) (done : Returned) →
         done .answer ≡ 0 →
         (returnedFor v done row out .answer ≡ 0 → ⊥) →
         returnedFor v done row out .row ≡ row
@@ -195,7 +198,7 @@ module _ (b : List ℕ) (k first : ℕ) where
     unfolding doing recordNamed
     step-for out j inputs true e =
         after (stepping row out j inputs) (nextFor s out (steps inputs))
-        (ap (λ (i : ℕ). stepping row out i inputs .row) (eqb-true j k e) ∙ ap (λ (d : Returned (List Record)). d .row) (own-stepped out inputs))
+        (ap (λ (i : ℕ). stepping row out i inputs .row) (eqb-true j k e) ∙ ap (λ (d : Returned). d .row) (own-stepped out inputs))
     step-for out j inputs false e = act-elsewhere (stepSite j inputs) out (λ h. eqb-false j k e (sym h))
 
     take-for :
@@ -213,7 +216,7 @@ module _ (b : List ℕ) (k first : ℕ) where
     unfolding RetimingOthersStay
     retime-for out j new true e =
         after (retiming row out j new) (retimeAfter b s new)
-        (ap (λ (i : ℕ). retiming row out i new .row) (eqb-true j k e) ∙ ap (λ (d : Returned (List Record)). d .row) (own-retimed out new))
+        (ap (λ (i : ℕ). retiming row out i new .row) (eqb-true j k e) ∙ ap (λ (d : Returned). d .row) (own-retimed out new))
     retime-for out j new false e =
         let stay = retiming-others-stay row out j new in
         elsewhere (retiming row out j new .row) (stay .0 k (λ h. eqb-false j k e (sym h))) (stay .1)

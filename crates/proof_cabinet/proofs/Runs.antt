@@ -31,7 +31,7 @@ use Rattle.cabinet_records.specs.Cabinet.{freeRecord, holding, recordOf, output
 use Rattle.cabinet_records.proofs.Checks.{row-length, record-below, placing-read, placing-there, placing-within}
 use Rattle.cabinet_records.proofs.Outputs.{colours-length, shown-written}
 use Rattle.proof_cabinet.specs.Operations.{operating}
-use Rattle.proof_cabinet.specs.CabinetRuns.{onRecords, CabinetCall, OwnCall, steps, retimes, nothing, callOn, aloneFor, aloneAt, seenFor, seenAt, StaysIn, CabinetRuns, CabinetRunsHold, CabinetDemandThree, CabinetOnceEach, CabinetWaitsMet}
+use Rattle.proof_cabinet.specs.CabinetRuns.{CabinetCall, OwnCall, steps, retimes, nothing, callOn, aloneFor, aloneAt, seenFor, seenAt, StaysIn, CabinetRuns, CabinetRunsHold, CabinetDemandThree, CabinetOnceEach, CabinetWaitsMet}
 use Rattle.proof_cabinet.proofs.Placed.{Did, did, Placed, nextFor, own-outputs, own-state, own-stepped, own-retimed, placed-next}
 
 -- ── An accepted placing ──
@@ -48,7 +48,7 @@ placing-number row out b k first =
     (λ f. or-refusals Above (refuseIf _ 25 0) _ (if-refusals Above _ 25 0 (omega arith)) (λ g. if-refusals Above _ 14 0 (omega arith))))
 
 accepted-for :
-    (v : Verdict) (done : Returned (List Record)) (row : List Record) (out : List ℕ) →
+    (v : Verdict) (done : Returned) (row : List Record) (out : List ℕ) →
     Refusals Above v →
     returnedFor v done row out .answer ≡ 0 →
     v ≡ Accepted
@@ -92,7 +92,7 @@ module _ (b : List ℕ) (k first : ℕ) (buffer : List ℕ) where
       (s : List ℕ)
       (placed : Placed b k first row s)
       (out : List ℕ)
-      (done : Returned (List Record))
+      (done : Returned)
       (later : List Taken)
       (rest : List Call)
     where
@@ -113,7 +113,7 @@ module _ (b : List ℕ) (k first : ℕ) (buffer : List ℕ) where
           let after = ap timedDecoded (own-state b k first (done .row) (nextFor b k first s out (steps inputs)) next) in
           let shown =
           own (done .outputs)
-          ∙ ap (λ (d : Returned (List Record)). outputsIn (d .outputs) first n) alone
+          ∙ ap (λ (d : Returned). outputsIn (d .outputs) first n) alone
           ∙ shown-written out first n (placed .within) (coloursAfter b s inputs part) (colours-length b s inputs part) in
           λ i.
           stepTaken
@@ -136,32 +136,32 @@ module _ (b : List ℕ) (k first : ℕ) (buffer : List ℕ) where
   same-calls :
       (calls : List CabinetCall) (s : List ℕ) (row : List Record) →
       Placed b k first row s →
-      StaysIn onRecords k row calls →
-      seenAt onRecords k row calls ≡ takenFrom (board buffer) b s (aloneAt k first (outputsOf b) calls)
-  unfolding onRecords seenAt aloneAt takenFrom
+      StaysIn k row calls →
+      seenAt k row calls ≡ takenFrom (board buffer) b s (aloneAt k first (outputsOf b) calls)
+  unfolding seenAt aloneAt takenFrom
   same-calls [] s row placed stays = refl
   same-calls (c ∷ calls) s row placed stays =
       let out = c .outputs in
       let done = operating row out (c .operation) in
       let call = callOn k (c .operation) in
       let next = placed-next b k first row s placed (c .operation) out (stays .0) in
-      same-call row s placed out done (seenAt onRecords k (done .row) calls) (aloneAt k first (outputsOf b) calls) call
+      same-call row s placed out done (seenAt k (done .row) calls) (aloneAt k first (outputsOf b) calls) call
       (did k row out (c .operation))
       next
       (same-calls calls (nextFor b k first s out call) (done .row) next (stays .1))
 
 -- ── The theorems ──
 
-pub cabinet-runs : CabinetRuns onRecords
-unfolding CabinetRuns onRecords operating doing board
+pub cabinet-runs : CabinetRuns
+unfolding CabinetRuns operating doing board
 cabinet-runs row out b k first e calls stays buffer long =
     let placed = placed-fresh row out b k first (placing-accepted row out b k first e) in
     let alone = aloneAt k first (outputsOf b) calls in
     same-calls b k first buffer calls (freshBytes b) (placing row out b k first .row) placed stays
     ∙ ap (λ (state : List ℕ). takenFrom (board buffer) b state alone) (sym (fresh-bytes b buffer (placed .accepted) long))
 
-pub cabinet-runs-hold : CabinetRunsHold onRecords
-unfolding CabinetRunsHold CabinetRuns BoardRunsAlike onRecords operating doing byRules
+pub cabinet-runs-hold : CabinetRunsHold
+unfolding CabinetRunsHold CabinetRuns BoardRunsAlike operating doing byRules
 cabinet-runs-hold Claim holds row out b k first e calls stays =
     let zeros : List ℕ = replicate timedBytes 0 in
     let long = length-replicate {A = ℕ} timedBytes 0 in
@@ -170,15 +170,15 @@ cabinet-runs-hold Claim holds row out b k first e calls stays =
     let same = cabinet-runs row out b k first e calls stays zeros long ∙ board-runs-alike zeros long b accepted alone in
     subst (Claim b) (sym same) (holds b accepted alone)
 
-pub cabinet-demand-three : CabinetDemandThree onRecords
+pub cabinet-demand-three : CabinetDemandThree
 unfolding CabinetDemandThree CabinetRunsHold DemandThree DemandThreeOf byRules
 cabinet-demand-three = cabinet-runs-hold (SafeRun verdictOf) demand-three
 
-pub cabinet-once-each : CabinetOnceEach onRecords
+pub cabinet-once-each : CabinetOnceEach
 unfolding CabinetOnceEach CabinetRunsHold RunsStartOnceEach OnceEachOf
 cabinet-once-each = cabinet-runs-hold (λ b made. OnceEach (siteOf b) (acceptedSteps made)) runs-start-once-each
 
-pub cabinet-waits-met : CabinetWaitsMet onRecords
+pub cabinet-waits-met : CabinetWaitsMet
 unfolding CabinetWaitsMet CabinetRunsHold EveryWaitMet EveryWaitMetOf EveryPlainWaitMet EveryPlainWaitMetOf
 cabinet-waits-met =
     cabinet-runs-hold (λ b made. WaitsMet (siteOf b) (acceptedSteps made) × PlainWaitsMet (siteOf b) (acceptedSteps made))

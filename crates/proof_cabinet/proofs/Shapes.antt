@@ -1,4 +1,4 @@
--- Records keep the lengths of their arrays: room for the longest personality, and the bytes of a state.
+-- Records keep the lengths of their arrays: two bytes of length, room for the longest personality, and the bytes of a state.
 use Prim.Native.Nat.{ℕ, _-_, _≤_, _<_}
 use mathlib.Core.List.{List}
 use mathlib.Core.Logic.{⊎-elim}
@@ -20,10 +20,8 @@ use Rattle.state_timed.proofs.TimedRoundTrips.{encoded-has-336}
 use Rattle.board_step.specs.StepCall.{stepChecks, stateAfter}
 use Rattle.board_retime.specs.RetimeCall.{retimeAfter}
 use Rattle.cabinet_records.specs.declared.Record.{Record}
-use Rattle.cabinet_records.specs.Cabinet.{personalityOf, freeRecord, holding, withState, recordOf, ownOutputs, freshBytes, placingVerdict, heldVerdict, takingVerdict, Returned, returnedFor, placing, stepped, stepping, takingOut, placeSite, stepSite, takeOut, doing}
-use Rattle.cabinet_records.specs.Layout.{Shaped}
+use Rattle.cabinet_records.specs.Cabinet.{personalityOf, freeRecord, holding, withState, Shaped, recordOf, ownOutputs, freshBytes, placingVerdict, heldVerdict, takingVerdict, Returned, returnedFor, placing, stepped, stepping, takingOut, placeSite, stepSite, takeOut, doing}
 use Rattle.cabinet_records.proofs.Checks.{placing-read}
-use Rattle.cabinet_records.proofs.RowBytes.{free-shape}
 use Rattle.proof_cabinet.specs.Operations.{retiming, cabinetAct, retimeSite, operating}
 use Rattle.proof_cabinet.specs.CabinetAnswers.{ShapeStays}
 use Rattle.proof_cabinet.proofs.Retimings.{retimed-length}
@@ -41,11 +39,21 @@ after-length b old inputs room e = after-for (stepChecks b old inputs room) _ ol
 
 -- ── The records that calls store ──
 
+free-shape : Shaped freeRecord
+unfolding freeRecord
+free-shape =
+    record {
+      size = refl;
+      personality = length-replicate {A = ℕ} greatestLength 0;
+      state = length-replicate {A = ℕ} timedBytes 0;
+    }
+
 holding-shape : (b : List ℕ) (first : ℕ) → verdictOf b ≡ Accepted → Shaped (holding b first (freshBytes b))
 unfolding holding AcceptedIsShort
 holding-shape b first e =
     let rest : List ℕ = replicate (greatestLength - length b) 0 in
     record {
+      size = refl;
       personality = omega (arith, accepted-is-short .1 b e, length-append b rest, length-replicate {A = ℕ} (greatestLength - length b) 0);
       state = encoded-has-336 (freshTimed (siteOf b));
     }
@@ -53,12 +61,12 @@ holding-shape b first e =
 stepped-shape : (r : Record) (inputs room : ℕ) → Shaped r → Shaped (withState r (stateAfter (personalityOf r) (r .state) inputs room))
 unfolding withState
 stepped-shape r inputs room shaped =
-    record { personality = shaped .personality; state = after-length (personalityOf r) (r .state) inputs room (shaped .state) }
+    record { size = shaped .size; personality = shaped .personality; state = after-length (personalityOf r) (r .state) inputs room (shaped .state) }
 
 retimed-shape : (r : Record) (new : List ℕ) → Shaped r → Shaped (withState r (retimeAfter (personalityOf r) (r .state) new))
 unfolding withState
 retimed-shape r new shaped =
-    record { personality = shaped .personality; state = retimed-length (personalityOf r) (r .state) new (shaped .state) }
+    record { size = shaped .size; personality = shaped .personality; state = retimed-length (personalityOf r) (r .state) new (shaped .state) }
 
 -- ── The row ──
 
@@ -77,7 +85,7 @@ set-shape row shaped k r new j =
     (same-or-apart j k)
 
 shape-for :
-    (v : Verdict) (done : Returned (List Record)) (row : List Record) (out : List ℕ) →
+    (v : Verdict) (done : Returned) (row : List Record) (out : List ℕ) →
     ((j : ℕ) → Shaped (recordOf row j)) →
     (v ≡ Accepted → (j : ℕ) → Shaped (recordOf (done .row) j)) →
     (j : ℕ) → Shaped (recordOf (returnedFor v done row out .row) j)

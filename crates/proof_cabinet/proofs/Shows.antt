@@ -26,7 +26,7 @@ use Rattle.cabinet_records.proofs.Checks.{placing-free, placing-within, placing
 use Rattle.cabinet_records.proofs.Outputs.{SameOutside, written-length, written-part}
 use Rattle.cabinet_records.proofs.CabinetLaws.{same-outside, refusal-leaves}
 use Rattle.proof_cabinet.specs.Operations.{retiming, Operation, cabinetAct, retimeSite, operating}
-use Rattle.proof_cabinet.specs.CabinetRuns.{onRecords, OwnCall, steps, retimes, nothing, callOn, takesOut, seenFor, lastShown, Clear, Apart, seenAt, StaysIn, linked, outputsAfter, PlacedShows}
+use Rattle.proof_cabinet.specs.CabinetRuns.{OwnCall, steps, retimes, nothing, callOn, takesOut, seenFor, lastShown, Clear, Apart, seenAt, StaysIn, linked, outputsAfter, PlacedShows}
 use Rattle.proof_cabinet.proofs.Placed.{Did, did, Placed, nextFor, not-free, own-outputs, placed-next}
 use Rattle.proof_cabinet.proofs.Runs.{placing-accepted, placed-fresh}
 use Rattle.proof_cabinet.proofs.Apart.{meet-sides, new-clear, apart-next, apart-placed}
@@ -57,7 +57,7 @@ module _ (out after : List ℕ) (f n g m : ℕ) (same : SameOutside g m out afte
   part-same = rw (same .long, bytes-same)
 
 untouched-for :
-    (f n g m : ℕ) (v : Verdict) (done : Returned (List Record)) (row : List Record) (out : List ℕ) →
+    (f n g m : ℕ) (v : Verdict) (done : Returned) (row : List Record) (out : List ℕ) →
     (v ≡ Accepted → meet f n g m ≡ false) →
     SameOutside g m out (returnedFor v done row out .outputs) →
     outputsIn (returnedFor v done row out .outputs) f n ≡ outputsIn out f n
@@ -73,7 +73,7 @@ module _ (b : List ℕ) (k first : ℕ) (row : List Record) (s : List ℕ) (plac
   held-clear j e other = apart j other (rw (held-busy row j e, held-read row j e))
 
   taken-elsewhere :
-      (j : ℕ) (v : Verdict) (done : Returned (List Record)) (out : List ℕ) →
+      (j : ℕ) (v : Verdict) (done : Returned) (out : List ℕ) →
       (eqb j k ≡ true → returnedFor v done row out .answer ≡ 0 → ⊥) →
       done .answer ≡ 0 →
       v ≡ Accepted → j ≡ k → ⊥
@@ -149,7 +149,7 @@ module _ (b : List ℕ) (k first : ℕ) where
       (placed : Placed b k first row s)
       (apart : Apart k first (outputsOf b) row)
       (shown : outputsIn out first (outputsOf b) ≡ none)
-      (done : Returned (List Record))
+      (done : Returned)
       (last : List ℕ)
       (seen : List Taken)
       (later : (now : List ℕ) → outputsIn (done .outputs) first (outputsOf b) ≡ now → last ≡ lastShown now (acceptedSteps seen))
@@ -163,8 +163,8 @@ module _ (b : List ℕ) (k first : ℕ) where
       left : (inputs n p : ℕ) → Did k row out (steps inputs) done → outcomeIn (done .answer) ≡ StepRefused n p → done .outputs ≡ out
       unfolding RefusalLeaves doing
       left inputs n p made o =
-          let answer = ap (λ (d : Returned (List Record)). outcomeIn (d .answer)) (sym made) ∙ o in
-          ap (λ (d : Returned (List Record)). d .outputs) made
+          let answer = ap (λ (d : Returned). outcomeIn (d .answer)) (sym made) ∙ o in
+          ap (λ (d : Returned). d .outputs) made
           ∙ refusal-leaves row out (stepSite k inputs) (refused-number (stepping row out k inputs .answer) n p answer) .1
 
       -- the record's own step, accepted or refused
@@ -186,17 +186,17 @@ module _ (b : List ℕ) (k first : ℕ) where
       Placed b k first row s →
       Apart k first (outputsOf b) row →
       outputsIn out first (outputsOf b) ≡ none →
-      StaysIn onRecords k row (linked onRecords row out operations) →
-      outputsIn (outputsAfter onRecords row out operations) first (outputsOf b)
-      ≡ lastShown none (acceptedSteps (seenAt onRecords k row (linked onRecords row out operations)))
-  unfolding onRecords linked outputsAfter seenAt acceptedSteps lastShown
+      StaysIn k row (linked row out operations) →
+      outputsIn (outputsAfter row out operations) first (outputsOf b)
+      ≡ lastShown none (acceptedSteps (seenAt k row (linked row out operations)))
+  unfolding linked outputsAfter seenAt acceptedSteps lastShown
   shows-from [] row out none s placed apart shown stays = shown
   shows-from (operation ∷ operations) row out none s placed apart shown stays =
       let done = operating row out operation in
       let next = placed-next b k first row s placed operation out (stays .0) in
       one-more row out none s placed apart shown done
-      (outputsIn (outputsAfter onRecords (done .row) (done .outputs) operations) first (outputsOf b))
-      (seenAt onRecords k (done .row) (linked onRecords (done .row) (done .outputs) operations))
+      (outputsIn (outputsAfter (done .row) (done .outputs) operations) first (outputsOf b))
+      (seenAt k (done .row) (linked (done .row) (done .outputs) operations))
       (λ now e.
       shows-from operations (done .row) (done .outputs) now (nextFor b k first s out (callOn k operation)) next
       (apart-next b k first row s placed apart operation out)
@@ -221,8 +221,8 @@ painted-red row out b k first e =
     rw (e, written-length out first new fits, le-ltb (length out) outputCount long)
     (ap (λ (m : ℕ). take m (drop first (writtenAt out first new))) (sym known) ∙ written-part out first new fits)
 
-pub placed-shows : PlacedShows onRecords
-unfolding PlacedShows onRecords operating doing
+pub placed-shows : PlacedShows
+unfolding PlacedShows operating doing
 placed-shows row out b k first answer operations stays =
     let e = placing-accepted row out b k first answer in
     let begun = placing row out b k first in

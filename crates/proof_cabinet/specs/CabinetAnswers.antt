@@ -14,9 +14,8 @@ use Rattle.state_timed.specs.TimedLayout.{timedDecoded}
 use Rattle.state_valid.specs.StateOf.{isStateOf}
 use Rattle.board_answers.specs.Answers.{packedVerdict, packedOutcome}
 use Rattle.cabinet_records.specs.declared.Record.{Record}
-use Rattle.cabinet_records.specs.Cabinet.{personalityOf, recordOf, isShort, heldVerdict, stepping, Act, doing}
+use Rattle.cabinet_records.specs.Cabinet.{personalityOf, Shaped, recordOf, isShort, heldVerdict, stepping, Act, doing}
 use Rattle.cabinet_records.specs.CabinetLaws.{personalityNamed}
-use Rattle.cabinet_records.specs.Layout.{Shaped}
 use Rattle.proof_cabinet.specs.Operations.{retiming, Operation, operating}
 
 -- ── Refusals ──
@@ -84,7 +83,7 @@ RetimingAnswers =
 
 -- ── Sizes ──
 
--- an operation keeps the lengths of the arrays in each record
+-- The definitions keep the lengths of the arrays, as the type does: an operation on a row of the type leaves a row of the type.
 unfoldable pub ShapeStays : Type 0
 ShapeStays =
     (row : List Record) (out : List ℕ) (operation : Operation) →

@@ -19,9 +19,9 @@ junctionState = encoded freshKept ++ (10 ∷ 0 ∷ (shortPhase ++ shortPhase)) +
 unfoldable pub JunctionStarts : Type 0
 JunctionStarts = timedEncoded (freshTimed (siteOf junction)) ≡ junctionState
 
--- version 5, 68 bytes with the check value 0xA42C18F8; the record has the check value 0x47D5E107
+-- version 6, 68 bytes with the check value 0xA42C18F8; the record has the check value 0xBEBA0B74
 unfoldable pub junctionRecord : List ℕ
-junctionRecord = (5 ∷ 68 ∷ 0 ∷ 248 ∷ 24 ∷ 44 ∷ 164 ∷ []) ++ junctionState ++ (7 ∷ 225 ∷ 213 ∷ 71 ∷ [])
+junctionRecord = (6 ∷ 68 ∷ 0 ∷ 248 ∷ 24 ∷ 44 ∷ 164 ∷ []) ++ junctionState ++ (116 ∷ 11 ∷ 186 ∷ 190 ∷ [])
 
 unfoldable pub JunctionIsSealed : Type 0
 JunctionIsSealed =
@@ -42,8 +42,8 @@ unfoldable pub cases : List Case
 cases =
     on junction junctionRecord Accepted
     -- another version, also with other damage
-    ∷ on junction (set junctionRecord 0 4) (Refused 27 0)
-    ∷ on junction (set (set junctionRecord 0 6) 9 2) (Refused 27 0)
+    ∷ on junction (set junctionRecord 0 5) (Refused 27 0)
+    ∷ on junction (set (set junctionRecord 0 7) 9 2) (Refused 27 0)
     -- no bytes, one too few, one too many
     ∷ on junction [] (Refused 28 0)
     ∷ on junction (take 346 junctionRecord) (Refused 28 0)

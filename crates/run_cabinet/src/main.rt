@@ -35,7 +35,13 @@ fn placed(
         ≡ placing row (now (outputs .entry)) (now (personality .entry)) k first ⌝ }
 {
     let mut lent = row;
-    let answer = cabinet_row::place(&mut lent, k, personality, first, outputs);
+    let answer = willowera::cabinet::willowera_cabinet_place(
+        &mut lent,
+        k,
+        personality,
+        first,
+        outputs,
+    );
     Called {
         answer: answer,
         row: lent,
@@ -47,7 +53,7 @@ fn stepped(row: [Record; 4], k: usize, inputs: u64, outputs: &mut [u8]) -> Calle
         ≡ stepping row (now (outputs .entry)) k inputs ⌝ }
 {
     let mut lent = row;
-    let answer = cabinet_row::step(&mut lent, k, inputs, outputs);
+    let answer = willowera::cabinet::willowera_cabinet_step(&mut lent, k, inputs, outputs);
     Called {
         answer: answer,
         row: lent,
@@ -59,7 +65,7 @@ fn taken_out(row: [Record; 4], k: usize, outputs: &mut [u8]) -> Called
         ≡ takingOut row (now (outputs .entry)) k ⌝ }
 {
     let mut lent = row;
-    let answer = cabinet_row::take_out(&mut lent, k, outputs);
+    let answer = willowera::cabinet::willowera_cabinet_take_out(&mut lent, k, outputs);
     Called {
         answer: answer,
         row: lent,

@@ -12,7 +12,7 @@ use Rattle.base_crc.specs.Crc.{crc}
 use Rattle.state_timed.specs.TimedLayout.{timedBytes}
 
 abbrev pub interfaceVersion : ℕ
-interfaceVersion = 5
+interfaceVersion = 6
 
 abbrev pub stateAt : ℕ
 stateAt = 7

@@ -16,7 +16,7 @@ use state_forms::put_all;
 use state_forms::put_two;
 
 // The version of the interface.
-pub const VERSION: u8 = 5;
+pub const VERSION: u8 = 6;
 
 const SIZE: usize = 1;
 

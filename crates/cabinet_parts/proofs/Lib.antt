@@ -1,0 +1,4 @@
+pub mod Stepping
+pub mod Taking
+pub mod Placing
+pub mod Rows
