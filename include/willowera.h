@@ -5,8 +5,9 @@
  *
  * The caller must ensure:
  *
- * - A pointer has as many bytes behind it as the length next to it says. All 64 bits of a length count: bytes after a whole
- *   personality are refused with 12, and a state of any length other than WILLOWERA_STATE_BYTES with 13.
+ * - A pointer has as many bytes behind it as the length next to it says, and a row as many records as the number next to it says. All
+ *   64 bits of a length or number count: bytes after a whole personality are refused with 12, a state of any length other than
+ *   WILLOWERA_STATE_BYTES with 13, and a row of any number of records other than WILLOWERA_RECORDS with 24.
  * - During a call nobody else writes a buffer of the call, or reads the state, the colours, the line, the waits, the sealed record, the
  *   results, the row or the outputs.
  * - State, colours, line, waits, sealed record and results do not overlap each other, a personality or the streams. They may be adjacent.
@@ -16,8 +17,8 @@
  *
  * Not required (examples/c/conditions.c tries these points):
  *
- * - A valid pointer for length 0. The pointer may be anything, also null; the buffer is empty and is not accessed.
- * - Alignment, of any buffer.
+ * - A valid pointer for length 0, or for 0 records. The pointer may be anything, also null; the buffer is empty and is not accessed.
+ * - Alignment, of any buffer. A record has alignment 1.
  * - A writable personality. It may be in read-only memory.
  * - Initial values in the colour buffer, in the buffers for a fresh or resumed state, for a sealed record, for a line and for waits, or in the
  *   outputs of a cabinet.
@@ -40,9 +41,9 @@
  * them.
  *
  * A byte is a uint8_t. All numbers are unsigned, except two: the grade of willowera_yellow is signed, and the metres of willowera_settings
- * are a double. A length, a record and a first output have 64 bits on every target, because the library is proved and compiled with 64 of
- * them. On a 32-bit processor a size_t has 32, so that caller and library would look for the arguments in different places. A size_t that
- * is handed over is converted without loss.
+ * are a double. A length, a number of records, a record and a first output have 64 bits on every target, because the library is proved and
+ * compiled with 64 of them. On a 32-bit processor a size_t has 32, so that caller and library would look for the arguments in different
+ * places. A size_t that is handed over is converted without loss.
  *
  * Only willowera_settings uses floating-point numbers: its metres are a double, and it may raise floating-point exception flags.
  */
@@ -74,22 +75,47 @@ extern "C" {
 #define WILLOWERA_STREAM_BYTES 4
 #define WILLOWERA_RESULT_BYTES 4
 
-/* ── A cabinet: four records, one after the other, and 32 outputs. Record k begins at byte k * WILLOWERA_RECORD_BYTES of the row ── */
+/* ── A cabinet: a row of four records, and 32 outputs ── */
 
 #define WILLOWERA_RECORDS 4
 #define WILLOWERA_OUTPUTS 32
 #define WILLOWERA_MOST_PERSONALITY_BYTES 477
 
-/* The parts of a record, by the offset of their first byte: whether it holds a site (0: it is free); the first output, from 0; the length
- * of the personality (2 bytes, the low one first; above 477 it counts as 477); room for the personality; the state. */
-#define WILLOWERA_RECORD_HELD 0
-#define WILLOWERA_RECORD_FIRST 1
-#define WILLOWERA_RECORD_LENGTH 2
-#define WILLOWERA_RECORD_PERSONALITY 4
-#define WILLOWERA_RECORD_STATE (WILLOWERA_RECORD_PERSONALITY + WILLOWERA_MOST_PERSONALITY_BYTES)
+/* One record of a row. Any bytes are a record. All parts are bytes, with none between them, so that the bytes of a record are the same on
+ * every target. */
+struct willowera_record {
+    uint8_t held;                                          /* whether it holds a site; 0: it is free */
+    uint8_t first;                                         /* the first output of the site, from 0 */
+    uint8_t length[2];                                     /* of the personality, the low byte first; above 477 it counts as 477 */
+    uint8_t personality[WILLOWERA_MOST_PERSONALITY_BYTES]; /* room for it; it begins with the first byte */
+    uint8_t state[WILLOWERA_STATE_BYTES];
+};
 
-#define WILLOWERA_RECORD_BYTES (WILLOWERA_RECORD_STATE + WILLOWERA_STATE_BYTES) /* 817 */
-#define WILLOWERA_ROW_BYTES (WILLOWERA_RECORDS * WILLOWERA_RECORD_BYTES)        /* 3268 */
+/* For a row that is kept as bytes: the parts of a record, by the offset of their first byte; the bytes of a record and of a row. Record k
+ * begins at byte k * WILLOWERA_RECORD_BYTES. */
+#define WILLOWERA_RECORD_HELD offsetof(struct willowera_record, held)               /* 0 */
+#define WILLOWERA_RECORD_FIRST offsetof(struct willowera_record, first)             /* 1 */
+#define WILLOWERA_RECORD_LENGTH offsetof(struct willowera_record, length)           /* 2 */
+#define WILLOWERA_RECORD_PERSONALITY offsetof(struct willowera_record, personality) /* 4 */
+#define WILLOWERA_RECORD_STATE offsetof(struct willowera_record, state)             /* 481 */
+#define WILLOWERA_RECORD_BYTES sizeof(struct willowera_record)                      /* 817 */
+#define WILLOWERA_ROW_BYTES (WILLOWERA_RECORDS * WILLOWERA_RECORD_BYTES)            /* 3268 */
+
+/* The library takes a record in this layout only. A compiler with another one stops here: an array of -1 bytes is an error in every
+ * standard of C and C++. */
+#define WILLOWERA_MUST(name, truth) typedef uint8_t willowera_record_must_##name[(truth) ? 1 : -1]
+struct willowera_record_behind_a_byte {
+    uint8_t byte;
+    struct willowera_record record;
+};
+WILLOWERA_MUST(have_817_bytes, WILLOWERA_RECORD_BYTES == 817);
+WILLOWERA_MUST(have_alignment_1, offsetof(struct willowera_record_behind_a_byte, record) == 1);
+WILLOWERA_MUST(have_held_at_0, WILLOWERA_RECORD_HELD == 0);
+WILLOWERA_MUST(have_first_at_1, WILLOWERA_RECORD_FIRST == 1);
+WILLOWERA_MUST(have_length_at_2, WILLOWERA_RECORD_LENGTH == 2);
+WILLOWERA_MUST(have_personality_at_4, WILLOWERA_RECORD_PERSONALITY == 4);
+WILLOWERA_MUST(have_state_at_481, WILLOWERA_RECORD_STATE == 481);
+#undef WILLOWERA_MUST
 
 /* ── Editions of the limits: the kind of the first section of a personality. Another kind there is refused with 2 ── */
 
@@ -361,9 +387,9 @@ uint64_t willowera_section(const uint8_t *personality, uint64_t personality_leng
 
 /* ── A cabinet: up to four sites on 32 outputs ──
  *
- * The row has WILLOWERA_ROW_BYTES bytes. Zeroed memory is a row of four free records, and any bytes are a row. A row of another length has
- * no records: every record is refused with 24. The caller keeps the row and hands the same bytes to each call. A call reads and writes
- * nothing of another record, except that placing reads which outputs the others have.
+ * The row is an array of WILLOWERA_RECORDS records, and is handed over with this number. With another number there is no such record: the
+ * call is refused with 24. Zeroed memory is a row of four free records, and any bytes are a row. The caller keeps the row and hands the
+ * same row to each call. A call reads and writes nothing of another record, except that placing reads which outputs the others have.
  *
  * The outputs are one byte each, and the buffer has at least WILLOWERA_OUTPUTS of them. A site has one output for each of its groups, in
  * group order, from its first output on. A call writes only the outputs of its own site. Bytes past the 32nd output stay.
@@ -371,15 +397,16 @@ uint64_t willowera_section(const uint8_t *personality, uint64_t personality_leng
  * A record whose personality would be refused is neither stepped nor taken out, and it is not free. Calls never leave such a record. To
  * clear one that came from elsewhere, write zeros over it. Its outputs are not kept for it: another site may be placed on them.
  *
- * A pointer to a part of a record may be handed to other calls: a held personality to willowera_section, or a held personality and its
- * state to willowera_retime and willowera_why. */
+ * A part of a record may be handed to other calls: a held personality to willowera_section, or a held personality and its state to
+ * willowera_retime and willowera_why. The length of a held personality is WILLOWERA_TWO_BYTES(row[k].length, 0), or 477 if that is
+ * less. */
 
 /* Places a site in a free record: stores the personality, the fresh state and the first output, turns the site's outputs red, and answers
  * 0; or a refusal.
  *
  * The checks: the personality; then 24 (no such record, or it is not free); then 25 (outputs past the 32nd, or an output of a site in
  * another record); then 14 (outputs_length is less than 32). */
-uint64_t willowera_cabinet_place(uint8_t *row, uint64_t row_length, uint64_t record, const uint8_t *personality,
+uint64_t willowera_cabinet_place(struct willowera_record *row, uint64_t records, uint64_t record, const uint8_t *personality,
                                  uint64_t personality_length, uint64_t first, uint8_t *outputs, uint64_t outputs_length);
 
 /* One step of 0.1 s of the site in a record, as willowera_step does it alone: replaces its state, writes its outputs, and answers its wait
@@ -387,7 +414,7 @@ uint64_t willowera_cabinet_place(uint8_t *row, uint64_t row_length, uint64_t rec
  *
  * The checks: 24 (no such record, or it is free); then the held personality; then 25 (outputs past the 32nd); then 13, 15 and, if
  * outputs_length is less than 32, 14. */
-uint64_t willowera_cabinet_step(uint8_t *row, uint64_t row_length, uint64_t record, uint64_t inputs, uint8_t *outputs,
+uint64_t willowera_cabinet_step(struct willowera_record *row, uint64_t records, uint64_t record, uint64_t inputs, uint8_t *outputs,
                                 uint64_t outputs_length);
 
 /* Takes the site out of a record: the record is zeros and free, the site's outputs are dark, and the answer is 0; or a refusal. The state
@@ -395,10 +422,11 @@ uint64_t willowera_cabinet_step(uint8_t *row, uint64_t row_length, uint64_t reco
  *
  * The checks: 24 (no such record, or it is free); then the held personality; then 25 (outputs past the 32nd); then 14 (outputs_length is
  * less than 32). */
-uint64_t willowera_cabinet_take_out(uint8_t *row, uint64_t row_length, uint64_t record, uint8_t *outputs, uint64_t outputs_length);
+uint64_t willowera_cabinet_take_out(struct willowera_record *row, uint64_t records, uint64_t record, uint8_t *outputs,
+                                    uint64_t outputs_length);
 
 /* The version of the interface of the archive. It equals WILLOWERA_VERSION if this header belongs to the archive. */
-#define WILLOWERA_VERSION 5
+#define WILLOWERA_VERSION 6
 uint32_t willowera_version(void);
 
 #ifdef __cplusplus

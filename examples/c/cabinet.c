@@ -23,7 +23,7 @@ struct site {
     uint8_t state[WILLOWERA_STATE_BYTES], colours[WILLOWERA_MOST_GROUPS]; /* of the site alone */
 };
 
-static uint8_t row[WILLOWERA_ROW_BYTES]; /* zeros: four free records */
+static struct willowera_record row[WILLOWERA_RECORDS]; /* zeros: four free records */
 static uint8_t outputs[WILLOWERA_OUTPUTS];
 
 static void need(int truth, const char *what)
@@ -56,7 +56,8 @@ static void read_site(struct site *site, const char *path)
 
 static void place(struct site *site, size_t record, size_t first)
 {
-    uint64_t answer = willowera_cabinet_place(row, sizeof row, record, site->personality, site->length, first, outputs, sizeof outputs);
+    uint64_t answer = willowera_cabinet_place(row, WILLOWERA_RECORDS, record, site->personality, site->length, first, outputs,
+                                              sizeof outputs);
 
     if (answer != WILLOWERA_ACCEPTED) {
         printf("record %zu at output %zu: refused %u\n", record, first, WILLOWERA_NUMBER(answer));
@@ -71,7 +72,7 @@ static void place(struct site *site, size_t record, size_t first)
 
 static void take_out(struct site *site, size_t record)
 {
-    need(willowera_cabinet_take_out(row, sizeof row, record, outputs, sizeof outputs) == 0, "taking out");
+    need(willowera_cabinet_take_out(row, WILLOWERA_RECORDS, record, outputs, sizeof outputs) == 0, "taking out");
     printf("record %zu: taken out\n", record);
     site->placed = 0;
 }
@@ -95,13 +96,12 @@ static uint64_t inputs_of(const struct site *site, unsigned step)
 /* A step in the cabinet, and the same step alone. */
 static void step_site(struct site *site, size_t record, uint64_t inputs)
 {
-    const uint8_t *held = row + record * WILLOWERA_RECORD_BYTES;
-    uint64_t answer = willowera_cabinet_step(row, sizeof row, record, inputs, outputs, sizeof outputs);
+    uint64_t answer = willowera_cabinet_step(row, WILLOWERA_RECORDS, record, inputs, outputs, sizeof outputs);
     uint64_t alone = willowera_step(site->personality, site->length, site->state, sizeof site->state, inputs, site->colours,
                                     sizeof site->colours);
 
     need(answer == alone && WILLOWERA_NUMBER(answer) == WILLOWERA_ACCEPTED, "the answer of the site alone");
-    need(memcmp(held + WILLOWERA_RECORD_STATE, site->state, sizeof site->state) == 0, "the state of the site alone");
+    need(memcmp(row[record].state, site->state, sizeof site->state) == 0, "the state of the site alone");
     need(memcmp(outputs + site->first, site->colours, site->groups) == 0, "the colours of the site alone");
 }
 

@@ -2,7 +2,8 @@
 # Checks the static library from C, one part at a time:
 #
 #     check.sh needs         it needs nothing but memcpy and memset, and has no data that could be written
-#     check.sh headers       the headers compile without warnings as C99, C11 and C++11, with 64 and 32 bits; headers.c has what they promise
+#     check.sh headers       the headers compile without warnings as C99, C11 and C++11, with 64 and 32 bits; headers.c has what they promise;
+#                            a record of another layout does not compile
 #     check.sh conditions    what include/willowera.h says of buffers and threads, tried by conditions.c
 #     check.sh steps         steps.c prints the colours of the trace of the junction of two phases, and refuses wrong words
 #     check.sh rust          rust/willowera/examples/steps.rs prints the same colours, and refuses a wrong word and an archive of another version
@@ -66,6 +67,14 @@ wrong_copy() { # HEADER CHANGE-AS-SED
     mkdir -p "$built/wrong" && cp include/*.h "$built/wrong" && sed -i "$2" "$built/wrong/$1"
     if cmp -s "include/$1" "$built/wrong/$1"; then echo "$1: not changed by $2" && return 1; fi
 }
+# With this change the compiler refuses the header, and names each of these.
+not_compiled() { # CHANGE-AS-SED NAMES COMPILER FLAGS..
+    wrong_copy willowera.h "$1" || return 1
+    if "${@:3}" -ffreestanding -fsyntax-only -Werror "-I$built/wrong" examples/c/headers.c 2>"$built/said"; then
+        echo "headers: ${*:3} compiles them with $1" && return 1
+    fi
+    for name in $2; do grep -q "$name" "$built/said" || { echo "headers: ${*:3} does not name $name with $1" && return 1; }; done
+}
 noticed() { # CHANGE-AS-SED
     wrong_copy willowera_words.h "$1" && build words "$built/wrong" -O0 || return 1
     if built words reads "$reads" >"$built/said" 2>&1; then echo "words: not noticed: $1" && return 1; fi
@@ -82,11 +91,19 @@ headers)
         compiles cc "$bits" -std=c99 && compiles cc "$bits" -std=c11 && compiles g++ "$bits" -std=c++11 -x c++ || exit 1
     done
     build headers include -O0 && built headers || exit 1
-    # With lengths as size_t the promise fails with 32 bits; with a field elsewhere the program fails.
-    wrong_copy willowera.h 's/uint64_t state_length/size_t state_length/' || exit 1
-    if cc -m32 -ffreestanding -fsyntax-only -Werror "-I$built/wrong" examples/c/headers.c 2>"$built/said"; then exit 1; fi
+    # With lengths or a number of records as size_t the promise fails with 32 bits; with a field elsewhere the program fails.
+    not_compiled 's/uint64_t state_length/size_t state_length/' willowera_step cc -m32 &&
+        not_compiled 's/uint64_t records/size_t records/' willowera_cabinet_step cc -m32 || exit 1
     wrong_copy willowera.h '/WILLOWERA_STATE_LOCKED 12/s/12/13/' && build headers "$built/wrong" -O0 || exit 1
     if built headers; then exit 1; fi
+    # A record with a byte more, with another alignment, with two parts exchanged, or with its parts elsewhere.
+    for words in 'cc -std=c99' 'cc -std=c11' 'g++ -std=c++11 -x c++'; do
+        # shellcheck disable=SC2086 # several words
+        not_compiled 's/PERSONALITY_BYTES 477/PERSONALITY_BYTES 478/' have_817_bytes $words &&
+            not_compiled 's/uint8_t length\[2\]/uint16_t length/' have_alignment_1 $words &&
+            not_compiled 's/uint8_t held;/uint8_t other;/; s/uint8_t first;/uint8_t held;/; s/uint8_t other;/uint8_t first;/' 'have_held_at_0 have_first_at_1' $words &&
+            not_compiled 's/uint8_t first;/uint8_t first[2];/' 'have_length_at_2 have_personality_at_4 have_state_at_481' $words || exit 1
+    done
     ;;
 conditions)
     run conditions examples/*/personality*.bin

@@ -391,30 +391,40 @@ static void roads_between_fences(const struct site *site)
 /* ── Cabinets ── */
 
 /* Places a site in a record and steps it with the inputs of `run`, in this row and these outputs. */
-static uint64_t run_placed(const struct site *site, uint64_t seed, uint8_t *row, size_t record, uint8_t *outputs)
+static uint64_t run_placed(const struct site *site, uint64_t seed, struct willowera_record *row, size_t record, uint8_t *outputs)
 {
-    const uint8_t *state = row + record * WILLOWERA_RECORD_BYTES + WILLOWERA_RECORD_STATE;
-    const size_t rows = WILLOWERA_ROW_BYTES, room = WILLOWERA_OUTPUTS, first = WILLOWERA_OUTPUTS - site->groups;
+    const struct willowera_record *own = &row[record];
+    const size_t records = WILLOWERA_RECORDS, room = WILLOWERA_OUTPUTS, first = WILLOWERA_OUTPUTS - site->groups;
     uint64_t random = seed * UINT64_C(0x9e3779b97f4a7c15) + 1, sum = 0;
 
-    need(willowera_cabinet_place(row, rows, record, site->personality, site->length, first, outputs, room) == 0, "a placed site");
+    need(willowera_cabinet_place(row, records, record, site->personality, site->length, first, outputs, room) == 0, "a placed site");
+    need(own->held != 0 && own->first == first && WILLOWERA_TWO_BYTES(own->length, 0) == site->length, "what a record says of its site");
+    need(memcmp(own->personality, site->personality, site->length) == 0, "the personality that is held");
     for (int step = 0; step < STEPS; step++) {
         uint64_t inputs = draw(&random) & draw(&random) & draw(&random) & site->known;
-        uint64_t answer = willowera_cabinet_step(row, rows, record, inputs, outputs, room);
+        uint64_t answer = willowera_cabinet_step(row, records, record, inputs, outputs, room);
         need(WILLOWERA_NUMBER(answer) == WILLOWERA_ACCEPTED, "a step of a placed site");
-        sum = digest(sum ^ answer, state, WILLOWERA_STATE_BYTES);
+        sum = digest(sum ^ answer, own->state, WILLOWERA_STATE_BYTES);
         sum = digest(sum, outputs + first, site->groups);
     }
-    need(willowera_cabinet_take_out(row, rows, record, outputs, room) == 0, "a site that is taken out");
+    need(willowera_cabinet_take_out(row, records, record, outputs, room) == 0, "a site that is taken out");
     return sum;
 }
 
-static int all_are(const uint8_t *bytes, size_t length, uint8_t value)
+static int all_are(const void *memory, size_t length, uint8_t value)
 {
+    const uint8_t *bytes = memory;
+
     for (size_t i = 0; i < length; i++)
         if (bytes[i] != value)
             return 0;
     return 1;
+}
+
+/* The place of a row, as that of a buffer. */
+static struct willowera_record *place_row(uint8_t *page, size_t records, int at_end)
+{
+    return (struct willowera_record *)place(page, records * WILLOWERA_RECORD_BYTES, at_end);
 }
 
 /* In every record a site runs as alone, reads and writes nothing beside its buffers, leaves the other records and outputs, and never writes the
@@ -427,16 +437,16 @@ static void cabinets_between_fences(const struct site *site)
         int at_end = record % 2 == 0;
         uint8_t *pages[3] = {fenced_page(), fenced_page(), fenced_page()};
         struct site fenced = fenced_site(site, pages[0], at_end);
-        uint8_t *row = place(pages[1], WILLOWERA_ROW_BYTES, at_end), *outputs = place(pages[2], WILLOWERA_OUTPUTS, at_end);
-        uint8_t *own = row + record * WILLOWERA_RECORD_BYTES;
+        struct willowera_record *row = place_row(pages[1], WILLOWERA_RECORDS, at_end), *own = row + record;
+        uint8_t *outputs = place(pages[2], WILLOWERA_OUTPUTS, at_end);
 
         memset(row, 0xc5, WILLOWERA_ROW_BYTES);
-        memset(own, 0, WILLOWERA_RECORD_BYTES);
+        memset(own, 0, sizeof *own);
         memset(outputs, 0xc5, WILLOWERA_OUTPUTS);
         need(run_placed(&fenced, 4, row, record, outputs) == expected, "a run in a cabinet");
-        need(all_are(own, WILLOWERA_RECORD_BYTES, 0), "zeros in a free record");
-        need(all_are(row, (size_t)(own - row), 0xc5), "the records before it stay");
-        need(all_are(own + WILLOWERA_RECORD_BYTES, (WILLOWERA_RECORDS - 1 - record) * WILLOWERA_RECORD_BYTES, 0xc5), "the records behind it stay");
+        need(all_are(own, sizeof *own, 0), "zeros in a free record");
+        need(all_are(row, record * sizeof *row, 0xc5), "the records before it stay");
+        need(all_are(own + 1, (WILLOWERA_RECORDS - 1 - record) * sizeof *row, 0xc5), "the records behind it stay");
         need(all_are(outputs, WILLOWERA_OUTPUTS - site->groups, 0xc5), "the other outputs stay");
         need(all_are(outputs + WILLOWERA_OUTPUTS - site->groups, site->groups, WILLOWERA_DARK), "dark outputs");
         for (int i = 0; i < 3; i++)
@@ -444,39 +454,98 @@ static void cabinets_between_fences(const struct site *site)
     }
 }
 
-/* A refused call of a cabinet writes nothing: its row and its outputs cannot be written. A row of another length has no records. */
+/* Records for refusals: a site on the last outputs; a free one; a site whose outputs go past the 32nd; a site with a cut personality. */
+enum { HELD, FREE, PAST, CUT };
+
+static void put_records(const struct site *site, struct willowera_record *row, uint8_t *outputs)
+{
+    const size_t records = WILLOWERA_RECORDS, last = WILLOWERA_OUTPUTS - site->groups;
+
+    need(willowera_cabinet_place(row, records, HELD, site->personality, site->length, last, outputs, WILLOWERA_OUTPUTS) == 0, "a placed site");
+    row[PAST] = row[HELD];
+    row[PAST].first = (uint8_t)(last + 1);
+    row[CUT] = row[HELD];
+    row[CUT].length[0] = 1;
+    row[CUT].length[1] = 0;
+}
+
+static void refused_placings(const struct site *site, struct willowera_record *row, uint8_t *outputs)
+{
+    const uint8_t *bytes = site->personality;
+    const size_t records = WILLOWERA_RECORDS, length = site->length, room = WILLOWERA_OUTPUTS, last = WILLOWERA_OUTPUTS - site->groups;
+
+    need(willowera_cabinet_place(row, records, FREE, bytes, length - 1, 0, outputs, room) % 256 != 0, "a cut personality");
+    need(willowera_cabinet_place(row, records, HELD, bytes, length, 0, outputs, room) == WILLOWERA_WRONG_RECORD, "24 for a record that is not free");
+    need(willowera_cabinet_place(row, records, CUT, bytes, length, 0, outputs, room) == WILLOWERA_WRONG_RECORD, "24 for one with a cut personality");
+    need(willowera_cabinet_place(row, records, FREE, bytes, length, last + 1, outputs, room) == WILLOWERA_OUTPUTS_TAKEN, "25 past the 32nd");
+    need(willowera_cabinet_place(row, records, FREE, bytes, length, UINT64_MAX, outputs, room) == WILLOWERA_OUTPUTS_TAKEN, "25 for any number");
+    need(willowera_cabinet_place(row, records, FREE, bytes, length, last, outputs, room) == WILLOWERA_OUTPUTS_TAKEN, "25 for taken outputs");
+    need(willowera_cabinet_place(NULL, 0, 0, NULL, 0, 0, NULL, 0) == WILLOWERA_CUT_SHORT, "placing nothing");
+}
+
+static void refused_steps(const struct site *site, struct willowera_record *row, uint8_t *outputs)
+{
+    const size_t records = WILLOWERA_RECORDS, room = WILLOWERA_OUTPUTS;
+
+    need(willowera_cabinet_step(row, records, FREE, 0, outputs, room) == WILLOWERA_WRONG_RECORD, "24 for a free record");
+    need(willowera_cabinet_step(row, records, CUT, 0, outputs, room) == WILLOWERA_CUT_SHORT, "a step of a cut personality");
+    need(willowera_cabinet_step(row, records, PAST, 0, outputs, room) == WILLOWERA_OUTPUTS_TAKEN, "25 when stepping");
+    need(willowera_cabinet_step(row, records, HELD, ~site->known, outputs, room - 1) == WILLOWERA_STRAY_INPUT, "15 before 14");
+    need(willowera_cabinet_step(row, records, HELD, 0, outputs, room - 1) == WILLOWERA_BUFFER_SHORT, "14 when stepping");
+    need(willowera_cabinet_step(row, records, HELD, 0, NULL, 0) == WILLOWERA_BUFFER_SHORT, "no outputs");
+}
+
+static void refused_takings(struct willowera_record *row, uint8_t *outputs)
+{
+    const size_t records = WILLOWERA_RECORDS, room = WILLOWERA_OUTPUTS;
+
+    need(willowera_cabinet_take_out(row, records, FREE, outputs, room) == WILLOWERA_WRONG_RECORD, "24 for a free record that is taken out");
+    need(willowera_cabinet_take_out(row, records, CUT, outputs, room) == WILLOWERA_CUT_SHORT, "a cut personality that is taken out");
+    need(willowera_cabinet_take_out(row, records, PAST, outputs, room) == WILLOWERA_OUTPUTS_TAKEN, "25 when taking out");
+    need(willowera_cabinet_take_out(row, records, HELD, outputs, room - 1) == WILLOWERA_BUFFER_SHORT, "14 when taking out");
+    need(willowera_cabinet_take_out(row, records, HELD, NULL, 0) == WILLOWERA_BUFFER_SHORT, "no outputs when taking out");
+}
+
+/* A number of records and a record of which there is none: 24 from each call. */
+static void no_such_record(const struct site *site, struct willowera_record *row, uint64_t records, uint64_t record, uint8_t *outputs)
+{
+    const size_t room = WILLOWERA_OUTPUTS;
+
+    need(willowera_cabinet_place(row, records, record, site->personality, site->length, 0, outputs, room) == WILLOWERA_WRONG_RECORD,
+         "24 for placing in no record");
+    need(willowera_cabinet_step(row, records, record, 0, outputs, room) == WILLOWERA_WRONG_RECORD, "24 for a step of no record");
+    need(willowera_cabinet_take_out(row, records, record, outputs, room) == WILLOWERA_WRONG_RECORD, "24 for taking out of no record");
+}
+
+/* A refused call of a cabinet writes nothing: its row and its outputs cannot be written. The row has a record more than a cabinet. */
 static void cabinet_refusals_write_nothing(const struct site *site)
 {
-    uint8_t *pages[2] = {fenced_page(), fenced_page()};
-    uint8_t *row = place(pages[0], WILLOWERA_ROW_BYTES + 1, 1), *outputs = place(pages[1], WILLOWERA_OUTPUTS, 1);
-    const uint8_t *bytes = site->personality;
-    const size_t rows = WILLOWERA_ROW_BYTES, length = site->length, room = WILLOWERA_OUTPUTS, last = WILLOWERA_OUTPUTS - site->groups;
-    const size_t others[] = {0, 1, WILLOWERA_RECORD_BYTES, rows - 1, rows + 1};
+    uint8_t *pages[2] = {fenced_page(), fenced_page()}, *outputs = place(pages[1], WILLOWERA_OUTPUTS, 1);
+    struct willowera_record *row = place_row(pages[0], WILLOWERA_RECORDS + 1, 1);
+    const size_t records = WILLOWERA_RECORDS, room = WILLOWERA_OUTPUTS;
 
-    need(willowera_cabinet_place(row, rows, 0, bytes, length, last, outputs, room) == 0, "a placed site");
+    put_records(site, row, outputs);
     only_read(pages[0]);
     only_read(pages[1]);
-    need(willowera_cabinet_place(row, rows, 1, bytes, length - 1, 0, outputs, room) % 256 != 0, "a cut personality");
-    need(willowera_cabinet_place(row, rows, 0, bytes, length, 0, outputs, room) == WILLOWERA_WRONG_RECORD, "24 for a record that is not free");
-    need(willowera_cabinet_place(row, rows, 4, bytes, length, 0, outputs, room) == WILLOWERA_WRONG_RECORD, "24 for record 4");
-    need(willowera_cabinet_place(row, rows, UINT64_MAX, bytes, length, 0, outputs, room) == WILLOWERA_WRONG_RECORD, "24 for any number");
-    need(willowera_cabinet_place(row, rows, 1, bytes, length, last + 1, outputs, room) == WILLOWERA_OUTPUTS_TAKEN, "25 past the 32nd");
-    need(willowera_cabinet_place(row, rows, 1, bytes, length, UINT64_MAX, outputs, room) == WILLOWERA_OUTPUTS_TAKEN, "25 for any number");
-    need(willowera_cabinet_place(row, rows, 1, bytes, length, last, outputs, room) == WILLOWERA_OUTPUTS_TAKEN, "25 for taken outputs");
-    need(willowera_cabinet_step(row, rows, 0, ~site->known, outputs, room - 1) == WILLOWERA_STRAY_INPUT, "15 before 14");
-    need(willowera_cabinet_step(row, rows, 0, 0, outputs, room - 1) == WILLOWERA_BUFFER_SHORT, "14 when stepping");
-    need(willowera_cabinet_take_out(row, rows, 0, outputs, room - 1) == WILLOWERA_BUFFER_SHORT, "14 when taking out");
-    need(willowera_cabinet_step(row, rows, 1, 0, outputs, room) == WILLOWERA_WRONG_RECORD, "24 for a free record");
-    need(willowera_cabinet_take_out(row, rows, 1, outputs, room) == WILLOWERA_WRONG_RECORD, "24 for a free record that is taken out");
-    for (size_t i = 0; i < sizeof others / sizeof *others; i++) {
-        uint8_t *other = others[i] == 0 ? NULL : row;
-        need(willowera_cabinet_place(other, others[i], 1, bytes, length, 0, outputs, room) == WILLOWERA_WRONG_RECORD, "24 for another row");
-        need(willowera_cabinet_step(other, others[i], 0, 0, outputs, room) == WILLOWERA_WRONG_RECORD, "24 for a step in another row");
-        need(willowera_cabinet_take_out(other, others[i], 0, outputs, room) == WILLOWERA_WRONG_RECORD, "24 for taking out of another row");
-    }
-    need(willowera_cabinet_place(NULL, 0, 0, NULL, 0, 0, NULL, 0) == WILLOWERA_CUT_SHORT, "placing nothing");
-    need(willowera_cabinet_step(row, rows, 0, 0, NULL, 0) == WILLOWERA_BUFFER_SHORT, "no outputs");
-    need(willowera_cabinet_take_out(row, rows, 0, NULL, 0) == WILLOWERA_BUFFER_SHORT, "no outputs when taking out");
+    refused_placings(site, row, outputs);
+    refused_steps(site, row, outputs);
+    refused_takings(row, outputs);
+    no_such_record(site, row, records, WILLOWERA_RECORDS, outputs);
+    no_such_record(site, row, records, UINT64_MAX, outputs);
+    for (size_t other = 0; other <= WILLOWERA_RECORDS + 1; other++)
+        for (size_t record = 0; record < WILLOWERA_RECORDS && other != WILLOWERA_RECORDS; record++)
+            no_such_record(site, other == 0 ? NULL : row, other, record, outputs);
+
+    writable(pages[0]);
+    memset(row[HELD].state, 255, WILLOWERA_STATE_BYTES);
+    only_read(pages[0]);
+    need(willowera_cabinet_step(row, records, HELD, 0, outputs, room) == WILLOWERA_STATE_NOT_VALID, "13 for bytes that are no state");
+
+    writable(pages[0]);
+    memset(row, 0, WILLOWERA_ROW_BYTES);
+    only_read(pages[0]);
+    need(willowera_cabinet_place(row, records, FREE, site->personality, site->length, 0, outputs, room - 1) == WILLOWERA_BUFFER_SHORT,
+         "14 when placing");
     for (int i = 0; i < 2; i++)
         free_page(pages[i]);
 }
@@ -494,7 +563,8 @@ static void cabinet_alignments(const struct site *site)
         memset(room, 0, sizeof room);
         memcpy(personality, site->personality, site->length);
         touching.personality = personality;
-        need(run_placed(&touching, 5, row, shift % WILLOWERA_RECORDS, outputs) == expected, "a cabinet at any alignment");
+        need(run_placed(&touching, 5, (struct willowera_record *)row, shift % WILLOWERA_RECORDS, outputs) == expected,
+             "a cabinet at any alignment");
         need(memcmp(personality, site->personality, site->length) == 0, "the personality stays");
     }
 }

@@ -4,9 +4,10 @@
 #include "willowera.h"
 #include "willowera_words.h"
 
-/* Each call, with its types: every length, record and first output has 64 bits, also on a 32-bit processor. */
+/* Each call, with its types: every length, number of records, record and first output has 64 bits, also on a 32-bit processor. */
 typedef const uint8_t *bytes;
 typedef uint8_t *room;
+typedef struct willowera_record *row;
 
 extern const struct calls {
     uint64_t (*of_one)(bytes, uint64_t);
@@ -20,9 +21,9 @@ extern const struct calls {
     uint64_t (*road)(bytes, uint64_t, bytes, uint64_t, uint32_t, room, uint64_t, room, uint64_t);
     uint64_t (*yellow)(uint32_t, int32_t);
     uint64_t (*section)(bytes, uint64_t, uint16_t);
-    uint64_t (*place)(room, uint64_t, uint64_t, bytes, uint64_t, uint64_t, room, uint64_t);
-    uint64_t (*cabinet_step)(room, uint64_t, uint64_t, uint64_t, room, uint64_t);
-    uint64_t (*take_out)(room, uint64_t, uint64_t, room, uint64_t);
+    uint64_t (*place)(row, uint64_t, uint64_t, bytes, uint64_t, uint64_t, room, uint64_t);
+    uint64_t (*cabinet_step)(row, uint64_t, uint64_t, uint64_t, room, uint64_t);
+    uint64_t (*take_out)(row, uint64_t, uint64_t, room, uint64_t);
     uint32_t (*version)(void);
     size_t (*explain)(bytes, uint64_t, uint64_t, char *, size_t);
 } calls[];
@@ -47,6 +48,7 @@ MUST(have_times_of_movements, WILLOWERA_TIMES_MOVEMENTS + 6 * WILLOWERA_MOST_MOV
 MUST(have_early_times_last, WILLOWERA_TIMES_EARLY + 2 * WILLOWERA_MOST_PHASES == WILLOWERA_TIMES_BYTES);
 MUST(write_two_bytes_for_each_wait, WILLOWERA_MOST_WAIT_BYTES == 2 * (WILLOWERA_MOST_PHASES + WILLOWERA_MOST_MOVEMENTS));
 MUST(seal_a_state, WILLOWERA_SEALED_BYTES == 1 + 2 + 4 + WILLOWERA_STATE_BYTES + 4);
+MUST(have_records_one_after_the_other, sizeof(struct willowera_record[WILLOWERA_RECORDS]) == WILLOWERA_ROW_BYTES && WILLOWERA_ROW_BYTES == 3268);
 
 /* Every accessor of a state, against the bytes that docs/DATA-SHEET.md gives the field. Byte i of the state is 7 i + 1, modulo 256. */
 static unsigned one(unsigned at)

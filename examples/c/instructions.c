@@ -1,5 +1,5 @@
-/* Step calls of a site with random inputs at its detectors and buttons, to be counted by valgrind (examples/c/instructions.sh): the site
- * alone, then the same site with the same inputs in a cabinet.
+/* Calls to be counted by valgrind (examples/c/instructions.sh): steps of a site alone, with random inputs at its detectors and buttons; steps
+ * of the same site with the same inputs in a cabinet; then placing and taking out, as often, in a row whose other records are free.
  *
  * The number of detectors and of movements is read by willowera_section: a record of section 5 has 2 bytes, one of section 6 has 6. Each
  * input bit is set in one step of eight, so that calls, extensions and rests all occur.
@@ -46,15 +46,35 @@ static void step_alone(const uint8_t *personality, size_t length, uint64_t wired
         accepted(willowera_step(personality, length, state, sizeof state, random_inputs(&random, wired), colours, sizeof colours));
 }
 
+static struct willowera_record row[WILLOWERA_RECORDS];
+static uint8_t outputs[WILLOWERA_OUTPUTS];
+
+static void place(const uint8_t *personality, size_t length)
+{
+    accepted(willowera_cabinet_place(row, WILLOWERA_RECORDS, 0, personality, length, 0, outputs, sizeof outputs));
+}
+
+static void take_out(void)
+{
+    accepted(willowera_cabinet_take_out(row, WILLOWERA_RECORDS, 0, outputs, sizeof outputs));
+}
+
 static void step_in_cabinet(const uint8_t *personality, size_t length, uint64_t wired, long steps)
 {
-    static uint8_t row[WILLOWERA_ROW_BYTES];
-    uint8_t outputs[WILLOWERA_OUTPUTS] = {0};
     uint64_t random = 88172645463325252u;
 
-    accepted(willowera_cabinet_place(row, sizeof row, 0, personality, length, 0, outputs, sizeof outputs));
+    place(personality, length);
     for (long i = 0; i < steps; i++)
-        accepted(willowera_cabinet_step(row, sizeof row, 0, random_inputs(&random, wired), outputs, sizeof outputs));
+        accepted(willowera_cabinet_step(row, WILLOWERA_RECORDS, 0, random_inputs(&random, wired), outputs, sizeof outputs));
+    take_out();
+}
+
+static void place_and_take_out(const uint8_t *personality, size_t length, long times)
+{
+    for (long i = 0; i < times; i++) {
+        place(personality, length);
+        take_out();
+    }
 }
 
 int main(int count, char **words)
@@ -77,5 +97,6 @@ int main(int count, char **words)
     long steps = strtol(words[2], NULL, 10);
     step_alone(personality, length, wired, steps);
     step_in_cabinet(personality, length, wired, steps);
+    place_and_take_out(personality, length, steps);
     return 0;
 }

@@ -29,11 +29,13 @@ union word {
 
 struct call {
     const char *name;
-    const char *letters; /* one for each argument: p pointer, l length, q w h numbers of 64, 32, 16 bits, i signed 32 bits, d double */
+    /* One for each argument: p pointer, l length (of a row: its number of records), q w h numbers of 64, 32, 16 bits, i signed 32 bits, d double. */
+    const char *letters;
     uint64_t (*make)(const union word *word);
 };
 
 #define P(i) word[i].pointer
+#define ROW(i) ((struct willowera_record *)P(i))
 #define N(i) word[i].number
 #define W(i) ((uint32_t)N(i))
 #define CALL(name, letters, arguments)                     \
@@ -68,9 +70,9 @@ CALL(resume, "plplpl", (P(0), N(1), P(2), N(3), P(4), N(5)))
 CALL(settings, "wwd", (W(0), W(1), real(N(2))))
 CALL(yellow, "wi", (W(0), (int32_t)W(1)))
 CALL(road, "plplwplpl", (P(0), N(1), P(2), N(3), W(4), P(5), N(6), P(7), N(8)))
-CALL(cabinet_place, "plqplqpl", (P(0), N(1), N(2), P(3), N(4), N(5), P(6), N(7)))
-CALL(cabinet_step, "plqqpl", (P(0), N(1), N(2), N(3), P(4), N(5)))
-CALL(cabinet_take_out, "plqpl", (P(0), N(1), N(2), P(3), N(4)))
+CALL(cabinet_place, "plqplqpl", (ROW(0), N(1), N(2), P(3), N(4), N(5), P(6), N(7)))
+CALL(cabinet_step, "plqqpl", (ROW(0), N(1), N(2), N(3), P(4), N(5)))
+CALL(cabinet_take_out, "plqpl", (ROW(0), N(1), N(2), P(3), N(4)))
 
 static const struct call *const known[] = {
     &call_version, &call_read,     &call_wait_bound, &call_groups,        &call_section,      &call_fresh,

@@ -3,7 +3,8 @@
 
 /// A call: its name, and one letter for each argument: p is a
 /// pointer, l a length, q another 64-bit number, w a 32-bit one, h a 16-bit one, i a
-/// signed 32-bit one, d the bits of a double.
+/// signed 32-bit one, d the bits of a double. The row of a cabinet is a pointer to its
+/// first byte, and its length is the number of its records.
 pub struct Export {
     pub name: &'static str,
     pub letters: &'static str,

@@ -36,7 +36,8 @@ impl Place {
     }
 }
 
-/// A buffer that is handed to a call. The length may be another than that of the bytes.
+/// A buffer that is handed to a call. The length may be another than that of the bytes;
+/// that of a row is its number of records.
 #[derive(Clone, Copy, Debug)]
 pub struct Buffer {
     pub place: Place,
@@ -202,7 +203,7 @@ impl Recorder {
             })
             .collect();
         // SAFETY: a pointer into the arena has its bytes behind it, except where
-        // `scenes::far` says why no call reads or writes the bytes that are missing.
+        // `scenes` says why no call reads or writes the bytes that are missing.
         // Buffers that are written overlap no other.
         unsafe { export.call(&words) }
     }

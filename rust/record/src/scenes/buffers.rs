@@ -6,11 +6,13 @@ use super::roads::results_len;
 use crate::recorder::{Buffer, Handed, Place, Recorder, ALIGNMENT};
 use generate::{held_record, known_inputs, retimed, running_timed_state, Plan, Rng, RoadPlan};
 use model::{row_of, seal, Record, Site};
-use model::{LONGEST_LINE, MOST_WAIT_BYTES, OUTPUTS, ROW_LEN, SEALED_LEN, STATE_LEN};
+use model::{LONGEST_LINE, MOST_WAIT_BYTES, OUTPUTS, RECORDS, ROW_LEN, SEALED_LEN, STATE_LEN};
 
 /// What is handed to a call.
 enum Part {
     Buffer(Vec<u8>),
+    /// The row of a cabinet, handed over with its number of records.
+    Row(Vec<u8>),
     /// A number of 64 bits.
     Wide(u64),
     /// A number of fewer bits.
@@ -74,8 +76,9 @@ impl Recorder {
     /// - A personality is read section by section. Behind the last one at most four
     ///   bytes are read, the head of a section that may follow. They are in the arena, all
     ///   equal, and so no head of kind 7 or 9. The answer is 12.
-    /// - A state, a row and a sealed record have one right length. Another is refused
-    ///   before a byte is read, except the first byte of a record to be resumed.
+    /// - A state and a sealed record have one right length, and a row one right number of
+    ///   records. Another is refused before a byte is read, except the first byte of a
+    ///   record to be resumed.
     /// - Streams are counted before one is read; more than 48 are refused.
     /// - Of colours, line, waits, results and outputs only the bytes that the call needs are
     ///   written, and they are in the arena. The call is accepted.
@@ -116,10 +119,13 @@ impl Recorder {
         let mut handed = Vec::new();
         for (index, part) in sample.parts.iter().enumerate() {
             handed.push(match part {
-                Part::Buffer(bytes) => {
+                Part::Buffer(bytes) | Part::Row(bytes) => {
                     let buffer = take(self, index, bytes.len());
                     self.put(buffer, bytes);
-                    buffer.into()
+                    match part {
+                        Part::Row(_) => buffer.with_length(RECORDS).into(),
+                        _ => buffer.into(),
+                    }
                 }
                 Part::Wide(number) | Part::Small(number) => Handed::Number(*number),
             });
@@ -131,7 +137,8 @@ impl Recorder {
 impl Sample {
     /// The indices of the parts that are buffers.
     fn buffers(&self) -> Vec<usize> {
-        let is_buffer = |index: &usize| matches!(self.parts[*index], Part::Buffer(_));
+        let is_buffer =
+            |index: &usize| matches!(self.parts[*index], Part::Buffer(_) | Part::Row(_));
         (0..self.parts.len()).filter(is_buffer).collect()
     }
 }
@@ -199,14 +206,14 @@ fn site_samples(rng: &mut Rng) -> Vec<Sample> {
 }
 
 fn cabinet_samples(rng: &mut Rng) -> Vec<Sample> {
-    let mut records = [Record::FREE; 4];
+    let mut records = [Record::FREE; RECORDS];
     records[2] = held_record(rng);
-    let held = || Part::Buffer(row_of(&records).to_vec());
+    let held = || Part::Row(row_of(&records).to_vec());
     let personality = Plan::small(rng, 8).bytes();
     let outputs = || Part::Buffer(vec![7; OUTPUTS]);
     let [record, first] = [2, 0].map(Part::Wide);
     let place = vec![
-        Part::Buffer(vec![0; ROW_LEN]),
+        Part::Row(vec![0; ROW_LEN]),
         record,
         Part::Buffer(personality),
         first,

@@ -9,22 +9,24 @@ use model::{records_of, row_of, Record, OUTPUTS, RECORDS, RECORD_LEN, ROOM, ROW_
 /// The calls of a list.
 const LIST: usize = 80;
 
-/// The longest row.
-const MOST_ROW: usize = 5 * RECORD_LEN;
+/// The most records of a row; a cabinet has fewer.
+const MOST_RECORDS: usize = RECORDS + 1;
 
 /// The longest output buffer.
 const MOST_OUTPUTS: usize = 2 * OUTPUTS;
 
-/// The buffers of a cabinet.
+/// The buffers of a cabinet. The row is in bytes, and is handed over with its number of
+/// records.
 struct Buffers {
     row: Buffer,
+    records: usize,
     personality: Buffer,
     outputs: Buffer,
 }
 
 impl Recorder {
     pub(super) fn cabinet_list(&mut self) {
-        let buffers = self.begin_cabinet(ROW_LEN, 0);
+        let buffers = self.begin_cabinet(RECORDS, 0);
         for _ in 0..LIST {
             let records = self.records(buffers.row);
             let call = CabinetCall::random(&mut self.rng, &records);
@@ -40,7 +42,7 @@ impl Recorder {
     /// Calls on a row of any content, each on the row as it was.
     pub(super) fn cabinet_rows(&mut self) {
         let byte = self.rng.byte();
-        let buffers = self.begin_cabinet(ROW_LEN, byte);
+        let buffers = self.begin_cabinet(RECORDS, byte);
         let records = any_records(&mut self.rng);
         for _ in 0..10 {
             self.put(buffers.row, &row_of(&records));
@@ -52,23 +54,24 @@ impl Recorder {
         }
     }
 
-    /// Calls on rows and outputs of other lengths.
+    /// Calls on rows of other numbers of records, and on outputs of other lengths. One
+    /// number is that of the bytes of a row: no call reads or writes a record of such a
+    /// row, so that those behind the arena's do no harm.
     pub(super) fn cabinet_buffers(&mut self) {
-        let buffers = self.begin_cabinet(MOST_ROW, 0);
+        let buffers = self.begin_cabinet(MOST_RECORDS, 0);
         let records = any_records(&mut self.rng);
         for _ in 0..10 {
             self.put(buffers.row, &row_of(&records));
             let call = CabinetCall::random_of_cabinet(&mut self.rng, &records);
-            let anywhere = self.rng.below(MOST_ROW);
-            let whole = self.rng.below(6) * RECORD_LEN;
-            let lengths = [ROW_LEN, ROW_LEN - 1, ROW_LEN + 1, whole, anywhere];
-            let row = buffers.row.with_length(self.rng.pick(&lengths));
+            let any = self.rng.below(MOST_RECORDS + 1);
+            let numbers = [RECORDS, RECORDS - 1, RECORDS + 1, ROW_LEN, any];
+            let number = self.rng.pick(&numbers);
             let anywhere = self.rng.below(MOST_OUTPUTS);
             let lengths = [0, OUTPUTS - 1, OUTPUTS, OUTPUTS + 1, anywhere];
             let outputs = buffers.outputs.with_length(self.rng.pick(&lengths));
             self.cabinet(
                 &Buffers {
-                    row,
+                    records: number,
                     outputs,
                     ..buffers
                 },
@@ -77,10 +80,11 @@ impl Recorder {
         }
     }
 
-    fn begin_cabinet(&mut self, row: usize, byte: u8) -> Buffers {
+    fn begin_cabinet(&mut self, records: usize, byte: u8) -> Buffers {
         self.begin_with(byte);
         Buffers {
-            row: self.room(row),
+            row: self.room(records * RECORD_LEN),
+            records,
             personality: self.room(MOST_PERSONALITY),
             outputs: self.room(MOST_OUTPUTS),
         }
@@ -94,10 +98,12 @@ impl Recorder {
     /// personality and the state in the row.
     fn cabinet(&mut self, buffers: &Buffers, call: &CabinetCall) {
         let Buffers {
-            row,
+            row: bytes,
+            records,
             personality,
             outputs,
         } = *buffers;
+        let row = bytes.with_length(records);
         let handed = call.personality();
         if handed.len() > MOST_PERSONALITY {
             return;
@@ -126,10 +132,10 @@ impl Recorder {
                 self.call("cabinet_take_out", &[row.into(), number, outputs.into()]);
             }
             CabinetCall::Retime { .. } => {
-                let length = self.records(row)[record].personality().len();
+                let length = self.records(bytes)[record].personality().len();
                 let at = record * RECORD_LEN + RECORD_LEN - STATE_LEN;
-                let own = row.part(at - ROOM, length);
-                let state = row.part(at, STATE_LEN);
+                let own = bytes.part(at - ROOM, length);
+                let state = bytes.part(at, STATE_LEN);
                 self.call("retime", &[own.into(), state.into(), personality.into()]);
                 self.call("section", &[own.into(), 2.into()]);
                 self.call("why_length", &[own.into(), state.into(), 0.into()]);
