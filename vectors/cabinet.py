@@ -40,9 +40,11 @@ def outputs_of(site, first):
 
 
 class Cabinet:
-    """A row and outputs, both of any length and content. Each call answers a number, and the place or the wait."""
+    """A row of any number of records, and outputs of any length, both of any content. Each call answers a number, and the place or the
+    wait."""
 
     def __init__(self, row=bytes(ROW_BYTES), outputs=bytes(OUTPUTS)):
+        assert len(row) % RECORD_BYTES == 0
         self.row, self.outputs = row, outputs
 
     def place(self, index, personality, first):
@@ -67,7 +69,8 @@ class Cabinet:
             return refusal.number, refusal.place
 
     def records(self):
-        if len(self.row) != ROW_BYTES:
+        """The records of the row. There are none if a call hands over another number of them than a cabinet has."""
+        if len(self.row) // RECORD_BYTES != RECORDS:
             return []
         return [Record(self.row[at:at + RECORD_BYTES]) for at in range(0, ROW_BYTES, RECORD_BYTES)]
 

@@ -1,6 +1,6 @@
 #!/usr/bin/env python3
-"""Writes the vectors of the cabinet. Of each: the row and the outputs, both behind a two-byte length; the number of calls (2 bytes); the
-calls, one after the other on the same row and outputs.
+"""Writes the vectors of the cabinet. Of each: the number of records that are handed over (2 bytes) and the row, which is their bytes; the
+outputs behind a two-byte length; the number of calls (2 bytes); the calls, one after the other on the same row and outputs.
 
 A call is its kind (1 byte: 0 place, 1 step, 2 take out, 3 retime) and the record (8 bytes); of a placing also the first output (8) and the
 personality behind a two-byte length, of a step the inputs (8), of a retiming the new personality behind a two-byte length. Then come the
@@ -34,7 +34,7 @@ class Vector:
     seen = Counter()
 
     def __init__(self, row=bytes(ROW_BYTES), outputs=bytes(OUTPUTS)):
-        self.cabinet, self.start = Cabinet(row, outputs), behind_length(row) + behind_length(outputs)
+        self.cabinet, self.start = Cabinet(row, outputs), little(len(row) // RECORD_BYTES, 2) + row + behind_length(outputs)
         self.calls = []
 
     def call(self, kind, record, *more):
@@ -201,14 +201,13 @@ def heads():
 
 
 def lengths():
-    """Rows and outputs of other lengths."""
+    """Rows of other numbers of records, and outputs of other lengths."""
     site = junction()
     row = record_of(site) + record_of(site, 2) + FREE * 2
     calls = ((PLACE, 2, site, 4), (PLACE, 2, b"", 4), (STEP, 1, 0), (TAKE_OUT, 0))
-    for size in (0, 1, 816, 817, 1634, 2080, 2451, 3267, 3269, 4085, 6536):
-        vector = Vector((row * 2)[:size], bytes([9] * 32))
-        for call in calls:
-            vector.call(*call)
+    for records in (0, 1, 2, 3, 5, 6, 7, 8):
+        vector = Vector((row * 2)[:records * RECORD_BYTES], bytes([9] * 32))
+        assert [vector.call(*call) for call in calls] == [(24, 0), (1, 0), (24, 0), (24, 0)]
         yield vector
     for size in (*range(30, 35), 0, 1, 64):
         vector = Vector(row, bytes([9] * size))

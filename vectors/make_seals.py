@@ -116,9 +116,9 @@ def worked():
     """The record of the junction's fresh state, part by part; the check value that is published for it."""
     assert crc32(b"123456789") == 0xCBF43926
     calls = Calls(junction(), fresh(junction(), bytes(STATE_BYTES))[2])
-    assert calls.groups() == (0, 2) and len(calls.sealed) == 347 and calls.sealed[:3] == b"\5\x44\0"
+    assert calls.groups() == (0, 2) and len(calls.sealed) == 347 and calls.sealed[:3] == b"\6\x44\0"
     assert calls.seal() == (0, 0) and calls.resume() == (0, 0)
-    for sealed, expected in ((with_byte(calls.sealed, 0, 4), 27), (b"\4", 27), (b"", 28), (b"\5", 28), (calls.sealed[:-1], 28),
+    for sealed, expected in ((with_byte(calls.sealed, 0, 5), 27), (b"\5", 27), (b"", 28), (b"\6", 28), (calls.sealed[:-1], 28),
                              (calls.sealed + b"\0", 28), (with_byte(calls.sealed, 100, 9), 28), (record(junction_two(), calls.data), 29),
                              (record(junction(), with_byte(calls.data, 0, 2)), 13)):
         assert calls.resume(sealed) == (expected, 0), expected

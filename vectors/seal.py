@@ -4,7 +4,7 @@ from zlib import crc32
 
 from retime import STATE_BYTES, site_of, taken_apart, verdict_of
 
-VERSION = 5
+VERSION = 6
 # In a record: the version, the length of the personality (2 bytes), its check value (4), the state, the check value of all before it (4).
 NAME, STATE = 1, 7
 CHECK = STATE + STATE_BYTES

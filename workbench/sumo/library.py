@@ -6,7 +6,7 @@ import subprocess
 
 STATE_BYTES = 336
 MOST_GROUPS = 32
-VERSION = 5
+VERSION = 6
 FIRST_BUTTON = 48
 
 

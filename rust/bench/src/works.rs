@@ -5,7 +5,8 @@ use crate::calls::Calls;
 use crate::clock::Work;
 use crate::site::{Bench, INPUTS, TIMES_WAIT};
 use model::{packed, step_timed_on, Site, TimedState};
-use model::{LONGEST_LINE, MAX_GROUPS, MOST_WAIT_BYTES, OUTPUTS, ROW_LEN, SEALED_LEN, STATE_LEN};
+use model::{LONGEST_LINE, MAX_GROUPS, MOST_WAIT_BYTES, OUTPUTS, SEALED_LEN, STATE_LEN};
+use model::{RECORDS, RECORD_LEN};
 use std::hint::black_box;
 
 /// A work goes on only if its calls are accepted.
@@ -96,7 +97,7 @@ impl Bench {
     /// Runs the controller in a cabinet.
     pub fn cabinet_stepper<'a>(&'a self, calls: &'a Calls) -> Work<'a> {
         let (board, personality) = (calls.board, &self.personality);
-        let (mut row, mut outputs) = ([0; ROW_LEN], [0; OUTPUTS]);
+        let (mut row, mut outputs) = ([[0; RECORD_LEN]; RECORDS], [0; OUTPUTS]);
         accepted(board.cabinet_place(&mut row, 0, personality, 0, &mut outputs));
         Box::new(move |call| {
             let (row, inputs) = (black_box(&mut row), self.inputs[call % INPUTS]);

@@ -4,10 +4,11 @@
 use crate::vectors::{run_each, same, take_array, take_behind_length, take_bytes};
 use generate::CabinetCall;
 use model::packed::Board;
+use model::{RecordBytes, RECORD_LEN};
 
 /// One vector: a row and outputs, and the calls made on them.
 struct Vector<'a> {
-    row: &'a [u8],
+    row: &'a [RecordBytes],
     outputs: &'a [u8],
     calls: Vec<Made<'a>>,
 }
@@ -17,7 +18,7 @@ struct Made<'a> {
     call: CabinetCall,
     answer: u64,
     /// The row and the outputs after an accepted call.
-    after: Option<(&'a [u8], &'a [u8])>,
+    after: Option<(&'a [RecordBytes], &'a [u8])>,
 }
 
 /// Runs every vector on a board. Gives their number, or the first that differs.
@@ -26,7 +27,8 @@ pub fn run_cabinet_vectors(board: &dyn Board, file: &[u8]) -> Result<usize, Stri
 }
 
 fn take<'a>(file: &mut &'a [u8]) -> Option<Vector<'a>> {
-    let row = take_behind_length(file)?;
+    let records = u16::from_le_bytes(take_array(file)?);
+    let row = take_row(file, records.into())?;
     let outputs = take_behind_length(file)?;
     let count = u16::from_le_bytes(take_array(file)?);
     let calls = (0..count).map(|_| take_made(file, row.len(), outputs.len()));
@@ -37,7 +39,12 @@ fn take<'a>(file: &mut &'a [u8]) -> Option<Vector<'a>> {
     })
 }
 
-fn take_made<'a>(file: &mut &'a [u8], row_len: usize, outputs_len: usize) -> Option<Made<'a>> {
+/// The bytes of so many records.
+fn take_row<'a>(file: &mut &'a [u8], records: usize) -> Option<&'a [RecordBytes]> {
+    take_bytes(file, RECORD_LEN * records).map(|bytes| bytes.as_chunks().0)
+}
+
+fn take_made<'a>(file: &mut &'a [u8], records: usize, outputs_len: usize) -> Option<Made<'a>> {
     let [kind] = take_array(file)?;
     let record = take_size(file)?;
     let call = match kind {
@@ -60,7 +67,7 @@ fn take_made<'a>(file: &mut &'a [u8], row_len: usize, outputs_len: usize) -> Opt
     let [number] = take_array(file)?;
     let rest = u32::from_le_bytes(take_array(file)?);
     let after = match number {
-        0 => Some((take_bytes(file, row_len)?, take_bytes(file, outputs_len)?)),
+        0 => Some((take_row(file, records)?, take_bytes(file, outputs_len)?)),
         _ => None,
     };
     Some(Made {
@@ -93,7 +100,8 @@ impl Vector<'_> {
             }
             // A refusal leaves both as they were.
             (row, outputs) = made.after.unwrap_or((row, outputs));
-            same(&format!("call {index}, the row"), row, &found_row)?;
+            let (expected, found) = (row.as_flattened(), found_row.as_flattened());
+            same(&format!("call {index}, the row"), expected, found)?;
             same(
                 &format!("call {index}, the outputs"),
                 outputs,
@@ -109,7 +117,7 @@ mod tests {
     use super::*;
     use generate::Plan;
     use model::packed::Model;
-    use model::{Site, TimedState, RECORD_LEN, ROW_LEN};
+    use model::{Site, TimedState, ROW_LEN};
 
     /// The junction is placed in record 1 at output 3, retimed with itself, and taken out
     /// again. A step is then refused with 24. In turn what is handed in, and what is
@@ -118,7 +126,7 @@ mod tests {
         let personality = Plan::junction().bytes();
         let (before, place) = ([0; ROW_LEN], [0, 1, 0, 0, 0, 0, 0, 0, 0]);
         let (mut row, mut outputs) = (before, [9; 33]);
-        let start = [&[0xC4, 0x0C][..], &before, &[33, 0], &outputs, &[4, 0]].concat();
+        let start = [&[4, 0][..], &before, &[33, 0], &outputs, &[4, 0]].concat();
         let first = [3, 0, 0, 0, 0, 0, 0, 0, 68, 0];
         let placing = [&start[..], &place, &first, &personality].concat();
         let record = &mut row[RECORD_LEN..2 * RECORD_LEN];

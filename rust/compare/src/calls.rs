@@ -5,7 +5,7 @@ use crate::difference::{Difference, Handed};
 use crate::tally::Tally;
 use generate::{CabinetCall, Rng, RoadPlan};
 use model::packed::{Board, Model};
-use model::MOST_WAIT_BYTES;
+use model::{RecordBytes, MOST_WAIT_BYTES};
 
 /// A board, the tally of its answers, and where randomness comes from.
 pub struct Comparison<'a> {
@@ -311,12 +311,12 @@ impl Comparison<'_> {
     /// the answer.
     pub fn cabinet(
         &mut self,
-        row: &mut [u8],
+        row: &mut [RecordBytes],
         call: &CabinetCall,
         outputs: &mut [u8],
     ) -> Result<u64, Box<Difference>> {
         let mut handed = Handed {
-            row: row.to_vec(),
+            row: row.as_flattened().to_vec(),
             record: call.record(),
             outputs: outputs.to_vec(),
             ..Handed::default()
@@ -336,17 +336,17 @@ impl Comparison<'_> {
         }
         let [answer_word, row_word, outputs_word] = words_of(call);
         let personality = Guarded::new(&mut self.rng, call.personality());
-        let mut found_row = Guarded::new(&mut self.rng, row);
+        let mut found_row = Guarded::new(&mut self.rng, row.as_flattened());
         let mut found_outputs = Guarded::new(&mut self.rng, outputs);
         let expected = call.make(&Model, row, call.personality(), outputs);
         let found = call.make(
             self.board,
-            found_row.inner_mut(),
+            found_row.inner_mut().as_chunks_mut().0,
             personality.inner(),
             found_outputs.inner_mut(),
         );
         same(answer_word, expected, found, &handed)?;
-        found_row.holds(row_word, row, &handed)?;
+        found_row.holds(row_word, row.as_flattened(), &handed)?;
         found_outputs.holds(outputs_word, outputs, &handed)?;
         personality.untouched("cabinet: the personality handed in", &handed)?;
         self.tally.count_answer(expected);

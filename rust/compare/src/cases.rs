@@ -10,8 +10,8 @@ use generate::{
 };
 use model::packed::Board;
 use model::{
-    records_of, row_of, Site, TimedState, OUTPUTS, PLAIN_LEN, RECORDS, RECORD_LEN, RESULT_LEN,
-    ROW_LEN, SEALED_LEN, STATE_LEN, STREAM_LEN,
+    records_in, Record, RecordBytes, Site, TimedState, OUTPUTS, PLAIN_LEN, RECORDS, RECORD_LEN,
+    RESULT_LEN, SEALED_LEN, STATE_LEN, STREAM_LEN,
 };
 use monitor::{watch, watch_cabinet, Among, Driver, Strategy};
 use std::fmt;
@@ -167,7 +167,9 @@ impl fmt::Display for Kind {
             Kind::RoadWrongs => "several wrongs in one road",
             Kind::Cabinet => "lists of calls on a cabinet, retimings and refused calls among them",
             Kind::CabinetRows => "calls on cabinets of any content",
-            Kind::CabinetBuffers => "rows of other lengths, output buffers short and long",
+            Kind::CabinetBuffers => {
+                "rows of other numbers of records, output buffers short and long"
+            }
             Kind::WatchedCabinet => "sites of a cabinet watched for demand 3 and request fourteen",
             Kind::RetimedRun => "run of steps with retimings among them",
             Kind::Retimings => "retimings from random valid states",
@@ -532,11 +534,11 @@ impl Comparison<'_> {
     /// A list of calls on a cabinet whose records are free at first, with retimings of
     /// its sites among them. A few get an output buffer that is too short.
     fn cabinet_lists(&mut self) -> Outcome {
-        let mut row = vec![0; ROW_LEN];
+        let mut row = [[0; RECORD_LEN]; RECORDS];
         let spare = self.rng.pick(&[0, 0, 1, 20]);
         let mut outputs = self.rng.bytes(OUTPUTS + spare);
         for _ in 0..60 {
-            let records = records_of(&row).expect("a whole row");
+            let records = records_in(&row).expect("a whole row");
             let call = CabinetCall::random(&mut self.rng, &records);
             let length = match self.rng.percent(3) {
                 true => self.rng.below(OUTPUTS),
@@ -556,24 +558,24 @@ impl Comparison<'_> {
                 let anywhere = self.rng.below(2 * OUTPUTS);
                 let length = self.rng.pick(&[OUTPUTS, OUTPUTS, OUTPUTS + 1, anywhere]);
                 let mut outputs = self.rng.bytes(length);
-                self.cabinet(&mut row_of(&records), &call, &mut outputs)?;
+                let mut row = records.each_ref().map(Record::to_bytes);
+                self.cabinet(&mut row, &call, &mut outputs)?;
             }
         }
         Ok(())
     }
 
-    /// Calls on rows that may be too short or too long, with buffers that may be
-    /// too.
+    /// Calls on rows that may have too few records or too many, with buffers that may be
+    /// too short or too long.
     fn cabinet_buffers(&mut self) -> Outcome {
         for _ in 0..20 {
             let records = any_records(&mut self.rng);
             let call = CabinetCall::random_of_cabinet(&mut self.rng, &records);
             let rng = &mut self.rng;
-            let row = row_of(&records);
-            let anywhere = rng.below(2 * ROW_LEN);
-            let whole = rng.below(7) * RECORD_LEN;
-            let length = rng.pick(&[ROW_LEN, ROW_LEN, ROW_LEN - 1, ROW_LEN + 1, whole, anywhere]);
-            let mut row: Vec<u8> = row.iter().copied().cycle().take(length).collect();
+            let any = rng.below(3 * RECORDS);
+            let count = rng.pick(&[RECORDS, RECORDS, RECORDS - 1, RECORDS + 1, 0, any]);
+            let row = records.iter().map(Record::to_bytes).cycle().take(count);
+            let mut row: Vec<RecordBytes> = row.collect();
             let anywhere = rng.below(80);
             let length = rng.pick(&[0, OUTPUTS - 1, OUTPUTS, OUTPUTS + 1, anywhere]);
             let mut outputs = rng.bytes(length);

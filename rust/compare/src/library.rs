@@ -1,12 +1,15 @@
 //! The board library as a board.
 
 use model::packed::Board;
-use willowera::packed;
+use model::RecordBytes;
+use willowera::{packed, Record};
 
-// The model's states, rows and sealed records have the library's layout.
+// The model's states, records of a cabinet and sealed records have the library's layout.
 const _: () = assert!(model::STATE_LEN == willowera::STATE_LEN);
-const _: () = assert!(model::ROW_LEN == willowera::ROW_LEN);
+const _: () = assert!(model::RECORD_LEN == willowera::RECORD_LEN);
+const _: () = assert!(model::RECORDS == willowera::RECORDS);
 const _: () = assert!(model::SEALED_LEN == willowera::SEALED_LEN);
+const _: () = assert!(model::sealed::VERSION as u32 == willowera::VERSION);
 
 /// The linked library.
 #[derive(Clone, Copy, Debug, Default)]
@@ -74,20 +77,27 @@ impl Board for Library {
 
     fn cabinet_place(
         &self,
-        row: &mut [u8],
+        row: &mut [RecordBytes],
         record: usize,
         personality: &[u8],
         first: usize,
         outputs: &mut [u8],
     ) -> u64 {
+        let row = Record::in_bytes_mut(row);
         packed::cabinet_place(row, record, personality, first, outputs)
     }
 
-    fn cabinet_step(&self, row: &mut [u8], record: usize, inputs: u64, outputs: &mut [u8]) -> u64 {
-        packed::cabinet_step(row, record, inputs, outputs)
+    fn cabinet_step(
+        &self,
+        row: &mut [RecordBytes],
+        record: usize,
+        inputs: u64,
+        outputs: &mut [u8],
+    ) -> u64 {
+        packed::cabinet_step(Record::in_bytes_mut(row), record, inputs, outputs)
     }
 
-    fn cabinet_take_out(&self, row: &mut [u8], record: usize, outputs: &mut [u8]) -> u64 {
-        packed::cabinet_take_out(row, record, outputs)
+    fn cabinet_take_out(&self, row: &mut [RecordBytes], record: usize, outputs: &mut [u8]) -> u64 {
+        packed::cabinet_take_out(Record::in_bytes_mut(row), record, outputs)
     }
 }

@@ -144,7 +144,7 @@ mod tests {
         let mut free = vec![file.len() + 1, file.len() + 2];
         file.extend([2, 90, 1, 0, 0, 80, 1, 28, 0, 0, 0, 0, 0, 0]);
         free.extend([1, 2, 7].map(|at| file.len() + at));
-        file.extend([2, 91, 1, 1, 0, 0, 0, 4, 80, 1, 27, 0, 0, 0, 0, 0, 0]);
+        file.extend([2, 91, 1, 1, 0, 0, 0, 5, 80, 1, 27, 0, 0, 0, 0, 0, 0]);
         timed.state.age = 2;
         let older = model::seal(&personality, &timed).unwrap();
         file.extend([2, 91, 1, 5, 0]);

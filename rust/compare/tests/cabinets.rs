@@ -6,7 +6,7 @@ mod faults;
 use compare::Kind;
 use faults::{assert_agrees, assert_noticed, cases_of};
 use model::packed::{number, Board, Model};
-use model::{layout, Site, TimedState, Times, PLAIN_LEN, STATE_LEN};
+use model::{layout, RecordBytes, Site, TimedState, Times, PLAIN_LEN, STATE_LEN};
 use std::ops::Range;
 use variant::{AsBoard, Variant};
 
@@ -17,6 +17,7 @@ enum Fault {
     // The row and its records.
     TakesLongerRows,
     TakesShorterRows,
+    TakesAllRecordsOfTheRow,
     RecordInTwoBits,
     HeldByOneOnly,
     LengthAboveRefused,
@@ -81,9 +82,10 @@ enum Fault {
     RetimingWritesWhenRefused,
 }
 
-const FAULTS: [Fault; 60] = [
+const FAULTS: [Fault; 61] = [
     Fault::TakesLongerRows,
     Fault::TakesShorterRows,
+    Fault::TakesAllRecordsOfTheRow,
     Fault::RecordInTwoBits,
     Fault::HeldByOneOnly,
     Fault::LengthAboveRefused,
@@ -145,10 +147,9 @@ const FAULTS: [Fault; 60] = [
 ];
 
 /// The fields of a record of 817 bytes.
-const RECORD: usize = 817;
 const LENGTH: Range<usize> = 2..4;
 const ROOM: Range<usize> = 4..481;
-const STATE: Range<usize> = 481..RECORD;
+const STATE: Range<usize> = 481..817;
 
 /// The model, but its cabinet is a plain one over read and step calls.
 struct PlainCabinet(Fault);
@@ -175,29 +176,29 @@ impl PlainCabinet {
         self.0 == fault
     }
 
-    /// The bytes of a record in the row, if there is such a record.
-    fn bytes(&self, row: &[u8], record: usize) -> Option<Range<usize>> {
+    /// Which record of the row is meant, if there is such a record.
+    fn index(&self, row: &[RecordBytes], record: usize) -> Option<usize> {
         let record = match self.has(Fault::RecordInTwoBits) {
             true => record & 3,
             false => record,
         };
-        let whole = match self.0 {
-            Fault::TakesLongerRows => row.len() >= 4 * RECORD,
-            Fault::TakesShorterRows => row.len() <= 4 * RECORD,
-            _ => row.len() == 4 * RECORD,
+        let there = match self.0 {
+            Fault::TakesLongerRows => row.len() >= 4 && record < 4,
+            Fault::TakesShorterRows => row.len() <= 4,
+            Fault::TakesAllRecordsOfTheRow => true,
+            _ => row.len() == 4,
         };
-        let bytes = RECORD * record.min(4)..RECORD * (record.min(4) + 1);
-        (record < 4 && whole && bytes.end <= row.len()).then_some(bytes)
+        (there && record < row.len()).then_some(record)
     }
 
-    fn is_free(&self, record: &[u8]) -> bool {
+    fn is_free(&self, record: &RecordBytes) -> bool {
         match self.0 {
             Fault::HeldByOneOnly => record[0] != 1,
             _ => record[0] == 0,
         }
     }
 
-    fn personality<'a>(&self, record: &'a [u8]) -> &'a [u8] {
+    fn personality<'a>(&self, record: &'a RecordBytes) -> &'a [u8] {
         let length = usize::from(u16::from_le_bytes([record[2], record[3]]));
         let length = match self.0 {
             Fault::LengthAboveRefused if length > 477 => 0,
@@ -225,7 +226,7 @@ impl PlainCabinet {
     }
 
     /// Whether a record takes some of the outputs.
-    fn takes(&self, record: &[u8], first: usize, groups: usize) -> bool {
+    fn takes(&self, record: &RecordBytes, first: usize, groups: usize) -> bool {
         let personality = self.personality(record);
         let refused = number(Model.read(personality)) != 0;
         if refused && !self.has(Fault::RefusedRecordsTakeOutputs) || personality.len() < 6 {
@@ -249,15 +250,15 @@ impl PlainCabinet {
         (first..=last).any(|output| taken.contains(&output))
     }
 
-    fn others_take(&self, row: &[u8], first: usize, groups: usize) -> bool {
-        let mut records: Vec<&[u8]> = row.chunks_exact(RECORD).collect();
-        if self.has(Fault::OverlapWithOneRecordOnly) {
-            records.truncate(1);
-        }
+    fn others_take(&self, row: &[RecordBytes], first: usize, groups: usize) -> bool {
+        let looked_at = match self.has(Fault::OverlapWithOneRecordOnly) {
+            true => 1,
+            false => row.len(),
+        };
         !self.past(first, groups) && {
             let first = first.min(64);
-            records
-                .iter()
+            row.iter()
+                .take(looked_at)
                 .any(|record| self.takes(record, first, groups))
         }
     }
@@ -270,11 +271,17 @@ impl PlainCabinet {
         refuse_if(outputs.len() < needed, 14)
     }
 
-    fn placing(&self, row: &[u8], record: usize, personality: &[u8], first: usize) -> [u64; 3] {
+    fn placing(
+        &self,
+        row: &[RecordBytes],
+        record: usize,
+        personality: &[u8],
+        first: usize,
+    ) -> [u64; 3] {
         let read = Model.read(personality);
-        let record = match self.bytes(row, record) {
-            Some(bytes) => {
-                let free = self.is_free(&row[bytes]);
+        let record = match self.index(row, record) {
+            Some(index) => {
+                let free = self.is_free(&row[index]);
                 refuse_if(!free && !self.has(Fault::PlacesInHeldRecords), 24)
             }
             None => 24,
@@ -288,10 +295,10 @@ impl PlainCabinet {
         [read, record, refuse_if(wrong, 25 | place)]
     }
 
-    /// The record of a step or a taking out: its bytes, or the refusal.
-    fn held(&self, row: &[u8], record: usize, frees: bool) -> Result<Range<usize>, u64> {
-        let bytes = self.bytes(row, record).ok_or(24_u64)?;
-        let held = &row[bytes.clone()];
+    /// The record of a step or a taking out, or the refusal.
+    fn held(&self, row: &[RecordBytes], record: usize, frees: bool) -> Result<usize, u64> {
+        let index = self.index(row, record).ok_or(24_u64)?;
+        let held = &row[index];
         let read = Model.read(self.personality(held));
         if self.is_free(held) && !frees {
             let first = self.has(Fault::PersonalityBeforeRecord) && number(read) > 1;
@@ -300,7 +307,7 @@ impl PlainCabinet {
         if number(read) != 0 {
             return Err(read);
         }
-        Ok(bytes)
+        Ok(index)
     }
 
     /// Writes the state of a site just placed over the old one.
@@ -340,7 +347,7 @@ impl PlainCabinet {
     }
 
     /// First output and groups of a held record.
-    fn outputs_of(&self, record: &[u8]) -> (usize, usize) {
+    fn outputs_of(&self, record: &RecordBytes) -> (usize, usize) {
         let groups = self.personality(record)[5];
         (usize::from(record[1]), usize::from(groups))
     }
@@ -370,7 +377,7 @@ impl Variant for PlainCabinet {
 
     fn cabinet_place(
         &self,
-        row: &mut [u8],
+        row: &mut [RecordBytes],
         record: usize,
         personality: &[u8],
         first: usize,
@@ -387,12 +394,12 @@ impl Variant for PlainCabinet {
         });
         if answer != 0 {
             if self.has(Fault::WritesWhenRefused) && answer == 14 {
-                row[RECORD * record + 1] = first as u8;
+                row[record][1] = first as u8;
             }
             return answer;
         }
-        let bytes = self.bytes(row, record).expect("there is such a record");
-        let placed = &mut row[bytes];
+        let index = self.index(row, record).expect("there is such a record");
+        let placed = &mut row[index];
         placed[0] = match self.0 {
             Fault::HeldByItsNumber => record as u8 + 1,
             _ => 1,
@@ -421,12 +428,17 @@ impl Variant for PlainCabinet {
         }
     }
 
-    fn cabinet_step(&self, row: &mut [u8], record: usize, inputs: u64, outputs: &mut [u8]) -> u64 {
-        let bytes = match self.held(row, record, self.has(Fault::StepsFreeRecords)) {
-            Ok(bytes) => bytes,
+    fn cabinet_step(
+        &self,
+        row: &mut [RecordBytes],
+        record: usize,
+        inputs: u64,
+        outputs: &mut [u8],
+    ) -> u64 {
+        let held = match self.held(row, record, self.has(Fault::StepsFreeRecords)) {
+            Ok(index) => &mut row[index],
             Err(answer) => return answer,
         };
-        let held = &mut row[bytes];
         let (first, groups) = self.outputs_of(held);
         let personality = self.personality(held).to_vec();
         let mut state = self.state_of(&personality, &held[STATE]);
@@ -484,19 +496,18 @@ impl Variant for PlainCabinet {
         }
     }
 
-    fn cabinet_take_out(&self, row: &mut [u8], record: usize, outputs: &mut [u8]) -> u64 {
-        let bytes = match self.held(row, record, self.has(Fault::TakesOutFreeRecords)) {
-            Ok(bytes) => bytes,
+    fn cabinet_take_out(&self, row: &mut [RecordBytes], record: usize, outputs: &mut [u8]) -> u64 {
+        let held = match self.held(row, record, self.has(Fault::TakesOutFreeRecords)) {
+            Ok(index) => &mut row[index],
             Err(answer) => {
                 let refused = self.has(Fault::TakesOutRefused) && number(answer) != 24;
-                if let Some(bytes) = self.bytes(row, record).filter(|_| refused) {
-                    row[bytes].fill(0);
+                if let Some(index) = self.index(row, record).filter(|_| refused) {
+                    row[index].fill(0);
                     return 0;
                 }
                 return answer;
             }
         };
-        let held = &mut row[bytes];
         let (first, groups) = self.outputs_of(held);
         let past = refuse_if(self.past(first, groups), 25);
         let short = self.short(outputs, first, groups);

@@ -9,9 +9,9 @@ use generate::{
 };
 use model::packed::{self, number, rest, Model};
 use model::{
-    read, records_of, row_of, times_alone_differ, valid, valid_timed, why_on, Edition, Interval,
-    Mark, Reasons, Record, Road, Setting, Site, Stage, State, Stream, TimedState, Times, RECORDS,
-    ROW_LEN, STATE_LEN,
+    read, records_in, times_alone_differ, valid, valid_timed, why_on, Edition, Interval, Mark,
+    Reasons, Record, Road, Setting, Site, Stage, State, Stream, TimedState, Times, RECORDS,
+    RECORD_LEN, STATE_LEN,
 };
 use std::collections::{BTreeMap, BTreeSet};
 
@@ -615,7 +615,7 @@ fn roads_release_in_every_way() {
 
 /// The answer of a call on a copy of a row.
 fn called(records: &[Record; RECORDS], call: &CabinetCall) -> u8 {
-    let mut row = row_of(records);
+    let mut row = records.each_ref().map(Record::to_bytes);
     number(call.make(&Model, &mut row, call.personality(), &mut [0; 32]))
 }
 
@@ -762,10 +762,10 @@ fn lists_of_calls_fill_and_empty_a_cabinet() {
     let mut rng = Rng::new(SEED);
     let mut held: BTreeMap<usize, usize> = BTreeMap::new();
     for _ in 0..300 {
-        let mut row = [0; ROW_LEN];
+        let mut row = [[0; RECORD_LEN]; RECORDS];
         let outputs = &mut [0; 32];
         for _ in 0..60 {
-            let records = records_of(&row).unwrap();
+            let records = records_in(&row).unwrap();
             let count = records.iter().filter(|record| !record.is_free()).count();
             *held.entry(count).or_default() += 1;
             let call = CabinetCall::random(&mut rng, &records);

@@ -159,9 +159,9 @@ impl Plain {
             _ => {}
         }
         let mut record = vec![match self.0 {
-            Fault::OlderVersion => 4,
+            Fault::OlderVersion => 5,
             Fault::VersionWithoutRecord => 0,
-            _ => 5,
+            _ => 6,
         }];
         record.extend(self.name(personality));
         record.extend(state);
@@ -199,10 +199,10 @@ impl Plain {
         };
         let taken = match self.0 {
             Fault::VersionNotChecked => true,
-            Fault::OlderVersionsTaken => version <= 5,
-            Fault::NewerVersionsTaken => version >= 5,
+            Fault::OlderVersionsTaken => version <= 6,
+            Fault::NewerVersionsTaken => version >= 6,
             Fault::VersionOfWholeRecordsOnly if sealed.len() != SEALED_LEN => true,
-            _ => version == 5,
+            _ => version == 6,
         };
         if taken {
             0

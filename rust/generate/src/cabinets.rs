@@ -8,7 +8,9 @@ use crate::rng::Rng;
 use crate::states::{broken_state_bytes, Breakage};
 use crate::timed::{broken_times, invalid_timed_state, valid_timed_state, TimesBreakage};
 use model::packed::Board;
-use model::{parts_in, Number, Record, Site, TimedState, OUTPUTS, RECORDS, ROOM, STATE_LEN};
+use model::{
+    parts_in, Number, Record, RecordBytes, Site, TimedState, OUTPUTS, RECORDS, ROOM, STATE_LEN,
+};
 
 /// A call on a cabinet.
 #[derive(Clone, Debug, PartialEq, Eq)]
@@ -236,7 +238,7 @@ impl CabinetCall {
     pub fn make(
         &self,
         board: &dyn Board,
-        row: &mut [u8],
+        row: &mut [RecordBytes],
         personality: &[u8],
         outputs: &mut [u8],
     ) -> u64 {

@@ -52,7 +52,10 @@ pub use layout::{PLAIN_LEN, STATE_LEN};
 pub use limits::{Edition, Limits, Setting};
 pub use lookup::{section, Part};
 pub use reader::read;
-pub use record::{parts_in, records_of, row_of, Record, RECORDS, RECORD_LEN, ROOM, ROW_LEN};
+pub use record::{
+    parts_in, records_in, records_of, row_of, Record, RecordBytes, RECORDS, RECORD_LEN, ROOM,
+    ROW_LEN,
+};
 pub use refusal::{Number, Refusal, Verdict};
 pub use retime::{retime, retime_on, times_alone_differ};
 pub use road::{Road, Stream, Vehicles, MAX_RATE, MAX_STEPS, MAX_STREAMS, RESULT_LEN, STREAM_LEN};

@@ -4,7 +4,7 @@
 //! of a line, the number of groups or of bytes, or the place.
 
 use crate::cabinet;
-use crate::record::{records_of, row_of, Record};
+use crate::record::{records_in, Record, RecordBytes};
 use crate::refusal::{Number, Refusal};
 use crate::road::{Road, RESULT_LEN};
 use crate::sealed::{resume_on, seal_on, SEALED_LEN};
@@ -13,7 +13,8 @@ use crate::timed::{step_timed_on, TimedState};
 use crate::why::{why_on, Reasons};
 use crate::STATE_LEN;
 
-/// A board: the calls of the library, over buffers of any content and length.
+/// A board: the calls of the library, over buffers of any content and length, and over rows
+/// of any number of records.
 pub trait Board {
     fn read(&self, personality: &[u8]) -> u64;
     fn wait_bound(&self, personality: &[u8]) -> u64;
@@ -37,14 +38,20 @@ pub trait Board {
     ) -> u64;
     fn cabinet_place(
         &self,
-        row: &mut [u8],
+        row: &mut [RecordBytes],
         record: usize,
         personality: &[u8],
         first: usize,
         outputs: &mut [u8],
     ) -> u64;
-    fn cabinet_step(&self, row: &mut [u8], record: usize, inputs: u64, outputs: &mut [u8]) -> u64;
-    fn cabinet_take_out(&self, row: &mut [u8], record: usize, outputs: &mut [u8]) -> u64;
+    fn cabinet_step(
+        &self,
+        row: &mut [RecordBytes],
+        record: usize,
+        inputs: u64,
+        outputs: &mut [u8],
+    ) -> u64;
+    fn cabinet_take_out(&self, row: &mut [RecordBytes], record: usize, outputs: &mut [u8]) -> u64;
 }
 
 /// The model as a board.
@@ -113,7 +120,7 @@ impl Board for Model {
 
     fn cabinet_place(
         &self,
-        row: &mut [u8],
+        row: &mut [RecordBytes],
         record: usize,
         personality: &[u8],
         first: usize,
@@ -122,11 +129,17 @@ impl Board for Model {
         cabinet_place(row, record, personality, first, outputs)
     }
 
-    fn cabinet_step(&self, row: &mut [u8], record: usize, inputs: u64, outputs: &mut [u8]) -> u64 {
+    fn cabinet_step(
+        &self,
+        row: &mut [RecordBytes],
+        record: usize,
+        inputs: u64,
+        outputs: &mut [u8],
+    ) -> u64 {
         cabinet_step(row, record, inputs, outputs)
     }
 
-    fn cabinet_take_out(&self, row: &mut [u8], record: usize, outputs: &mut [u8]) -> u64 {
+    fn cabinet_take_out(&self, row: &mut [RecordBytes], record: usize, outputs: &mut [u8]) -> u64 {
         cabinet_take_out(row, record, outputs)
     }
 }
@@ -316,7 +329,7 @@ pub fn road(
 
 /// Places a site in a record of a row.
 pub fn cabinet_place(
-    row: &mut [u8],
+    row: &mut [RecordBytes],
     record: usize,
     personality: &[u8],
     first: usize,
@@ -328,27 +341,36 @@ pub fn cabinet_place(
 }
 
 /// Steps the site of a record of a row.
-pub fn cabinet_step(row: &mut [u8], record: usize, inputs: u64, outputs: &mut [u8]) -> u64 {
+pub fn cabinet_step(
+    row: &mut [RecordBytes],
+    record: usize,
+    inputs: u64,
+    outputs: &mut [u8],
+) -> u64 {
     on_records(row, |records| {
         cabinet::step_held(records, record, inputs, outputs)
     })
 }
 
 /// Takes the site out of a record of a row.
-pub fn cabinet_take_out(row: &mut [u8], record: usize, outputs: &mut [u8]) -> u64 {
+pub fn cabinet_take_out(row: &mut [RecordBytes], record: usize, outputs: &mut [u8]) -> u64 {
     on_records(row, |records| {
         cabinet::take_out(records, record, outputs).map(|()| 0)
     })
 }
 
-/// A call on the records of a row. Bytes that are not a whole row have no record.
-fn on_records(row: &mut [u8], call: impl FnOnce(&mut [Record]) -> Result<u32, Refusal>) -> u64 {
-    let Some(mut records) = records_of(row) else {
+/// A call on the records of a row. If they are not as many as a cabinet has, there is no
+/// record.
+fn on_records(
+    row: &mut [RecordBytes],
+    call: impl FnOnce(&mut [Record]) -> Result<u32, Refusal>,
+) -> u64 {
+    let Some(mut records) = records_in(row) else {
         return call(&mut []).map_or_else(refuse, accept);
     };
     match call(&mut records) {
         Ok(bound) => {
-            row.copy_from_slice(&row_of(&records));
+            row.copy_from_slice(&records.each_ref().map(Record::to_bytes));
             accept(bound)
         }
         Err(refusal) => refuse(refusal),

@@ -22,6 +22,9 @@ pub const RECORD_LEN: usize = STATE + STATE_LEN;
 /// The length of a row of records in bytes.
 pub const ROW_LEN: usize = RECORDS * RECORD_LEN;
 
+/// The bytes of a record. A call is handed a row as a slice of these.
+pub type RecordBytes = [u8; RECORD_LEN];
+
 /// A record is free, or holds a site. It is made of numbers only, and any
 /// numbers are a record.
 #[derive(Clone, Copy, Debug, PartialEq, Eq)]
@@ -48,7 +51,7 @@ impl Record {
     };
 
     /// The record in its bytes.
-    pub fn from_bytes(bytes: &[u8; RECORD_LEN]) -> Record {
+    pub fn from_bytes(bytes: &RecordBytes) -> Record {
         let mut record = Record {
             held: bytes[HELD],
             first: bytes[FIRST],
@@ -61,7 +64,7 @@ impl Record {
     }
 
     /// The bytes of the record.
-    pub fn to_bytes(&self) -> [u8; RECORD_LEN] {
+    pub fn to_bytes(&self) -> RecordBytes {
         let mut bytes = [0; RECORD_LEN];
         bytes[HELD] = self.held;
         bytes[FIRST] = self.first;
@@ -81,28 +84,31 @@ impl Record {
     }
 }
 
-/// The records of a row, or none of them if it is not a whole row.
+/// The records in the bytes of a row, or none of them if they are not a whole row.
 pub fn records_of(row: &[u8]) -> Option<[Record; RECORDS]> {
-    let row: &[u8; ROW_LEN] = row.try_into().ok()?;
-    let mut records = [Record::FREE; RECORDS];
-    for (record, bytes) in records.iter_mut().zip(row.as_chunks().0) {
-        *record = Record::from_bytes(bytes);
+    match row.as_chunks() {
+        (row, []) => records_in(row),
+        _ => None,
     }
-    Some(records)
+}
+
+/// The records of a row, or none of them if there are not as many as a cabinet has.
+pub fn records_in(row: &[RecordBytes]) -> Option<[Record; RECORDS]> {
+    let row: &[RecordBytes; RECORDS] = row.try_into().ok()?;
+    Some(row.each_ref().map(Record::from_bytes))
 }
 
 /// The personality and the state of a record, where they lie in a row: what a call on
 /// its site alone takes. None if the row has no such record.
-pub fn parts_in(row: &mut [u8], record: usize) -> Option<(&[u8], &mut [u8])> {
-    let row: &mut [u8; ROW_LEN] = row.try_into().ok()?;
-    let bytes: &mut [u8; RECORD_LEN] = row.as_chunks_mut().0.get_mut(record)?;
-    let (head, state) = bytes.split_at_mut(STATE);
+pub fn parts_in(row: &mut [RecordBytes], record: usize) -> Option<(&[u8], &mut [u8])> {
+    let row: &mut [RecordBytes; RECORDS] = row.try_into().ok()?;
+    let (head, state) = row.get_mut(record)?.split_at_mut(STATE);
     let length = u16::from_le_bytes([head[LENGTH], head[LENGTH + 1]]);
     let room = &head[PERSONALITY..];
     Some((&room[..usize::from(length).min(ROOM)], state))
 }
 
-/// The row of these records.
+/// The bytes of the row of these records.
 pub fn row_of(records: &[Record; RECORDS]) -> [u8; ROW_LEN] {
     let mut row = [0; ROW_LEN];
     for (bytes, record) in row.as_chunks_mut().0.iter_mut().zip(records) {
@@ -150,6 +156,10 @@ mod tests {
             let whole = length == 3_268;
             assert_eq!(records_of(&bytes[..length]).is_some(), whole, "{length}");
         }
+        let row = [[0; RECORD_LEN]; RECORDS + 1];
+        for count in 0..=row.len() {
+            assert_eq!(records_in(&row[..count]).is_some(), count == 4, "{count}");
+        }
     }
 
     #[test]
@@ -160,7 +170,7 @@ mod tests {
                 ..Record::FREE
             };
             assert_eq!(record.personality().len(), counts, "{length}");
-            let mut row = row_of(&[record; RECORDS]);
+            let mut row = [record.to_bytes(); RECORDS];
             let (personality, _) = parts_in(&mut row, 3).unwrap();
             assert_eq!(personality.len(), counts, "{length}");
         }
@@ -168,21 +178,22 @@ mod tests {
 
     #[test]
     fn the_parts_of_a_record_lie_in_the_row() {
-        let mut row = [0; ROW_LEN];
-        for (at, byte) in row.iter_mut().enumerate() {
+        let mut row = [[0; RECORD_LEN]; RECORDS];
+        for (at, byte) in row.as_flattened_mut().iter_mut().enumerate() {
             *byte = (at * at / 7) as u8;
         }
         for record in 0..RECORDS {
-            let mut changed = records_of(&row).unwrap();
+            let mut changed = records_in(&row).unwrap();
             let (personality, state) = parts_in(&mut row, record).unwrap();
             assert_eq!(personality, changed[record].personality());
             assert_eq!(state, changed[record].state);
             state.fill(record as u8);
             changed[record].state = [record as u8; STATE_LEN];
-            assert_eq!(records_of(&row), Some(changed));
+            assert_eq!(records_in(&row), Some(changed));
         }
         assert_eq!(parts_in(&mut row, RECORDS), None);
         assert_eq!(parts_in(&mut row, usize::MAX), None);
         assert_eq!(parts_in(&mut row[1..], 0), None);
+        assert_eq!(parts_in(&mut [[0; RECORD_LEN]; RECORDS + 1], 0), None);
     }
 }

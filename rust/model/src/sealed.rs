@@ -8,7 +8,7 @@ use crate::timed::{valid_timed, TimedState};
 use crate::STATE_LEN;
 
 /// The version of the interface, which the first byte names.
-pub const VERSION: u8 = 5;
+pub const VERSION: u8 = 6;
 
 /// Where each part begins: the length of the personality (two bytes), its check value
 /// (four), the state, and the check value of all that is before it (four).

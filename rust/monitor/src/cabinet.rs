@@ -6,8 +6,7 @@ use crate::{Breach, Driver, Monitor, Report, Seen, Strategy};
 use generate::{any_second, unknown_inputs, Rng};
 use model::packed::{number, rest, Board};
 use model::{
-    parts_in, records_of, Number, Record, Site, TimedState, Times, OUTPUTS, RECORDS, RECORD_LEN,
-    ROW_LEN,
+    parts_in, Number, Record, RecordBytes, Site, TimedState, Times, OUTPUTS, RECORDS, RECORD_LEN,
 };
 use std::ops::Range;
 
@@ -28,7 +27,7 @@ pub fn watch_cabinet(
 ) -> Result<Vec<Report>, (usize, Breach)> {
     let mut run = Run {
         board,
-        row: [0; ROW_LEN],
+        row: [[0; RECORD_LEN]; RECORDS],
         outputs: [0xEE; OUTPUTS],
     };
     let mut tenants = tenants(personalities, rng);
@@ -119,16 +118,11 @@ impl Tenant<'_> {
         (self.refused, self.retimings) = (0, 0);
         self.monitor = Monitor::new(&self.site);
     }
-
-    /// The bytes of its record.
-    fn bytes(&self) -> Range<usize> {
-        RECORD_LEN * self.record..RECORD_LEN * (self.record + 1)
-    }
 }
 
 struct Run<'a> {
     board: &'a dyn Board,
-    row: [u8; ROW_LEN],
+    row: [RecordBytes; RECORDS],
     outputs: [u8; OUTPUTS],
 }
 
@@ -220,7 +214,7 @@ impl Run<'_> {
     fn silent_call(
         &mut self,
         tenant: &Tenant,
-        call: impl FnOnce(&dyn Board, &Tenant, &mut [u8], &mut [u8]) -> u64,
+        call: impl FnOnce(&dyn Board, &Tenant, &mut [RecordBytes], &mut [u8]) -> u64,
     ) -> Result<(), Breach> {
         let step = tenant.monitor.accepted();
         match self.accepted_call(tenant, call)? {
@@ -237,7 +231,7 @@ impl Run<'_> {
     fn accepted_call(
         &mut self,
         tenant: &Tenant,
-        call: impl FnOnce(&dyn Board, &Tenant, &mut [u8], &mut [u8]) -> u64,
+        call: impl FnOnce(&dyn Board, &Tenant, &mut [RecordBytes], &mut [u8]) -> u64,
     ) -> Result<u64, Breach> {
         let step = tenant.monitor.accepted();
         let (row, outputs) = (self.row, self.outputs);
@@ -246,8 +240,8 @@ impl Run<'_> {
             return Err(Breach::WrongAnswer { step, answer });
         }
         let mut others = (self.row, self.outputs);
-        let (bytes, own) = (tenant.bytes(), tenant.own.clone());
-        others.0[bytes.clone()].copy_from_slice(&row[bytes]);
+        let (record, own) = (tenant.record, tenant.own.clone());
+        others.0[record] = row[record];
         others.1[own.clone()].copy_from_slice(&outputs[own]);
         if others == (row, outputs) {
             Ok(rest(answer))
@@ -307,16 +301,14 @@ impl Run<'_> {
 
     /// A free record, or one that the cabinet lacks.
     fn free_record(&self) -> usize {
-        let records = records_of(&self.row).expect("a whole row");
-        let free = records.iter().position(Record::is_free);
-        free.unwrap_or(RECORDS)
+        let is_free = |bytes: &RecordBytes| Record::from_bytes(bytes).is_free();
+        self.row.iter().position(is_free).unwrap_or(RECORDS)
     }
 
     /// The state in the record of a site.
     fn state(&self, tenant: &Tenant) -> Result<TimedState, Breach> {
         let step = tenant.monitor.accepted();
-        let records = records_of(&self.row).expect("a whole row");
-        let record = &records[tenant.record];
+        let record = Record::from_bytes(&self.row[tenant.record]);
         let same_site = record.personality() == tenant.personality
             && usize::from(record.first) == tenant.own.start
             && !record.is_free();
@@ -327,7 +319,7 @@ impl Run<'_> {
 
 /// A retiming of the site of a record: the call of a site alone, on the personality
 /// and the state where they lie in the row.
-fn retime_held(board: &dyn Board, row: &mut [u8], record: usize, new: &[u8]) -> u64 {
+fn retime_held(board: &dyn Board, row: &mut [RecordBytes], record: usize, new: &[u8]) -> u64 {
     let (personality, state) = parts_in(row, record).expect("a whole row");
     board.retime(personality, state, new)
 }

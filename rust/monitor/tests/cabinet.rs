@@ -3,14 +3,14 @@
 
 use generate::{Plan, Rng};
 use model::packed::{self, number, Board};
-use model::{parts_in, Number, Site, TimedState, Times, OUTPUTS, PLAIN_LEN, RECORDS, RECORD_LEN};
+use model::{parts_in, Number, RecordBytes, Site, TimedState, Times, OUTPUTS, PLAIN_LEN, RECORDS};
 use monitor::{watch_cabinet, Breach, Report};
 use variant::{AsBoard, Variant};
 
 const SEED: u64 = 20_260_102;
 
 /// Spoils the row and the outputs after an accepted call on a record, and its answer.
-type Spoil = fn(&mut [u8], usize, &mut [u8], u64) -> u64;
+type Spoil = fn(&mut [RecordBytes], usize, &mut [u8], u64) -> u64;
 
 /// The model with the accepted placings and steps of its cabinet spoilt, and with
 /// retimings of its own.
@@ -33,7 +33,7 @@ impl Variant for Cabinet {
 
     fn cabinet_place(
         &self,
-        row: &mut [u8],
+        row: &mut [RecordBytes],
         record: usize,
         personality: &[u8],
         first: usize,
@@ -46,7 +46,13 @@ impl Variant for Cabinet {
         }
     }
 
-    fn cabinet_step(&self, row: &mut [u8], record: usize, inputs: u64, outputs: &mut [u8]) -> u64 {
+    fn cabinet_step(
+        &self,
+        row: &mut [RecordBytes],
+        record: usize,
+        inputs: u64,
+        outputs: &mut [u8],
+    ) -> u64 {
         let answer = packed::cabinet_step(row, record, inputs, outputs);
         match number(answer) {
             0 => (self.step)(row, record, outputs, answer),
@@ -86,7 +92,11 @@ macro_rules! assert_breaches {
 }
 
 /// Changes the state in a record.
-fn change_state(row: &mut [u8], record: usize, change: impl FnOnce(&[u8], &mut TimedState)) {
+fn change_state(
+    row: &mut [RecordBytes],
+    record: usize,
+    change: impl FnOnce(&[u8], &mut TimedState),
+) {
     let (personality, bytes) = parts_in(row, record).unwrap();
     let mut timed = TimedState::from_bytes(bytes).unwrap();
     change(personality, &mut timed);
@@ -141,7 +151,7 @@ fn a_step_that_writes_an_output_of_another() {
 #[test]
 fn a_step_that_writes_another_record() {
     let found = step_breaches(|row, record, _, answer| {
-        row[RECORD_LEN * ((record + 1) % RECORDS) + RECORD_LEN - 1] ^= 1;
+        row[(record + 1) % RECORDS][816] ^= 1;
         answer
     });
     assert_breaches!(found, Breach::WritesBeside { .. });
@@ -150,7 +160,7 @@ fn a_step_that_writes_another_record() {
 #[test]
 fn a_step_that_changes_the_site_of_its_record() {
     let found = step_breaches(|row, record, _, answer| {
-        row[RECORD_LEN * record + 1] += 1;
+        row[record][1] += 1;
         answer
     });
     assert_breaches!(found, Breach::NoState { .. });
@@ -159,8 +169,8 @@ fn a_step_that_changes_the_site_of_its_record() {
 #[test]
 fn colours_one_output_too_far() {
     let found = step_breaches(|row, record, outputs, answer| {
-        let first = usize::from(row[RECORD_LEN * record + 1]);
-        let groups = usize::from(row[RECORD_LEN * record + 4 + 5]);
+        let first = usize::from(row[record][1]);
+        let groups = usize::from(row[record][4 + 5]);
         outputs[first..first + groups].rotate_right(1);
         answer
     });

@@ -4,8 +4,8 @@
 use generate::{Pace, Plan, Rng, Shape};
 use model::packed::{self, number, Board, Model};
 use model::{
-    parts_in, section, Edition, Interval, MovementState, Site, Stage, State, TimedState, OUTPUTS,
-    RECORDS, RECORD_LEN,
+    parts_in, section, Edition, Interval, MovementState, RecordBytes, Site, Stage, State,
+    TimedState, OUTPUTS, RECORDS,
 };
 use monitor::{
     watch, watch_cabinet, Among, Breach, Demand, Driver, Monitor, Report, Seen, Strategy,
@@ -68,12 +68,18 @@ impl Variant for Reordered {
         packed::step(&personality, state, inputs, colours)
     }
 
-    fn cabinet_step(&self, row: &mut [u8], record: usize, inputs: u64, outputs: &mut [u8]) -> u64 {
+    fn cabinet_step(
+        &self,
+        row: &mut [RecordBytes],
+        record: usize,
+        inputs: u64,
+        outputs: &mut [u8],
+    ) -> u64 {
         let tried = packed::cabinet_step(&mut row.to_vec(), record, inputs, &mut outputs.to_vec());
         if number(tried) != 0 {
             return tried;
         }
-        let first = usize::from(row[RECORD_LEN * record + 1]);
+        let first = usize::from(row[record][1]);
         let (personality, state) = parts_in(row, record).expect("a whole row");
         let groups = Site::read(personality).expect("a site").group_count();
         self.step(personality, state, inputs, &mut outputs[first..][..groups])

@@ -4,6 +4,7 @@
 #![forbid(unsafe_code)]
 
 use model::packed::{Board, Model};
+use model::RecordBytes;
 
 /// A variant of the model as a board.
 pub struct AsBoard<T>(pub T);
@@ -40,7 +41,7 @@ calls! {
     why_length(personality: &[u8], state: &[u8], inputs: u64);
     why(personality: &[u8], state: &[u8], inputs: u64, line: &mut [u8]);
     road(personality: &[u8], streams: &[u8], steps: u32, state: &mut [u8], results: &mut [u8]);
-    cabinet_place(row: &mut [u8], record: usize, personality: &[u8], first: usize, outputs: &mut [u8]);
-    cabinet_step(row: &mut [u8], record: usize, inputs: u64, outputs: &mut [u8]);
-    cabinet_take_out(row: &mut [u8], record: usize, outputs: &mut [u8]);
+    cabinet_place(row: &mut [RecordBytes], record: usize, personality: &[u8], first: usize, outputs: &mut [u8]);
+    cabinet_step(row: &mut [RecordBytes], record: usize, inputs: u64, outputs: &mut [u8]);
+    cabinet_take_out(row: &mut [RecordBytes], record: usize, outputs: &mut [u8]);
 }

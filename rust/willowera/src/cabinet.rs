@@ -2,26 +2,36 @@
 
 use crate::answer::{wait_bound_or_refusal, Refusal};
 use crate::board::{line_length, line_of};
-use crate::{packed, refusal, Fields, RECORD_LEN, ROW_LEN, STATE_LEN};
-use std::ops::Range;
+use crate::{packed, refusal, Fields, Record, RECORDS, ROW_LEN};
 
 /// A cabinet of [`crate::RECORDS`] records, each free or with a site. The outputs
 /// belong to the caller: [`crate::OUTPUTS`] bytes or more, which go on from call
 /// to call. A refused call changes nothing.
-#[derive(Clone, Debug, PartialEq, Eq)]
+#[derive(Clone, Debug, Default, PartialEq, Eq)]
 pub struct Cabinet {
-    row: [u8; ROW_LEN],
+    row: [Record; RECORDS],
 }
 
 impl Cabinet {
     /// A cabinet whose records are free.
     pub const fn new() -> Cabinet {
-        Cabinet { row: [0; ROW_LEN] }
+        Cabinet {
+            row: [Record::FREE; RECORDS],
+        }
     }
 
-    /// The cabinet of a row. Any bytes are a row.
-    pub const fn of_row(row: [u8; ROW_LEN]) -> Cabinet {
+    /// The cabinet of a row.
+    pub const fn of_row(row: [Record; RECORDS]) -> Cabinet {
         Cabinet { row }
+    }
+
+    /// The cabinet of a stored row. Any bytes are a row.
+    pub fn of_bytes(bytes: &[u8; ROW_LEN]) -> Cabinet {
+        let mut cabinet = Cabinet::new();
+        for (record, bytes) in cabinet.row.iter_mut().zip(bytes.as_chunks().0) {
+            *record = Record::of_bytes(bytes);
+        }
+        cabinet
     }
 
     /// Places a site in a free record: it begins in the fresh state, and its
@@ -49,17 +59,17 @@ impl Cabinet {
     /// and rule from that start on. A record that is free, or that the cabinet lacks, is
     /// refused with 24 as in a step.
     pub fn retime(&mut self, record: usize, new_personality: &[u8]) -> Result<(), Refusal> {
-        let (personality, state) = parts_in(&self.row, record).ok_or(NO_SITE)?;
-        let (before, after) = self.row.split_at_mut(state.start);
-        let state = &mut after[..STATE_LEN];
-        let answer = packed::retime(&before[personality], state, new_personality);
+        let record = self.row.get_mut(record).filter(|record| !record.is_free());
+        let record = record.ok_or(NO_SITE)?;
+        let personality = &record.personality[..record.personality_length()];
+        let answer = packed::retime(personality, &mut record.state, new_personality);
         wait_bound_or_refusal(answer).map(|_| ())
     }
 
     /// The length of the line that [`Cabinet::why`] writes.
     pub fn why_length(&self, record: usize, inputs: u64) -> Result<usize, Refusal> {
-        let (personality, state) = parts_in(&self.row, record).ok_or(NO_SITE)?;
-        let answer = packed::why_length(&self.row[personality], &self.row[state], inputs);
+        let record = self.held(record)?;
+        let answer = packed::why_length(record.held_personality(), &record.state, inputs);
         line_length(answer)
     }
 
@@ -72,8 +82,8 @@ impl Cabinet {
         inputs: u64,
         buffer: &'b mut [u8],
     ) -> Result<&'b [u8], Refusal> {
-        let (personality, state) = parts_in(&self.row, record).ok_or(NO_SITE)?;
-        line_of(&self.row[personality], &self.row[state], inputs, buffer)
+        let record = self.held(record)?;
+        line_of(record.held_personality(), &record.state, inputs, buffer)
     }
 
     /// Takes the site out of a record, which is then free; its outputs turn dark.
@@ -85,14 +95,27 @@ impl Cabinet {
     /// The fields of the state of a record. A record that is free, or that the cabinet
     /// lacks, is refused with 24 as in a step.
     pub fn fields(&self, record: usize) -> Result<Fields<'_>, Refusal> {
-        let (_, state) = parts_in(&self.row, record).ok_or(NO_SITE)?;
-        let state = self.row[state].try_into();
-        Ok(Fields::of(state.expect("a record has room for a state")))
+        self.held(record).map(Record::fields)
     }
 
-    /// The bytes of the row.
-    pub fn row(&self) -> &[u8; ROW_LEN] {
+    /// The records of the row.
+    pub const fn row(&self) -> &[Record; RECORDS] {
         &self.row
+    }
+
+    /// The bytes of the row, which may be stored: those of its records, one after the other.
+    pub fn to_bytes(&self) -> [u8; ROW_LEN] {
+        let mut bytes = [0; ROW_LEN];
+        for (bytes, record) in bytes.as_chunks_mut().0.iter_mut().zip(&self.row) {
+            *bytes = record.to_bytes();
+        }
+        bytes
+    }
+
+    /// A record that is not free.
+    fn held(&self, record: usize) -> Result<&Record, Refusal> {
+        let record = self.row.get(record).filter(|record| !record.is_free());
+        record.ok_or(NO_SITE)
     }
 }
 
@@ -100,20 +123,3 @@ const NO_SITE: Refusal = Refusal {
     number: refusal::WRONG_RECORD,
     place: 0,
 };
-
-/// Where the personality and the state of a record lie in the row. None if the record
-/// is free, or the row has no such record.
-fn parts_in(row: &[u8; ROW_LEN], record: usize) -> Option<(Range<usize>, Range<usize>)> {
-    let &[held, _, low, high, ..]: &[u8; RECORD_LEN] = row.as_chunks().0.get(record)?;
-    let room = RECORD_LEN * record + 4;
-    let state = RECORD_LEN * (record + 1) - STATE_LEN;
-    // A length above the room counts as the room.
-    let length = usize::from(u16::from_le_bytes([low, high])).min(state - room);
-    (held != 0).then_some((room..room + length, state..state + STATE_LEN))
-}
-
-impl Default for Cabinet {
-    fn default() -> Cabinet {
-        Cabinet::new()
-    }
-}

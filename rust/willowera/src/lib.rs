@@ -3,7 +3,7 @@
 //! The library is proved; these wrappers only carry slices to its C functions
 //! and take its packed answers apart. The functions are there with the feature
 //! `linked`, which links `libwillowera.a`. Without it the crate has the codes, the
-//! fields of a state and the refusals.
+//! fields of a state, the record of a cabinet and the refusals.
 //!
 //! # As a dependency
 //!
@@ -40,6 +40,7 @@ mod codes;
 mod fields;
 #[cfg(feature = "linked")]
 pub mod packed;
+mod record;
 pub mod refusal;
 mod why;
 
@@ -53,10 +54,11 @@ pub use board::{
 pub use cabinet::Cabinet;
 pub use codes::{colour, interval, stage};
 pub use fields::{Fields, Movement, MOVEMENTS};
+pub use record::Record;
 pub use why::{Why, LONGEST_LINE};
 
 /// The version of the interface that these wrappers are for.
-pub const VERSION: u32 = 5;
+pub const VERSION: u32 = 6;
 
 /// The length of a state in bytes.
 pub const STATE_LEN: usize = 336;
@@ -67,15 +69,17 @@ pub const MOST_WAIT_BYTES: usize = 2 * (7 + MOVEMENTS);
 /// The length of a sealed record in bytes.
 pub const SEALED_LEN: usize = 347;
 
+/// The length of the longest personality that is accepted, in bytes.
+pub const MOST_PERSONALITY_BYTES: usize = 477;
+
 /// The records of a cabinet.
 pub const RECORDS: usize = 4;
 
 /// The outputs of a cabinet, one byte each.
 pub const OUTPUTS: usize = 32;
 
-/// The length of a record in bytes: whether it is held (1), its first output (1), the
-/// length of its personality (2), room for that (477), and its state.
-pub const RECORD_LEN: usize = 4 + 477 + STATE_LEN;
+/// The length of a [`Record`] in bytes.
+pub const RECORD_LEN: usize = 4 + MOST_PERSONALITY_BYTES + STATE_LEN;
 
 /// The length of a cabinet's row of records in bytes.
 pub const ROW_LEN: usize = RECORDS * RECORD_LEN;

@@ -3,8 +3,13 @@
 //! refusal; the rest is the wait bound, the length of a line, a number of bytes or the
 //! place.
 
+use crate::Record;
+
 mod ffi {
-    // A length, a record and a first output have 64 bits on every target.
+    use super::Record;
+
+    // A length, a number of records, a record and a first output have 64 bits on every
+    // target.
     unsafe extern "C" {
         pub fn willowera_read(personality: *const u8, personality_len: u64) -> u64;
         pub fn willowera_wait_bound(personality: *const u8, personality_len: u64) -> u64;
@@ -83,8 +88,8 @@ mod ffi {
             results_len: u64,
         ) -> u64;
         pub fn willowera_cabinet_place(
-            row: *mut u8,
-            row_len: u64,
+            row: *mut Record,
+            records: u64,
             record: u64,
             personality: *const u8,
             personality_len: u64,
@@ -93,16 +98,16 @@ mod ffi {
             outputs_len: u64,
         ) -> u64;
         pub fn willowera_cabinet_step(
-            row: *mut u8,
-            row_len: u64,
+            row: *mut Record,
+            records: u64,
             record: u64,
             inputs: u64,
             outputs: *mut u8,
             outputs_len: u64,
         ) -> u64;
         pub fn willowera_cabinet_take_out(
-            row: *mut u8,
-            row_len: u64,
+            row: *mut Record,
+            records: u64,
             record: u64,
             outputs: *mut u8,
             outputs_len: u64,
@@ -293,17 +298,18 @@ pub fn road(
     }
 }
 
-/// Places a site in a record of a row of [`crate::ROW_LEN`] bytes, and writes its
+/// Places a site in a record of a row of [`crate::RECORDS`] records, and writes its
 /// outputs, unless it is refused.
 pub fn cabinet_place(
-    row: &mut [u8],
+    row: &mut [Record],
     record: usize,
     personality: &[u8],
     first: usize,
     outputs: &mut [u8],
 ) -> u64 {
-    // SAFETY: each pointer and length are those of one slice; the two lent for
-    // writing overlap neither each other nor the personality.
+    // SAFETY: each pointer and length are those of one slice, and a row has as many records
+    // as the number says; the two lent for writing overlap neither each other nor the
+    // personality. A record is laid out as in C, and any bytes are a record.
     unsafe {
         ffi::willowera_cabinet_place(
             row.as_mut_ptr(),
@@ -320,9 +326,8 @@ pub fn cabinet_place(
 
 /// Steps the site of a record: replaces its state and writes its outputs, unless
 /// it is refused.
-pub fn cabinet_step(row: &mut [u8], record: usize, inputs: u64, outputs: &mut [u8]) -> u64 {
-    // SAFETY: each pointer and length are those of one slice, and the two do not
-    // overlap.
+pub fn cabinet_step(row: &mut [Record], record: usize, inputs: u64, outputs: &mut [u8]) -> u64 {
+    // SAFETY: as in a placing, without a personality.
     unsafe {
         ffi::willowera_cabinet_step(
             row.as_mut_ptr(),
@@ -336,9 +341,8 @@ pub fn cabinet_step(row: &mut [u8], record: usize, inputs: u64, outputs: &mut [u
 }
 
 /// Takes the site out of a record, and writes its outputs, unless it is refused.
-pub fn cabinet_take_out(row: &mut [u8], record: usize, outputs: &mut [u8]) -> u64 {
-    // SAFETY: each pointer and length are those of one slice, and the two do not
-    // overlap.
+pub fn cabinet_take_out(row: &mut [Record], record: usize, outputs: &mut [u8]) -> u64 {
+    // SAFETY: as in a placing, without a personality.
     unsafe {
         ffi::willowera_cabinet_take_out(
             row.as_mut_ptr(),

@@ -1,9 +1,10 @@
 //! The constants, fields and words here are those of the C headers.
 
 use std::collections::BTreeMap;
-use willowera::{colour, interval, refusal, stage, Fields, Movement, Refusal};
-use willowera::{LONGEST_LINE, MOST_WAIT_BYTES, MOVEMENTS, OUTPUTS, RECORDS};
-use willowera::{SEALED_LEN, STATE_LEN, VERSION};
+use std::mem::{offset_of, size_of};
+use willowera::{colour, interval, refusal, stage, Fields, Movement, Record, Refusal};
+use willowera::{LONGEST_LINE, MOST_PERSONALITY_BYTES, MOST_WAIT_BYTES, MOVEMENTS};
+use willowera::{OUTPUTS, RECORDS, SEALED_LEN, STATE_LEN, VERSION};
 
 const HEADER: &str = include_str!("../../../include/willowera.h");
 const WORDS: &str = include_str!("../../../include/willowera_words.h");
@@ -78,9 +79,45 @@ fn sizes() {
     assert_eq!(all["MOST_WAIT_BYTES"], MOST_WAIT_BYTES);
     let most = all["MOST_PHASES"] + all["MOST_MOVEMENTS"];
     assert_eq!(all["MOST_WAIT_BYTES"], 2 * most);
+    assert_eq!(all["MOST_PERSONALITY_BYTES"], MOST_PERSONALITY_BYTES);
     assert_eq!(all["RECORDS"], RECORDS);
     assert_eq!(all["OUTPUTS"], OUTPUTS);
     assert_eq!(all["VERSION"], VERSION as usize);
+}
+
+/// The parts of a record in the header, each with its offset, and the bytes of all: every part
+/// is a byte, or bytes one after the other.
+fn record() -> (Vec<(&'static str, usize)>, usize) {
+    let all = defined(HEADER);
+    let number = |text: &str| match text.strip_prefix("WILLOWERA_") {
+        Some(name) => all[name],
+        None => text.parse().expect("a number"),
+    };
+    let mut parts = Vec::new();
+    let mut end = 0;
+    for line in part("struct willowera_record {", "};").lines().skip(1) {
+        let field = line.trim().strip_prefix("uint8_t ").expect("bytes");
+        let (field, _) = field.split_once(';').expect("the end of a part");
+        let (name, count) = match field.split_once('[') {
+            Some((name, count)) => (name, number(count.strip_suffix(']').expect("a count"))),
+            None => (field, 1),
+        };
+        parts.push((name, end));
+        end += count;
+    }
+    (parts, end)
+}
+
+#[test]
+fn parts_of_a_record() {
+    let ours = [
+        ("held", offset_of!(Record, held)),
+        ("first", offset_of!(Record, first)),
+        ("length", offset_of!(Record, length)),
+        ("personality", offset_of!(Record, personality)),
+        ("state", offset_of!(Record, state)),
+    ];
+    assert_eq!(record(), (ours.to_vec(), size_of::<Record>()));
 }
 
 #[test]

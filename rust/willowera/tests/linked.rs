@@ -510,7 +510,7 @@ fn buffers_of_no_length() {
 
 #[test]
 fn four_sites_in_one_cabinet() {
-    use willowera::{Cabinet, OUTPUTS, ROW_LEN};
+    use willowera::{Cabinet, Record, OUTPUTS, RECORDS};
     let refused = |number| Refusal { number, place: 0 };
     let mut cabinet = Cabinet::new();
     let mut outputs = [0; OUTPUTS + 1];
@@ -528,20 +528,63 @@ fn four_sites_in_one_cabinet() {
     assert_eq!(cabinet.step(4, 0, &mut outputs), Err(refused(24)));
     assert_eq!(outputs[..3], [4, 4, 0]);
     assert_eq!(outputs[2..], [0; 31]);
-    let row = cabinet.row();
-    assert_eq!(row.len(), 3_268);
-    assert!(row[..817].iter().all(|&byte| byte == 0));
-    assert_eq!(row[817..821], [1, 2, 68, 0]);
-    assert_eq!(row[821..889], JUNCTION);
-    assert_eq!(row[817 + 481..817 + 485], [0, 0, 2, 0]);
-    assert_eq!(Cabinet::of_row(*row), cabinet);
+    let [zeroth, first, second, third] = cabinet.row();
+    assert_eq!((zeroth, second), (&Record::FREE, &Record::FREE));
+    assert_eq!((first.is_free(), first.first_output()), (false, 2));
+    assert_eq!(first.held_personality(), JUNCTION);
+    assert_eq!(first.state[..4], [0, 0, 2, 0]);
+    assert_eq!((third.is_free(), third.first_output()), (false, 30));
     assert_eq!(cabinet.take_out(1, &mut outputs[..31]), Err(refused(14)));
-    assert_eq!(
-        packed::cabinet_step(&mut [0; ROW_LEN - 1], 0, 0, &mut []),
-        24
-    );
-    assert_eq!(packed::cabinet_place(&mut [], 0, &[], 40, &mut []), 1);
-    assert_eq!(packed::cabinet_take_out(&mut [], 0, &mut []), 24);
+    assert_eq!(Cabinet::of_row(*cabinet.row()), cabinet);
+    // A number of records other than four: there is no such record.
+    for count in [0, 1, 3, 5, 8] {
+        let mut row: Vec<Record> = cabinet.row().iter().copied().cycle().take(count).collect();
+        let before = row.clone();
+        let outputs = &mut outputs.clone();
+        for record in 0..=RECORDS {
+            let placed = packed::cabinet_place(&mut row, record, &JUNCTION, 8, outputs);
+            let stepped = packed::cabinet_step(&mut row, record, 0, outputs);
+            let taken_out = packed::cabinet_take_out(&mut row, record, outputs);
+            assert_eq!([placed, stepped, taken_out], [24; 3], "{count}, {record}");
+            // Placing refuses the personality first.
+            let refused = packed::cabinet_place(&mut row, record, &[], 40, outputs);
+            assert_eq!(refused, 1, "{count}, {record}");
+        }
+        assert_eq!(row, before);
+    }
+}
+
+#[test]
+fn the_bytes_of_a_row() {
+    use willowera::{Cabinet, Record, OUTPUTS, RECORD_LEN};
+    let mut cabinet = Cabinet::new();
+    let mut outputs = [0; OUTPUTS];
+    cabinet.place(1, &JUNCTION, 2, &mut outputs).unwrap();
+    cabinet.step(1, 0, &mut outputs).unwrap();
+    let mut bytes = cabinet.to_bytes();
+    assert_eq!(bytes.len(), 3_268);
+    assert_eq!(bytes[817..821], [1, 2, 68, 0]);
+    assert_eq!(bytes[821..889], JUNCTION);
+    assert_eq!(bytes[817 + 481..817 + 485], [0, 0, 2, 0]);
+    let beside = bytes[..817].iter().chain(&bytes[2 * 817..]);
+    assert!(beside.copied().all(|byte| byte == 0));
+    assert_eq!(Cabinet::of_bytes(&bytes), cabinet);
+    // A stored row goes on, as a cabinet and where its bytes lie, at any alignment.
+    let mut stored = Cabinet::of_bytes(&bytes);
+    let stepped = stored.step(1, 0, &mut outputs).unwrap();
+    let mut room = [0; 3_268 + 16];
+    for start in 0..16 {
+        room[start..start + 3_268].copy_from_slice(&bytes);
+        let (row, _) = room[start..start + 3_268].as_chunks_mut::<RECORD_LEN>();
+        let answer = packed::cabinet_step(Record::in_bytes_mut(row), 1, 0, &mut outputs);
+        assert_eq!(answer, stepped << 8);
+        assert_eq!(room[start..start + 3_268], stored.to_bytes());
+    }
+    // Any bytes are a row, whatever their records then are.
+    bytes.fill(0xFF);
+    let mut noise = Cabinet::of_bytes(&bytes);
+    assert!(noise.step(0, 0, &mut outputs).is_err());
+    assert_eq!(noise.to_bytes(), bytes);
 }
 
 #[test]
@@ -564,13 +607,12 @@ fn new_times_for_a_site_of_a_cabinet() {
     assert_eq!(cabinet, before);
     assert_eq!(cabinet.retime(1, &longer()), Ok(()));
     // The times wait in the state of that record, and nothing else has changed.
-    let state = 817 + 481;
-    let differs = |at: &usize| cabinet.row()[*at] != before.row()[*at];
-    let changed: Vec<usize> = (0..cabinet.row().len()).filter(differs).collect();
-    assert!(changed
-        .iter()
-        .all(|&at| (state + 187..state + 336).contains(&at)));
-    assert_eq!(cabinet.row()[state + 187..state + 190], [1, 20, 0]);
+    let state = cabinet.row()[1].state;
+    assert_eq!(state[..187], before.row()[1].state[..187]);
+    assert_eq!(state[187..190], [1, 20, 0]);
+    let mut retimed = *before.row();
+    retimed[1].state = state;
+    assert_eq!(cabinet.row(), &retimed);
     // Start red ends by the old setting; the new times rule from there on.
     for step in 1..=10 {
         let wait = if step < 10 { 270 } else { 460 };

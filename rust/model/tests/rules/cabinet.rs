@@ -7,8 +7,7 @@ use generate::{
 };
 use model::packed::{self, number};
 use model::{
-    layout, parts_in, records_of, row_of, Record, Site, TimedState, RECORDS, RECORD_LEN, ROOM,
-    ROW_LEN, STATE_LEN,
+    layout, parts_in, records_in, Record, RecordBytes, Site, TimedState, RECORDS, ROOM, STATE_LEN,
 };
 
 const SEED: u64 = 24;
@@ -20,32 +19,32 @@ const DARK: u8 = 4;
 /// A cabinet: a row of four records, and a buffer of 32 outputs and some more.
 #[derive(Clone, Debug, PartialEq, Eq)]
 struct Cabinet {
-    row: Vec<u8>,
+    row: Vec<RecordBytes>,
     outputs: Vec<u8>,
 }
 
 impl Cabinet {
     fn empty() -> Cabinet {
         Cabinet {
-            row: vec![0; ROW_LEN],
             outputs: vec![RED; 32],
+            ..Cabinet::with([Record::FREE; RECORDS])
         }
     }
 
     /// A cabinet with these records, its outputs recognizable.
     fn with(records: [Record; RECORDS]) -> Cabinet {
         Cabinet {
-            row: row_of(&records).to_vec(),
+            row: records.each_ref().map(Record::to_bytes).to_vec(),
             outputs: vec![CANARY; 40],
         }
     }
 
     fn record(&self, record: usize) -> Record {
-        records_of(&self.row).unwrap()[record]
+        Record::from_bytes(&self.row[record])
     }
 
     /// Makes a call. A refusal must leave everything as it was.
-    fn call(&mut self, call: impl FnOnce(&mut [u8], &mut [u8]) -> u64) -> u64 {
+    fn call(&mut self, call: impl FnOnce(&mut [RecordBytes], &mut [u8]) -> u64) -> u64 {
         let before = self.clone();
         let answer = call(&mut self.row, &mut self.outputs);
         assert!(number(answer) == 0 || *self == before, "{answer:#x}");
@@ -134,7 +133,7 @@ fn the_worked_case() {
 fn a_placed_site_begins_fresh_with_its_outputs_red() {
     let mut cabinet = Cabinet::with([Record::FREE; RECORDS]);
     assert_eq!(cabinet.place(2, &junction(), 5), 0);
-    let record = &cabinet.row[1_634..2_451];
+    let record = &cabinet.row[2];
     assert_eq!(record[..4], [1, 5, 68, 0]);
     assert_eq!(record[4..72], junction());
     assert!(record[72..481].iter().all(|&byte| byte == 0));
@@ -142,8 +141,8 @@ fn a_placed_site_begins_fresh_with_its_outputs_red() {
     // Start red and the first times of A rule; none wait.
     assert_eq!(record[481 + 39..481 + 45], [10, 0, 0, 0, 20, 0]);
     assert!(record[481 + 187..].iter().all(|&byte| byte == 0));
-    let others = cabinet.row[..1_634].iter().chain(&cabinet.row[2_451..]);
-    assert!(others.copied().all(|byte| byte == 0));
+    let others = cabinet.row[..2].iter().chain(&cabinet.row[3..]);
+    assert!(others.flatten().all(|&byte| byte == 0));
     assert_eq!(cabinet.outputs[5..7], [RED; 2]);
     let others = cabinet.outputs[..5].iter().chain(&cabinet.outputs[7..]);
     assert!(others.copied().all(|byte| byte == CANARY));
@@ -172,8 +171,8 @@ fn nothing_of_a_former_site_is_left() {
 fn taking_out_turns_the_outputs_of_the_site_dark() {
     let mut cabinet = Cabinet::with([held(0), held(2), held(4), held(30)]);
     assert_eq!(cabinet.take_out(1), 0);
-    let records = records_of(&cabinet.row).unwrap();
-    assert_eq!(records, [held(0), Record::FREE, held(4), held(30)]);
+    let records = [held(0), Record::FREE, held(4), held(30)];
+    assert_eq!(records_in(&cabinet.row), Some(records));
     assert_eq!(cabinet.outputs[2..4], [DARK; 2]);
     assert_eq!(cabinet.outputs[..2], [CANARY; 2]);
     assert_eq!(cabinet.outputs[4..], [CANARY; 36]);
@@ -202,7 +201,7 @@ fn a_step_writes_the_state_and_the_outputs_of_its_site_only() {
         packed::step(&junction(), &mut state, 0, &mut [0; 2]);
     }
     records[1].state = state;
-    assert_eq!(records_of(&cabinet.row), Some(records));
+    assert_eq!(records_in(&cabinet.row), Some(records));
 }
 
 #[test]
@@ -264,15 +263,15 @@ fn placing_refuses_personality_then_record_then_outputs_then_buffer() {
 #[test]
 fn stepping_refuses_record_then_personality_then_outputs_then_the_step_then_buffer() {
     let mut cabinet = Cabinet::with([refused(31), held(31), held(4), Record::FREE]);
-    cabinet.row[RECORD_LEN + 481] = 9;
-    cabinet.row[2 * RECORD_LEN + 481] = 9;
+    cabinet.row[1][481] = 9;
+    cabinet.row[2][481] = 9;
     cabinet.outputs.truncate(31);
     assert_eq!(cabinet.step(3, 4), 24);
     assert_eq!(cabinet.step(4, 4), 24);
     assert_eq!(cabinet.step(0, 4), REFUSED);
     assert_eq!(cabinet.step(1, 4), 25);
     assert_eq!(cabinet.step(2, 4), 13);
-    cabinet.row[2 * RECORD_LEN + 481] = 0;
+    cabinet.row[2][481] = 0;
     assert_eq!(cabinet.step(2, 4), 15);
     assert_eq!(cabinet.step(2, 3), 14);
     cabinet.outputs.push(CANARY);
@@ -454,13 +453,11 @@ fn records_of_any_number() {
 }
 
 #[test]
-fn a_row_of_another_length_has_no_record() {
-    let row = row_of(&[held(0), held(2), held(4), Record::FREE]);
-    for length in [
-        0, 1, 816, 817, 1_634, 2_451, 3_267, 3_269, 4_085, 6_536, 2_080,
-    ] {
+fn another_number_of_records_means_that_there_is_none() {
+    let four = Cabinet::with([held(0), held(2), held(4), Record::FREE]).row;
+    for records in [0, 1, 2, 3, 5, 6, 7, 8, 16] {
         let mut cabinet = Cabinet {
-            row: row.iter().copied().cycle().take(length).collect(),
+            row: four.iter().copied().cycle().take(records).collect(),
             outputs: vec![CANARY; 31],
         };
         for record in 0..RECORDS {
@@ -477,8 +474,8 @@ fn buffers_of_every_length() {
     for length in 0..40 {
         let expected = if length < 32 { 14 } else { 0 };
         let mut cabinet = Cabinet {
-            row: row_of(&[held(0), held(2), Record::FREE, Record::FREE]).to_vec(),
             outputs: vec![CANARY; length],
+            ..Cabinet::with([held(0), held(2), Record::FREE, Record::FREE])
         };
         assert_eq!(cabinet.place(2, &junction(), 4), expected);
         assert_eq!(number(cabinet.step(1, 0)), expected as u8);
@@ -542,7 +539,7 @@ fn a_step_from_any_valid_state_is_that_of_the_site_alone() {
         assert_eq!(cabinet.outputs, outputs);
         let stepped = Record { state, ..record };
         let records = [record, record, stepped, record];
-        assert_eq!(records_of(&cabinet.row), Some(records));
+        assert_eq!(records_in(&cabinet.row), Some(records));
     }
 }
 
@@ -570,7 +567,7 @@ fn a_retiming_leaves_the_other_records_and_the_outputs() {
         ..records[1]
     };
     let expected = [records[0], retimed, records[2], records[3]];
-    assert_eq!(records_of(&cabinet.row), Some(expected));
+    assert_eq!(records_in(&cabinet.row), Some(expected));
     assert_eq!(cabinet.outputs, outputs);
 }
 
@@ -608,7 +605,7 @@ fn new_times_rule_at_one_site_only() {
 #[test]
 fn retimings_refused_in_a_cabinet() {
     let mut cabinet = Cabinet::with([held(0), refused(2), held(4), Record::FREE]);
-    cabinet.row[2 * RECORD_LEN + 481] = 9;
+    cabinet.row[2][481] = 9;
     let mut other = longer();
     other[61] = 2;
     let mut wrong = longer();
@@ -657,10 +654,10 @@ fn a_site_of_edition_two_keeps_it_in_a_cabinet() {
     assert_eq!(cabinet.retime(0, &short), 26);
     // An all-red of A that edition one allows.
     let all_red = 481 + layout::RULING + 2 + 10;
-    assert_eq!(cabinet.row[all_red], 15);
-    cabinet.row[all_red] = 14;
+    assert_eq!(cabinet.row[0][all_red], 15);
+    cabinet.row[0][all_red] = 14;
     assert_eq!(cabinet.step(0, 0), 13);
-    cabinet.row[all_red] = 15;
+    cabinet.row[0][all_red] = 15;
     assert_eq!(cabinet.step(0, 0), 310 << 8);
     assert_eq!(cabinet.retime(0, &two), 0);
 }

@@ -62,8 +62,8 @@ fn with_byte(record: &[u8; SEALED_LEN], at: usize, byte: u8) -> [u8; SEALED_LEN]
 fn every_part_has_its_place() {
     let (personality, state, record) = sealed_junction();
     assert_eq!(record.len(), 347);
-    // Version 5; 68 bytes; their check value; the state; the check value of all that.
-    assert_eq!(record[..3], [5, 68, 0]);
+    // Version 6; 68 bytes; their check value; the state; the check value of all that.
+    assert_eq!(record[..3], [6, 68, 0]);
     assert_eq!(record[3..7], crc32(&personality).to_le_bytes());
     assert_eq!(record[7..343], state);
     assert_eq!(record[343..], crc32(&record[..343]).to_le_bytes());
@@ -195,7 +195,7 @@ fn resuming_checks_one_thing_after_the_other() {
     let mut damaged = invalid;
     damaged[CHECK] ^= 1;
     let mut old = damaged;
-    old[0] = 4;
+    old[0] = 5;
     // Wrong in all, then right in one thing more each time.
     for (personality, record, length, expected) in [
         (&refused(), old, STATE_LEN - 1, REFUSED),
@@ -232,7 +232,7 @@ fn buffers_of_another_length_than_a_state() {
 #[test]
 fn another_version_is_named_whatever_else_is_wrong() {
     let (personality, _, record) = sealed_junction();
-    for version in (0..=255).filter(|&version| version != 5) {
+    for version in (0..=255).filter(|&version| version != 6) {
         let whole = with_byte(&record, 0, version);
         for length in [1, 2, 7, 343, 346, 347] {
             assert_eq!(refusal(&personality, &whole[..length]), 27);
@@ -280,7 +280,7 @@ fn every_bit_and_every_run_of_four_bytes_counts() {
                 *byte = rng.byte();
             }
             if damaged != record {
-                let version = if damaged[0] == 5 { 28 } else { 27 };
+                let version = if damaged[0] == 6 { 28 } else { 27 };
                 assert_eq!(refusal(&personality, &damaged), version, "bytes from {at}");
             }
         }
