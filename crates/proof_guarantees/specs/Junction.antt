@@ -4,10 +4,9 @@ use Rattle.rules.specs.declared.answer.Outcome.the-variants.{Stepped}
 use Rattle.rules.specs.Site.{siteOf}
 use Rattle.rules.specs.Colours.{green}
 use Rattle.rules.specs.Runs.{byRules, StepCall, stepCall, Step, Taken, stepTaken, takenFrom, acceptedSteps}
-use Rattle.rules.specs.DemandThree.{shows, minimumGreenBegins}
+use Rattle.rules.specs.DemandThree.{shows, minimumGreenBegins, registersLocked}
 use Rattle.rules.specs.StepDemandThree.{comesWithin}
 use Rattle.rules.specs.Junctions.{junction}
-use Rattle.rules.specs.Demands.{registersLock}
 
 -- the calls as the rules take them, from the fresh state
 abbrev pub takenAt : List StepCall → List Taken
@@ -28,7 +27,7 @@ MetIn270 =
     (calls : List StepCall) (earlier later : List Step) (step : Step) →
     acceptedSteps (takenAt calls) ≡ earlier ++ step ∷ later →
     270 ≤ length later →
-    registersLock (siteOf junction) (step .before) (step .inputs) 1 ≡ true →
+    registersLocked (siteOf junction) step 1 ≡ true →
     comesWithin 270 (minimumGreenBegins 1) step later ≡ true
 
 -- Whatever the calls: one whose input bits are those of the two detectors, with a buffer of two bytes or more, is accepted, and its answer

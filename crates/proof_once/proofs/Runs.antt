@@ -15,9 +15,8 @@ use Rattle.rules.specs.SiteTimes.{under}
 use Rattle.rules.specs.TimedLaws.{readyCore}
 use Rattle.rules.specs.Laws.{Sound}
 use Rattle.rules.specs.Runs.{Step}
-use Rattle.rules.specs.DemandThree.{minimumGreenBegins, walkBegins}
+use Rattle.rules.specs.DemandThree.{minimumGreenBegins, walkBegins, registersLocked, registersPressed}
 use Rattle.rules.specs.OnceEach.{someStarts, phaseStarts, otherStarts, howMany, untilMet, WhileWaiting}
-use Rattle.rules.specs.Demands.{registersLock, registersButton}
 use Rattle.laws.proofs.Booleans.{decided, never-both}
 use Rattle.proof_runs.proofs.Chains.{ValidLink}
 use Rattle.proof_runs.proofs.Demanded.{lock-below}
@@ -133,7 +132,7 @@ falls-few site sound p steps falling =
 module _
     (site : Site) (sound : Sound site) (s : State) (ruling : Times) (step : Step) (later : List Step)
     (run : TimedRun site s ruling (step ∷ later)) where
-  lock-falling : (p : ℕ) → registersLock site (step .before) (step .inputs) p ≡ true → FallingTo site p (untilMet (minimumGreenBegins p) (step ∷ later))
+  lock-falling : (p : ℕ) → registersLocked site step p ≡ true → FallingTo site p (untilMet (minimumGreenBegins p) (step ∷ later))
   lock-falling p r =
       let from = plainFrom (step .changed) s in
       let now = under site (step .ruling) in
@@ -154,7 +153,7 @@ module _
       (k p : ℕ) →
       k < site .size .movements →
       crosses (site .crossings) k p ≡ true →
-      registersButton (step .before .movements) (step .inputs) k ≡ true →
+      registersPressed step k ≡ true →
       FallingTo site p (untilMet (walkBegins k) (step ∷ later))
   button-falling k p l crossing r =
       let from = plainFrom (step .changed) s in
@@ -179,11 +178,11 @@ module _
 -- the claim at one step, for the steps after it
 abbrev At : Site → Step → List Step → Type 0
 At site step later =
-    ((p : ℕ) → registersLock site (step .before) (step .inputs) p ≡ true → FallingTo site p (untilMet (minimumGreenBegins p) (step ∷ later)))
+    ((p : ℕ) → registersLocked site step p ≡ true → FallingTo site p (untilMet (minimumGreenBegins p) (step ∷ later)))
     × ((k p : ℕ) →
     k < site .size .movements →
     crosses (site .crossings) k p ≡ true →
-    registersButton (step .before .movements) (step .inputs) k ≡ true →
+    registersPressed step k ≡ true →
     FallingTo site p (untilMet (walkBegins k) (step ∷ later)))
 
 at-each :

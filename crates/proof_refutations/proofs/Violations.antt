@@ -20,11 +20,10 @@ use Rattle.rules.specs.WaitBound.{waitBound}
 use Rattle.rules.specs.Waits.{movementWait}
 use Rattle.rules.specs.Call.{boundFor}
 use Rattle.rules.specs.Runs.{Controller, Call, Step, Taken, stepTaken, retimeTaken, takenFrom, acceptedSteps, siteAfter}
-use Rattle.rules.specs.DemandThree.{shows, shownBy, NeverGreen, lastGreen, StartsGreen, NoConflictingGreens, VehicleCleared, PedestrianCleared, Cleared, FullClearances, minimumGreenBegins, walkBegins, someStep, changedWaits, MetInTime, DemandsMet, ownVerdict, AnswersOwn, NoDeadEnd, SafeRun, DemandThreeOf}
+use Rattle.rules.specs.DemandThree.{shows, shownBy, NeverGreen, lastGreen, StartsGreen, NoConflictingGreens, VehicleCleared, PedestrianCleared, Cleared, FullClearances, minimumGreenBegins, walkBegins, someStep, changedWaits, MetInTime, DemandsMet, ownVerdict, AnswersOwn, NoDeadEnd, SafeRun, DemandThreeOf, registersLocked, registersPressed}
 use Rattle.rules.specs.StepDemandThree.{comesWithin, MetWithin}
 use Rattle.rules.specs.PhaseWaits.{noneChanges, ComesBefore, PlainWaitsMet, EveryPlainWaitMetOf}
 use Rattle.rules.specs.OnceEach.{phaseStarts, howMany, untilMet, OnceEach, OnceEachOf}
-use Rattle.rules.specs.Demands.{registersLock, registersButton}
 use Rattle.laws.proofs.Booleans.{never-both, or-false-left, or-false-right}
 
 -- what is read past the end of a list
@@ -210,21 +209,21 @@ module _
 
     pub refuted-by-lock :
         (n p : ℕ) →
-        unmet n (λ step. registersLock (siteOf b) (step .before) (step .inputs) p) (minimumGreenBegins p) ≡ (true, true, false, true) →
+        unmet n (λ step. registersLocked (siteOf b) step p) (minimumGreenBegins p) ≡ (true, true, false, true) →
         ¬ DemandThreeOf controller
     unfolding DemandThreeOf DemandsMet
     refuted-by-lock n p facts holds =
-        late n (λ step. registersLock (siteOf b) (step .before) (step .inputs) p) (minimumGreenBegins p) facts
+        late n (λ step. registersLocked (siteOf b) step p) (minimumGreenBegins p) facts
         (λ split. safe holds .demandsMet (take n steps) (drop (suc n) steps) [] (getD steps n nowhere) split .0 p)
 
     pub refuted-by-button :
         (n k : ℕ) →
         ltb k (siteOf b .size .movements) ≡ true →
-        unmet n (λ step. registersButton (step .before .movements) (step .inputs) k) (walkBegins k) ≡ (true, true, false, true) →
+        unmet n (λ step. registersPressed step k) (walkBegins k) ≡ (true, true, false, true) →
         ¬ DemandThreeOf controller
     unfolding DemandThreeOf DemandsMet
     refuted-by-button n k below facts holds =
-        late n (λ step. registersButton (step .before .movements) (step .inputs) k) (walkBegins k) facts
+        late n (λ step. registersPressed step k) (walkBegins k) facts
         (λ split.
         safe holds .demandsMet (take n steps) (drop (suc n) steps) [] (getD steps n nowhere) split .1 k
         (ltb-true k (siteOf b .size .movements) below))
@@ -270,7 +269,7 @@ module _
     twice n p r =
         let step = getD steps n nowhere in
         let waiting = untilMet (minimumGreenBegins p) (step ∷ drop (suc n) steps) in
-        (ltb n (length steps), registersLock (siteOf b) (step .before) (step .inputs) p, leb 2 (howMany (phaseStarts r) waiting))
+        (ltb n (length steps), registersLocked (siteOf b) step p, leb 2 (howMany (phaseStarts r) waiting))
 
     pub refuted-by-start : (n p r : ℕ) → twice n p r ≡ (true, true, true) → ¬ OnceEachOf controller
     unfolding twice OnceEachOf OnceEach
@@ -293,7 +292,7 @@ module _
           ltb n (length steps),
           ltb m (siteOf b .size .movements),
           crosses (siteOf b .crossings) m q,
-          registersButton (step .before .movements) (step .inputs) m,
+          registersPressed step m,
           someStep (walkBegins m) (step ∷ later),
           noneChanges later,
           leb (movementWait (siteAfter (siteOf b) step) q m) (length (step ∷ later)),
@@ -327,7 +326,7 @@ module _ (b : List ℕ) {calls made : List Taken} (same : calls ≡ made) where
   walked wait n k =
       let step = getD plain n nowhere in
       let later = drop (suc n) plain in
-      (ltb n (length plain), leb wait (length later), registersButton (step .before .movements) (step .inputs) k, comesWithin wait (walkBegins k) step later)
+      (ltb n (length plain), leb wait (length later), registersPressed step k, comesWithin wait (walkBegins k) step later)
 
   pub unmet-by-button :
       (wait n k : ℕ) →

@@ -13,13 +13,14 @@ use Rattle.rules.specs.Demands.{pressed, detected, inGreen, registersLock, regi
 use Rattle.rules.specs.SiteTimes.{under}
 use Rattle.rules.specs.TimedLaws.{readyCore}
 use Rattle.rules.specs.Runs.{Step}
-use Rattle.rules.specs.DemandThree.{inMinimumGreen, inWalk, minimumGreenBegins, walkBegins}
+use Rattle.rules.specs.DemandThree.{inMinimumGreen, inWalk, minimumGreenBegins, walkBegins, registersLocked, registersPressed}
 use Rattle.rules.specs.PhaseWaits.{hasStarted, demandedIn}
 use Rattle.laws.proofs.Booleans.{and-left, and-both}
 use Rattle.laws.proofs.ByteSets.{set-same}
 use Rattle.proof_waits.proofs.Locked.{LockStands}
 use Rattle.proof_waits.proofs.Pressed.{ButtonStands}
 use Rattle.proof_waits.proofs.TurnDemands.{metOrDropped, Away}
+use Rattle.proof_waits.proofs.Registers.{lock-same, button-same}
 use Rattle.proof_timed.proofs.Induction.{plainFrom, TimedLink, SeenReady}
 
 -- in the ready state every movement is idle, and none is in walk
@@ -70,12 +71,12 @@ button-seen k l step still h = and-both (and-left (inWalk (step .after) k) _ h) 
 module _ (site : Site) (s : State) (ruling : Times) (step : Step) (link : TimedLink site s ruling step) where
   pub lock-from :
       (p : ℕ) →
-      registersLock site (step .before) (step .inputs) p ≡ true →
+      registersLocked site step p ≡ true →
       registersLock (under site (step .ruling)) (plainFrom (step .changed) s) (step .inputs) p ≡ true
   unfolding registersLock detected inGreen
   lock-from p r =
       by-change (step .changed)
-      (ap (λ (b : State). registersLock site b (step .inputs) p) (sym (link .before)) ∙ r)
+      (ap (λ (b : State). registersLock site b (step .inputs) p) (sym (link .before)) ∙ sym (lock-same site step p) ∙ r)
     where
       by-change :
           (c : Bool) →
@@ -87,12 +88,12 @@ module _ (site : Site) (s : State) (ruling : Times) (step : Step) (link : TimedL
   pub button-from :
       (k : ℕ) →
       k < 8 →
-      registersButton (step .before .movements) (step .inputs) k ≡ true →
+      registersPressed step k ≡ true →
       registersButton (plainFrom (step .changed) s .movements) (step .inputs) k ≡ true
   unfolding registersButton
   button-from k l r =
       by-change (step .changed)
-      (ap (λ (b : State). registersButton (b .movements) (step .inputs) k) (sym (link .before)) ∙ r)
+      (ap (λ (b : State). registersButton (b .movements) (step .inputs) k) (sym (link .before)) ∙ sym (button-same step k) ∙ r)
     where
       by-change :
           (c : Bool) →

@@ -4,7 +4,7 @@ use Prim.Native.Nat.{ℕ, _≤_, _<_}
 use mathlib.Core.Bool.{Bool, true, false, not, _||_}
 use mathlib.Core.List.{List, [], _∷_, _++_}
 use mathlib.Core.Logic.{_⊎_}
-use mathlib.Core.Path.{_≡_, refl, ap}
+use mathlib.Core.Path.{_≡_, refl, ap, _∙_}
 use native.Mathlib.Omega.{arith}
 use Rattle.rules.specs.declared.site.Site.{Site}
 use Rattle.rules.specs.declared.site.Times.{Times}
@@ -30,6 +30,7 @@ use Rattle.proof_waits.proofs.PhaseTurns.{PhaseLeft, phase-never, phase-within}
 use Rattle.proof_waits.proofs.ButtonTurns.{button-turn-never}
 use Rattle.proof_waits.proofs.ButtonBound.{button-within}
 use Rattle.proof_waits.proofs.TurnDemands.{metOrDropped, Away, lock-turn-registers, lock-turn-goes, lasting-goes, MovementLeft, button-turn-registers, button-turn-goes}
+use Rattle.proof_waits.proofs.Registers.{green-same}
 use Rattle.proof_timed.proofs.Induction.{viewed, plainFrom, TimedRun, SeenReady, part-with, comes-before}
 use Rattle.proof_timed.proofs.Across.{away-again, lock-again, button-again, lasting-seen, lock-seen, button-seen, lock-from, button-from}
 use Rattle.proof_timed.proofs.TurnsAcross.{phase-again, button-turn-again, clearing-ready, Kept, kept-plain, kept-after}
@@ -211,7 +212,7 @@ waits-met site sound s ruling steps kept run =
     record {
       lasting = λ earlier between later step e q below off all.
           let cut = from-here earlier between later step e in
-          let away : inGreen (cut .0 .position) q ≡ false = rw (cut .3 .0 .before) at off in
+          let away : inGreen (cut .0 .position) q ≡ false = green-same (cut .0) q ∙ (rw (cut .3 .0 .before) at off) in
           lasting-comes site (cut .0) (cut .1) step between (cut .3) (cut .2) q below (away-told (cut .0) q away) all;
       locks = λ earlier between later step e q r.
           let cut = from-here earlier between later step e in

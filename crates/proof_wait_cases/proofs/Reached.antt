@@ -14,9 +14,8 @@ use Rattle.rules.specs.Site.{siteOf, timesIn}
 use Rattle.rules.specs.State.{idle}
 use Rattle.rules.specs.Timed.{TimedState, noneWaiting, freshTimed}
 use Rattle.rules.specs.Waits.{phaseWait, movementWait}
-use Rattle.rules.specs.Demands.{registersLock, registersButton}
 use Rattle.rules.specs.Runs.{byRules, Call, Step, leftBy, acceptedSteps}
-use Rattle.rules.specs.DemandThree.{minimumGreenBegins, walkBegins, someStep}
+use Rattle.rules.specs.DemandThree.{minimumGreenBegins, walkBegins, someStep, registersLocked, registersPressed}
 use Rattle.rules.proofs.Opened.{opened}
 use Rattle.proof_quick_runs.proofs.QuickRuns.{timesFit, callsFit, quickRules, rules-quickly}
 use Rattle.proof_wait_cases.specs.Examples.{staggered}
@@ -56,10 +55,10 @@ third = standing 1 Running 140 (Phase 0) Nothing 25 139 5 1 5
 -- ── What each part shows ──
 
 abbrev pressing : Step → Bool
-pressing step = registersButton (step .before .movements) (step .inputs) 0
+pressing step = registersPressed step 0
 
 abbrev locking : Step → Bool
-locking step = registersLock (siteOf staggered) (step .before) (step .inputs) 0
+locking step = registersLocked (siteOf staggered) step 0
 
 -- the steps of a part
 abbrev part : TimedState → List Call → List Step

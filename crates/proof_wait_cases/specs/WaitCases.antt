@@ -5,8 +5,7 @@ use Rattle.rules.specs.State.{fresh}
 use Rattle.rules.specs.Waits.{phaseWait, movementWait, waitsOf}
 use Rattle.rules.specs.Junctions.{junction}
 use Rattle.rules.specs.Runs.{Step, byRules, Call, stepCall, takenFrom, acceptedSteps}
-use Rattle.rules.specs.DemandThree.{minimumGreenBegins, walkBegins, someStep}
-use Rattle.rules.specs.Demands.{registersLock, registersButton}
+use Rattle.rules.specs.DemandThree.{minimumGreenBegins, walkBegins, someStep, registersLocked, registersPressed}
 use Rattle.proof_wait_cases.specs.Examples.{tJunction, fourPhases, staggered, crossings}
 
 -- ── The numbers ──
@@ -57,5 +56,5 @@ WaitsFor registers event steps n = (firstPasses registers steps ≡ true) × (so
 -- the first in which A is being left, waits for that and for the same turns: minimum green of A begins in step 832. So each waits for one step less than
 -- its wait, which is what "fewer than" allows.
 pub record WaitsReached : Type 0 where
-  pub button : (n : ℕ) × (n + 1 ≡ movementWait (siteOf staggered) 0 0) × WaitsFor (λ step. registersButton (step .before .movements) (step .inputs) 0) (walkBegins 0) (drop 40 saturatedSteps) n
-  pub lock : (n : ℕ) × (n + 1 ≡ phaseWait (siteOf staggered) 0) × WaitsFor (λ step. registersLock (siteOf staggered) (step .before) (step .inputs) 0) (minimumGreenBegins 0) (drop 275 saturatedSteps) n
+  pub button : (n : ℕ) × (n + 1 ≡ movementWait (siteOf staggered) 0 0) × WaitsFor (λ step. registersPressed step 0) (walkBegins 0) (drop 40 saturatedSteps) n
+  pub lock : (n : ℕ) × (n + 1 ≡ phaseWait (siteOf staggered) 0) × WaitsFor (λ step. registersLocked (siteOf staggered) step 0) (minimumGreenBegins 0) (drop 275 saturatedSteps) n

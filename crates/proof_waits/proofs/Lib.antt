@@ -6,6 +6,7 @@ pub mod Between
 pub mod Progress
 pub mod Bound
 pub mod Paths
+pub mod Registers
 pub mod Demand
 pub mod Away
 pub mod Own

@@ -1,6 +1,6 @@
 -- The late start of a demanded phase, for any measure of the way ahead: once the phase starts only that is left before its minimum green.
 use Prim.Native.Nat.{ℕ, suc, _+_, _-_, _≤_, _<_}
-use mathlib.Core.Bool.{Bool, true, false, not, _&&_, and-or-distrib-left}
+use mathlib.Core.Bool.{Bool, true, false, not}
 use mathlib.Core.Logic.{_⊎_, inl, inr, ⊎-elim}
 use mathlib.Core.Path.{_≡_, refl, sym, ap, subst, _∙_}
 use native.Mathlib.Omega.{arith}
@@ -12,33 +12,22 @@ use Rattle.rules.specs.declared.state.Position.{Position}
 use Rattle.rules.specs.declared.state.State.{State}
 use Rattle.laws.specs.Ground.{if_then_else_}
 use Rattle.rules.specs.Site.{phaseTimes}
-use Rattle.rules.specs.IntervalTable.{isMinimumGreen, isRunning}
-use Rattle.rules.specs.Demands.{inGreen, nextDemanded}
+use Rattle.rules.specs.IntervalTable.{isMinimumGreen}
+use Rattle.rules.specs.Demands.{nextDemanded}
 use Rattle.rules.specs.Interval.{ends, following, entering, starting, staying}
 use Rattle.rules.specs.Step.{stepped}
 use Rattle.rules.specs.Laws.{Sound}
 use Rattle.rules.specs.Runs.{Step}
-use Rattle.rules.specs.DemandThree.{inMinimumGreen, minimumGreenBegins}
+use Rattle.rules.specs.DemandThree.{inMinimumGreen, inRunning, minimumGreenBegins}
 use Rattle.laws.proofs.Booleans.{and-both, or-false-left, decided, never-both}
-use Rattle.laws.proofs.Indices.{eqb-turned}
-use Rattle.rules.proofs.IntervalTests.{green-either}
 use Rattle.rules.proofs.Settings.{phase-timed}
 use Rattle.proof_runs.proofs.Steps.{ended, position-of}
 use Rattle.proof_runs.proofs.Ends.{by-end, ended-in, next-in}
 use Rattle.proof_runs.proofs.Chains.{ValidLink}
 use Rattle.proof_waits.proofs.Falls.{timer-falls}
 use Rattle.proof_waits.proofs.Progress.{Starts}
+use Rattle.proof_waits.proofs.Registers.{green-same}
 use Rattle.proof_waits.proofs.Away.{AwayAt, NotBegun, following-away, away-green, not-begun}
-
--- a phase that is not in minimum green or running is not in minimum green
-minimum-off : (s : State) (q : ℕ) → inGreen (s .position) q ≡ false → inMinimumGreen s q ≡ false
-unfolding inGreen inMinimumGreen
-minimum-off s q h =
-    let here = eqb (s .position .phase) q in
-    let interval = s .position .interval in
-    or-false-left (here && isMinimumGreen interval) (here && isRunning interval)
-    (sym (and-or-distrib-left here (isMinimumGreen interval) (isRunning interval))
-    ∙ rw (green-either interval, eqb-turned q (s .position .phase)) at h)
 
 abbrev pub late : Site → ℕ → ℕ
 late site q = phaseTimes (site .times) q .late
@@ -115,7 +104,7 @@ begins-or-not site q s step link away =
     let after = stepped site s (step .inputs) in
     ⊎-elim
     (λ (m : inMinimumGreen after q ≡ true).
-    let before = minimum-off s q (away-green s q away) in
+    let before = or-false-left (inMinimumGreen s q) (inRunning s q) (sym (green-same s q) ∙ away-green s q away) in
     inl (rw (link .taken .before, link .taken .after) (and-both m (ap not before))))
     (λ (m : inMinimumGreen after q ≡ false). inr (not-begun after q m))
     (decided (inMinimumGreen after q))

@@ -3,9 +3,9 @@ use Rattle.laws.specs.Ground.{ℕ, _+_, _≤_, _<_, Bool, true, false, not, _&&
 use Rattle.rules.specs.Types.{Verdict, Site, State}
 use Rattle.rules.specs.Verdicts.{_orElse_, refuseIf}
 use Rattle.rules.specs.Site.{siteOf, phaseTimes, walkTimes, isPedestrian, movementOf, conflict}
-use Rattle.rules.specs.IntervalTable.{isMinimumGreen, isWalk}
+use Rattle.rules.specs.IntervalTable.{isMinimumGreen, isRunning, isWalk}
 use Rattle.rules.specs.State.{movement}
-use Rattle.rules.specs.Demands.{registersLock, registersButton}
+use Rattle.rules.specs.Demands.{pressed, locking, detected}
 use Rattle.rules.specs.Colours.{red, yellow, green, flashing}
 use Rattle.rules.specs.WaitBound.{waitBound}
 use Rattle.rules.specs.Call.{strayInput, boundFor}
@@ -87,6 +87,19 @@ inMinimumGreen s p = eqb (s .position .phase) p && isMinimumGreen (s .position .
 unfoldable pub inWalk : State → ℕ → Bool
 inWalk s k = isWalk (movement s k .stage)
 
+unfoldable pub inRunning : State → ℕ → Bool
+inRunning s p = eqb (s .position .phase) p && isRunning (s .position .interval)
+
+-- A step registers a locked demand of a phase if one of its locking detectors is occupied. Exception: in the state handed in the phase is
+-- in minimum green or running.
+unfoldable pub registersLocked : Site → Step → ℕ → Bool
+registersLocked site step p =
+    detected locking site (step .inputs) p && not (inMinimumGreen (step .before) p || inRunning (step .before) p)
+
+-- A step registers a button demand if the button is pressed. Exception: in the state handed in the movement is in walk.
+unfoldable pub registersPressed : Step → ℕ → Bool
+registersPressed step k = pressed (step .inputs) k && not (inWalk (step .before) k)
+
 -- minimum green of phase p begins in the step; an interval that begins was another one before
 unfoldable pub minimumGreenBegins : ℕ → Step → Bool
 minimumGreenBegins p step = inMinimumGreen (step .after) p && not (inMinimumGreen (step .before) p)
@@ -116,8 +129,8 @@ unfoldable pub DemandsMet : Site → List Step → Type 0
 DemandsMet site steps =
     (earlier between later : List Step) (step : Step) →
     steps ≡ earlier ++ step ∷ (between ++ later) →
-    ((p : ℕ) → registersLock site (step .before) (step .inputs) p ≡ true → MetInTime site (minimumGreenBegins p) step between)
-    × ((k : ℕ) → k < site .size .movements → registersButton (step .before .movements) (step .inputs) k ≡ true → MetInTime site (walkBegins k) step between)
+    ((p : ℕ) → registersLocked site step p ≡ true → MetInTime site (minimumGreenBegins p) step between)
+    × ((k : ℕ) → k < site .size .movements → registersPressed step k ≡ true → MetInTime site (walkBegins k) step between)
 
 -- ── Part d: no call is refused for the state that the calls before it left ──
 

@@ -4,8 +4,7 @@ use Rattle.rules.specs.Types.{Site, Interval}
 use Rattle.rules.specs.Site.{siteOf, crosses}
 use Rattle.rules.specs.IntervalTable.{isRunning, isLeaving, isBeforeStart}
 use Rattle.rules.specs.Runs.{Step, Controller, byRules, acceptedSteps, OfEveryRun}
-use Rattle.rules.specs.DemandThree.{minimumGreenBegins, walkBegins}
-use Rattle.rules.specs.Demands.{registersLock, registersButton}
+use Rattle.rules.specs.DemandThree.{minimumGreenBegins, walkBegins, registersLocked, registersPressed}
 
 -- ── Starts ──
 
@@ -43,11 +42,11 @@ abbrev pub WhileWaiting : (ℕ → List Step → Type 0) → Site → List Step 
 WhileWaiting Claim site steps =
     (earlier later : List Step) (step : Step) →
     steps ≡ earlier ++ step ∷ later →
-    ((p : ℕ) → registersLock site (step .before) (step .inputs) p ≡ true → Claim p (untilMet (minimumGreenBegins p) (step ∷ later)))
+    ((p : ℕ) → registersLocked site step p ≡ true → Claim p (untilMet (minimumGreenBegins p) (step ∷ later)))
     × ((k p : ℕ) →
     k < site .size .movements →
     crosses (site .crossings) k p ≡ true →
-    registersButton (step .before .movements) (step .inputs) k ≡ true →
+    registersPressed step k ≡ true →
     Claim p (untilMet (walkBegins k) (step ∷ later)))
 
 -- No phase starts twice. The start after start red is one.

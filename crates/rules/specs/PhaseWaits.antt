@@ -6,11 +6,11 @@ use Rattle.rules.specs.Personality.{verdictOf}
 use Rattle.rules.specs.Site.{siteOf, phaseTimes, crosses}
 use Rattle.rules.specs.SiteTimes.{under}
 use Rattle.rules.specs.IntervalTable.{isBeforeStart, isLeaving}
-use Rattle.rules.specs.Demands.{demanded, registersLock, registersButton, inGreen}
+use Rattle.rules.specs.Demands.{demanded}
 use Rattle.rules.specs.WaitBound.{waitBound}
 use Rattle.rules.specs.Waits.{turnOf, phaseWaitBy, movementWaitBy, phaseWait, movementWait, phaseOfMovement}
 use Rattle.rules.specs.Runs.{Step, Controller, byRules, acceptedSteps, siteAfter, OfEveryRun}
-use Rattle.rules.specs.DemandThree.{minimumGreenBegins, walkBegins, someStep, changedWaits}
+use Rattle.rules.specs.DemandThree.{minimumGreenBegins, walkBegins, someStep, changedWaits, registersLocked, registersPressed, inMinimumGreen, inRunning}
 
 -- ── A demand that lasts ──
 
@@ -70,7 +70,7 @@ pub record OfEveryDemand
       steps ≡ earlier ++ step ∷ (between ++ later) →
       (q : ℕ) →
       q < site .size .phases →
-      inGreen (step .before .position) q ≡ false →
+      (inMinimumGreen (step .before) q || inRunning (step .before) q) ≡ false →
       everyStep (demandedIn site q) (step ∷ between) ≡ true →
       OfPhase q step between
   -- a locked demand that the step registers
@@ -78,7 +78,7 @@ pub record OfEveryDemand
       (earlier between later : List Step) (step : Step) →
       steps ≡ earlier ++ step ∷ (between ++ later) →
       (q : ℕ) →
-      registersLock site (step .before) (step .inputs) q ≡ true →
+      registersLocked site step q ≡ true →
       OfPhase q step between
   -- a button demand that the step registers, of movement m of phase q
   pub buttons :
@@ -87,7 +87,7 @@ pub record OfEveryDemand
       (q m : ℕ) →
       m < site .size .movements →
       crosses (site .crossings) m q ≡ true →
-      registersButton (step .before .movements) (step .inputs) m ≡ true →
+      registersPressed step m ≡ true →
       OfMovement q m step between
 
 -- Minimum green of the phase begins, or the walk of the movement does, in the step or in fewer than its wait further ones, through changes of

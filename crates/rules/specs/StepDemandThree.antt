@@ -5,8 +5,7 @@ use Rattle.rules.specs.Site.{siteOf}
 use Rattle.rules.specs.WaitBound.{waitBound}
 use Rattle.rules.specs.Call.{boundFor}
 use Rattle.rules.specs.Runs.{Controller, byRules, StepCall, stepCall, Step, Taken, stepTaken, takenFrom, acceptedSteps}
-use Rattle.rules.specs.DemandThree.{NoConflictingGreens, FullClearances, minimumGreenBegins, walkBegins, someStep, ownVerdict, DemandThree}
-use Rattle.rules.specs.Demands.{registersLock, registersButton}
+use Rattle.rules.specs.DemandThree.{NoConflictingGreens, FullClearances, minimumGreenBegins, walkBegins, someStep, ownVerdict, DemandThree, registersLocked, registersPressed}
 
 -- ── Part c: every demand that a step registers is met within the wait bound ──
 
@@ -21,8 +20,8 @@ MetWithin site wait steps =
     (earlier later : List Step) (step : Step) →
     steps ≡ earlier ++ step ∷ later →
     wait ≤ length later →
-    ((p : ℕ) → registersLock site (step .before) (step .inputs) p ≡ true → comesWithin wait (minimumGreenBegins p) step later ≡ true)
-    × ((k : ℕ) → k < site .size .movements → registersButton (step .before .movements) (step .inputs) k ≡ true → comesWithin wait (walkBegins k) step later ≡ true)
+    ((p : ℕ) → registersLocked site step p ≡ true → comesWithin wait (minimumGreenBegins p) step later ≡ true)
+    × ((k : ℕ) → k < site .size .movements → registersPressed step k ≡ true → comesWithin wait (walkBegins k) step later ≡ true)
 
 -- ── Part d: no call is refused for the state that the calls before it left ──
 
