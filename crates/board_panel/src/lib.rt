@@ -10,7 +10,7 @@ use rules::answer::Verdict;
 use state_timed::{REST, RULING};
 
 // What the checks of both calls leave to say: a refusal, nothing in other intervals than running, or why the phase holds.
-#[derive(Drop)]
+#[derive(Clone, Copy)]
 enum Explanation {
     Refusal { number: u8, place: usize },
     Silent,

@@ -6,7 +6,7 @@ ghost use Rattle.cabinet_records.specs.Cabinet.{free_record, Shaped};
 // personality has `length` bytes, a number of two bytes, the lower one first. It stands in the first of 477, the greatest length of an
 // accepted one; the state has its 336 bytes. `first` is the site's first output, counted from 0.
 #[repr(C)]
-#[derive(Drop)]
+#[derive(Clone, Copy)]
 pub struct Record {
     pub held: u8,
     pub first: u8,

@@ -8,7 +8,7 @@ ghost use Rattle.panel_line.specs.Reasons.{told, walks as Reasons·walks, line_o
 use panel_text::{Reason, put_phase, put_reason, reason_length};
 
 // What the line says of the phase.
-#[derive(Drop)]
+#[derive(Clone, Copy)]
 pub struct Why {
     pub phase: u8,
     // no other phase is demanded

@@ -7,7 +7,7 @@ ghost use Rattle.base_text.specs.Put.{Put};
 use base_text::{digit_count, put_bytes, put_decimal};
 
 // Why a phase holds. The gap count and the steps left are in steps of 0.1 s; movements are numbered from 1.
-#[derive(Drop)]
+#[derive(Clone, Copy)]
 pub enum Reason {
     NoOtherDemand,
     Gap { count: u16 },

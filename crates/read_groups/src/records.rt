@@ -33,7 +33,7 @@ fn bad_group(phases: u8, bound: u32, set: u8, mark: u8) -> bool
 
 // The verdict on the groups and, if they are accepted, what later checks use: the number of pedestrian movements (one for each pedestrian
 // group), the set of the phases of these groups, and whether some group stops early.
-#[derive(Drop)]
+#[derive(Clone, Copy)]
 pub struct Groups {
     pub verdict: Verdict,
     pub movements: usize,

@@ -9,7 +9,7 @@ use rules::site::Edition;
 
 // The counts P and N, and the places of the heads of kinds 3 to 7 and 9. Kinds 7 and 9 are optional: `hasearly` and `hasorder` say if they
 // are present, and `early` and `order` are the places that their heads would have. The site section is at 0, kind 2 at 8.
-#[derive(Drop)]
+#[derive(Clone, Copy)]
 pub struct Layout {
     pub phasecount: u8,
     pub groupcount: u8,

@@ -61,7 +61,7 @@ fn or_missing(verdict: Verdict, held: bool) -> Verdict
 }
 
 // What a lookup finds: its verdict, and the head of the section.
-#[derive(Drop)]
+#[derive(Clone, Copy)]
 pub struct Found {
     pub verdict: Verdict,
     pub head: usize,

@@ -14,7 +14,7 @@ use read_time_sections::{pedestrians_section, phases_section, site_section};
 use rules::answer::Verdict;
 
 // A verdict and the places of the sections.
-#[derive(Drop)]
+#[derive(Clone, Copy)]
 pub struct Reading {
     pub verdict: Verdict,
     pub layout: Layout,

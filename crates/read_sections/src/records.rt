@@ -5,7 +5,7 @@ ghost use Rattle.rules.specs.Personality.{record_at};
 
 use base_bytes::byte_in;
 
-#[derive(Drop)]
+#[derive(Clone, Copy)]
 pub struct Pair {
     pub first: u8,
     pub second: u8,

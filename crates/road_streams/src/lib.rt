@@ -9,7 +9,7 @@ ghost use Rattle.road_streams.specs.Road.{stream_count, stream_at, vehicle_group
 use rules::site::Site;
 
 // A stream: the detector that sees its queue, the group that lets it go, and its vehicles an hour.
-#[derive(Drop)]
+#[derive(Clone, Copy)]
 pub struct Stream {
     pub detector: u8,
     pub group: u8,
@@ -17,7 +17,7 @@ pub struct Stream {
 }
 
 // The traffic of one stream: what is left of its rate, the vehicles queued and gone, and its count of green steps with a queue.
-#[derive(Drop)]
+#[derive(Clone, Copy)]
 pub struct Traffic {
     pub remainder: u16,
     pub queued: u16,

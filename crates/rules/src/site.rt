@@ -1,21 +1,21 @@
 // The site that an accepted personality describes. The arrays have room for the largest site; entries past the site's own count are zero.
 
 // The edition of the limits that a personality is held to. Its first section says which: kind 1 is edition one, kind 8 is edition two.
-#[derive(Drop)]
+#[derive(Clone, Copy)]
 pub enum Edition {
     One,
     Two,
 }
 
 // The lowest and highest value of a time setting.
-#[derive(Drop)]
+#[derive(Clone, Copy)]
 pub struct Range {
     pub low: u16,
     pub high: u16,
 }
 
 // The time settings of one phase: L, M, X, G, Y, R, and E of early cut-off green, which is 0 without a section of kind 7.
-#[derive(Drop)]
+#[derive(Clone, Copy)]
 pub struct PhaseTimes {
     pub late: u16,
     pub minimum: u16,
@@ -27,7 +27,7 @@ pub struct PhaseTimes {
 }
 
 // The time settings of one pedestrian movement: W, C1, C2.
-#[derive(Drop)]
+#[derive(Clone, Copy)]
 pub struct WalkTimes {
     pub walk: u16,
     pub first: u16,
@@ -35,7 +35,7 @@ pub struct WalkTimes {
 }
 
 // All time settings of a site, as a value of their own. Movement k belongs to the k-th pedestrian group, counted from 0.
-#[derive(Drop)]
+#[derive(Clone, Copy)]
 pub struct Times {
     pub start: u16,
     pub phases: [PhaseTimes; 7],
@@ -43,7 +43,7 @@ pub struct Times {
 }
 
 // How many phases, signal groups, detectors and pedestrian movements a site has.
-#[derive(Drop)]
+#[derive(Clone, Copy)]
 pub struct Size {
     pub phases: u8,
     pub groups: u8,
@@ -53,20 +53,20 @@ pub struct Size {
 
 // A signal group: its phase set (bit 0 is A) and its mark (0 vehicle, 1 vehicle with late start, 2 pedestrian, 3 vehicle that stops
 // early).
-#[derive(Drop)]
+#[derive(Clone, Copy)]
 pub struct Group {
     pub phases: u8,
     pub mark: u8,
 }
 
 // A detector: its phase (0 is A) and its mode.
-#[derive(Drop)]
+#[derive(Clone, Copy)]
 pub struct Detector {
     pub phase: u8,
     pub mode: u8,
 }
 
-#[derive(Drop)]
+#[derive(Clone, Copy)]
 pub struct Site {
     pub size: Size,
     pub groups: [Group; 32],

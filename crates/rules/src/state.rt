@@ -1,7 +1,7 @@
 // The state that a step takes and hands back, and its parts.
 
 // The interval that the phase is in.
-#[derive(Drop)]
+#[derive(Clone, Copy)]
 pub enum Interval {
     StartRed,
     LateStart,
@@ -14,7 +14,7 @@ pub enum Interval {
 }
 
 // The stage of a pedestrian movement; the clearances are C1 and C2.
-#[derive(Drop)]
+#[derive(Clone, Copy)]
 pub enum Stage {
     Idle,
     Walk,
@@ -23,7 +23,7 @@ pub enum Stage {
 }
 
 // The table row of an interval: its code in the bytes of a state, its letter in a trace (ASCII), and the tests of the rules.
-#[derive(Drop)]
+#[derive(Clone, Copy)]
 pub struct IntervalRow {
     pub code: u8,
     pub letter: u8,
@@ -44,7 +44,7 @@ pub struct IntervalRow {
 }
 
 // The table row of a stage: its code in the bytes of a state, and the tests of the rules.
-#[derive(Drop)]
+#[derive(Clone, Copy)]
 pub struct StageRow {
     pub code: u8,
     // the movement is idle
@@ -58,14 +58,14 @@ pub struct StageRow {
 }
 
 // A phase or none.
-#[derive(Drop)]
+#[derive(Clone, Copy)]
 pub enum Held {
     Nothing,
     Phase { phase: u8 },
 }
 
 // The phase, its interval, the age of the interval, came-from (`previous`) and the target.
-#[derive(Drop)]
+#[derive(Clone, Copy)]
 pub struct Position {
     pub phase: u8,
     pub interval: Interval,
@@ -75,26 +75,26 @@ pub struct Position {
 }
 
 // The gap count and the maximum count.
-#[derive(Drop)]
+#[derive(Clone, Copy)]
 pub struct Counts {
     pub gap: u16,
     pub maximum: u16,
 }
 
 // The set of the phases with a locked demand (bit 0 is A), and that of the movements with a button demand.
-#[derive(Drop)]
+#[derive(Clone, Copy)]
 pub struct Demands {
     pub locks: u8,
     pub buttons: u8,
 }
 
-#[derive(Drop)]
+#[derive(Clone, Copy)]
 pub struct Movement {
     pub stage: Stage,
     pub age: u16,
 }
 
-#[derive(Drop)]
+#[derive(Clone, Copy)]
 pub struct State {
     pub position: Position,
     pub counts: Counts,
@@ -104,7 +104,7 @@ pub struct State {
 
 // What a step call takes and hands back: the state, and beside it the kept set, which has the phases with a locked demand or with a
 // demanded movement.
-#[derive(Drop)]
+#[derive(Clone, Copy)]
 pub struct KeptState {
     pub core: State,
     pub kept: u8,

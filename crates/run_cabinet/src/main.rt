@@ -12,14 +12,14 @@ use libc::{STDIN_FILENO, STDOUT_FILENO};
 const LETTERS: [u8; 5] = [82, 89, 71, 70, 68];
 
 // What a call on the row returns, beside the outputs.
-#[derive(Drop)]
+#[derive(Clone, Copy)]
 struct Called {
     answer: u64,
     row: [Record; 4],
 }
 
 // The result of a turn: whether the program goes on, and with which row.
-#[derive(Drop)]
+#[derive(Clone, Copy)]
 struct Turn {
     goes: bool,
     row: [Record; 4],

@@ -13,7 +13,7 @@ use state_timed::REST;
 const STEPS: u64 = 36000;
 
 // The length of a text, and whether the trace goes on with the next part.
-#[derive(Drop)]
+#[derive(Clone, Copy)]
 pub struct Printed {
     pub length: usize,
     pub more: bool,

@@ -10,14 +10,14 @@ use rules::answer::Verdict;
 const MOST: u64 = 100000;
 
 // What is next in the file: its end, or a vector and whether the reader agrees with it.
-#[derive(Drop)]
+#[derive(Clone, Copy)]
 enum Found {
     Ended,
     Vector { agrees: bool },
 }
 
 // How many vectors were read, how many agree, and the first that does not: counted from 1, or 0 if all agree.
-#[derive(Drop)]
+#[derive(Clone, Copy)]
 struct Tally {
     read: u64,
     agree: u64,

@@ -7,19 +7,19 @@ use base_limits::limits;
 use rules::site::Edition;
 
 // The detector of an approach: at a distance before the stop line, or a zone of some length at the stop line. The number is in metres.
-#[derive(Drop)]
+#[derive(Clone, Copy)]
 pub enum Detector {
     Advance(f64),
     StopLine(f64),
 }
 
-#[derive(Drop)]
+#[derive(Clone, Copy)]
 pub struct Sheet {
     pub speed: u32,
     pub detector: Detector,
 }
 
-#[derive(Drop)]
+#[derive(Clone, Copy)]
 pub enum Answer {
     Settings { minimum: u16, passage: u16 },
     Refused { number: u8, place: usize },

@@ -153,7 +153,7 @@ const YELLOW: [u8; 1491] = [
     86, 83, 79, 77, 74, 71, 69, 67, 65, 63, 61, 60, 58, 57, 56, 54, 53, 52, 51, 50, 49,
 ];
 
-#[derive(Drop)]
+#[derive(Clone, Copy)]
 pub enum Answer {
     Yellow { steps: u8 },
     Refused { number: u8, place: usize },

@@ -13,7 +13,7 @@ use rules::site::{Detector, Group};
 // ---- Groups, with their movements ----
 
 // The groups, and of the pedestrian ones, each with a movement: how many there are, and their phase sets in group order.
-#[derive(Drop)]
+#[derive(Clone, Copy)]
 pub struct GroupRows {
     pub groups: [Group; 32],
     pub movements: usize,

@@ -13,7 +13,7 @@ use rules::site::{Group, PhaseTimes, Site, Times};
 use rules::state::{Held, Interval, Movement, Position, Stage, State};
 
 // What a signal group shows, by its code.
-#[derive(Drop)]
+#[derive(Clone, Copy)]
 pub struct Colour {
     pub code: u8,
 }

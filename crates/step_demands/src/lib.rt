@@ -12,7 +12,7 @@ mod phases;
 
 // The result of part 1: the stored demands, the kept set, the next demanded phase other than the phase of the state, and whether a detector
 // extends the phase of the state.
-#[derive(Drop)]
+#[derive(Clone, Copy)]
 pub struct Registered {
     pub demands: Demands,
     pub kept: u8,

@@ -9,7 +9,7 @@ use base_bytes::sets;
 use rules::state::{Movement, Stage};
 
 // The set of the stored button demands, and the set of the phases whose movements register a press in this step.
-#[derive(Drop)]
+#[derive(Clone, Copy)]
 pub struct Pressed {
     pub buttons: u8,
     pub phases: u8,

@@ -8,7 +8,7 @@ use rules::site::Detector;
 
 // What the occupied detectors ask for: the phases with a locked demand, the phases with a call in this step, and whether a detector extends
 // the phase of the state.
-#[derive(Drop)]
+#[derive(Clone, Copy)]
 pub struct Sensed {
     pub locks: u8,
     pub calls: u8,

@@ -8,7 +8,7 @@ use rules::site::PhaseTimes;
 use rules::state::{Counts, Interval, Movement};
 
 // Whether some movement is in walk or C1, and whether some movement is in C2.
-#[derive(Drop)]
+#[derive(Clone, Copy)]
 pub struct Busy {
     pub walking: bool,
     pub clearing: bool,

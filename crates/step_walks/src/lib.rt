@@ -8,7 +8,7 @@ use base_bytes::sets;
 use rules::state::{Movement, Position, Stage};
 
 // The button demands that are left, and the movements.
-#[derive(Drop)]
+#[derive(Clone, Copy)]
 pub struct Begun {
     pub buttons: u8,
     pub movements: [Movement; 8],
