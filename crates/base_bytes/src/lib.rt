@@ -1,4 +1,6 @@
 // Little-endian numbers and bits, read from a slice. A byte past the end reads as 0, so every index is allowed.
+#![tactic(auto)]
+
 ghost use Rattle.std.specs.Prelude.{◌+◌, ◌*◌, ◌<◌, ◌≤◌, ◌≡◌, length};
 ghost use Rattle.laws.specs.Bytes.{byte_at, two_at, four_at, eight_at, bit};
 

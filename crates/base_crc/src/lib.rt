@@ -1,4 +1,6 @@
 // The check value CRC-32 of a list of bytes, a byte at a time by a constant table. The definition goes bit by bit (specs/Crc.antt).
+#![tactic(auto)]
+
 ghost use Rattle.std.specs.Prelude.{◌≡◌};
 ghost use Rattle.base_crc.specs.Crc.{entries, crc};
 

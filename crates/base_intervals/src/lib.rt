@@ -1,4 +1,6 @@
 // A table row for each interval and each stage, tests that read the row, and tests of a phase-or-none value.
+#![tactic(auto)]
+
 ghost use Rattle.std.specs.Prelude.{◌<◌, ◌≡◌, ltb, length, get_or};
 ghost use Rattle.rules.specs.declared.state.Interval.TheVariants.{StartRed};
 ghost use Rattle.rules.specs.declared.state.Stage.TheVariants.{Idle};

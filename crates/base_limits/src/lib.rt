@@ -1,6 +1,8 @@
 // The tables of the lowest and highest values of the time settings, in steps of 0.1 s, one for each edition of the limits. The reader takes
 // the table of the personality's edition once for each section and checks every time of the section with it; the test of a state takes it
 // once for a set of times.
+#![tactic(auto)]
+
 ghost use Rattle.std.specs.Prelude.{◌≡◌};
 ghost use Rattle.rules.specs.Limits.{limits, within};
 

@@ -1,4 +1,6 @@
 // Puts text into `out` from a place on. Each function answers the place behind its text.
+#![tactic(auto)]
+
 ghost use Rattle.std.specs.Prelude.{◌+◌, ◌≤◌, ◌≡◌, length};
 ghost use Rattle.laws.specs.Decimal.{decimal};
 ghost use Rattle.base_text.specs.Put.{Put};

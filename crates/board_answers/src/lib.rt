@@ -1,5 +1,7 @@
 // The answer of a call of the board interface is one number. Its lowest byte is the number of the refusal, 0 if the call is accepted. The
 // bytes above it are the place, or the result of an accepted call.
+#![tactic(auto)]
+
 ghost use Rattle.std.specs.Prelude.{◌≤◌, ◌≡◌};
 ghost use Rattle.rules.specs.Laws.{greatest_length};
 ghost use Rattle.board_answers.specs.Answers.{packed};

@@ -1,4 +1,6 @@
 // The fresh call of the board interface: the state is bytes, and the answer is one number (board_answers).
+#![tactic(auto)]
+
 ghost use Rattle.std.specs.Prelude.{◌≡◌};
 ghost use Rattle.board_fresh.specs.FreshCall.{fresh_answer, fresh_after};
 

@@ -1,4 +1,6 @@
 // The calls of the board interface for the panel's line: the state is bytes, and the answer is one number (board_answers).
+#![tactic(auto)]
+
 ghost use Rattle.std.specs.Prelude.{◌<◌, ◌≡◌, length};
 ghost use Rattle.panel_line.specs.Reasons.{line_of};
 ghost use Rattle.board_panel.specs.PanelCall.{why_length_answer, why_answer, line_after};

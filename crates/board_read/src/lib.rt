@@ -1,4 +1,6 @@
 // The calls of the board interface on a personality alone: accept or refuse it, its wait bound, its number of groups, and where a section is.
+#![tactic(auto)]
+
 ghost use Rattle.std.specs.Prelude.{◌+◌, ◌*◌, ◌<◌, ◌≡◌};
 ghost use Rattle.rules.specs.Call.{bound_of};
 ghost use Rattle.rules.specs.Personality.{verdict_of};

@@ -1,4 +1,6 @@
 // The retiming call of the board interface: the state is bytes, and the answer is one number (board_answers).
+#![tactic(auto)]
+
 mod differs;
 
 ghost use Rattle.std.specs.Prelude.{◌≡◌};

@@ -1,5 +1,7 @@
 // The simulated road over the board interface: the settings of a personality, tried on streams of vehicles. The personality is read once and
 // the site decoded once.
+#![tactic(auto)]
+
 ghost use Rattle.std.specs.Prelude.{◌≡◌, length};
 ghost use Rattle.board_road.specs.RoadCall.{road_answer, last_state, results_after};
 

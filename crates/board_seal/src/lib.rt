@@ -1,5 +1,7 @@
 // Two calls of the board interface for the time without power: a state is sealed into a record, and resumed from it at power-up. States and
 // records are bytes, and the answer is one number (board_answers).
+#![tactic(auto)]
+
 ghost use Rattle.std.specs.Prelude.{◌≡◌};
 ghost use Rattle.rules.specs.declared.answer.Verdict.TheVariants.{Accepted};
 ghost use Rattle.rules.specs.Personality.{verdict_of};

@@ -1,4 +1,6 @@
 // The settings of a site sheet, with the answer as one number. The detector is a number: 0 an advance detector, 1 a stop-line zone.
+#![tactic(auto)]
+
 ghost use Rattle.std.specs.Prelude.{◌≡◌};
 ghost use Rattle.sheet_settings.specs.Sheet.{answer_of};
 ghost use Rattle.board_settings.specs.SettingsCall.{packed_settings, settings_answer};

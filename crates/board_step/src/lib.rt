@@ -1,4 +1,6 @@
 // The step call of the board interface: the state is bytes, and the answer is one number (board_answers).
+#![tactic(auto)]
+
 mod accepted;
 
 ghost use Rattle.std.specs.Prelude.{◌≡◌, length};

@@ -1,4 +1,6 @@
 // The call of the board interface for the waits of a personality: the answer is one number (board_answers).
+#![tactic(auto)]
+
 ghost use Rattle.std.specs.Prelude.{◌+◌, ◌*◌, ◌≤◌, ◌≡◌, length};
 ghost use Rattle.std.proofs.lemmas.List.Edits.{sets};
 ghost use Rattle.rules.specs.Laws.{Sound};

@@ -1,4 +1,6 @@
 // The yellow time by speed and grade, with the answer as one number.
+#![tactic(auto)]
+
 ghost use Rattle.std.specs.Prelude.{◌≡◌};
 ghost use Rattle.board_yellow.specs.YellowCall.{yellow_answer};
 

@@ -1,4 +1,6 @@
 // The calls of a cabinet on the personality that a record holds: what they check, and what they write to the outputs.
+#![tactic(auto)]
+
 ghost use Rattle.std.specs.Prelude.{min, ◌&&◌, ◌≡◌, length};
 ghost use Rattle.rules.specs.Laws.{greatest_length};
 ghost use Rattle.rules.specs.Personality.{verdict_of};

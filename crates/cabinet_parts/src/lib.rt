@@ -1,4 +1,6 @@
 // The calls of a cabinet on the parts of a record, lent where they stand. A call that is refused writes nothing.
+#![tactic(auto)]
+
 ghost use Rattle.std.specs.Prelude.{eqb, not, ◌&&◌, ◌||◌, [], ◌≡◌};
 ghost use Rattle.cabinet_records.specs.Cabinet.{meets_record};
 ghost use Rattle.cabinet_parts.specs.Parts.{stepped_parts, placed_parts, taken_out_parts};

@@ -1,4 +1,6 @@
 // One record of the cabinet's row. Its definitions are in specs/Cabinet.antt.
+#![tactic(auto)]
+
 ghost use Rattle.std.specs.Prelude.{◌≡◌};
 ghost use Rattle.cabinet_records.specs.Cabinet.{free_record, Shaped};
 

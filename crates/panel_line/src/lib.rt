@@ -1,4 +1,6 @@
 // The line of a phase in running, from what it says: its length, and the line in a buffer.
+#![tactic(auto)]
+
 ghost use Rattle.std.specs.Prelude.{◌+◌, ◌≤◌, ◌<◌, ◌++◌, ◌≡◌, length, drop};
 ghost use Rattle.laws.specs.Bytes.{bit};
 ghost use Rattle.panel_text.specs.Text.{reasons_text};

@@ -1,4 +1,6 @@
 // Why the phase of a state in running holds.
+#![tactic(auto)]
+
 ghost use Rattle.std.specs.Prelude.{◌≡◌};
 ghost use Rattle.laws.specs.Folds.{set_of};
 ghost use Rattle.panel_reasons.specs.PanelLine.{no_other, walking_among};

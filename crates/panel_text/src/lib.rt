@@ -1,4 +1,6 @@
 // The line of the technician's panel as text: a phase, and the reasons why it holds.
+#![tactic(auto)]
+
 ghost use Rattle.std.specs.Prelude.{◌+◌, ◌≤◌, ◌<◌, ◌≡◌, ◌++◌, [], length};
 ghost use Rattle.laws.specs.Decimal.{decimal};
 ghost use Rattle.panel_text.specs.Text.{reason_text, line};

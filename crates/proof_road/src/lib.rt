@@ -1,1 +1,2 @@
 // Proofs about the simulated road. No function.
+#![tactic(auto)]

@@ -1,1 +1,2 @@
 // Proof only: personalities that differ in time settings alone. See proofs/.
+#![tactic(auto)]

@@ -1,4 +1,6 @@
 // Number 21: a phase that nobody can call.
+#![tactic(auto)]
+
 ghost use Rattle.std.specs.Prelude.{not, ◌≡◌};
 ghost use Rattle.rules.specs.declared.answer.Verdict.TheVariants.{Accepted};
 ghost use Rattle.rules.specs.Personality.{group_count, site_section, detectors_section, phase_without_caller};

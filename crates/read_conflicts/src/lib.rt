@@ -1,5 +1,7 @@
 // Kind 4: which groups conflict. A quick test comes first. If it fails, number 9 is checked record by record, then number 10 record by
 // record.
+#![tactic(auto)]
+
 ghost use Rattle.std.specs.Prelude.{◌≡◌};
 ghost use Rattle.rules.specs.declared.answer.Verdict.TheVariants.{Accepted};
 ghost use Rattle.rules.specs.Personality.{site_section, groups_section, conflicts_section};

@@ -1,5 +1,7 @@
 // The conflicts as a matrix of bits. Eight groups are a band. The conflicts of one band with another are a tile: a number of 64 bits in
 // eight rows of eight bits, the first row lowest.
+#![tactic(auto)]
+
 ghost use Rattle.std.specs.Prelude.{ℕ, ◌+◌, ◌*◌, ◌<◌, ◌≤◌, true, ◌≡◌, length};
 ghost use Rattle.laws.specs.Bytes.{bit};
 ghost use Rattle.rules.specs.Personality.{body_at};

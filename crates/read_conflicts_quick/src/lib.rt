@@ -1,5 +1,7 @@
 // A quick test of numbers 9 and 10 together. If it passes, all records are good. If it fails, the record-by-record search in the paper's
 // order decides, so a false alarm only costs time.
+#![tactic(auto)]
+
 ghost use Rattle.std.specs.Prelude.{ℕ, ◌*◌, ◌<◌, ◌≤◌, ◌^◌, true, false, not, ◌≡◌, leb};
 ghost use Rattle.rules.specs.Personality.{group_count, conflict_set, bad_conflict, conflict_in_phase};
 ghost use Rattle.laws.specs.Folds.{any_of};

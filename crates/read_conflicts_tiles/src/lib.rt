@@ -1,4 +1,6 @@
 // Tiles: eight rows of eight bits in one number. Row r is byte r, lowest first, and its bit c is bit c of that byte.
+#![tactic(auto)]
+
 ghost use Rattle.std.specs.Prelude.{ℕ, ◌+◌, ◌*◌, ◌<◌, true, ◌≡◌};
 ghost use Rattle.laws.specs.Bytes.{bit};
 ghost use Rattle.read_conflicts_tiles.specs.Swaps.{source, swaps};

@@ -1,5 +1,7 @@
 // Sets turned round: for each of eight groups the groups that name it, or for each phase the groups that are in it. The tiles of the matrix
 // are mirrored, and row r of the four mirrored tiles is one number of 32 bits.
+#![tactic(auto)]
+
 ghost use Rattle.std.specs.Prelude.{◌*◌, ◌/◌, ◌%◌, ◌<◌, ◌^◌, ◌≡◌};
 ghost use Rattle.read_conflicts_matrix.specs.Matrix.{MatrixFits};
 ghost use Rattle.read_conflicts_turned.specs.Turned.{TurnedTile, TurnedTiles, RowOf, Turned};

@@ -1,4 +1,6 @@
 // Kind 5: the detectors, each with its phase and its mode.
+#![tactic(auto)]
+
 ghost use Rattle.std.specs.Prelude.{◌+◌, ◌*◌, ◌≤◌, true, false, ◌≡◌, length};
 ghost use Rattle.rules.specs.declared.answer.Verdict.TheVariants.{Accepted};
 ghost use Rattle.rules.specs.Verdicts.{first_of};

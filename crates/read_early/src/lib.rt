@@ -1,4 +1,6 @@
 // Kind 7, optional: the times of early cut-off green. Number 17: a group stops early, but kind 7 is missing.
+#![tactic(auto)]
+
 ghost use Rattle.std.specs.Prelude.{◌≡◌};
 ghost use Rattle.rules.specs.declared.answer.Verdict.TheVariants.{Accepted};
 ghost use Rattle.laws.specs.Folds.{any_of};

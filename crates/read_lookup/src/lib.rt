@@ -1,5 +1,7 @@
 // The section lookup. The answer is a part of the caller's own buffer: the body of the section. It is empty if the personality is refused or
 // does not hold the kind. A second function gives the number and place.
+#![tactic(auto)]
+
 ghost use Rattle.std.specs.Prelude.{◌≤◌, not, ◌≡◌};
 ghost use Rattle.rules.specs.Verdicts.{◌or_else◌, refuse_if};
 ghost use Rattle.rules.specs.Lookup.{held_kind, head_of, lookup_verdict, lookup_report, section_of};

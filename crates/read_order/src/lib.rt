@@ -1,4 +1,6 @@
 // Kind 9, optional: the phases in running order.
+#![tactic(auto)]
+
 ghost use Rattle.std.specs.Prelude.{◌+◌, ◌≤◌, not, ◌≡◌, length};
 ghost use Rattle.rules.specs.declared.answer.Verdict.TheVariants.{Accepted};
 ghost use Rattle.rules.specs.Personality.{body_at, phase_count, phase_not_once, site_section, order_section};

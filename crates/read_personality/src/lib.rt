@@ -1,4 +1,6 @@
 // Unit one: reads a personality. The sections are checked in their order, and the first check that fails gives the answer.
+#![tactic(auto)]
+
 ghost use Rattle.std.specs.Prelude.{◌≡◌};
 ghost use Rattle.rules.specs.Personality.{verdict_of};
 ghost use Rattle.read_layout.specs.LayoutOf.{LayoutOf};

@@ -1,4 +1,6 @@
 // What all sections of a personality have in common: the check of the head and of the body length, and records of two bytes.
+#![tactic(auto)]
+
 ghost use Rattle.std.specs.Prelude.{◌≤◌, ◌≡◌, eqb};
 ghost use Rattle.rules.specs.Personality.{body_length, section_at};
 

@@ -1,4 +1,6 @@
 // Records of two-byte times. Each field is checked with the table of limits of the personality's edition, which the caller hands in.
+#![tactic(auto)]
+
 ghost use Rattle.std.specs.Prelude.{◌+◌, ◌*◌, ◌≤◌, ◌≡◌, length};
 ghost use Rattle.rules.specs.Limits.{limits};
 ghost use Rattle.rules.specs.Personality.{edition_of, time_at, times_at, time_records, timed_section};

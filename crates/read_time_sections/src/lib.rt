@@ -1,4 +1,6 @@
 // Kinds 1 or 8, 2 and 6: the counts and start red of the site, the times of the phases, the times of the pedestrian movements.
+#![tactic(auto)]
+
 ghost use Rattle.std.specs.Prelude.{◌≤◌, ◌≡◌};
 ghost use Rattle.rules.specs.Personality.{movement_count, site_section, phases_section, pedestrians_section};
 ghost use Rattle.read_layout.specs.LayoutOf.{LayoutOf};

@@ -1,4 +1,6 @@
 // The simulated road from the fresh state to its last step, and its results as bytes.
+#![tactic(auto)]
+
 ghost use Rattle.std.specs.Prelude.{◌+◌, ◌*◌, ◌≤◌, ◌≡◌, length};
 ghost use Rattle.std.proofs.lemmas.List.Edits.{sets};
 ghost use Rattle.state_forms.specs.Forms.{parts_of};

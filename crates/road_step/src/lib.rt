@@ -1,5 +1,7 @@
 // The steps of the simulated road. The traffic of the streams is in a row of cells, four numbers a stream, which is lent to each part of the step: an array
 // that goes in by value would be copied.
+#![tactic(auto)]
+
 ghost use Rattle.std.specs.Prelude.{ℕ, ◌+◌, ◌*◌, ◌≤◌, ◌<◌, ◌≡◌, eqb, length};
 ghost use Rattle.rules.specs.Colours.{green};
 ghost use Rattle.road_streams.specs.Road.{released};

@@ -1,4 +1,6 @@
 // Streams of vehicles: what a stream is, which streams a call refuses, and what one step does to the traffic of one stream.
+#![tactic(auto)]
+
 ghost use Rattle.std.specs.Prelude.{ℕ, ◌+◌, ◌*◌, ◌≤◌, ◌<◌, ◌&&◌, ◌≡◌, eqb, length};
 ghost use Rattle.laws.specs.Ground.{if◌then◌else◌};
 ghost use Rattle.laws.specs.Folds.{any_of};

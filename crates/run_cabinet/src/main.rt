@@ -2,6 +2,8 @@
 // the 32 outputs red. A call is a kind byte and a record; of kind 0, placing, also the first output and a personality behind its two-byte
 // length; of kind 1, a step, 8 bytes of inputs; kind 2 is taking out. A call that is cut, or of another kind, prints a refusal and ends the
 // program. A call that the cabinet refuses does not.
+#![tactic(auto)]
+
 ghost use Rattle.std.specs.Prelude.{◌≡◌};
 ghost use Rattle.cabinet_records.specs.Cabinet.{placing, stepping, taking_out};
 

@@ -1,5 +1,7 @@
 // What the trace program prints for each part of its input. A part may be cut short: the bytes handed over are those that were read. The text
 // comes to the start of `out`.
+#![tactic(auto)]
+
 ghost use Rattle.std.specs.Prelude.{◌≡◌};
 ghost use Rattle.rules.specs.Trace.{cut, refusal, length_part, personality_part};
 ghost use Rattle.board_step.specs.StepCall.{state_after};

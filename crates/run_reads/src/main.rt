@@ -1,6 +1,8 @@
 // Compares the reader's verdict with each vector of the file `reads`. A vector has a two-byte length, the bytes, the number (1 byte) and
 // the place (4 bytes). The sections of an accepted vector are looked up; together they must be all of its bytes. Prints how many vectors
 // there are, how many agree, and the first that does not.
+#![tactic(auto)]
+
 ghost use Rattle.std.specs.Prelude.{◌+◌, ◌<◌, ◌≤◌, ◌^◌, ◌≡◌};
 
 use libc::STDOUT_FILENO;

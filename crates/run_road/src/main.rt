@@ -1,6 +1,8 @@
 // The road program. From standard input it reads a two-byte length, a personality of that length, the number of steps in four bytes, and streams of 4 bytes
 // to the end. It prints a header and a line a stream: detector, group, rate, the vehicles that arrived, those queued and gone, and the longest queue. A
 // refusal prints its line instead. The longest queue is watched here, after each step of the road.
+#![tactic(auto)]
+
 ghost use Rattle.std.specs.Prelude.{◌≡◌, length};
 ghost use Rattle.road_run.specs.Whole.{AtStart};
 ghost use Rattle.run_road.specs.Watch.{Rows, May};

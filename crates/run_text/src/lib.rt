@@ -1,4 +1,6 @@
 // The lines of the trace program, put at the start of a buffer.
+#![tactic(auto)]
+
 ghost use Rattle.std.specs.Prelude.{◌+◌, ◌≤◌, map, ◌≡◌, length, get_or};
 ghost use Rattle.rules.specs.TraceText.{header, phase_letter, colour_letter, line_tail, step_line, refusal_line};
 ghost use Rattle.base_text.specs.Put.{Put};

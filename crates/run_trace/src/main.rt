@@ -1,6 +1,8 @@
 // The trace program. It reads standard input part by part, a two-byte length, a personality of that length and 8 bytes for each step, hands each
 // part to `run_parts`, and writes the text that comes back. The parts decide what is printed and where the trace ends. Outside the proofs are the
 // order of these calls, and what a read and a write do: a read that fails counts as the end of the input, and a write that fails is ignored.
+#![tactic(auto)]
+
 ghost use Rattle.std.specs.Prelude.{◌≤◌, ◌≡◌, length};
 
 use libc::{STDIN_FILENO, STDOUT_FILENO};

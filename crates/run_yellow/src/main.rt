@@ -1,5 +1,7 @@
 // Prints the table of yellow times, as its lines are in the source of `sheet_yellow`. It computes each entry by the rule and does not read
 // the table.
+#![tactic(auto)]
+
 use libc::STDOUT_FILENO;
 use sheet_yellow::Answer;
 

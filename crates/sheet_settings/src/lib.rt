@@ -1,5 +1,7 @@
 // Minimum green and passage time from a site sheet, after source document 002: start loss 4 s, headway 2 s, 6 m for each vehicle. Times are
 // in steps of 0.1 s, distances in metres, speeds in km/h.
+#![tactic(auto)]
+
 ghost use Rattle.std.specs.Prelude.{true, ◌≡◌};
 ghost use Rattle.sheet_settings.specs.Sheet.{metres_of, speed_in_range, metres_in_range, in_range, minimum_green, passage_over, passage_time, answer_from, answer_of, AnswerFor};
 

@@ -1,5 +1,7 @@
 // Yellow times by speed and grade, in steps of 0.1 s: a constant table and the lookup in it. Speeds are in whole km/h, grades in whole
 // percent, uphill positive.
+#![tactic(auto)]
+
 ghost use Rattle.std.specs.Prelude.{true, ◌≡◌};
 ghost use Rattle.sheet_yellow.specs.Yellow.{grade_in_range, in_range, answer_of, AnswerFor, FollowsTheRule};
 ghost use Rattle.sheet_yellow.specs.Columns.{column_of};

@@ -1,5 +1,7 @@
 // The tables of a site, decoded from the bytes of a personality: groups with the phase sets of the pedestrian ones, conflicts,
 // detectors and the running order. The bytes reach to the end of the last section. Array entries past the section's own count are zero.
+#![tactic(auto)]
+
 ghost use Rattle.std.specs.Prelude.{◌<◌, ◌≡◌};
 ghost use Rattle.rules.specs.Personality.{detector_count};
 ghost use Rattle.rules.specs.Site.{order_in, site_of};

@@ -1,5 +1,7 @@
 // The site, decoded from the bytes of a personality, which reach to the end of its last section. Each section is read once. The times are the
 // personality's own, or stand in the bytes of a state; all else is read by one function.
+#![tactic(auto)]
+
 ghost use Rattle.std.specs.Prelude.{◌+◌, ◌≤◌, ◌≡◌, length};
 ghost use Rattle.rules.specs.Personality.{phase_count, movement_count, has_early};
 ghost use Rattle.rules.specs.Site.{site_of, times_in};

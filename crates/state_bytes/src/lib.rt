@@ -1,4 +1,6 @@
 // The state as 39 bytes, at any place of a buffer. The layout is in specs/Layout.antt.
+#![tactic(auto)]
+
 mod counts;
 mod demands;
 mod movements;

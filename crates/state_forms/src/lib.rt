@@ -1,6 +1,8 @@
 // Tests, reads and writes values in bytes at a given place, by their forms (specs/Forms.antt). A read requires that the test has passed, so
 // it looks at the lowest bits only. A write changes no other bytes. For values of one byte there is no function: the caller reads or
 // writes that byte.
+#![tactic(auto)]
+
 ghost use Rattle.std.specs.Prelude.{◌+◌, ◌≤◌, true, ◌≡◌, length};
 ghost use Rattle.std.proofs.lemmas.List.Edits.{sets};
 ghost use Rattle.state_forms.specs.Forms.{two, flag_code, held as held_form};

@@ -1,4 +1,6 @@
 // The fresh state, with which a caller starts.
+#![tactic(auto)]
+
 ghost use Rattle.std.specs.Prelude.{◌≡◌, length};
 ghost use Rattle.rules.specs.declared.answer.Verdict.TheVariants.{Accepted};
 ghost use Rattle.rules.specs.Kept.{fresh_kept};

@@ -1,4 +1,6 @@
 // The sealed record of a state, 347 bytes, for callers in C and Rust. The layout is in specs/Sealed.antt.
+#![tactic(auto)]
+
 pub mod puts;
 
 ghost use Rattle.std.specs.Prelude.{◌≤◌, ◌≡◌, length};

@@ -1,4 +1,6 @@
 // The timed state as 336 bytes, for callers in C and Rust. The layout is in specs/TimedLayout.antt.
+#![tactic(auto)]
+
 ghost use Rattle.std.specs.Prelude.{true, ◌≡◌, length};
 ghost use Rattle.rules.specs.TimedCall.{retimed};
 ghost use Rattle.state_timed.specs.TimedLayout.{settled, timed_bytes, is_timed, timed_decoded, timed_encoded};

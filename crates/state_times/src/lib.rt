@@ -1,4 +1,6 @@
 // Times as 148 bytes. The layout is in specs/TimesLayout.antt. Any bytes are times, so there is no test.
+#![tactic(auto)]
+
 pub mod phases;
 pub mod walks;
 

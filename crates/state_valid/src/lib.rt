@@ -1,4 +1,6 @@
 // Whether bytes are a valid state of an accepted personality. Every call that takes a state asks this crate.
+#![tactic(auto)]
+
 mod same;
 mod settings;
 mod zeros;

@@ -1,5 +1,7 @@
 // What a change of times asks beside the plain step: whether a phase starts in the next step, and the state from which that start is a plain
 // step under the new times.
+#![tactic(auto)]
+
 ghost use Rattle.std.specs.Prelude.{true, ◌≡◌};
 ghost use Rattle.rules.specs.Kept.{kept_valid};
 ghost use Rattle.rules.specs.Laws.{Sound};

@@ -1,4 +1,6 @@
 // The colours that the signal groups show in a state, one byte for each group.
+#![tactic(auto)]
+
 ghost use Rattle.std.specs.Prelude.{◌≤◌, ◌<◌, ◌&&◌, ◌≡◌, length};
 ghost use Rattle.rules.specs.IntervalTable.{held_in};
 ghost use Rattle.laws.specs.Ground.{if◌then◌else◌};

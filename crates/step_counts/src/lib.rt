@@ -1,4 +1,6 @@
 // Part 3 of a step: the gap count and the maximum count, and the settings of the phase that they use.
+#![tactic(auto)]
+
 ghost use Rattle.std.specs.Prelude.{◌≡◌};
 ghost use Rattle.rules.specs.Site.{phase_times};
 ghost use Rattle.rules.specs.Counts.{gap_after, maximum_after, counts_after};

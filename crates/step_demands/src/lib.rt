@@ -1,4 +1,6 @@
 // Part 1 of a step: what detectors and buttons demand, the kept set, and the demanded phase that is next in the running order.
+#![tactic(auto)]
+
 ghost use Rattle.std.specs.Prelude.{◌<◌};
 ghost use Rattle.rules.specs.Laws.{Sound};
 ghost use Rattle.step_demands.specs.Registered.{RegisteredBy};

@@ -1,4 +1,6 @@
 // One pass over the occupied detectors.
+#![tactic(auto)]
+
 ghost use Rattle.std.specs.Prelude.{◌≡◌, ℕ, ◌+◌, ◌*◌, ◌<◌, eqb};
 ghost use Rattle.laws.specs.Bytes.{bit};
 ghost use Rattle.rules.specs.Demands.{detected_among};

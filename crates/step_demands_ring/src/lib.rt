@@ -1,4 +1,6 @@
 // The search for the next phase in the running order.
+#![tactic(auto)]
+
 ghost use Rattle.std.specs.Prelude.{◌≡◌, ◌-◌, ◌≤◌};
 ghost use Rattle.laws.specs.Bytes.{bit};
 ghost use Rattle.rules.specs.Demands.{first_in, next_after};

@@ -1,5 +1,7 @@
 // Part 2 of a step: movements. Walk, C1 and C2 follow each other; each ends once its age is at least its setting. After C2 the movement is
 // idle. A walk also goes on until it may end.
+#![tactic(auto)]
+
 ghost use Rattle.std.specs.Prelude.{◌≡◌};
 ghost use Rattle.rules.specs.Movements.{older, walk_may_end, lasting, advanced, movements_after};
 ghost use Rattle.step_movements.specs.IdlePast.{IdlePast};

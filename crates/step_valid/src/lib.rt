@@ -1,4 +1,6 @@
 // The checks of a step call on its state and on its input bits.
+#![tactic(auto)]
+
 ghost use Rattle.std.specs.Prelude.{◌≤◌, ◌≡◌};
 ghost use Rattle.rules.specs.Call.{stray_input};
 ghost use Rattle.rules.specs.Kept.{kept_valid};

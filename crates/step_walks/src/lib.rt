@@ -1,5 +1,7 @@
 // Part 5 of a step: walks. If a phase starts, its demanded movements begin their walk. They also begin it in running, if they are idle and
 // no other phase is demanded. A walk that begins has age 1, and its demand is cleared.
+#![tactic(auto)]
+
 ghost use Rattle.std.specs.Prelude.{◌≡◌};
 ghost use Rattle.rules.specs.Walks.{begins};
 ghost use Rattle.step_walks.specs.Begun.{begun_by};

@@ -1,4 +1,6 @@
 // One step on an accepted site: the five parts, in order.
+#![tactic(auto)]
+
 ghost use Rattle.std.specs.Prelude.{true, ◌≡◌};
 ghost use Rattle.rules.specs.Laws.{Sound};
 ghost use Rattle.rules.specs.Kept.{kept_valid, kept_stepped};

@@ -1,6 +1,8 @@
 // The wait bound of a site in steps: start red plus the sum over the phases of L + M + X + 2 × (A + E + Y + R + C). For the movements of
 // the phase, A is the largest sum W + C1 and C the largest C2; without movements both are 0. E is the time of early cut-off green. All
 // times are inside the limits, so every sum here fits in two bytes.
+#![tactic(auto)]
+
 ghost use Rattle.std.specs.Prelude.{◌≤◌, ◌≡◌};
 ghost use Rattle.rules.specs.WaitBound.{phase_share, wait_bound};
 ghost use Rattle.rules.specs.Laws.{Sound};

@@ -1,5 +1,7 @@
 // What the wait bound needs of the pedestrian movements of each phase: A, the greatest W + C1 among them, and C, the greatest C2. Both are
 // 0 without movements.
+#![tactic(auto)]
+
 ghost use Rattle.std.specs.Prelude.{ℕ, ◌+◌, ◌*◌, ◌≤◌, ◌<◌, max, ◌&&◌, ◌≡◌, ltb, get_or};
 ghost use Rattle.laws.specs.Bytes.{bit};
 ghost use Rattle.rules.specs.WaitBound.{longest_walk, longest_clearance};

@@ -1,4 +1,6 @@
 // The wait of each phase and of each movement, by the times of a site. No wait is more than the wait bound, so every sum here fits in two bytes.
+#![tactic(auto)]
+
 ghost use Rattle.std.specs.Prelude.{◌+◌, ◌<◌, max, true, ◌&&◌, ◌≡◌, eqb, get_or};
 ghost use Rattle.laws.specs.Ground.{if◌then◌else◌};
 ghost use Rattle.rules.specs.Site.{crosses};

@@ -1,4 +1,6 @@
 // The turn of a phase, by the times of a site. All times are inside the limits, so every sum here is far below what four bytes hold.
+#![tactic(auto)]
+
 ghost use Rattle.std.specs.Prelude.{◌≤◌, ◌<◌, max, not, ◌≡◌, eqb};
 ghost use Rattle.laws.specs.Ground.{if◌then◌else◌};
 ghost use Rattle.rules.specs.State.{highest_age};

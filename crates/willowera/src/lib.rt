@@ -1,6 +1,8 @@
 // The library for C and Rust: the exported calls of the board interface, each one call of its crate. A slice is passed as a pointer and a
 // length. The lowest byte of an answer is the number of the refusal, 0 if the call is accepted. The bytes above it are the place, or the
 // result of an accepted call.
+#![tactic(auto)]
+
 ghost use Rattle.std.specs.Prelude.{◌≡◌, length};
 ghost use Rattle.rules.specs.Call.{bound_of};
 ghost use Rattle.rules.specs.Personality.{verdict_of};

@@ -6,12 +6,12 @@ use Rattle.laws.proofs.Bits.{bit-above}
 use Rattle.base_bytes.proofs.bit32.Statement.{statement}
 use Rattle.base_bytes.proofs.bit32.Tie as tie
 
-returns : tie.Need-returns
+returns : tie.Need-returns-then-k-lt32
 unfolding bit
 returns c = refl
 
-returns-2 : tie.Need-returns-2
-returns-2 c = sym (bit-above c.before.args.x 32 c.before.args.k c.before.ranges.x.fits c.if1.false)
+returns-2 : tie.Need-returns-else-k-lt32
+returns-2 c = sym (bit-above c.before.args.x 32 c.before.args.k c.before.ranges.x.fits c.if-k-lt32.false)
 
-pub bit32-spec : {M : Type 1} → statement M
-bit32-spec = tie.close (tie.spec (λ c. search rules) (λ c. search rules) returns returns-2)
+pub bit32_spec : {M : Type 1} → statement M
+bit32_spec = tie.close (tie.spec (λ c. search rules) (λ c. search rules) returns returns-2)

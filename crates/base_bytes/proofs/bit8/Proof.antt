@@ -6,12 +6,12 @@ use Rattle.laws.proofs.Bits.{bit-above}
 use Rattle.base_bytes.proofs.bit8.Statement.{statement}
 use Rattle.base_bytes.proofs.bit8.Tie as tie
 
-returns : tie.Need-returns
+returns : tie.Need-returns-then-k-lt8
 unfolding bit
 returns c = refl
 
-returns-2 : tie.Need-returns-2
-returns-2 c = sym (bit-above c.before.args.x 8 c.before.args.k c.before.ranges.x.fits c.if1.false)
+returns-2 : tie.Need-returns-else-k-lt8
+returns-2 c = sym (bit-above c.before.args.x 8 c.before.args.k c.before.ranges.x.fits c.if-k-lt8.false)
 
-pub bit8-spec : {M : Type 1} → statement M
-bit8-spec = tie.close (tie.spec (λ c. search rules) returns returns-2)
+pub bit8_spec : {M : Type 1} → statement M
+bit8_spec = tie.close (tie.spec (λ c. search rules) returns returns-2)

@@ -6,12 +6,12 @@ use Rattle.laws.proofs.Bytes.{byte_past}
 use Rattle.base_bytes.proofs.byte_at.Statement.{statement}
 use Rattle.base_bytes.proofs.byte_at.Tie as tie
 
-returns : tie.Need-returns
+returns : tie.Need-returns-then-i-s
 unfolding byte_at
 returns c = refl
 
-returns-2 : tie.Need-returns-2
-returns-2 c = sym (byte_past c.before.args.s.now c.before.args.i c.if1.false)
+returns-2 : tie.Need-returns-else-i-s
+returns-2 c = sym (byte_past c.before.args.s.now c.before.args.i c.if-i-s.false)
 
-pub byte-at-spec : {M : Type 1} → statement M
-byte-at-spec = tie.close (tie.spec (λ c. search rules) returns returns-2)
+pub byte_at_spec : {M : Type 1} → statement M
+byte_at_spec = tie.close (tie.spec (λ c. search rules) returns returns-2)

@@ -9,5 +9,5 @@ returns : tie.Need-returns
 unfolding byte_at
 returns c = refl
 
-pub byte-in-spec : {M : Type 1} → statement M
-byte-in-spec = tie.close (tie.spec (λ c. search rules) returns)
+pub byte_in_spec : {M : Type 1} → statement M
+byte_in_spec = tie.close (tie.spec (λ c. search rules) returns)

@@ -6,13 +6,13 @@ use Rattle.laws.proofs.Bytes.{eight-past}
 use Rattle.base_bytes.proofs.eight_at.Statement.{statement}
 use Rattle.base_bytes.proofs.eight_at.Tie as tie
 
-returns : tie.Need-returns
+returns : tie.Need-returns-then-i-s
 unfolding eight_at
-returns c = simp (c.halves.ensures, c.before.four-at2.ensures, c.before.before.four-at.ensures)
+returns c = simp (c.halves.ensures, c.before.four_at-then-i-s.ensures, c.before.before.four_at.ensures)
 
-returns-2 : tie.Need-returns-2
-returns-2 c = sym (eight-past c.before.before.args.s.now c.before.before.args.i c.if1.false)
+returns-2 : tie.Need-returns-else-i-s
+returns-2 c = sym (eight-past c.before.before.args.s.now c.before.before.args.i c.if-i-s.false)
 
-pub eight-at-spec : {M : Type 1} → statement M
-eight-at-spec =
+pub eight_at_spec : {M : Type 1} → statement M
+eight_at_spec =
     tie.close (tie.spec (λ c κs. search rules) (λ c. search rules) (λ c κs. search rules) (λ c κs. search rules) returns returns-2)

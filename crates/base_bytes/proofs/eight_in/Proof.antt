@@ -6,8 +6,8 @@ use Rattle.base_bytes.proofs.eight_in.Tie as tie
 
 returns : tie.Need-returns
 unfolding eight_at
-returns c = simp (c.halves.ensures, c.before.four-in2.ensures, c.before.before.four-in.ensures)
+returns c = simp (c.halves.ensures, c.before.four_in-2.ensures, c.before.before.four_in.ensures)
 
-pub eight-in-spec : {M : Type 1} → statement M
-eight-in-spec =
+pub eight_in_spec : {M : Type 1} → statement M
+eight_in_spec =
     tie.close (tie.spec (λ c κs. search rules) (λ c. search rules) (λ c κs. search rules) (λ c κs. search rules) returns)

@@ -6,13 +6,13 @@ use Rattle.laws.proofs.Bytes.{four-past}
 use Rattle.base_bytes.proofs.four_at.Statement.{statement}
 use Rattle.base_bytes.proofs.four_at.Tie as tie
 
-returns : tie.Need-returns
+returns : tie.Need-returns-then-i-s
 unfolding four_at
-returns c = simp (c.quad.ensures, c.before.two-at2.ensures, c.before.before.two_at.ensures)
+returns c = simp (c.quad.ensures, c.before.two_at-then-i-s.ensures, c.before.before.two_at.ensures)
 
-returns-2 : tie.Need-returns-2
-returns-2 c = sym (four-past c.before.before.args.s.now c.before.before.args.i c.if1.false)
+returns-2 : tie.Need-returns-else-i-s
+returns-2 c = sym (four-past c.before.before.args.s.now c.before.before.args.i c.if-i-s.false)
 
-pub four-at-spec : {M : Type 1} → statement M
-four-at-spec =
+pub four_at_spec : {M : Type 1} → statement M
+four_at_spec =
     tie.close (tie.spec (λ c κs. search rules) (λ c. search rules) (λ c κs. search rules) (λ c κs. search rules) returns returns-2)

@@ -6,14 +6,14 @@ use Rattle.laws.proofs.Bytes.{two_past}
 use Rattle.base_bytes.proofs.two_at.Statement.{statement}
 use Rattle.base_bytes.proofs.two_at.Tie as tie
 
-returns : tie.Need-returns
+returns : tie.Need-returns-then-i-s
 unfolding two_at byte_at
 returns c = simp (c.pair.ensures, c.before.byte_at.ensures)
 
-returns-2 : tie.Need-returns-2
-returns-2 c = sym (two_past c.before.before.args.s.now c.before.before.args.i c.if1.false)
+returns-2 : tie.Need-returns-else-i-s
+returns-2 c = sym (two_past c.before.before.args.s.now c.before.before.args.i c.if-i-s.false)
 
-pub two-at-spec : {M : Type 1} → statement M
-two-at-spec =
+pub two_at_spec : {M : Type 1} → statement M
+two_at_spec =
     tie.close
     (tie.spec (λ c. search rules) (λ c. search rules) (λ c κs. search rules) (λ c κs. search rules) returns returns-2)

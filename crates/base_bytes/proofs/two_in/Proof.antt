@@ -8,7 +8,7 @@ returns : tie.Need-returns
 unfolding two_at byte_at
 returns c = c.pair.ensures
 
-pub two-in-spec : {M : Type 1} → statement M
-two-in-spec =
+pub two_in_spec : {M : Type 1} → statement M
+two_in_spec =
     tie.close
     (tie.spec (λ c. search rules) (λ c. search rules) (λ c. search rules) (λ c κs. search rules) returns)

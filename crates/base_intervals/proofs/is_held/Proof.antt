@@ -4,16 +4,16 @@ use Rattle.rules.specs.IntervalTable.{is_held}
 use Rattle.base_intervals.proofs.is_held.Statement.{statement}
 use Rattle.base_intervals.proofs.is_held.Tie as tie
 
-enum_told : tie.Need-enum-told
+enum_told : tie.Need-enum_told-1
 enum_told c = search rules
 
-returns : tie.Need-returns
+returns : tie.Need-returns-in-Nothing
 unfolding is_held
-returns c = rw c.enum_told.given.1
+returns c = rw c.enum_told-1.given.1
 
-returns-2 : tie.Need-returns-2
+returns-2 : tie.Need-returns-in-Phase
 unfolding is_held
-returns-2 c = rw c.enum-told2.given.1
+returns-2 c = rw c.enum_told-in-Phase-1.given.1
 
-pub is-held-spec : {M : Type 1} → statement M
-is-held-spec = tie.close (tie.spec enum_told (λ c. search rules) returns returns-2)
+pub is_held_spec : {M : Type 1} → statement M
+is_held_spec = tie.close (tie.spec enum_told (λ c. search rules) returns returns-2)

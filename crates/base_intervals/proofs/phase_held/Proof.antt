@@ -4,16 +4,16 @@ use Rattle.rules.specs.IntervalTable.{phase_held}
 use Rattle.base_intervals.proofs.phase_held.Statement.{statement}
 use Rattle.base_intervals.proofs.phase_held.Tie as tie
 
-enum_told : tie.Need-enum-told
+enum_told : tie.Need-enum_told-1
 enum_told c = search rules
 
-returns : tie.Need-returns
+returns : tie.Need-returns-in-Nothing
 unfolding phase_held
-returns c = rw c.enum_told.given.1
+returns c = rw c.enum_told-1.given.1
 
-returns-2 : tie.Need-returns-2
+returns-2 : tie.Need-returns-in-Phase
 unfolding phase_held
-returns-2 c = rw c.before.h.given.1
+returns-2 c = rw c.before.h-1.given.1
 
-pub phase-held-spec : {M : Type 1} → statement M
-phase-held-spec = tie.close (tie.spec enum_told (λ c. search rules) returns returns-2)
+pub phase_held_spec : {M : Type 1} → statement M
+phase_held_spec = tie.close (tie.spec enum_told (λ c. search rules) returns returns-2)

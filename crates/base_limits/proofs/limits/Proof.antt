@@ -4,16 +4,16 @@ use Rattle.rules.specs.Limits.{limits}
 use Rattle.base_limits.proofs.limits.Statement.{statement}
 use Rattle.base_limits.proofs.limits.Tie as tie
 
-enum_told : tie.Need-enum-told
+enum_told : tie.Need-enum_told-1
 enum_told c = search rules
 
-returns : tie.Need-returns
+returns : tie.Need-returns-in-One
 unfolding limits
-returns c = rw c.enum_told.given.1
+returns c = rw c.enum_told-1.given.1
 
-returns-2 : tie.Need-returns-2
+returns-2 : tie.Need-returns-in-Two
 unfolding limits
-returns-2 c = rw c.enum-told2.given.1
+returns-2 c = rw c.enum_told-in-Two-1.given.1
 
-pub limits-spec : {M : Type 1} → statement M
-limits-spec = tie.close (tie.spec enum_told (λ c. search rules) returns returns-2)
+pub limits_spec : {M : Type 1} → statement M
+limits_spec = tie.close (tie.spec enum_told (λ c. search rules) returns returns-2)

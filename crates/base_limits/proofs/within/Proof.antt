@@ -7,15 +7,15 @@ use Rattle.base_limits.proofs.Past.{past-the-table}
 use Rattle.base_limits.proofs.within.Statement.{statement}
 use Rattle.base_limits.proofs.within.Tie as tie
 
-returns : tie.Need-returns
+returns : tie.Need-returns-then-setting-lt11
 unfolding within limit_of
 returns c = refl
 
-returns-2 : tie.Need-returns-2
+returns-2 : tie.Need-returns-else-setting-lt11
 returns-2 c =
     let a = c.before.args in
-    let eleven = c.before.well-formed.0.1.0.1 in
+    let eleven = c.before.well_formed.0.1.0.1 in
     past-the-table a.t1 a.setting a.value (omega arith)
 
-pub within-spec : {M : Type 1} → statement M
-within-spec = tie.close (tie.spec (λ c. search rules) (λ c. search rules) returns returns-2)
+pub within_spec : {M : Type 1} → statement M
+within_spec = tie.close (tie.spec (λ c. search rules) (λ c. search rules) returns returns-2)

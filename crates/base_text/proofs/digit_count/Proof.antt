@@ -9,32 +9,32 @@ use Rattle.laws.proofs.Decimals.{length-one, length_more, some-digit, at_most}
 use Rattle.base_text.proofs.digit_count.Statement.{statement}
 use Rattle.base_text.proofs.digit_count.Tie as tie
 
-abbrev invariant-loop : tie.invariant-loop
-invariant-loop n rest₀ count₀ rest count = count + length (decimal rest) ≡ 1 + length (decimal n)
+abbrev invariant-loop-rest : tie.invariant-loop-rest
+invariant-loop-rest n rest₀ count₀ rest count = count + length (decimal rest) ≡ 1 + length (decimal n)
 
-abbrev decreases-loop : tie.decreases-loop
-decreases-loop n rest₀ count₀ rest count = rest
+abbrev decreases-loop-rest : tie.decreases-loop-rest
+decreases-loop-rest n rest₀ count₀ rest count = rest
 
-loop-holds : tie.Need-loop-init invariant-loop decreases-loop
+loop-holds : tie.Need-loop-rest-init invariant-loop-rest decreases-loop-rest
 loop-holds c = refl
 
-add-count : tie.Need-overflow-add-count invariant-loop decreases-loop
+add-count : tie.Need-overflow_add-count invariant-loop-rest decreases-loop-rest
 add-count c =
     let n = c.before.before.args.n in
-    omega (arith, some-digit c.before.loop.rest, at_most 4 n (omega arith))
+    omega (arith, some-digit c.before.loop-rest.rest, at_most 4 n (omega arith))
 
-loop-less : tie.Need-loop-smaller invariant-loop decreases-loop
+loop-less : tie.Need-loop-rest-smaller invariant-loop-rest decreases-loop-rest
 loop-less c = search rules
 
-loop-again : tie.Need-loop-preserved invariant-loop decreases-loop
-loop-again c = omega (arith, length_more c.before.loop.rest (omega arith))
+loop-again : tie.Need-loop-rest-preserved invariant-loop-rest decreases-loop-rest
+loop-again c = omega (arith, length_more c.before.loop-rest.rest (omega arith))
 
-returns : tie.Need-returns invariant-loop decreases-loop
+returns : tie.Need-returns invariant-loop-rest decreases-loop-rest
 returns c =
-    let one = length-one c.before.loop.rest (omega arith) in
+    let one = length-one c.before.loop-rest.rest (omega arith) in
     let few = at_most 4 c.before.before.args.n (omega arith) in
     (omega arith, omega arith)
 
-pub digit-count-spec : {M : Type 1} → statement M
-digit-count-spec =
-    tie.close (tie.spec invariant-loop decreases-loop loop-holds add-count loop-less loop-again returns)
+pub digit_count_spec : {M : Type 1} → statement M
+digit_count_spec =
+    tie.close (tie.spec invariant-loop-rest decreases-loop-rest loop-holds add-count loop-less loop-again returns)

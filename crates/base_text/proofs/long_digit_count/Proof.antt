@@ -9,32 +9,32 @@ use Rattle.laws.proofs.Decimals.{length-one, length_more, some-digit, at_most}
 use Rattle.base_text.proofs.long_digit_count.Statement.{statement}
 use Rattle.base_text.proofs.long_digit_count.Tie as tie
 
-abbrev invariant-loop : tie.invariant-loop
-invariant-loop n left₀ digits₀ left digits = digits + length (decimal left) ≡ 1 + length (decimal n)
+abbrev invariant-loop-left : tie.invariant-loop-left
+invariant-loop-left n left₀ digits₀ left digits = digits + length (decimal left) ≡ 1 + length (decimal n)
 
-abbrev decreases-loop : tie.decreases-loop
-decreases-loop n left₀ digits₀ left digits = left
+abbrev decreases-loop-left : tie.decreases-loop-left
+decreases-loop-left n left₀ digits₀ left digits = left
 
-loop-holds : tie.Need-loop-init invariant-loop decreases-loop
+loop-holds : tie.Need-loop-left-init invariant-loop-left decreases-loop-left
 loop-holds c = refl
 
-add-digits : tie.Need-overflow-add-digits invariant-loop decreases-loop
+add-digits : tie.Need-overflow_add-digits invariant-loop-left decreases-loop-left
 add-digits c =
     let n = c.before.before.args.n in
-    omega (arith, some-digit c.before.loop.left, at_most 19 n (omega arith))
+    omega (arith, some-digit c.before.loop-left.left, at_most 19 n (omega arith))
 
-loop-less : tie.Need-loop-smaller invariant-loop decreases-loop
+loop-less : tie.Need-loop-left-smaller invariant-loop-left decreases-loop-left
 loop-less c = search rules
 
-loop-again : tie.Need-loop-preserved invariant-loop decreases-loop
-loop-again c = omega (arith, length_more c.before.loop.left (omega arith))
+loop-again : tie.Need-loop-left-preserved invariant-loop-left decreases-loop-left
+loop-again c = omega (arith, length_more c.before.loop-left.left (omega arith))
 
-returns : tie.Need-returns invariant-loop decreases-loop
+returns : tie.Need-returns invariant-loop-left decreases-loop-left
 returns c =
-    let one = length-one c.before.loop.left (omega arith) in
+    let one = length-one c.before.loop-left.left (omega arith) in
     let few = at_most 19 c.before.before.args.n (omega arith) in
     (omega arith, omega arith)
 
-pub long-digit-count-spec : {M : Type 1} → statement M
-long-digit-count-spec =
-    tie.close (tie.spec invariant-loop decreases-loop loop-holds add-digits loop-less loop-again returns)
+pub long_digit_count_spec : {M : Type 1} → statement M
+long_digit_count_spec =
+    tie.close (tie.spec invariant-loop-left decreases-loop-left loop-holds add-digits loop-less loop-again returns)

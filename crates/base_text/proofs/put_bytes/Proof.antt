@@ -7,5 +7,5 @@ use Rattle.base_text.proofs.put_bytes.Tie as tie
 returns : tie.Need-returns
 returns c = record { place = refl; bytes = c.before.before.put_all_lem.ensures }
 
-pub put-bytes-spec : {M : Type 1} → statement M
-put-bytes-spec = tie.close (tie.spec (λ c κs. search rules) (λ c. search rules) (λ c. search rules) returns)
+pub put_bytes_spec : {M : Type 1} → statement M
+put_bytes_spec = tie.close (tie.spec (λ c κs. search rules) (λ c. search rules) (λ c. search rules) returns)

@@ -11,52 +11,52 @@ use Rattle.base_text.proofs.Puts.{sets_last}
 use Rattle.base_text.proofs.put_decimal.Statement.{statement}
 use Rattle.base_text.proofs.put_decimal.Tie as tie
 
-abbrev invariant-loop : tie.invariant-loop
-invariant-loop n at out₀ end rest₀ i₀ out rest i =
+abbrev invariant-loop-rest : tie.invariant-loop-rest
+invariant-loop-rest n at out₀ end rest₀ i₀ out rest i =
     (i + 1 ≡ at + length (decimal rest))
     × (i < end)
     × (length out ≡ length out₀)
     × (sets out at (decimal rest) ≡ sets out₀ at (decimal n))
 
-abbrev decreases-loop : tie.decreases-loop
-decreases-loop n at out₀ end rest₀ i₀ out rest i = rest
+abbrev decreases-loop-rest : tie.decreases-loop-rest
+decreases-loop-rest n at out₀ end rest₀ i₀ out rest i = rest
 
-digit-count-requires : tie.Need-digit-count-requires invariant-loop decreases-loop
+digit-count-requires : tie.Need-digit_count-requires invariant-loop-rest decreases-loop-rest
 digit-count-requires c κs = search rules
 
-add-end : tie.Need-overflow-add-end invariant-loop decreases-loop
+add-end : tie.Need-overflow_add-end invariant-loop-rest decreases-loop-rest
 add-end c = search rules
 
-sub-i : tie.Need-overflow-sub-i invariant-loop decreases-loop
+sub-i : tie.Need-overflow_sub-i invariant-loop-rest decreases-loop-rest
 sub-i c = omega (arith, some-digit c.before.before.args.n)
 
-loop-holds : tie.Need-loop-init invariant-loop decreases-loop
+loop-holds : tie.Need-loop-rest-init invariant-loop-rest decreases-loop-rest
 loop-holds c =
     let some = some-digit c.before.before.args.n in
     (omega arith, omega arith, omega arith, refl)
 
-cast-out : tie.Need-overflow-cast-out invariant-loop decreases-loop
+cast-out : tie.Need-overflow_cast-out invariant-loop-rest decreases-loop-rest
 cast-out c = search rules
 
-add-out : tie.Need-overflow-add-out invariant-loop decreases-loop
+add-out : tie.Need-overflow_add-out invariant-loop-rest decreases-loop-rest
 add-out c = search rules
 
-slice-write-out : tie.Need-slice-write-out invariant-loop decreases-loop
+slice-write-out : tie.Need-bounds-out-i invariant-loop-rest decreases-loop-rest
 slice-write-out c = search rules
 
 -- past the last digit there is another one
-sub-i-2 : tie.Need-overflow-sub-i-2 invariant-loop decreases-loop
+sub-i-2 : tie.Need-overflow_sub-i-in-loop-rest invariant-loop-rest decreases-loop-rest
 sub-i-2 c =
-    let rest = c.before.loop.rest in
+    let rest = c.before.loop-rest.rest in
     omega (arith, length_more rest (omega arith), some-digit (rest / 10))
 
-loop-less : tie.Need-loop-smaller invariant-loop decreases-loop
+loop-less : tie.Need-loop-rest-smaller invariant-loop-rest decreases-loop-rest
 loop-less c = search rules
 
-loop-again : tie.Need-loop-preserved invariant-loop decreases-loop
+loop-again : tie.Need-loop-rest-preserved invariant-loop-rest decreases-loop-rest
 loop-again c =
     let a = c.before.before.before.before.args in
-    let at = c.before.loop in
+    let at = c.before.loop-rest in
     let front = decimal (at.rest / 10) in
     let last = 48 + at.rest % 10 in
     let more = length_more at.rest (omega arith) in
@@ -71,22 +71,22 @@ loop-again c =
           ∙ at.invariant.3,
     )
 
-cast-out-2 : tie.Need-overflow-cast-out-2 invariant-loop decreases-loop
+cast-out-2 : tie.Need-overflow_cast-out-2 invariant-loop-rest decreases-loop-rest
 cast-out-2 c = search rules
 
-add-out-2 : tie.Need-overflow-add-out-2 invariant-loop decreases-loop
+add-out-2 : tie.Need-overflow_add-out-2 invariant-loop-rest decreases-loop-rest
 add-out-2 c = search rules
 
-slice-write-out-2 : tie.Need-slice-write-out-2 invariant-loop decreases-loop
+slice-write-out-2 : tie.Need-bounds-out-i-2 invariant-loop-rest decreases-loop-rest
 slice-write-out-2 c = search rules
 
-same_length : tie.Need-same-length invariant-loop decreases-loop
+same_length : tie.Need-shape_of-out invariant-loop-rest decreases-loop-rest
 same_length c = simp length-set (omega arith)
 
-returns : tie.Need-returns invariant-loop decreases-loop
+returns : tie.Need-returns invariant-loop-rest decreases-loop-rest
 returns c =
     let a = c.before.before.before.before.args in
-    let at = c.before.loop in
+    let at = c.before.loop-rest in
     let one = length-one at.rest (omega arith) in
     let place : at.i ≡ a.at = omega arith in
     record {
@@ -97,12 +97,12 @@ returns c =
           ∙ at.invariant.3;
     }
 
-pub put-decimal-spec : {M : Type 1} → statement M
-put-decimal-spec =
+pub put_decimal_spec : {M : Type 1} → statement M
+put_decimal_spec =
     tie.close
     (tie.spec
-    invariant-loop
-    decreases-loop
+    invariant-loop-rest
+    decreases-loop-rest
     digit-count-requires
     add-end
     sub-i

@@ -11,52 +11,52 @@ use Rattle.base_text.proofs.Puts.{sets_last}
 use Rattle.base_text.proofs.put_long_decimal.Statement.{statement}
 use Rattle.base_text.proofs.put_long_decimal.Tie as tie
 
-abbrev invariant-loop : tie.invariant-loop
-invariant-loop n at out₀ end left₀ i₀ out left i =
+abbrev invariant-loop-left : tie.invariant-loop-left
+invariant-loop-left n at out₀ end left₀ i₀ out left i =
     (i + 1 ≡ at + length (decimal left))
     × (i < end)
     × (length out ≡ length out₀)
     × (sets out at (decimal left) ≡ sets out₀ at (decimal n))
 
-abbrev decreases-loop : tie.decreases-loop
-decreases-loop n at out₀ end left₀ i₀ out left i = left
+abbrev decreases-loop-left : tie.decreases-loop-left
+decreases-loop-left n at out₀ end left₀ i₀ out left i = left
 
-long-digit-count-requires : tie.Need-long-digit-count-requires invariant-loop decreases-loop
+long-digit-count-requires : tie.Need-long_digit_count-requires invariant-loop-left decreases-loop-left
 long-digit-count-requires c κs = search rules
 
-add-end : tie.Need-overflow-add-end invariant-loop decreases-loop
+add-end : tie.Need-overflow_add-end invariant-loop-left decreases-loop-left
 add-end c = search rules
 
-sub-i : tie.Need-overflow-sub-i invariant-loop decreases-loop
+sub-i : tie.Need-overflow_sub-i invariant-loop-left decreases-loop-left
 sub-i c = omega (arith, some-digit c.before.before.args.n)
 
-loop-holds : tie.Need-loop-init invariant-loop decreases-loop
+loop-holds : tie.Need-loop-left-init invariant-loop-left decreases-loop-left
 loop-holds c =
     let some = some-digit c.before.before.args.n in
     (omega arith, omega arith, omega arith, refl)
 
-cast-out : tie.Need-overflow-cast-out invariant-loop decreases-loop
+cast-out : tie.Need-overflow_cast-out invariant-loop-left decreases-loop-left
 cast-out c = search rules
 
-add-out : tie.Need-overflow-add-out invariant-loop decreases-loop
+add-out : tie.Need-overflow_add-out invariant-loop-left decreases-loop-left
 add-out c = search rules
 
-slice-write-out : tie.Need-slice-write-out invariant-loop decreases-loop
+slice-write-out : tie.Need-bounds-out-i invariant-loop-left decreases-loop-left
 slice-write-out c = search rules
 
 -- past the last digit there is another one
-sub-i-2 : tie.Need-overflow-sub-i-2 invariant-loop decreases-loop
+sub-i-2 : tie.Need-overflow_sub-i-in-loop-left invariant-loop-left decreases-loop-left
 sub-i-2 c =
-    let left = c.before.loop.left in
+    let left = c.before.loop-left.left in
     omega (arith, length_more left (omega arith), some-digit (left / 10))
 
-loop-less : tie.Need-loop-smaller invariant-loop decreases-loop
+loop-less : tie.Need-loop-left-smaller invariant-loop-left decreases-loop-left
 loop-less c = search rules
 
-loop-again : tie.Need-loop-preserved invariant-loop decreases-loop
+loop-again : tie.Need-loop-left-preserved invariant-loop-left decreases-loop-left
 loop-again c =
     let a = c.before.before.before.before.args in
-    let at = c.before.loop in
+    let at = c.before.loop-left in
     let front = decimal (at.left / 10) in
     let last = 48 + at.left % 10 in
     let more = length_more at.left (omega arith) in
@@ -71,22 +71,22 @@ loop-again c =
           ∙ at.invariant.3,
     )
 
-cast-out-2 : tie.Need-overflow-cast-out-2 invariant-loop decreases-loop
+cast-out-2 : tie.Need-overflow_cast-out-2 invariant-loop-left decreases-loop-left
 cast-out-2 c = search rules
 
-add-out-2 : tie.Need-overflow-add-out-2 invariant-loop decreases-loop
+add-out-2 : tie.Need-overflow_add-out-2 invariant-loop-left decreases-loop-left
 add-out-2 c = search rules
 
-slice-write-out-2 : tie.Need-slice-write-out-2 invariant-loop decreases-loop
+slice-write-out-2 : tie.Need-bounds-out-i-2 invariant-loop-left decreases-loop-left
 slice-write-out-2 c = search rules
 
-same_length : tie.Need-same-length invariant-loop decreases-loop
+same_length : tie.Need-shape_of-out invariant-loop-left decreases-loop-left
 same_length c = simp length-set (omega arith)
 
-returns : tie.Need-returns invariant-loop decreases-loop
+returns : tie.Need-returns invariant-loop-left decreases-loop-left
 returns c =
     let a = c.before.before.before.before.args in
-    let at = c.before.loop in
+    let at = c.before.loop-left in
     let one = length-one at.left (omega arith) in
     let place : at.i ≡ a.at = omega arith in
     record {
@@ -97,12 +97,12 @@ returns c =
           ∙ at.invariant.3;
     }
 
-pub put-long-decimal-spec : {M : Type 1} → statement M
-put-long-decimal-spec =
+pub put_long_decimal_spec : {M : Type 1} → statement M
+put_long_decimal_spec =
     tie.close
     (tie.spec
-    invariant-loop
-    decreases-loop
+    invariant-loop-left
+    decreases-loop-left
     long-digit-count-requires
     add-end
     sub-i

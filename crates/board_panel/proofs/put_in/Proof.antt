@@ -8,19 +8,19 @@ use Rattle.board_panel.proofs.PanelCalls.{too_short, has_room}
 use Rattle.board_panel.proofs.put_in.Statement.{statement}
 use Rattle.board_panel.proofs.put_in.Tie as tie
 
-returns : tie.Need-returns
+returns : tie.Need-returns-then-line-line_length
 returns c =
     let a = c.before.before.before.before.args in
-    too_short (line_of a.why) a.line.now (omega arith) c.refusal.ensures
+    too_short (line_of a.why) a.line-1.now (omega arith) c.refusal.ensures
 
-returns-2 : tie.Need-returns-2
+returns-2 : tie.Need-returns
 returns-2 c =
     let put = c.before.before.before in
     let a = put.before.before.before.before.before.args in
-    has_room (line_of a.why) a.line.now (omega arith) (c.packed.ensures ∙ ap (packed 0) put.put-line.ensures.0) put.put-line.ensures.1
+    has_room (line_of a.why) a.line-1.now (omega arith) (c.packed.ensures ∙ ap (packed 0) put.put_line.ensures.0) put.put_line.ensures.1
 
-pub put-in-spec : {M : Type 1} → statement M
-put-in-spec =
+pub put_in_spec : {M : Type 1} → statement M
+put_in_spec =
     tie.close
     (tie.spec
     (λ c κs. search rules)

@@ -9,40 +9,40 @@ use Rattle.board_panel.proofs.PanelCalls.{length-refused, length-told}
 use Rattle.board_panel.proofs.why_length.Statement.{statement}
 use Rattle.board_panel.proofs.why_length.Tie as tie
 
-abbrev entry : tie.After-explained → tie.Start
+abbrev entry : tie.After-explained-found → tie.Start
 entry c = c.before.before.before
 
 -- what was found, as a match knows it
-said : (c : tie.After-explained) {found : Explanation} → c.explained.result ≡ found → let a = (entry c).args in Explains a.personality.now a.state.now a.inputs found
-said c e = let a = (entry c).args in subst (Explains a.personality.now a.state.now a.inputs) e c.explained.ensures
+said : (c : tie.After-explained-found) {found : Explanation} → c.explained-found.result ≡ found → let a = (entry c).args in Explains a.personality.now a.state.now a.inputs found
+said c e = let a = (entry c).args in subst (Explains a.personality.now a.state.now a.inputs) e c.explained-found.ensures
 
 refusal-requires : tie.Need-refusal-requires
-refusal-requires c κs = (said c.before.before.before c.before.found.given.1).1
+refusal-requires c κs = (said c.before.before.before c.before.found-1.given.1).1
 
-returns : tie.Need-returns
+returns : tie.Need-returns-in-Refusal
 returns c =
     let found = c.before.before.before.before in
     let a = (entry found).args in
-    length-refused a.personality.now a.state.now a.inputs (said found c.before.before.found.given.1).0 c.refusal.ensures
+    length-refused a.personality.now a.state.now a.inputs (said found c.before.before.found-1.given.1).0 c.refusal.ensures
 
-returns-2 : tie.Need-returns-2
+returns-2 : tie.Need-returns-in-Silent
 returns-2 c =
     let found = c.before.before.before in
     let a = (entry found).args in
-    length-told a.personality.now a.state.now a.inputs [] (said found c.before.enum_told.given.1) c.packed.ensures
+    length-told a.personality.now a.state.now a.inputs [] (said found c.before.enum_told-1.given.1) c.packed.ensures
 
-returns-3 : tie.Need-returns-3
+returns-3 : tie.Need-returns-in-Holds
 returns-3 c =
     let measured = c.before in
     let read = measured.before.before in
     let found = read.before.before in
     let a = (entry found).args in
-    let told = said found read.found2.given.1 in
+    let told = said found read.found-in-Holds-1.given.1 in
     length-told a.personality.now a.state.now a.inputs _ (told.0, told.1)
-    (c.packed2.ensures ∙ ap (packed 0) measured.line-length.ensures.0)
+    (c.packed-in-Holds.ensures ∙ ap (packed 0) measured.line_length.ensures.0)
 
-pub why-length-spec : {M : Type 1} → statement M
-why-length-spec =
+pub why_length_spec : {M : Type 1} → statement M
+why_length_spec =
     tie.close
     (tie.spec
     (λ c κs. search rules)

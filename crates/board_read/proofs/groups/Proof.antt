@@ -5,27 +5,27 @@ use Rattle.board_read.proofs.GroupsAnswers.{groups-told, groups-refused}
 use Rattle.board_read.proofs.groups.Statement.{statement}
 use Rattle.board_read.proofs.groups.Tie as tie
 
-enum_told : tie.Need-enum-told
+enum_told : tie.Need-enum_told-1
 enum_told c = search rules
 
 refusal-requires : tie.Need-refusal-requires
 refusal-requires c κs =
-    let read = c.before.before.before.before.read-with-layout in
-    refused-near _ read.result.verdict read.ensures.0 c.before.verdict.given.1
+    let read = c.before.before.before.before.read_with_layout-reading in
+    refused-near _ read.result.verdict read.ensures.0 c.before.verdict-1.given.1
 
-returns : tie.Need-returns
+returns : tie.Need-returns-in-Accepted
 returns c =
     let told = c.before.before in
-    let read = told.before.before.before.read-with-layout in
-    groups-told _ read.result.verdict _ _ read.ensures.0 told.enum_told.given.1 read.ensures.1.groupcount c.packed.ensures
+    let read = told.before.before.before.read_with_layout-reading in
+    groups-told _ read.result.verdict _ _ read.ensures.0 told.enum_told-1.given.1 read.ensures.1.groupcount c.packed.ensures
 
-returns-2 : tie.Need-returns-2
+returns-2 : tie.Need-returns-in-Refused
 returns-2 c =
-    let read = c.before.before.before.before.before.read-with-layout in
-    groups-refused _ read.result.verdict _ read.ensures.0 c.before.before.verdict.given.1 c.refusal.ensures
+    let read = c.before.before.before.before.before.read_with_layout-reading in
+    groups-refused _ read.result.verdict _ read.ensures.0 c.before.before.verdict-1.given.1 c.refusal.ensures
 
-pub groups-spec : {M : Type 1} → statement M
-groups-spec =
+pub groups_spec : {M : Type 1} → statement M
+groups_spec =
     tie.close
     (tie.spec
     (λ c κs. search rules)

@@ -13,35 +13,35 @@ use Rattle.board_read.proofs.wait_bound.Tie as tie
 
 refusal-requires : tie.Need-refusal-requires
 refusal-requires c κs =
-    let read = c.before.before.before.read-with-layout in
-    refused-near _ read.result.verdict read.ensures.0 c.before.verdict.given.1
+    let read = c.before.before.before.read_with_layout-reading in
+    refused-near _ read.result.verdict read.ensures.0 c.before.verdict-1.given.1
 
-returns : tie.Need-returns
+returns : tie.Need-returns-in-Refused
 returns c =
     let asked = c.before.before.before.before in
-    bound-refused _ c.refusal.result (sym asked.read-with-layout.ensures.0 ∙ c.before.before.verdict.given.1) c.refusal.ensures
+    bound-refused _ c.refusal.result (sym asked.read_with_layout-reading.ensures.0 ∙ c.before.before.verdict-1.given.1) c.refusal.ensures
 
 -- past the refusal the personality is accepted
-accepted : (c : tie.After-enum-told) → verdict_of c.before.before.before.before.args.personality.now ≡ Accepted
-accepted c = sym c.before.before.read-with-layout.ensures.0 ∙ c.enum_told.given.1
+accepted : (c : tie.In_default) → verdict_of c.before.before.before.before.args.personality.now ≡ Accepted
+accepted c = sym c.before.before.read_with_layout-reading.ensures.0 ∙ c.enum_told-1.given.1
 
-site-of-requires : tie.Need-site-of-requires
-site-of-requires c κs = accepted-fits (accepted c.before) c.before.before.before.read-with-layout.ensures.1
+site-of-requires : tie.Need-site_of-site-requires
+site-of-requires c κs = accepted-fits (accepted c.before) c.before.before.before.read_with_layout-reading.ensures.1
 
-wait-bound-requires : tie.Need-wait-bound-requires
+wait-bound-requires : tie.Need-wait_bound-requires
 unfolding AcceptedIsSound
 wait-bound-requires c κs =
-    rw c.site-of.ensures (accepted-is-sound _ (accepted c.before.before))
+    rw c.site_of-site.ensures (accepted-is-sound _ (accepted c.before.before))
 
-returns-2 : tie.Need-returns-2
+returns-2 : tie.Need-returns
 returns-2 c =
     let held = c.before.before in
-    bound-given _ c.packed.result held.site-of.result (accepted held.before.before) held.site-of.ensures
-    c.before.wait-bound.ensures
+    bound-given _ c.packed.result held.site_of-site.result (accepted held.before.before) held.site_of-site.ensures
+    c.before.wait_bound.ensures
     c.packed.ensures
 
-pub wait-bound-spec : {M : Type 1} → statement M
-wait-bound-spec =
+pub wait_bound_spec : {M : Type 1} → statement M
+wait_bound_spec =
     tie.close
     (tie.spec
     (λ c κs. search rules)

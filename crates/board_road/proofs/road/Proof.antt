@@ -20,114 +20,114 @@ use Rattle.board_road.proofs.road.Tie as tie
 
 refusal-requires : tie.Need-refusal-requires
 refusal-requires c κs =
-    let read = c.before.before.before.read-with-layout in
-    refused-near _ read.result.verdict read.ensures.0 c.before.verdict.given.1
+    let read = c.before.before.before.read_with_layout-reading in
+    refused-near _ read.result.verdict read.ensures.0 c.before.verdict-1.given.1
 
-returns : tie.Need-returns
+returns : tie.Need-returns-in-Refused
 returns c =
     let asked = c.before.before.before.before in
     let a = asked.before.before.before.before.before.args in
-    declines a.personality.now a.streams.now a.steps a.state.now a.results.now
-    (by-personality _ _ _ _ _ (sym asked.read-with-layout.ensures.0 ∙ c.before.before.verdict.given.1))
+    declines a.personality.now a.streams.now a.steps a.state-1.now a.results-1.now
+    (by-personality _ _ _ _ _ (sym asked.read_with_layout-reading.ensures.0 ∙ c.before.before.verdict-1.given.1))
     c.refusal.ensures
 
 -- ── An accepted one, and streams that are refused ──
 
-enum_told : tie.Need-enum-told
+enum_told : tie.Need-enum_told-1
 enum_told c = search rules
 
-accepted : (c : tie.After-enum-told) → verdict_of c.before.before.before.before.before.before.before.args.personality.now ≡ Accepted
-accepted c = sym c.before.before.read-with-layout.ensures.0 ∙ c.enum_told.given.1
+accepted : (c : tie.In_default) → verdict_of c.before.before.before.before.before.before.before.args.personality.now ≡ Accepted
+accepted c = sym c.before.before.read_with_layout-reading.ensures.0 ∙ c.enum_told-1.given.1
 
-site-of-requires : tie.Need-site-of-requires
-site-of-requires c κs = let told = c.before in accepted-fits (accepted told) told.before.before.read-with-layout.ensures.1
+site-of-requires : tie.Need-site_of-site-requires
+site-of-requires c κs = let told = c.before in accepted-fits (accepted told) told.before.before.read_with_layout-reading.ensures.1
 
-abbrev entry : tie.After-site-of → tie.Start
+abbrev entry : tie.After-site_of-site → tie.Start
 entry c = c.before.before.before.before.before.before.before.before.before
 
-read : (c : tie.After-site-of) → verdict_of (entry c).args.personality.now ≡ Accepted
+read : (c : tie.After-site_of-site) → verdict_of (entry c).args.personality.now ≡ Accepted
 read c = accepted c.before.before
 
-bad-streams-requires : tie.Need-bad-streams-requires
+bad-streams-requires : tie.Need-bad_streams-requires
 unfolding AcceptedIsSound
-bad-streams-requires c κs = subst⁻¹ Sound c.site-of.ensures (accepted-is-sound _ (read c))
+bad-streams-requires c κs = subst⁻¹ Sound c.site_of-site.ensures (accepted-is-sound _ (read c))
 
 -- whether the streams of the call are refused
 tested :
-    (c : tie.After-bad-streams) →
+    (c : tie.After-bad_streams) →
     let a = (entry c.before).args in
-    c.bad-streams.result ≡ bad_streams (site_of a.personality.now) a.streams.now a.steps
+    c.bad_streams.result ≡ bad_streams (site_of a.personality.now) a.streams.now a.steps
 tested c =
     let a = (entry c.before).args in
-    c.bad-streams.ensures ∙ ap (λ (s : Site). bad_streams s a.streams.now a.steps) c.before.site-of.ensures
+    c.bad_streams.ensures ∙ ap (λ (s : Site). bad_streams s a.streams.now a.steps) c.before.site_of-site.ensures
 
-returns-2 : tie.Need-returns-2
+returns-2 : tie.Need-returns-then-bad_streams
 returns-2 c =
     let test = c.before.before in
     let a = (entry test.before).args in
-    declines a.personality.now a.streams.now a.steps a.state.now a.results.now
-    (by-streams _ _ _ _ _ (read test.before) (sym (tested test) ∙ c.before.if1.true))
-    c.refusal2.ensures
+    declines a.personality.now a.streams.now a.steps a.state-1.now a.results-1.now
+    (by-streams _ _ _ _ _ (read test.before) (sym (tested test) ∙ c.before.if-bad_streams.true))
+    c.refusal-then-bad_streams.ensures
 
 -- ── Streams that are not refused, and buffers that are ──
 
-abbrev made : tie.Else1 → tie.After-site-of
+abbrev made : tie.Else-bad_streams → tie.After-site_of-site
 made c = c.before.before
 
 known :
-    (c : tie.Else1) →
+    (c : tie.Else-bad_streams) →
     let a = (entry (made c)).args in
     bad_streams (site_of a.personality.now) a.streams.now a.steps ≡ false
-known c = sym (tested c.before) ∙ c.if1.false
+known c = sym (tested c.before) ∙ c.if-bad_streams.false
 
-returns-3 : tie.Need-returns-3
+returns-3 : tie.Need-returns-then-state-ne-TIMED_BYTES
 returns-3 c =
     let fine = c.before.before in
     let a = (entry (made fine)).args in
-    declines a.personality.now a.streams.now a.steps a.state.now a.results.now
-    (by_state _ _ _ _ _ (read (made fine)) (known fine) c.before.if2.true)
-    c.refusal3.ensures
+    declines a.personality.now a.streams.now a.steps a.state-1.now a.results-1.now
+    (by_state _ _ _ _ _ (read (made fine)) (known fine) c.before.if-state-ne-TIMED_BYTES.true)
+    c.refusal-then-state-ne-TIMED_BYTES.ensures
 
-returns-4 : tie.Need-returns-4
+returns-4 : tie.Need-returns-then-results-streams
 returns-4 c =
     let sized = c.before.before in
     let fine = sized.before in
     let a = (entry (made fine)).args in
-    declines a.personality.now a.streams.now a.steps a.state.now a.results.now
-    (by-room _ _ _ _ _ (read (made fine)) (known fine) sized.if2.false c.before.if3.true)
-    c.refusal4.ensures
+    declines a.personality.now a.streams.now a.steps a.state-1.now a.results-1.now
+    (by-room _ _ _ _ _ (read (made fine)) (known fine) sized.if-state-ne-TIMED_BYTES.false c.before.if-results-streams.true)
+    c.refusal-then-results-streams.ensures
 
 -- ── The road ──
 
 startable :
-    (c : tie.Else1) →
+    (c : tie.Else-bad_streams) →
     let a = (entry (made c)).args in
-    OfPersonality a.personality.now (made c).site-of.result a.streams.now a.steps
-startable c = record { read = read (made c); place = (made c).site-of.ensures; known = known c }
+    OfPersonality a.personality.now (made c).site_of-site.result a.streams.now a.steps
+startable c = record { read = read (made c); place = (made c).site_of-site.ensures; known = known c }
 
-run-requires : tie.Need-run-requires
-run-requires c κs = record { b = _; start = startable c.before.before.before; enough = c.before.if3.false }
+run-requires : tie.Need-run-last-requires
+run-requires c κs = record { b = _; start = startable c.before.before.before; enough = c.before.if-results-streams.false }
 
-put-settled-requires : tie.Need-put-settled-requires
-put-settled-requires c κs = c.before.before.before.before.before.before.before.if2.false
+put-settled-requires : tie.Need-put_settled-requires
+put-settled-requires c κs = c.before.before.before.before.before.before.before.if-state-ne-TIMED_BYTES.false
 
-returns-5 : tie.Need-returns-5
+returns-5 : tie.Need-returns
 returns-5 c =
     let stored = c.before.before in
     let ran = stored.before.before.before.before.before in
     let roomy = ran.before.before in
     let fine = roomy.before.before in
     let a = (entry (made fine)).args in
-    let whole = ran.run.ensures in
-    goes_on a.personality.now a.streams.now a.steps a.state.now a.results.now
-    (by-none _ _ _ _ _ (read (made fine)) (known fine) roomy.before.if2.false roomy.if3.false)
-    (made fine).site-of.ensures
-    (whole.state a.personality.now (startable fine))
-    stored.put-settled.ensures
+    let whole = ran.run-last.ensures in
+    goes_on a.personality.now a.streams.now a.steps a.state-1.now a.results-1.now
+    (by-none _ _ _ _ _ (read (made fine)) (known fine) roomy.before.if-state-ne-TIMED_BYTES.false roomy.if-results-streams.false)
+    (made fine).site_of-site.ensures
+    (whole.state-1 a.personality.now (startable fine))
+    stored.put_settled.ensures
     (whole.written a.personality.now (startable fine))
 
-pub road-spec : {M : Type 1} → statement M
-road-spec =
+pub road_spec : {M : Type 1} → statement M
+road_spec =
     tie.close
     (tie.spec
     (λ c κs. search rules)

@@ -10,37 +10,37 @@ use Rattle.board_seal.specs.SealCall.{record_verdict}
 use Rattle.board_seal.proofs.record_verdict.Statement.{statement}
 use Rattle.board_seal.proofs.record_verdict.Tie as tie
 
-returns : tie.Need-returns
+returns : tie.Need-returns-then-other_version
 unfolding record_verdict ◌or_else◌ refuse_if
-returns c = rw (sym c.before.other-version.ensures ∙ c.if1.true)
+returns c = rw (sym c.before.other_version.ensures ∙ c.if-other_version.true)
 
 -- what the tests that have passed tell
-version : (c : tie.Else1) → other_version c.before.before.before.before.args.sealed.now ≡ false
-version c = sym c.before.other-version.ensures ∙ c.if1.false
+version : (c : tie.Else-other_version) → other_version c.before.before.before.before.args.sealed.now ≡ false
+version c = sym c.before.other_version.ensures ∙ c.if-other_version.false
 
-returns-2 : tie.Need-returns-2
+returns-2 : tie.Need-returns-then-damaged
 unfolding record_verdict ◌or_else◌ refuse_if
 returns-2 c =
     let tested = c.before in
-    rw (version tested.before, sym tested.damaged.ensures ∙ c.if2.true)
+    rw (version tested.before, sym tested.damaged.ensures ∙ c.if-damaged.true)
 
-whole : (c : tie.Else2) → damaged c.before.before.before.before.before.before.args.sealed.now ≡ false
-whole c = sym c.before.damaged.ensures ∙ c.if2.false
+whole : (c : tie.Else-damaged) → damaged c.before.before.before.before.before.before.args.sealed.now ≡ false
+whole c = sym c.before.damaged.ensures ∙ c.if-damaged.false
 
-other-personality-requires : tie.Need-other-personality-requires
+other-personality-requires : tie.Need-other_personality-requires
 other-personality-requires c κs = whole_length _ (whole c)
 
-returns-3 : tie.Need-returns-3
+returns-3 : tie.Need-returns-then-other_personality
 unfolding record_verdict ◌or_else◌ refuse_if
 returns-3 c =
     let tested = c.before in
     let passed = tested.before in
-    rw (version passed.before.before, whole passed, sym tested.other-personality.ensures ∙ c.if3.true)
+    rw (version passed.before.before, whole passed, sym tested.other_personality.ensures ∙ c.if-other_personality.true)
 
-state-in-requires : tie.Need-state-in-requires
+state-in-requires : tie.Need-state_in-requires
 state-in-requires c κs = whole_length _ (whole c.before.before)
 
-returns-4 : tie.Need-returns-4
+returns-4 : tie.Need-returns-then-not-is_state_of
 unfolding record_verdict ◌or_else◌ refuse_if
 returns-4 c =
     let tested = c.before in
@@ -50,13 +50,13 @@ returns-4 c =
     rw (
       version passed.before.before,
       whole passed,
-      sym third.before.other-personality.ensures ∙ third.if3.false,
-      ← read.state-in.ensures,
-      ← tested.is-state-of.ensures,
-      not-true tested.is-state-of.result c.if4.true,
+      sym third.before.other_personality.ensures ∙ third.if-other_personality.false,
+      ← read.state_in.ensures,
+      ← tested.is_state_of.ensures,
+      not-true tested.is_state_of.result c.if-not-is_state_of.true,
     )
 
-returns-5 : tie.Need-returns-5
+returns-5 : tie.Need-returns
 unfolding record_verdict ◌or_else◌ refuse_if
 returns-5 c =
     let tested = c.before in
@@ -66,14 +66,14 @@ returns-5 c =
     rw (
       version passed.before.before,
       whole passed,
-      sym third.before.other-personality.ensures ∙ third.if3.false,
-      ← read.state-in.ensures,
-      ← tested.is-state-of.ensures,
-      not-false tested.is-state-of.result c.if4.false,
+      sym third.before.other_personality.ensures ∙ third.if-other_personality.false,
+      ← read.state_in.ensures,
+      ← tested.is_state_of.ensures,
+      not-false tested.is_state_of.result c.if-not-is_state_of.false,
     )
 
-pub record-verdict-spec : {M : Type 1} → statement M
-record-verdict-spec =
+pub record_verdict_spec : {M : Type 1} → statement M
+record_verdict_spec =
     tie.close
     (tie.spec
     (λ c κs. search rules)

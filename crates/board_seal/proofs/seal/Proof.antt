@@ -13,87 +13,87 @@ use Rattle.board_seal.proofs.SealCalls.{state-long, not-sealed, no-state, no_roo
 use Rattle.board_seal.proofs.seal.Statement.{statement}
 use Rattle.board_seal.proofs.seal.Tie as tie
 
-abbrev start : tie.After-read-with-layout → tie.Start
+abbrev start : tie.After-read_with_layout-reading → tie.Start
 start c = c.before.before.before.before
 
 -- ── A refused personality ──
 
 refusal-requires : tie.Need-refusal-requires
 refusal-requires c κs =
-    let read = c.before.before.before.read-with-layout in
-    refused-near _ read.result.verdict read.ensures.0 c.before.verdict.given.1
+    let read = c.before.before.before.read_with_layout-reading in
+    refused-near _ read.result.verdict read.ensures.0 c.before.verdict-1.given.1
 
-returns : tie.Need-returns
+returns : tie.Need-returns-in-Refused
 returns c =
     let asked = c.before.before.before.before in
     let a = (start asked).args in
-    not-sealed a.personality.now a.state.now a.sealed.now c.refusal.result
-    (sym asked.read-with-layout.ensures.0 ∙ c.before.before.verdict.given.1)
+    not-sealed a.personality.now a.state.now a.sealed-1.now c.refusal.result
+    (sym asked.read_with_layout-reading.ensures.0 ∙ c.before.before.verdict-1.given.1)
     c.refusal.ensures
 
 -- ── An accepted one, and bytes that are no valid state ──
 
-enum_told : tie.Need-enum-told
+enum_told : tie.Need-enum_told-1
 enum_told c = search rules
 
-abbrev entry : tie.After-enum-told → tie.Start
+abbrev entry : tie.In_default → tie.Start
 entry c = start c.before.before
 
-accepted : (c : tie.After-enum-told) → verdict_of (entry c).args.personality.now ≡ Accepted
-accepted c = sym c.before.before.read-with-layout.ensures.0 ∙ c.enum_told.given.1
+accepted : (c : tie.In_default) → verdict_of (entry c).args.personality.now ≡ Accepted
+accepted c = sym c.before.before.read_with_layout-reading.ensures.0 ∙ c.enum_told-1.given.1
 
-is-state-of-requires : tie.Need-is-state-of-requires
-is-state-of-requires c κs = let told = c.before in (accepted told, told.before.before.read-with-layout.ensures.1)
+is-state-of-requires : tie.Need-is_state_of-requires
+is-state-of-requires c κs = let told = c.before in (accepted told, told.before.before.read_with_layout-reading.ensures.1)
 
-returns-2 : tie.Need-returns-2
+returns-2 : tie.Need-returns-then-not-is_state_of
 returns-2 c =
     let tested = c.before.before in
     let told = tested.before.before in
     let a = (entry told).args in
-    no-state a.personality.now a.state.now a.sealed.now (accepted told) c.refusal2.result
-    (sym tested.is-state-of.ensures ∙ not-true tested.is-state-of.result c.before.if1.true)
-    c.refusal2.ensures
+    no-state a.personality.now a.state.now a.sealed-1.now (accepted told) c.refusal-then-not-is_state_of.result
+    (sym tested.is_state_of.ensures ∙ not-true tested.is_state_of.result c.before.if-not-is_state_of.true)
+    c.refusal-then-not-is_state_of.ensures
 
 -- ── A valid state, and a buffer of another length ──
 
-abbrev told : tie.Else1 → tie.After-enum-told
+abbrev told : tie.Else-not-is_state_of → tie.In_default
 told c = c.before.before.before
 
-valid : (c : tie.Else1) → is_state_of (entry (told c)).args.personality.now (entry (told c)).args.state.now ≡ true
-valid c = sym c.before.is-state-of.ensures ∙ not-false c.before.is-state-of.result c.if1.false
+valid : (c : tie.Else-not-is_state_of) → is_state_of (entry (told c)).args.personality.now (entry (told c)).args.state.now ≡ true
+valid c = sym c.before.is_state_of.ensures ∙ not-false c.before.is_state_of.result c.if-not-is_state_of.false
 
-returns-3 : tie.Need-returns-3
+returns-3 : tie.Need-returns-then-sealed-ne-SEALED_BYTES
 returns-3 c =
     let tested = c.before.before in
     let a = (entry (told tested)).args in
-    no_room a.personality.now a.state.now a.sealed.now (accepted (told tested)) (valid tested) c.refusal3.result
-    c.before.if2.true
-    c.refusal3.ensures
+    no_room a.personality.now a.state.now a.sealed-1.now (accepted (told tested)) (valid tested) c.refusal-then-sealed-ne-SEALED_BYTES.result
+    c.before.if-sealed-ne-SEALED_BYTES.true
+    c.refusal-then-sealed-ne-SEALED_BYTES.ensures
 
 -- ── A record ──
 
-write-sealed-requires : tie.Need-write-sealed-requires
+write-sealed-requires : tie.Need-write_sealed-requires
 unfolding AcceptedIsShort
 write-sealed-requires c κs =
     let tested = c.before.before in
     let a = (entry (told tested)).args in (
       accepted-is-short.1 a.personality.now (accepted (told tested)),
       state-long a.personality.now a.state.now (valid tested),
-      c.before.if2.false,
+      c.before.if-sealed-ne-SEALED_BYTES.false,
     )
 
-returns-4 : tie.Need-returns-4
+returns-4 : tie.Need-returns
 returns-4 c =
     let written = c.before.before in
     let fits = written.before.before in
     let tested = fits.before in
     let a = (entry (told tested)).args in
-    seals a.personality.now a.state.now a.sealed.now (accepted (told tested)) (valid tested) _
-    fits.if2.false
-    written.write-sealed.ensures
+    seals a.personality.now a.state.now a.sealed-1.now (accepted (told tested)) (valid tested) _
+    fits.if-sealed-ne-SEALED_BYTES.false
+    written.write_sealed.ensures
 
-pub seal-spec : {M : Type 1} → statement M
-seal-spec =
+pub seal_spec : {M : Type 1} → statement M
+seal_spec =
     tie.close
     (tie.spec
     (λ c κs. search rules)

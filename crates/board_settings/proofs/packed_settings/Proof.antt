@@ -23,20 +23,20 @@ packed-refused a b r e f p = rw (sym e ∙ f, p) (simp add-zero)
 
 refusal-requires : tie.Need-refusal-requires
 refusal-requires c κs =
-    let z = refused-place c.before.before.before.settings.ensures.1 c.before.answer2.given.1 in omega arith
+    let z = refused-place c.before.before.before.settings-answer.ensures.1 c.before.answer-in-Refused-1.given.1 in omega arith
 
-returns : tie.Need-returns
+returns : tie.Need-returns-in-Settings
 returns c =
-    let made = c.before.before.before.before.settings in
-    packed-given made.result _ _ made.ensures.0 c.before.before.answer.given.1 c.packed.ensures
+    let made = c.before.before.before.before.settings-answer in
+    packed-given made.result _ _ made.ensures.0 c.before.before.answer-1.given.1 c.packed.ensures
 
-returns-2 : tie.Need-returns-2
+returns-2 : tie.Need-returns-in-Refused
 returns-2 c =
-    let made = c.before.before.before.before.settings in
-    packed-refused made.result _ _ made.ensures.0 c.before.before.answer2.given.1 c.refusal.ensures
+    let made = c.before.before.before.before.settings-answer in
+    packed-refused made.result _ _ made.ensures.0 c.before.before.answer-in-Refused-1.given.1 c.refusal.ensures
 
-pub packed-settings-spec : {M : Type 1} → statement M
-packed-settings-spec =
+pub packed_settings_spec : {M : Type 1} → statement M
+packed_settings_spec =
     tie.close
     (tie.spec
     (λ c κs. search rules)

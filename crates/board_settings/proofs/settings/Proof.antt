@@ -5,22 +5,22 @@ use Rattle.board_settings.specs.SettingsCall.{settings_answer}
 use Rattle.board_settings.proofs.settings.Statement.{statement}
 use Rattle.board_settings.proofs.settings.Tie as tie
 
-returns : tie.Need-returns
+returns : tie.Need-returns-then-detector-eq0
 unfolding settings_answer
-returns c = rw c.before.if1.true c.packed-settings.ensures
+returns c = rw c.before.if-detector-eq0.true c.packed_settings.ensures
 
-returns-2 : tie.Need-returns-2
+returns-2 : tie.Need-returns-then-detector-eq1
 unfolding settings_answer
-returns-2 c = rw c.before.if2.true c.packed-settings2.ensures
+returns-2 c = rw c.before.if-detector-eq1.true c.packed_settings-then-detector-eq1.ensures
 
-returns-3 : tie.Need-returns-3
+returns-3 : tie.Need-returns
 unfolding settings_answer
 returns-3 c =
     let detector = c.before.before.before.args.detector in
-    rw (ne_eqb detector 0 c.before.before.if1.false, ne_eqb detector 1 c.before.if2.false) c.refusal.ensures
+    rw (ne_eqb detector 0 c.before.before.if-detector-eq0.false, ne_eqb detector 1 c.before.if-detector-eq1.false) c.refusal.ensures
 
-pub settings-spec : {M : Type 1} → statement M
-settings-spec =
+pub settings_spec : {M : Type 1} → statement M
+settings_spec =
     tie.close
     (tie.spec
     (λ c κs. search rules)

@@ -12,66 +12,66 @@ use Rattle.board_waits.proofs.WaitsCalls.{wait_part}
 use Rattle.board_waits.proofs.put_waits.Statement.{statement}
 use Rattle.board_waits.proofs.put_waits.Tie as tie
 
-abbrev invariant-loop : tie.invariant-loop
-invariant-loop site count buffer₀ i₀ buffer i = Stored (parts_of (wait_part site)) buffer₀ 0 count buffer i
+abbrev invariant-loop-i : tie.invariant-loop-i
+invariant-loop-i site count buffer₀ i₀ buffer i = Stored (parts_of (wait_part site)) buffer₀ 0 count buffer i
 
-abbrev decreases-loop : tie.decreases-loop
-decreases-loop site count buffer₀ i₀ buffer i = count - i
+abbrev decreases-loop-i : tie.decreases-loop-i
+decreases-loop-i site count buffer₀ i₀ buffer i = count - i
 
-loop-holds : tie.Need-loop-init invariant-loop decreases-loop
+loop-holds : tie.Need-loop-i-init invariant-loop-i decreases-loop-i
 unfolding parts_of
 loop-holds c = stored-none refl
 
-cast-put-two : tie.Need-overflow-cast-put-two invariant-loop decreases-loop
+cast-put-two : tie.Need-overflow_cast-i invariant-loop-i decreases-loop-i
 cast-put-two c = search rules
 
-mul-put-two : tie.Need-overflow-mul-put-two invariant-loop decreases-loop
+mul-put-two : tie.Need-overflow_mul-i invariant-loop-i decreases-loop-i
 mul-put-two c = search rules
 
-wait-at-requires : tie.Need-wait-at-requires invariant-loop decreases-loop
+wait-at-requires : tie.Need-wait_at-requires invariant-loop-i decreases-loop-i
 wait-at-requires c κs =
     let start = c.before.before.before.before in
-    (start.requires.0, omega (arith, c.before.loop-test.true, start.requires.1))
+    (start.requires.0, omega (arith, c.before.loop-i-test.true, start.requires.1))
 
-put-two-requires : tie.Need-put-two-requires invariant-loop decreases-loop
+put-two-requires : tie.Need-put_two-requires invariant-loop-i decreases-loop-i
 put-two-requires c κs =
     let turn = c.before.before.before in
-    omega (arith, stored-length turn.loop.invariant, turn.before.before.requires.2, c.before.before.loop-test.true)
+    omega (arith, stored-length turn.loop-i.invariant, turn.before.before.requires.2, c.before.before.loop-i-test.true)
 
-add-i : tie.Need-overflow-add-i invariant-loop decreases-loop
+add-i : tie.Need-overflow_add-i invariant-loop-i decreases-loop-i
 add-i c = search rules
 
-loop-less : tie.Need-loop-smaller invariant-loop decreases-loop
+loop-less : tie.Need-loop-i-smaller invariant-loop-i decreases-loop-i
 loop-less c = search rules
 
-loop-again : tie.Need-loop-preserved invariant-loop decreases-loop
+loop-again : tie.Need-loop-i-preserved invariant-loop-i decreases-loop-i
 loop-again c =
     let put = c.before.before in
     let read = put.before in
     let turn = read.before.before in
     let site = turn.before.before.before.args.site in
     rw put.put_two.ensures
-    (stored-record (wait_part site) 2 (λ i. refl) (2 * turn.before.loop.i) (two.written read.wait-at.result) turn.before.loop.invariant
-    turn.loop-test.true
+    (stored-record (wait_part site) 2 (λ i. refl) (2 * turn.before.loop-i.i) (two.written read.wait_at.result) turn.before.loop-i.invariant
+    turn.loop-i-test.true
     (omega arith)
-    (ap two.written read.wait-at.ensures))
+    (ap two.written read.wait_at.ensures))
 
-same_length : tie.Need-same-length invariant-loop decreases-loop
-same_length c = stored-length c.before.loop.invariant
+same_length : tie.Need-shape_of-buffer invariant-loop-i decreases-loop-i
+same_length c = stored-length c.before.loop-i.invariant
 
-returns : tie.Need-returns invariant-loop decreases-loop
+returns : tie.Need-returns invariant-loop-i decreases-loop-i
 unfolding wait_bytes
 returns c =
     let start = c.before.before.before in
-    stored-all c.before.loop.invariant c.loop-test.false
+    stored-all c.before.loop-i.invariant c.loop-i-test.false
     ∙ ap (λ (n : ℕ). sets start.args.buffer.now 0 (parts_of (wait_part start.args.site) n)) start.requires.1
 
-pub put-waits-spec : {M : Type 1} → statement M
-put-waits-spec =
+pub put_waits_spec : {M : Type 1} → statement M
+put_waits_spec =
     tie.close
     (tie.spec
-    invariant-loop
-    decreases-loop
+    invariant-loop-i
+    decreases-loop-i
     loop-holds
     cast-put-two
     mul-put-two

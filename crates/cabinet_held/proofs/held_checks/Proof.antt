@@ -7,29 +7,29 @@ use borrow.Author.Rules.{rules}
 use Rattle.cabinet_held.proofs.held_checks.Statement.{statement}
 use Rattle.cabinet_held.proofs.held_checks.Tie as tie
 
-enum_told : tie.Need-enum-told
+enum_told : tie.Need-enum_told-1
 enum_told c = search rules
 
-returns : tie.Need-returns
+returns : tie.Need-returns-in-Refused
 unfolding held_checks
-returns c = or-stop _ c.before.before.read.ensures c.enum_told.given.1
+returns c = or-stop _ c.before.before.read-verdict.ensures c.enum_told-1.given.1
 
-returns-2 : tie.Need-returns-2
+returns-2 : tie.Need-returns-then-past_last
 unfolding held_checks
 returns-2 c =
     let read = c.before.before.before in
-    or-next read.before.before.read.ensures read.enum-told2.given.1
-    (refuse-yes 25 0 (sym (ap (past_last read.before.before.before.before.args.first) c.before.before.outputs-of.ensures) ∙ sym c.before.past-last.ensures ∙ c.if1.true))
+    or-next read.before.before.read-verdict.ensures read.enum_told-in_default-1.given.1
+    (refuse-yes 25 0 (sym (ap (past_last read.before.before.before.before.args.first) c.before.before.outputs_of.ensures) ∙ sym c.before.past_last.ensures ∙ c.if-past_last.true))
 
-returns-3 : tie.Need-returns-3
+returns-3 : tie.Need-returns
 unfolding held_checks
 returns-3 c =
     let read = c.before.before.before in
-    or-next read.before.before.read.ensures read.enum-told2.given.1
-    (sym (refuse-no 25 0 (sym (ap (past_last read.before.before.before.before.args.first) c.before.before.outputs-of.ensures) ∙ sym c.before.past-last.ensures ∙ c.if1.false)))
+    or-next read.before.before.read-verdict.ensures read.enum_told-in_default-1.given.1
+    (sym (refuse-no 25 0 (sym (ap (past_last read.before.before.before.before.args.first) c.before.before.outputs_of.ensures) ∙ sym c.before.past_last.ensures ∙ c.if-past_last.false)))
 
-pub held-checks-spec : {M : Type 1} → statement M
-held-checks-spec =
+pub held_checks_spec : {M : Type 1} → statement M
+held_checks_spec =
     tie.close
     (tie.spec
     (λ c κs. search rules)

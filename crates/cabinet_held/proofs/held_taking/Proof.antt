@@ -8,32 +8,32 @@ use borrow.Author.Rules.{rules}
 use Rattle.cabinet_held.proofs.held_taking.Statement.{statement}
 use Rattle.cabinet_held.proofs.held_taking.Tie as tie
 
-enum_told : tie.Need-enum-told
+enum_told : tie.Need-enum_told-1
 enum_told c = search rules
 
-returns : tie.Need-returns
+returns : tie.Need-returns-in-Refused
 returns c =
-    let asked = c.before.before.taking-checks in
-    (asked.ensures, turned-refused dark _ _ _ asked.ensures c.enum_told.given.1)
+    let asked = c.before.before.taking_checks-verdict in
+    (asked.ensures, turned-refused dark _ _ _ asked.ensures c.enum_told-1.given.1)
 
 fill-requires : tie.Need-fill-requires
 fill-requires c κs =
-    let asked = c.before.before.before.before.taking-checks in
-    let told = c.before.before.enum-told2.given.1 in
-    omega (arith, taking-fits _ _ (sym asked.ensures ∙ told), c.outputs-of.ensures)
+    let asked = c.before.before.before.before.taking_checks-verdict in
+    let told = c.before.before.enum_told-in_default-1.given.1 in
+    omega (arith, taking-fits _ _ (sym asked.ensures ∙ told), c.outputs_of.ensures)
 
-returns-2 : tie.Need-returns-2
+returns-2 : tie.Need-returns
 returns-2 c =
     let filled = c.before.before in
     let told = filled.before.before.before in
-    let asked = told.before.before.taking-checks in
-    let fits = taking-fits _ _ (sym asked.ensures ∙ told.enum-told2.given.1) in (
+    let asked = told.before.before.taking_checks-verdict in
+    let fits = taking-fits _ _ (sym asked.ensures ∙ told.enum_told-in_default-1.given.1) in (
       asked.ensures,
-      filled.fill.ensures ∙ turned-accepted dark _ _ _ asked.ensures told.enum-told2.given.1 filled.before.outputs-of.ensures fits,
+      filled.fill.ensures ∙ turned-accepted dark _ _ _ asked.ensures told.enum_told-in_default-1.given.1 filled.before.outputs_of.ensures fits,
     )
 
-pub held-taking-spec : {M : Type 1} → statement M
-held-taking-spec =
+pub held_taking_spec : {M : Type 1} → statement M
+held_taking_spec =
     tie.close
     (tie.spec
     (λ c κs. search rules)

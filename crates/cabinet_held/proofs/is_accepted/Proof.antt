@@ -5,16 +5,16 @@ use borrow.Author.Rules.{rules}
 use Rattle.cabinet_held.proofs.is_accepted.Statement.{statement}
 use Rattle.cabinet_held.proofs.is_accepted.Tie as tie
 
-enum_told : tie.Need-enum-told
+enum_told : tie.Need-enum_told-1
 enum_told c = search rules
 
-returns : tie.Need-returns
+returns : tie.Need-returns-in-Accepted
 unfolding is_accepted
-returns c = rw (sym c.before.before.read.ensures ∙ c.enum_told.given.1)
+returns c = rw (sym c.before.before.read-verdict.ensures ∙ c.enum_told-1.given.1)
 
-returns-2 : tie.Need-returns-2
+returns-2 : tie.Need-returns-in-Refused
 unfolding is_accepted
-returns-2 c = rw (sym c.before.before.read.ensures ∙ c.enum-told2.given.1)
+returns-2 c = rw (sym c.before.before.read-verdict.ensures ∙ c.enum_told-in-Refused-1.given.1)
 
-pub is-accepted-spec : {M : Type 1} → statement M
-is-accepted-spec = tie.close (tie.spec (λ c κs. search rules) enum_told (λ c. search rules) returns returns-2)
+pub is_accepted_spec : {M : Type 1} → statement M
+is_accepted_spec = tie.close (tie.spec (λ c κs. search rules) enum_told (λ c. search rules) returns returns-2)

@@ -5,13 +5,13 @@ use borrow.Author.Rules.{rules}
 use Rattle.cabinet_held.proofs.meet.Statement.{statement}
 use Rattle.cabinet_held.proofs.meet.Tie as tie
 
-returns : tie.Need-returns
+returns : tie.Need-returns-then-first-own
 unfolding meet
-returns c = rw (lt-ltb _ _ c.if1.true)
+returns c = rw (lt-ltb _ _ c.if-first-own.true)
 
-returns-2 : tie.Need-returns-2
+returns-2 : tie.Need-returns
 unfolding meet
-returns-2 c = rw (le-ltb _ _ c.if1.false)
+returns-2 c = rw (le-ltb _ _ c.if-first-own.false)
 
-pub meet-spec : {M : Type 1} → statement M
-meet-spec = tie.close (tie.spec (λ c. search rules) (λ c. search rules) returns returns-2)
+pub meet_spec : {M : Type 1} → statement M
+meet_spec = tie.close (tie.spec (λ c. search rules) (λ c. search rules) returns returns-2)

@@ -14,20 +14,20 @@ met :
     c.meet.result ≡ t →
     let a = c.before.before.before.args in
     meet a.first a.count a.own (outputs_of a.personality.now) ≡ t
-met c e = let a = c.before.before.before.args in sym (ap (meet a.first a.count a.own) c.before.outputs-of.ensures) ∙ sym c.meet.ensures ∙ e
+met c e = let a = c.before.before.before.args in sym (ap (meet a.first a.count a.own) c.before.outputs_of.ensures) ∙ sym c.meet.ensures ∙ e
 
-returns : tie.Need-returns
+returns : tie.Need-returns-then-meet
 returns c =
     let told = c.before.before in
     let b = told.before.before.before.args.personality.now in
-    c.is-accepted.ensures ∙ sym (ap (◌&&◌ (is_accepted (verdict_of b))) (met told c.before.if1.true) ∙ and-true (is_accepted (verdict_of b)))
+    c.is_accepted.ensures ∙ sym (ap (◌&&◌ (is_accepted (verdict_of b))) (met told c.before.if-meet.true) ∙ and-true (is_accepted (verdict_of b)))
 
-returns-2 : tie.Need-returns-2
+returns-2 : tie.Need-returns
 returns-2 c =
     let told = c.before in
     let b = told.before.before.before.args.personality.now in
-    sym (and-false-right (is_accepted (verdict_of b)) (met told c.if1.false))
+    sym (and-false-right (is_accepted (verdict_of b)) (met told c.if-meet.false))
 
-pub meets-spec : {M : Type 1} → statement M
-meets-spec =
+pub meets_spec : {M : Type 1} → statement M
+meets_spec =
     tie.close (tie.spec (λ c κs. search rules) (λ c κs. search rules) (λ c κs. search rules) returns returns-2)

@@ -10,5 +10,5 @@ returns : tie.Need-returns
 unfolding outputs_of site_of group_count
 returns c = c.byte_at.ensures
 
-pub outputs-of-spec : {M : Type 1} → statement M
-outputs-of-spec = tie.close (tie.spec (λ c κs. search rules) returns)
+pub outputs_of_spec : {M : Type 1} → statement M
+outputs_of_spec = tie.close (tie.spec (λ c κs. search rules) returns)

@@ -8,13 +8,13 @@ use borrow.Author.Rules.{rules}
 use Rattle.cabinet_held.proofs.past_last.Statement.{statement}
 use Rattle.cabinet_held.proofs.past_last.Tie as tie
 
-returns : tie.Need-returns
+returns : tie.Need-returns-then-first-gt32
 unfolding past_last
-returns c = let past : 32 < c.before.args.first + c.before.args.count = omega (arith, c.if1.true) in sym (lt-ltb 32 _ past)
+returns c = let past : 32 < c.before.args.first + c.before.args.count = omega (arith, c.if-first-gt32.true) in sym (lt-ltb 32 _ past)
 
-returns-2 : tie.Need-returns-2
+returns-2 : tie.Need-returns
 unfolding past_last
 returns-2 c = refl
 
-pub past-last-spec : {M : Type 1} → statement M
-past-last-spec = tie.close (tie.spec returns (λ c. search rules) returns-2)
+pub past_last_spec : {M : Type 1} → statement M
+past_last_spec = tie.close (tie.spec returns (λ c. search rules) returns-2)

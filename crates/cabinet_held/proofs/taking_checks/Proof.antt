@@ -7,21 +7,21 @@ use borrow.Author.Rules.{rules}
 use Rattle.cabinet_held.proofs.taking_checks.Statement.{statement}
 use Rattle.cabinet_held.proofs.taking_checks.Tie as tie
 
-enum_told : tie.Need-enum-told
+enum_told : tie.Need-enum_told-1
 enum_told c = search rules
 
-returns : tie.Need-returns
+returns : tie.Need-returns-in-Refused
 unfolding taking_checks
-returns c = or-stop _ c.before.before.held-checks.ensures c.enum_told.given.1
+returns c = or-stop _ c.before.before.held_checks-verdict.ensures c.enum_told-1.given.1
 
-returns-2 : tie.Need-returns-2
+returns-2 : tie.Need-returns-then-room-lt32
 unfolding taking_checks
-returns-2 c = or-next c.before.before.before.held-checks.ensures c.before.enum-told2.given.1 (refuse-yes 14 0 (lt-ltb _ 32 c.if1.true))
+returns-2 c = or-next c.before.before.before.held_checks-verdict.ensures c.before.enum_told-in_default-1.given.1 (refuse-yes 14 0 (lt-ltb _ 32 c.if-room-lt32.true))
 
-returns-3 : tie.Need-returns-3
+returns-3 : tie.Need-returns
 unfolding taking_checks
-returns-3 c = or-next c.before.before.before.held-checks.ensures c.before.enum-told2.given.1 (sym (refuse-no 14 0 (le-ltb _ 32 c.if1.false)))
+returns-3 c = or-next c.before.before.before.held_checks-verdict.ensures c.before.enum_told-in_default-1.given.1 (sym (refuse-no 14 0 (le-ltb _ 32 c.if-room-lt32.false)))
 
-pub taking-checks-spec : {M : Type 1} → statement M
-taking-checks-spec =
+pub taking_checks_spec : {M : Type 1} → statement M
+taking_checks_spec =
     tie.close (tie.spec (λ c κs. search rules) enum_told returns (λ c. search rules) returns-2 returns-3)

@@ -11,28 +11,28 @@ use Rattle.cabinet_parts.proofs.meets.Tie as tie
 abbrev own : tie.Start → Record
 own c = record { held = c.args.held; first = c.args.own; length = c.args.size.now; personality = c.args.room.now; state = [] }
 
-returns : tie.Need-returns
+returns : tie.Need-returns-then-held-eq0
 unfolding meets_record has_outputs
-returns c = rw (free-record (own c.before) c.if1.true)
+returns c = rw (free-record (own c.before) c.if-held-eq0.true)
 
-held-size-requires : tie.Need-held-size-requires
+held-size-requires : tie.Need-held_size-length-requires
 held-size-requires c κs = search rules
 
-slice-aggregate-meets : tie.Need-slice-aggregate-meets
-slice-aggregate-meets c = room-length (own c.before.before.before.before) c.before.all.given.0 c.before.before.held-size.ensures
+slice-aggregate-meets : tie.Need-slice_bounds-meets-end
+slice-aggregate-meets c = room-length (own c.before.before.before.before) c.before.all-1.given.0 c.before.before.held_size-length.ensures
 
 meets-requires : tie.Need-meets-requires
 meets-requires c κs = search rules
 
-returns-2 : tie.Need-returns-2
+returns-2 : tie.Need-returns
 unfolding meets_record has_outputs
 returns-2 c =
     let sized = c.before.before.before in
     let start = sized.before.before in
-    rw (held-record (own start) sized.before.if1.false, ← room-part (own start) c.before.before.all.given.0 sized.held-size.ensures) c.meets.ensures
+    rw (held-record (own start) sized.before.if-held-eq0.false, ← room-part (own start) c.before.before.all-1.given.0 sized.held_size-length.ensures) c.meets.ensures
 
-pub meets-spec : {M : Type 1} → statement M
-meets-spec =
+pub meets_spec : {M : Type 1} → statement M
+meets_spec =
     tie.close
     (tie.spec
     returns

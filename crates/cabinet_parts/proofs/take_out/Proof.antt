@@ -18,43 +18,43 @@ own c = record { held = c.args.held.now; first = c.args.first.now; length = c.ar
 refusal-requires : tie.Need-refusal-requires
 refusal-requires c κs = search rules
 
-returns : tie.Need-returns
-returns c = taking-free _ _ (free-record _ c.before.if1.true) c.refusal.ensures
+returns : tie.Need-returns-then-mark-eq0
+returns c = taking-free _ _ (free-record _ c.before.if-mark-eq0.true) c.refusal.ensures
 
-held-size-requires : tie.Need-held-size-requires
+held-size-requires : tie.Need-held_size-count-requires
 held-size-requires c κs = search rules
 
-slice-aggregate-held-taking : tie.Need-slice-aggregate-held-taking
-slice-aggregate-held-taking c = room-length (own c.before.before.before.before.before.before.before.before.before) c.before.all2.given.0 c.before.before.before.held-size.ensures
+slice-aggregate-held-taking : tie.Need-slice_bounds-held_taking-end
+slice-aggregate-held-taking c = room-length (own c.before.before.before.before.before.before.before.before.before) c.before.all-2-1.given.0 c.before.before.before.held_size-count.ensures
 
-held-taking-requires : tie.Need-held-taking-requires
+held-taking-requires : tie.Need-held_taking-verdict-requires
 held-taking-requires c κs = search rules
 
 -- the record of the call, which is held, and its personality
-abbrev record_of : tie.After-held-taking → Record
+abbrev record_of : tie.After-held_taking-verdict → Record
 record_of c = own c.before.before.before.before.before.before.before.before.before.before.before
 
-is_held : (c : tie.After-held-taking) → is_free (record_of c) ≡ false
-is_held c = held-record (record_of c) c.before.before.before.before.before.before.before.before.if1.false
+is_held : (c : tie.After-held_taking-verdict) → is_free (record_of c) ≡ false
+is_held c = held-record (record_of c) c.before.before.before.before.before.before.before.before.if-mark-eq0.false
 
-whole : (c : tie.After-held-taking) → take c.before.before.before.before.before.held-size.result (record_of c).personality ≡ personality_of (record_of c)
-whole c = room-part (record_of c) c.before.before.before.all2.given.0 c.before.before.before.before.before.held-size.ensures
+whole : (c : tie.After-held_taking-verdict) → take c.before.before.before.before.before.held_size-count.result (record_of c).personality ≡ personality_of (record_of c)
+whole c = room-part (record_of c) c.before.before.before.all-2-1.given.0 c.before.before.before.before.before.held_size-count.ensures
 
-enum-known-verdict : tie.Need-enum-known-verdict
+enum-known-verdict : tie.Need-enum_known-verdict
 enum-known-verdict c = search rules
 
-refusal-requires-2 : tie.Need-refusal-requires-2
-refusal-requires-2 c κs = subst⁻¹ Near c.before.before.before.before.before.held-taking.ensures.0 (taking-near _ _ _) _ _ c.before.verdict.given.1
+refusal-requires-2 : tie.Need-refusal-requires-in-Refused
+refusal-requires-2 c κs = subst⁻¹ Near c.before.before.before.before.before.held_taking-verdict.ensures.0 (taking-near _ _ _) _ _ c.before.verdict-1.given.1
 
-same_length : tie.Need-same-length
+same_length : tie.Need-shape_of-outputs-in-Refused
 same_length c = search rules
 
-returns-2 : tie.Need-returns-2
+returns-2 : tie.Need-returns-in-Refused
 returns-2 c =
     let called = c.before.before.before.before.before.before in
-    taking-refused (record_of called) _ (is_held called) (whole called) called.held-taking.ensures.0 called.held-taking.ensures.1 c.before.before.verdict.given.1 c.refusal2.ensures
+    taking-refused (record_of called) _ (is_held called) (whole called) called.held_taking-verdict.ensures.0 called.held_taking-verdict.ensures.1 c.before.before.verdict-1.given.1 c.refusal-in-Refused.ensures
 
-enum_told : tie.Need-enum-told
+enum_told : tie.Need-enum_told-1
 enum_told c = search rules
 
 fill-requires : tie.Need-fill-requires
@@ -66,20 +66,20 @@ fill-requires-2 c κs = search rules
 fill-requires-3 : tie.Need-fill-requires-3
 fill-requires-3 c κs = search rules
 
-same-length-2 : tie.Need-same-length-2
+same-length-2 : tie.Need-shape_of-outputs
 same-length-2 c = search rules
 
-returns-3 : tie.Need-returns-3
+returns-3 : tie.Need-returns
 returns-3 c =
     let cleared = c.before.before.before.before in
     let told = cleared.before.before in
     let called = told.before.before.before.before in
-    taking-accepted (record_of called) _ (is_held called) (whole called) called.held-taking.ensures.0 called.held-taking.ensures.1 told.enum_told.given.1
-    (cleared-record (record_of called).length (record_of called).personality (record_of called).state cleared.before.fill-arg.given.0.1 cleared.fill.ensures
-    c.before.before.before.fill-arg2.given.0.1 c.before.before.fill2.ensures c.before.fill-arg3.given.0.1 c.fill3.ensures)
+    taking-accepted (record_of called) _ (is_held called) (whole called) called.held_taking-verdict.ensures.0 called.held_taking-verdict.ensures.1 told.enum_told-1.given.1
+    (cleared-record (record_of called).length (record_of called).personality (record_of called).state cleared.before.fill-arg-1.given.0.1 cleared.fill.ensures
+    c.before.before.before.fill-arg-2-1.given.0.1 c.before.before.fill-2.ensures c.before.fill-arg-3-1.given.0.1 c.fill-3.ensures)
 
-pub take-out-spec : {M : Type 1} → statement M
-take-out-spec =
+pub take_out_spec : {M : Type 1} → statement M
+take_out_spec =
     tie.close
     (tie.spec
     refusal-requires

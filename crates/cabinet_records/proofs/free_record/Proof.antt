@@ -8,5 +8,5 @@ returns : tie.Need-returns
 unfolding free_record
 returns c = refl
 
-pub free-record-spec : {M : Type 1} → statement M
-free-record-spec = tie.close (tie.spec returns)
+pub free_record_spec : {M : Type 1} → statement M
+free_record_spec = tie.close (tie.spec returns)

@@ -14,8 +14,8 @@ returns c =
     let sum = whole_sum why.phase why.alone why.gap why.left (λ k. bit k why.walks) in
     (omega arith, omega arith)
 
-pub line-length-spec : {M : Type 1} → statement M
-line-length-spec =
+pub line_length_spec : {M : Type 1} → statement M
+line_length_spec =
     tie.close
     (tie.spec
     (λ c κs. search rules)

@@ -8,21 +8,21 @@ use Rattle.panel_line.proofs.Lengths.{told-yes, told-no}
 use Rattle.panel_line.proofs.put_told.Statement.{statement}
 use Rattle.panel_line.proofs.put_told.Tie as tie
 
-put-reason-requires : tie.Need-put-reason-requires
+put-reason-requires : tie.Need-put_reason-requires
 put-reason-requires c κs =
     let a = c.before.before.before.args in
-    omega (arith, ap length (told-yes a.reason c.before.if1.true))
+    omega (arith, ap length (told-yes a.reason c.before.if-test.true))
 
-returns : tie.Need-returns
+returns : tie.Need-returns-then-test
 returns c =
     let put = c.before.before in
     let chosen = put.before.before in
-    put_as (told-yes chosen.before.before.args.reason chosen.if1.true) put.put-reason.ensures
+    put_as (told-yes chosen.before.before.args.reason chosen.if-test.true) put.put_reason.ensures
 
-returns-2 : tie.Need-returns-2
+returns-2 : tie.Need-returns-else-test
 returns-2 c =
     let a = c.before.before.args in
-    put_as (told-no a.reason c.if1.false) (put-none a.at a.out.now)
+    put_as (told-no a.reason c.if-test.false) (put-none a.at a.out-1.now)
 
-pub put-told-spec : {M : Type 1} → statement M
-put-told-spec = tie.close (tie.spec put-reason-requires (λ c. search rules) returns returns-2)
+pub put_told_spec : {M : Type 1} → statement M
+put_told_spec = tie.close (tie.spec put-reason-requires (λ c. search rules) returns returns-2)

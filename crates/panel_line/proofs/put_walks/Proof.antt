@@ -14,31 +14,31 @@ use Rattle.panel_line.proofs.Lengths.{walks-none, walks_more, walks-sum, walks-g
 use Rattle.panel_line.proofs.put_walks.Statement.{statement}
 use Rattle.panel_line.proofs.put_walks.Tie as tie
 
-abbrev invariant-loop : tie.invariant-loop
-invariant-loop set at out₀ next₀ k₀ out next k = (k ≤ 8) × Put (reasons_text (walks (λ i. bit i set) k)) at out₀ out next
+abbrev invariant-loop-k : tie.invariant-loop-k
+invariant-loop-k set at out₀ next₀ k₀ out next k = (k ≤ 8) × Put (reasons_text (walks (λ i. bit i set) k)) at out₀ out next
 
-abbrev decreases-loop : tie.decreases-loop
-decreases-loop set at out₀ next₀ k₀ out next k = 8 - k
+abbrev decreases-loop-k : tie.decreases-loop-k
+decreases-loop-k set at out₀ next₀ k₀ out next k = 8 - k
 
-loop-holds : tie.Need-loop-init invariant-loop decreases-loop
+loop-holds : tie.Need-loop-k-init invariant-loop-k decreases-loop-k
 loop-holds c =
     let a = c.before.args in
-    (omega arith, put_as (walks-none (λ i. bit i a.set)) (put-none a.at a.out.now))
+    (omega arith, put_as (walks-none (λ i. bit i a.set)) (put-none a.at a.out-1.now))
 
-cast-number : tie.Need-overflow-cast-number invariant-loop decreases-loop
+cast-number : tie.Need-overflow_cast-number invariant-loop-k decreases-loop-k
 cast-number c = search rules
 
-add-number : tie.Need-overflow-add-number invariant-loop decreases-loop
+add-number : tie.Need-overflow_add-number invariant-loop-k decreases-loop-k
 add-number c = search rules
 
-bit8-requires : tie.Need-bit8-requires invariant-loop decreases-loop
+bit8-requires : tie.Need-bit8-requires invariant-loop-k decreases-loop-k
 bit8-requires c κs = search rules
 
 -- the text up to the next movement is no longer than that of all of them
-put-told-requires : tie.Need-put-told-requires invariant-loop decreases-loop
+put-told-requires : tie.Need-put_told-next-requires invariant-loop-k decreases-loop-k
 put-told-requires c κs =
     let tested = c.before in
-    let at = tested.before.before.loop in
+    let at = tested.before.before.loop-k in
     let walking : ℕ → Bool = λ i. bit i tested.before.before.before.before.args.set in
     let all : at.k + 1 + (7 - at.k) ≡ 8 = omega arith in
     rw tested.bit8.ensures
@@ -51,36 +51,36 @@ put-told-requires c κs =
       ap (λ (n : ℕ). length (reasons_text (walks walking n))) all,
     ))
 
-add-k : tie.Need-overflow-add-k invariant-loop decreases-loop
+add-k : tie.Need-overflow_add-k invariant-loop-k decreases-loop-k
 add-k c = search rules
 
-loop-less : tie.Need-loop-smaller invariant-loop decreases-loop
+loop-less : tie.Need-loop-k-smaller invariant-loop-k decreases-loop-k
 loop-less c = search rules
 
-loop-again : tie.Need-loop-preserved invariant-loop decreases-loop
+loop-again : tie.Need-loop-k-preserved invariant-loop-k decreases-loop-k
 loop-again c =
     let put = c.before.before in
     let tested = put.before.before in
-    let at = tested.before.before.loop in
+    let at = tested.before.before.loop-k in
     let walking : ℕ → Bool = λ i. bit i tested.before.before.before.before.args.set in
-    (omega arith, put_as (walks_more walking at.k) (put_then at.invariant.1 (rw tested.bit8.ensures at put.put-told.ensures)))
+    (omega arith, put_as (walks_more walking at.k) (put_then at.invariant.1 (rw tested.bit8.ensures at put.put_told-next.ensures)))
 
-same_length : tie.Need-same-length invariant-loop decreases-loop
-same_length c = put-length c.before.loop.invariant.1
+same_length : tie.Need-shape_of-out invariant-loop-k decreases-loop-k
+same_length c = put-length c.before.loop-k.invariant.1
 
-returns : tie.Need-returns invariant-loop decreases-loop
+returns : tie.Need-returns invariant-loop-k decreases-loop-k
 returns c =
-    let at = c.before.loop in
+    let at = c.before.loop-k in
     let set = c.before.before.before.args.set in
     let all : 8 ≡ at.k = omega arith in
     put_as (ap (λ (n : ℕ). reasons_text (walks (λ i. bit i set) n)) all) at.invariant.1
 
-pub put-walks-spec : {M : Type 1} → statement M
-put-walks-spec =
+pub put_walks_spec : {M : Type 1} → statement M
+put_walks_spec =
     tie.close
     (tie.spec
-    invariant-loop
-    decreases-loop
+    invariant-loop-k
+    decreases-loop-k
     loop-holds
     cast-number
     add-number

@@ -11,57 +11,57 @@ use Rattle.panel_line.proofs.Lengths.{walks-none, walks-sum}
 use Rattle.panel_line.proofs.walks_length.Statement.{statement}
 use Rattle.panel_line.proofs.walks_length.Tie as tie
 
-abbrev invariant-loop : tie.invariant-loop
-invariant-loop set total₀ k₀ total k = (k ≤ 8) × (total ≡ length (reasons_text (walks (λ i. bit i set) k))) × (total ≤ 17 * k)
+abbrev invariant-loop-k : tie.invariant-loop-k
+invariant-loop-k set total₀ k₀ total k = (k ≤ 8) × (total ≡ length (reasons_text (walks (λ i. bit i set) k))) × (total ≤ 17 * k)
 
-abbrev decreases-loop : tie.decreases-loop
-decreases-loop set total₀ k₀ total k = 8 - k
+abbrev decreases-loop-k : tie.decreases-loop-k
+decreases-loop-k set total₀ k₀ total k = 8 - k
 
-loop-holds : tie.Need-loop-init invariant-loop decreases-loop
+loop-holds : tie.Need-loop-k-init invariant-loop-k decreases-loop-k
 loop-holds c = (omega arith, sym (ap length (walks-none (λ i. bit i c.args.set))), omega arith)
 
-cast-number : tie.Need-overflow-cast-number invariant-loop decreases-loop
+cast-number : tie.Need-overflow_cast-number invariant-loop-k decreases-loop-k
 cast-number c = search rules
 
-add-number : tie.Need-overflow-add-number invariant-loop decreases-loop
+add-number : tie.Need-overflow_add-number invariant-loop-k decreases-loop-k
 add-number c = search rules
 
-bit8-requires : tie.Need-bit8-requires invariant-loop decreases-loop
+bit8-requires : tie.Need-bit8-requires invariant-loop-k decreases-loop-k
 bit8-requires c κs = search rules
 
-told-length-requires : tie.Need-told-length-requires invariant-loop decreases-loop
+told-length-requires : tie.Need-told_length-total-requires invariant-loop-k decreases-loop-k
 told-length-requires c κs = search rules
 
-add_total : tie.Need-overflow-add-total invariant-loop decreases-loop
+add_total : tie.Need-overflow_add-total invariant-loop-k decreases-loop-k
 add_total c = search rules
 
-add-k : tie.Need-overflow-add-k invariant-loop decreases-loop
+add-k : tie.Need-overflow_add-k invariant-loop-k decreases-loop-k
 add-k c = search rules
 
-loop-less : tie.Need-loop-smaller invariant-loop decreases-loop
+loop-less : tie.Need-loop-k-smaller invariant-loop-k decreases-loop-k
 loop-less c = search rules
 
-loop-again : tie.Need-loop-preserved invariant-loop decreases-loop
+loop-again : tie.Need-loop-k-preserved invariant-loop-k decreases-loop-k
 loop-again c =
     let tested = c.before in
-    let at = tested.before.before.loop in
-    let own = rw tested.bit8.ensures at c.told-length.ensures.0 in
+    let at = tested.before.before.loop-k in
+    let own = rw tested.bit8.ensures at c.told_length-total.ensures.0 in
     let sum = walks-sum (λ i. bit i tested.before.before.before.args.set) at.k in
     (omega arith, omega arith, omega arith)
 
-returns : tie.Need-returns invariant-loop decreases-loop
+returns : tie.Need-returns invariant-loop-k decreases-loop-k
 returns c =
-    let at = c.before.loop in
+    let at = c.before.loop-k in
     let set = c.before.before.args.set in
     let all : at.k ≡ 8 = omega arith in
     (at.invariant.1 ∙ ap (λ (n : ℕ). length (reasons_text (walks (λ i. bit i set) n))) all, omega arith)
 
-pub walks-length-spec : {M : Type 1} → statement M
-walks-length-spec =
+pub walks_length_spec : {M : Type 1} → statement M
+walks_length_spec =
     tie.close
     (tie.spec
-    invariant-loop
-    decreases-loop
+    invariant-loop-k
+    decreases-loop-k
     loop-holds
     cast-number
     add-number

@@ -16,29 +16,29 @@ use Rattle.panel_reasons.proofs.Passing.{first_passing, passing-none, passing-al
 use Rattle.panel_reasons.proofs.walking.Statement.{statement}
 use Rattle.panel_reasons.proofs.walking.Tie as tie
 
-abbrev invariant-loop : tie.invariant-loop
-invariant-loop movements set₀ k₀ set k = (k ≤ 8) × (set ≡ set_of (first_passing (walking_among movements) k))
+abbrev invariant-loop-k : tie.invariant-loop-k
+invariant-loop-k movements set₀ k₀ set k = (k ≤ 8) × (set ≡ set_of (first_passing (walking_among movements) k))
 
-abbrev decreases-loop : tie.decreases-loop
-decreases-loop movements set₀ k₀ set k = 8 - k
+abbrev decreases-loop-k : tie.decreases-loop-k
+decreases-loop-k movements set₀ k₀ set k = 8 - k
 
-loop-holds : tie.Need-loop-init invariant-loop decreases-loop
+loop-holds : tie.Need-loop-k-init invariant-loop-k decreases-loop-k
 loop-holds c = (omega arith, passing-none (walking_among c.args.t1))
 
 -- the test of movement k
 own-walking :
-    (c : tie.After-is-walk-or-first invariant-loop decreases-loop) →
+    (c : tie.After-is_walk_or_first invariant-loop-k decreases-loop-k) →
     let head = c.before.before.before in
-    c.is-walk-or-first.result ≡ walking_among head.before.args.t1 head.loop.k
+    c.is_walk_or_first.result ≡ walking_among head.before.args.t1 head.loop-k.k
 unfolding walking_among
 own-walking c =
     let head = c.before.before.before in
     let start = head.before in
-    let inside : head.loop.k < length start.args.t1 = omega (arith, c.before.before.loop-test.true, start.well-formed.0.1.0.1) in
-    c.is-walk-or-first.ensures
-    ∙ ap (λ (m : Movement). is_walk_or_first m.stage) (entry-same start.args.t1 head.loop.k (record { stage = Idle; age = 0 }) idle inside)
+    let inside : head.loop-k.k < length start.args.t1 = omega (arith, c.before.before.loop-k-test.true, start.well_formed.0.1.0.1) in
+    c.is_walk_or_first.ensures
+    ∙ ap (λ (m : Movement). is_walk_or_first m.stage) (entry-same start.args.t1 head.loop-k.k (record { stage = Idle; age = 0 }) idle inside)
 
-loop-again : tie.Need-loop-preserved invariant-loop decreases-loop
+loop-again : tie.Need-loop-k-preserved invariant-loop-k decreases-loop-k
 loop-again c =
     let tested = c.before in
     let head = tested.before.before.before in
@@ -46,20 +46,20 @@ loop-again c =
     let own = own-walking tested in (
       omega arith,
       ⊎_elim
-          (λ w. w.2 ∙ passing-more walking head.loop.k head.loop.invariant.1 (sym own ∙ w.0.taken) w.1.ensures)
-          (λ w. w.1 ∙ passing-same walking head.loop.k head.loop.invariant.1 (sym own ∙ w.0.left))
-          c.if1.branch,
+          (λ w. w.2 ∙ passing-more walking head.loop-k.k head.loop-k.invariant.1 (sym own ∙ w.0.taken) w.1.ensures)
+          (λ w. w.1 ∙ passing-same walking head.loop-k.k head.loop-k.invariant.1 (sym own ∙ w.0.left))
+          c.if-is_walk_or_first.branch,
     )
 
-returns : tie.Need-returns invariant-loop decreases-loop
-returns c = let at = c.before.loop in passing-all (walking_among c.before.before.args.t1) at.invariant.1 (omega arith)
+returns : tie.Need-returns invariant-loop-k decreases-loop-k
+returns c = let at = c.before.loop-k in passing-all (walking_among c.before.before.args.t1) at.invariant.1 (omega arith)
 
-pub walking-spec : {M : Type 1} → statement M
-walking-spec =
+pub walking_spec : {M : Type 1} → statement M
+walking_spec =
     tie.close
     (tie.spec
-    invariant-loop
-    decreases-loop
+    invariant-loop-k
+    decreases-loop-k
     loop-holds
     (λ c. search rules)
     (λ c. search rules)

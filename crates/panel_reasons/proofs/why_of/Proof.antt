@@ -8,13 +8,13 @@ use Rattle.panel_reasons.proofs.Holdings.{holding-valid, line-told}
 use Rattle.panel_reasons.proofs.why_of.Statement.{statement}
 use Rattle.panel_reasons.proofs.why_of.Tie as tie
 
-abbrev start : tie.After-phase-times → tie.Start
+abbrev start : tie.After-phase_times-own → tie.Start
 start c = c.before.before.before.before.before
 
 -- the maximum count of a valid state is at most X
-sub-left : tie.Need-overflow-sub-left
+sub-left : tie.Need-overflow_sub-left
 sub-left c =
-    let given = ap (λ (t : PhaseTimes). t.maximum) c.before.before.phase-times.ensures in
+    let given = ap (λ (t : PhaseTimes). t.maximum) c.before.before.phase_times-own.ensures in
     omega (arith, given, (holding-valid (start c.before.before).requires).maximum)
 
 returns : tie.Need-returns
@@ -30,13 +30,13 @@ returns c =
             phase = refl;
             alone = c.before.no_other.ensures;
             gap = refl;
-            left = ap (λ (t : PhaseTimes). t.maximum - a.state.core.counts.maximum) timed.phase-times.ensures;
+            left = ap (λ (t : PhaseTimes). t.maximum - a.state.core.counts.maximum) timed.phase_times-own.ensures;
             walks = c.walking.ensures;
           });
       phase = omega (arith, (holding-valid entry.pre).phase, entry.pre.sound.phases.1);
     }
 
-pub why-of-spec : {M : Type 1} → statement M
-why-of-spec =
+pub why_of_spec : {M : Type 1} → statement M
+why_of_spec =
     tie.close
     (tie.spec (λ c κs. search rules) sub-left (λ c κs. (start c.before.before).requires) (λ c κs. search rules) returns)

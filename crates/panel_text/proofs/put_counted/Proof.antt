@@ -7,7 +7,7 @@ use Rattle.panel_text.proofs.put_counted.Tie as tie
 returns : tie.Need-returns
 returns c =
     let second = c.before.before in
-    put_then second.before.before.before.before.put-bytes.ensures second.put-decimal.ensures
+    put_then second.before.before.before.before.put_bytes-next.ensures second.put_decimal.ensures
 
-pub put-counted-spec : {M : Type 1} → statement M
-put-counted-spec = tie.close (tie.spec (λ c κs. search rules) (λ c κs. search rules) (λ c. search rules) returns)
+pub put_counted_spec : {M : Type 1} → statement M
+put_counted_spec = tie.close (tie.spec (λ c κs. search rules) (λ c κs. search rules) (λ c. search rules) returns)

@@ -10,20 +10,20 @@ use Rattle.panel_text.proofs.Texts.{line-start}
 use Rattle.panel_text.proofs.put_phase.Statement.{statement}
 use Rattle.panel_text.proofs.put_phase.Tie as tie
 
-same_length : tie.Need-same-length
+same_length : tie.Need-shape_of-out
 same_length c =
     let a = c.before.before.before.before.before.before.args in
-    omega (arith, length-set a.out.now 0 (65 + a.phase))
+    omega (arith, length-set a.out-1.now 0 (65 + a.phase))
 
 returns : tie.Need-returns
 returns c =
     let put = c.before.before in
     let a = put.before.before.before.before.args in
     put_as (line-start a.phase (omega arith))
-    (put_then {a = (65 + a.phase) ∷ []} {at = 0} {old = a.out.now} (record { place = refl; bytes = refl }) put.put-bytes.ensures)
+    (put_then {a = (65 + a.phase) ∷ []} {at = 0} {old = a.out-1.now} (record { place = refl; bytes = refl }) put.put_bytes.ensures)
 
-pub put-phase-spec : {M : Type 1} → statement M
-put-phase-spec =
+pub put_phase_spec : {M : Type 1} → statement M
+put_phase_spec =
     tie.close
     (tie.spec
     (λ c. search rules)

@@ -9,51 +9,51 @@ use Rattle.base_text.proofs.Puts.{put_as}
 use Rattle.panel_text.proofs.put_reason.Statement.{statement}
 use Rattle.panel_text.proofs.put_reason.Tie as tie
 
-enum_told : tie.Need-enum-told
+enum_told : tie.Need-enum_told-1
 enum_told c = search rules
 
-put-bytes-requires : tie.Need-put-bytes-requires
+put-bytes-requires : tie.Need-put_bytes-requires
 unfolding reason_text
-put-bytes-requires c κs = omega (arith, ap (λ (r : Reason). length (reason_text r)) c.before.before.enum_told.given.1)
+put-bytes-requires c κs = omega (arith, ap (λ (r : Reason). length (reason_text r)) c.before.before.enum_told-1.given.1)
 
-put-counted-requires : tie.Need-put-counted-requires
+put-counted-requires : tie.Need-put_counted-requires
 unfolding reason_text
-put-counted-requires c κs = omega (arith, ap (λ (r : Reason). length (reason_text r)) c.before.before.before.reason.given.1)
+put-counted-requires c κs = omega (arith, ap (λ (r : Reason). length (reason_text r)) c.before.before.before.reason-1.given.1)
 
-put-counted-requires-2 : tie.Need-put-counted-requires-2
+put-counted-requires-2 : tie.Need-put_counted-requires-in-Max
 unfolding reason_text
-put-counted-requires-2 c κs = omega (arith, ap (λ (r : Reason). length (reason_text r)) c.before.before.before.reason2.given.1)
+put-counted-requires-2 c κs = omega (arith, ap (λ (r : Reason). length (reason_text r)) c.before.before.before.reason-in-Max-1.given.1)
 
-put-counted-requires-3 : tie.Need-put-counted-requires-3
+put-counted-requires-3 : tie.Need-put_counted-requires-in-Walk
 unfolding reason_text
-put-counted-requires-3 c κs = omega (arith, ap (λ (r : Reason). length (reason_text r)) c.before.before.before.reason3.given.1)
+put-counted-requires-3 c κs = omega (arith, ap (λ (r : Reason). length (reason_text r)) c.before.before.before.reason-in-Walk-1.given.1)
 
-returns : tie.Need-returns
+returns : tie.Need-returns-in-NoOtherDemand
 unfolding reason_text
 returns c =
     let put = c.before.before in
-    put_as (ap reason_text put.before.before.before.enum_told.given.1) put.put-bytes.ensures
+    put_as (ap reason_text put.before.before.before.enum_told-1.given.1) put.put_bytes.ensures
 
-returns-2 : tie.Need-returns-2
+returns-2 : tie.Need-returns-in-Gap
 unfolding reason_text
 returns-2 c =
     let put = c.before.before in
-    put_as (ap reason_text put.before.before.before.before.reason.given.1) put.put-counted.ensures
+    put_as (ap reason_text put.before.before.before.before.reason-1.given.1) put.put_counted.ensures
 
-returns-3 : tie.Need-returns-3
+returns-3 : tie.Need-returns-in-Max
 unfolding reason_text
 returns-3 c =
     let put = c.before.before in
-    put_as (ap reason_text put.before.before.before.before.reason2.given.1) put.put-counted2.ensures
+    put_as (ap reason_text put.before.before.before.before.reason-in-Max-1.given.1) put.put_counted-in-Max.ensures
 
-returns-4 : tie.Need-returns-4
+returns-4 : tie.Need-returns-in-Walk
 unfolding reason_text
 returns-4 c =
     let put = c.before.before in
-    put_as (ap reason_text put.before.before.before.before.reason3.given.1) put.put-counted3.ensures
+    put_as (ap reason_text put.before.before.before.before.reason-in-Walk-1.given.1) put.put_counted-in-Walk.ensures
 
-pub put-reason-spec : {M : Type 1} → statement M
-put-reason-spec =
+pub put_reason_spec : {M : Type 1} → statement M
+put_reason_spec =
     tie.close
     (tie.spec
     enum_told

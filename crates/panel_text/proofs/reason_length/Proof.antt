@@ -8,33 +8,33 @@ use Rattle.panel_text.specs.Text.{reason_text}
 use Rattle.panel_text.proofs.reason_length.Statement.{statement}
 use Rattle.panel_text.proofs.reason_length.Tie as tie
 
-enum_told : tie.Need-enum-told
+enum_told : tie.Need-enum_told-1
 enum_told c = search rules
 
-returns : tie.Need-returns
+returns : tie.Need-returns-in-NoOtherDemand
 unfolding reason_text
-returns c = let told = ap (λ (r : Reason). length (reason_text r)) c.enum_told.given.1 in (omega arith, omega arith)
+returns c = let told = ap (λ (r : Reason). length (reason_text r)) c.enum_told-1.given.1 in (omega arith, omega arith)
 
-returns-2 : tie.Need-returns-2
+returns-2 : tie.Need-returns-in-Gap
 unfolding reason_text
 returns-2 c =
-    let told = ap (λ (r : Reason). length (reason_text r)) c.before.before.reason.given.1 in
+    let told = ap (λ (r : Reason). length (reason_text r)) c.before.before.reason-1.given.1 in
     (omega arith, omega arith)
 
-returns-3 : tie.Need-returns-3
+returns-3 : tie.Need-returns-in-Max
 unfolding reason_text
 returns-3 c =
-    let told = ap (λ (r : Reason). length (reason_text r)) c.before.before.reason2.given.1 in
+    let told = ap (λ (r : Reason). length (reason_text r)) c.before.before.reason-in-Max-1.given.1 in
     (omega arith, omega arith)
 
-returns-4 : tie.Need-returns-4
+returns-4 : tie.Need-returns-in-Walk
 unfolding reason_text
 returns-4 c =
-    let told = ap (λ (r : Reason). length (reason_text r)) c.before.before.reason3.given.1 in
+    let told = ap (λ (r : Reason). length (reason_text r)) c.before.before.reason-in-Walk-1.given.1 in
     (omega arith, omega arith)
 
-pub reason-length-spec : {M : Type 1} → statement M
-reason-length-spec =
+pub reason_length_spec : {M : Type 1} → statement M
+reason_length_spec =
     tie.close
     (tie.spec
     enum_told

@@ -16,61 +16,61 @@ use Rattle.read_callers.proofs.Called.{Called, called-none, called_more, called_
 use Rattle.read_callers.proofs.each_called.Statement.{statement}
 use Rattle.read_callers.proofs.each_called.Tie as tie
 
-abbrev invariant-loop : tie.invariant-loop
-invariant-loop s crossed head count all called₀ d₀ called d = (d ≤ count) × Called s called d
+abbrev invariant-loop-called : tie.invariant-loop-called
+invariant-loop-called s crossed head count all called₀ d₀ called d = (d ≤ count) × Called s called d
 
-abbrev decreases-loop : tie.decreases-loop
-decreases-loop s crossed head count all called₀ d₀ called d = count - d
+abbrev decreases-loop-called : tie.decreases-loop-called
+decreases-loop-called s crossed head count all called₀ d₀ called d = count - d
 
 -- what the accepted sections tell
-few : (c : tie.Start invariant-loop decreases-loop) → phase_count c.args.s.now ≤ 7
+few : (c : tie.Start invariant-loop-called decreases-loop-called) → phase_count c.args.s.now ≤ 7
 few c = (site-accepted _ c.requires.1).phases.1
 
-told : (c : tie.Start invariant-loop decreases-loop) → DetectorsAccepted c.args.s.now
+told : (c : tie.Start invariant-loop-called decreases-loop-called) → DetectorsAccepted c.args.s.now
 told c = detectors-accepted _ c.requires.2
 
 counted :
-    (c : tie.Start invariant-loop decreases-loop) → (c.args.layout.pedestrians - c.args.layout.detectors - 4) / 2 ≡ detector_count c.args.s.now
+    (c : tie.Start invariant-loop-called decreases-loop-called) → (c.args.layout.pedestrians - c.args.layout.detectors - 4) / 2 ≡ detector_count c.args.s.now
 unfolding detector_count
 counted c = ap (λ (n : ℕ). n / 2) (detectors-length c.requires.0)
 
-sub-count : tie.Need-overflow-sub-count invariant-loop decreases-loop
+sub-count : tie.Need-overflow_sub-count invariant-loop-called decreases-loop-called
 sub-count c = omega (arith, detectors-apart c.before.before.requires.0)
 
-sub-count-2 : tie.Need-overflow-sub-count-2 invariant-loop decreases-loop
+sub-count-2 : tie.Need-overflow_sub-count-2 invariant-loop-called decreases-loop-called
 sub-count-2 c = omega (arith, detectors-apart c.before.before.requires.0)
 
-shl-all : tie.Need-overflow-shl-all invariant-loop decreases-loop
+shl-all : tie.Need-overflow_shl-all invariant-loop-called decreases-loop-called
 shl-all c = let start = c.before.before.before in omega (arith, few start, start.requires.0.phasecount)
 
-sub-all : tie.Need-overflow-sub-all invariant-loop decreases-loop
+sub-all : tie.Need-overflow_sub-all invariant-loop-called decreases-loop-called
 sub-all c = let start = c.before.before.before in shifted-some 8 _ (omega (arith, few start, start.requires.0.phasecount))
 
-loop-holds : tie.Need-loop-init invariant-loop decreases-loop
+loop-holds : tie.Need-loop-called-init invariant-loop-called decreases-loop-called
 loop-holds c = (omega arith, called-none _ c.before.before.before.requires.3)
 
 -- the set has every phase
-abbrev is_full : tie.At-loop invariant-loop decreases-loop → Bool
-is_full c = eqb c.loop.called (1 * 2 ^ c.before.before.before.before.args.layout.phasecount % 2 ^ 8 - 1)
+abbrev is_full : tie.At-loop-called invariant-loop-called decreases-loop-called → Bool
+is_full c = eqb c.loop-called.called (1 * 2 ^ c.before.before.before.before.args.layout.phasecount % 2 ^ 8 - 1)
 
 -- a turn's detector is one of the site's
 turn :
-    (c : tie.In-loop invariant-loop decreases-loop) →
+    (c : tie.In-loop-called invariant-loop-called decreases-loop-called) →
     let layout = c.before.before.before.before.before.args.layout in
-    c.before.loop.d < (layout.pedestrians - layout.detectors - 4) / 2
-turn c = ltb-true _ _ (and_right (not (is_full c.before)) _ c.loop-test.true)
+    c.before.loop-called.d < (layout.pedestrians - layout.detectors - 4) / 2
+turn c = ltb-true _ _ (and_right (not (is_full c.before)) _ c.loop-called-test.true)
 
-own-within : (c : tie.In-loop invariant-loop decreases-loop) → c.before.loop.d < detector_count c.before.before.before.before.before.args.s.now
+own-within : (c : tie.In-loop-called invariant-loop-called decreases-loop-called) → c.before.loop-called.d < detector_count c.before.before.before.before.before.args.s.now
 own-within c = omega (arith, turn c, counted c.before.before.before.before.before)
 
-pair-at-requires : tie.Need-pair-at-requires invariant-loop decreases-loop
+pair-at-requires : tie.Need-pair_at-detector-requires invariant-loop-called decreases-loop-called
 unfolding pedestrians_head body_at
 pair-at-requires c κs =
     let start = c.before.before.before.before.before in
     let layout = start.args.layout in
     omega (
       arith,
-      record-within layout.detectors 2 ((layout.pedestrians - layout.detectors - 4) / 2) c.before.loop.d (turn c),
+      record-within layout.detectors 2 ((layout.pedestrians - layout.detectors - 4) / 2) c.before.loop-called.d (turn c),
       (told start).next,
       start.requires.0.pedestrians,
       detectors-apart start.requires.0,
@@ -78,74 +78,74 @@ pair-at-requires c κs =
 
 -- the record read is that of detector d
 record_read :
-    (c : tie.After-pair-at invariant-loop decreases-loop) →
+    (c : tie.After-pair_at-detector invariant-loop-called decreases-loop-called) →
     let at_loop = c.before.before in
     let b = at_loop.before.before.before.before.args.s.now in
-    let d = at_loop.loop.d in
-    (c.pair-at.result.first ≡ detector_phase b d)
-    × (c.pair-at.result.second ≡ detector_mode b d)
-    × (c.pair-at.result.first < phase_count b)
+    let d = at_loop.loop-called.d in
+    (c.pair_at-detector.result.first ≡ detector_phase b d)
+    × (c.pair_at-detector.result.second ≡ detector_mode b d)
+    × (c.pair_at-detector.result.first < phase_count b)
 unfolding detector_phase detector_mode
 record_read c =
     let at_loop = c.before.before in
     let start = at_loop.before.before.before.before in
     let head = start.requires.0.detectors in
-    let phase = rw head at c.pair-at.ensures.0 in
-    (phase, rw head at c.pair-at.ensures.1, omega (arith, phase, (told start).phase at_loop.loop.d (own-within c.before)))
+    let phase = rw head at c.pair_at-detector.ensures.0 in
+    (phase, rw head at c.pair_at-detector.ensures.1, omega (arith, phase, (told start).phase at_loop.loop-called.d (own-within c.before)))
 
-shl-called : tie.Need-overflow-shl-called invariant-loop decreases-loop
+shl-called : tie.Need-overflow_shl-called invariant-loop-called decreases-loop-called
 shl-called c = let read = c.before.before.before in omega (arith, (record_read read).2, few read.before.before.before.before.before.before)
 
-add-d : tie.Need-overflow-add-d invariant-loop decreases-loop
+add-d : tie.Need-overflow_add-d invariant-loop-called decreases-loop-called
 add-d c = search rules
 
-loop-less : tie.Need-loop-smaller invariant-loop decreases-loop
+loop-less : tie.Need-loop-called-smaller invariant-loop-called decreases-loop-called
 loop-less c = omega (arith, turn c.before.before.before)
 
-loop-again : tie.Need-loop-preserved invariant-loop decreases-loop
+loop-again : tie.Need-loop-called-preserved invariant-loop-called decreases-loop-called
 loop-again c =
     let read = c.before.before in
     let at_loop = read.before.before in
     let start = at_loop.before.before.before.before in
     let b = start.args.s.now in
-    let d = at_loop.loop.d in
-    let called = at_loop.loop.invariant.1 in
+    let d = at_loop.loop-called.d in
+    let called = at_loop.loop-called.invariant.1 in
     let held = record_read read in (
       omega (arith, own-within read.before, counted start),
       ⊎_elim
           (λ w. subst (λ (set : ℕ). Called b set (d + 1)) (sym w.2) (called_more b called held.0 held.1 (few start) held.2 w.0.taken))
           (λ w. subst (λ (set : ℕ). Called b set (d + 1)) (sym w.1) (called_same b called held.0 held.1 w.0.left))
-          c.if1.branch,
+          c.if-detector-ne0.branch,
     )
 
 -- where it has not, every detector has been passed
 whole :
-    (c : tie.After-loop invariant-loop decreases-loop) →
+    (c : tie.After-loop-called invariant-loop-called decreases-loop-called) →
     is_full c.before ≡ false →
-    c.before.loop.d ≡ detector_count c.before.before.before.before.before.args.s.now
+    c.before.loop-called.d ≡ detector_count c.before.before.before.before.before.args.s.now
 whole c e =
     let at_loop = c.before in
     let start = at_loop.before.before.before.before in
     let layout = start.args.layout in
     let count = (layout.pedestrians - layout.detectors - 4) / 2 in
-    let past = ltb-false at_loop.loop.d count (and-false-rest (ltb at_loop.loop.d count) c.loop-test.false (ap not e)) in
-    omega (arith, past, at_loop.loop.invariant.0, counted start)
+    let past = ltb-false at_loop.loop-called.d count (and-false-rest (ltb at_loop.loop-called.d count) c.loop-called-test.false (ap not e)) in
+    omega (arith, past, at_loop.loop-called.invariant.0, counted start)
 
-returns : tie.Need-returns invariant-loop decreases-loop
+returns : tie.Need-returns invariant-loop-called decreases-loop-called
 returns c =
     let at_loop = c.before in
     let start = at_loop.before.before.before.before in
     let phases = start.requires.0.phasecount in
     rw phases
-    (called-decided _ (few start) at_loop.loop.invariant.1 (omega (arith, at_loop.loop.invariant.0, counted start))
-    (λ e. whole c (ap (λ (n : ℕ). eqb at_loop.loop.called (1 * 2 ^ n % 2 ^ 8 - 1)) phases ∙ e)))
+    (called-decided _ (few start) at_loop.loop-called.invariant.1 (omega (arith, at_loop.loop-called.invariant.0, counted start))
+    (λ e. whole c (ap (λ (n : ℕ). eqb at_loop.loop-called.called (1 * 2 ^ n % 2 ^ 8 - 1)) phases ∙ e)))
 
-pub each-called-spec : {M : Type 1} → statement M
-each-called-spec =
+pub each_called_spec : {M : Type 1} → statement M
+each_called_spec =
     tie.close
     (tie.spec
-    invariant-loop
-    decreases-loop
+    invariant-loop-called
+    decreases-loop-called
     sub-count
     sub-count-2
     shl-all

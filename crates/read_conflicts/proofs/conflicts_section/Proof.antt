@@ -15,23 +15,23 @@ use Rattle.read_conflicts.specs.Refused.{refused_record, first_refused}
 use Rattle.read_conflicts.proofs.conflicts_section.Statement.{statement}
 use Rattle.read_conflicts.proofs.conflicts_section.Tie as tie
 
-enum_told : tie.Need-enum-told
+enum_told : tie.Need-enum_told-1
 enum_told c = search rules
 
 -- the head is held to the length that N needs
 checked :
-    (c : tie.After-sized-section) →
+    (c : tie.After-sized_section-head) →
     let b = c.before.before.before.args.s.now in
-    c.sized-section.result ≡ section_at b (conflicts_head b) 4 (eqb (body_length b (conflicts_head b)) (group_count b * 4))
-checked c = let laid = c.before.before.before.requires.0 in rw (laid.conflicts, laid.groupcount) at c.sized-section.ensures
+    c.sized_section-head.result ≡ section_at b (conflicts_head b) 4 (eqb (body_length b (conflicts_head b)) (group_count b * 4))
+checked c = let laid = c.before.before.before.requires.0 in rw (laid.conflicts, laid.groupcount) at c.sized_section-head.ensures
 
-returns : tie.Need-returns
+returns : tie.Need-returns-in-Refused
 unfolding conflicts_section
-returns c = or-stop _ (checked c.before.before) c.enum_told.given.1
+returns c = or-stop _ (checked c.before.before) c.enum_told-1.given.1
 
 -- the head has passed: all records are there
 fits :
-    (c : tie.After-enum-told2) →
+    (c : tie.In_default) →
     let start = c.before.before.before.before.before in
     MatrixFits start.args.s.now start.args.layout
 unfolding conflicts_head
@@ -46,35 +46,35 @@ fits c =
       some_groups = omega (arith, laid.groupcount, site.groups.0);
       few_groups = omega (arith, laid.groupcount, site.groups.1);
       sets = rw (laid.groups, laid.groupcount) (groups-accepted _ pre.2).next;
-      conflicts = records-held _ _ 4 _ 4 (sym at_section.sized-section.ensures ∙ c.enum-told2.given.1);
+      conflicts = records-held _ _ 4 _ 4 (sym at_section.sized_section-head.ensures ∙ c.enum_told-in_default-1.given.1);
     }
 
-surely-right-requires : tie.Need-surely-right-requires
+surely-right-requires : tie.Need-surely_right-requires
 surely-right-requires c κs = fits c
 
 -- the head has passed: the answer is that of the two searches
 after_head :
-    (c : tie.After-enum-told2) {v : Verdict} →
+    (c : tie.In_default) {v : Verdict} →
     let b = c.before.before.before.before.before.args.s.now in
     v ≡ (first_refused b 9 or_else first_refused b 10) →
     v ≡ conflicts_section b
 unfolding conflicts_section first_refused refused_record
-after_head c e = or-next (checked c.before.before) c.enum-told2.given.1 e
+after_head c e = or-next (checked c.before.before) c.enum_told-in_default-1.given.1 e
 
-returns-2 : tie.Need-returns-2
+returns-2 : tie.Need-returns-then-surely_right
 unfolding first_refused refused_record
 returns-2 c =
-    let good = c.before.surely-right.ensures c.if1.true in
+    let good = c.before.surely_right.ensures c.if-surely_right.true in
     after_head c.before.before (or-next (all-good _ _ _ _ (λ g l. (good g l).0)) refl (all-good _ _ _ _ (λ g l. (good g l).1)))
 
 searched-requires : tie.Need-searched-requires
 searched-requires c κs = fits c.before.before
 
-returns-3 : tie.Need-returns-3
+returns-3 : tie.Need-returns
 returns-3 c = after_head c.before.before.before c.searched.ensures
 
-pub conflicts-section-spec : {M : Type 1} → statement M
-conflicts-section-spec =
+pub conflicts_section_spec : {M : Type 1} → statement M
+conflicts_section_spec =
     tie.close
     (tie.spec
     (λ c. search rules)

@@ -11,7 +11,7 @@ use Rattle.read_conflicts_matrix.proofs.band_tile.Statement.{statement}
 use Rattle.read_conflicts_matrix.proofs.band_tile.Tie as tie
 
 -- the bytes of the bands before
-near : (c : tie.After-shared-slice-known) → let at = c.before.args in 8 * at.a * at.width ≤ 32 * 4
+near : (c : tie.After-shared_slice_known-1) → let at = c.before.args in 8 * at.a * at.width ≤ 32 * 4
 near c =
     let at = c.before.args in
     let before : 8 * at.a ≤ 32 = omega arith in
@@ -20,7 +20,7 @@ near c =
 
 -- row r is in the bytes
 held :
-    (c : tie.After-shared-slice-known) (r : ℕ) →
+    (c : tie.After-shared_slice_known-1) (r : ℕ) →
     let at = c.before.args in
     8 * at.a + r < at.count →
     at.head + 4 + 8 * at.a * at.width + at.k + r * at.width < length at.s.now
@@ -29,20 +29,20 @@ held c r l =
     let at = c.before.args in
     omega (arith, record-within at.head at.width at.count (8 * at.a + r) l, add-mul (8 * at.a) r at.width)
 
-mul-at-2 : tie.Need-overflow-mul-at-2
+mul-at-2 : tie.Need-overflow_mul-at-2
 mul-at-2 c = omega (arith, near c)
 
-add-at-2 : tie.Need-overflow-add-at-2
+add-at-2 : tie.Need-overflow_add-at-2
 add-at-2 c = omega (arith, near c)
 
-add-at-3 : tie.Need-overflow-add-at-3
+add-at-3 : tie.Need-overflow_add-at-3
 add-at-3 c = omega (arith, near c)
 
 tile-requires : tie.Need-tile-requires
 tile-requires c κs =
     (omega (arith, near c.before), omega arith, omega arith, λ r l. held c.before r (omega (arith, l)))
 
-returns : tie.Need-returns
+returns : tie.Need-returns-then-left-lt8
 returns c =
     let at = c.before.before.before.args in
     band-rows at.head at.width at.count at.a at.k _ (λ r h l. omega (arith, l)) c.tile.ensures
@@ -51,13 +51,13 @@ tile-requires-2 : tie.Need-tile-requires-2
 tile-requires-2 c κs =
     (omega (arith, near c.before), omega arith, omega arith, λ r l. held c.before r (omega (arith, l)))
 
-returns-2 : tie.Need-returns-2
+returns-2 : tie.Need-returns
 returns-2 c =
     let at = c.before.before.before.args in
-    band-rows at.head at.width at.count at.a at.k _ (λ r h l. h) c.tile2.ensures
+    band-rows at.head at.width at.count at.a at.k _ (λ r h l. h) c.tile-2.ensures
 
-pub band-tile-spec : {M : Type 1} → statement M
-band-tile-spec =
+pub band_tile_spec : {M : Type 1} → statement M
+band_tile_spec =
     tie.close
     (tie.spec
     (λ c. search rules)

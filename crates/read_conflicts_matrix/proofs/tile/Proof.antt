@@ -7,67 +7,67 @@ use native.Mathlib.Omega.{arith}
 use Rattle.read_conflicts_matrix.proofs.tile.Statement.{statement}
 use Rattle.read_conflicts_matrix.proofs.tile.Tie as tie
 
-abbrev invariant-loop : tie.invariant-loop
-invariant-loop s at stride rows t₀ r₀ t r = Stacked s at stride rows r t
+abbrev invariant-loop-r : tie.invariant-loop-r
+invariant-loop-r s at stride rows t₀ r₀ t r = Stacked s at stride rows r t
 
-abbrev decreases-loop : tie.decreases-loop
-decreases-loop s at stride rows t₀ r₀ t r = r
+abbrev decreases-loop-r : tie.decreases-loop-r
+decreases-loop-r s at stride rows t₀ r₀ t r = r
 
-loop-holds : tie.Need-loop-init invariant-loop decreases-loop
+loop-holds : tie.Need-loop-r-init invariant-loop-r decreases-loop-r
 loop-holds c = stacked-none
 
-sub-r : tie.Need-overflow-sub-r invariant-loop decreases-loop
+sub-r : tie.Need-overflow_sub-r invariant-loop-r decreases-loop-r
 sub-r c = search rules
 
 -- one more row has room in 64 bits
-room : (c : tie.In-loop invariant-loop decreases-loop) → c.before.loop.t < 2 ^ 56
-room c = stacked-room c.before.loop.invariant c.before.before.before.requires.2 c.loop-test.true
+room : (c : tie.In-loop-r invariant-loop-r decreases-loop-r) → c.before.loop-r.t < 2 ^ 56
+room c = stacked-room c.before.loop-r.invariant c.before.before.before.requires.2 c.loop-r-test.true
 
 -- the row is near
 near :
-    (c : tie.In-loop invariant-loop decreases-loop) →
-    (c.before.loop.r - 1) * c.before.before.before.args.stride ≤ 28
+    (c : tie.In-loop-r invariant-loop-r decreases-loop-r) →
+    (c.before.loop-r.r - 1) * c.before.before.before.args.stride ≤ 28
 near c =
     let start = c.before.before.before in
-    let r = c.before.loop.r in
-    omega (arith, mul-le-mul_left (r - 1) start.requires.1, start.requires.2, c.before.loop.invariant.within)
+    let r = c.before.loop-r.r in
+    omega (arith, mul-le-mul_left (r - 1) start.requires.1, start.requires.2, c.before.loop-r.invariant.within)
 
-mul-t : tie.Need-overflow-mul-t invariant-loop decreases-loop
+mul-t : tie.Need-overflow_mul-t invariant-loop-r decreases-loop-r
 mul-t c = omega (arith, room c)
 
-mul-byte-in : tie.Need-overflow-mul-byte-in invariant-loop decreases-loop
+mul-byte-in : tie.Need-overflow_mul-r invariant-loop-r decreases-loop-r
 mul-byte-in c = omega (arith, near c)
 
-add-byte-in : tie.Need-overflow-add-byte-in invariant-loop decreases-loop
+add-byte-in : tie.Need-overflow_add-at invariant-loop-r decreases-loop-r
 add-byte-in c = omega (arith, near c, c.before.before.before.requires.0)
 
-byte-in-requires : tie.Need-byte-in-requires invariant-loop decreases-loop
+byte-in-requires : tie.Need-byte_in-requires invariant-loop-r decreases-loop-r
 byte-in-requires c κs =
-    c.before.before.before.requires.3 (c.before.loop.r - 1) (omega (arith, c.loop-test.true, c.before.loop.invariant.within))
+    c.before.before.before.requires.3 (c.before.loop-r.r - 1) (omega (arith, c.loop-r-test.true, c.before.loop-r.invariant.within))
 
-cast_t : tie.Need-overflow-cast-t invariant-loop decreases-loop
+cast_t : tie.Need-overflow_cast-t invariant-loop-r decreases-loop-r
 cast_t c = search rules
 
-add-t : tie.Need-overflow-add-t invariant-loop decreases-loop
+add-t : tie.Need-overflow_add-t invariant-loop-r decreases-loop-r
 add-t c = omega (arith, room c.before)
 
-loop-less : tie.Need-loop-smaller invariant-loop decreases-loop
+loop-less : tie.Need-loop-r-smaller invariant-loop-r decreases-loop-r
 loop-less c = search rules
 
-loop-again : tie.Need-loop-preserved invariant-loop decreases-loop
+loop-again : tie.Need-loop-r-preserved invariant-loop-r decreases-loop-r
 loop-again c =
     let at_loop = c.before.before in
-    stacked-more at_loop.loop.invariant c.before.loop-test.true (omega arith) c.byte-in.ensures
+    stacked-more at_loop.loop-r.invariant c.before.loop-r-test.true (omega arith) c.byte_in.ensures
 
-returns : tie.Need-returns invariant-loop decreases-loop
-returns c = stacked-whole c.before.loop.invariant c.loop-test.false
+returns : tie.Need-returns invariant-loop-r decreases-loop-r
+returns c = stacked-whole c.before.loop-r.invariant c.loop-r-test.false
 
-pub tile-spec : {M : Type 1} → statement M
-tile-spec =
+pub tile_spec : {M : Type 1} → statement M
+tile_spec =
     tie.close
     (tie.spec
-    invariant-loop
-    decreases-loop
+    invariant-loop-r
+    decreases-loop-r
     loop-holds
     sub-r
     mul-t

@@ -13,93 +13,93 @@ use native.Mathlib.Omega.{arith}
 use Rattle.read_conflicts_quick.proofs.band.Statement.{statement}
 use Rattle.read_conflicts_quick.proofs.band.Tie as tie
 
-abbrev invariant-loop : tie.invariant-loop
-invariant-loop s layout k sets groups own members a₀ a = (8 * a < groups + 8) × (k < a) × ((i : ℕ) → k ≤ i → i < a → BlockRight s i k)
+abbrev invariant-loop-a : tie.invariant-loop-a
+invariant-loop-a s layout k sets groups own members a₀ a = (8 * a < groups + 8) × (k < a) × ((i : ℕ) → k ≤ i → i < a → BlockRight s i k)
 
-abbrev decreases-loop : tie.decreases-loop
-decreases-loop s layout k sets groups own members a₀ a = groups - a
+abbrev decreases-loop-a : tie.decreases-loop-a
+decreases-loop-a s layout k sets groups own members a₀ a = groups - a
 
 -- the band's own sets
 rows :
-    (c : tie.After-mirrored invariant-loop decreases-loop) →
+    (c : tie.After-mirrored-members invariant-loop-a decreases-loop-a) →
     let start = c.before.before.before in
     SetRows start.args.s.now start.args.k (get_or start.args.t4 start.args.k 0)
 rows c = let pre = c.before.before.before.requires in pre.2.told _ (omega (arith, pre.0.laid.groupcount))
 
-cast-groups : tie.Need-overflow-cast-groups invariant-loop decreases-loop
+cast-groups : tie.Need-overflow_cast-groups invariant-loop-a decreases-loop-a
 cast-groups c = search rules
 
-mul-own : tie.Need-overflow-mul-own invariant-loop decreases-loop
+mul-own : tie.Need-offset_bounds-sets-k invariant-loop-a decreases-loop-a
 mul-own c = search rules
 
-array-read-own : tie.Need-array-read-own invariant-loop decreases-loop
+array-read-own : tie.Need-bounds-sets-k invariant-loop-a decreases-loop-a
 array-read-own c = search rules
 
-mirrored-requires : tie.Need-mirrored-requires invariant-loop decreases-loop
+mirrored-requires : tie.Need-mirrored-members-requires invariant-loop-a decreases-loop-a
 mirrored-requires c κs = search rules
 
-own-block-requires : tie.Need-own-block-requires invariant-loop decreases-loop
+own-block-requires : tie.Need-own_block-requires invariant-loop-a decreases-loop-a
 own-block-requires c κs =
-    let pre = c.before.before.before.requires in (pre.0, pre.1, rows c, member-rows (rows c) c.mirrored.ensures)
+    let pre = c.before.before.before.requires in (pre.0, pre.1, rows c, member-rows (rows c) c.mirrored-members.ensures)
 
-returns : tie.Need-returns invariant-loop decreases-loop
+returns : tie.Need-returns-then-not-own_block invariant-loop-a decreases-loop-a
 returns c e = absurd (never_both e refl)
 
-add_a : tie.Need-overflow-add-a invariant-loop decreases-loop
+add_a : tie.Need-overflow_add-a invariant-loop-a decreases-loop-a
 add_a c = search rules
 
-loop-holds : tie.Need-loop-init invariant-loop decreases-loop
+loop-holds : tie.Need-loop-a-init invariant-loop-a decreases-loop-a
 loop-holds c =
-    (omega arith, omega arith, band-first _ _ (c.before.own_Block.ensures (not-false _ c.if1.false)))
+    (omega arith, omega arith, band-first _ _ (c.before.own_Block.ensures (not-false _ c.if-not-own_block.false)))
 
-mul-loop : tie.Need-overflow-mul-loop invariant-loop decreases-loop
+mul-loop : tie.Need-overflow_mul-a invariant-loop-a decreases-loop-a
 mul-loop c = search rules
 
-mul-block : tie.Need-overflow-mul-block invariant-loop decreases-loop
+mul-block : tie.Need-offset_bounds-sets-a invariant-loop-a decreases-loop-a
 mul-block c = search rules
 
-array-read-block : tie.Need-array-read-block invariant-loop decreases-loop
+array-read-block : tie.Need-bounds-sets-a invariant-loop-a decreases-loop-a
 array-read-block c = search rules
 
-block-requires : tie.Need-block-requires invariant-loop decreases-loop
+block-requires : tie.Need-block-requires invariant-loop-a decreases-loop-a
 block-requires c κs =
     let at_mirror = c.before.before.before.before in
     let pre = at_mirror.before.before.before.requires in (
       pre.0,
-      c.loop-test.true,
-      c.before.loop.invariant.1,
-      pre.2.told _ (omega (arith, pre.0.laid.groupcount, c.loop-test.true)),
-      member-rows (rows at_mirror) at_mirror.mirrored.ensures,
+      c.loop-a-test.true,
+      c.before.loop-a.invariant.1,
+      pre.2.told _ (omega (arith, pre.0.laid.groupcount, c.loop-a-test.true)),
+      member-rows (rows at_mirror) at_mirror.mirrored-members.ensures,
     )
 
-returns-2 : tie.Need-returns-2 invariant-loop decreases-loop
+returns-2 : tie.Need-returns-then-not-block invariant-loop-a decreases-loop-a
 returns-2 c e = absurd (never_both e refl)
 
-add-a-2 : tie.Need-overflow-add-a-2 invariant-loop decreases-loop
+add-a-2 : tie.Need-overflow_add-a-in-loop-a invariant-loop-a decreases-loop-a
 add-a-2 c = search rules
 
-loop-less : tie.Need-loop-smaller invariant-loop decreases-loop
+loop-less : tie.Need-loop-a-smaller invariant-loop-a decreases-loop-a
 loop-less c = search rules
 
-loop-again : tie.Need-loop-preserved invariant-loop decreases-loop
+loop-again : tie.Need-loop-a-preserved invariant-loop-a decreases-loop-a
 loop-again c =
     let at_loop = c.before.before.before in (
       omega arith,
       omega arith,
-      upto-more (λ i. BlockRight _ i _) _ _ at_loop.loop.invariant.2 (c.before.block.ensures (not-false _ c.if2.false)),
+      upto-more (λ i. BlockRight _ i _) _ _ at_loop.loop-a.invariant.2 (c.before.block.ensures (not-false _ c.if-not-block.false)),
     )
 
-returns-3 : tie.Need-returns-3 invariant-loop decreases-loop
+returns-3 : tie.Need-returns invariant-loop-a decreases-loop-a
 returns-3 c e =
     let pre = c.before.before.before.before.before.before.before.requires in
-    band-whole _ _ c.before.loop.a c.before.loop.invariant.2 (omega (arith, pre.0.laid.groupcount))
+    band-whole _ _ c.before.loop-a.a c.before.loop-a.invariant.2 (omega (arith, pre.0.laid.groupcount))
 
-pub band-spec : {M : Type 1} → statement M
-band-spec =
+pub band_spec : {M : Type 1} → statement M
+band_spec =
     tie.close
     (tie.spec
-    invariant-loop
-    decreases-loop
+    invariant-loop-a
+    decreases-loop-a
     cast-groups
     mul-own
     array-read-own

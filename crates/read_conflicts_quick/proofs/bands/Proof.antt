@@ -13,50 +13,50 @@ use native.Mathlib.Omega.{arith}
 use Rattle.read_conflicts_quick.proofs.bands.Statement.{statement}
 use Rattle.read_conflicts_quick.proofs.bands.Tie as tie
 
-abbrev invariant-loop : tie.invariant-loop
-invariant-loop s layout groups sets k₀ k = (8 * k < groups + 8) × ((i : ℕ) → 0 ≤ i → i < k → BandRight s i)
+abbrev invariant-loop-k : tie.invariant-loop-k
+invariant-loop-k s layout groups sets k₀ k = (8 * k < groups + 8) × ((i : ℕ) → 0 ≤ i → i < k → BandRight s i)
 
-abbrev decreases-loop : tie.decreases-loop
-decreases-loop s layout groups sets k₀ k = groups - k
+abbrev decreases-loop-k : tie.decreases-loop-k
+decreases-loop-k s layout groups sets k₀ k = groups - k
 
-cast-groups : tie.Need-overflow-cast-groups invariant-loop decreases-loop
+cast-groups : tie.Need-overflow_cast-groups invariant-loop-k decreases-loop-k
 cast-groups c = search rules
 
-set-tiles-requires : tie.Need-set-tiles-requires invariant-loop decreases-loop
+set-tiles-requires : tie.Need-set_tiles-sets-requires invariant-loop-k decreases-loop-k
 set-tiles-requires c κs = search rules
 
-loop-holds : tie.Need-loop-init invariant-loop decreases-loop
+loop-holds : tie.Need-loop-k-init invariant-loop-k decreases-loop-k
 loop-holds c = (omega arith, λ i h l. absurd (not-suc-le-zero l))
 
-mul-loop : tie.Need-overflow-mul-loop invariant-loop decreases-loop
+mul-loop : tie.Need-overflow_mul-k invariant-loop-k decreases-loop-k
 mul-loop c = search rules
 
-band-requires : tie.Need-band-requires invariant-loop decreases-loop
+band-requires : tie.Need-band-requires invariant-loop-k decreases-loop-k
 band-requires c κs = search rules
 
-returns : tie.Need-returns invariant-loop decreases-loop
+returns : tie.Need-returns-then-not-band invariant-loop-k decreases-loop-k
 returns c e = absurd (never_both e refl)
 
-add-k : tie.Need-overflow-add-k invariant-loop decreases-loop
+add-k : tie.Need-overflow_add-k invariant-loop-k decreases-loop-k
 add-k c = search rules
 
-loop-less : tie.Need-loop-smaller invariant-loop decreases-loop
+loop-less : tie.Need-loop-k-smaller invariant-loop-k decreases-loop-k
 loop-less c = search rules
 
-loop-again : tie.Need-loop-preserved invariant-loop decreases-loop
+loop-again : tie.Need-loop-k-preserved invariant-loop-k decreases-loop-k
 loop-again c =
     let at_loop = c.before.before.before in
-    (omega arith, upto-more (λ i. BandRight _ i) _ _ at_loop.loop.invariant.1 (c.before.band.ensures (not-false _ c.if1.false)))
+    (omega arith, upto-more (λ i. BandRight _ i) _ _ at_loop.loop-k.invariant.1 (c.before.band.ensures (not-false _ c.if-not-band.false)))
 
-returns-2 : tie.Need-returns-2 invariant-loop decreases-loop
-returns-2 c e = all_sound _ c.before.loop.k c.before.loop.invariant.1 (omega arith)
+returns-2 : tie.Need-returns invariant-loop-k decreases-loop-k
+returns-2 c e = all_sound _ c.before.loop-k.k c.before.loop-k.invariant.1 (omega arith)
 
-pub bands-spec : {M : Type 1} → statement M
-bands-spec =
+pub bands_spec : {M : Type 1} → statement M
+bands_spec =
     tie.close
     (tie.spec
-    invariant-loop
-    decreases-loop
+    invariant-loop-k
+    decreases-loop-k
     cast-groups
     set-tiles-requires
     loop-holds

@@ -18,61 +18,61 @@ use Rattle.read_conflicts_quick.proofs.below.Tie as tie
 abbrev past : List ℕ → ℕ → Bool
 past b g = leb (2 ^ group_count b) (conflict_set b g)
 
-abbrev invariant-loop : tie.invariant-loop
-invariant-loop s layout groups place all₀ g₀ all g = (g ≤ groups) × (leb (2 ^ group_count s) all ≡ any_of (past s) g)
+abbrev invariant-loop-g : tie.invariant-loop-g
+invariant-loop-g s layout groups place all₀ g₀ all g = (g ≤ groups) × (leb (2 ^ group_count s) all ≡ any_of (past s) g)
 
-abbrev decreases-loop : tie.decreases-loop
-decreases-loop s layout groups place all₀ g₀ all g = groups - g
+abbrev decreases-loop-g : tie.decreases-loop-g
+decreases-loop-g s layout groups place all₀ g₀ all g = groups - g
 
-cast-groups : tie.Need-overflow-cast-groups invariant-loop decreases-loop
+cast-groups : tie.Need-overflow_cast-groups invariant-loop-g decreases-loop-g
 cast-groups c = search rules
 
-add-place : tie.Need-overflow-add-place invariant-loop decreases-loop
+add-place : tie.Need-overflow_add-place invariant-loop-g decreases-loop-g
 add-place c = search rules
 
-loop-holds : tie.Need-loop-init invariant-loop decreases-loop
+loop-holds : tie.Need-loop-g-init invariant-loop-g decreases-loop-g
 unfolding any_of
 loop-holds c = (omega arith, reaches-nothing (group_count c.before.before.before.args.s.now))
 
-mul-four-in : tie.Need-overflow-mul-four-in invariant-loop decreases-loop
+mul-four-in : tie.Need-overflow_mul-g invariant-loop-g decreases-loop-g
 mul-four-in c = search rules
 
-add-four-in : tie.Need-overflow-add-four-in invariant-loop decreases-loop
+add-four-in : tie.Need-overflow_add-place-in-loop-g invariant-loop-g decreases-loop-g
 add-four-in c = search rules
 
-four-in-requires : tie.Need-four-in-requires invariant-loop decreases-loop
+four-in-requires : tie.Need-four_in-all-requires invariant-loop-g decreases-loop-g
 unfolding body_at
 four-in-requires c κs = search rules
 
-add-g : tie.Need-overflow-add-g invariant-loop decreases-loop
+add-g : tie.Need-overflow_add-g invariant-loop-g decreases-loop-g
 add-g c = search rules
 
-loop-less : tie.Need-loop-smaller invariant-loop decreases-loop
+loop-less : tie.Need-loop-g-smaller invariant-loop-g decreases-loop-g
 loop-less c = search rules
 
-loop-again : tie.Need-loop-preserved invariant-loop decreases-loop
+loop-again : tie.Need-loop-g-preserved invariant-loop-g decreases-loop-g
 unfolding conflict_set record_at body_at any_of
 loop-again c =
     let at_loop = c.before.before in
     let head = at_loop.before.before.before.before.requires.laid.conflicts in
-    (omega arith, rw (add-one, union-reaches, at_loop.loop.invariant.1, c.four-in.ensures, head))
+    (omega arith, rw (add-one, union-reaches, at_loop.loop-g.invariant.1, c.four_in-all.ensures, head))
 
-reaches32-requires : tie.Need-reaches32-requires invariant-loop decreases-loop
+reaches32-requires : tie.Need-reaches32-requires invariant-loop-g decreases-loop-g
 reaches32-requires c κs = search rules
 
-returns : tie.Need-returns invariant-loop decreases-loop
+returns : tie.Need-returns invariant-loop-g decreases-loop-g
 returns c =
     let at_loop = c.before.before in
     let n = at_loop.before.before.before.before.requires.laid.groupcount in
-    let last : at_loop.loop.g ≡ group_count at_loop.before.before.before.before.args.s.now = omega arith in
-    ap not (rw n at c.reaches32.ensures ∙ at_loop.loop.invariant.1 ∙ ap (any_of (past _)) last)
+    let last : at_loop.loop-g.g ≡ group_count at_loop.before.before.before.before.args.s.now = omega arith in
+    ap not (rw n at c.reaches32.ensures ∙ at_loop.loop-g.invariant.1 ∙ ap (any_of (past _)) last)
 
-pub below-spec : {M : Type 1} → statement M
-below-spec =
+pub below_spec : {M : Type 1} → statement M
+below_spec =
     tie.close
     (tie.spec
-    invariant-loop
-    decreases-loop
+    invariant-loop-g
+    decreases-loop-g
     cast-groups
     add-place
     loop-holds

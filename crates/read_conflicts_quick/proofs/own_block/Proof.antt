@@ -9,8 +9,8 @@ returns : tie.Need-returns
 returns c e =
     let at_tile = c.before.before in
     let pre = at_tile.before.before.requires in
-    let tile = at_tile.conflict-tile.ensures in
+    let tile = at_tile.conflict_tile-t.ensures in
     block-sound pre.0 tile tile pre.2 pre.3 (λ r n h l same. diagonal-bit r n h (omega (arith, same))) (c.matched.ensures e)
 
-pub own-block-spec : {M : Type 1} → statement M
-own-block-spec = tie.close (tie.spec (λ c κs. search rules) (λ c. search rules) (λ c κs. search rules) returns)
+pub own_block_spec : {M : Type 1} → statement M
+own_block_spec = tie.close (tie.spec (λ c κs. search rules) (λ c. search rules) (λ c κs. search rules) returns)

@@ -9,8 +9,8 @@ returns : tie.Need-returns
 returns c e =
     let at_mirror = c.before.before in
     let at_tile = at_mirror.before in
-    let sets = at_tile.before.set-tile.ensures in
-    let tile = at_tile.conflict-tile.ensures in
+    let sets = at_tile.before.set_tile-sets.ensures in
+    let tile = at_tile.conflict_tile-t.ensures in
     let pre = at_tile.before.before.before.requires in
     single-sound _
     (block-sound pre.0 tile tile sets (member-rows sets at_mirror.mirrored.ensures)
@@ -18,8 +18,8 @@ returns c e =
     (c.matched.ensures e))
     (omega (arith, pre.0.laid.groupcount))
 
-pub single-band-spec : {M : Type 1} → statement M
-single-band-spec =
+pub single_band_spec : {M : Type 1} → statement M
+single_band_spec =
     tie.close
     (tie.spec
     (λ c κs. search rules)

@@ -12,23 +12,23 @@ use Rattle.read_conflicts_quick.proofs.Pairs.{records-good}
 use Rattle.read_conflicts_quick.proofs.surely_right.Statement.{statement}
 use Rattle.read_conflicts_quick.proofs.surely_right.Tie as tie
 
-returns : tie.Need-returns
+returns : tie.Need-returns-then-not-below
 returns c e = absurd (never_both e refl)
 
 -- no set goes past N
 under :
-    (c : tie.Else1) →
+    (c : tie.Else-not-below) →
     let b = c.before.before.before.args.s.now in
     any_of (λ g. leb (2 ^ group_count b) (conflict_set b g)) (group_count b) ≡ false
-under c = not-true _ (sym c.before.below.ensures ∙ not-false _ c.if1.false)
+under c = not-true _ (sym c.before.below.ensures ∙ not-false _ c.if-not-below.false)
 
-returns-2 : tie.Need-returns-2
-returns-2 c e = records-good _ (under c.before.before.before) (c.single-band.ensures e)
+returns-2 : tie.Need-returns-then-layout-le8
+returns-2 c e = records-good _ (under c.before.before.before) (c.single_band.ensures e)
 
-returns-3 : tie.Need-returns-3
+returns-3 : tie.Need-returns
 returns-3 c e = records-good _ (under c.before.before.before) (c.bands.ensures e)
 
-pub surely-right-spec : {M : Type 1} → statement M
-surely-right-spec =
+pub surely_right_spec : {M : Type 1} → statement M
+surely_right_spec =
     tie.close
     (tie.spec (λ c κs. search rules) returns (λ c κs. search rules) returns-2 (λ c κs. search rules) returns-3)

@@ -9,15 +9,15 @@ use Rattle.read_conflicts_tiles.proofs.TilePlaces.{mirrors, mirrored-bit}
 use Rattle.read_conflicts_tiles.proofs.mirrored.Statement.{statement}
 use Rattle.read_conflicts_tiles.proofs.mirrored.Tie as tie
 
-swapped-requires : tie.Need-swapped-requires
+swapped-requires : tie.Need-swapped-singles-requires
 unfolding bit all_of upper source placed swaps
 swapped-requires c κs = (search rules, refl)
 
-swapped-requires-2 : tie.Need-swapped-requires-2
+swapped-requires-2 : tie.Need-swapped-twos-requires
 unfolding bit all_of upper source placed swaps
 swapped-requires-2 c κs = (search rules, refl)
 
-swapped-requires-3 : tie.Need-swapped-requires-3
+swapped-requires-3 : tie.Need-swapped-requires
 unfolding bit all_of upper source placed swaps
 swapped-requires-3 c κs = (search rules, refl)
 
@@ -26,13 +26,13 @@ unfolding bit all_of upper source mirrors
 returns c =
     mirrored-bit
     c.before.before.before.args.tile
-    c.before.before.swapped.result
-    c.before.swapped2.result
-    c.swapped3.result
-    c.before.before.swapped.ensures
-    c.before.swapped2.ensures
-    c.swapped3.ensures
+    c.before.before.swapped-singles.result
+    c.before.swapped-twos.result
+    c.swapped.result
+    c.before.before.swapped-singles.ensures
+    c.before.swapped-twos.ensures
+    c.swapped.ensures
     refl
 
-pub mirrored-spec : {M : Type 1} → statement M
-mirrored-spec = tie.close (tie.spec swapped-requires swapped-requires-2 swapped-requires-3 returns)
+pub mirrored_spec : {M : Type 1} → statement M
+mirrored_spec = tie.close (tie.spec swapped-requires swapped-requires-2 swapped-requires-3 returns)

@@ -7,5 +7,5 @@ use Rattle.read_conflicts_tiles.proofs.swapped.Tie as tie
 returns : tie.Need-returns
 returns c = swapped-from c.args.x c.args.low c.args.shift c.requires.1
 
-pub swapped-spec : {M : Type 1} → statement M
-swapped-spec = tie.close (tie.spec (λ c. search rules) (λ c. search rules) returns)
+pub swapped_spec : {M : Type 1} → statement M
+swapped_spec = tie.close (tie.spec (λ c. search rules) (λ c. search rules) returns)

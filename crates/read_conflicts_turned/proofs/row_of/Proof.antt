@@ -8,10 +8,10 @@ returns : tie.Need-returns
 returns c =
     let third = c.before in
     let second = third.before in
-    row_told _ _ (rw (second.before.tile-row.ensures, second.tile-row2.ensures, third.tile-row3.ensures, c.tile-row4.ensures))
+    row_told _ _ (rw (second.before.tile_row.ensures, second.tile_row-2.ensures, third.tile_row-3.ensures, c.tile_row-4.ensures))
 
-pub row-of-spec : {M : Type 1} → statement M
-row-of-spec =
+pub row_of_spec : {M : Type 1} → statement M
+row_of_spec =
     tie.close
     (tie.spec
     (λ c. search rules)

@@ -8,52 +8,52 @@ use native.Mathlib.Omega.{arith}
 use Rattle.read_conflicts_turned.proofs.turned.Statement.{statement}
 use Rattle.read_conflicts_turned.proofs.turned.Tie as tie
 
-abbrev invariant-loop : tie.invariant-loop
-invariant-loop s number a tiles rows₀ r₀ rows r = (r ≤ 8) × Kept (TurnedRow s number a) 8 rows r
+abbrev invariant-loop-r : tie.invariant-loop-r
+invariant-loop-r s number a tiles rows₀ r₀ rows r = (r ≤ 8) × Kept (TurnedRow s number a) 8 rows r
 
-abbrev decreases-loop : tie.decreases-loop
-decreases-loop s number a tiles rows₀ r₀ rows r = 8 - r
+abbrev decreases-loop-r : tie.decreases-loop-r
+decreases-loop-r s number a tiles rows₀ r₀ rows r = 8 - r
 
-turned-tiles-requires : tie.Need-turned-tiles-requires invariant-loop decreases-loop
+turned-tiles-requires : tie.Need-turned_tiles-tiles-requires invariant-loop-r decreases-loop-r
 turned-tiles-requires c κs = search rules
 
-loop-holds : tie.Need-loop-init invariant-loop decreases-loop
+loop-holds : tie.Need-loop-r-init invariant-loop-r decreases-loop-r
 loop-holds c = (omega arith, kept-none)
 
-row-of-requires : tie.Need-row-of-requires invariant-loop decreases-loop
+row-of-requires : tie.Need-row_of-requires invariant-loop-r decreases-loop-r
 row-of-requires c κs = search rules
 
-mul-rows : tie.Need-overflow-mul-rows invariant-loop decreases-loop
+mul-rows : tie.Need-offset_bounds-rows-r invariant-loop-r decreases-loop-r
 mul-rows c = search rules
 
-array-write-rows : tie.Need-array-write-rows invariant-loop decreases-loop
+array-write-rows : tie.Need-bounds-rows-r invariant-loop-r decreases-loop-r
 array-write-rows c = search rules
 
-add_r : tie.Need-overflow-add-r invariant-loop decreases-loop
+add_r : tie.Need-overflow_add-r invariant-loop-r decreases-loop-r
 add_r c = search rules
 
-loop-less : tie.Need-loop-smaller invariant-loop decreases-loop
+loop-less : tie.Need-loop-r-smaller invariant-loop-r decreases-loop-r
 loop-less c = search rules
 
-loop-again : tie.Need-loop-preserved invariant-loop decreases-loop
+loop-again : tie.Need-loop-r-preserved invariant-loop-r decreases-loop-r
 loop-again c =
     let at_loop = c.before.before in
     let at_tiles = at_loop.before in
     let pre = at_tiles.before.before.requires in (
       omega arith,
-      kept_more at_loop.loop.invariant.1 (omega arith)
-          (row-turned _ (omega (arith, pre.0.laid.groupcount, pre.0.few_groups)) (omega arith) at_tiles.turned-tiles.ensures c.row_of.ensures),
+      kept_more at_loop.loop-r.invariant.1 (omega arith)
+          (row-turned _ (omega (arith, pre.0.laid.groupcount, pre.0.few_groups)) (omega arith) at_tiles.turned_tiles-tiles.ensures c.row_of.ensures),
     )
 
-returns : tie.Need-returns invariant-loop decreases-loop
-returns c = record { told = λ r h. c.before.loop.invariant.1.told r (omega (arith, h)) }
+returns : tie.Need-returns invariant-loop-r decreases-loop-r
+returns c = record { told = λ r h. c.before.loop-r.invariant.1.told r (omega (arith, h)) }
 
-pub turned-spec : {M : Type 1} → statement M
-turned-spec =
+pub turned_spec : {M : Type 1} → statement M
+turned_spec =
     tie.close
     (tie.spec
-    invariant-loop
-    decreases-loop
+    invariant-loop-r
+    decreases-loop-r
     turned-tiles-requires
     loop-holds
     row-of-requires

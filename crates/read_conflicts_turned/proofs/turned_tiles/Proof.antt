@@ -7,48 +7,48 @@ use native.Mathlib.Omega.{arith}
 use Rattle.read_conflicts_turned.proofs.turned_tiles.Statement.{statement}
 use Rattle.read_conflicts_turned.proofs.turned_tiles.Tie as tie
 
-abbrev invariant-loop : tie.invariant-loop
-invariant-loop s layout number a groups tiles₀ k₀ tiles k = (8 * k < groups + 8) × Kept (TurnedTile s number a) 4 tiles k
+abbrev invariant-loop-k : tie.invariant-loop-k
+invariant-loop-k s layout number a groups tiles₀ k₀ tiles k = (8 * k < groups + 8) × Kept (TurnedTile s number a) 4 tiles k
 
-abbrev decreases-loop : tie.decreases-loop
-decreases-loop s layout number a groups tiles₀ k₀ tiles k = groups - k
+abbrev decreases-loop-k : tie.decreases-loop-k
+decreases-loop-k s layout number a groups tiles₀ k₀ tiles k = groups - k
 
-cast-groups : tie.Need-overflow-cast-groups invariant-loop decreases-loop
+cast-groups : tie.Need-overflow_cast-groups invariant-loop-k decreases-loop-k
 cast-groups c = search rules
 
-loop-holds : tie.Need-loop-init invariant-loop decreases-loop
+loop-holds : tie.Need-loop-k-init invariant-loop-k decreases-loop-k
 loop-holds c = (omega arith, kept-none)
 
-mul-loop : tie.Need-overflow-mul-loop invariant-loop decreases-loop
+mul-loop : tie.Need-overflow_mul-k invariant-loop-k decreases-loop-k
 mul-loop c = search rules
 
-turned-tile-requires : tie.Need-turned-tile-requires invariant-loop decreases-loop
+turned-tile-requires : tie.Need-turned_tile-requires invariant-loop-k decreases-loop-k
 turned-tile-requires c κs = search rules
 
-mul-tiles : tie.Need-overflow-mul-tiles invariant-loop decreases-loop
+mul-tiles : tie.Need-offset_bounds-tiles-k invariant-loop-k decreases-loop-k
 mul-tiles c = search rules
 
-array-write-tiles : tie.Need-array-write-tiles invariant-loop decreases-loop
+array-write-tiles : tie.Need-bounds-tiles-k invariant-loop-k decreases-loop-k
 array-write-tiles c = search rules
 
-add-k : tie.Need-overflow-add-k invariant-loop decreases-loop
+add-k : tie.Need-overflow_add-k invariant-loop-k decreases-loop-k
 add-k c = search rules
 
-loop-less : tie.Need-loop-smaller invariant-loop decreases-loop
+loop-less : tie.Need-loop-k-smaller invariant-loop-k decreases-loop-k
 loop-less c = search rules
 
-loop-again : tie.Need-loop-preserved invariant-loop decreases-loop
-loop-again c = (omega arith, kept_more c.before.before.loop.invariant.1 (omega arith) c.turned-tile.ensures)
+loop-again : tie.Need-loop-k-preserved invariant-loop-k decreases-loop-k
+loop-again c = (omega arith, kept_more c.before.before.loop-k.invariant.1 (omega arith) c.turned_tile.ensures)
 
-returns : tie.Need-returns invariant-loop decreases-loop
-returns c = record { told = λ k h. c.before.loop.invariant.1.told k (omega (arith, h)) }
+returns : tie.Need-returns invariant-loop-k decreases-loop-k
+returns c = record { told = λ k h. c.before.loop-k.invariant.1.told k (omega (arith, h)) }
 
-pub turned-tiles-spec : {M : Type 1} → statement M
-turned-tiles-spec =
+pub turned_tiles_spec : {M : Type 1} → statement M
+turned_tiles_spec =
     tie.close
     (tie.spec
-    invariant-loop
-    decreases-loop
+    invariant-loop-k
+    decreases-loop-k
     cast-groups
     loop-holds
     mul-loop

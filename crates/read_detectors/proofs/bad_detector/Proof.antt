@@ -12,5 +12,5 @@ returns : tie.Need-returns
 unfolding bad_detector
 returns c = ap (λ t. leb c.args.phases c.args.phase || t) (mode-bits c.args.mode (omega arith))
 
-pub bad-detector-spec : {M : Type 1} → statement M
-bad-detector-spec = tie.close (tie.spec returns)
+pub bad_detector_spec : {M : Type 1} → statement M
+bad_detector_spec = tie.close (tie.spec returns)

@@ -9,12 +9,12 @@ use borrow.Author.Rules.{rules}
 use Rattle.read_detectors.proofs.four_good.Statement.{statement}
 use Rattle.read_detectors.proofs.four_good.Tie as tie
 
-eight-in-requires : tie.Need-eight-in-requires
+eight-in-requires : tie.Need-eight_in-records-requires
 unfolding body_at
 eight-in-requires c κs = search rules
 
-add-raised : tie.Need-overflow-add-raised
-add-raised c = omega (arith, and_le_r c.before.eight-in.result 0x7b7f7b7f7b7f7b7f)
+add-raised : tie.Need-overflow_add-raised
+add-raised c = omega (arith, and_le_r c.before.eight_in-records.result 0x7b7f7b7f7b7f7b7f)
 
 returns : tie.Need-returns
 unfolding byte_at eight_at
@@ -23,14 +23,14 @@ returns c t =
     let known = at_eight.before.before in
     let b = known.before.args.s.now in
     let laid = known.before.requires.0 in
-    let bytes : (i : ℕ) → byte_at b i < 256 = λ i. omega (arith, known.shared-slice-known.given i) in
+    let bytes : (i : ℕ) → byte_at b i < 256 = λ i. omega (arith, known.shared_slice_known-1.given i) in
     let few : phase_count b ≤ 7 = omega (arith, laid.phasecount) in
     let limits = 0x0001000100010001 * (0x7d80 - known.before.args.layout.phasecount) in
-    let passes = both-tests at_eight.eight-in.result 0x8080808080808080 0x7b7f7b7f7b7f7b7f limits t in
-    four-good b bytes few known.before.args.d (rw (at_eight.eight-in.ensures, laid.detectors, laid.phasecount) at passes)
+    let passes = both-tests at_eight.eight_in-records.result 0x8080808080808080 0x7b7f7b7f7b7f7b7f limits t in
+    four-good b bytes few known.before.args.d (rw (at_eight.eight_in-records.ensures, laid.detectors, laid.phasecount) at passes)
 
-pub four-good-spec : {M : Type 1} → statement M
-four-good-spec =
+pub four_good_spec : {M : Type 1} → statement M
+four_good_spec =
     tie.close
     (tie.spec
     (λ c. search rules)

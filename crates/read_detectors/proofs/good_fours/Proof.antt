@@ -11,46 +11,46 @@ use native.Mathlib.Omega.{arith}
 use Rattle.read_detectors.proofs.good_fours.Statement.{statement}
 use Rattle.read_detectors.proofs.good_fours.Tie as tie
 
-abbrev invariant-loop : tie.invariant-loop
-invariant-loop s layout count d₀ d = (d ≤ count) × (first_of (detector_record s) d ≡ Accepted)
+abbrev invariant-loop-d : tie.invariant-loop-d
+invariant-loop-d s layout count d₀ d = (d ≤ count) × (first_of (detector_record s) d ≡ Accepted)
 
-abbrev decreases-loop : tie.decreases-loop
-decreases-loop s layout count d₀ d = count - d
+abbrev decreases-loop-d : tie.decreases-loop-d
+decreases-loop-d s layout count d₀ d = count - d
 
-loop-holds : tie.Need-loop-init invariant-loop decreases-loop
+loop-holds : tie.Need-loop-d-init invariant-loop-d decreases-loop-d
 unfolding first_of
 loop-holds c = (omega arith, refl)
 
-add-loop : tie.Need-overflow-add-loop invariant-loop decreases-loop
+add-loop : tie.Need-overflow_add-d invariant-loop-d decreases-loop-d
 add-loop c = search rules
 
-four-good-requires : tie.Need-four-good-requires invariant-loop decreases-loop
+four-good-requires : tie.Need-four_good-requires invariant-loop-d decreases-loop-d
 four-good-requires c κs = search rules
 
-returns : tie.Need-returns invariant-loop decreases-loop
-returns c = c.before.before.before.loop.invariant
+returns : tie.Need-returns-then-not-four_good invariant-loop-d decreases-loop-d
+returns c = c.before.before.before.loop-d.invariant
 
-add-d : tie.Need-overflow-add-d invariant-loop decreases-loop
+add-d : tie.Need-overflow_add-d-in-loop-d invariant-loop-d decreases-loop-d
 add-d c = search rules
 
-loop-less : tie.Need-loop-smaller invariant-loop decreases-loop
+loop-less : tie.Need-loop-d-smaller invariant-loop-d decreases-loop-d
 loop-less c = search rules
 
-loop-again : tie.Need-loop-preserved invariant-loop decreases-loop
+loop-again : tie.Need-loop-d-preserved invariant-loop-d decreases-loop-d
 unfolding detector_record
 loop-again c =
     let at_loop = c.before.before.before in
-    (omega arith, four-more _ _ _ at_loop.loop.d at_loop.loop.invariant.1 (c.before.four-good.ensures (not-false _ c.if1.false)))
+    (omega arith, four-more _ _ _ at_loop.loop-d.d at_loop.loop-d.invariant.1 (c.before.four_good.ensures (not-false _ c.if-not-four_good.false)))
 
-returns-2 : tie.Need-returns-2 invariant-loop decreases-loop
-returns-2 c = c.before.loop.invariant
+returns-2 : tie.Need-returns invariant-loop-d decreases-loop-d
+returns-2 c = c.before.loop-d.invariant
 
-pub good-fours-spec : {M : Type 1} → statement M
-good-fours-spec =
+pub good_fours_spec : {M : Type 1} → statement M
+good_fours_spec =
     tie.close
     (tie.spec
-    invariant-loop
-    decreases-loop
+    invariant-loop-d
+    decreases-loop-d
     loop-holds
     add-loop
     four-good-requires

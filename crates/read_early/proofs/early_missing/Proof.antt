@@ -16,13 +16,13 @@ use Rattle.read_early.proofs.Seventh.{none-stops, none-missing, one-stops}
 use Rattle.read_early.proofs.early_missing.Statement.{statement}
 use Rattle.read_early.proofs.early_missing.Tie as tie
 
-abbrev invariant-loop : tie.invariant-loop
-invariant-loop s some groups head g₀ g = (g ≤ groups) × (any_of (stops_early s) g ≡ false)
+abbrev invariant-loop-g : tie.invariant-loop-g
+invariant-loop-g s some groups head g₀ g = (g ≤ groups) × (any_of (stops_early s) g ≡ false)
 
-abbrev decreases-loop : tie.decreases-loop
-decreases-loop s some groups head g₀ g = groups - g
+abbrev decreases-loop-g : tie.decreases-loop-g
+decreases-loop-g s some groups head g₀ g = groups - g
 
-returns : tie.Need-returns invariant-loop decreases-loop
+returns : tie.Need-returns-then-layout-some invariant-loop-g decreases-loop-g
 returns c =
     let start = c.before.before.before in
     let asked = start.requires in
@@ -30,71 +30,71 @@ returns c =
     ⊎_elim
     (λ (there : start.args.layout.hasearly ≡ true). none-missing _ (sym asked.0.hasearly ∙ there))
     (λ (none : not some ≡ true). none-stops _ (sym asked.2 ∙ not-true some none))
-    (or_cases _ _ c.if1.true)
+    (or_cases _ _ c.if-layout-some.true)
 
-cast-groups : tie.Need-overflow-cast-groups invariant-loop decreases-loop
+cast-groups : tie.Need-overflow_cast-groups invariant-loop-g decreases-loop-g
 cast-groups c = search rules
 
-loop-holds : tie.Need-loop-init invariant-loop decreases-loop
+loop-holds : tie.Need-loop-g-init invariant-loop-g decreases-loop-g
 unfolding any_of
 loop-holds c = (omega arith, refl)
 
-pair-at-requires : tie.Need-pair-at-requires invariant-loop decreases-loop
+pair-at-requires : tie.Need-pair_at-group-requires invariant-loop-g decreases-loop-g
 pair-at-requires c κs =
     let start = c.before.before.before.before.before.before in
-    group-held start.requires.0 start.requires.1 c.before.loop.g c.loop-test.true
+    group-held start.requires.0 start.requires.1 c.before.loop-g.g c.loop-g-test.true
 
 -- the byte read is the mark of group g
 marked :
-    (c : tie.After-pair-at invariant-loop decreases-loop) →
+    (c : tie.After-pair_at-group invariant-loop-g decreases-loop-g) →
     let at_loop = c.before.before in
-    c.pair-at.result.second ≡ group_mark at_loop.before.before.before.before.before.args.s.now at_loop.loop.g
+    c.pair_at-group.result.second ≡ group_mark at_loop.before.before.before.before.before.args.s.now at_loop.loop-g.g
 marked c =
     let at_loop = c.before.before in
-    mark-read at_loop.before.before.before.before.before.requires.0 at_loop.loop.g c.pair-at.ensures.1
+    mark-read at_loop.before.before.before.before.before.requires.0 at_loop.loop-g.g c.pair_at-group.ensures.1
 
-add-t11 : tie.Need-overflow-add-t11 invariant-loop decreases-loop
+add-t11 : tie.Need-overflow_add-result invariant-loop-g decreases-loop-g
 add-t11 c = search rules
 
-mul-t12 : tie.Need-overflow-mul-t12 invariant-loop decreases-loop
+mul-t12 : tie.Need-overflow_mul-result invariant-loop-g decreases-loop-g
 mul-t12 c = search rules
 
-add-t13 : tie.Need-overflow-add-t13 invariant-loop decreases-loop
+add-t13 : tie.Need-overflow_add-result-then-group-eq3 invariant-loop-g decreases-loop-g
 add-t13 c = search rules
 
-returns-2 : tie.Need-returns-2 invariant-loop decreases-loop
+returns-2 : tie.Need-returns-then-group-eq3 invariant-loop-g decreases-loop-g
 unfolding stops_early record_at body_at
 returns-2 c =
     let read = c.before.before in
     let at_loop = read.before.before in
     let asked = at_loop.before.before.before.before.before.requires in
-    one-stops _ (sym asked.0.hasearly ∙ or-false-left _ _ at_loop.before.before.if1.false) at_loop.loop.g (omega arith) at_loop.loop.invariant.1
-    (eq-eqb _ _ (sym (marked read) ∙ c.if2.true))
+    one-stops _ (sym asked.0.hasearly ∙ or-false-left _ _ at_loop.before.before.if-layout-some.false) at_loop.loop-g.g (omega arith) at_loop.loop-g.invariant.1
+    (eq-eqb _ _ (sym (marked read) ∙ c.if-group-eq3.true))
     (omega (arith, asked.0.groups))
 
-add-g : tie.Need-overflow-add-g invariant-loop decreases-loop
+add-g : tie.Need-overflow_add-g invariant-loop-g decreases-loop-g
 add-g c = search rules
 
-loop-less : tie.Need-loop-smaller invariant-loop decreases-loop
+loop-less : tie.Need-loop-g-smaller invariant-loop-g decreases-loop-g
 loop-less c = search rules
 
-loop-again : tie.Need-loop-preserved invariant-loop decreases-loop
+loop-again : tie.Need-loop-g-preserved invariant-loop-g decreases-loop-g
 unfolding stops_early
 loop-again c =
     let read = c.before.before in
-    (omega arith, any-more _ _ read.before.before.loop.invariant.1 (ne_eqb _ _ (λ e. c.if2.false (marked read ∙ e))))
+    (omega arith, any-more _ _ read.before.before.loop-g.invariant.1 (ne_eqb _ _ (λ e. c.if-group-eq3.false (marked read ∙ e))))
 
-returns-3 : tie.Need-returns-3 invariant-loop decreases-loop
+returns-3 : tie.Need-returns invariant-loop-g decreases-loop-g
 returns-3 c =
     let asked = c.before.before.before.before.before.before.requires in
-    none-stops _ (sym (any-done _ _ _ c.before.loop.invariant.1 (omega (arith, asked.0.groupcount))))
+    none-stops _ (sym (any-done _ _ _ c.before.loop-g.invariant.1 (omega (arith, asked.0.groupcount))))
 
-pub early-missing-spec : {M : Type 1} → statement M
-early-missing-spec =
+pub early_missing_spec : {M : Type 1} → statement M
+early_missing_spec =
     tie.close
     (tie.spec
-    invariant-loop
-    decreases-loop
+    invariant-loop-g
+    decreases-loop-g
     returns
     cast-groups
     loop-holds

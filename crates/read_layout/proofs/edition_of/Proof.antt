@@ -14,11 +14,11 @@ named : (b : List ℕ) (t : Bool) → has_head b site_head 8 ≡ t → (if t the
 unfolding edition_of
 named b t e = rw e
 
-returns : tie.Need-returns
-returns c = named _ true (sym c.before.has-head.ensures ∙ c.if1.true)
+returns : tie.Need-returns-then-has_head
+returns c = named _ true (sym c.before.has_head.ensures ∙ c.if-has_head.true)
 
-returns-2 : tie.Need-returns-2
-returns-2 c = named _ false (sym c.before.has-head.ensures ∙ c.if1.false)
+returns-2 : tie.Need-returns
+returns-2 c = named _ false (sym c.before.has_head.ensures ∙ c.if-has_head.false)
 
-pub edition-of-spec : {M : Type 1} → statement M
-edition-of-spec = tie.close (tie.spec (λ c κs. search rules) returns returns-2)
+pub edition_of_spec : {M : Type 1} → statement M
+edition_of_spec = tie.close (tie.spec (λ c κs. search rules) returns returns-2)

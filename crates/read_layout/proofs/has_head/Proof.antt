@@ -5,13 +5,13 @@ use Rattle.rules.specs.Personality.{kind_at, has_head}
 use Rattle.read_layout.proofs.has_head.Statement.{statement}
 use Rattle.read_layout.proofs.has_head.Tie as tie
 
-returns : tie.Need-returns
+returns : tie.Need-returns-then-head-s
 unfolding has_head kind_at
-returns c = rw (le-leb _ _ c.before.if1.true, c.two_in.ensures)
+returns c = rw (le-leb _ _ c.before.if-head-s.true, c.two_in.ensures)
 
-returns-2 : tie.Need-returns-2
+returns-2 : tie.Need-returns
 unfolding has_head
-returns-2 c = rw (lt-leb _ _ c.if1.false)
+returns-2 c = rw (lt-leb _ _ c.if-head-s.false)
 
-pub has-head-spec : {M : Type 1} → statement M
-has-head-spec = tie.close (tie.spec (λ c. search rules) (λ c. search rules) (λ c κs. search rules) returns returns-2)
+pub has_head_spec : {M : Type 1} → statement M
+has_head_spec = tie.close (tie.spec (λ c. search rules) (λ c. search rules) (λ c κs. search rules) returns returns-2)

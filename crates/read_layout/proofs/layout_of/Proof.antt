@@ -88,14 +88,14 @@ returns c =
     let sixth = seventh.before in
     let fifth = sixth.before in
     laid fifth.before.before.before.before.args.s.now _
-    fifth.before.before.byte_at.ensures fifth.before.byte-at2.ensures
+    fifth.before.before.byte_at-p.ensures fifth.before.byte_at-n.ensures
     refl refl refl
-    (rw fifth.body-length.ensures.0) (rw sixth.body-length2.ensures.0)
-    seventh.has-head.ensures ninth.past-section.ensures.0 c.has-head2.ensures
-    (omega arith) (omega arith) (omega arith) (omega arith) ninth.past-section.ensures.1
+    (rw fifth.body_length.ensures.0) (rw sixth.body_length-2.ensures.0)
+    seventh.has_head-hasearly.ensures ninth.past_section-order.ensures.0 c.has_head.ensures
+    (omega arith) (omega arith) (omega arith) (omega arith) ninth.past_section-order.ensures.1
 
-pub layout-of-spec : {M : Type 1} → statement M
-layout-of-spec =
+pub layout_of_spec : {M : Type 1} → statement M
+layout_of_spec =
     tie.close
     (tie.spec
     (λ c κs. search rules)

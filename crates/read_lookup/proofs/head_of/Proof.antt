@@ -10,20 +10,20 @@ use borrow.Author.Rules.{rules}
 use Rattle.read_lookup.proofs.head_of.Statement.{statement}
 use Rattle.read_lookup.proofs.head_of.Tie as tie
 
-returns : tie.Need-returns
-returns c = (sym (no-head _ _ (not-true _ c.if1.true)), omega arith)
+returns : tie.Need-returns-then-not-kind
+returns c = (sym (no-head _ _ (not-true _ c.if-not-kind.true)), omega arith)
 
 -- the kind has a head in the list
-listed : (c : tie.Else1) → let kind = c.before.args.kind in (1 ≤ kind) × (kind ≤ 9)
-listed c = kind-told c.before.args.kind (not-false _ c.if1.false)
+listed : (c : tie.Else-not-kind) → let kind = c.before.args.kind in (1 ≤ kind) × (kind ≤ 9)
+listed c = kind-told c.before.args.kind (not-false _ c.if-not-kind.false)
 
-sub-result : tie.Need-overflow-sub-result
+sub-result : tie.Need-overflow_sub-result
 sub-result c = omega (arith, listed c)
 
-array-read-result : tie.Need-array-read-result
+array-read-result : tie.Need-bounds-heads-kind
 array-read-result c = omega (arith, listed c)
 
-returns-2 : tie.Need-returns-2
+returns-2 : tie.Need-returns
 unfolding head_of
 returns-2 c =
     let start = c.before in
@@ -36,8 +36,8 @@ returns-2 c =
           (start.args.kind - 1),
     )
 
-pub head-of-spec : {M : Type 1} → statement M
-head-of-spec =
+pub head_of_spec : {M : Type 1} → statement M
+head_of_spec =
     tie.close
     (tie.spec
     returns

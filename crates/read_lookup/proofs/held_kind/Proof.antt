@@ -9,7 +9,7 @@ unfolding held_kind
 returns c =
     let named = c.before.before in
     let laid = named.before.before.before.requires in
-    rw (named.site-kind.ensures, named.before.edition-of.ensures, laid.hasearly, laid.hasorder)
+    rw (named.site_kind.ensures, named.before.edition_of.ensures, laid.hasearly, laid.hasorder)
 
-pub held-kind-spec : {M : Type 1} → statement M
-held-kind-spec = tie.close (tie.spec (λ c κs. search rules) (λ c κs. search rules) returns)
+pub held_kind_spec : {M : Type 1} → statement M
+held_kind_spec = tie.close (tie.spec (λ c κs. search rules) (λ c κs. search rules) returns)

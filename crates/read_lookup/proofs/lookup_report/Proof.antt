@@ -5,15 +5,15 @@ use borrow.Author.Rules.{rules}
 use Rattle.read_lookup.proofs.lookup_report.Statement.{statement}
 use Rattle.read_lookup.proofs.lookup_report.Tie as tie
 
-enum_told : tie.Need-enum-told
+enum_told : tie.Need-enum_told-1
 enum_told c = search rules
 
-returns : tie.Need-returns
-returns c = report-found _ _ (sym c.before.before.find.ensures.0 ∙ c.enum_told.given.1)
+returns : tie.Need-returns-in-Accepted
+returns c = report-found _ _ (sym c.before.before.find-found.ensures.0 ∙ c.enum_told-1.given.1)
 
-returns-2 : tie.Need-returns-2
-returns-2 c = report-refused _ _ (sym c.before.before.before.find.ensures.0 ∙ c.before.verdict.given.1)
+returns-2 : tie.Need-returns-in-Refused
+returns-2 c = report-refused _ _ (sym c.before.before.before.find-found.ensures.0 ∙ c.before.verdict-1.given.1)
 
-pub lookup-report-spec : {M : Type 1} → statement M
-lookup-report-spec =
+pub lookup_report_spec : {M : Type 1} → statement M
+lookup_report_spec =
     tie.close (tie.spec (λ c κs. search rules) enum_told (λ c. search rules) returns returns-2)

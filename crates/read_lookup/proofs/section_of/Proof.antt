@@ -5,24 +5,24 @@ use borrow.Author.Rules.{rules}
 use Rattle.read_lookup.proofs.section_of.Statement.{statement}
 use Rattle.read_lookup.proofs.section_of.Tie as tie
 
-enum_told : tie.Need-enum-told
+enum_told : tie.Need-enum_told-1
 enum_told c = search rules
 
-returns : tie.Need-returns
-returns c = part_none _ _ (sym c.before.before.before.find.ensures.0 ∙ c.before.enum_told.given.1)
+returns : tie.Need-returns-in-Refused
+returns c = part_none _ _ (sym c.before.before.before.find-found.ensures.0 ∙ c.before.enum_told-1.given.1)
 
-part-result-end-2 : tie.Need-slice-bounds-result-end-2
+part-result-end-2 : tie.Need-slice_bounds-result-end-2
 part-result-end-2 c =
-    let looked = c.before.before.before.find.ensures in
-    part_end _ _ (sym looked.0 ∙ c.before.enum-told2.given.1) looked.1 c.two_at.ensures
+    let looked = c.before.before.before.find-found.ensures in
+    part_end _ _ (sym looked.0 ∙ c.before.enum_told-in_default-1.given.1) looked.1 c.two_at.ensures
 
-returns-2 : tie.Need-returns-2
+returns-2 : tie.Need-returns
 returns-2 c =
-    let looked = c.before.before.before.before.find.ensures in
-    part_held _ _ (sym looked.0 ∙ c.before.before.enum-told2.given.1) looked.1 c.before.two_at.ensures
+    let looked = c.before.before.before.before.find-found.ensures in
+    part_held _ _ (sym looked.0 ∙ c.before.before.enum_told-in_default-1.given.1) looked.1 c.before.two_at.ensures
 
-pub section-of-spec : {M : Type 1} → statement M
-section-of-spec =
+pub section_of_spec : {M : Type 1} → statement M
+section_of_spec =
     tie.close
     (tie.spec
     (λ c κs. search rules)

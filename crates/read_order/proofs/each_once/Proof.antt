@@ -10,74 +10,74 @@ use Rattle.read_order.proofs.Ninth.{Listed, listed-none, listed_more, listed-oth
 use Rattle.read_order.proofs.each_once.Statement.{statement}
 use Rattle.read_order.proofs.each_once.Tie as tie
 
-abbrev invariant-loop : tie.invariant-loop
-invariant-loop s phases start listed₀ i₀ listed i = (i ≤ phases) × Listed s listed i
+abbrev invariant-loop-i : tie.invariant-loop-i
+invariant-loop-i s phases start listed₀ i₀ listed i = (i ≤ phases) × Listed s listed i
 
-abbrev decreases-loop : tie.decreases-loop
-decreases-loop s phases start listed₀ i₀ listed i = phases - i
+abbrev decreases-loop-i : tie.decreases-loop-i
+decreases-loop-i s phases start listed₀ i₀ listed i = phases - i
 
-add_start : tie.Need-overflow-add-start invariant-loop decreases-loop
+add_start : tie.Need-overflow_add-start invariant-loop-i decreases-loop-i
 add_start c = search rules
 
-loop-holds : tie.Need-loop-init invariant-loop decreases-loop
+loop-holds : tie.Need-loop-i-init invariant-loop-i decreases-loop-i
 loop-holds c = (omega arith, listed-none _)
 
-cast-byte-in : tie.Need-overflow-cast-byte-in invariant-loop decreases-loop
+cast-byte-in : tie.Need-overflow_cast-i invariant-loop-i decreases-loop-i
 cast-byte-in c = search rules
 
-add-byte-in : tie.Need-overflow-add-byte-in invariant-loop decreases-loop
+add-byte-in : tie.Need-overflow_add-start-in-loop-i invariant-loop-i decreases-loop-i
 add-byte-in c = search rules
 
-byte-in-requires : tie.Need-byte-in-requires invariant-loop decreases-loop
+byte-in-requires : tie.Need-byte_in-phase-requires invariant-loop-i decreases-loop-i
 unfolding body_at
 byte-in-requires c κs = omega (arith, c.before.before.before.before.requires.2)
 
-shl-listed : tie.Need-overflow-shl-listed invariant-loop decreases-loop
+shl-listed : tie.Need-overflow_shl-listed invariant-loop-i decreases-loop-i
 shl-listed c = search rules
 
-add-i : tie.Need-overflow-add-i invariant-loop decreases-loop
+add-i : tie.Need-overflow_add-i invariant-loop-i decreases-loop-i
 add-i c = search rules
 
-loop-less : tie.Need-loop-smaller invariant-loop decreases-loop
+loop-less : tie.Need-loop-i-smaller invariant-loop-i decreases-loop-i
 loop-less c = search rules
 
-loop-again : tie.Need-loop-preserved invariant-loop decreases-loop
+loop-again : tie.Need-loop-i-preserved invariant-loop-i decreases-loop-i
 unfolding order_at record_at body_at
 loop-again c =
     let at_loop = c.before.before.before in
     let start = at_loop.before.before.before in
     let laid = start.requires.0 in
     let b = start.args.s.now in
-    let i = at_loop.loop.i in
-    let listed = at_loop.loop.invariant.1 in
-    let read = rw (laid.order, ← mul-one i) at c.before.byte-in.ensures in (
+    let i = at_loop.loop-i.i in
+    let listed = at_loop.loop-i.invariant.1 in
+    let read = rw (laid.order, ← mul-one i) at c.before.byte_in-phase.ensures in (
       omega arith,
       ⊎_elim
           (λ w. subst (λ (set : ℕ). Listed b set (i + 1)) (sym w.1) (listed_more b start.requires.1 listed read (rw laid.phasecount at w.0.taken)))
           (λ w. subst (λ (set : ℕ). Listed b set (i + 1)) (sym w.1) (listed-other b start.requires.1 listed read (rw laid.phasecount at w.0.left)))
-          c.if1.branch,
+          c.if-phase-phases.branch,
     )
 
-add-result : tie.Need-overflow-add-result invariant-loop decreases-loop
+add-result : tie.Need-overflow_add-result invariant-loop-i decreases-loop-i
 add-result c =
     let start = c.before.before.before.before in
-    omega (arith, set-fits _ start.requires.1 c.before.loop.invariant.1)
+    omega (arith, set-fits _ start.requires.1 c.before.loop-i.invariant.1)
 
-shl-result : tie.Need-overflow-shl-result invariant-loop decreases-loop
+shl-result : tie.Need-overflow_shl-result invariant-loop-i decreases-loop-i
 shl-result c = search rules
 
-returns : tie.Need-returns invariant-loop decreases-loop
+returns : tie.Need-returns invariant-loop-i decreases-loop-i
 returns c =
     let start = c.before.before.before.before in
     let laid = start.requires.0 in
-    rw laid.phasecount (listed-decided _ start.requires.1 c.before.loop.invariant.1 (omega (arith, laid.phasecount)))
+    rw laid.phasecount (listed-decided _ start.requires.1 c.before.loop-i.invariant.1 (omega (arith, laid.phasecount)))
 
-pub each-once-spec : {M : Type 1} → statement M
-each-once-spec =
+pub each_once_spec : {M : Type 1} → statement M
+each_once_spec =
     tie.close
     (tie.spec
-    invariant-loop
-    decreases-loop
+    invariant-loop-i
+    decreases-loop-i
     add_start
     loop-holds
     cast-byte-in

@@ -13,64 +13,64 @@ use Rattle.read_sections.proofs.section_at.Tie as tie
 
 -- ── The tests, each at the place where the code has made it ──
 
-short : (c : tie.Then1) → let at = c.before.before.args in ltb (length at.s.now) (at.head + 4) ≡ true
-short c = lt-ltb _ _ c.if1.true
+short : (c : tie.Then-s-head) → let at = c.before.before.args in ltb (length at.s.now) (at.head + 4) ≡ true
+short c = lt-ltb _ _ c.if-s-head.true
 
-not_short : (c : tie.Else1) → let at = c.before.before.args in ltb (length at.s.now) (at.head + 4) ≡ false
-not_short c = le-ltb _ _ c.if1.false
+not_short : (c : tie.Else-s-head) → let at = c.before.before.args in ltb (length at.s.now) (at.head + 4) ≡ false
+not_short c = le-ltb _ _ c.if-s-head.false
 
-other_kind : (c : tie.Then2) → let at = c.before.before.before.before.args in eqb (kind_at at.s.now at.head) at.kind ≡ false
+other_kind : (c : tie.Then-two_in-kind) → let at = c.before.before.before.before.args in eqb (kind_at at.s.now at.head) at.kind ≡ false
 unfolding kind_at
-other_kind c = let e = c.before.two_in.ensures in rw (← e) (ne_eqb _ _ c.if2.true)
+other_kind c = let e = c.before.two_in.ensures in rw (← e) (ne_eqb _ _ c.if-two_in-kind.true)
 
-right_kind : (c : tie.Else2) → let at = c.before.before.before.before.args in eqb (kind_at at.s.now at.head) at.kind ≡ true
+right_kind : (c : tie.Else-two_in-kind) → let at = c.before.before.before.before.args in eqb (kind_at at.s.now at.head) at.kind ≡ true
 unfolding kind_at
-right_kind c = let e = c.before.two_in.ensures in rw (← e) (eq-eqb _ _ c.if2.false)
+right_kind c = let e = c.before.two_in.ensures in rw (← e) (eq-eqb _ _ c.if-two_in-kind.false)
 
 cut_body :
-    (c : tie.Then4) →
+    (c : tie.Then-s-head-2) →
     let at = c.before.before.before.before.before.before.before.args in
     ltb (length at.s.now) (body_at at.head + body_length at.s.now at.head) ≡ true
 unfolding body_at body_length
-cut_body c = let e = c.before.two-in2.ensures in rw (← e) (lt-ltb _ _ c.if4.true)
+cut_body c = let e = c.before.two_in-2.ensures in rw (← e) (lt-ltb _ _ c.if-s-head-2.true)
 
 whole_body :
-    (c : tie.Else4) →
+    (c : tie.Else-s-head-2) →
     let at = c.before.before.before.before.before.before.before.args in
     ltb (length at.s.now) (body_at at.head + body_length at.s.now at.head) ≡ false
 unfolding body_at body_length
-whole_body c = let e = c.before.two-in2.ensures in rw (← e) (le-ltb _ _ c.if4.false)
+whole_body c = let e = c.before.two_in-2.ensures in rw (← e) (le-ltb _ _ c.if-s-head-2.false)
 
 -- ── The returns ──
 
-returns : tie.Need-returns
+returns : tie.Need-returns-then-s-head
 unfolding section_at refuse_if ◌or_else◌
 returns c = rw (short c)
 
-returns-2 : tie.Need-returns-2
+returns-2 : tie.Need-returns-then-two_in-kind
 unfolding section_at refuse_if ◌or_else◌
 returns-2 c = rw (not_short c.before.before, other_kind c)
 
-returns-3 : tie.Need-returns-3
+returns-3 : tie.Need-returns-then-not-right
 unfolding section_at refuse_if ◌or_else◌
-returns-3 c = let named = c.before in rw (not_short named.before.before, right_kind named, c.if3.true)
+returns-3 c = let named = c.before in rw (not_short named.before.before, right_kind named, c.if-not-right.true)
 
-returns-4 : tie.Need-returns-4
+returns-4 : tie.Need-returns-then-s-head-2
 unfolding section_at refuse_if ◌or_else◌
 returns-4 c =
     let length_right = c.before.before in
     let named = length_right.before in
-    rw (not_short named.before.before, right_kind named, length_right.if3.false, cut_body c)
+    rw (not_short named.before.before, right_kind named, length_right.if-not-right.false, cut_body c)
 
-returns-5 : tie.Need-returns-5
+returns-5 : tie.Need-returns
 unfolding section_at refuse_if ◌or_else◌
 returns-5 c =
     let length_right = c.before.before in
     let named = length_right.before in
-    rw (not_short named.before.before, right_kind named, length_right.if3.false, whole_body c)
+    rw (not_short named.before.before, right_kind named, length_right.if-not-right.false, whole_body c)
 
-pub section-at-spec : {M : Type 1} → statement M
-section-at-spec =
+pub section_at_spec : {M : Type 1} → statement M
+section_at_spec =
     tie.close
     (tie.spec
     (λ c. search rules)

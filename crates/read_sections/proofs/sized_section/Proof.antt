@@ -21,13 +21,13 @@ head-short :
 unfolding section_at
 head-short b head kind right h = or-stop _ (refuse-yes 1 head (lt-ltb _ _ h)) refl
 
-returns : tie.Need-returns
-returns c = let at = c.before.before.args in head-short at.s.now at.head at.kind _ c.if1.true
+returns : tie.Need-returns-then-s-head
+returns c = let at = c.before.before.args in head-short at.s.now at.head at.kind _ c.if-s-head.true
 
-returns-2 : tie.Need-returns-2
+returns-2 : tie.Need-returns
 unfolding body_length
-returns-2 c = rw c.before.two_in.ensures at c.section-at.ensures
+returns-2 c = rw c.before.two_in.ensures at c.section_at.ensures
 
-pub sized-section-spec : {M : Type 1} → statement M
-sized-section-spec =
+pub sized_section_spec : {M : Type 1} → statement M
+sized_section_spec =
     tie.close (tie.spec (λ c. search rules) returns (λ c κs. search rules) (λ c. search rules) (λ c κs. search rules) returns-2)

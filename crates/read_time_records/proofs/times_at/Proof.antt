@@ -16,65 +16,65 @@ use Rattle.read_time_records.proofs.times_at.Tie as tie
 abbrev field_of : List ℕ → ℕ → ℕ → ℕ → Verdict
 field_of b place setting f = time_at b (place + f * 2) (setting + f)
 
-abbrev invariant-loop : tie.invariant-loop
-invariant-loop s table place setting fields f₀ f = (f ≤ fields) × (first_of (field_of s place setting) f ≡ Accepted)
+abbrev invariant-loop-f : tie.invariant-loop-f
+invariant-loop-f s table place setting fields f₀ f = (f ≤ fields) × (first_of (field_of s place setting) f ≡ Accepted)
 
-abbrev decreases-loop : tie.decreases-loop
-decreases-loop s table place setting fields f₀ f = fields - f
+abbrev decreases-loop-f : tie.decreases-loop-f
+decreases-loop-f s table place setting fields f₀ f = fields - f
 
-loop-holds : tie.Need-loop-init invariant-loop decreases-loop
+loop-holds : tie.Need-loop-f-init invariant-loop-f decreases-loop-f
 unfolding first_of
 loop-holds c = (omega arith, refl)
 
-mul-time-at : tie.Need-overflow-mul-time-at invariant-loop decreases-loop
+mul-time-at : tie.Need-overflow_mul-f invariant-loop-f decreases-loop-f
 mul-time-at c = search rules
 
-add-time-at : tie.Need-overflow-add-time-at invariant-loop decreases-loop
+add-time-at : tie.Need-overflow_add-place invariant-loop-f decreases-loop-f
 add-time-at c = search rules
 
-add-time-at-2 : tie.Need-overflow-add-time-at-2 invariant-loop decreases-loop
+add-time-at-2 : tie.Need-overflow_add-setting invariant-loop-f decreases-loop-f
 add-time-at-2 c = search rules
 
-time-at-requires : tie.Need-time-at-requires invariant-loop decreases-loop
+time-at-requires : tie.Need-time_at-v-requires invariant-loop-f decreases-loop-f
 time-at-requires c κs = search rules
 
-enum_told : tie.Need-enum-told invariant-loop decreases-loop
+enum_told : tie.Need-enum_told-1 invariant-loop-f decreases-loop-f
 enum_told c = search rules
 
-returns : tie.Need-returns invariant-loop decreases-loop
+returns : tie.Need-returns-in-Refused invariant-loop-f decreases-loop-f
 unfolding times_at
 returns c =
     let at_loop_test = c.before.before.before in
     let at_loop = at_loop_test.before in
-    first-stop _ _ _ at_loop_test.loop-test.true at_loop.loop.invariant.1
-    c.before.before.time-at.ensures c.enum_told.given.1
+    first-stop _ _ _ at_loop_test.loop-f-test.true at_loop.loop-f.invariant.1
+    c.before.before.time_at-v.ensures c.enum_told-1.given.1
 
-enum-told-2 : tie.Need-enum-told-2 invariant-loop decreases-loop
+enum-told-2 : tie.Need-enum_told-in_default invariant-loop-f decreases-loop-f
 enum-told-2 c = search rules
 
-add-f : tie.Need-overflow-add-f invariant-loop decreases-loop
+add-f : tie.Need-overflow_add-f invariant-loop-f decreases-loop-f
 add-f c = search rules
 
-loop-less : tie.Need-loop-smaller invariant-loop decreases-loop
+loop-less : tie.Need-loop-f-smaller invariant-loop-f decreases-loop-f
 loop-less c = search rules
 
-loop-again : tie.Need-loop-preserved invariant-loop decreases-loop
+loop-again : tie.Need-loop-f-preserved invariant-loop-f decreases-loop-f
 loop-again c =
     let at_loop = c.before.before.before.before in
-    (omega arith, first_more _ _ at_loop.loop.invariant.1 (sym c.before.before.time-at.ensures ∙ c.enum-told2.given.1))
+    (omega arith, first_more _ _ at_loop.loop-f.invariant.1 (sym c.before.before.time_at-v.ensures ∙ c.enum_told-in_default-1.given.1))
 
-returns-2 : tie.Need-returns-2 invariant-loop decreases-loop
+returns-2 : tie.Need-returns invariant-loop-f decreases-loop-f
 unfolding times_at
 returns-2 c =
-    let all : c.before.loop.f ≡ c.before.before.before.args.fields = omega arith in
-    sym (rw all at c.before.loop.invariant.1)
+    let all : c.before.loop-f.f ≡ c.before.before.before.args.fields = omega arith in
+    sym (rw all at c.before.loop-f.invariant.1)
 
-pub times-at-spec : {M : Type 1} → statement M
-times-at-spec =
+pub times_at_spec : {M : Type 1} → statement M
+times_at_spec =
     tie.close
     (tie.spec
-    invariant-loop
-    decreases-loop
+    invariant-loop-f
+    decreases-loop-f
     loop-holds
     mul-time-at
     add-time-at

@@ -11,8 +11,8 @@ unfolding result_of
 returns c =
     let gone = c.before.before in
     let queued = gone.before.before.before.before in
-    rw (gone.put-two2.ensures, queued.put_two.ensures, add-two queued.before.before.before.args.at) refl
+    rw (gone.put_two-2.ensures, queued.put_two.ensures, add-two queued.before.before.before.args.at) refl
 
-pub put-result-spec : {M : Type 1} → statement M
-put-result-spec =
+pub put_result_spec : {M : Type 1} → statement M
+put_result_spec =
     tie.close (tie.spec (λ c κs. search rules) (λ c. search rules) (λ c κs. search rules) (λ c. search rules) returns)

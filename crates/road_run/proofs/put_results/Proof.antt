@@ -11,57 +11,57 @@ use native.Mathlib.Omega.{arith}
 use Rattle.road_run.proofs.put_results.Statement.{statement}
 use Rattle.road_run.proofs.put_results.Tie as tie
 
-abbrev invariant-loop : tie.invariant-loop
-invariant-loop cells count results₀ i₀ results i = Stored (parts_of (λ i. result_of (traffic_at cells i))) results₀ 0 count results i
+abbrev invariant-loop-i : tie.invariant-loop-i
+invariant-loop-i cells count results₀ i₀ results i = Stored (parts_of (λ i. result_of (traffic_at cells i))) results₀ 0 count results i
 
-abbrev decreases-loop : tie.decreases-loop
-decreases-loop cells count results₀ i₀ results i = count - i
+abbrev decreases-loop-i : tie.decreases-loop-i
+decreases-loop-i cells count results₀ i₀ results i = count - i
 
-loop-holds : tie.Need-loop-init invariant-loop decreases-loop
+loop-holds : tie.Need-loop-i-init invariant-loop-i decreases-loop-i
 unfolding parts_of
 loop-holds c = stored-none refl
 
-mul-put-result : tie.Need-overflow-mul-put-result invariant-loop decreases-loop
+mul-put-result : tie.Need-overflow_mul-i invariant-loop-i decreases-loop-i
 mul-put-result c = search rules
 
-traffic-at-requires : tie.Need-traffic-at-requires invariant-loop decreases-loop
+traffic-at-requires : tie.Need-traffic_at-requires invariant-loop-i decreases-loop-i
 traffic-at-requires c κs = omega arith
 
-put-result-requires : tie.Need-put-result-requires invariant-loop decreases-loop
-put-result-requires c κs = omega (arith, stored-length c.before.before.before.loop.invariant)
+put-result-requires : tie.Need-put_result-requires invariant-loop-i decreases-loop-i
+put-result-requires c κs = omega (arith, stored-length c.before.before.before.loop-i.invariant)
 
-add-i : tie.Need-overflow-add-i invariant-loop decreases-loop
+add-i : tie.Need-overflow_add-i invariant-loop-i decreases-loop-i
 add-i c = search rules
 
-loop-less : tie.Need-loop-smaller invariant-loop decreases-loop
+loop-less : tie.Need-loop-i-smaller invariant-loop-i decreases-loop-i
 loop-less c = search rules
 
-loop-again : tie.Need-loop-preserved invariant-loop decreases-loop
+loop-again : tie.Need-loop-i-preserved invariant-loop-i decreases-loop-i
 unfolding result_of
 loop-again c =
     let put = c.before.before in
     let read = put.before in
     let turn = read.before.before in
     let cells = turn.before.before.before.before.args.cells.now in
-    rw put.put-result.ensures
-    (stored-record (λ i. result_of (traffic_at cells i)) 4 (λ i. refl) (turn.before.loop.i * 4) (result_of read.traffic-at.result)
-    turn.before.loop.invariant
-    turn.loop-test.true
+    rw put.put_result.ensures
+    (stored-record (λ i. result_of (traffic_at cells i)) 4 (λ i. refl) (turn.before.loop-i.i * 4) (result_of read.traffic_at.result)
+    turn.before.loop-i.invariant
+    turn.loop-i-test.true
     (omega arith)
-    (ap result_of read.traffic-at.ensures))
+    (ap result_of read.traffic_at.ensures))
 
-same_length : tie.Need-same-length invariant-loop decreases-loop
-same_length c = stored-length c.before.loop.invariant
+same_length : tie.Need-shape_of-results invariant-loop-i decreases-loop-i
+same_length c = stored-length c.before.loop-i.invariant
 
-returns : tie.Need-returns invariant-loop decreases-loop
-returns c = stored-all c.before.loop.invariant c.loop-test.false
+returns : tie.Need-returns invariant-loop-i decreases-loop-i
+returns c = stored-all c.before.loop-i.invariant c.loop-i-test.false
 
-pub put-results-spec : {M : Type 1} → statement M
-put-results-spec =
+pub put_results_spec : {M : Type 1} → statement M
+put_results_spec =
     tie.close
     (tie.spec
-    invariant-loop
-    decreases-loop
+    invariant-loop-i
+    decreases-loop-i
     loop-holds
     mul-put-result
     traffic-at-requires

@@ -13,7 +13,7 @@ use borrow.Author.Rules.{rules}
 use Rattle.road_run.proofs.run.Statement.{statement}
 use Rattle.road_run.proofs.run.Tie as tie
 
-abbrev entry : tie.After-road-steps → tie.Start
+abbrev entry : tie.After-road_steps-state → tie.Start
 entry c = c.before.before.before.before.before
 
 -- the state that the road begins with is the fresh state
@@ -24,23 +24,23 @@ begun :
     OnRoad b start.args.streams.now start.args.steps start.args.site 0 c.fresh.result blank
 begun c b start = rw c.fresh.ensures (start-road start)
 
-road-steps-requires : tie.Need-road-steps-requires
+road-steps-requires : tie.Need-road_steps-state-requires
 road-steps-requires c κs =
     let start = c.before.before.before.before in
     let some = start.requires in
     record { b = some.b; whole = start.args.steps; n = 0; enough = omega arith; road = begun c.before some.b some.start }
 
 ended :
-    (c : tie.After-road-steps) (b : List ℕ) →
+    (c : tie.After-road_steps-state) (b : List ℕ) →
     let a = (entry c).args in
     OfPersonality b a.site a.streams.now a.steps →
-    OnRoad b a.streams.now a.steps a.site a.steps c.road-steps.result c.road-steps.new.1.1.1.1.0
+    OnRoad b a.streams.now a.steps a.site a.steps c.road_steps-state.result c.road_steps-state.new.1.1.1.1.0
 ended c b start =
     let steps = (entry c).args.steps in
     let whole : 0 + steps ≡ steps = omega arith in
-    rw whole at (c.road-steps.ensures.road b steps 0 (omega arith) (begun c.before.before b start))
+    rw whole at (c.road_steps-state.ensures.road b steps 0 (omega arith) (begun c.before.before b start))
 
-put-results-requires : tie.Need-put-results-requires
+put-results-requires : tie.Need-put_results-requires
 unfolding stream_count
 put-results-requires c κs =
     let ran = c.before.before.before in
@@ -56,7 +56,7 @@ returns c =
       state = λ b start. (ended ran b start).held;
       written =
           λ b start.
-          put.put-results.ensures
+          put.put_results.ensures
           ∙ ap (λ (l : List ℕ). sets (entry ran).args.results.now 0 l) (end-results start (ended ran b start))
           ∙ results-placed start (entry ran).args.results.now (entry ran).requires.enough;
     }

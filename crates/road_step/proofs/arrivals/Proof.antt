@@ -12,60 +12,60 @@ use native.Mathlib.Omega.{arith}
 use Rattle.road_step.proofs.arrivals.Statement.{statement}
 use Rattle.road_step.proofs.arrivals.Tie as tie
 
-abbrev invariant-loop : tie.invariant-loop
-invariant-loop streams cells₀ count inputs₀ i₀ cells inputs i = ArrivedTo streams cells₀ cells inputs i
+abbrev invariant-loop-i : tie.invariant-loop-i
+invariant-loop-i streams cells₀ count inputs₀ i₀ cells inputs i = ArrivedTo streams cells₀ cells inputs i
 
-abbrev decreases-loop : tie.decreases-loop
-decreases-loop streams cells₀ count inputs₀ i₀ cells inputs i = count - i
+abbrev decreases-loop-i : tie.decreases-loop-i
+decreases-loop-i streams cells₀ count inputs₀ i₀ cells inputs i = count - i
 
-loop-holds : tie.Need-loop-init invariant-loop decreases-loop
+loop-holds : tie.Need-loop-i-init invariant-loop-i decreases-loop-i
 loop-holds c = arrived-none
 
 -- ── A turn ──
 
-abbrev entry : tie.At-loop invariant-loop decreases-loop → tie.Start invariant-loop decreases-loop
+abbrev entry : tie.At-loop-i invariant-loop-i decreases-loop-i → tie.Start invariant-loop-i decreases-loop-i
 entry c = c.before.before.before
 
 -- the stream is one of those, and its cells are in the row
-within : (c : tie.In-loop invariant-loop decreases-loop) → c.before.loop.i < stream_count (entry c.before).args.streams.now
+within : (c : tie.In-loop-i invariant-loop-i decreases-loop-i) → c.before.loop-i.i < stream_count (entry c.before).args.streams.now
 unfolding stream_count
-within c = c.loop-test.true
+within c = c.loop-i-test.true
 
-inside : (c : tie.In-loop invariant-loop decreases-loop) → 4 * c.before.loop.i + 4 ≤ length c.before.loop.cells
-inside c = omega (arith, within c, (entry c.before).pre.room, c.before.loop.invariant.pass.same)
+inside : (c : tie.In-loop-i invariant-loop-i decreases-loop-i) → 4 * c.before.loop-i.i + 4 ≤ length c.before.loop-i.cells
+inside c = omega (arith, within c, (entry c.before).pre.room, c.before.loop-i.invariant.pass.same)
 
 -- its traffic is as handed in
-fine : (c : tie.In-loop invariant-loop decreases-loop) → MayArrive (stream_at (entry c.before).args.streams.now c.before.loop.i) (traffic_at c.before.loop.cells c.before.loop.i)
-fine c = rw (c.before.loop.invariant.pass.left c.before.loop.i (omega arith)) ((entry c.before).pre.each c.before.loop.i (within c))
+fine : (c : tie.In-loop-i invariant-loop-i decreases-loop-i) → MayArrive (stream_at (entry c.before).args.streams.now c.before.loop-i.i) (traffic_at c.before.loop-i.cells c.before.loop-i.i)
+fine c = rw (c.before.loop-i.invariant.pass.left c.before.loop-i.i (omega arith)) ((entry c.before).pre.each c.before.loop-i.i (within c))
 
-stream-at-requires : tie.Need-stream-at-requires invariant-loop decreases-loop
-stream-at-requires c κs = omega (arith, c.loop-test.true)
+stream-at-requires : tie.Need-stream_at-stream-requires invariant-loop-i decreases-loop-i
+stream-at-requires c κs = omega (arith, c.loop-i-test.true)
 
-traffic-at-requires : tie.Need-traffic-at-requires invariant-loop decreases-loop
+traffic-at-requires : tie.Need-traffic_at-before-requires invariant-loop-i decreases-loop-i
 traffic-at-requires c κs = inside c.before.before
 
-arrived-requires : tie.Need-arrived-requires invariant-loop decreases-loop
+arrived-requires : tie.Need-arrived-traffic-requires invariant-loop-i decreases-loop-i
 arrived-requires c κs =
     let turn = c.before.before.before in
     let ok = fine turn in
-    rw (c.before.before.stream_at.ensures, c.traffic-at.ensures) (ok.rate, ok.below, ok.fits)
+    rw (c.before.before.stream_at-stream.ensures, c.traffic_at-before.ensures) (ok.rate, ok.below, ok.fits)
 
-put-at-requires : tie.Need-put-at-requires invariant-loop decreases-loop
+put-at-requires : tie.Need-put_at-requires invariant-loop-i decreases-loop-i
 put-at-requires c κs = inside c.before.before.before.before.before
 
-with-bit-requires : tie.Need-with-bit-requires invariant-loop decreases-loop
+with-bit-requires : tie.Need-with_bit-inputs-requires invariant-loop-i decreases-loop-i
 with-bit-requires c κs =
     let put = c.before.before.before in
     let read = put.before.before.before in
-    rw read.before.before.stream_at.ensures (fine read.before.before.before).detector
+    rw read.before.before.stream_at-stream.ensures (fine read.before.before.before).detector
 
-add-i : tie.Need-overflow-add-i invariant-loop decreases-loop
+add-i : tie.Need-overflow_add-i invariant-loop-i decreases-loop-i
 add-i c = search rules
 
-loop-less : tie.Need-loop-smaller invariant-loop decreases-loop
+loop-less : tie.Need-loop-i-smaller invariant-loop-i decreases-loop-i
 loop-less c = search rules
 
-loop-again : tie.Need-loop-preserved invariant-loop decreases-loop
+loop-again : tie.Need-loop-i-preserved invariant-loop-i decreases-loop-i
 unfolding queues
 loop-again c =
     let put = c.before.before.before.before in
@@ -73,23 +73,23 @@ loop-again c =
     let read = made.before in
     let seen = read.before.before in
     let turn = seen.before in
-    arrived-more made.arrived.result turn.before.loop.invariant turn.loop-test.true (inside turn) put.put-at.ensures
-    (made.arrived.ensures ∙ cc)
-    (ap (λ (s : Stream). s.detector) seen.stream_at.ensures) refl c.with-bit.ensures
+    arrived-more made.arrived-traffic.result turn.before.loop-i.invariant turn.loop-i-test.true (inside turn) put.put_at.ensures
+    (made.arrived-traffic.ensures ∙ cc)
+    (ap (λ (s : Stream). s.detector) seen.stream_at-stream.ensures) refl c.with_bit-inputs.ensures
 
-same_length : tie.Need-same-length invariant-loop decreases-loop
-same_length c = c.before.loop.invariant.pass.same
+same_length : tie.Need-shape_of-cells invariant-loop-i decreases-loop-i
+same_length c = c.before.loop-i.invariant.pass.same
 
-returns : tie.Need-returns invariant-loop decreases-loop
+returns : tie.Need-returns invariant-loop-i decreases-loop-i
 unfolding stream_count
-returns c = arrived-all c.before.loop.invariant c.loop-test.false
+returns c = arrived-all c.before.loop-i.invariant c.loop-i-test.false
 
-pub arrivals-spec : {M : Type 1} → statement M
-arrivals-spec =
+pub arrivals_spec : {M : Type 1} → statement M
+arrivals_spec =
     tie.close
     (tie.spec
-    invariant-loop
-    decreases-loop
+    invariant-loop-i
+    decreases-loop-i
     loop-holds
     stream-at-requires
     traffic-at-requires

@@ -6,21 +6,21 @@ use borrow.Author.Rules.{rules}
 use Rattle.road_step.proofs.put_at.Statement.{statement}
 use Rattle.road_step.proofs.put_at.Tie as tie
 
-slice-write-cells-2 : tie.Need-slice-write-cells-2
+slice-write-cells-2 : tie.Need-bounds-cells-at-2
 slice-write-cells-2 c = simp length-set (omega arith)
 
-slice-write-cells-3 : tie.Need-slice-write-cells-3
+slice-write-cells-3 : tie.Need-bounds-cells-at-3
 slice-write-cells-3 c = simp length-set (omega arith)
 
-slice-write-cells-4 : tie.Need-slice-write-cells-4
+slice-write-cells-4 : tie.Need-bounds-cells-at-4
 slice-write-cells-4 c = simp length-set (omega arith)
 
 returns : tie.Need-returns
 unfolding put_at
 returns c = search rules
 
-pub put-at-spec : {M : Type 1} → statement M
-put-at-spec =
+pub put_at_spec : {M : Type 1} → statement M
+put_at_spec =
     tie.close
     (tie.spec
     (λ c. search rules)

@@ -7,12 +7,12 @@ use borrow.Author.Rules.{rules}
 use Rattle.road_step.proofs.release.Statement.{statement}
 use Rattle.road_step.proofs.release.Tie as tie
 
-released-requires : tie.Need-released-requires
+released-requires : tie.Need-released-traffic-requires
 released-requires c κs =
     let pre = c.before.before.before.before.requires in
-    rw c.traffic-at.ensures (pre.1, pre.2)
+    rw c.traffic_at-before.ensures (pre.1, pre.2)
 
-returns : tie.Need-returns
+returns : tie.Need-returns-then-shows_green
 returns c =
     let put = c.before.before in
     let made = put.before.before in
@@ -20,15 +20,15 @@ returns c =
     let chosen = read.before.before in
     let a = chosen.before.before.args in
     λ colour e.
-    put.put-at.ensures
-    ∙ ap (put_at a.cells.now a.i)
-    (made.released.ensures colour (e ∙ chosen.if1.true) ∙ ap (released colour) read.traffic-at.ensures)
+    put.put_at.ensures
+    ∙ ap (put_at a.cells-1.now a.i)
+    (made.released-traffic.ensures colour (e ∙ chosen.if-shows_green.true) ∙ ap (released colour) read.traffic_at-before.ensures)
 
-returns-2 : tie.Need-returns-2
+returns-2 : tie.Need-returns
 unfolding released
 returns-2 c =
     let a = c.before.before.args in
-    λ colour e. rw (e, c.if1.false) (count-cleared a.cells.now a.i)
+    λ colour e. rw (e, c.if-shows_green.false) (count-cleared a.cells-1.now a.i)
 
 pub release_spec : {M : Type 1} → statement M
 release_spec =

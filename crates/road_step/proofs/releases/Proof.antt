@@ -12,82 +12,82 @@ use native.Mathlib.Omega.{arith}
 use Rattle.road_step.proofs.releases.Statement.{statement}
 use Rattle.road_step.proofs.releases.Tie as tie
 
-abbrev invariant-loop : tie.invariant-loop
-invariant-loop streams greens cells₀ count i₀ cells i = (i ≤ count) × Passed (releasing streams greens) cells₀ cells i
+abbrev invariant-loop-i : tie.invariant-loop-i
+invariant-loop-i streams greens cells₀ count i₀ cells i = (i ≤ count) × Passed (releasing streams greens) cells₀ cells i
 
-abbrev decreases-loop : tie.decreases-loop
-decreases-loop streams greens cells₀ count i₀ cells i = count - i
+abbrev decreases-loop-i : tie.decreases-loop-i
+decreases-loop-i streams greens cells₀ count i₀ cells i = count - i
 
-loop-holds : tie.Need-loop-init invariant-loop decreases-loop
+loop-holds : tie.Need-loop-i-init invariant-loop-i decreases-loop-i
 loop-holds c = (search rules, passed_none)
 
 -- ── A turn ──
 
-abbrev entry : tie.At-loop invariant-loop decreases-loop → tie.Start invariant-loop decreases-loop
+abbrev entry : tie.At-loop-i invariant-loop-i decreases-loop-i → tie.Start invariant-loop-i decreases-loop-i
 entry c = c.before.before.before
 
 -- the stream is one of those, and its cells are in the row
-within : (c : tie.In-loop invariant-loop decreases-loop) → c.before.loop.i < stream_count (entry c.before).args.streams.now
+within : (c : tie.In-loop-i invariant-loop-i decreases-loop-i) → c.before.loop-i.i < stream_count (entry c.before).args.streams.now
 unfolding stream_count
-within c = c.loop-test.true
+within c = c.loop-i-test.true
 
-inside : (c : tie.In-loop invariant-loop decreases-loop) → 4 * c.before.loop.i + 4 ≤ length c.before.loop.cells
-inside c = omega (arith, within c, (entry c.before).pre.room, c.before.loop.invariant.1.same)
+inside : (c : tie.In-loop-i invariant-loop-i decreases-loop-i) → 4 * c.before.loop-i.i + 4 ≤ length c.before.loop-i.cells
+inside c = omega (arith, within c, (entry c.before).pre.room, c.before.loop-i.invariant.1.same)
 
 -- its traffic is as handed in
 fine :
-    (c : tie.In-loop invariant-loop decreases-loop) →
-    MayRelease (stream_at (entry c.before).args.streams.now c.before.loop.i) (traffic_at c.before.loop.cells c.before.loop.i)
-fine c = rw (c.before.loop.invariant.1.left c.before.loop.i (omega arith)) ((entry c.before).pre.each c.before.loop.i (within c))
+    (c : tie.In-loop-i invariant-loop-i decreases-loop-i) →
+    MayRelease (stream_at (entry c.before).args.streams.now c.before.loop-i.i) (traffic_at c.before.loop-i.cells c.before.loop-i.i)
+fine c = rw (c.before.loop-i.invariant.1.left c.before.loop-i.i (omega arith)) ((entry c.before).pre.each c.before.loop-i.i (within c))
 
-stream-at-requires : tie.Need-stream-at-requires invariant-loop decreases-loop
-stream-at-requires c κs = omega (arith, c.loop-test.true)
+stream-at-requires : tie.Need-stream_at-stream-requires invariant-loop-i decreases-loop-i
+stream-at-requires c κs = omega (arith, c.loop-i-test.true)
 
-is-green-requires : tie.Need-is-green-requires invariant-loop decreases-loop
-is-green-requires c κs = rw c.stream_at.ensures (omega (arith, (fine c.before).group))
+is-green-requires : tie.Need-is_green-shows_green-requires invariant-loop-i decreases-loop-i
+is-green-requires c κs = rw c.stream_at-stream.ensures (omega (arith, (fine c.before).group))
 
-release-requires : tie.Need-release-requires invariant-loop decreases-loop
+release-requires : tie.Need-release-requires invariant-loop-i decreases-loop-i
 release-requires c κs =
     let turn = c.before.before.before in
     let ok = fine turn in
     (inside turn, ok.fits, ok.counting)
 
-add-i : tie.Need-overflow-add-i invariant-loop decreases-loop
+add-i : tie.Need-overflow_add-i invariant-loop-i decreases-loop-i
 add-i c = search rules
 
-loop-less : tie.Need-loop-smaller invariant-loop decreases-loop
+loop-less : tie.Need-loop-i-smaller invariant-loop-i decreases-loop-i
 loop-less c = search rules
 
-loop-again : tie.Need-loop-preserved invariant-loop decreases-loop
+loop-again : tie.Need-loop-i-preserved invariant-loop-i decreases-loop-i
 loop-again c =
     let left = c.before.before in
     let shown = left.before.before in
     let seen = shown.before in
     let turn = seen.before in
-    let i = turn.before.loop.i in
-    let cells = turn.before.loop.cells in
+    let i = turn.before.loop-i.i in
+    let cells = turn.before.loop-i.cells in
     let streams = (entry turn.before).args.streams.now in
     let greens = (entry turn.before).args.greens in (
       search rules,
-      passed-more (releasing streams greens i (traffic_at cells i)) turn.before.loop.invariant.1 (inside turn)
+      passed-more (releasing streams greens i (traffic_at cells i)) turn.before.loop-i.invariant.1 (inside turn)
           (left.release.ensures (coloured greens (stream_at streams i).group)
-          (coloured-green greens (stream_at streams i).group ∙ sym (shown.is-green.ensures ∙ cc)))
+          (coloured-green greens (stream_at streams i).group ∙ sym (shown.is_green-shows_green.ensures ∙ cc)))
           refl,
     )
 
-same_length : tie.Need-same-length invariant-loop decreases-loop
-same_length c = c.before.loop.invariant.1.same
+same_length : tie.Need-shape_of-cells invariant-loop-i decreases-loop-i
+same_length c = c.before.loop-i.invariant.1.same
 
-returns : tie.Need-returns invariant-loop decreases-loop
+returns : tie.Need-returns invariant-loop-i decreases-loop-i
 unfolding stream_count
-returns c = released-all c.before.loop.invariant.1 c.before.loop.invariant.0 c.loop-test.false
+returns c = released-all c.before.loop-i.invariant.1 c.before.loop-i.invariant.0 c.loop-i-test.false
 
-pub releases-spec : {M : Type 1} → statement M
-releases-spec =
+pub releases_spec : {M : Type 1} → statement M
+releases_spec =
     tie.close
     (tie.spec
-    invariant-loop
-    decreases-loop
+    invariant-loop-i
+    decreases-loop-i
     loop-holds
     stream-at-requires
     is-green-requires

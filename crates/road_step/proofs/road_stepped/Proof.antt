@@ -4,15 +4,15 @@ use borrow.Author.Rules.{rules}
 use Rattle.road_step.proofs.road_stepped.Statement.{statement}
 use Rattle.road_step.proofs.road_stepped.Tie as tie
 
-road-steps-requires : tie.Need-road-steps-requires
+road-steps-requires : tie.Need-road_steps-requires
 road-steps-requires c κs =
     let some = c.before.before.before.requires in
     record { b = some.b; whole = some.steps; n = some.n; enough = omega (arith, some.before); road = some.road }
 
 returns : tie.Need-returns
 returns c =
-    let further = c.before.before.road-steps.ensures in
+    let further = c.before.before.road_steps.ensures in
     record { same = further.same; rest = further.rest; road = λ b steps n before road. further.road b steps n (omega (arith, before)) road }
 
-pub road-stepped-spec : {M : Type 1} → statement M
-road-stepped-spec = tie.close (tie.spec road-steps-requires (λ c. search rules) returns)
+pub road_stepped_spec : {M : Type 1} → statement M
+road_stepped_spec = tie.close (tie.spec road-steps-requires (λ c. search rules) returns)

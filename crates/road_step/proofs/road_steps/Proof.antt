@@ -17,67 +17,67 @@ use borrow.Author.Rules.{rules}
 use Rattle.road_step.proofs.road_steps.Statement.{statement}
 use Rattle.road_step.proofs.road_steps.Tie as tie
 
-abbrev invariant-loop : tie.invariant-loop
-invariant-loop site streams steps cells₀ greens₀ last₀ n₀ cells greens last n =
+abbrev invariant-loop-n : tie.invariant-loop-n
+invariant-loop-n site streams steps cells₀ greens₀ last₀ n₀ cells greens last n =
     (n ≤ steps)
     × (length cells ≡ length cells₀)
     × RestStays (stream_count streams) cells₀ cells
-    × GreenIn site last.core greens
+    × GreenIn site last.core-1 greens
     × ((b : List ℕ) (whole m : ℕ) →
     m + steps ≤ whole →
     OnRoad b streams whole site m last₀ cells₀ →
     OnRoad b streams whole site (m + n) last cells)
 
-abbrev decreases-loop : tie.decreases-loop
-decreases-loop site streams steps cells₀ greens₀ last₀ n₀ cells greens last n = steps - n
+abbrev decreases-loop-n : tie.decreases-loop-n
+decreases-loop-n site streams steps cells₀ greens₀ last₀ n₀ cells greens last n = steps - n
 
-greens-in-requires : tie.Need-greens-in-requires invariant-loop decreases-loop
+greens-in-requires : tie.Need-greens_in-greens-requires invariant-loop-n decreases-loop-n
 greens-in-requires c κs = on-sound c.before.before.before.requires.road
 
-loop-holds : tie.Need-loop-init invariant-loop decreases-loop
-loop-holds c = (omega arith, refl, λ i l. refl, c.greens-in.ensures, λ b whole m l road. rw (add-zero m) road)
+loop-holds : tie.Need-loop-n-init invariant-loop-n decreases-loop-n
+loop-holds c = (omega arith, refl, λ i l. refl, c.greens_in-greens.ensures, λ b whole m l road. rw (add-zero m) road)
 
 -- ── A turn: the road that is known to be there ──
 
-abbrev start : tie.At-loop invariant-loop decreases-loop → tie.Start invariant-loop decreases-loop
+abbrev start : tie.At-loop-n invariant-loop-n decreases-loop-n → tie.Start invariant-loop-n decreases-loop-n
 start c = c.before.before.before.before.before
 
 here :
-    (c : tie.In-loop invariant-loop decreases-loop) →
+    (c : tie.In-loop-n invariant-loop-n decreases-loop-n) →
     let at = c.before in
     let ahead = (start at).requires in
-    OnRoad ahead.b (start at).args.streams.now ahead.whole (start at).args.site (ahead.n + at.loop.n) at.loop.last at.loop.cells
-here c = let ahead = (start c.before).pre in c.before.loop.invariant.4 ahead.b ahead.whole ahead.n ahead.enough ahead.road
+    OnRoad ahead.b (start at).args.streams.now ahead.whole (start at).args.site (ahead.n + at.loop-n.n) at.loop-n.last at.loop-n.cells
+here c = let ahead = (start c.before).pre in c.before.loop-n.invariant.4 ahead.b ahead.whole ahead.n ahead.enough ahead.road
 
-before-end : (c : tie.In-loop invariant-loop decreases-loop) → (start c.before).pre.n + c.before.loop.n < (start c.before).pre.whole
-before-end c = omega (arith, (start c.before).pre.enough, c.loop-test.true)
+before-end : (c : tie.In-loop-n invariant-loop-n decreases-loop-n) → (start c.before).pre.n + c.before.loop-n.n < (start c.before).pre.whole
+before-end c = omega (arith, (start c.before).pre.enough, c.loop-n-test.true)
 
-arrivals-requires : tie.Need-arrivals-requires invariant-loop decreases-loop
+arrivals-requires : tie.Need-arrivals-inputs-requires invariant-loop-n decreases-loop-n
 arrivals-requires c κs = may-arrive (here c.before) (before-end c.before)
 
-kept-stepped-requires : tie.Need-kept-stepped-requires invariant-loop decreases-loop
+kept-stepped-requires : tie.Need-kept_stepped-last-requires invariant-loop-n decreases-loop-n
 kept-stepped-requires c κs =
     let road = here c.before.before.before.before in
     (on-sound road, on-valid road)
 
-greens-after-requires : tie.Need-greens-after-requires invariant-loop decreases-loop
+greens-after-requires : tie.Need-greens_after-greens-requires invariant-loop-n decreases-loop-n
 greens-after-requires c κs = on-sound (here c.before.before.before.before.before.before)
 
-releases-requires : tie.Need-releases-requires invariant-loop decreases-loop
+releases-requires : tie.Need-releases-requires invariant-loop-n decreases-loop-n
 releases-requires c κs =
     let came = c.before.before.before.before.before.before in
     let turn = came.before.before in
-    may-release (here turn) (before-end turn) came.arrivals.ensures
+    may-release (here turn) (before-end turn) came.arrivals-inputs.ensures
 
-add-n : tie.Need-overflow-add-n invariant-loop decreases-loop
+add-n : tie.Need-overflow_add-n invariant-loop-n decreases-loop-n
 add-n c =
     let turn = c.before.before.before.before.before.before.before.before.before.before.before in
-    search (rules, turn.loop-test.true, (start turn.before).fits.steps)
+    search (rules, turn.loop-n-test.true, (start turn.before).fits.steps)
 
-loop-less : tie.Need-loop-smaller invariant-loop decreases-loop
+loop-less : tie.Need-loop-n-smaller invariant-loop-n decreases-loop-n
 loop-less c = search rules
 
-loop-again : tie.Need-loop-preserved invariant-loop decreases-loop
+loop-again : tie.Need-loop-n-preserved invariant-loop-n decreases-loop-n
 loop-again c =
     let left = c.before.before in
     let lit = left.before.before in
@@ -85,36 +85,36 @@ loop-again c =
     let came = stepped.before.before.before in
     let turn = came.before.before in
     let at = turn.before in
-    let inv = at.loop.invariant in
-    let shown : GreenIn (start at).args.site stepped.kept-stepped.result.core lit.greens-after.result =
-    lit.greens-after.ensures at.loop.last.core
-    (subst (λ (next : KeptState). Follows at.loop.last.core.position next.core.position) (sym stepped.kept-stepped.ensures)
-    (step_follows (start at).args.site at.loop.last came.arrivals.result))
+    let inv = at.loop-n.invariant in
+    let shown : GreenIn (start at).args.site stepped.kept_stepped-last.result.core lit.greens_after-greens.result =
+    lit.greens_after-greens.ensures at.loop-n.last.core
+    (subst (λ (next : KeptState). Follows at.loop-n.last.core.position next.core-1.position) (sym stepped.kept_stepped-last.ensures)
+    (step_follows (start at).args.site at.loop-n.last came.arrivals-inputs.result))
     inv.3 in (
       search rules,
-      left.releases.ensures.same ∙ came.arrivals.ensures.same ∙ inv.1,
-      λ i l. left.releases.ensures.rest i l ∙ came.arrivals.ensures.rest i l ∙ inv.2 i l,
+      left.releases.ensures.same ∙ came.arrivals-inputs.ensures.same ∙ inv.1,
+      λ i l. left.releases.ensures.rest i l ∙ came.arrivals-inputs.ensures.rest i l ∙ inv.2 i l,
       shown,
       λ b whole m l road.
-          let later : m + at.loop.n + 1 ≡ m + (at.loop.n + 1) = omega arith in
-          rw later at (next-road (inv.4 b whole m l road) (omega (arith, l, turn.loop-test.true)) came.arrivals.ensures stepped.kept-stepped.ensures shown left.releases.ensures),
+          let later : m + at.loop-n.n + 1 ≡ m + (at.loop-n.n + 1) = omega arith in
+          rw later at (next-road (inv.4 b whole m l road) (omega (arith, l, turn.loop-n-test.true)) came.arrivals-inputs.ensures stepped.kept_stepped-last.ensures shown left.releases.ensures),
     )
 
-same_length : tie.Need-same-length invariant-loop decreases-loop
-same_length c = c.before.loop.invariant.1
+same_length : tie.Need-shape_of-cells invariant-loop-n decreases-loop-n
+same_length c = c.before.loop-n.invariant.1
 
-returns : tie.Need-returns invariant-loop decreases-loop
+returns : tie.Need-returns invariant-loop-n decreases-loop-n
 returns c =
     let at = c.before in
-    let last : at.loop.n ≡ (start at).args.steps = omega (arith, at.loop.invariant.0, c.loop-test.false) in
-    record { same = at.loop.invariant.1; rest = at.loop.invariant.2; road = rw last at at.loop.invariant.4 }
+    let last : at.loop-n.n ≡ (start at).args.steps = omega (arith, at.loop-n.invariant.0, c.loop-n-test.false) in
+    record { same = at.loop-n.invariant.1; rest = at.loop-n.invariant.2; road = rw last at at.loop-n.invariant.4 }
 
-pub road-steps-spec : {M : Type 1} → statement M
-road-steps-spec =
+pub road_steps_spec : {M : Type 1} → statement M
+road_steps_spec =
     tie.close
     (tie.spec
-    invariant-loop
-    decreases-loop
+    invariant-loop-n
+    decreases-loop-n
     greens-in-requires
     loop-holds
     arrivals-requires

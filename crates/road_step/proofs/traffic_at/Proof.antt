@@ -9,8 +9,8 @@ returns : tie.Need-returns
 unfolding traffic_at
 returns c = refl
 
-pub traffic-at-spec : {M : Type 1} → statement M
-traffic-at-spec =
+pub traffic_at_spec : {M : Type 1} → statement M
+traffic_at_spec =
     tie.close
     (tie.spec
     (λ c. search rules)

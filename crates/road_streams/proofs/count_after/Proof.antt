@@ -5,13 +5,13 @@ use Rattle.road_streams.specs.Road.{queues}
 use Rattle.road_streams.proofs.count_after.Statement.{statement}
 use Rattle.road_streams.proofs.count_after.Tie as tie
 
-returns : tie.Need-returns
+returns : tie.Need-returns-then-shows_green-traffic
 unfolding queues
-returns c = rw c.before.if1.true refl
+returns c = rw c.before.if-shows_green-traffic.true refl
 
-returns-2 : tie.Need-returns-2
+returns-2 : tie.Need-returns
 unfolding queues
-returns-2 c = rw c.if1.false refl
+returns-2 c = rw c.if-shows_green-traffic.false refl
 
-pub count-after-spec : {M : Type 1} → statement M
-count-after-spec = tie.close (tie.spec (λ c. search rules) returns returns-2)
+pub count_after_spec : {M : Type 1} → statement M
+count_after_spec = tie.close (tie.spec (λ c. search rules) returns returns-2)

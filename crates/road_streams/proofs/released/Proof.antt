@@ -4,22 +4,22 @@ use Rattle.road_streams.proofs.One.{some-queue, one-leaves, nobody-leaves}
 use Rattle.road_streams.proofs.released.Statement.{statement}
 use Rattle.road_streams.proofs.released.Tie as tie
 
-sub-t5 : tie.Need-overflow-sub-t5
+sub-t5 : tie.Need-overflow_sub-result
 sub-t5 c =
     let counted = c.before.before in
     let a = counted.before.args in
-    some-queue a.traffic a.shows-green _ counted.count-after.ensures c.before.if1.true
+    some-queue a.traffic a.shows-green _ counted.count_after-count.ensures c.before.if-count-eq20.true
 
-returns : tie.Need-returns
+returns : tie.Need-returns-then-count-eq20
 returns c =
     let counted = c.before.before.before in
     let a = counted.before.args in
-    λ colour e. one-leaves a.traffic a.shows-green _ counted.count-after.ensures colour e c.before.before.if1.true
+    λ colour e. one-leaves a.traffic a.shows-green _ counted.count_after-count.ensures colour e c.before.before.if-count-eq20.true
 
-returns-2 : tie.Need-returns-2
+returns-2 : tie.Need-returns
 returns-2 c =
     let a = c.before.before.args in
-    λ colour e. nobody-leaves a.traffic a.shows-green _ c.before.count-after.ensures colour e c.if1.false
+    λ colour e. nobody-leaves a.traffic a.shows-green _ c.before.count_after-count.ensures colour e c.if-count-eq20.false
 
-pub released-spec : {M : Type 1} → statement M
-released-spec = tie.close (tie.spec (λ c κs. search rules) sub-t5 (λ c. search rules) returns returns-2)
+pub released_spec : {M : Type 1} → statement M
+released_spec = tie.close (tie.spec (λ c κs. search rules) sub-t5 (λ c. search rules) returns returns-2)

@@ -17,50 +17,50 @@ use Rattle.road_streams.proofs.some_bad.Tie as tie
 abbrev at : Site → List ℕ → ℕ → Bool
 at site streams i = bad_stream site (stream_at streams i)
 
-abbrev invariant-loop : tie.invariant-loop
-invariant-loop site streams count bad₀ i₀ bad i = (i ≤ count) × (bad ≡ any_of (at site streams) i)
+abbrev invariant-loop-i : tie.invariant-loop-i
+invariant-loop-i site streams count bad₀ i₀ bad i = (i ≤ count) × (bad ≡ any_of (at site streams) i)
 
-abbrev decreases-loop : tie.decreases-loop
-decreases-loop site streams count bad₀ i₀ bad i = count - i
+abbrev decreases-loop-i : tie.decreases-loop-i
+decreases-loop-i site streams count bad₀ i₀ bad i = count - i
 
-loop-holds : tie.Need-loop-init invariant-loop decreases-loop
+loop-holds : tie.Need-loop-i-init invariant-loop-i decreases-loop-i
 loop-holds c = (search rules, none_passes _)
 
-stream-at-requires : tie.Need-stream-at-requires invariant-loop decreases-loop
+stream-at-requires : tie.Need-stream_at-requires invariant-loop-i decreases-loop-i
 stream-at-requires c κs = search rules
 
-bad-stream-requires : tie.Need-bad-stream-requires invariant-loop decreases-loop
+bad-stream-requires : tie.Need-bad_stream-bad-requires invariant-loop-i decreases-loop-i
 bad-stream-requires c κs = search rules
 
-add-i : tie.Need-overflow-add-i invariant-loop decreases-loop
+add-i : tie.Need-overflow_add-i invariant-loop-i decreases-loop-i
 add-i c = search rules
 
-loop-less : tie.Need-loop-smaller invariant-loop decreases-loop
+loop-less : tie.Need-loop-i-smaller invariant-loop-i decreases-loop-i
 loop-less c = search rules
 
-loop-again : tie.Need-loop-preserved invariant-loop decreases-loop
+loop-again : tie.Need-loop-i-preserved invariant-loop-i decreases-loop-i
 loop-again c =
     let here = c.before.before.before in
     let a = here.before.before.args in (
       search rules,
-      one_more (at a.site a.streams.now) here.loop.i here.loop.invariant.1
-          (c.bad-stream.ensures ∙ ap (λ (s : Stream). bad_stream a.site s) c.before.stream_at.ensures),
+      one_more (at a.site a.streams.now) here.loop-i.i here.loop-i.invariant.1
+          (c.bad_stream-bad.ensures ∙ ap (λ (s : Stream). bad_stream a.site s) c.before.stream_at.ensures),
     )
 
-returns : tie.Need-returns invariant-loop decreases-loop
+returns : tie.Need-returns invariant-loop-i decreases-loop-i
 unfolding stream_count
 returns c =
     let here = c.before in
     let a = here.before.before.args in
-    let last : here.loop.i ≡ length a.streams.now / 4 = omega arith in
-    rw last at here.loop.invariant.1
+    let last : here.loop-i.i ≡ length a.streams.now / 4 = omega arith in
+    rw last at here.loop-i.invariant.1
 
-pub some-bad-spec : {M : Type 1} → statement M
-some-bad-spec =
+pub some_bad_spec : {M : Type 1} → statement M
+some_bad_spec =
     tie.close
     (tie.spec
-    invariant-loop
-    decreases-loop
+    invariant-loop-i
+    decreases-loop-i
     loop-holds
     stream-at-requires
     bad-stream-requires

@@ -7,10 +7,10 @@ use Rattle.road_streams.proofs.stream_at.Tie as tie
 
 returns : tie.Need-returns
 unfolding stream_at
-returns c = rw (c.before.before.byte-in.ensures, c.before.byte-in2.ensures, c.two_in.ensures) refl
+returns c = rw (c.before.before.byte_in.ensures, c.before.byte_in-2.ensures, c.two_in.ensures) refl
 
-pub stream-at-spec : {M : Type 1} → statement M
-stream-at-spec =
+pub stream_at_spec : {M : Type 1} → statement M
+stream_at_spec =
     tie.close
     (tie.spec
     (λ c. search rules)

@@ -7,13 +7,13 @@ use mathlib.Core.Path.{refl}
 use Rattle.road_streams.proofs.vehicle_group.Statement.{statement}
 use Rattle.road_streams.proofs.vehicle_group.Tie as tie
 
-returns : tie.Need-returns
+returns : tie.Need-returns-then-g-site
 unfolding vehicle_group is_pedestrian group_of
-returns c = rw (lt-ltb _ _ c.before.before.before.if1.true) refl
+returns c = rw (lt-ltb _ _ c.before.before.before.if-g-site.true) refl
 
-returns-2 : tie.Need-returns-2
+returns-2 : tie.Need-returns
 unfolding vehicle_group
-returns-2 c = rw (le-ltb _ _ c.if1.false) refl
+returns-2 c = rw (le-ltb _ _ c.if-g-site.false) refl
 
-pub vehicle-group-spec : {M : Type 1} → statement M
-vehicle-group-spec = tie.close (tie.spec (λ c. search rules) (λ c. search rules) returns returns-2)
+pub vehicle_group_spec : {M : Type 1} → statement M
+vehicle_group_spec = tie.close (tie.spec (λ c. search rules) (λ c. search rules) returns returns-2)

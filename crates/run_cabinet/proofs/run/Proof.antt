@@ -5,45 +5,45 @@ use borrow.Author.Rules.{rules}
 use Rattle.run_cabinet.proofs.run.Statement.{statement}
 use Rattle.run_cabinet.proofs.run.Tie as tie
 
-abbrev invariant-loop : tie.invariant-loop
-invariant-loop outputs₀ kept₀ turns₀ outputs kept turns = length outputs ≡ length outputs₀
+abbrev invariant-loop-turns : tie.invariant-loop-turns
+invariant-loop-turns outputs₀ kept₀ turns₀ outputs kept turns = length outputs ≡ length outputs₀
 
-abbrev decreases-loop : tie.decreases-loop
-decreases-loop outputs₀ kept₀ turns₀ outputs kept turns = turns
+abbrev decreases-loop-turns : tie.decreases-loop-turns
+decreases-loop-turns outputs₀ kept₀ turns₀ outputs kept turns = turns
 
-loop-holds : tie.Need-loop-init invariant-loop decreases-loop
+loop-holds : tie.Need-loop-turns-init invariant-loop-turns decreases-loop-turns
 loop-holds c = refl
 
-take-turn-requires : tie.Need-take-turn-requires invariant-loop decreases-loop
+take-turn-requires : tie.Need-take_turn-next-requires invariant-loop-turns decreases-loop-turns
 take-turn-requires c κs = search rules
 
-same_length : tie.Need-same-length invariant-loop decreases-loop
+same_length : tie.Need-shape_of-outputs-then-not-next invariant-loop-turns decreases-loop-turns
 same_length c = search rules
 
-returns : tie.Need-returns invariant-loop decreases-loop
+returns : tie.Need-returns-then-not-next invariant-loop-turns decreases-loop-turns
 returns c = search rules
 
-sub-turns : tie.Need-overflow-sub-turns invariant-loop decreases-loop
+sub-turns : tie.Need-overflow_sub-turns invariant-loop-turns decreases-loop-turns
 sub-turns c = search rules
 
-loop-less : tie.Need-loop-smaller invariant-loop decreases-loop
+loop-less : tie.Need-loop-turns-smaller invariant-loop-turns decreases-loop-turns
 loop-less c = search rules
 
-loop-again : tie.Need-loop-preserved invariant-loop decreases-loop
+loop-again : tie.Need-loop-turns-preserved invariant-loop-turns decreases-loop-turns
 loop-again c = search rules
 
-same-length-2 : tie.Need-same-length-2 invariant-loop decreases-loop
+same-length-2 : tie.Need-shape_of-outputs invariant-loop-turns decreases-loop-turns
 same-length-2 c = search rules
 
-returns-2 : tie.Need-returns-2 invariant-loop decreases-loop
+returns-2 : tie.Need-returns invariant-loop-turns decreases-loop-turns
 returns-2 c = search rules
 
 pub run_spec : {M : Type 1} → statement M
 run_spec =
     tie.close
     (tie.spec
-    invariant-loop
-    decreases-loop
+    invariant-loop-turns
+    decreases-loop-turns
     loop-holds
     take-turn-requires
     same_length

@@ -14,51 +14,51 @@ use Rattle.run_parts.proofs.Parts.{state-timed, few-groups, call-refused, call-a
 use Rattle.run_parts.proofs.call_part.Statement.{statement}
 use Rattle.run_parts.proofs.call_part.Tie as tie
 
-abbrev start : tie.After-step → tie.Start
+abbrev start : tie.After-step-answer → tie.Start
 start c = c.before.before.before.before
 
-returns : tie.Need-returns
+returns : tie.Need-returns-then-number-ne0
 returns c =
     let numbered = c.before.before in
     let called = numbered.before.before in
     let a = (start called).args in (
-      rw (call-refused a.personality.now a.state.now a.step a.inputs called.step.ensures.0 numbered.if1.true)
+      rw (call-refused a.personality.now a.state.now a.step-answer a.inputs called.step-answer.ensures.0 numbered.if-number-ne0.true)
           c.refuse.ensures,
-      called.step.ensures.1,
+      called.step-answer.ensures.1,
     )
 
 -- the answer has no number
-accepted : (c : tie.Else1) → let a = (start c.before.before).args in step_answer a.personality.now a.state.now a.inputs 32 % 256 ≡ 0
-accepted c = ap (λ (r : ℕ). r % 256) (sym c.before.before.step.ensures.0) ∙ c.if1.false
+accepted : (c : tie.Else-number-ne0) → let a = (start c.before.before).args in step_answer a.personality.now a.state.now a.inputs 32 % 256 ≡ 0
+accepted c = ap (λ (r : ℕ). r % 256) (sym c.before.before.step-answer.ensures.0) ∙ c.if-number-ne0.false
 
-read-requires : tie.Need-read-requires
+read-requires : tie.Need-read-kept-requires
 read-requires c κs =
     let here = c.before.before in
     let called = here.before.before in
     let a = (start called).args in
     let told =
-    timed-known _ (ap is_timed called.step.ensures.1 ∙ state-timed a.personality.now a.state.now a.inputs 32 (accepted here)) in
+    timed-known _ (ap is_timed called.step-answer.ensures.1 ∙ state-timed a.personality.now a.state.now a.inputs 32 (accepted here)) in
     (omega (arith, told.size), told.kept-known)
 
 -- the site has at most 32 groups
-few : (c : tie.After-byte-at) → c.byte_at.result ≤ 32
+few : (c : tie.After-byte_at-groups) → c.byte_at-groups.result ≤ 32
 unfolding group_count
 few c =
     let here = c.before.before.before.before.before.before in
     let a = (start here.before.before).args in
-    omega (arith, c.byte_at.ensures, few-groups a.personality.now a.state.now a.inputs 32 (accepted here))
+    omega (arith, c.byte_at-groups.ensures, few-groups a.personality.now a.state.now a.inputs 32 (accepted here))
 
-array-share-prefix-colours : tie.Need-array-share-prefix-colours
+array-share-prefix-colours : tie.Need-slice_bounds-colours-end
 array-share-prefix-colours c = omega (arith, few c)
 
-slice-aggregate-put-step : tie.Need-slice-aggregate-put-step
-slice-aggregate-put-step c = sym (length-take-le c.before.byte_at.result _ (omega (arith, few c.before)))
+slice-aggregate-put-step : tie.Need-slice_bounds-put_step-end
+slice-aggregate-put-step c = sym (length-take-le c.before.byte_at-groups.result _ (omega (arith, few c.before)))
 
-put-step-requires : tie.Need-put-step-requires
+put-step-requires : tie.Need-put_step-length-requires
 put-step-requires c κs =
     (simp length-take (omega (arith, few c.before.before)), omega arith)
 
-returns-2 : tie.Need-returns-2
+returns-2 : tie.Need-returns
 returns-2 c =
     let counted = c.before.before.before in
     let read = counted.before.before.before in
@@ -66,15 +66,15 @@ returns-2 c =
     let called = here.before.before in
     let a = (start called).args in
     let line =
-    line-told a.personality.now a.state.now a.step a.inputs read.read.ensures called.step.ensures.1 counted.byte_at.ensures
-    called.step.ensures.2 in (
-      rw (call-accepted a.personality.now a.state.now a.step a.inputs called.step.ensures.0 here.if1.false)
-          (record { text = rw (← line) c.put_step.ensures; more = refl }),
-      called.step.ensures.1,
+    line-told a.personality.now a.state.now a.step-answer a.inputs read.read-kept.ensures called.step-answer.ensures.1 counted.byte_at-groups.ensures
+    called.step-answer.ensures.2 in (
+      rw (call-accepted a.personality.now a.state.now a.step-answer a.inputs called.step-answer.ensures.0 here.if-number-ne0.false)
+          (record { text = rw (← line) c.put_step-length.ensures; more = refl }),
+      called.step-answer.ensures.1,
     )
 
-pub call-part-spec : {M : Type 1} → statement M
-call-part-spec =
+pub call_part_spec : {M : Type 1} → statement M
+call_part_spec =
     tie.close
     (tie.spec
     (λ c. search rules)

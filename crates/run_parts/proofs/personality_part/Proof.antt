@@ -8,14 +8,14 @@ use Rattle.run_parts.specs.Parts.{state_for}
 use Rattle.run_parts.proofs.personality_part.Statement.{statement}
 use Rattle.run_parts.proofs.personality_part.Tie as tie
 
-returns : tie.Need-returns
+returns : tie.Need-returns-then-bytes-size
 unfolding personality_part state_for
 returns c =
     let few = c.before.before in
     let a = few.before.before.args in
-    rw (lt-ltb (length a.bytes.now) a.size few.if1.true) (c.refuse-cut.ensures, refl)
+    rw (lt-ltb (length a.bytes.now) a.size few.if-bytes-size.true) (c.refuse_cut.ensures, refl)
 
-returns-2 : tie.Need-returns-2
+returns-2 : tie.Need-returns-in-Refused
 unfolding personality_part verdict_part state_for
 returns-2 c =
     let told = c.before.before.before in
@@ -23,10 +23,10 @@ returns-2 c =
     let read = fresh.before.before in
     let enough = read.before in
     let a = enough.before.before.args in
-    rw (le-ltb (length a.bytes.now) a.size enough.if1.false, sym read.read.ensures ∙ told.verdict.given.1)
+    rw (le-ltb (length a.bytes.now) a.size enough.if-bytes-size.false, sym read.read-verdict.ensures ∙ told.verdict-1.given.1)
     (c.refuse.ensures, fresh.fresh.ensures.1)
 
-returns-3 : tie.Need-returns-3
+returns-3 : tie.Need-returns
 unfolding personality_part verdict_part state_for
 returns-3 c =
     let told = c.before.before in
@@ -34,11 +34,11 @@ returns-3 c =
     let read = fresh.before.before in
     let enough = read.before in
     let a = enough.before.before.args in
-    rw (le-ltb (length a.bytes.now) a.size enough.if1.false, sym read.read.ensures ∙ told.enum_told.given.1)
-    (record { text = c.put-header.ensures; more = refl }, fresh.fresh.ensures.1)
+    rw (le-ltb (length a.bytes.now) a.size enough.if-bytes-size.false, sym read.read-verdict.ensures ∙ told.enum_told-1.given.1)
+    (record { text = c.put_header-length.ensures; more = refl }, fresh.fresh.ensures.1)
 
-pub personality-part-spec : {M : Type 1} → statement M
-personality-part-spec =
+pub personality_part_spec : {M : Type 1} → statement M
+personality_part_spec =
     tie.close
     (tie.spec
     (λ c κs. search rules)

@@ -5,7 +5,7 @@ use Rattle.run_parts.proofs.refuse.Statement.{statement}
 use Rattle.run_parts.proofs.refuse.Tie as tie
 
 returns : tie.Need-returns
-returns c = record { text = c.put-refusal.ensures; more = refl }
+returns c = record { text = c.put_refusal-length.ensures; more = refl }
 
-pub refuse-spec : {M : Type 1} → statement M
-refuse-spec = tie.close (tie.spec (λ c κs. search rules) returns)
+pub refuse_spec : {M : Type 1} → statement M
+refuse_spec = tie.close (tie.spec (λ c κs. search rules) returns)

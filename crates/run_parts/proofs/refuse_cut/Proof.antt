@@ -8,5 +8,5 @@ returns : tie.Need-returns
 unfolding cut
 returns c = c.refuse.ensures
 
-pub refuse-cut-spec : {M : Type 1} → statement M
-refuse-cut-spec = tie.close (tie.spec (λ c κs. search rules) returns)
+pub refuse_cut_spec : {M : Type 1} → statement M
+refuse_cut_spec = tie.close (tie.spec (λ c κs. search rules) returns)

@@ -5,48 +5,48 @@ use borrow.Author.Rules.{rules}
 use Rattle.run_reads.proofs.run.Statement.{statement}
 use Rattle.run_reads.proofs.run.Tie as tie
 
-abbrev invariant-loop : tie.invariant-loop
-invariant-loop file tally₀ i₀ tally i = (tally.read ≡ i) × (tally.agree ≤ tally.read) × (i ≤ 100000)
+abbrev invariant-loop-i : tie.invariant-loop-i
+invariant-loop-i file tally₀ i₀ tally i = (tally.read ≡ i) × (tally.agree ≤ tally.read) × (i ≤ 100000)
 
-abbrev decreases-loop : tie.decreases-loop
-decreases-loop file tally₀ i₀ tally i = 100000 - i
+abbrev decreases-loop-i : tie.decreases-loop-i
+decreases-loop-i file tally₀ i₀ tally i = 100000 - i
 
-loop-holds : tie.Need-loop-init invariant-loop decreases-loop
+loop-holds : tie.Need-loop-i-init invariant-loop-i decreases-loop-i
 loop-holds c = search rules
 
-next-requires : tie.Need-next-requires invariant-loop decreases-loop
+next-requires : tie.Need-next-found-requires invariant-loop-i decreases-loop-i
 next-requires c κs = search rules
 
-add-i : tie.Need-overflow-add-i invariant-loop decreases-loop
+add-i : tie.Need-overflow_add-i invariant-loop-i decreases-loop-i
 add-i c = search rules
 
-enum_told : tie.Need-enum-told invariant-loop decreases-loop
+enum_told : tie.Need-enum_told-1 invariant-loop-i decreases-loop-i
 enum_told c = search rules
 
-returns : tie.Need-returns invariant-loop decreases-loop
+returns : tie.Need-returns-in-Ended invariant-loop-i decreases-loop-i
 returns c = search rules
 
-enum-known-found : tie.Need-enum-known-found invariant-loop decreases-loop
+enum-known-found : tie.Need-enum_known-found invariant-loop-i decreases-loop-i
 enum-known-found c = search rules
 
-counted-requires : tie.Need-counted-requires invariant-loop decreases-loop
+counted-requires : tie.Need-counted-tally-requires invariant-loop-i decreases-loop-i
 counted-requires c κs = search rules
 
-loop-less : tie.Need-loop-smaller invariant-loop decreases-loop
+loop-less : tie.Need-loop-i-smaller invariant-loop-i decreases-loop-i
 loop-less c = search rules
 
-loop-again : tie.Need-loop-preserved invariant-loop decreases-loop
+loop-again : tie.Need-loop-i-preserved invariant-loop-i decreases-loop-i
 loop-again c = search rules
 
-returns-2 : tie.Need-returns-2 invariant-loop decreases-loop
+returns-2 : tie.Need-returns invariant-loop-i decreases-loop-i
 returns-2 c = search rules
 
 pub run_spec : {M : Type 1} → statement M
 run_spec =
     tie.close
     (tie.spec
-    invariant-loop
-    decreases-loop
+    invariant-loop-i
+    decreases-loop-i
     loop-holds
     next-requires
     add-i

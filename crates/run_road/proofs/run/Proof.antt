@@ -10,74 +10,74 @@ use native.Mathlib.Omega.{arith}
 use Rattle.run_road.proofs.run.Statement.{statement}
 use Rattle.run_road.proofs.run.Tie as tie
 
-abbrev invariant-loop : tie.invariant-loop
-invariant-loop site streams steps cells₀ longest₀ state₀ n₀ cells longest state n =
+abbrev invariant-loop-n : tie.invariant-loop-n
+invariant-loop-n site streams steps cells₀ longest₀ state₀ n₀ cells longest state n =
     (n ≤ steps)
     × (length cells ≡ length cells₀)
     × (length longest ≡ length longest₀)
     × ((b : List ℕ) → OnRoad b streams steps site 0 fresh_kept cells₀ → OnRoad b streams steps site n state cells)
 
-abbrev decreases-loop : tie.decreases-loop
-decreases-loop site streams steps cells₀ longest₀ state₀ n₀ cells longest state n = steps - n
+abbrev decreases-loop-n : tie.decreases-loop-n
+decreases-loop-n site streams steps cells₀ longest₀ state₀ n₀ cells longest state n = steps - n
 
-fresh-requires : tie.Need-fresh-requires invariant-loop decreases-loop
+fresh-requires : tie.Need-fresh-state-requires invariant-loop-n decreases-loop-n
 fresh-requires c κs = search rules
 
-loop-holds : tie.Need-loop-init invariant-loop decreases-loop
-loop-holds c = (search rules, refl, refl, λ b road. rw c.fresh.ensures road)
+loop-holds : tie.Need-loop-n-init invariant-loop-n decreases-loop-n
+loop-holds c = (search rules, refl, refl, λ b road. rw c.fresh-state.ensures road)
 
-road-stepped-requires : tie.Need-road-stepped-requires invariant-loop decreases-loop
+road-stepped-requires : tie.Need-road_stepped-state-requires invariant-loop-n decreases-loop-n
 road-stepped-requires c κs =
     let turn = c.before in
     let start = turn.before.before.before.before.before.before.requires.0 in
-    record { b = start.b; steps = _; n = _; before = turn.loop-test.true; road = turn.before.loop.invariant.3 start.b start.road }
+    record { b = start.b; steps = _; n = _; before = turn.loop-n-test.true; road = turn.before.loop-n.invariant.3 start.b start.road }
 
-watch-requires : tie.Need-watch-requires invariant-loop decreases-loop
+watch-requires : tie.Need-watch-requires invariant-loop-n decreases-loop-n
 watch-requires c κs =
     let stepped = c.before.before.before.before in
     let here = stepped.before.before.before in
     let rows = here.before.before.before.before.before.requires.1 in
     record {
-      held = omega (arith, rows.held, here.loop.invariant.1, stepped.road-stepped.ensures.same);
-      watched = omega (arith, rows.watched, here.loop.invariant.2);
+      held = omega (arith, rows.held, here.loop-n.invariant.1, stepped.road_stepped-state.ensures.same);
+      watched = omega (arith, rows.watched, here.loop-n.invariant.2);
     }
 
-add-n : tie.Need-overflow-add-n invariant-loop decreases-loop
+add-n : tie.Need-overflow_add-n invariant-loop-n decreases-loop-n
 add-n c = search rules
 
-loop-less : tie.Need-loop-smaller invariant-loop decreases-loop
+loop-less : tie.Need-loop-n-smaller invariant-loop-n decreases-loop-n
 loop-less c = search rules
 
-loop-again : tie.Need-loop-preserved invariant-loop decreases-loop
+loop-again : tie.Need-loop-n-preserved invariant-loop-n decreases-loop-n
 loop-again c =
     let seen = c.before.before in
     let stepped = seen.before.before.before.before.before in
     let turn = stepped.before.before in
-    let inv = turn.before.loop.invariant in (
+    let inv = turn.before.loop-n.invariant in (
       search rules,
-      stepped.road-stepped.ensures.same ∙ inv.1,
+      stepped.road_stepped-state.ensures.same ∙ inv.1,
       seen.watch.ensures ∙ inv.2,
-      λ b road. stepped.road-stepped.ensures.road b _ _ turn.loop-test.true (inv.3 b road),
+      λ b road. stepped.road_stepped-state.ensures.road b _ _ turn.loop-n-test.true (inv.3 b road),
     )
 
-same_length : tie.Need-same-length invariant-loop decreases-loop
-same_length c = c.before.loop.invariant.1
+same_length : tie.Need-shape_of-cells invariant-loop-n decreases-loop-n
+same_length c = c.before.loop-n.invariant.1
 
-same-length-2 : tie.Need-same-length-2 invariant-loop decreases-loop
-same-length-2 c = c.before.loop.invariant.2
+same-length-2 : tie.Need-shape_of-longest invariant-loop-n decreases-loop-n
+same-length-2 c = c.before.loop-n.invariant.2
 
-returns : tie.Need-returns invariant-loop decreases-loop
+returns : tie.Need-returns invariant-loop-n decreases-loop-n
 returns c =
     let here = c.before in
     let rows = here.before.before.before.before.before.requires.1 in
-    record { held = omega (arith, rows.held, here.loop.invariant.1); watched = omega (arith, rows.watched, here.loop.invariant.2) }
+    record { held = omega (arith, rows.held, here.loop-n.invariant.1); watched = omega (arith, rows.watched, here.loop-n.invariant.2) }
 
 pub run_spec : {M : Type 1} → statement M
 run_spec =
     tie.close
     (tie.spec
-    invariant-loop
-    decreases-loop
+    invariant-loop-n
+    decreases-loop-n
     fresh-requires
     loop-holds
     road-stepped-requires

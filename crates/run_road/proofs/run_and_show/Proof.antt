@@ -14,8 +14,8 @@ run-requires c κs =
 show-requires : tie.Need-show-requires
 show-requires c κs = c.before.before.before.before.run.ensures
 
-pub run-and-show-spec : {M : Type 1} → statement M
-run-and-show-spec =
+pub run_and_show_spec : {M : Type 1} → statement M
+run_and_show_spec =
     tie.close
     (tie.spec
     (λ c. search rules)

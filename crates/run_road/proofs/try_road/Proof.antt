@@ -11,37 +11,37 @@ use borrow.Author.Rules.{rules}
 use Rattle.run_road.proofs.try_road.Statement.{statement}
 use Rattle.run_road.proofs.try_road.Tie as tie
 
-enum_told : tie.Need-enum-told
+enum_told : tie.Need-enum_told-1
 enum_told c = search rules
 
 -- past the refusal the personality is accepted
-accepted : (c : tie.After-enum-told) → verdict_of c.before.before.before.before.before.args.personality.now ≡ Accepted
-accepted c = sym c.before.before.read-with-layout.ensures.0 ∙ c.enum_told.given.1
+accepted : (c : tie.In_default) → verdict_of c.before.before.before.before.before.args.personality.now ≡ Accepted
+accepted c = sym c.before.before.read_with_layout-reading.ensures.0 ∙ c.enum_told-1.given.1
 
-site-of-requires : tie.Need-site-of-requires
-site-of-requires c κs = let told = c.before in accepted-fits (accepted told) told.before.before.read-with-layout.ensures.1
+site-of-requires : tie.Need-site_of-site-requires
+site-of-requires c κs = let told = c.before in accepted-fits (accepted told) told.before.before.read_with_layout-reading.ensures.1
 
-bad-streams-requires : tie.Need-bad-streams-requires
+bad-streams-requires : tie.Need-bad_streams-requires
 unfolding AcceptedIsSound
-bad-streams-requires c κs = subst⁻¹ Sound c.site-of.ensures (accepted-is-sound _ (accepted c.before.before))
+bad-streams-requires c κs = subst⁻¹ Sound c.site_of-site.ensures (accepted-is-sound _ (accepted c.before.before))
 
-run-and-show-requires : tie.Need-run-and-show-requires
+run-and-show-requires : tie.Need-run_and_show-requires
 run-and-show-requires c κs =
     let found = c.before.before in
     let a = found.before.before.before.before.before.before.before.args in
-    let site-is = found.site-of.ensures in
+    let site-is = found.site_of-site.ensures in
     record {
       b = a.personality.now;
       start =
           record {
             read = accepted found.before.before;
             place = site-is;
-            known = ap (λ (s : Site). bad_streams s a.streams.now a.steps) (sym site-is) ∙ sym c.before.bad-streams.ensures ∙ c.if1.false;
+            known = ap (λ (s : Site). bad_streams s a.streams.now a.steps) (sym site-is) ∙ sym c.before.bad_streams.ensures ∙ c.if-bad_streams.false;
           };
     }
 
-pub try-road-spec : {M : Type 1} → statement M
-try-road-spec =
+pub try_road_spec : {M : Type 1} → statement M
+try_road_spec =
     tie.close
     (tie.spec
     (λ c κs. search rules)

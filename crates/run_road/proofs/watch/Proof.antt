@@ -8,64 +8,64 @@ use native.Mathlib.Omega.{arith}
 use Rattle.run_road.proofs.watch.Statement.{statement}
 use Rattle.run_road.proofs.watch.Tie as tie
 
-abbrev invariant-loop : tie.invariant-loop
-invariant-loop streams cells longest₀ count i₀ longest i = (i ≤ count) × (length longest ≡ length longest₀)
+abbrev invariant-loop-i : tie.invariant-loop-i
+invariant-loop-i streams cells longest₀ count i₀ longest i = (i ≤ count) × (length longest ≡ length longest₀)
 
-abbrev decreases-loop : tie.decreases-loop
-decreases-loop streams cells longest₀ count i₀ longest i = count - i
+abbrev decreases-loop-i : tie.decreases-loop-i
+decreases-loop-i streams cells longest₀ count i₀ longest i = count - i
 
-loop-holds : tie.Need-loop-init invariant-loop decreases-loop
+loop-holds : tie.Need-loop-i-init invariant-loop-i decreases-loop-i
 loop-holds c = (search rules, refl)
 
 -- the stream has its cells and its longest queue
 inside :
-    (c : tie.In-loop invariant-loop decreases-loop) →
-    (4 * c.before.loop.i + 4 ≤ length c.before.before.before.before.before.args.cells.now) × (c.before.loop.i < length c.before.loop.longest)
+    (c : tie.In-loop-i invariant-loop-i decreases-loop-i) →
+    (4 * c.before.loop-i.i + 4 ≤ length c.before.before.before.before.before.args.cells.now) × (c.before.loop-i.i < length c.before.loop-i.longest)
 unfolding stream_count
 inside c =
     let start = c.before.before.before.before.before in
-    let l = c.loop-test.true in
-    (omega (arith, l, start.requires.held), omega (arith, l, start.requires.watched, c.before.loop.invariant.1))
+    let l = c.loop-i-test.true in
+    (omega (arith, l, start.requires.held), omega (arith, l, start.requires.watched, c.before.loop-i.invariant.1))
 
-traffic-at-requires : tie.Need-traffic-at-requires invariant-loop decreases-loop
+traffic-at-requires : tie.Need-traffic_at-traffic-requires invariant-loop-i decreases-loop-i
 traffic-at-requires c κs = (inside c).0
 
-mul-greater : tie.Need-overflow-mul-greater invariant-loop decreases-loop
+mul-greater : tie.Need-offset_bounds-longest-i invariant-loop-i decreases-loop-i
 mul-greater c = search rules
 
-slice-read-greater : tie.Need-slice-read-greater invariant-loop decreases-loop
+slice-read-greater : tie.Need-bounds-longest-i invariant-loop-i decreases-loop-i
 slice-read-greater c = (inside c.before.before).1
 
-greater-requires : tie.Need-greater-requires invariant-loop decreases-loop
+greater-requires : tie.Need-greater-requires invariant-loop-i decreases-loop-i
 greater-requires c κs = search rules
 
-mul-longest : tie.Need-overflow-mul-longest invariant-loop decreases-loop
+mul-longest : tie.Need-offset_bounds-longest-i-in-loop-i invariant-loop-i decreases-loop-i
 mul-longest c = search rules
 
-slice-write-longest : tie.Need-slice-write-longest invariant-loop decreases-loop
+slice-write-longest : tie.Need-bounds-longest-i-in-loop-i invariant-loop-i decreases-loop-i
 slice-write-longest c = (inside c.before.before.before).1
 
-add-i : tie.Need-overflow-add-i invariant-loop decreases-loop
+add-i : tie.Need-overflow_add-i invariant-loop-i decreases-loop-i
 add-i c = search rules
 
-loop-less : tie.Need-loop-smaller invariant-loop decreases-loop
+loop-less : tie.Need-loop-i-smaller invariant-loop-i decreases-loop-i
 loop-less c = search rules
 
-loop-again : tie.Need-loop-preserved invariant-loop decreases-loop
-loop-again c = (search rules, simp length-set c.before.before.before.before.loop.invariant.1)
+loop-again : tie.Need-loop-i-preserved invariant-loop-i decreases-loop-i
+loop-again c = (search rules, simp length-set c.before.before.before.before.loop-i.invariant.1)
 
-same_length : tie.Need-same-length invariant-loop decreases-loop
-same_length c = c.before.loop.invariant.1
+same_length : tie.Need-shape_of-longest invariant-loop-i decreases-loop-i
+same_length c = c.before.loop-i.invariant.1
 
-returns : tie.Need-returns invariant-loop decreases-loop
-returns c = c.before.loop.invariant.1
+returns : tie.Need-returns invariant-loop-i decreases-loop-i
+returns c = c.before.loop-i.invariant.1
 
-pub watch-spec : {M : Type 1} → statement M
-watch-spec =
+pub watch_spec : {M : Type 1} → statement M
+watch_spec =
     tie.close
     (tie.spec
-    invariant-loop
-    decreases-loop
+    invariant-loop-i
+    decreases-loop-i
     loop-holds
     traffic-at-requires
     mul-greater

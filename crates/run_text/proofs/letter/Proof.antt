@@ -5,15 +5,15 @@ use Rattle.run_text.proofs.Tails.{before-groups, from-groups}
 use Rattle.run_text.proofs.letter.Statement.{statement}
 use Rattle.run_text.proofs.letter.Tie as tie
 
-returns : tie.Need-returns
+returns : tie.Need-returns-then-i-lt5
 returns c =
     let a = c.before.before.before.args in
-    c.leading-letter.ensures ∙ sym (before-groups a.position a.colours.now a.i c.before.if1.true)
+    c.leading_letter.ensures ∙ sym (before-groups a.position a.colours.now a.i c.before.if-i-lt5.true)
 
-returns-2 : tie.Need-returns-2
+returns-2 : tie.Need-returns-else-i-lt5
 returns-2 c =
     let a = c.before.before.before.args in
-    c.shown-letter.ensures ∙ sym (from-groups a.position a.colours.now a.i c.before.if1.false)
+    c.shown_letter.ensures ∙ sym (from-groups a.position a.colours.now a.i c.before.if-i-lt5.false)
 
-pub letter-spec : {M : Type 1} → statement M
-letter-spec = tie.close (tie.spec (λ c κs. search rules) (λ c κs. search rules) returns returns-2)
+pub letter_spec : {M : Type 1} → statement M
+letter_spec = tie.close (tie.spec (λ c κs. search rules) (λ c κs. search rules) returns returns-2)

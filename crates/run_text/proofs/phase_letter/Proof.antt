@@ -8,13 +8,13 @@ use Rattle.laws.proofs.Lists.{entry-same}
 use Rattle.run_text.proofs.phase_letter.Statement.{statement}
 use Rattle.run_text.proofs.phase_letter.Tie as tie
 
-returns : tie.Need-returns
+returns : tie.Need-returns-then-at-lt7
 unfolding phase_letter
-returns c = entry-same (65 ∷ 66 ∷ 67 ∷ 68 ∷ 69 ∷ 70 ∷ 71 ∷ []) c.before.args.phase 0 63 c.if1.true
+returns c = entry-same (65 ∷ 66 ∷ 67 ∷ 68 ∷ 69 ∷ 70 ∷ 71 ∷ []) c.before.args.phase 0 63 c.if-at-lt7.true
 
-returns-2 : tie.Need-returns-2
+returns-2 : tie.Need-returns-else-at-lt7
 unfolding phase_letter
-returns-2 c = sym (get_or-eq_default (65 ∷ 66 ∷ 67 ∷ 68 ∷ 69 ∷ 70 ∷ 71 ∷ []) 63 c.if1.false)
+returns-2 c = sym (get_or-eq_default (65 ∷ 66 ∷ 67 ∷ 68 ∷ 69 ∷ 70 ∷ 71 ∷ []) 63 c.if-at-lt7.false)
 
-pub phase-letter-spec : {M : Type 1} → statement M
-phase-letter-spec = tie.close (tie.spec (λ c. search rules) returns returns-2)
+pub phase_letter_spec : {M : Type 1} → statement M
+phase_letter_spec = tie.close (tie.spec (λ c. search rules) returns returns-2)

@@ -8,10 +8,10 @@ use Rattle.run_text.proofs.Lines.{tail-length, put_first}
 use Rattle.run_text.proofs.put_step.Statement.{statement}
 use Rattle.run_text.proofs.put_step.Tie as tie
 
-put-long-decimal-requires : tie.Need-put-long-decimal-requires
+put-long-decimal-requires : tie.Need-put_long_decimal-next-requires
 put-long-decimal-requires c κs = omega (arith, at_most 19 c.before.before.before.args.step (omega arith))
 
-put-tail-requires : tie.Need-put-tail-requires
+put-tail-requires : tie.Need-put_tail-requires
 put-tail-requires c κs = omega (arith, at_most 19 c.before.before.before.before.before.before.before.args.step (omega arith))
 
 returns : tie.Need-returns
@@ -20,14 +20,14 @@ returns c =
     let rest = c.before.before in
     let number = rest.before.before.before.before in
     let a = number.before.before.before.before.args in
-    put_first (put_then number.put-long-decimal.ensures rest.put-tail.ensures)
+    put_first (put_then number.put_long_decimal-next.ensures rest.put_tail.ensures)
     (omega (
       arith,
-      number.put-long-decimal.ensures.place,
-      rest.put-tail.ensures.place,
+      number.put_long_decimal-next.ensures.place,
+      rest.put_tail.ensures.place,
       tail-length a.position a.colours.now,
       at_most 19 a.step (omega arith),
     ))
 
-pub put-step-spec : {M : Type 1} → statement M
-put-step-spec = tie.close (tie.spec put-long-decimal-requires put-tail-requires (λ c. search rules) returns)
+pub put_step_spec : {M : Type 1} → statement M
+put_step_spec = tie.close (tie.spec put-long-decimal-requires put-tail-requires (λ c. search rules) returns)

@@ -8,7 +8,7 @@ use Rattle.base_text.proofs.Puts.{put_then}
 use Rattle.run_text.proofs.put_tail.Statement.{statement}
 use Rattle.run_text.proofs.put_tail.Tie as tie
 
-put-bytes-requires-2 : tie.Need-put-bytes-requires-2
+put-bytes-requires-2 : tie.Need-put_bytes-requires
 put-bytes-requires-2 c κs =
     let shown = c.before.before.before.before in
     let a = shown.before.before.before.before.before.before.before.before.before.before.before.args in
@@ -21,11 +21,11 @@ returns c =
     let shown = end.before.before.before.before.before in
     let leading = shown.before.before.before.before in
     let interval = leading.before.before.before in
-    put_then (rw (interval.before.phase-letter.ensures, interval.interval-row.ensures) at leading.put-bytes.ensures)
-    (put_then shown.put-colours.ensures end.put-bytes2.ensures)
+    put_then (rw (interval.before.phase_letter-phase.ensures, interval.interval_row-letter.ensures) at leading.put_bytes-first.ensures)
+    (put_then shown.put_colours-second.ensures end.put_bytes.ensures)
 
-pub put-tail-spec : {M : Type 1} → statement M
-put-tail-spec =
+pub put_tail_spec : {M : Type 1} → statement M
+put_tail_spec =
     tie.close
     (tie.spec
     (λ c κs. search rules)

@@ -5,14 +5,14 @@ use Rattle.run_text.proofs.Tails.{group_at, end-at}
 use Rattle.run_text.proofs.shown_letter.Statement.{statement}
 use Rattle.run_text.proofs.shown_letter.Tie as tie
 
-returns : tie.Need-returns
+returns : tie.Need-returns-then-i-colours
 returns c =
     let a = c.before.before.before.before.args in
-    c.colour-letter.ensures ∙ sym (group_at a.colours.now a.i c.before.before.if1.true)
+    c.colour_letter.ensures ∙ sym (group_at a.colours.now a.i c.before.before.if-i-colours.true)
 
-returns-2 : tie.Need-returns-2
-returns-2 c = let a = c.before.before.args in sym (end-at a.colours.now a.i c.if1.false)
+returns-2 : tie.Need-returns-else-i-colours
+returns-2 c = let a = c.before.before.args in sym (end-at a.colours.now a.i c.if-i-colours.false)
 
-pub shown-letter-spec : {M : Type 1} → statement M
-shown-letter-spec =
+pub shown_letter_spec : {M : Type 1} → statement M
+shown_letter_spec =
     tie.close (tie.spec (λ c. search rules) (λ c κs. search rules) returns returns-2)

@@ -9,39 +9,39 @@ use Rattle.run_parts.proofs.Parts.{before_last}
 use Rattle.run_trace.proofs.records.Statement.{statement}
 use Rattle.run_trace.proofs.records.Tie as tie
 
-abbrev invariant-loop : tie.invariant-loop
-invariant-loop personality state₀ text₀ step₀ more₀ state text step more = (1 ≤ step) × (more ≡ true → step ≤ most_steps)
+abbrev invariant-loop-more : tie.invariant-loop-more
+invariant-loop-more personality state₀ text₀ step₀ more₀ state text step more = (1 ≤ step) × (more ≡ true → step ≤ most_steps)
 
-abbrev decreases-loop : tie.decreases-loop
-decreases-loop personality state₀ text₀ step₀ more₀ state text step more = 36001 - step
+abbrev decreases-loop-more : tie.decreases-loop-more
+decreases-loop-more personality state₀ text₀ step₀ more₀ state text step more = 36001 - step
 
-loop-holds : tie.Need-loop-init invariant-loop decreases-loop
+loop-holds : tie.Need-loop-more-init invariant-loop-more decreases-loop-more
 loop-holds c = (omega arith, λ e. omega arith)
 
-write-requires : tie.Need-write-requires invariant-loop decreases-loop
-write-requires c κs = c.before.record-part.ensures.0.text.fits
+write-requires : tie.Need-write-more-requires invariant-loop-more decreases-loop-more
+write-requires c κs = c.before.record_part-part.ensures.0.text.fits
 
 -- the turn is that of a step up to the last
-turn : (c : tie.After-write invariant-loop decreases-loop) → c.before.before.before.before.before.before.before.before.before.before.loop.step ≤ most_steps
-turn c = c.before.before.before.before.before.before.before.before.before.before.loop.invariant.1 c.before.before.before.before.before.before.before.before.before.loop-test.true
+turn : (c : tie.After-write-more invariant-loop-more decreases-loop-more) → c.before.before.before.before.before.before.before.before.before.before.loop-more.step ≤ most_steps
+turn c = c.before.before.before.before.before.before.before.before.before.before.loop-more.invariant.1 c.before.before.before.before.before.before.before.before.before.loop-more-test.true
 
-add_step : tie.Need-overflow-add-step invariant-loop decreases-loop
+add_step : tie.Need-overflow_add-step invariant-loop-more decreases-loop-more
 add_step c = omega (arith, turn c)
 
-loop-less : tie.Need-loop-smaller invariant-loop decreases-loop
+loop-less : tie.Need-loop-more-smaller invariant-loop-more decreases-loop-more
 loop-less c = omega (arith, turn c)
 
-loop-again : tie.Need-loop-preserved invariant-loop decreases-loop
+loop-again : tie.Need-loop-more-preserved invariant-loop-more decreases-loop-more
 loop-again c =
-    let printed = c.before.before.record-part.ensures.0 in
-    (omega arith, λ e. omega (arith, before_last _ _ _ _ (sym printed.more ∙ sym c.write.ensures ∙ e)))
+    let printed = c.before.before.record_part-part.ensures.0 in
+    (omega arith, λ e. omega (arith, before_last _ _ _ _ (sym printed.more ∙ sym c.write-more.ensures ∙ e)))
 
-pub records-spec : {M : Type 1} → statement M
-records-spec =
+pub records_spec : {M : Type 1} → statement M
+records_spec =
     tie.close
     (tie.spec
-    invariant-loop
-    decreases-loop
+    invariant-loop-more
+    decreases-loop-more
     loop-holds
     (λ c. search rules)
     (λ c κs. search rules)

@@ -5,7 +5,7 @@ use lib.Seq.{length-take-le}
 use Rattle.run_trace.proofs.write.Statement.{statement}
 use Rattle.run_trace.proofs.write.Tie as tie
 
-slice-aggregate-write-all : tie.Need-slice-aggregate-write-all
+slice-aggregate-write-all : tie.Need-slice_bounds-write_all-end
 slice-aggregate-write-all c = let start = c.before.before in sym (length-take-le start.args.part.length start.args.text.now start.requires)
 
 pub write_spec : {M : Type 1} → statement M

@@ -12,9 +12,9 @@ use Rattle.sheet_settings.proofs.in_range.Tie as tie
 returns : tie.Need-returns
 unfolding in_range metres_in_range of_bits of_int
 returns c =
-    let x = c.metres-of.result in
-    rw (← c.metres-of.ensures)
+    let x = c.metres_of-metres.result in
+    rw (← c.metres_of-metres.ensures)
     (ap (λ (t : Bool). speed_in_range c.before.args.sheet.speed && (le (whole 0) x && t)) (le-cast 300 x (lit≤ tt)))
 
-pub in-range-spec : {M : Type 1} → statement M
-in-range-spec = tie.close (tie.spec (λ c κs. search rules) returns)
+pub in_range_spec : {M : Type 1} → statement M
+in_range_spec = tie.close (tie.spec (λ c κs. search rules) returns)

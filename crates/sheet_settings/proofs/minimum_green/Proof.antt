@@ -12,58 +12,58 @@ use Rattle.sheet_settings.proofs.Stated.{stand-tested, stands-first, stands-most
 use Rattle.sheet_settings.proofs.minimum_green.Statement.{statement}
 use Rattle.sheet_settings.proofs.minimum_green.Tie as tie
 
-abbrev invariant-loop : tie.invariant-loop
-invariant-loop metres n₀ n = (stand metres n ≡ true) × (n ≤ 50)
+abbrev invariant-loop-n : tie.invariant-loop-n
+invariant-loop-n metres n₀ n = (stand metres n ≡ true) × (n ≤ 50)
 
-abbrev decreases-loop : tie.decreases-loop
-decreases-loop metres n₀ n = 51 - n
+abbrev decreases-loop-n : tie.decreases-loop-n
+decreases-loop-n metres n₀ n = 51 - n
 
-loop-holds : tie.Need-loop-init invariant-loop decreases-loop
+loop-holds : tie.Need-loop-n-init invariant-loop-n decreases-loop-n
 loop-holds c = (stands-first (as-fraction c.args.metres c.requires), omega arith)
 
-add-if1 : tie.Need-overflow-add-if1 invariant-loop decreases-loop
+add-if1 : tie.Need-overflow_add-n invariant-loop-n decreases-loop-n
 add-if1 c = search rules
 
-mul-if1 : tie.Need-overflow-mul-if1 invariant-loop decreases-loop
+mul-if1 : tie.Need-overflow_mul-n invariant-loop-n decreases-loop-n
 mul-if1 c = search rules
 
-int-to-float-if1 : tie.Need-int-to-float-if1 invariant-loop decreases-loop
+int-to-float-if1 : tie.Need-int_to_float-n invariant-loop-n decreases-loop-n
 int-to-float-if1 c = search rules
 
-add-n : tie.Need-overflow-add-n invariant-loop decreases-loop
+add-n : tie.Need-overflow_add-n-in-loop-n invariant-loop-n decreases-loop-n
 add-n c = search rules
 
-loop-less : tie.Need-loop-smaller invariant-loop decreases-loop
+loop-less : tie.Need-loop-n-smaller invariant-loop-n decreases-loop-n
 loop-less c = search rules
 
-loop-again : tie.Need-loop-preserved invariant-loop decreases-loop
+loop-again : tie.Need-loop-n-preserved invariant-loop-n decreases-loop-n
 loop-again c =
     let x = c.before.before.before.args.metres in
-    let n = c.before.before.loop.n in
-    let t = sym (stand-tested x (n + 1) (omega arith)) ∙ c.if1.true in
+    let n = c.before.before.loop-n.n in
+    let t = sym (stand-tested x (n + 1) (omega arith)) ∙ c.loop-n-test.true in
     (t, stands-most (as-fraction x c.before.before.before.requires) (n + 1) t)
 
-mul-result : tie.Need-overflow-mul-result invariant-loop decreases-loop
+mul-result : tie.Need-overflow_mul-result invariant-loop-n decreases-loop-n
 mul-result c = search rules
 
-add-result : tie.Need-overflow-add-result invariant-loop decreases-loop
+add-result : tie.Need-overflow_add-result invariant-loop-n decreases-loop-n
 add-result c = search rules
 
-returns : tie.Need-returns invariant-loop decreases-loop
+returns : tie.Need-returns invariant-loop-n decreases-loop-n
 unfolding minimum_green
 returns c =
     let x = c.before.before.before.args.metres in
-    let n = c.before.before.loop.n in
+    let n = c.before.before.loop-n.n in
     let fraction = as-fraction x c.before.before.before.requires in
-    let largest = stands-largest fraction n c.before.before.loop.invariant.0 (sym (stand-tested x (n + 1) (omega arith)) ∙ c.if1.false) in
+    let largest = stands-largest fraction n c.before.before.loop-n.invariant.0 (sym (stand-tested x (n + 1) (omega arith)) ∙ c.loop-n-test.false) in
     ap (λ (k : ℕ). 40 + 20 * k) (largest-only (stand x) largest (vehicles-largest fraction))
 
-pub minimum-green-spec : {M : Type 1} → statement M
-minimum-green-spec =
+pub minimum_green_spec : {M : Type 1} → statement M
+minimum_green_spec =
     tie.close
     (tie.spec
-    invariant-loop
-    decreases-loop
+    invariant-loop-n
+    decreases-loop-n
     loop-holds
     add-if1
     mul-if1

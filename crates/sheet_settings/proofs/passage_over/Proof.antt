@@ -15,61 +15,61 @@ use Rattle.sheet_settings.proofs.Stated.{bounded, covered-tested, covered-last, 
 use Rattle.sheet_settings.proofs.passage_over.Statement.{statement}
 use Rattle.sheet_settings.proofs.passage_over.Tie as tie
 
-abbrev invariant-loop : tie.invariant-loop
-invariant-loop speed metres product t₀ t = ((k : ℕ) → k < t → covered speed metres k ≡ false) × (t ≤ 540)
+abbrev invariant-loop-t : tie.invariant-loop-t
+invariant-loop-t speed metres product t₀ t = ((k : ℕ) → k < t → covered speed metres k ≡ false) × (t ≤ 540)
 
-abbrev decreases-loop : tie.decreases-loop
-decreases-loop speed metres product t₀ t = 541 - t
+abbrev decreases-loop-t : tie.decreases-loop-t
+decreases-loop-t speed metres product t₀ t = 541 - t
 
-loop-holds : tie.Need-loop-init invariant-loop decreases-loop
+loop-holds : tie.Need-loop-t-init invariant-loop-t decreases-loop-t
 loop-holds c = ((λ k l. absurd (omega arith)), omega arith)
 
-mul-if1 : tie.Need-overflow-mul-if1 invariant-loop decreases-loop
-mul-if1 c = let l = bounded c.before.args.speed c.loop.t c.before.requires.0 c.loop.invariant.1 in omega arith
+mul-if1 : tie.Need-overflow_mul-t invariant-loop-t decreases-loop-t
+mul-if1 c = let l = bounded c.before.args.speed c.loop-t.t c.before.requires.0 c.loop-t.invariant.1 in omega arith
 
-int-to-float-if1 : tie.Need-int-to-float-if1 invariant-loop decreases-loop
+int-to-float-if1 : tie.Need-int_to_float-t invariant-loop-t decreases-loop-t
 int-to-float-if1 c = search rules
 
-add-t : tie.Need-overflow-add-t invariant-loop decreases-loop
+add-t : tie.Need-overflow_add-t invariant-loop-t decreases-loop-t
 add-t c = search rules
 
-loop-less : tie.Need-loop-smaller invariant-loop decreases-loop
+loop-less : tie.Need-loop-t-smaller invariant-loop-t decreases-loop-t
 loop-less c = search rules
 
-loop-again : tie.Need-loop-preserved invariant-loop decreases-loop
+loop-again : tie.Need-loop-t-preserved invariant-loop-t decreases-loop-t
 unfolding of_bits
 loop-again c =
     let start = c.before.before.before in
     let speed = start.args.speed in
     let x = start.args.metres in
-    let loop = c.before.before.loop in
+    let loop = c.before.before.loop-t in
     let t = loop.t in
-    let fails = sym (covered-tested speed x t start.requires.0 loop.invariant.1) ∙ not-true _ c.if1.true in
+    let fails = sym (covered-tested speed x t start.requires.0 loop.invariant.1) ∙ not-true _ c.loop-t-test.true in
     let before = below_more (λ k. covered speed x k ≡ false) t loop.invariant.0 fails in
     rw add-one (before, fails-to (covered speed x) before (covered-last speed (as-fraction x start.requires.1) start.requires.0))
 
-cast-result : tie.Need-overflow-cast-result invariant-loop decreases-loop
+cast-result : tie.Need-overflow_cast-result invariant-loop-t decreases-loop-t
 cast-result c = search rules
 
-returns : tie.Need-returns invariant-loop decreases-loop
+returns : tie.Need-returns invariant-loop-t decreases-loop-t
 unfolding of_bits
 returns c =
     let start = c.before.before.before in
     let speed = start.args.speed in
     let x = start.args.metres in
-    let loop = c.before.before.loop in
+    let loop = c.before.before.loop-t in
     let t = loop.t in
-    let passes = sym (covered-tested speed x t start.requires.0 loop.invariant.1) ∙ not-false _ c.if1.false in
+    let passes = sym (covered-tested speed x t start.requires.0 loop.invariant.1) ∙ not-false _ c.loop-t-test.false in
     smallest-only (covered speed x)
     (record { passed = passes; none-smaller = loop.invariant.0 })
     (passage-smallest speed (as-fraction x start.requires.1) start.requires.0)
 
-pub passage-over-spec : {M : Type 1} → statement M
-passage-over-spec =
+pub passage_over_spec : {M : Type 1} → statement M
+passage_over_spec =
     tie.close
     (tie.spec
-    invariant-loop
-    decreases-loop
+    invariant-loop-t
+    decreases-loop-t
     loop-holds
     mul-if1
     int-to-float-if1

@@ -3,12 +3,12 @@ use borrow.Author.Rules.{rules}
 use Rattle.sheet_settings.proofs.passage_time.Statement.{statement}
 use Rattle.sheet_settings.proofs.passage_time.Tie as tie
 
-passage-over-requires : tie.Need-passage-over-requires
-passage-over-requires c κs = rw c.before.detector.given.1 at c.before.before.before.requires
+passage-over-requires : tie.Need-passage_over-requires
+passage-over-requires c κs = rw c.before.detector-1.given.1 at c.before.before.before.requires
 
-returns : tie.Need-returns
-returns c = rw c.before.before.detector.given.1 c.passage-over.ensures
+returns : tie.Need-returns-in-Advance
+returns c = rw c.before.before.detector-1.given.1 c.passage_over.ensures
 
-pub passage-time-spec : {M : Type 1} → statement M
-passage-time-spec =
+pub passage_time_spec : {M : Type 1} → statement M
+passage_time_spec =
     tie.close (tie.spec (λ c. search rules) passage-over-requires (λ c. search rules) returns (λ c. search rules))

@@ -24,12 +24,12 @@ module _ (g : ℤ) (fits : SFits w32 g) (range : grade_in_range g ≡ true) wher
   sum-read : to_z w32 (of_z w32 (to_z w32 (of_z w32 g) +ℤ pos 10)) ≡ pos (column_of g)
   sum-read = rw sum (to_z-of_z sum_fits)
 
-add-result : tie.Need-overflow-add-result
+add-result : tie.Need-overflow_add-result
 add-result c =
     let g = c.args.grade in
     rw (sum g c.ranges.grade c.requires) (sum_fits g c.ranges.grade c.requires)
 
-cast-result : tie.Need-overflow-cast-result
+cast-result : tie.Need-overflow_cast-result
 cast-result c =
     let g = c.args.grade in
     rw (sum-read g c.ranges.grade c.requires) (tt, record { fits = omega (arith, column-small g c.requires) })
@@ -37,5 +37,5 @@ cast-result c =
 returns : tie.Need-returns
 returns c = let g = c.args.grade in rw (sum-read g c.ranges.grade c.requires)
 
-pub column-of-spec : {M : Type 1} → statement M
-column-of-spec = tie.close (tie.spec add-result cast-result returns)
+pub column_of_spec : {M : Type 1} → statement M
+column_of_spec = tie.close (tie.spec add-result cast-result returns)

@@ -16,5 +16,5 @@ returns : tie.Need-returns
 unfolding entries list_of entry_at
 returns c = follows _ refl
 
-pub table-spec : {M : Type 1} → statement M
-table-spec = tie.close (tie.spec returns)
+pub table_spec : {M : Type 1} → statement M
+table_spec = tie.close (tie.spec returns)

@@ -17,48 +17,48 @@ use Rattle.sheet_yellow.proofs.Entries.{column-counted}
 use Rattle.sheet_yellow.proofs.yellow.Statement.{statement}
 use Rattle.sheet_yellow.proofs.yellow.Tie as tie
 
-returns : tie.Need-returns
+returns : tie.Need-returns-then-not-in_range
 returns c =
     let a = c.before.before.args in
     promise-refused a.speed a.grade
-    (rw (to_z-of_z c.before.before.ranges.grade) at (sym c.before.in-range.ensures ∙ not-true _ c.if1.true))
+    (rw (to_z-of_z c.before.before.ranges.grade) at (sym c.before.in_range.ensures ∙ not-true _ c.if-not-in_range.true))
 
 -- what the test tells
-fine : (c : tie.Else1) → in_range c.before.before.args.speed c.before.before.args.grade ≡ true
-fine c = rw (to_z-of_z c.before.before.ranges.grade) at (sym c.before.in-range.ensures ∙ not-false _ c.if1.false)
+fine : (c : tie.Else-not-in_range) → in_range c.before.before.args.speed c.before.before.args.grade ≡ true
+fine c = rw (to_z-of_z c.before.before.ranges.grade) at (sym c.before.in_range.ensures ∙ not-false _ c.if-not-in_range.false)
 
-sub_row : tie.Need-overflow-sub-row
+sub_row : tie.Need-overflow_sub-row
 sub_row c = let a = c.before.before.args in omega (arith, (in-range-parts a.speed a.grade (fine c)).0)
 
-column-of-requires : tie.Need-column-of-requires
+column-of-requires : tie.Need-column_of-column-requires
 column-of-requires c κs =
     let a = c.before.before.args in
     rw (to_z-of_z c.before.before.ranges.grade) (in-range-parts a.speed a.grade (fine c)).2
 
 -- what is then known of row and column
-range : (c : tie.After-table) → in_range c.before.before.before.before.args.speed c.before.before.before.before.args.grade ≡ true
+range : (c : tie.After-table-table) → in_range c.before.before.before.before.args.speed c.before.before.before.before.args.grade ≡ true
 range c = fine c.before.before
 
-column : (c : tie.After-table) → c.before.column-of.result ≡ column_of c.before.before.before.before.args.grade
-column c = c.before.column-of.ensures ∙ ap column_of (to_z-of_z c.before.before.before.before.ranges.grade)
+column : (c : tie.After-table-table) → c.before.column_of-column.result ≡ column_of c.before.before.before.before.args.grade
+column c = c.before.column_of-column.ensures ∙ ap column_of (to_z-of_z c.before.before.before.before.ranges.grade)
 
 known :
-    (c : tie.After-table) →
+    (c : tie.After-table-table) →
     (40 ≤ c.before.before.before.before.args.speed)
     × (c.before.before.before.before.args.speed ≤ 110)
-    × (c.before.column-of.result < 21)
+    × (c.before.column_of-column.result < 21)
 known c =
     let a = c.before.before.before.before.args in
     let parts = in-range-parts a.speed a.grade (range c) in
     (parts.0, parts.1, rw (column c) (column-small a.grade parts.2))
 
-mul-steps : tie.Need-overflow-mul-steps
+mul-steps : tie.Need-overflow_mul-steps
 mul-steps c = let k = known c in record { fits = omega (arith, k.1, k.2) }
 
-add-steps : tie.Need-overflow-add-steps
+add-steps : tie.Need-overflow_add-steps
 add-steps c = let k = known c in record { fits = omega (arith, k.1, k.2) }
 
-array-read-steps : tie.Need-array-read-steps
+array-read-steps : tie.Need-bounds-table-row
 array-read-steps c = let k = known c in omega (arith, k.0, k.1, k.2)
 
 -- the entry that the table has for the speed and the grade
@@ -71,15 +71,15 @@ looked-up :
 looked-up xs s g k follows e p =
     let q = column-counted g (in-range-parts s g e).2 ∙ sym p in rw q at (follows.each s g e)
 
-returns-2 : tie.Need-returns-2
+returns-2 : tie.Need-returns
 returns-2 c =
     let a = c.before.before.before.before.args in
-    let entry = get_or c.table.result (21 * (a.speed - 40) + c.before.column-of.result) 0 in
+    let entry = get_or c.table-table.result (21 * (a.speed - 40) + c.before.column_of-column.result) 0 in
     promise-given a.speed a.grade entry (range c)
-    (looked-up c.table.result a.speed a.grade c.before.column-of.result c.table.ensures (range c) (column c))
+    (looked-up c.table-table.result a.speed a.grade c.before.column_of-column.result c.table-table.ensures (range c) (column c))
 
-pub yellow-spec : {M : Type 1} → statement M
-yellow-spec =
+pub yellow_spec : {M : Type 1} → statement M
+yellow_spec =
     tie.close
     (tie.spec
     (λ c κs. search rules)

@@ -10,63 +10,63 @@ use native.Mathlib.Omega.{arith}
 use Rattle.site_rows.proofs.conflicts.Statement.{statement}
 use Rattle.site_rows.proofs.conflicts.Tie as tie
 
-abbrev invariant-loop : tie.invariant-loop
-invariant-loop s head count rows₀ g₀ rows g = Filled (conflict_set s) (group_count s) 32 0 g rows
+abbrev invariant-loop-g : tie.invariant-loop-g
+invariant-loop-g s head count rows₀ g₀ rows g = Filled (conflict_set s) (group_count s) 32 0 g rows
 
-abbrev decreases-loop : tie.decreases-loop
-decreases-loop s head count rows₀ g₀ rows g = count - g
+abbrev decreases-loop-g : tie.decreases-loop-g
+decreases-loop-g s head count rows₀ g₀ rows g = count - g
 
-cast-count : tie.Need-overflow-cast-count invariant-loop decreases-loop
+cast-count : tie.Need-overflow_cast-count invariant-loop-g decreases-loop-g
 cast-count c = search rules
 
-loop-holds : tie.Need-loop-init invariant-loop decreases-loop
+loop-holds : tie.Need-loop-g-init invariant-loop-g decreases-loop-g
 loop-holds c = filled_none
 
-add-four-in : tie.Need-overflow-add-four-in invariant-loop decreases-loop
+add-four-in : tie.Need-overflow_add-head invariant-loop-g decreases-loop-g
 add-four-in c = search rules
 
-mul-four-in : tie.Need-overflow-mul-four-in invariant-loop decreases-loop
+mul-four-in : tie.Need-overflow_mul-g invariant-loop-g decreases-loop-g
 mul-four-in c = search rules
 
-add-four-in-2 : tie.Need-overflow-add-four-in-2 invariant-loop decreases-loop
+add-four-in-2 : tie.Need-overflow_add-head-in-loop-g invariant-loop-g decreases-loop-g
 add-four-in-2 c = search rules
 
-four-in-requires : tie.Need-four-in-requires invariant-loop decreases-loop
+four-in-requires : tie.Need-four_in-requires invariant-loop-g decreases-loop-g
 unfolding record_at body_at
 four-in-requires c κs =
     let at_start = c.before.before.before.before in
     let layout = at_start.args.layout in
-    omega (arith, conflicts-end at_start.requires, record-within layout.conflicts 4 layout.groupcount c.before.loop.g c.loop-test.true)
+    omega (arith, conflicts-end at_start.requires, record-within layout.conflicts 4 layout.groupcount c.before.loop-g.g c.loop-g-test.true)
 
-mul-rows : tie.Need-overflow-mul-rows invariant-loop decreases-loop
+mul-rows : tie.Need-offset_bounds-rows-g invariant-loop-g decreases-loop-g
 mul-rows c = search rules
 
-array-write-rows : tie.Need-array-write-rows invariant-loop decreases-loop
+array-write-rows : tie.Need-bounds-rows-g invariant-loop-g decreases-loop-g
 array-write-rows c = search rules
 
-add-g : tie.Need-overflow-add-g invariant-loop decreases-loop
+add-g : tie.Need-overflow_add-g invariant-loop-g decreases-loop-g
 add-g c = search rules
 
-loop-less : tie.Need-loop-smaller invariant-loop decreases-loop
+loop-less : tie.Need-loop-g-smaller invariant-loop-g decreases-loop-g
 loop-less c = search rules
 
-loop-again : tie.Need-loop-preserved invariant-loop decreases-loop
+loop-again : tie.Need-loop-g-preserved invariant-loop-g decreases-loop-g
 unfolding conflict_set record_at body_at
 loop-again c =
     let at_loop = c.before.before in
     let head = at_loop.before.before.before.requires.laid.conflicts in
-    filled_more at_loop.loop.invariant (simp (c.four-in.ensures, head)) (omega arith) (omega arith)
+    filled_more at_loop.loop-g.invariant (simp (c.four_in.ensures, head)) (omega arith) (omega arith)
 
-returns : tie.Need-returns invariant-loop decreases-loop
+returns : tie.Need-returns invariant-loop-g decreases-loop-g
 unfolding site_of
-returns c = filled-whole c.before.loop.invariant (omega arith)
+returns c = filled-whole c.before.loop-g.invariant (omega arith)
 
-pub conflicts-spec : {M : Type 1} → statement M
-conflicts-spec =
+pub conflicts_spec : {M : Type 1} → statement M
+conflicts_spec =
     tie.close
     (tie.spec
-    invariant-loop
-    decreases-loop
+    invariant-loop-g
+    decreases-loop-g
     cast-count
     loop-holds
     add-four-in

@@ -10,50 +10,50 @@ use native.Mathlib.Omega.{arith}
 use Rattle.site_rows.proofs.detectors.Statement.{statement}
 use Rattle.site_rows.proofs.detectors.Tie as tie
 
-abbrev invariant-loop : tie.invariant-loop
-invariant-loop s count head rows₀ d₀ rows d = Filled (λ i. record { phase = detector_phase s i; mode = detector_mode s i }) (detector_count s) 48 no_detector d rows
+abbrev invariant-loop-d : tie.invariant-loop-d
+invariant-loop-d s count head rows₀ d₀ rows d = Filled (λ i. record { phase = detector_phase s i; mode = detector_mode s i }) (detector_count s) 48 no_detector d rows
 
-abbrev decreases-loop : tie.decreases-loop
-decreases-loop s count head rows₀ d₀ rows d = count - d
+abbrev decreases-loop-d : tie.decreases-loop-d
+decreases-loop-d s count head rows₀ d₀ rows d = count - d
 
-loop-holds : tie.Need-loop-init invariant-loop decreases-loop
+loop-holds : tie.Need-loop-d-init invariant-loop-d decreases-loop-d
 loop-holds c = filled_none
 
-pair-at-requires : tie.Need-pair-at-requires invariant-loop decreases-loop
+pair-at-requires : tie.Need-pair_at-detector-requires invariant-loop-d decreases-loop-d
 pair-at-requires c κs =
     let at_start = c.before.before.before in
     let head = at_start.args.layout.detectors in
-    omega (arith, detectors-end at_start.requires.0, record-within head 2 at_start.args.count c.before.loop.d c.loop-test.true)
+    omega (arith, detectors-end at_start.requires.0, record-within head 2 at_start.args.count c.before.loop-d.d c.loop-d-test.true)
 
-mul-rows : tie.Need-overflow-mul-rows invariant-loop decreases-loop
+mul-rows : tie.Need-offset_bounds-rows-d invariant-loop-d decreases-loop-d
 mul-rows c = search rules
 
-array-set-from-rows : tie.Need-array-set-from-rows invariant-loop decreases-loop
+array-set-from-rows : tie.Need-bounds-rows-d invariant-loop-d decreases-loop-d
 array-set-from-rows c = search rules
 
-add-d : tie.Need-overflow-add-d invariant-loop decreases-loop
+add-d : tie.Need-overflow_add-d invariant-loop-d decreases-loop-d
 add-d c = search rules
 
-loop-less : tie.Need-loop-smaller invariant-loop decreases-loop
+loop-less : tie.Need-loop-d-smaller invariant-loop-d decreases-loop-d
 loop-less c = search rules
 
-loop-again : tie.Need-loop-preserved invariant-loop decreases-loop
+loop-again : tie.Need-loop-d-preserved invariant-loop-d decreases-loop-d
 unfolding detector_phase detector_mode
 loop-again c =
     let at_loop = c.before.before in
     let head = at_loop.before.before.requires.0.laid.detectors in
-    filled_more at_loop.loop.invariant (simp (c.pair-at.ensures.0, c.pair-at.ensures.1, head)) (omega arith) (omega arith)
+    filled_more at_loop.loop-d.invariant (simp (c.pair_at-detector.ensures.0, c.pair_at-detector.ensures.1, head)) (omega arith) (omega arith)
 
-returns : tie.Need-returns invariant-loop decreases-loop
+returns : tie.Need-returns invariant-loop-d decreases-loop-d
 unfolding site_of
-returns c = filled-whole c.before.loop.invariant (omega arith)
+returns c = filled-whole c.before.loop-d.invariant (omega arith)
 
-pub detectors-spec : {M : Type 1} → statement M
-detectors-spec =
+pub detectors_spec : {M : Type 1} → statement M
+detectors_spec =
     tie.close
     (tie.spec
-    invariant-loop
-    decreases-loop
+    invariant-loop-d
+    decreases-loop-d
     loop-holds
     pair-at-requires
     mul-rows

@@ -15,60 +15,60 @@ use native.Mathlib.Omega.{arith}
 use Rattle.site_rows.proofs.group_rows_in.Statement.{statement}
 use Rattle.site_rows.proofs.group_rows_in.Tie as tie
 
-abbrev invariant-loop : tie.invariant-loop
-invariant-loop s head count rows₀ sets₀ movements₀ g₀ rows sets movements g =
+abbrev invariant-loop-g : tie.invariant-loop-g
+invariant-loop-g s head count rows₀ sets₀ movements₀ g₀ rows sets movements g =
     Filled (λ i. record { phases = group_set s i; mark = group_mark s i }) (group_count s) 32 no_group g rows × Passed s g movements sets
 
-abbrev decreases-loop : tie.decreases-loop
-decreases-loop s head count rows₀ sets₀ movements₀ g₀ rows sets movements g = count - g
+abbrev decreases-loop-g : tie.decreases-loop-g
+decreases-loop-g s head count rows₀ sets₀ movements₀ g₀ rows sets movements g = count - g
 
-cast-count : tie.Need-overflow-cast-count invariant-loop decreases-loop
+cast-count : tie.Need-overflow_cast-count invariant-loop-g decreases-loop-g
 cast-count c = search rules
 
-loop-holds : tie.Need-loop-init invariant-loop decreases-loop
+loop-holds : tie.Need-loop-g-init invariant-loop-g decreases-loop-g
 loop-holds c = (filled_none, passed_none _)
 
-pair-at-requires : tie.Need-pair-at-requires invariant-loop decreases-loop
+pair-at-requires : tie.Need-pair_at-group-requires invariant-loop-g decreases-loop-g
 pair-at-requires c κs =
     let at_start = c.before.before.before.before in
     let layout = at_start.args.layout in
-    omega (arith, groups-end at_start.requires, record-within layout.groups 2 layout.groupcount c.before.loop.g c.loop-test.true)
+    omega (arith, groups-end at_start.requires, record-within layout.groups 2 layout.groupcount c.before.loop-g.g c.loop-g-test.true)
 
-mul-rows : tie.Need-overflow-mul-rows invariant-loop decreases-loop
+mul-rows : tie.Need-offset_bounds-rows-g invariant-loop-g decreases-loop-g
 mul-rows c = search rules
 
-array-set-from-rows : tie.Need-array-set-from-rows invariant-loop decreases-loop
+array-set-from-rows : tie.Need-bounds-rows-g invariant-loop-g decreases-loop-g
 array-set-from-rows c = search rules
 
 -- the record read is that of group g
 read :
-    (c : tie.After-pair-at invariant-loop decreases-loop) →
+    (c : tie.After-pair_at-group invariant-loop-g decreases-loop-g) →
     let at_loop = c.before.before in
     let b = at_loop.before.before.before.args.s.now in
-    (c.pair-at.result.first ≡ group_set b at_loop.loop.g) × (c.pair-at.result.second ≡ group_mark b at_loop.loop.g)
+    (c.pair_at-group.result.first ≡ group_set b at_loop.loop-g.g) × (c.pair_at-group.result.second ≡ group_mark b at_loop.loop-g.g)
 unfolding group_set group_mark
 read c =
     let head = c.before.before.before.before.before.requires.laid.groups in
-    (rw head at c.pair-at.ensures.0, rw head at c.pair-at.ensures.1)
+    (rw head at c.pair_at-group.ensures.0, rw head at c.pair_at-group.ensures.1)
 
-array-write-sets : tie.Need-array-write-sets invariant-loop decreases-loop
+array-write-sets : tie.Need-bounds-sets-movements invariant-loop-g decreases-loop-g
 array-write-sets c =
     let at_pair = c.before.before in
-    room-left _ at_pair.before.before.loop.invariant.1 (read at_pair).1 c.if1.true (omega arith) (omega arith)
+    room-left _ at_pair.before.before.loop-g.invariant.1 (read at_pair).1 c.if-group-eq2.true (omega arith) (omega arith)
 
-add-movements : tie.Need-overflow-add-movements invariant-loop decreases-loop
+add-movements : tie.Need-overflow_add-movements invariant-loop-g decreases-loop-g
 add-movements c = search rules
 
-add-g : tie.Need-overflow-add-g invariant-loop decreases-loop
+add-g : tie.Need-overflow_add-g invariant-loop-g decreases-loop-g
 add-g c = search rules
 
-loop-less : tie.Need-loop-smaller invariant-loop decreases-loop
+loop-less : tie.Need-loop-g-smaller invariant-loop-g decreases-loop-g
 loop-less c = search rules
 
-loop-again : tie.Need-loop-preserved invariant-loop decreases-loop
+loop-again : tie.Need-loop-g-preserved invariant-loop-g decreases-loop-g
 loop-again c =
     let at_pair = c.before.before in
-    let inv = at_pair.before.before.loop.invariant in (
+    let inv = at_pair.before.before.loop-g.invariant in (
       filled_more inv.0 (simp ((read at_pair).0, (read at_pair).1)) (omega arith) (omega arith),
       ⊎_elim
           (λ w.
@@ -76,22 +76,22 @@ loop-again c =
           (passed-pedestrian _ inv.1 (read at_pair).1 w.0.taken (read at_pair).0
           (room-left _ inv.1 (read at_pair).1 w.0.taken (omega arith) (omega arith))))
           (λ w. rw (w.1, w.2) (passed-vehicle _ inv.1 (read at_pair).1 w.0.left))
-          c.if1.branch,
+          c.if-group-eq2.branch,
     )
 
-returns : tie.Need-returns invariant-loop decreases-loop
+returns : tie.Need-returns invariant-loop-g decreases-loop-g
 unfolding group_rows_in site_of
 returns c =
-    let inv = c.before.loop.invariant in
+    let inv = c.before.loop-g.invariant in
     let found = passed-whole _ inv.1 (omega arith) in
     rw (filled-whole inv.0 (omega arith), found.0, found.1)
 
-pub group-rows-in-spec : {M : Type 1} → statement M
-group-rows-in-spec =
+pub group_rows_in_spec : {M : Type 1} → statement M
+group_rows_in_spec =
     tie.close
     (tie.spec
-    invariant-loop
-    decreases-loop
+    invariant-loop-g
+    decreases-loop-g
     cast-count
     loop-holds
     pair-at-requires

@@ -8,43 +8,43 @@ use native.Mathlib.Omega.{arith}
 use Rattle.site_rows.proofs.order.Statement.{statement}
 use Rattle.site_rows.proofs.order.Tie as tie
 
-abbrev invariant-loop : tie.invariant-loop
-invariant-loop s layout count phases₀ i₀ phases i = Filled (order_in s) (phase_count s) 7 0 i phases
+abbrev invariant-loop-i : tie.invariant-loop-i
+invariant-loop-i s layout count phases₀ i₀ phases i = Filled (order_in s) (phase_count s) 7 0 i phases
 
-abbrev decreases-loop : tie.decreases-loop
-decreases-loop s layout count phases₀ i₀ phases i = count - i
+abbrev decreases-loop-i : tie.decreases-loop-i
+decreases-loop-i s layout count phases₀ i₀ phases i = count - i
 
-loop-holds : tie.Need-loop-init invariant-loop decreases-loop
+loop-holds : tie.Need-loop-i-init invariant-loop-i decreases-loop-i
 loop-holds c = filled_none
 
-order-in-requires : tie.Need-order-in-requires invariant-loop decreases-loop
+order-in-requires : tie.Need-order_in-requires invariant-loop-i decreases-loop-i
 order-in-requires c κs = search rules
 
-cast-phases : tie.Need-overflow-cast-phases invariant-loop decreases-loop
+cast-phases : tie.Need-overflow_cast-phases invariant-loop-i decreases-loop-i
 cast-phases c = search rules
 
-array-write-phases : tie.Need-array-write-phases invariant-loop decreases-loop
+array-write-phases : tie.Need-bounds-phases-i invariant-loop-i decreases-loop-i
 array-write-phases c = search rules
 
-add-i : tie.Need-overflow-add-i invariant-loop decreases-loop
+add-i : tie.Need-overflow_add-i invariant-loop-i decreases-loop-i
 add-i c = search rules
 
-loop-less : tie.Need-loop-smaller invariant-loop decreases-loop
+loop-less : tie.Need-loop-i-smaller invariant-loop-i decreases-loop-i
 loop-less c = search rules
 
-loop-again : tie.Need-loop-preserved invariant-loop decreases-loop
-loop-again c = filled_more c.before.before.loop.invariant c.order-in.ensures (omega arith) (omega arith)
+loop-again : tie.Need-loop-i-preserved invariant-loop-i decreases-loop-i
+loop-again c = filled_more c.before.before.loop-i.invariant c.order_in.ensures (omega arith) (omega arith)
 
-returns : tie.Need-returns invariant-loop decreases-loop
+returns : tie.Need-returns invariant-loop-i decreases-loop-i
 unfolding site_of
-returns c = filled-whole c.before.loop.invariant (omega arith)
+returns c = filled-whole c.before.loop-i.invariant (omega arith)
 
-pub order-spec : {M : Type 1} → statement M
-order-spec =
+pub order_spec : {M : Type 1} → statement M
+order_spec =
     tie.close
     (tie.spec
-    invariant-loop
-    decreases-loop
+    invariant-loop-i
+    decreases-loop-i
     loop-holds
     order-in-requires
     cast-phases

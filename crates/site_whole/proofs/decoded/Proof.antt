@@ -8,14 +8,14 @@ use borrow.Author.Rules.{rules}
 use Rattle.site_whole.proofs.decoded.Statement.{statement}
 use Rattle.site_whole.proofs.decoded.Tie as tie
 
-size-requires : tie.Need-size-requires
+size-requires : tie.Need-size-size-requires
 size-requires c κs = let pre = c.before.before.before.before.requires in (pre.0, counted _ pre.1)
 
 detectors-requires : tie.Need-detectors-requires
 unfolding site_of
 detectors-requires c κs =
     let sized = c.before.before in
-    (sized.before.before.before.before.before.requires.0, ap (λ (x : Size). x.detectors) sized.size.ensures)
+    (sized.before.before.before.before.before.requires.0, ap (λ (x : Size). x.detectors) sized.size-size.ensures)
 
 returns : tie.Need-returns
 unfolding site_of group_rows_in
@@ -28,15 +28,15 @@ returns c =
     simp (
       c.order.ensures,
       detected.detectors.ensures,
-      named.edition-of.ensures,
-      sized.size.ensures,
-      listed.conflicts.ensures,
+      named.edition_of-edition.ensures,
+      sized.size-size.ensures,
+      listed.conflicts-conflicts.ensures,
       pre.1,
       pre.0.laid.hasearly,
     )
 
-pub decoded-spec : {M : Type 1} → statement M
-decoded-spec =
+pub decoded_spec : {M : Type 1} → statement M
+decoded_spec =
     tie.close
     (tie.spec
     (λ c κs. search rules)

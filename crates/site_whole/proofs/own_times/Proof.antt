@@ -8,17 +8,17 @@ use borrow.Author.Rules.{rules}
 use Rattle.site_whole.proofs.own_times.Statement.{statement}
 use Rattle.site_whole.proofs.own_times.Tie as tie
 
-two-in-requires : tie.Need-two-in-requires
+two-in-requires : tie.Need-two_in-requires
 unfolding body_at
 two-in-requires c κs = omega (arith, phases-end c.before.before.requires)
 
-walk-times-requires : tie.Need-walk-times-requires
-walk-times-requires c κs = let found = c.before.before in (found.before.before.requires, counted _ found.group-rows-in.ensures)
+walk-times-requires : tie.Need-walk_times-requires
+walk-times-requires c κs = let found = c.before.before in (found.before.before.requires, counted _ found.group_rows_in-found.ensures)
 
 returns : tie.Need-returns
 unfolding times_in
-returns c = simp (c.walk-times.ensures, c.before.phase-times.ensures, c.before.before.two_in.ensures)
+returns c = simp (c.walk_times.ensures, c.before.phase_times.ensures, c.before.before.two_in.ensures)
 
-pub own-times-spec : {M : Type 1} → statement M
-own-times-spec =
+pub own_times_spec : {M : Type 1} → statement M
+own_times_spec =
     tie.close (tie.spec (λ c κs. search rules) two-in-requires (λ c κs. search rules) walk-times-requires returns)

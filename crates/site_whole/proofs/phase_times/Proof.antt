@@ -17,5 +17,5 @@ returns c =
     let start = c.before.before.before.before in
     c.read.ensures ∙ phases-own start.args.s.now start.args.layout start.requires.laid
 
-pub phase-times-spec : {M : Type 1} → statement M
-phase-times-spec = tie.close (tie.spec (λ c. search rules) (λ c. search rules) read-requires returns)
+pub phase_times_spec : {M : Type 1} → statement M
+phase_times_spec = tie.close (tie.spec (λ c. search rules) (λ c. search rules) read-requires returns)

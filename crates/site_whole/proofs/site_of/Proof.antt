@@ -8,21 +8,21 @@ use borrow.Author.Rules.{rules}
 use Rattle.site_whole.proofs.site_of.Statement.{statement}
 use Rattle.site_whole.proofs.site_of.Tie as tie
 
-two-in-requires : tie.Need-two-in-requires
+two-in-requires : tie.Need-two_in-requires
 unfolding body_at
 two-in-requires c κs = omega (arith, phases-end c.before.before.requires)
 
-walk-times-requires : tie.Need-walk-times-requires
-walk-times-requires c κs = let found = c.before.before in (found.before.before.requires, counted _ found.group-rows-in.ensures)
+walk-times-requires : tie.Need-walk_times-requires
+walk-times-requires c κs = let found = c.before.before in (found.before.before.requires, counted _ found.group_rows_in-found.ensures)
 
 returns : tie.Need-returns
 unfolding site_of times_in
 returns c =
     let walks = c.before in
     let phases = walks.before in
-    simp (c.decoded.ensures, walks.walk-times.ensures, phases.phase-times.ensures, phases.before.two_in.ensures)
+    simp (c.decoded.ensures, walks.walk_times.ensures, phases.phase_times.ensures, phases.before.two_in.ensures)
 
-pub site-of-spec : {M : Type 1} → statement M
-site-of-spec =
+pub site_of_spec : {M : Type 1} → statement M
+site_of_spec =
     tie.close
     (tie.spec (λ c κs. search rules) two-in-requires (λ c κs. search rules) walk-times-requires (λ c κs. search rules) returns)

@@ -18,5 +18,5 @@ returns c =
     let start = c.before.before.before in
     rw start.requires.1 at c.read.ensures ∙ walks-own start.args.s.now start.args.layout start.requires.0.laid
 
-pub walk-times-spec : {M : Type 1} → statement M
-walk-times-spec = tie.close (tie.spec (λ c. search rules) read-requires returns)
+pub walk_times_spec : {M : Type 1} → statement M
+walk_times_spec = tie.close (tie.spec (λ c. search rules) read-requires returns)

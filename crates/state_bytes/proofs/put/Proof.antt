@@ -5,7 +5,7 @@ use borrow.Author.Rules.{rules}
 use Rattle.state_bytes.proofs.put.Statement.{statement}
 use Rattle.state_bytes.proofs.put.Tie as tie
 
-same_length : tie.Need-same-length
+same_length : tie.Need-shape_of-bytes
 same_length c = simp length-set (search rules)
 
 returns : tie.Need-returns
@@ -15,8 +15,8 @@ returns c =
     let counts = demands.before.before.before.before in
     let position = counts.before.before.before.before in
     let a = position.before.before.before.before.args in
-    rw (movements.put4.ensures, demands.put3.ensures, counts.put2.ensures, position.put.ensures)
-    (written a.state a.bytes.now a.at)
+    rw (movements.put-4.ensures, demands.put-3.ensures, counts.put-2.ensures, position.put.ensures)
+    (written a.state a.bytes-1.now a.at)
 
 pub put_spec : {M : Type 1} → statement M
 put_spec =

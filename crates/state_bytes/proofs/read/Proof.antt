@@ -21,9 +21,9 @@ returns : tie.Need-returns
 unfolding byte_at
 returns c =
     rw (
-      c.before.read4.ensures,
-      c.before.before.read3.ensures,
-      c.before.before.before.read2.ensures,
+      c.before.read-4.ensures,
+      c.before.before.read-3.ensures,
+      c.before.before.before.read-2.ensures,
       c.before.before.before.before.read.ensures,
       add-zero,
     )

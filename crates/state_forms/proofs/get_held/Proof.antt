@@ -14,20 +14,20 @@ tag c =
     let b = c.args.bytes.now in
     tag-known (byte_at b c.args.at) (byte_at b (c.args.at + 1)) c.requires.1
 
-returns : tie.Need-returns
+returns : tie.Need-returns-then-bytes-at-eq1
 unfolding byte_at
 returns c =
     let start = c.before.before.before in
     let e : byte_at start.args.bytes.now start.args.at ≡ 1 = omega (arith, tag start) in
     rw e
 
-returns-2 : tie.Need-returns-2
+returns-2 : tie.Need-returns-else-bytes-at-eq1
 unfolding byte_at
 returns-2 c =
     let start = c.before.before.before in
     let e : byte_at start.args.bytes.now start.args.at ≡ 0 = omega (arith, tag start) in
     rw e
 
-pub get-held-spec : {M : Type 1} → statement M
-get-held-spec =
+pub get_held_spec : {M : Type 1} → statement M
+get_held_spec =
     tie.close (tie.spec (λ c. search rules) (λ c. search rules) (λ c. search rules) returns returns-2)

@@ -9,6 +9,6 @@ returns : tie.Need-returns
 unfolding byte_at
 returns c = refl
 
-pub held-known-spec : {M : Type 1} → statement M
-held-known-spec =
+pub held_known_spec : {M : Type 1} → statement M
+held_known_spec =
     tie.close (tie.spec (λ c. search rules) (λ c. search rules) (λ c. search rules) returns)

@@ -11,49 +11,49 @@ use Rattle.laws.proofs.Lists.{listed}
 use Rattle.state_forms.proofs.put_all.Statement.{statement}
 use Rattle.state_forms.proofs.put_all.Tie as tie
 
-abbrev invariant-loop : tie.invariant-loop
-invariant-loop bytes₀ at part i₀ bytes i = Stored (list_of (λ k. get_or part k 0)) bytes₀ at (length part) bytes i
+abbrev invariant-loop-i : tie.invariant-loop-i
+invariant-loop-i bytes₀ at part i₀ bytes i = Stored (list_of (λ k. get_or part k 0)) bytes₀ at (length part) bytes i
 
-abbrev decreases-loop : tie.decreases-loop
-decreases-loop bytes₀ at part i₀ bytes i = length part - i
+abbrev decreases-loop-i : tie.decreases-loop-i
+decreases-loop-i bytes₀ at part i₀ bytes i = length part - i
 
-loop-holds : tie.Need-loop-init invariant-loop decreases-loop
+loop-holds : tie.Need-loop-i-init invariant-loop-i decreases-loop-i
 unfolding list_of
 loop-holds c = stored-none refl
 
-shared-slice-read-bytes : tie.Need-shared-slice-read-bytes invariant-loop decreases-loop
+shared-slice-read-bytes : tie.Need-bounds-part-i invariant-loop-i decreases-loop-i
 shared-slice-read-bytes c = search rules
 
-add-bytes : tie.Need-overflow-add-bytes invariant-loop decreases-loop
+add-bytes : tie.Need-overflow_add-bytes invariant-loop-i decreases-loop-i
 add-bytes c = omega arith
 
-slice-write-bytes : tie.Need-slice-write-bytes invariant-loop decreases-loop
-slice-write-bytes c = omega (arith, stored-length c.before.before.loop.invariant)
+slice-write-bytes : tie.Need-bounds-bytes-at invariant-loop-i decreases-loop-i
+slice-write-bytes c = omega (arith, stored-length c.before.before.loop-i.invariant)
 
-add-i : tie.Need-overflow-add-i invariant-loop decreases-loop
+add-i : tie.Need-overflow_add-i invariant-loop-i decreases-loop-i
 add-i c = search rules
 
-loop-less : tie.Need-loop-smaller invariant-loop decreases-loop
+loop-less : tie.Need-loop-i-smaller invariant-loop-i decreases-loop-i
 loop-less c = search rules
 
-loop-again : tie.Need-loop-preserved invariant-loop decreases-loop
-loop-again c = stored_one _ c.before.before.loop.invariant c.before.loop-test.true refl refl
+loop-again : tie.Need-loop-i-preserved invariant-loop-i decreases-loop-i
+loop-again c = stored_one _ c.before.before.loop-i.invariant c.before.loop-i-test.true refl refl
 
-same_length : tie.Need-same-length invariant-loop decreases-loop
-same_length c = stored-length c.before.loop.invariant
+same_length : tie.Need-shape_of-bytes invariant-loop-i decreases-loop-i
+same_length c = stored-length c.before.loop-i.invariant
 
-returns : tie.Need-returns invariant-loop decreases-loop
+returns : tie.Need-returns invariant-loop-i decreases-loop-i
 returns c =
     let a = c.before.before.args in
-    stored-all c.before.loop.invariant c.loop-test.false
+    stored-all c.before.loop-i.invariant c.loop-i-test.false
     ∙ ap (sets a.bytes.now a.at) (listed a.part.now (length a.part.now) 0 refl)
 
-pub put-all-spec : {M : Type 1} → statement M
-put-all-spec =
+pub put_all_spec : {M : Type 1} → statement M
+put_all_spec =
     tie.close
     (tie.spec
-    invariant-loop
-    decreases-loop
+    invariant-loop-i
+    decreases-loop-i
     loop-holds
     shared-slice-read-bytes
     add-bytes

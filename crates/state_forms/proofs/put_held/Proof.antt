@@ -6,14 +6,14 @@ use borrow.Author.Rules.{rules}
 use Rattle.state_forms.proofs.put_held.Statement.{statement}
 use Rattle.state_forms.proofs.put_held.Tie as tie
 
-slice-write-bytes-2 : tie.Need-slice-write-bytes-2
+slice-write-bytes-2 : tie.Need-bounds-bytes-at-2
 slice-write-bytes-2 c = simp length-set (omega arith)
 
 returns : tie.Need-returns
-returns c = rw (add-one, c.phase-held.ensures, c.before.flag-code.ensures, c.before.before.is_held.ensures)
+returns c = rw (add-one, c.phase_held.ensures, c.before.flag_code.ensures, c.before.before.is_held.ensures)
 
-pub put-held-spec : {M : Type 1} → statement M
-put-held-spec =
+pub put_held_spec : {M : Type 1} → statement M
+put_held_spec =
     tie.close
     (tie.spec
     (λ c κs. search rules)

@@ -6,7 +6,7 @@ use borrow.Author.Rules.{rules}
 use Rattle.state_fresh.proofs.put_fresh.Statement.{statement}
 use Rattle.state_fresh.proofs.put_fresh.Tie as tie
 
-own-times-requires : tie.Need-own-times-requires
+own-times-requires : tie.Need-own_times-times-requires
 own-times-requires c κs = let start = c.before.before in accepted-fits start.requires.0 start.requires.1
 
 returns : tie.Need-returns
@@ -14,8 +14,8 @@ unfolding fresh_timed site_of
 returns c =
     let put = c.before.before in
     let begun = put.before in
-    rw (put.put-settled.ensures, begun.fresh.ensures, begun.before.before.own-times.ensures)
+    rw (put.put_settled.ensures, begun.fresh.ensures, begun.before.before.own_times-times.ensures)
 
-pub put-fresh-spec : {M : Type 1} → statement M
-put-fresh-spec =
+pub put_fresh_spec : {M : Type 1} → statement M
+put_fresh_spec =
     tie.close (tie.spec own-times-requires (λ c κs. search rules) (λ c κs. search rules) (λ c. search rules) returns)

@@ -9,20 +9,20 @@ use Rattle.state_sealed.specs.Sealed.{sealed_bytes, damaged}
 use Rattle.state_sealed.proofs.damaged.Statement.{statement}
 use Rattle.state_sealed.proofs.damaged.Tie as tie
 
-returns : tie.Need-returns
+returns : tie.Need-returns-then-sealed-ne-SEALED_BYTES
 unfolding damaged
-returns c = rw (ne_eqb (length c.before.before.args.sealed.now) sealed_bytes c.if1.true)
+returns c = rw (ne_eqb (length c.before.before.args.sealed.now) sealed_bytes c.if-sealed-ne-SEALED_BYTES.true)
 
-slice-aggregate-crc : tie.Need-slice-aggregate-crc
+slice-aggregate-crc : tie.Need-slice_bounds-crc-end
 slice-aggregate-crc c = sym (length-take-le 343 c.before.before.before.before.args.sealed.now (omega arith))
 
-returns-2 : tie.Need-returns-2
+returns-2 : tie.Need-returns
 unfolding damaged
 returns-2 c =
     let read = c.before.before in
     let left = read.before in
-    rw (read.four-in.ensures, c.crc.ensures, eq-eqb (length left.before.before.args.sealed.now) sealed_bytes left.if1.false)
+    rw (read.four_in.ensures, c.crc.ensures, eq-eqb (length left.before.before.args.sealed.now) sealed_bytes left.if-sealed-ne-SEALED_BYTES.false)
 
-pub damaged-spec : {M : Type 1} → statement M
-damaged-spec =
+pub damaged_spec : {M : Type 1} → statement M
+damaged_spec =
     tie.close (tie.spec returns (λ c κs. search rules) slice-aggregate-crc (λ c κs. search rules) returns-2)

@@ -7,25 +7,25 @@ use Rattle.state_sealed.specs.Sealed.{other_personality}
 use Rattle.state_sealed.proofs.other_personality.Statement.{statement}
 use Rattle.state_sealed.proofs.other_personality.Tie as tie
 
-returns : tie.Need-returns
+returns : tie.Need-returns-then-two_in-personality
 unfolding other_personality
 returns c =
     let read = c.before in
     let a = read.before.before.before.args in
-    rw (ne_eqb (two_at a.sealed.now 1) (length a.personality.now) (rw read.two_in.ensures at c.if1.true))
+    rw (ne_eqb (two_at a.sealed.now 1) (length a.personality.now) (rw read.two_in.ensures at c.if-two_in-personality.true))
 
-returns-2 : tie.Need-returns-2
+returns-2 : tie.Need-returns
 unfolding other_personality
 returns-2 c =
     let left = c.before.before in
     let read = left.before in
     let a = read.before.before.before.args in
     rw (
-      c.before.four-in.ensures,
+      c.before.four_in.ensures,
       c.crc.ensures,
-      eq-eqb (two_at a.sealed.now 1) (length a.personality.now) (rw read.two_in.ensures at left.if1.false),
+      eq-eqb (two_at a.sealed.now 1) (length a.personality.now) (rw read.two_in.ensures at left.if-two_in-personality.false),
     )
 
-pub other-personality-spec : {M : Type 1} → statement M
-other-personality-spec =
+pub other_personality_spec : {M : Type 1} → statement M
+other_personality_spec =
     tie.close (tie.spec (λ c κs. search rules) (λ c. search rules) returns (λ c κs. search rules) (λ c κs. search rules) returns-2)

@@ -6,13 +6,13 @@ use Rattle.state_sealed.specs.Sealed.{other_version}
 use Rattle.state_sealed.proofs.other_version.Statement.{statement}
 use Rattle.state_sealed.proofs.other_version.Tie as tie
 
-returns : tie.Need-returns
+returns : tie.Need-returns-then-sealed-gt0
 unfolding other_version byte_at
-returns c = simp (lt-ltb _ _ c.before.if1.true)
+returns c = simp (lt-ltb _ _ c.before.if-sealed-gt0.true)
 
-returns-2 : tie.Need-returns-2
+returns-2 : tie.Need-returns-else-sealed-gt0
 unfolding other_version
-returns-2 c = simp (le-ltb _ _ c.if1.false)
+returns-2 c = simp (le-ltb _ _ c.if-sealed-gt0.false)
 
-pub other-version-spec : {M : Type 1} → statement M
-other-version-spec = tie.close (tie.spec (λ c. search rules) returns returns-2)
+pub other_version_spec : {M : Type 1} → statement M
+other_version_spec = tie.close (tie.spec (λ c. search rules) returns returns-2)

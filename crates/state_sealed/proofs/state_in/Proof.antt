@@ -9,5 +9,5 @@ returns : tie.Need-returns
 unfolding state_in
 returns c = refl
 
-pub state-in-spec : {M : Type 1} → statement M
-state-in-spec = tie.close (tie.spec (λ c. search rules) (λ c. search rules) (λ c. search rules) returns)
+pub state_in_spec : {M : Type 1} → statement M
+state_in_spec = tie.close (tie.spec (λ c. search rules) (λ c. search rules) (λ c. search rules) returns)

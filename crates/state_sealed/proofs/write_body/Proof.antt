@@ -9,26 +9,26 @@ use Rattle.state_sealed.proofs.Written.{body-written}
 use Rattle.state_sealed.proofs.write_body.Statement.{statement}
 use Rattle.state_sealed.proofs.write_body.Tie as tie
 
-put-two-requires : tie.Need-put-two-requires
+put-two-requires : tie.Need-put_two-requires
 put-two-requires c κs = simp length-set (omega arith)
 
-abbrev start : tie.After-put-two → tie.Start
+abbrev start : tie.After-put_two → tie.Start
 start c = c.before.before.before.before.before
 
 -- the length after two parts and after three
-sized : (c : tie.After-put-two) → length c.put_two.new.0 ≡ sealed_bytes
+sized : (c : tie.After-put_two) → length c.put_two.new.0 ≡ sealed_bytes
 sized c = c.put_two.auto.0 ∙ length-set (start c).args.sealed.now 0 interface_version ∙ (start c).requires.2
 
-put-four-requires : tie.Need-put-four-requires
+put-four-requires : tie.Need-put_four-requires
 put-four-requires c κs = omega (arith, sized c.before.before.before.before)
 
-marked : (c : tie.After-put-four) → length c.put_four.new.0 ≡ sealed_bytes
+marked : (c : tie.After-put_four) → length c.put_four.new.0 ≡ sealed_bytes
 marked c = c.put_four.auto.0 ∙ sized c.before.before.before.before.before
 
-put-all-requires : tie.Need-put-all-requires
+put-all-requires : tie.Need-put_all-requires
 put-all-requires c κs = omega (arith, marked c.before.before.before)
 
-same_length : tie.Need-same-length
+same_length : tie.Need-shape_of-sealed
 same_length c =
     let stated = c.before.before in
     let four = stated.before.before.before.before in
@@ -42,10 +42,10 @@ returns c =
     let two = four.before.before.before.before.before in
     let a = (start two).args in
     rw (stated.put_all_lem.ensures, four.put_four.ensures, four.before.crc.ensures, two.put_two.ensures)
-    (body-written a.personality.now a.state.now a.sealed.now)
+    (body-written a.personality.now a.state.now a.sealed-1.now)
 
-pub write-body-spec : {M : Type 1} → statement M
-write-body-spec =
+pub write_body_spec : {M : Type 1} → statement M
+write_body_spec =
     tie.close
     (tie.spec
     (λ c. search rules)

@@ -6,8 +6,8 @@ use Rattle.state_sealed.proofs.Written.{sealed-written}
 use Rattle.state_sealed.proofs.write_sealed.Statement.{statement}
 use Rattle.state_sealed.proofs.write_sealed.Tie as tie
 
-slice-aggregate-crc : tie.Need-slice-aggregate-crc
-slice-aggregate-crc c = sym (length-take-le 343 c.before.before.before.write-body.new.1.1.0 (search rules))
+slice-aggregate-crc : tie.Need-slice_bounds-crc-end-2
+slice-aggregate-crc c = sym (length-take-le 343 c.before.before.before.write_body.new.1.1.0 (search rules))
 
 returns : tie.Need-returns
 returns c =
@@ -15,11 +15,11 @@ returns c =
     let checked = closed.before.before in
     let body = checked.before.before.before.before in
     let a = body.before.before.before.before.before.args in
-    rw (closed.put_four.ensures, checked.crc.ensures, body.write-body.ensures)
-    (sealed-written a.personality.now a.state.now a.sealed.now (search rules) (search rules))
+    rw (closed.put_four.ensures, checked.crc-check.ensures, body.write_body.ensures)
+    (sealed-written a.personality.now a.state.now a.sealed-1.now (search rules) (search rules))
 
-pub write-sealed-spec : {M : Type 1} → statement M
-write-sealed-spec =
+pub write_sealed_spec : {M : Type 1} → statement M
+write_sealed_spec =
     tie.close
     (tie.spec
     (λ c κs. search rules)

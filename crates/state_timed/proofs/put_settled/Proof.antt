@@ -10,11 +10,11 @@ returns c =
     let ruling = none.before.before.before.before.before in
     let kept = ruling.before.before.before.before in
     let start = kept.before.before.before in
-    rw (none.put_all_lem.ensures, ruling.put2.ensures, kept.put.ensures)
+    rw (none.put_all_lem.ensures, ruling.put-2.ensures, kept.put.ensures)
     (settled-written start.args.bytes.now start.args.state start.args.ruling start.requires)
 
-pub put-settled-spec : {M : Type 1} → statement M
-put-settled-spec =
+pub put_settled_spec : {M : Type 1} → statement M
+put_settled_spec =
     tie.close
     (tie.spec
     (λ c κs. search rules)

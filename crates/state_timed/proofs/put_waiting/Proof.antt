@@ -12,17 +12,17 @@ use Rattle.state_timed.proofs.put_waiting.Tie as tie
 told : (c : tie.Start) → TimedKnown c.args.bytes.now
 told c = timed-known c.args.bytes.now c.requires
 
-bytes : (c : tie.After-slice-known) → AreBytes c.before.args.bytes.now
+bytes : (c : tie.After-slice_known-1) → AreBytes c.before.args.bytes.now
 unfolding byte_at
-bytes c = record { each = λ i. omega (arith, c.slice-known.given i) }
+bytes c = record { each = λ i. omega (arith, c.slice_known-1.given i) }
 
-slice-write-bytes : tie.Need-slice-write-bytes
+slice-write-bytes : tie.Need-bounds-bytes-187
 slice-write-bytes c = omega (arith, (told c.before).size)
 
 put-requires : tie.Need-put-requires
 put-requires c κs = simp length-set (omega (arith, (told c.before.before).size))
 
-same_length : tie.Need-same-length
+same_length : tie.Need-shape_of-bytes
 same_length c = rw c.before.before.put.ensures (simp (length-sets, length-set))
 
 returns : tie.Need-returns
@@ -31,5 +31,5 @@ returns c =
     let known = put.before.before in
     rw put.put.ensures (waiting-written known.before.args.bytes.now (bytes known) known.before.requires known.before.args.times)
 
-pub put-waiting-spec : {M : Type 1} → statement M
-put-waiting-spec = tie.close (tie.spec slice-write-bytes put-requires same_length returns)
+pub put_waiting_spec : {M : Type 1} → statement M
+put_waiting_spec = tie.close (tie.spec slice-write-bytes put-requires same_length returns)

@@ -11,8 +11,8 @@ returns c =
     let phases = walks.before.before.before.before in
     let start = phases.before.before.before.before in
     let a = start.before.before.before.before.before.args in
-    rw (early.put-early.ensures, walks.put2.ensures, phases.put.ensures, start.put_two.ensures)
-    (times-written a.times a.bytes.now a.at)
+    rw (early.put_early.ensures, walks.put-2.ensures, phases.put.ensures, start.put_two.ensures)
+    (times-written a.times a.bytes-1.now a.at)
 
 pub put_spec : {M : Type 1} → statement M
 put_spec =

@@ -8,5 +8,5 @@ returns : tie.Need-returns
 unfolding ready
 returns c = refl
 
-pub ready-spec : {M : Type 1} → statement M
-ready-spec = tie.close (tie.spec returns)
+pub ready_spec : {M : Type 1} → statement M
+ready_spec = tie.close (tie.spec returns)

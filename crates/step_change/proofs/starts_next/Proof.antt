@@ -10,36 +10,36 @@ use borrow.Author.Rules.{rules}
 use Rattle.step_change.proofs.starts_next.Statement.{statement}
 use Rattle.step_change.proofs.starts_next.Tie as tie
 
-returns : tie.Need-returns
+returns : tie.Need-returns-then-not-is_before_start
 unfolding starts_next
-returns c = rw (sym c.before.is-before-start.ensures ∙ not-true _ c.if1.true)
+returns c = rw (sym c.before.is_before_start.ensures ∙ not-true _ c.if-not-is_before_start.true)
 
-abbrev begin : tie.After-stages → tie.Start
+abbrev begin : tie.After-stages-1 → tie.Start
 begin c = c.before.before.before.before.before.before.before
 
 past : (c : tie.Start) → IdlePast c.args.site.size.movements c.args.state.core.movements
 past c = idle-past c.args.site c.args.state c.requires
 
-movements-after-requires : tie.Need-movements-after-requires
+movements-after-requires : tie.Need-movements_after-moved-requires
 movements-after-requires c κs = past (begin c)
 
 ends-requires : tie.Need-ends-requires
 ends-requires c κs =
     let start = begin c.before.before in
-    rw c.before.movements-after.ensures
+    rw c.before.movements_after-moved.ensures
     (still-past start.args.site.times _ start.args.state.core.movements start.args.site.size.movements (past start))
 
-returns-2 : tie.Need-returns-2
+returns-2 : tie.Need-returns
 unfolding starts_next
 returns-2 c =
     let moved = c.before.before in
     let own = moved.before.before in
     let else = own.before.before in
     c.ends.ensures
-    ∙ rw (own.phase-times.ensures, moved.movements-after.ensures, sym else.before.is-before-start.ensures ∙ not-false _ else.if1.false)
+    ∙ rw (own.phase_times-own.ensures, moved.movements_after-moved.ensures, sym else.before.is_before_start.ensures ∙ not-false _ else.if-not-is_before_start.false)
 
-pub starts-next-spec : {M : Type 1} → statement M
-starts-next-spec =
+pub starts_next_spec : {M : Type 1} → statement M
+starts_next_spec =
     tie.close
     (tie.spec
     (λ c κs. search rules)

@@ -6,8 +6,8 @@ use Rattle.step_colours.proofs.closing.Tie as tie
 
 returns : tie.Need-returns
 unfolding closing
-returns c = rw (c.before.since-cut-off.ensures, c.before.before.phase-times.ensures)
+returns c = rw (c.before.since_cut_off.ensures, c.before.before.phase_times-own.ensures)
 
-pub closing-spec : {M : Type 1} → statement M
-closing-spec =
+pub closing_spec : {M : Type 1} → statement M
+closing_spec =
     tie.close (tie.spec (λ c κs. search rules) (λ c κs. search rules) (λ c. search rules) returns)

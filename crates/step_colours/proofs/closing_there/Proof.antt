@@ -3,11 +3,11 @@ use borrow.Author.Rules.{rules}
 use Rattle.step_colours.proofs.closing_there.Statement.{statement}
 use Rattle.step_colours.proofs.closing_there.Tie as tie
 
-returns : tie.Need-returns
-returns c = rw (c.before.if1.true, c.closing.ensures)
+returns : tie.Need-returns-then-early
+returns c = rw (c.before.if-early.true, c.closing.ensures)
 
-returns-2 : tie.Need-returns-2
-returns-2 c = rw c.if1.false
+returns-2 : tie.Need-returns
+returns-2 c = rw c.if-early.false
 
-pub closing-there-spec : {M : Type 1} → statement M
-closing-there-spec = tie.close (tie.spec (λ c κs. search rules) returns returns-2)
+pub closing_there_spec : {M : Type 1} → statement M
+closing_there_spec = tie.close (tie.spec (λ c κs. search rules) returns returns-2)

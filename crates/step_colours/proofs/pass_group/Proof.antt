@@ -6,22 +6,22 @@ use Rattle.step_colours.proofs.Shown.{pedestrian-passed, vehicle-passed}
 use Rattle.step_colours.proofs.pass_group.Statement.{statement}
 use Rattle.step_colours.proofs.pass_group.Tie as tie
 
-returns : tie.Need-returns
+returns : tie.Need-returns-then-group-eq2
 returns c =
     let test = c.before in
     let start = test.before.before.before in
     let a = start.args in
-    pedestrian-passed a.g start.requires.0 refl a.group a.stage a.closes a.position test.if1.true c.movement-colour.ensures refl
+    pedestrian-passed a.g start.requires.0 refl a.group a.stage a.closes a.position test.if-group-eq2.true c.movement_colour.ensures refl
 
-returns-2 : tie.Need-returns-2
+returns-2 : tie.Need-returns
 returns-2 c =
     let test = c.before in
     let start = test.before.before.before in
     let a = start.args in
-    vehicle-passed a.g start.requires.0 refl a.group a.stage a.closes a.position test.if1.false c.vehicle-shown.ensures refl
+    vehicle-passed a.g start.requires.0 refl a.group a.stage a.closes a.position test.if-group-eq2.false c.vehicle_shown.ensures refl
 
-pub pass-group-spec : {M : Type 1} → statement M
-pass-group-spec =
+pub pass_group_spec : {M : Type 1} → statement M
+pass_group_spec =
     tie.close
     (tie.spec
     (λ c κs. search rules)

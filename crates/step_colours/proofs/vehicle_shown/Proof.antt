@@ -6,18 +6,18 @@ use Rattle.laws.proofs.Booleans.{chosen, passed-by}
 use Rattle.step_colours.proofs.vehicle_shown.Statement.{statement}
 use Rattle.step_colours.proofs.vehicle_shown.Tie as tie
 
-returns : tie.Need-returns
+returns : tie.Need-returns-then-bit8
 unfolding vehicle_shown
-returns c = chosen red (sym c.before.before.bit8.ensures ∙ c.before.if1.true) c.vehicle-colour.ensures
+returns c = chosen red (sym c.before.before.bit8.ensures ∙ c.before.if-bit8.true) c.vehicle_colour.ensures
 
-returns-2 : tie.Need-returns-2
+returns-2 : tie.Need-returns-else-bit8
 unfolding vehicle_shown
 returns-2 c =
     let args = c.before.before.args in
     let position = args.position in
     passed-by (vehicle_colour position.interval args.closes position.previous position.target args.group)
-    (sym c.before.bit8.ensures ∙ c.if1.false)
+    (sym c.before.bit8.ensures ∙ c.if-bit8.false)
     refl
 
-pub vehicle-shown-spec : {M : Type 1} → statement M
-vehicle-shown-spec = tie.close (tie.spec (λ c κs. search rules) (λ c κs. search rules) returns returns-2)
+pub vehicle_shown_spec : {M : Type 1} → statement M
+vehicle_shown_spec = tie.close (tie.spec (λ c κs. search rules) (λ c κs. search rules) returns returns-2)

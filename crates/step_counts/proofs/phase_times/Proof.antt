@@ -7,15 +7,15 @@ use Rattle.rules.specs.Site.{no_phase_times, phase_times}
 use Rattle.step_counts.proofs.phase_times.Statement.{statement}
 use Rattle.step_counts.proofs.phase_times.Tie as tie
 
-returns : tie.Need-returns
+returns : tie.Need-returns-then-p-lt7
 unfolding phase_times
 returns c = search rules
 
-returns-2 : tie.Need-returns-2
+returns-2 : tie.Need-returns
 unfolding phase_times
 returns-2 c =
     let settings = c.before.before.args.times.phases in
-    sym (get_or-eq_default settings no_phase_times (omega (arith, rw length-map at c.before.before.well-formed.0.1.1.1.0.1.0.1)))
+    sym (get_or-eq_default settings no_phase_times (omega (arith, rw length-map at c.before.before.well_formed.0.1.1.1.0.1.0.1)))
 
-pub phase-times-spec : {M : Type 1} → statement M
-phase-times-spec = tie.close (tie.spec (λ c. search rules) (λ c. search rules) returns returns-2)
+pub phase_times_spec : {M : Type 1} → statement M
+phase_times_spec = tie.close (tie.spec (λ c. search rules) (λ c. search rules) returns returns-2)

@@ -8,7 +8,7 @@ use Rattle.step_demands.proofs.PartOne.{asked-told}
 use Rattle.step_demands.proofs.register.Statement.{statement}
 use Rattle.step_demands.proofs.register.Tie as tie
 
-sense-requires : tie.Need-sense-requires
+sense-requires : tie.Need-sense-sensed-requires
 sense-requires c κs =
     let start = c.before.before.before.before in (
       tabled start.args.site start.requires.0,
@@ -16,13 +16,13 @@ sense-requires c κs =
     )
 
 -- where the buttons are pressed: the two sets of phases that detectors demand, and the start
-abbrev demanding : tie.After-press → tie.After-except2
+abbrev demanding : tie.After-press-pressed → tie.After-except-calling
 demanding c = c.before.before.before.before
 
-abbrev start : tie.After-press → tie.Start
+abbrev start : tie.After-press-pressed → tie.Start
 start c = (demanding c).before.before.before.before.before.before.before.before
 
-next-after-requires : tie.Need-next-after-requires
+next-after-requires : tie.Need-next_after-requires
 next-after-requires c κs = (start c.before.before.before.before).requires.0.phases.1
 
 -- the sets of the state are bytes
@@ -40,12 +40,12 @@ returns c =
     let green = locking.before in
     let scanned = green.before in
     let entry = start pressed in
-    asked-told entry.args.site entry.args.state entry.args.inputs scanned.sense.result green.in-green.result
-    locking.except.result calling.except2.result
-    scanned.sense.ensures green.in-green.ensures locking.except.ensures calling.except2.ensures
-    pressed.press.result.buttons pressed.press.result.phases c.next-after.result
-    pressed.press.ensures.0 pressed.press.ensures.1 c.next-after.ensures
+    asked-told entry.args.site entry.args.state entry.args.inputs scanned.sense-sensed.result green.in_green-green.result
+    locking.except-locking.result calling.except-calling.result
+    scanned.sense-sensed.ensures green.in_green-green.ensures locking.except-locking.ensures calling.except-calling.ensures
+    pressed.press-pressed.result.buttons pressed.press-pressed.result.phases c.next_after.result
+    pressed.press-pressed.ensures.0 pressed.press-pressed.ensures.1 c.next_after.ensures
     entry.pre.0 (locks-small entry) (kept_small entry)
 
-pub register-spec : {M : Type 1} → statement M
-register-spec = tie.close (tie.spec sense-requires (λ c κs. search rules) (λ c κs. search rules) (λ c κs. search rules) (λ c κs. search rules) next-after-requires returns)
+pub register_spec : {M : Type 1} → statement M
+register_spec = tie.close (tie.spec sense-requires (λ c κs. search rules) (λ c κs. search rules) (λ c κs. search rules) (λ c κs. search rules) next-after-requires returns)

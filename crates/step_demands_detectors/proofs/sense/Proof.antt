@@ -16,21 +16,21 @@ returns c =
     let at = e.before.before.before in
     let args = at.before.args in
     let known = at.before.requires.0 in
-    let row : (m set : ℕ) → ((p : ℕ) → p < 8 → bit p set ≡ bit (8 * m + p) at.table.result) → Of args.detectors args.count args.inputs (λ mode. eqb mode m) set =
-    λ m set own. record { told = λ p l. own p l ∙ at.table.ensures m p l } in
+    let row : (m set : ℕ) → ((p : ℕ) → p < 8 → bit p set ≡ bit (8 * m + p) at.table-set.result) → Of args.detectors args.count args.inputs (λ mode. eqb mode m) set =
+    λ m set own. record { told = λ p l. own p l ∙ at.table-set.ensures m p l } in
     record {
-      locks = of-kind known locking-modes (of_either (row 2 _ b.before.with-mode4.ensures) (row 6 _ b.with-mode5.ensures));
-      calls = of-kind known calling-modes (of_either (row 1 _ a.before.with-mode6.ensures) (row 5 _ a.with-mode7.ensures));
+      locks = of-kind known locking-modes (of_either (row 2 _ b.before.with_mode-4.ensures) (row 6 _ b.with_mode-5.ensures));
+      calls = of-kind known calling-modes (of_either (row 1 _ a.before.with_mode-6.ensures) (row 5 _ a.with_mode-7.ensures));
       extended =
           c.bit8.ensures
           ∙ of-kind known extending-modes
           (of_either
-          (of_either (row 4 _ e.before.before.with_mode.ensures) (row 5 _ e.before.with-mode2.ensures))
-          (row 6 _ e.with-mode3.ensures)) args.phase at.before.requires.1;
+          (of_either (row 4 _ e.before.before.with_mode.ensures) (row 5 _ e.before.with_mode-2.ensures))
+          (row 6 _ e.with_mode-3.ensures)) args.phase at.before.requires.1;
     }
 
-pub sense-spec : {M : Type 1} → statement M
-sense-spec =
+pub sense_spec : {M : Type 1} → statement M
+sense_spec =
     tie.close
     (tie.spec
     (λ c κs. search rules)

@@ -12,90 +12,90 @@ use Rattle.step_demands_detectors.proofs.Cells.{Entered, none-entered, turn-with
 use Rattle.step_demands_detectors.proofs.table.Statement.{statement}
 use Rattle.step_demands_detectors.proofs.table.Tie as tie
 
-abbrev invariant-loop : tie.invariant-loop
-invariant-loop count inputs detectors rest₀ set₀ rest set = Entered detectors count inputs rest set
+abbrev invariant-loop-rest : tie.invariant-loop-rest
+invariant-loop-rest count inputs detectors rest₀ set₀ rest set = Entered detectors count inputs rest set
 
-abbrev decreases-loop : tie.decreases-loop
-decreases-loop count inputs detectors rest₀ set₀ rest set = rest
+abbrev decreases-loop-rest : tie.decreases-loop-rest
+decreases-loop-rest count inputs detectors rest₀ set₀ rest set = rest
 
-shl-rest : tie.Need-overflow-shl-rest invariant-loop decreases-loop
+shl-rest : tie.Need-overflow_shl-rest invariant-loop-rest decreases-loop-rest
 shl-rest c = search rules
 
-rem-rest : tie.Need-nonzero-rem-rest invariant-loop decreases-loop
+rem-rest : tie.Need-nonzero_rem-rest invariant-loop-rest decreases-loop-rest
 rem-rest c = shifted-some 64 c.args.count (omega (arith, c.requires.room))
 
-loop-holds : tie.Need-loop-init invariant-loop decreases-loop
+loop-holds : tie.Need-loop-rest-init invariant-loop-rest decreases-loop-rest
 loop-holds c = none-entered c.args.t1 c.args.count c.args.inputs c.requires
 
 -- the detector of a turn is one of the first count
-own-within : (c : tie.In-loop invariant-loop decreases-loop) → count_trailing_zeros 64 c.before.loop.rest < c.before.before.args.count
+own-within : (c : tie.In-loop-rest invariant-loop-rest decreases-loop-rest) → count_trailing_zeros 64 c.before.loop-rest.rest < c.before.before.args.count
 own-within c =
     let start = c.before.before in
-    turn-within start.args.t1 start.args.count start.args.inputs start.requires c.before.loop.invariant
-    (omega (arith, c.loop-test.true))
+    turn-within start.args.t1 start.args.count start.args.inputs start.requires c.before.loop-rest.invariant
+    (omega (arith, c.loop-rest-test.true))
 
-abbrev own : tie.In-loop invariant-loop decreases-loop → Detector
-own c = detector_of c.before.before.args.t1 (count_trailing_zeros 64 c.before.loop.rest)
+abbrev own : tie.In-loop-rest invariant-loop-rest decreases-loop-rest → Detector
+own c = detector_of c.before.before.args.t1 (count_trailing_zeros 64 c.before.loop-rest.rest)
 
 -- so its cell is within the table
-cell-within : (c : tie.In-loop invariant-loop decreases-loop) → 8 * (own c).mode + (own c).phase < 64
+cell-within : (c : tie.In-loop-rest invariant-loop-rest decreases-loop-rest) → 8 * (own c).mode + (own c).phase < 64
 cell-within c =
     let known = c.before.before.requires in
-    let d = count_trailing_zeros 64 c.before.loop.rest in
+    let d = count_trailing_zeros 64 c.before.loop-rest.rest in
     omega (arith, known.phase d (own-within c), known.mode d (own-within c))
 
-cast-d : tie.Need-overflow-cast-d invariant-loop decreases-loop
+cast-d : tie.Need-overflow_cast-d invariant-loop-rest decreases-loop-rest
 cast-d c = omega (arith, own-within c)
 
-mul-detector : tie.Need-overflow-mul-detector invariant-loop decreases-loop
+mul-detector : tie.Need-offset_bounds-detectors-d invariant-loop-rest decreases-loop-rest
 mul-detector c = omega (arith, own-within c, c.before.before.requires.room)
 
-array-copy-out-detector : tie.Need-array-copy-out-detector invariant-loop decreases-loop
+array-copy-out-detector : tie.Need-bounds-detectors-d invariant-loop-rest decreases-loop-rest
 array-copy-out-detector c = omega (arith, own-within c, c.before.before.requires.room)
 
-mul-set : tie.Need-overflow-mul-set invariant-loop decreases-loop
+mul-set : tie.Need-overflow_mul-set invariant-loop-rest decreases-loop-rest
 unfolding detector_of
 mul-set c = omega (arith, cell-within c.before.before)
 
-add-set : tie.Need-overflow-add-set invariant-loop decreases-loop
+add-set : tie.Need-overflow_add-set invariant-loop-rest decreases-loop-rest
 unfolding detector_of
 add-set c = omega (arith, cell-within c.before.before.before)
 
-cast-set : tie.Need-overflow-cast-set invariant-loop decreases-loop
+cast-set : tie.Need-overflow_cast-set invariant-loop-rest decreases-loop-rest
 unfolding detector_of
 cast-set c = omega (arith, cell-within c.before.before.before)
 
-shl-set : tie.Need-overflow-shl-set invariant-loop decreases-loop
+shl-set : tie.Need-overflow_shl-set invariant-loop-rest decreases-loop-rest
 unfolding detector_of
 shl-set c = omega (arith, cell-within c.before.before.before)
 
-sub-rest : tie.Need-overflow-sub-rest invariant-loop decreases-loop
+sub-rest : tie.Need-overflow_sub-rest invariant-loop-rest decreases-loop-rest
 sub-rest c = search rules
 
-loop-less : tie.Need-loop-smaller invariant-loop decreases-loop
+loop-less : tie.Need-loop-rest-smaller invariant-loop-rest decreases-loop-rest
 loop-less c =
     let turn = c.before.before.before in
-    left_less turn.before.loop.invariant.left (omega (arith, turn.loop-test.true)) (omega (arith, turn.before.before.requires.room))
+    left_less turn.before.loop-rest.invariant.left (omega (arith, turn.loop-rest-test.true)) (omega (arith, turn.before.before.requires.room))
 
-loop-again : tie.Need-loop-preserved invariant-loop decreases-loop
+loop-again : tie.Need-loop-rest-preserved invariant-loop-rest decreases-loop-rest
 unfolding detector_of
 loop-again c =
     let turn = c.before.before.before in
     let start = turn.before.before in
-    one-entered start.args.t1 start.args.count start.args.inputs start.requires turn.before.loop.invariant
-    (omega (arith, turn.loop-test.true))
+    one-entered start.args.t1 start.args.count start.args.inputs start.requires turn.before.loop-rest.invariant
+    (omega (arith, turn.loop-rest-test.true))
 
-returns : tie.Need-returns invariant-loop decreases-loop
+returns : tie.Need-returns invariant-loop-rest decreases-loop-rest
 returns c =
     let start = c.before.before in
-    all-entered start.args.t1 start.args.count start.args.inputs start.requires c.before.loop.invariant c.loop-test.false
+    all-entered start.args.t1 start.args.count start.args.inputs start.requires c.before.loop-rest.invariant c.loop-rest-test.false
 
-pub table-spec : {M : Type 1} → statement M
-table-spec =
+pub table_spec : {M : Type 1} → statement M
+table_spec =
     tie.close
     (tie.spec
-    invariant-loop
-    decreases-loop
+    invariant-loop-rest
+    decreases-loop-rest
     shl-rest
     rem-rest
     loop-holds

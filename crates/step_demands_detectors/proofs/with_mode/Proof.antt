@@ -12,5 +12,5 @@ returns c p l =
     let first = 8 * c.args.mode in
     bit-lower 8 p (set / 2 ^ first) l ∙ bit-down set first p
 
-pub with-mode-spec : {M : Type 1} → statement M
-with-mode-spec = tie.close (tie.spec (λ c. search rules) (λ c. search rules) (λ c. search rules) (λ c. search rules) returns)
+pub with_mode_spec : {M : Type 1} → statement M
+with_mode_spec = tie.close (tie.spec (λ c. search rules) (λ c. search rules) (λ c. search rules) (λ c. search rules) returns)

@@ -13,59 +13,59 @@ use Rattle.step_demands_ring.proofs.search.Tie as tie
 abbrev at : ℕ → ℕ → Bool
 at set p = bit p set
 
-abbrev invariant-loop : tie.invariant-loop
-invariant-loop set from to order i₀ i = first_in (at set) (run order from (to - from)) ≡ first_in (at set) (run order i (to - i))
+abbrev invariant-loop-i : tie.invariant-loop-i
+invariant-loop-i set from to order i₀ i = first_in (at set) (run order from (to - from)) ≡ first_in (at set) (run order i (to - i))
 
-abbrev decreases-loop : tie.decreases-loop
-decreases-loop set from to order i₀ i = to - i
+abbrev decreases-loop-i : tie.decreases-loop-i
+decreases-loop-i set from to order i₀ i = to - i
 
-loop-holds : tie.Need-loop-init invariant-loop decreases-loop
+loop-holds : tie.Need-loop-i-init invariant-loop-i decreases-loop-i
 loop-holds c = refl
 
-cast-phase : tie.Need-overflow-cast-phase invariant-loop decreases-loop
+cast-phase : tie.Need-overflow_cast-phase invariant-loop-i decreases-loop-i
 cast-phase c = search rules
 
-array-read-phase : tie.Need-array-read-phase invariant-loop decreases-loop
+array-read-phase : tie.Need-bounds-order-i invariant-loop-i decreases-loop-i
 array-read-phase c = search rules
 
-bit8-requires : tie.Need-bit8-requires invariant-loop decreases-loop
+bit8-requires : tie.Need-bit8-requires invariant-loop-i decreases-loop-i
 bit8-requires c κs = search rules
 
-returns : tie.Need-returns invariant-loop decreases-loop
+returns : tie.Need-returns-then-bit8 invariant-loop-i decreases-loop-i
 returns c =
     let here = c.before.before.before in
     let args = here.before.args in
     sym
-    (here.loop.invariant
-    ∙ search-found (at args.set) args.t2 here.loop.i args.to c.before.before.loop-test.true
-    (sym c.before.bit8.ensures ∙ c.if1.true))
+    (here.loop-i.invariant
+    ∙ search-found (at args.set) args.t2 here.loop-i.i args.to c.before.before.loop-i-test.true
+    (sym c.before.bit8.ensures ∙ c.if-bit8.true))
 
-add-i : tie.Need-overflow-add-i invariant-loop decreases-loop
+add-i : tie.Need-overflow_add-i invariant-loop-i decreases-loop-i
 add-i c = search rules
 
-loop-less : tie.Need-loop-smaller invariant-loop decreases-loop
+loop-less : tie.Need-loop-i-smaller invariant-loop-i decreases-loop-i
 loop-less c = search rules
 
-loop-again : tie.Need-loop-preserved invariant-loop decreases-loop
+loop-again : tie.Need-loop-i-preserved invariant-loop-i decreases-loop-i
 loop-again c =
     let here = c.before.before.before in
     let args = here.before.args in
-    here.loop.invariant
-    ∙ search-on (at args.set) args.t2 here.loop.i args.to c.before.before.loop-test.true
-    (sym c.before.bit8.ensures ∙ c.if1.false)
+    here.loop-i.invariant
+    ∙ search-on (at args.set) args.t2 here.loop-i.i args.to c.before.before.loop-i-test.true
+    (sym c.before.bit8.ensures ∙ c.if-bit8.false)
 
-returns-2 : tie.Need-returns-2 invariant-loop decreases-loop
+returns-2 : tie.Need-returns invariant-loop-i decreases-loop-i
 returns-2 c =
     let here = c.before in
     let args = here.before.args in
-    sym (here.loop.invariant ∙ search-none (at args.set) args.t2 here.loop.i args.to c.loop-test.false)
+    sym (here.loop-i.invariant ∙ search-none (at args.set) args.t2 here.loop-i.i args.to c.loop-i-test.false)
 
-pub search-spec : {M : Type 1} → statement M
-search-spec =
+pub search_spec : {M : Type 1} → statement M
+search_spec =
     tie.close
     (tie.spec
-    invariant-loop
-    decreases-loop
+    invariant-loop-i
+    decreases-loop-i
     loop-holds
     cast-phase
     array-read-phase

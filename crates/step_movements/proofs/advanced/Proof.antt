@@ -4,27 +4,27 @@ use Rattle.rules.specs.Movements.{advanced}
 use Rattle.step_movements.proofs.advanced.Statement.{statement}
 use Rattle.step_movements.proofs.advanced.Tie as tie
 
-enum_told : tie.Need-enum-told
+enum_told : tie.Need-enum_told-1
 enum_told c = search rules
 
-returns : tie.Need-returns
+returns : tie.Need-returns-in-Idle
 unfolding advanced
-returns c = rw c.enum_told.given.1
+returns c = rw c.enum_told-1.given.1
 
-returns-2 : tie.Need-returns-2
+returns-2 : tie.Need-returns-in-Walk
 unfolding advanced
-returns-2 c = rw (c.lasting.ensures, c.before.enum-told2.given.1)
+returns-2 c = rw (c.lasting.ensures, c.before.enum_told-in-Walk-1.given.1)
 
-returns-3 : tie.Need-returns-3
+returns-3 : tie.Need-returns-in-ClearanceOne
 unfolding advanced
-returns-3 c = rw (c.lasting2.ensures, c.before.enum-told3.given.1)
+returns-3 c = rw (c.lasting-in-ClearanceOne.ensures, c.before.enum_told-in-ClearanceOne-1.given.1)
 
-returns-4 : tie.Need-returns-4
+returns-4 : tie.Need-returns-in-ClearanceTwo
 unfolding advanced
-returns-4 c = rw (c.lasting3.ensures, c.before.enum-told4.given.1)
+returns-4 c = rw (c.lasting-in-ClearanceTwo.ensures, c.before.enum_told-in-ClearanceTwo-1.given.1)
 
-pub advanced-spec : {M : Type 1} → statement M
-advanced-spec =
+pub advanced_spec : {M : Type 1} → statement M
+advanced_spec =
     tie.close
     (tie.spec
     enum_told

@@ -21,62 +21,62 @@ use Rattle.step_movements.proofs.Idle.{after, idle-stays, past-stays}
 use Rattle.step_movements.proofs.movements_after.Statement.{statement}
 use Rattle.step_movements.proofs.movements_after.Tie as tie
 
-abbrev invariant-loop : tie.invariant-loop
-invariant-loop may-end count n settings out₀ k₀ out k = (k ≤ n) × Filled (after settings may-end out₀) out₀ out k
+abbrev invariant-loop-k : tie.invariant-loop-k
+invariant-loop-k may-end count n settings out₀ k₀ out k = (k ≤ n) × Filled (after settings may-end out₀) out₀ out k
 
-abbrev decreases-loop : tie.decreases-loop
-decreases-loop may-end count n settings out₀ k₀ out k = n - k
+abbrev decreases-loop-k : tie.decreases-loop-k
+decreases-loop-k may-end count n settings out₀ k₀ out k = n - k
 
-returns : tie.Need-returns invariant-loop decreases-loop
+returns : tie.Need-returns-then-n-eq0 invariant-loop-k decreases-loop-k
 unfolding movements_after walk_times
 returns c =
     let start = c.before in
     let args = start.args in
-    list-told (after args.times.walks args.may-end args.movements) args.movements 8 idle start.well-formed.1.1.0.1.0.1
-    (λ k b. past-stays args.times.walks args.may-end args.movements args.count start.requires k (omega (arith, c.if1.true)) b)
+    list-told (after args.times.walks args.may-end args.movements) args.movements 8 idle start.well_formed.1.1.0.1.0.1
+    (λ k b. past-stays args.times.walks args.may-end args.movements args.count start.requires k (omega (arith, c.if-n-eq0.true)) b)
 
-loop-holds : tie.Need-loop-init invariant-loop decreases-loop
+loop-holds : tie.Need-loop-k-init invariant-loop-k decreases-loop-k
 loop-holds c = (search rules, fill_none _ _)
 
-mul-movement : tie.Need-overflow-mul-movement invariant-loop decreases-loop
+mul-movement : tie.Need-offset_bounds-out-k invariant-loop-k decreases-loop-k
 mul-movement c = search rules
 
-array-copy-out-movement : tie.Need-array-copy-out-movement invariant-loop decreases-loop
+array-copy-out-movement : tie.Need-bounds-out-k invariant-loop-k decreases-loop-k
 array-copy-out-movement c = search rules
 
-is-idle-requires : tie.Need-is-idle-requires invariant-loop decreases-loop
+is-idle-requires : tie.Need-is_idle-requires invariant-loop-k decreases-loop-k
 is-idle-requires c κs = search rules
 
-mul-own : tie.Need-overflow-mul-own invariant-loop decreases-loop
+mul-own : tie.Need-offset_bounds-settings-k invariant-loop-k decreases-loop-k
 mul-own c = search rules
 
-array-copy-out-own : tie.Need-array-copy-out-own invariant-loop decreases-loop
+array-copy-out-own : tie.Need-bounds-settings-k invariant-loop-k decreases-loop-k
 array-copy-out-own c = search rules
 
-advanced-requires : tie.Need-advanced-requires invariant-loop decreases-loop
+advanced-requires : tie.Need-advanced-requires invariant-loop-k decreases-loop-k
 advanced-requires c κs = search rules
 
-mul-out : tie.Need-overflow-mul-out invariant-loop decreases-loop
+mul-out : tie.Need-offset_bounds-out-k-then-not-is_idle invariant-loop-k decreases-loop-k
 mul-out c = search rules
 
-array-set-from-out : tie.Need-array-set-from-out invariant-loop decreases-loop
+array-set-from-out : tie.Need-bounds-out-k-then-not-is_idle invariant-loop-k decreases-loop-k
 array-set-from-out c = search rules
 
-add-k : tie.Need-overflow-add-k invariant-loop decreases-loop
+add-k : tie.Need-overflow_add-k invariant-loop-k decreases-loop-k
 add-k c = search rules
 
-loop-less : tie.Need-loop-smaller invariant-loop decreases-loop
+loop-less : tie.Need-loop-k-smaller invariant-loop-k decreases-loop-k
 loop-less c = search rules
 
-loop-again : tie.Need-loop-preserved invariant-loop decreases-loop
+loop-again : tie.Need-loop-k-preserved invariant-loop-k decreases-loop-k
 loop-again c =
     let tested = c.before in
     let at = tested.before.before.before in
     let start = at.before.before.before in
     let args = start.args in
-    let k = at.loop.k in
-    let filled = at.loop.invariant.1 in
-    let inside : k < length args.movements = omega (arith, start.well-formed.1.1.0.1.0.1, start.requires.room) in
+    let k = at.loop-k.k in
+    let filled = at.loop-k.invariant.1 in
+    let inside : k < length args.movements = omega (arith, start.well_formed.1.1.0.1.0.1, start.requires.room) in
     let blank : Movement = record { stage = Idle; age = 0 } in
     let entry = fill-boundary blank k filled inside ∙ entry-same args.movements k blank idle inside in (
       search rules,
@@ -87,27 +87,27 @@ loop-again c =
           (λ w.
           let rests : is_idle (get_or args.movements k idle).stage ≡ true =
           ap (λ (m : Movement). is_idle m.stage) (sym entry)
-          ∙ sym tested.is-idle.ensures
-          ∙ not-false tested.is-idle.result w.0.left in
+          ∙ sym tested.is_idle.ensures
+          ∙ not-false tested.is_idle.result w.0.left in
           fill-skip idle w.1 filled inside (idle-stays args.times.walks args.may-end args.movements k (idle-only _ rests)))
-          c.if2.branch,
+          c.if-not-is_idle.branch,
     )
 
-returns-2 : tie.Need-returns-2 invariant-loop decreases-loop
+returns-2 : tie.Need-returns invariant-loop-k decreases-loop-k
 unfolding movements_after walk_times
 returns-2 c =
     let at = c.before in
     let start = at.before.before.before in
     let args = start.args in
-    fill-kept idle at.loop.k 8 at.loop.invariant.1 start.well-formed.1.1.0.1.0.1 (omega (arith, at.loop.invariant.0, start.requires.room))
-    (λ k a b. past-stays args.times.walks args.may-end args.movements args.count start.requires k (omega (arith, c.loop-test.false)) b)
+    fill-kept idle at.loop-k.k 8 at.loop-k.invariant.1 start.well_formed.1.1.0.1.0.1 (omega (arith, at.loop-k.invariant.0, start.requires.room))
+    (λ k a b. past-stays args.times.walks args.may-end args.movements args.count start.requires k (omega (arith, c.loop-k-test.false)) b)
 
-pub movements-after-spec : {M : Type 1} → statement M
-movements-after-spec =
+pub movements_after_spec : {M : Type 1} → statement M
+movements_after_spec =
     tie.close
     (tie.spec
-    invariant-loop
-    decreases-loop
+    invariant-loop-k
+    decreases-loop-k
     returns
     loop-holds
     mul-movement

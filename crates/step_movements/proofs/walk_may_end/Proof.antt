@@ -6,7 +6,7 @@ use Rattle.step_movements.proofs.walk_may_end.Tie as tie
 
 returns : tie.Need-returns
 unfolding walk_may_end
-returns c = rw c.is-running.ensures
+returns c = rw c.is_running.ensures
 
-pub walk-may-end-spec : {M : Type 1} → statement M
-walk-may-end-spec = tie.close (tie.spec (λ c κs. search rules) returns)
+pub walk_may_end_spec : {M : Type 1} → statement M
+walk_may_end_spec = tie.close (tie.spec (λ c κs. search rules) returns)

@@ -8,5 +8,5 @@ returns : tie.Need-returns
 unfolding age_valid
 returns c = refl
 
-pub age-valid-spec : {M : Type 1} → statement M
-age-valid-spec = tie.close (tie.spec returns)
+pub age_valid_spec : {M : Type 1} → statement M
+age_valid_spec = tie.close (tie.spec returns)

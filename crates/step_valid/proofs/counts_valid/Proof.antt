@@ -8,5 +8,5 @@ returns : tie.Need-returns
 unfolding counts_valid
 returns c = refl
 
-pub counts-valid-spec : {M : Type 1} → statement M
-counts-valid-spec = tie.close (tie.spec returns)
+pub counts_valid_spec : {M : Type 1} → statement M
+counts_valid_spec = tie.close (tie.spec returns)

@@ -6,7 +6,7 @@ use Rattle.step_valid.proofs.interval_valid.Tie as tie
 
 returns : tie.Need-returns
 unfolding interval_valid
-returns c = rw c.is-early.ensures
+returns c = rw c.is_early.ensures
 
-pub interval-valid-spec : {M : Type 1} → statement M
-interval-valid-spec = tie.close (tie.spec (λ c κs. search rules) returns)
+pub interval_valid_spec : {M : Type 1} → statement M
+interval_valid_spec = tie.close (tie.spec (λ c κs. search rules) returns)

@@ -5,23 +5,23 @@ use Rattle.step_valid.proofs.Records.{idle-valid, busy-valid}
 use Rattle.step_valid.proofs.movement_valid.Statement.{statement}
 use Rattle.step_valid.proofs.movement_valid.Tie as tie
 
-returns : tie.Need-returns
+returns : tie.Need-returns-then-is_idle
 returns c =
     let a = c.before.before.args in
-    idle-valid a.of-phase a.interval a.movement (sym c.before.is-idle.ensures ∙ c.if1.true)
+    idle-valid a.of-phase a.interval a.movement (sym c.before.is_idle.ensures ∙ c.if-is_idle.true)
 
-returns-2 : tie.Need-returns-2
+returns-2 : tie.Need-returns
 returns-2 c =
     let walks = c.before in
     let leaves = walks.before in
     let aged = leaves.before in
     let tested = aged.before in
     let a = tested.before.before.args in
-    rw (aged.age-valid.ensures, leaves.is-leaving.ensures, walks.is-walk-or-first.ensures, c.is-start-red.ensures)
-    (busy-valid a.of-phase a.interval a.movement (sym tested.before.is-idle.ensures ∙ tested.if1.false))
+    rw (aged.age_valid.ensures, leaves.is_leaving.ensures, walks.is_walk_or_first.ensures, c.is_start_red.ensures)
+    (busy-valid a.of-phase a.interval a.movement (sym tested.before.is_idle.ensures ∙ tested.if-is_idle.false))
 
-pub movement-valid-spec : {M : Type 1} → statement M
-movement-valid-spec =
+pub movement_valid_spec : {M : Type 1} → statement M
+movement_valid_spec =
     tie.close
     (tie.spec
     (λ c κs. search rules)

@@ -24,79 +24,79 @@ abbrev passes : ℕ → List ℕ → Position → List Movement → ℕ → Bool
 passes count crossings position movements k =
     movement_valid (ltb k count && crosses crossings k position.phase) position.interval (get_or movements k idle)
 
-abbrev invariant-loop : tie.invariant-loop
-invariant-loop count position crossings movements interval k₀ k = Tested (passes count crossings position movements) 8 true k
+abbrev invariant-loop-k : tie.invariant-loop-k
+invariant-loop-k count position crossings movements interval k₀ k = Tested (passes count crossings position movements) 8 true k
 
-abbrev decreases-loop : tie.decreases-loop
-decreases-loop count position crossings movements interval k₀ k = 8 - k
+abbrev decreases-loop-k : tie.decreases-loop-k
+decreases-loop-k count position crossings movements interval k₀ k = 8 - k
 
-loop-holds : tie.Need-loop-init invariant-loop decreases-loop
+loop-holds : tie.Need-loop-k-init invariant-loop-k decreases-loop-k
 loop-holds c = tested-none
 
-cast-i : tie.Need-overflow-cast-i invariant-loop decreases-loop
+cast-i : tie.Need-overflow_cast-i invariant-loop-k decreases-loop-k
 cast-i c = search rules
 
-mul-own : tie.Need-overflow-mul-own invariant-loop decreases-loop
+mul-own : tie.Need-offset_bounds-movements-i invariant-loop-k decreases-loop-k
 mul-own c = search rules
 
-array-copy-out-own : tie.Need-array-copy-out-own invariant-loop decreases-loop
+array-copy-out-own : tie.Need-bounds-movements-i invariant-loop-k decreases-loop-k
 array-copy-out-own c = search rules
 
-array-read-bit8 : tie.Need-array-read-bit8 invariant-loop decreases-loop
+array-read-bit8 : tie.Need-bounds-crossings-i invariant-loop-k decreases-loop-k
 array-read-bit8 c = search rules
 
-bit8-requires : tie.Need-bit8-requires invariant-loop decreases-loop
+bit8-requires : tie.Need-bit8-requires invariant-loop-k decreases-loop-k
 bit8-requires c κs = search rules
 
-movement-valid-requires : tie.Need-movement-valid-requires invariant-loop decreases-loop
+movement-valid-requires : tie.Need-movement_valid-requires invariant-loop-k decreases-loop-k
 movement-valid-requires c κs = search rules
 
 own-valid :
-    (c : tie.After-movement-valid invariant-loop decreases-loop) →
+    (c : tie.After-movement_valid invariant-loop-k decreases-loop-k) →
     let head = c.before.before.before.before in
     let a = head.before.args in
-    c.movement-valid.result ≡ passes a.count a.t2 a.position a.t4 head.loop.k
+    c.movement_valid.result ≡ passes a.count a.t2 a.position a.t4 head.loop-k.k
 unfolding crosses
 own-valid c =
     let turn = c.before.before.before in
     let start = turn.before.before in
     let a = start.args in
-    let k = turn.before.loop.k in
-    let inside : k < length a.t4 = omega (arith, turn.loop-test.true, start.well-formed.1.1.1.0.1.0.1) in
-    c.movement-valid.ensures
+    let k = turn.before.loop-k.k in
+    let inside : k < length a.t4 = omega (arith, turn.loop-k-test.true, start.well_formed.1.1.1.0.1.0.1) in
+    c.movement_valid.ensures
     ∙ rw c.before.bit8.ensures
     (ap (movement_valid (ltb k a.count && bit a.position.phase (get_or a.t2 k 0)) a.position.interval)
     (entry-same a.t4 k (record { stage = Idle; age = 0 }) idle inside))
 
-returns : tie.Need-returns invariant-loop decreases-loop
+returns : tie.Need-returns-then-not-movement_valid invariant-loop-k decreases-loop-k
 unfolding movements_valid
 returns c =
     let head = c.before.before.before.before.before in
     let a = head.before.args in
-    all-fails (passes a.count a.t2 a.position a.t4) 8 head.loop.k (omega arith)
-    (sym (own-valid c.before) ∙ not-true c.before.movement-valid.result c.if1.true)
+    all-fails (passes a.count a.t2 a.position a.t4) 8 head.loop-k.k (omega arith)
+    (sym (own-valid c.before) ∙ not-true c.before.movement_valid.result c.if-not-movement_valid.true)
 
-add-k : tie.Need-overflow-add-k invariant-loop decreases-loop
+add-k : tie.Need-overflow_add-k invariant-loop-k decreases-loop-k
 add-k c = search rules
 
-loop-less : tie.Need-loop-smaller invariant-loop decreases-loop
+loop-less : tie.Need-loop-k-smaller invariant-loop-k decreases-loop-k
 loop-less c = search rules
 
-loop-again : tie.Need-loop-preserved invariant-loop decreases-loop
+loop-again : tie.Need-loop-k-preserved invariant-loop-k decreases-loop-k
 loop-again c =
-    tested-more c.before.before.before.before.before.loop.invariant (omega arith)
-    (sym (not-false c.before.movement-valid.result c.if1.false) ∙ own-valid c.before)
+    tested-more c.before.before.before.before.before.loop-k.invariant (omega arith)
+    (sym (not-false c.before.movement_valid.result c.if-not-movement_valid.false) ∙ own-valid c.before)
 
-returns-2 : tie.Need-returns-2 invariant-loop decreases-loop
+returns-2 : tie.Need-returns invariant-loop-k decreases-loop-k
 unfolding movements_valid
-returns-2 c = tested-all c.before.loop.invariant c.loop-test.false
+returns-2 c = tested-all c.before.loop-k.invariant c.loop-k-test.false
 
-pub movements-valid-spec : {M : Type 1} → statement M
-movements-valid-spec =
+pub movements_valid_spec : {M : Type 1} → statement M
+movements_valid_spec =
     tie.close
     (tie.spec
-    invariant-loop
-    decreases-loop
+    invariant-loop-k
+    decreases-loop-k
     loop-holds
     cast-i
     mul-own

@@ -9,15 +9,15 @@ unfolding position_valid
 returns c =
     let called = c.before.before in
     rw (
-      called.before.before.interval-valid.ensures,
-      called.target-valid.ensures,
-      called.before.is-leaving.ensures,
-      c.before.previous-valid.ensures,
-      c.age-valid.ensures,
+      called.before.before.interval_valid.ensures,
+      called.target_valid.ensures,
+      called.before.is_leaving.ensures,
+      c.before.previous_valid.ensures,
+      c.age_valid.ensures,
     )
 
-pub position-valid-spec : {M : Type 1} → statement M
-position-valid-spec =
+pub position_valid_spec : {M : Type 1} → statement M
+position_valid_spec =
     tie.close
     (tie.spec
     (λ c κs. search rules)

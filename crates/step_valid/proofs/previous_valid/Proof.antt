@@ -4,16 +4,16 @@ use Rattle.rules.specs.State.{previous_valid}
 use Rattle.step_valid.proofs.previous_valid.Statement.{statement}
 use Rattle.step_valid.proofs.previous_valid.Tie as tie
 
-enum_told : tie.Need-enum-told
+enum_told : tie.Need-enum_told-1
 enum_told c = search rules
 
-returns : tie.Need-returns
+returns : tie.Need-returns-in-Nothing
 unfolding previous_valid
-returns c = rw c.enum_told.given.1
+returns c = rw c.enum_told-1.given.1
 
-returns-2 : tie.Need-returns-2
+returns-2 : tie.Need-returns-in-Phase
 unfolding previous_valid
-returns-2 c = rw c.before.previous.given.1
+returns-2 c = rw c.before.previous-1.given.1
 
-pub previous-valid-spec : {M : Type 1} → statement M
-previous-valid-spec = tie.close (tie.spec enum_told (λ c. search rules) returns returns-2)
+pub previous_valid_spec : {M : Type 1} → statement M
+previous_valid_spec = tie.close (tie.spec enum_told (λ c. search rules) returns returns-2)

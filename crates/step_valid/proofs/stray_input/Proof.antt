@@ -7,5 +7,5 @@ use Rattle.step_valid.proofs.stray_input.Tie as tie
 returns : tie.Need-returns
 returns c = stray-by-quotients c.args.site c.requires c.args.inputs c.ranges.inputs.fits
 
-pub stray-input-spec : {M : Type 1} → statement M
-stray-input-spec = tie.close (tie.spec (λ c. search rules) (λ c. search rules) (λ c. search rules) (λ c. search rules) returns)
+pub stray_input_spec : {M : Type 1} → statement M
+stray_input_spec = tie.close (tie.spec (λ c. search rules) (λ c. search rules) (λ c. search rules) (λ c. search rules) returns)

@@ -4,16 +4,16 @@ use Rattle.rules.specs.State.{target_valid}
 use Rattle.step_valid.proofs.target_valid.Statement.{statement}
 use Rattle.step_valid.proofs.target_valid.Tie as tie
 
-enum_told : tie.Need-enum-told
+enum_told : tie.Need-enum_told-1
 enum_told c = search rules
 
-returns : tie.Need-returns
+returns : tie.Need-returns-in-Nothing
 unfolding target_valid
-returns c = rw c.enum_told.given.1
+returns c = rw c.enum_told-1.given.1
 
-returns-2 : tie.Need-returns-2
+returns-2 : tie.Need-returns-in-Phase
 unfolding target_valid
-returns-2 c = rw c.before.target.given.1
+returns-2 c = rw c.before.target-1.given.1
 
-pub target-valid-spec : {M : Type 1} → statement M
-target-valid-spec = tie.close (tie.spec enum_told (λ c. search rules) returns returns-2)
+pub target_valid_spec : {M : Type 1} → statement M
+target_valid_spec = tie.close (tie.spec enum_told (λ c. search rules) returns returns-2)

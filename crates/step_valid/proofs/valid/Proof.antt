@@ -13,15 +13,15 @@ returns c =
     let own = placed.before.before.before.before.before in
     let entry = own.before.before.before in
     rw (
-      placed.position-valid.ensures,
-      counted.counts-valid.ensures,
-      demanded.demands-valid.ensures,
-      c.movements-valid.ensures,
-      own.phase-times.ensures,
+      placed.position_valid.ensures,
+      counted.counts_valid.ensures,
+      demanded.demands_valid.ensures,
+      c.movements_valid.ensures,
+      own.phase_times-own.ensures,
     )
 
-pub valid-spec : {M : Type 1} → statement M
-valid-spec =
+pub valid_spec : {M : Type 1} → statement M
+valid_spec =
     tie.close
     (tie.spec
     (λ c κs. search rules)

@@ -16,102 +16,102 @@ use Rattle.step_walks.proofs.Walking.{Walking, may, may-told, asked-begins, none
 use Rattle.step_walks.proofs.begun_by.Statement.{statement}
 use Rattle.step_walks.proofs.begun_by.Tie as tie
 
-abbrev invariant-loop : tie.invariant-loop
-invariant-loop starts another now buttons crossings free left₀ out₀ rest₀ left out rest =
+abbrev invariant-loop-rest : tie.invariant-loop-rest
+invariant-loop-rest starts another now buttons crossings free left₀ out₀ rest₀ left out rest =
     Walking left₀ out₀ (may crossings starts another now out₀) rest left out
 
-abbrev decreases-loop : tie.decreases-loop
-decreases-loop starts another now buttons crossings free left₀ out₀ rest₀ left out rest = rest
+abbrev decreases-loop-rest : tie.decreases-loop-rest
+decreases-loop-rest starts another now buttons crossings free left₀ out₀ rest₀ left out rest = rest
 
-is-running-requires : tie.Need-is-running-requires invariant-loop decreases-loop
+is-running-requires : tie.Need-is_running-requires invariant-loop-rest decreases-loop-rest
 is-running-requires c κs = search rules
 
-returns : tie.Need-returns invariant-loop decreases-loop
+returns : tie.Need-returns-then-not-starts-free invariant-loop-rest decreases-loop-rest
 returns c =
     let a = c.before.before.args in
-    let runs = c.before.is-running in
+    let runs = c.before.is_running in
     walked-told
     (leaves_none (begins a.t1 a.starts a.another a.now a.buttons a.movements) (search rules) (search rules)
     (λ k.
     none_free a.t1 a.starts a.another a.now a.movements a.buttons k
-    (rw (← runs.ensures) (not-true (a.starts || (runs.result && not a.another)) c.if1.true))))
+    (rw (← runs.ensures) (not-true (a.starts || (runs.result && not a.another)) c.if-not-starts-free.true))))
 
-loop-holds : tie.Need-loop-init invariant-loop decreases-loop
+loop-holds : tie.Need-loop-rest-init invariant-loop-rest decreases-loop-rest
 loop-holds c = none-walking _ _ _ (search rules) (search rules)
 
 -- the movement of a turn is one of the eight
-own-within : (c : tie.In-loop invariant-loop decreases-loop) → count_trailing_zeros 64 c.before.loop.rest < 8
-own-within c = turn-within c.before.loop.invariant (omega (arith, c.loop-test.true))
+own-within : (c : tie.In-loop-rest invariant-loop-rest decreases-loop-rest) → count_trailing_zeros 64 c.before.loop-rest.rest < 8
+own-within c = turn-within c.before.loop-rest.invariant (omega (arith, c.loop-rest-test.true))
 
-cast-k : tie.Need-overflow-cast-k invariant-loop decreases-loop
+cast-k : tie.Need-overflow_cast-k invariant-loop-rest decreases-loop-rest
 cast-k c = omega (arith, own-within c)
 
-cast-i : tie.Need-overflow-cast-i invariant-loop decreases-loop
+cast-i : tie.Need-overflow_cast-i invariant-loop-rest decreases-loop-rest
 cast-i c = omega (arith, own-within c)
 
-mul-movement : tie.Need-overflow-mul-movement invariant-loop decreases-loop
+mul-movement : tie.Need-offset_bounds-out-i invariant-loop-rest decreases-loop-rest
 mul-movement c = omega (arith, own-within c)
 
-array-copy-out-movement : tie.Need-array-copy-out-movement invariant-loop decreases-loop
+array-copy-out-movement : tie.Need-bounds-out-i invariant-loop-rest decreases-loop-rest
 array-copy-out-movement c = own-within c
 
-array-read-bit8 : tie.Need-array-read-bit8 invariant-loop decreases-loop
+array-read-bit8 : tie.Need-bounds-crossings-i invariant-loop-rest decreases-loop-rest
 array-read-bit8 c = own-within c.before
 
-bit8-requires : tie.Need-bit8-requires invariant-loop decreases-loop
+bit8-requires : tie.Need-bit8-own-requires invariant-loop-rest decreases-loop-rest
 bit8-requires c κs = search rules
 
-is-idle-requires : tie.Need-is-idle-requires invariant-loop decreases-loop
+is-idle-requires : tie.Need-is_idle-requires invariant-loop-rest decreases-loop-rest
 is-idle-requires c κs = search rules
 
-without-requires : tie.Need-without-requires invariant-loop decreases-loop
+without-requires : tie.Need-without-left-requires invariant-loop-rest decreases-loop-rest
 without-requires c κs = own-within c.before.before.before.before
 
-mul-out : tie.Need-overflow-mul-out invariant-loop decreases-loop
+mul-out : tie.Need-offset_bounds-out-i-then-own-starts invariant-loop-rest decreases-loop-rest
 mul-out c = omega (arith, own-within c.before.before.before.before.before)
 
-array-set-from-out : tie.Need-array-set-from-out invariant-loop decreases-loop
+array-set-from-out : tie.Need-bounds-out-i-then-own-starts invariant-loop-rest decreases-loop-rest
 array-set-from-out c = own-within c.before.before.before.before.before
 
-sub-rest : tie.Need-overflow-sub-rest invariant-loop decreases-loop
+sub-rest : tie.Need-overflow_sub-rest invariant-loop-rest decreases-loop-rest
 sub-rest c = search rules
 
-loop-less : tie.Need-loop-smaller invariant-loop decreases-loop
+loop-less : tie.Need-loop-rest-smaller invariant-loop-rest decreases-loop-rest
 loop-less c =
     let turn = c.before.before.before.before in
-    left_less turn.before.loop.invariant.untaken (omega (arith, turn.loop-test.true)) (omega arith)
+    left_less turn.before.loop-rest.invariant.untaken (omega (arith, turn.loop-rest-test.true)) (omega arith)
 
-loop-again : tie.Need-loop-preserved invariant-loop decreases-loop
+loop-again : tie.Need-loop-rest-preserved invariant-loop-rest decreases-loop-rest
 unfolding crosses
 loop-again c =
     let idled = c.before in
     let owned = idled.before in
     let turn = owned.before.before in
     let tested = turn.before.before.before in
-    let at = turn.before.loop in
+    let at = turn.before.loop-rest in
     let a = tested.before.args in
-    let some : 0 < at.rest = omega (arith, turn.loop-test.true) in
+    let some : 0 < at.rest = omega (arith, turn.loop-rest-test.true) in
     let may-now =
     may-told a.t1 a.starts a.another a.now a.movements (count_trailing_zeros 64 at.rest)
-    (turn-entry at.invariant some (record { stage = Idle; age = 0 })) owned.bit8.ensures idled.is-idle.ensures in
+    (turn-entry at.invariant some (record { stage = Idle; age = 0 })) owned.bit8-own.ensures idled.is_idle.ensures in
     ⊎_elim
-    (λ w. one-begun at.invariant some (may-now ∙ rw (← tested.is-running.ensures) w.0.taken) (w.2 ∙ w.1.ensures) w.3)
-    (λ w. rw (w.1, w.2) (one_kept at.invariant some (may-now ∙ rw (← tested.is-running.ensures) w.0.left)))
-    c.if2.branch
+    (λ w. one-begun at.invariant some (may-now ∙ rw (← tested.is_running.ensures) w.0.taken) (w.2 ∙ w.1.ensures) w.3)
+    (λ w. rw (w.1, w.2) (one_kept at.invariant some (may-now ∙ rw (← tested.is_running.ensures) w.0.left)))
+    c.if-own-starts.branch
 
-returns-2 : tie.Need-returns-2 invariant-loop decreases-loop
+returns-2 : tie.Need-returns invariant-loop-rest decreases-loop-rest
 returns-2 c =
     let a = c.before.before.before.before.args in
     walked-told
-    (leaves-same c.before.loop.invariant.told (begins a.t1 a.starts a.another a.now a.buttons a.movements)
-    (λ k. rw (taken-all a.buttons k c.loop-test.false) (asked-begins a.t1 a.starts a.another a.now a.movements a.buttons k)))
+    (leaves-same c.before.loop-rest.invariant.told (begins a.t1 a.starts a.another a.now a.buttons a.movements)
+    (λ k. rw (taken-all a.buttons k c.loop-rest-test.false) (asked-begins a.t1 a.starts a.another a.now a.movements a.buttons k)))
 
-pub begun-by-spec : {M : Type 1} → statement M
-begun-by-spec =
+pub begun_by_spec : {M : Type 1} → statement M
+begun_by_spec =
     tie.close
     (tie.spec
-    invariant-loop
-    decreases-loop
+    invariant-loop-rest
+    decreases-loop-rest
     is-running-requires
     returns
     loop-holds

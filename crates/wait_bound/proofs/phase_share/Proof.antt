@@ -4,35 +4,35 @@ use Rattle.rules.specs.WaitBound.{phase_share}
 use Rattle.wait_bound.proofs.phase_share.Statement.{statement}
 use Rattle.wait_bound.proofs.phase_share.Tie as tie
 
-add-result : tie.Need-overflow-add-result
+add-result : tie.Need-overflow_add-result
 unfolding phase_share
 add-result c = search rules
 
-add-result-2 : tie.Need-overflow-add-result-2
+add-result-2 : tie.Need-overflow_add-result-2
 unfolding phase_share
 add-result-2 c = search rules
 
-add-result-3 : tie.Need-overflow-add-result-3
+add-result-3 : tie.Need-overflow_add-result-3
 unfolding phase_share
 add-result-3 c = search rules
 
-add-result-4 : tie.Need-overflow-add-result-4
+add-result-4 : tie.Need-overflow_add-result-4
 unfolding phase_share
 add-result-4 c = search rules
 
-add-result-5 : tie.Need-overflow-add-result-5
+add-result-5 : tie.Need-overflow_add-result-5
 unfolding phase_share
 add-result-5 c = search rules
 
-add-result-6 : tie.Need-overflow-add-result-6
+add-result-6 : tie.Need-overflow_add-result-6
 unfolding phase_share
 add-result-6 c = search rules
 
-mul-result : tie.Need-overflow-mul-result
+mul-result : tie.Need-overflow_mul-result
 unfolding phase_share
 mul-result c = search rules
 
-add-result-7 : tie.Need-overflow-add-result-7
+add-result-7 : tie.Need-overflow_add-result-7
 unfolding phase_share
 add-result-7 c = search rules
 
@@ -40,8 +40,8 @@ returns : tie.Need-returns
 unfolding phase_share
 returns c = search rules
 
-pub phase-share-spec : {M : Type 1} → statement M
-phase-share-spec =
+pub phase_share_spec : {M : Type 1} → statement M
+phase_share_spec =
     tie.close
     (tie.spec
     add-result

@@ -10,108 +10,108 @@ use Rattle.wait_bound_movements.proofs.Passes.{Passed, passed_none, passed-more,
 use Rattle.wait_bound_movements.proofs.longest_of.Statement.{statement}
 use Rattle.wait_bound_movements.proofs.longest_of.Tie as tie
 
-abbrev invariant-loop : tie.invariant-loop
-invariant-loop count walks longest₀ rest₀ longest rest = Passed walks rest₀ rest longest
+abbrev invariant-loop-rest : tie.invariant-loop-rest
+invariant-loop-rest count walks longest₀ rest₀ longest rest = Passed walks rest₀ rest longest
 
-abbrev decreases-loop : tie.decreases-loop
-decreases-loop count walks longest₀ rest₀ longest rest = rest
+abbrev decreases-loop-rest : tie.decreases-loop-rest
+decreases-loop-rest count walks longest₀ rest₀ longest rest = rest
 
-sets-of-requires : tie.Need-sets-of-requires invariant-loop decreases-loop
+sets-of-requires : tie.Need-sets_of-rest-requires invariant-loop-rest decreases-loop-rest
 sets-of-requires c κs = search rules
 
-loop-holds : tie.Need-loop-init invariant-loop decreases-loop
-loop-holds c = passed_none c.before.args.t2 c.sets_of.result (search rules)
+loop-holds : tie.Need-loop-rest-init invariant-loop-rest decreases-loop-rest
+loop-holds c = passed_none c.before.args.t2 c.sets_of-rest.result (search rules)
 
 -- the bit of a turn is one of the 64
-turn-within : (c : tie.In-loop invariant-loop decreases-loop) → count_trailing_zeros 64 c.before.loop.rest < 64
-turn-within c = at-within c.before.before.before.args.t2 c.before.loop.invariant (omega (arith, c.loop-test.true))
+turn-within : (c : tie.In-loop-rest invariant-loop-rest decreases-loop-rest) → count_trailing_zeros 64 c.before.loop-rest.rest < 64
+turn-within c = at-within c.before.before.before.args.t2 c.before.loop-rest.invariant (omega (arith, c.loop-rest-test.true))
 
 -- its movement is one of the first count
-turn_below : (c : tie.In-loop invariant-loop decreases-loop) → count_trailing_zeros 64 c.before.loop.rest / 8 < c.before.before.before.args.count
+turn_below : (c : tie.In-loop-rest invariant-loop-rest decreases-loop-rest) → count_trailing_zeros 64 c.before.loop-rest.rest / 8 < c.before.before.before.args.count
 turn_below c =
     let a = c.before.before.before.args in
-    movement-below a.t2 a.crossings a.count c.before.loop.invariant c.before.before.sets_of.ensures
-    (omega (arith, c.loop-test.true))
+    movement-below a.t2 a.crossings a.count c.before.loop-rest.invariant c.before.before.sets_of-rest.ensures
+    (omega (arith, c.loop-rest-test.true))
 
-cast-i : tie.Need-overflow-cast-i invariant-loop decreases-loop
+cast-i : tie.Need-overflow_cast-i invariant-loop-rest decreases-loop-rest
 cast-i c = omega (arith, turn-within c)
 
-mul-own : tie.Need-overflow-mul-own invariant-loop decreases-loop
+mul-own : tie.Need-offset_bounds-walks-i invariant-loop-rest decreases-loop-rest
 mul-own c = omega (arith, turn-within c)
 
-array-copy-out-own : tie.Need-array-copy-out-own invariant-loop decreases-loop
+array-copy-out-own : tie.Need-bounds-walks-i invariant-loop-rest decreases-loop-rest
 array-copy-out-own c = omega (arith, turn-within c)
 
-mul-greater : tie.Need-overflow-mul-greater invariant-loop decreases-loop
+mul-greater : tie.Need-offset_bounds-longest-p invariant-loop-rest decreases-loop-rest
 mul-greater c = search rules
 
-array-read-greater : tie.Need-array-read-greater invariant-loop decreases-loop
+array-read-greater : tie.Need-bounds-longest-p invariant-loop-rest decreases-loop-rest
 array-read-greater c = search rules
 
-add-greater : tie.Need-overflow-add-greater invariant-loop decreases-loop
+add-greater : tie.Need-overflow_add-own invariant-loop-rest decreases-loop-rest
 add-greater c =
     let turn = c.before.before in
     let fits = turn.before.before.before.requires.1 _ (turn_below turn) in
     search rules
 
-greater-requires : tie.Need-greater-requires invariant-loop decreases-loop
+greater-requires : tie.Need-greater-walk-requires invariant-loop-rest decreases-loop-rest
 greater-requires c κs = search rules
 
-add-greater-2 : tie.Need-overflow-add-greater-2 invariant-loop decreases-loop
+add-greater-2 : tie.Need-overflow_add-p invariant-loop-rest decreases-loop-rest
 add-greater-2 c = search rules
 
-mul-greater-2 : tie.Need-overflow-mul-greater-2 invariant-loop decreases-loop
+mul-greater-2 : tie.Need-offset_bounds-longest-p-in-loop-rest invariant-loop-rest decreases-loop-rest
 mul-greater-2 c = search rules
 
-array-read-greater-2 : tie.Need-array-read-greater-2 invariant-loop decreases-loop
+array-read-greater-2 : tie.Need-bounds-longest-p-in-loop-rest invariant-loop-rest decreases-loop-rest
 array-read-greater-2 c = search rules
 
-greater-requires-2 : tie.Need-greater-requires-2 invariant-loop decreases-loop
+greater-requires-2 : tie.Need-greater-clearance-requires invariant-loop-rest decreases-loop-rest
 greater-requires-2 c κs = search rules
 
-mul-longest : tie.Need-overflow-mul-longest invariant-loop decreases-loop
+mul-longest : tie.Need-offset_bounds-longest-p-in-loop-rest-2 invariant-loop-rest decreases-loop-rest
 mul-longest c = search rules
 
-array-write-longest : tie.Need-array-write-longest invariant-loop decreases-loop
+array-write-longest : tie.Need-bounds-longest-p-in-loop-rest-2 invariant-loop-rest decreases-loop-rest
 array-write-longest c = search rules
 
-add-longest : tie.Need-overflow-add-longest invariant-loop decreases-loop
+add-longest : tie.Need-overflow_add-longest invariant-loop-rest decreases-loop-rest
 add-longest c = search rules
 
-mul-longest-2 : tie.Need-overflow-mul-longest-2 invariant-loop decreases-loop
+mul-longest-2 : tie.Need-offset_bounds-longest-p-in-loop-rest-3 invariant-loop-rest decreases-loop-rest
 mul-longest-2 c = search rules
 
-array-write-longest-2 : tie.Need-array-write-longest-2 invariant-loop decreases-loop
+array-write-longest-2 : tie.Need-bounds-longest-p-in-loop-rest-3 invariant-loop-rest decreases-loop-rest
 array-write-longest-2 c = search rules
 
-sub-rest : tie.Need-overflow-sub-rest invariant-loop decreases-loop
+sub-rest : tie.Need-overflow_sub-rest invariant-loop-rest decreases-loop-rest
 sub-rest c = search rules
 
-loop-less : tie.Need-loop-smaller invariant-loop decreases-loop
+loop-less : tie.Need-loop-rest-smaller invariant-loop-rest decreases-loop-rest
 loop-less c =
     let turn = c.before.before.before.before in
-    let rest = turn.before.loop.rest in
-    omega (arith, and_le_r rest (rest - 1), turn.loop-test.true)
+    let rest = turn.before.loop-rest.rest in
+    omega (arith, and_le_r rest (rest - 1), turn.loop-rest-test.true)
 
-loop-again : tie.Need-loop-preserved invariant-loop decreases-loop
+loop-again : tie.Need-loop-rest-preserved invariant-loop-rest decreases-loop-rest
 loop-again c =
     let turn = c.before.before.before.before in
-    passed-more turn.before.before.before.args.t2 turn.before.loop.invariant (omega (arith, turn.loop-test.true))
-    c.before.greater.ensures
-    c.greater2.ensures
+    passed-more turn.before.before.before.args.t2 turn.before.loop-rest.invariant (omega (arith, turn.loop-rest-test.true))
+    c.before.greater-walk.ensures
+    c.greater-clearance.ensures
 
-returns : tie.Need-returns invariant-loop decreases-loop
+returns : tie.Need-returns invariant-loop-rest decreases-loop-rest
 returns c =
     let start = c.before.before in
     let a = start.before.args in
-    passed-all a.t2 a.crossings a.count c.before.loop.invariant start.sets_of.ensures c.loop-test.false start.before.requires.0
+    passed-all a.t2 a.crossings a.count c.before.loop-rest.invariant start.sets_of-rest.ensures c.loop-rest-test.false start.before.requires.0
 
-pub longest-of-spec : {M : Type 1} → statement M
-longest-of-spec =
+pub longest_of_spec : {M : Type 1} → statement M
+longest_of_spec =
     tie.close
     (tie.spec
-    invariant-loop
-    decreases-loop
+    invariant-loop-rest
+    decreases-loop-rest
     sets-of-requires
     loop-holds
     cast-i

@@ -14,23 +14,23 @@ use Rattle.wait_bound_movements.proofs.sets_of.Tie as tie
 entry-fits : (c : tie.Start) (k : ℕ) → get_or c.args.t1 k 0 < 2 ^ 8
 entry-fits c k = let h : Fits w8 (get_or c.args.t1 k 0) = search rules in h.fits
 
-rem-result : tie.Need-nonzero-rem-result
+rem-result : tie.Need-nonzero_rem-result
 rem-result c =
     let n = 8 * c.before.args.count in
-    rw (shl_exact {a = 1} 1 n 64 (omega arith) (omega (arith, c.if1.true))) (omega (arith, pow_pos n))
+    rw (shl_exact {a = 1} 1 n 64 (omega arith) (omega (arith, c.if-count-lt8.true))) (omega (arith, pow_pos n))
 
-returns : tie.Need-returns
+returns : tie.Need-returns-then-count-lt8
 returns c k p few l =
     let start = c.before in
-    packed-below (λ k. get_or start.args.t1 k 0) (entry-fits start) start.args.count k p (omega (arith, c.if1.true)) few l
+    packed-below (λ k. get_or start.args.t1 k 0) (entry-fits start) start.args.count k p (omega (arith, c.if-count-lt8.true)) few l
 
-returns-2 : tie.Need-returns-2
+returns-2 : tie.Need-returns
 returns-2 c k p few l =
     let start = c.before in
-    packed_all (λ k. get_or start.args.t1 k 0) (entry-fits start) start.args.count k p (omega (arith, c.if1.false)) few l
+    packed_all (λ k. get_or start.args.t1 k 0) (entry-fits start) start.args.count k p (omega (arith, c.if-count-lt8.false)) few l
 
-pub sets-of-spec : {M : Type 1} → statement M
-sets-of-spec =
+pub sets_of_spec : {M : Type 1} → statement M
+sets_of_spec =
     tie.close
     (tie.spec
     (λ c. search rules)

@@ -4,9 +4,9 @@ use borrow.Author.Rules.{rules}
 use Rattle.wait_each.proofs.clearing_but.Statement.{statement}
 use Rattle.wait_each.proofs.clearing_but.Tie as tie
 
-returns-2 : tie.Need-returns-2
+returns-2 : tie.Need-returns-else-skipped
 returns-2 c =
-    rw c.before.before.if1.false (omega (arith, c.greater.ensures, c.before.leaving-of.ensures))
+    rw c.before.before.if-skipped.false (omega (arith, c.greater.ensures, c.before.leaving_of.ensures))
 
-pub clearing-but-spec : {M : Type 1} → statement M
-clearing-but-spec = tie.close (tie.spec (λ c κs. search rules) (λ c κs. search rules) (λ c. search rules) returns-2)
+pub clearing_but_spec : {M : Type 1} → statement M
+clearing_but_spec = tie.close (tie.spec (λ c κs. search rules) (λ c κs. search rules) (λ c. search rules) returns-2)

@@ -6,7 +6,7 @@ use Rattle.wait_each.proofs.Waits.{movement-fits}
 use Rattle.wait_each.proofs.movement_wait.Statement.{statement}
 use Rattle.wait_each.proofs.movement_wait.Tie as tie
 
-add-result : tie.Need-overflow-add-result
+add-result : tie.Need-overflow_add-result
 unfolding movement_wait_by
 add-result c =
     let start = c.before.before.before.before in
@@ -16,7 +16,7 @@ add-result c =
       movement-fits start.args.site pre.0 start.args.q pre.1 start.args.m pre.2 pre.3,
       c.before.greater.ensures,
       c.before.before.own_of_lem.ensures,
-      c.before.before.before.clears-first.ensures,
+      c.before.before.before.clears_first.ensures,
       c.rest_of.ensures,
     )
 
@@ -27,12 +27,12 @@ returns c =
       arith,
       c.before.greater.ensures,
       c.before.before.own_of_lem.ensures,
-      c.before.before.before.clears-first.ensures,
+      c.before.before.before.clears_first.ensures,
       c.rest_of.ensures,
     )
 
-pub movement-wait-spec : {M : Type 1} → statement M
-movement-wait-spec =
+pub movement_wait_spec : {M : Type 1} → statement M
+movement_wait_spec =
     tie.close
     (tie.spec
     (λ c κs. search rules)

@@ -17,7 +17,7 @@ ending-requires c κs =
     let at = c.before.before.before in
     let start = at.before.before.before.before.before in
     let pre = start.requires in
-    let green : at.green-of.result ≤ 6000 = omega (arith, at.green-of.ensures, green-fits start.args.site pre.0 start.args.q pre.1) in
+    let green : at.green_of-green.result ≤ 6000 = omega (arith, at.green_of-green.ensures, green-fits start.args.site pre.0 start.args.q pre.1) in
     (pre.0, pre.1, green, omega arith)
 
 ending-requires-2 : tie.Need-ending-requires-2
@@ -39,11 +39,11 @@ returns c =
     let others : ℕ → Bool = λ k. not (eqb k a.m) in
     c.greater.ensures
     ∙ ap₂ max
-    (c.before.before.ending.ensures ∙ ap (λ (green : ℕ). ending a.site a.q others green 0) at.green-of.ensures)
-    c.before.ending2.ensures
+    (c.before.before.ending.ensures ∙ ap (λ (green : ℕ). ending a.site a.q others green 0) at.green_of-green.ensures)
+    c.before.ending-2.ensures
 
-pub own-of-spec : {M : Type 1} → statement M
-own-of-spec =
+pub own_of_spec : {M : Type 1} → statement M
+own_of_spec =
     tie.close
     (tie.spec
     (λ c. search rules)

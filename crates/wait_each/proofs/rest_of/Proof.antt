@@ -10,51 +10,51 @@ use Rattle.wait_each.proofs.Waits.{other_turn, turns_fit}
 use Rattle.wait_each.proofs.rest_of.Statement.{statement}
 use Rattle.wait_each.proofs.rest_of.Tie as tie
 
-abbrev invariant-loop : tie.invariant-loop
-invariant-loop site q phases sum₀ p₀ sum p = (p ≤ phases) × (sum ≡ sum_of (other_turn site q) p)
+abbrev invariant-loop-p : tie.invariant-loop-p
+invariant-loop-p site q phases sum₀ p₀ sum p = (p ≤ phases) × (sum ≡ sum_of (other_turn site q) p)
 
-abbrev decreases-loop : tie.decreases-loop
-decreases-loop site q phases sum₀ p₀ sum p = phases - p
+abbrev decreases-loop-p : tie.decreases-loop-p
+decreases-loop-p site q phases sum₀ p₀ sum p = phases - p
 
-loop-holds : tie.Need-loop-init invariant-loop decreases-loop
+loop-holds : tie.Need-loop-p-init invariant-loop-p decreases-loop-p
 unfolding sum_of
 loop-holds c = (omega arith, refl)
 
-turn-but-requires : tie.Need-turn-but-requires invariant-loop decreases-loop
+turn-but-requires : tie.Need-turn_but-sum-requires invariant-loop-p decreases-loop-p
 turn-but-requires c κs = search rules
 
-add-sum : tie.Need-overflow-add-sum invariant-loop decreases-loop
+add-sum : tie.Need-overflow_add-sum invariant-loop-p decreases-loop-p
 add-sum c =
     let turn = c.before.before in
     let a = turn.before.args in
     let pre = turn.before.requires in
-    omega (arith, turn.loop.invariant.1, c.turn-but.ensures, turns_fit a.site pre.0 a.q pre.1 turn.loop.p c.before.loop-test.true)
+    omega (arith, turn.loop-p.invariant.1, c.turn_but-sum.ensures, turns_fit a.site pre.0 a.q pre.1 turn.loop-p.p c.before.loop-p-test.true)
 
-add-p : tie.Need-overflow-add-p invariant-loop decreases-loop
+add-p : tie.Need-overflow_add-p invariant-loop-p decreases-loop-p
 add-p c = search rules
 
-loop-less : tie.Need-loop-smaller invariant-loop decreases-loop
+loop-less : tie.Need-loop-p-smaller invariant-loop-p decreases-loop-p
 loop-less c = search rules
 
-loop-again : tie.Need-loop-preserved invariant-loop decreases-loop
+loop-again : tie.Need-loop-p-preserved invariant-loop-p decreases-loop-p
 unfolding sum_of
 loop-again c =
     let turn = c.before.before in
-    (omega (arith, c.before.loop-test.true), rw add-one (omega (arith, turn.loop.invariant.1, c.turn-but.ensures)))
+    (omega (arith, c.before.loop-p-test.true), rw add-one (omega (arith, turn.loop-p.invariant.1, c.turn_but-sum.ensures)))
 
-returns : tie.Need-returns invariant-loop decreases-loop
+returns : tie.Need-returns invariant-loop-p decreases-loop-p
 unfolding rest_of
 returns c =
     let a = c.before.before.args in
-    let all : c.before.loop.p ≡ a.site.size.phases = omega (arith, c.before.loop.invariant.0, c.loop-test.false) in
-    c.before.loop.invariant.1 ∙ ap (sum_of (other_turn a.site a.q)) all
+    let all : c.before.loop-p.p ≡ a.site.size.phases = omega (arith, c.before.loop-p.invariant.0, c.loop-p-test.false) in
+    c.before.loop-p.invariant.1 ∙ ap (sum_of (other_turn a.site a.q)) all
 
-pub rest-of-spec : {M : Type 1} → statement M
-rest-of-spec =
+pub rest_of_spec : {M : Type 1} → statement M
+rest_of_spec =
     tie.close
     (tie.spec
-    invariant-loop
-    decreases-loop
+    invariant-loop-p
+    decreases-loop-p
     loop-holds
     turn-but-requires
     add-sum

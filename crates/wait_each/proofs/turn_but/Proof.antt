@@ -4,11 +4,11 @@ use borrow.Author.Tests.{eq-eqb, ne_eqb}
 use Rattle.wait_each.proofs.turn_but.Statement.{statement}
 use Rattle.wait_each.proofs.turn_but.Tie as tie
 
-returns : tie.Need-returns
-returns c = rw (eq-eqb _ _ c.if1.true)
+returns : tie.Need-returns-then-p-q
+returns c = rw (eq-eqb _ _ c.if-p-q.true)
 
-returns-2 : tie.Need-returns-2
-returns-2 c = rw (ne_eqb _ _ c.before.if1.false) c.turn-of.ensures
+returns-2 : tie.Need-returns-else-p-q
+returns-2 c = rw (ne_eqb _ _ c.before.if-p-q.false) c.turn_of.ensures
 
-pub turn-but-spec : {M : Type 1} → statement M
-turn-but-spec = tie.close (tie.spec (λ c κs. search rules) returns returns-2)
+pub turn_but_spec : {M : Type 1} → statement M
+turn_but_spec = tie.close (tie.spec (λ c κs. search rules) returns returns-2)

@@ -14,7 +14,7 @@ ending-requires : tie.Need-ending-requires
 unfolding phase_times
 ending-requires c κs =
     let start = c.before.before.before.before in
-    let green : c.green-of.result ≤ 6000 = omega (arith, c.green-of.ensures, green-fits start.args.site start.requires.0 start.args.p start.requires.1) in
+    let green : c.green_of.result ≤ 6000 = omega (arith, c.green_of.ensures, green-fits start.args.site start.requires.0 start.args.p start.requires.1) in
     (start.requires.0, start.requires.1, green, omega arith)
 
 returns : tie.Need-returns
@@ -23,10 +23,10 @@ returns c =
     let start = c.before.before.before.before.before in
     let site = start.args.site in
     c.ending.ensures
-    ∙ none-left-out site start.requires.0 start.args.p c.before.green-of.result 0
-    ∙ ap (λ (green : ℕ). ending site start.args.p (λ k. true) green 0) c.before.green-of.ensures
+    ∙ none-left-out site start.requires.0 start.args.p c.before.green_of.result 0
+    ∙ ap (λ (green : ℕ). ending site start.args.p (λ k. true) green 0) c.before.green_of.ensures
 
-pub turn-of-spec : {M : Type 1} → statement M
-turn-of-spec =
+pub turn_of_spec : {M : Type 1} → statement M
+turn_of_spec =
     tie.close
     (tie.spec (λ c. search rules) (λ c. search rules) (λ c κs. search rules) ending-requires returns)

@@ -5,13 +5,13 @@ use Rattle.rules.specs.Waits.{walk_ending}
 use Rattle.wait_turns.proofs.walk_part.Statement.{statement}
 use Rattle.wait_turns.proofs.walk_part.Tie as tie
 
-returns : tie.Need-returns
+returns : tie.Need-returns-then-counts
 unfolding walk_ending
 returns c =
-    rw c.before.before.before.before.before.if1.true (omega (arith, c.before.before.before.greater.ensures, c.greater2.ensures))
+    rw c.before.before.before.before.before.if-counts.true (omega (arith, c.before.before.before.greater.ensures, c.greater-then-counts.ensures))
 
-pub walk-part-spec : {M : Type 1} → statement M
-walk-part-spec =
+pub walk_part_spec : {M : Type 1} → statement M
+walk_part_spec =
     tie.close
     (tie.spec
     (λ c. search rules)

@@ -9,5 +9,5 @@ use Rattle.willowera.proofs.willowera_yellow.Tie as tie
 returns : tie.Need-returns
 returns c = let start = c.before in c.yellow.ensures ∙ ap (yellow_answer start.args.speed) (to_z-of_z start.ranges.grade)
 
-pub willowera-yellow-spec : {M : Type 1} → statement M
-willowera-yellow-spec = tie.close (tie.spec (λ c κs. search rules) returns)
+pub willowera_yellow_spec : {M : Type 1} → statement M
+willowera_yellow_spec = tie.close (tie.spec (λ c κs. search rules) returns)

@@ -7,5 +7,5 @@ use Rattle.base_bytes.proofs.sets.all_below.Tie as tie
 returns : tie.Need-returns
 returns c = below-told c.args.set c.args.count (search rules)
 
-pub all-below-spec : {M : Type 1} → statement M
-all-below-spec = tie.close (tie.spec (λ c. search rules) returns)
+pub all_below_spec : {M : Type 1} → statement M
+all_below_spec = tie.close (tie.spec (λ c. search rules) returns)

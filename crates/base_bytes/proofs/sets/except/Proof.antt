@@ -7,5 +7,5 @@ use Rattle.base_bytes.proofs.sets.except.Tie as tie
 returns : tie.Need-returns
 returns c = except-told c.args.set c.args.other (search rules) (search rules)
 
-pub except-spec : {M : Type 1} → statement M
-except-spec = tie.close (tie.spec (λ c. search rules) returns)
+pub except_spec : {M : Type 1} → statement M
+except_spec = tie.close (tie.spec (λ c. search rules) returns)

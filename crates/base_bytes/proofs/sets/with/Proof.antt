@@ -7,5 +7,5 @@ use Rattle.base_bytes.proofs.sets.with.Tie as tie
 returns : tie.Need-returns
 returns c = with-told c.args.set c.args.k (search rules) (search rules)
 
-pub with-spec : {M : Type 1} → statement M
-with-spec = tie.close (tie.spec (λ c. search rules) returns)
+pub with_spec : {M : Type 1} → statement M
+with_spec = tie.close (tie.spec (λ c. search rules) returns)

@@ -7,5 +7,5 @@ use Rattle.base_bytes.proofs.sets.without.Tie as tie
 returns : tie.Need-returns
 returns c = without-told c.args.set c.args.k (search rules) (search rules)
 
-pub without-spec : {M : Type 1} → statement M
-without-spec = tie.close (tie.spec (λ c. search rules) (λ c. search rules) returns)
+pub without_spec : {M : Type 1} → statement M
+without_spec = tie.close (tie.spec (λ c. search rules) (λ c. search rules) returns)

@@ -8,5 +8,5 @@ returns : tie.Need-returns
 unfolding between
 returns c = refl
 
-pub between-spec : {M : Type 1} → statement M
-between-spec = tie.close (tie.spec returns)
+pub between_spec : {M : Type 1} → statement M
+between_spec = tie.close (tie.spec returns)

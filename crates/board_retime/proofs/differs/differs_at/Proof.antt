@@ -16,19 +16,19 @@ always : (a : Bool) → a ≡ (a && true)
 always true = refl
 always false = refl
 
-returns : tie.Need-returns
+returns : tie.Need-returns-then-new-i
 unfolding byte_at
 returns c =
     let a = c.before.before.before.before.before.args in
-    rw (eq-eqb _ _ c.if1.true) (never (not (time_byte a.s.now a.i)))
+    rw (eq-eqb _ _ c.if-new-i.true) (never (not (time_byte a.s.now a.i)))
 
-returns-2 : tie.Need-returns-2
+returns-2 : tie.Need-returns
 unfolding byte_at
 returns-2 c =
     let a = c.before.before.before.before.before.before.args in
-    rw (c.time-byte.ensures, ne_eqb _ _ c.before.if1.false) (always (not (time_byte a.s.now a.i)))
+    rw (c.time_byte.ensures, ne_eqb _ _ c.before.if-new-i.false) (always (not (time_byte a.s.now a.i)))
 
-pub differs-at-spec : {M : Type 1} → statement M
-differs-at-spec =
+pub differs_at_spec : {M : Type 1} → statement M
+differs_at_spec =
     tie.close
     (tie.spec (λ c. search rules) (λ c. search rules) returns (λ c κs. search rules) returns-2)

@@ -11,55 +11,55 @@ use native.Mathlib.Omega.{arith}
 use Rattle.board_retime.proofs.differs.differs_elsewhere.Statement.{statement}
 use Rattle.board_retime.proofs.differs.differs_elsewhere.Tie as tie
 
-abbrev invariant-loop : tie.invariant-loop
-invariant-loop s layout new length i₀ i = (i ≤ length) × (any_of (differs s new) i ≡ false)
+abbrev invariant-loop-i : tie.invariant-loop-i
+invariant-loop-i s layout new length i₀ i = (i ≤ length) × (any_of (differs s new) i ≡ false)
 
-abbrev decreases-loop : tie.decreases-loop
-decreases-loop s layout new length i₀ i = length - i
+abbrev decreases-loop-i : tie.decreases-loop-i
+decreases-loop-i s layout new length i₀ i = length - i
 
-returns : tie.Need-returns invariant-loop decreases-loop
+returns : tie.Need-returns-then-new-length invariant-loop-i decreases-loop-i
 returns c =
     let a = c.before.before.before.args in
-    other_length a.s.now a.new.now c.if1.true
+    other_length a.s.now a.new.now c.if-new-length.true
 
-loop-holds : tie.Need-loop-init invariant-loop decreases-loop
+loop-holds : tie.Need-loop-i-init invariant-loop-i decreases-loop-i
 unfolding any_of
 loop-holds c = (omega arith, refl)
 
-differs-at-requires : tie.Need-differs-at-requires invariant-loop decreases-loop
+differs-at-requires : tie.Need-differs_at-requires invariant-loop-i decreases-loop-i
 differs-at-requires c κs =
     let else = c.before.before in
     let start = else.before.before.before in
-    (start.requires.0, start.requires.1, omega arith, omega (arith, else.if1.false))
+    (start.requires.0, start.requires.1, omega arith, omega (arith, else.if-new-length.false))
 
-returns-2 : tie.Need-returns-2 invariant-loop decreases-loop
+returns-2 : tie.Need-returns-then-differs_at invariant-loop-i decreases-loop-i
 returns-2 c =
     let turn = c.before.before in
     let else = turn.before.before in
     let a = else.before.before.before.args in
-    difference-found a.s.now a.new.now turn.before.loop.i else.if1.false (omega arith) (sym c.before.differs_at.ensures ∙ c.if2.true)
+    difference-found a.s.now a.new.now turn.before.loop-i.i else.if-new-length.false (omega arith) (sym c.before.differs_at.ensures ∙ c.if-differs_at.true)
 
-loop-again : tie.Need-loop-preserved invariant-loop decreases-loop
+loop-again : tie.Need-loop-i-preserved invariant-loop-i decreases-loop-i
 loop-again c =
     let turn = c.before.before in
     let a = turn.before.before.before.before.before.args in (
       omega arith,
-      any-more (differs a.s.now a.new.now) turn.before.loop.i turn.before.loop.invariant.1
-          (sym c.before.differs_at.ensures ∙ c.if2.false),
+      any-more (differs a.s.now a.new.now) turn.before.loop-i.i turn.before.loop-i.invariant.1
+          (sym c.before.differs_at.ensures ∙ c.if-differs_at.false),
     )
 
-returns-3 : tie.Need-returns-3 invariant-loop decreases-loop
+returns-3 : tie.Need-returns invariant-loop-i decreases-loop-i
 returns-3 c =
     let else = c.before.before in
     let a = else.before.before.before.args in
-    no_difference a.s.now a.new.now c.before.loop.i else.if1.false c.before.loop.invariant.1 (omega arith)
+    no_difference a.s.now a.new.now c.before.loop-i.i else.if-new-length.false c.before.loop-i.invariant.1 (omega arith)
 
-pub differs-elsewhere-spec : {M : Type 1} → statement M
-differs-elsewhere-spec =
+pub differs_elsewhere_spec : {M : Type 1} → statement M
+differs_elsewhere_spec =
     tie.close
     (tie.spec
-    invariant-loop
-    decreases-loop
+    invariant-loop-i
+    decreases-loop-i
     returns
     loop-holds
     differs-at-requires

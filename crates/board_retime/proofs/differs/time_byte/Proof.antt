@@ -11,11 +11,11 @@ returns c =
     let second = third.before.before in
     let first = second.before in
     let start = first.before.before in
-    rw (fourth.between4.ensures, third.between3.ensures, second.between2.ensures, first.between.ensures)
+    rw (fourth.between-4.ensures, third.between-3.ensures, second.between-2.ensures, first.between.ensures)
     (time-bytes-laid start.args.s.now start.args.layout start.args.i start.requires.1)
 
-pub time-byte-spec : {M : Type 1} → statement M
-time-byte-spec =
+pub time_byte_spec : {M : Type 1} → statement M
+time_byte_spec =
     tie.close
     (tie.spec
     (λ c κs. search rules)

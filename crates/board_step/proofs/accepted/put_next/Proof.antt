@@ -15,34 +15,34 @@ use Rattle.board_step.proofs.accepted.put_next.Tie as tie
 told : (c : tie.Start) → TimedKnown c.args.state.now
 told c = timed-known c.args.state.now c.requires
 
-put-settled-requires : tie.Need-put-settled-requires
+put-settled-requires : tie.Need-put_settled-requires
 put-settled-requires c κs = (told c.before.before.before.before).size
 
-returns : tie.Need-returns
+returns : tie.Need-returns-then-over
 returns c =
     let put = c.before.before in
     let then = put.before.before.before in
     let a = then.before.before.args in
-    put.put-settled.ensures
-    ∙ ap (λ (over : Bool). timed_encoded (after a.site a.next over (timed_decoded a.state.now))) (sym then.if1.true)
+    put.put_settled.ensures
+    ∙ ap (λ (over : Bool). timed_encoded (after a.site a.next over (timed_decoded a.state-1.now))) (sym then.if-over.true)
 
 put-requires : tie.Need-put-requires
 put-requires c κs = omega (arith, (told c.before.before.before).size)
 
-bytes : (c : tie.After-slice-known) → AreBytes c.before.args.state.now
+bytes : (c : tie.After-slice_known-1) → AreBytes c.before.args.state.now
 unfolding byte_at
-bytes c = record { each = λ i. omega (arith, c.slice-known.given i) }
+bytes c = record { each = λ i. omega (arith, c.slice_known-1.given i) }
 
-returns-2 : tie.Need-returns-2
+returns-2 : tie.Need-returns
 returns-2 c =
     let put = c.before.before in
     let else = put.before.before in
     let start = else.before.before in
     let a = start.args in
     put.put.ensures
-    ∙ kept-written a.state.now (bytes else.before) start.requires a.next
-    ∙ ap (λ (over : Bool). timed_encoded (after a.site a.next over (timed_decoded a.state.now))) (sym else.if1.false)
+    ∙ kept-written a.state-1.now (bytes else.before) start.requires a.next
+    ∙ ap (λ (over : Bool). timed_encoded (after a.site a.next over (timed_decoded a.state-1.now))) (sym else.if-over.false)
 
-pub put-next-spec : {M : Type 1} → statement M
-put-next-spec =
+pub put_next_spec : {M : Type 1} → statement M
+put_next_spec =
     tie.close (tie.spec put-settled-requires (λ c. search rules) returns put-requires (λ c. search rules) returns-2)

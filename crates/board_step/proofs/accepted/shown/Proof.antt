@@ -9,8 +9,8 @@ unfolding buffer_for
 returns c =
     let waited = c.before in
     let coloured = waited.before.before.before in
-    (rw waited.wait-bound.ensures at c.packed.ensures, coloured.buffer-for.ensures)
+    (rw waited.wait_bound.ensures at c.packed.ensures, coloured.buffer_for.ensures)
 
-pub shown-spec : {M : Type 1} → statement M
-shown-spec =
+pub shown_spec : {M : Type 1} → statement M
+shown_spec =
     tie.close (tie.spec (λ c κs. search rules) (λ c κs. search rules) (λ c κs. search rules) (λ c. search rules) returns)

@@ -12,32 +12,32 @@ use Rattle.board_step.proofs.accepted.takes_over.Tie as tie
 told : (c : tie.Start) → TimedKnown c.args.state.now
 told c = timed-known c.args.state.now c.requires.known
 
-flag-read : tie.Need-shared-slice-read-if1
+flag-read : tie.Need-bounds-state-187
 flag-read c = omega (arith, (told c.before.before).size)
 
-returns : tie.Need-returns
+returns : tie.Need-returns-then-state-eq0
 unfolding byte_at
 returns c =
     let start = c.before.before.before in
-    none-waits start.args.site start.args.before start.args.state.now start.requires c.if1.true
+    none-waits start.args.site start.args.before start.args.state.now start.requires c.if-state-eq0.true
 
-starts-next-requires : tie.Need-starts-next-requires
+starts-next-requires : tie.Need-starts_next-requires
 starts-next-requires c κs =
     let start = c.before.before.before in
     let a = start.args in
     (site-sound a.site a.before a.state.now start.requires, kept-valid a.site a.before a.state.now start.requires)
 
-present : (c : tie.Else1) → (timed_decoded c.before.before.before.args.state.now).waiting.present ≡ true
+present : (c : tie.Else-state-eq0) → (timed_decoded c.before.before.before.args.state.now).waiting.present ≡ true
 unfolding timed_decoded byte_at
 present c =
     let start = c.before.before.before in
-    let one : byte_at start.args.state.now 187 ≡ 1 = omega (arith, c.if1.false, (told start).code) in
+    let one : byte_at start.args.state.now 187 ≡ 1 = omega (arith, c.if-state-eq0.false, (told start).code) in
     rw one
 
-returns-2 : tie.Need-returns-2
+returns-2 : tie.Need-returns
 returns-2 c =
     let start = c.before.before.before.before in
-    by-start start.args.site start.args.before start.args.state.now start.requires (present c.before) c.starts-next.ensures
+    by-start start.args.site start.args.before start.args.state.now start.requires (present c.before) c.starts_next.ensures
 
-pub takes-over-spec : {M : Type 1} → statement M
-takes-over-spec = tie.close (tie.spec flag-read returns starts-next-requires returns-2)
+pub takes_over_spec : {M : Type 1} → statement M
+takes_over_spec = tie.close (tie.spec flag-read returns starts-next-requires returns-2)

@@ -6,32 +6,32 @@ use borrow.Author.Rules.{rules}
 use Rattle.cabinet_held.proofs.placing.checks.Statement.{statement}
 use Rattle.cabinet_held.proofs.placing.checks.Tie as tie
 
-enum_told : tie.Need-enum-told
+enum_told : tie.Need-enum_told-1
 enum_told c = search rules
 
-returns : tie.Need-returns
-returns c = or-stop _ refl c.enum_told.given.1
+returns : tie.Need-returns-in-Refused
+returns c = or-stop _ refl c.enum_told-1.given.1
 
-returns-2 : tie.Need-returns-2
-returns-2 c = or-next refl c.before.enum-told2.given.1 (or-stop _ (refuse-yes 24 0 c.if1.true) refl)
+returns-2 : tie.Need-returns-then-not-free
+returns-2 c = or-next refl c.before.enum_told-in_default-1.given.1 (or-stop _ (refuse-yes 24 0 c.if-not-free.true) refl)
 
-returns-3 : tie.Need-returns-3
+returns-3 : tie.Need-returns-then-taken
 returns-3 c =
-    or-next refl c.before.before.enum-told2.given.1
-    (or-next (sym (refuse-no 24 0 c.before.if1.false)) refl (or-stop _ (refuse-yes 25 0 c.if2.true) refl))
+    or-next refl c.before.before.enum_told-in_default-1.given.1
+    (or-next (sym (refuse-no 24 0 c.before.if-not-free.false)) refl (or-stop _ (refuse-yes 25 0 c.if-taken.true) refl))
 
-returns-4 : tie.Need-returns-4
+returns-4 : tie.Need-returns-then-room-lt32
 returns-4 c =
-    or-next refl c.before.before.before.enum-told2.given.1
-    (or-next (sym (refuse-no 24 0 c.before.before.if1.false)) refl
-    (or-next (sym (refuse-no 25 0 c.before.if2.false)) refl (refuse-yes 14 0 (lt-ltb _ 32 c.if3.true))))
+    or-next refl c.before.before.before.enum_told-in_default-1.given.1
+    (or-next (sym (refuse-no 24 0 c.before.before.if-not-free.false)) refl
+    (or-next (sym (refuse-no 25 0 c.before.if-taken.false)) refl (refuse-yes 14 0 (lt-ltb _ 32 c.if-room-lt32.true))))
 
-returns-5 : tie.Need-returns-5
+returns-5 : tie.Need-returns
 returns-5 c =
-    or-next refl c.before.before.before.enum-told2.given.1
-    (or-next (sym (refuse-no 24 0 c.before.before.if1.false)) refl
-    (or-next (sym (refuse-no 25 0 c.before.if2.false)) refl (sym (refuse-no 14 0 (le-ltb _ 32 c.if3.false)))))
+    or-next refl c.before.before.before.enum_told-in_default-1.given.1
+    (or-next (sym (refuse-no 24 0 c.before.before.if-not-free.false)) refl
+    (or-next (sym (refuse-no 25 0 c.before.if-taken.false)) refl (sym (refuse-no 14 0 (le-ltb _ 32 c.if-room-lt32.false)))))
 
-pub checks-spec : {M : Type 1} → statement M
-checks-spec =
+pub checks_spec : {M : Type 1} → statement M
+checks_spec =
     tie.close (tie.spec enum_told returns (λ c. search rules) returns-2 returns-3 returns-4 returns-5)

@@ -10,48 +10,48 @@ use borrow.Author.Rules.{rules}
 use Rattle.cabinet_held.proofs.placing.held_placing.Statement.{statement}
 use Rattle.cabinet_held.proofs.placing.held_placing.Tie as tie
 
-abbrev start : tie.After-checks → tie.Start
+abbrev start : tie.After-checks-verdict → tie.Start
 start c = c.before.before.before.before.before.before.before
 
 -- what the checks say
 checked :
-    (c : tie.After-checks) →
+    (c : tie.After-checks-verdict) →
     let a = (start c).args in
-    c.checks.result ≡ placing_checks a.personality.now a.free a.met a.first (length a.outputs.now)
+    c.checks-verdict.result ≡ placing_checks a.personality.now a.free a.met a.first (length a.outputs-1.now)
 unfolding placing_checks
 checked c =
     let counted = c.before.before in
-    rw (← counted.before.before.read-with-layout.ensures.0, ← counted.outputs-of.ensures, ← c.before.past-last.ensures) c.checks.ensures
+    rw (← counted.before.before.read_with_layout-reading.ensures.0, ← counted.outputs_of-count.ensures, ← c.before.past_last.ensures) c.checks-verdict.ensures
 
-enum_told : tie.Need-enum-told
+enum_told : tie.Need-enum_told-1
 enum_told c = search rules
 
 fill-requires : tie.Need-fill-requires
 fill-requires c κs =
     let called = c.before.before.before in
-    let fits = placing-fits _ _ _ _ _ (sym (checked called) ∙ c.before.enum_told.given.1) in
-    omega (arith, fits, called.before.before.outputs-of.ensures)
+    let fits = placing-fits _ _ _ _ _ (sym (checked called) ∙ c.before.enum_told-1.given.1) in
+    omega (arith, fits, called.before.before.outputs_of-count.ensures)
 
-returns : tie.Need-returns
+returns : tie.Need-returns-in-Accepted
 returns c =
     let filled = c.before.before in
     let told = filled.before.before in
     let called = told.before.before in
     let counted = called.before.before in
-    let fits = placing-fits _ _ _ _ _ (sym (checked called) ∙ told.enum_told.given.1) in (
+    let fits = placing-fits _ _ _ _ _ (sym (checked called) ∙ told.enum_told-1.given.1) in (
       checked called,
-      counted.before.before.read-with-layout.ensures.1,
-      filled.fill.ensures ∙ turned-accepted red _ _ _ (checked called) told.enum_told.given.1 counted.outputs-of.ensures fits,
+      counted.before.before.read_with_layout-reading.ensures.1,
+      filled.fill.ensures ∙ turned-accepted red _ _ _ (checked called) told.enum_told-1.given.1 counted.outputs_of-count.ensures fits,
     )
 
-returns-2 : tie.Need-returns-2
+returns-2 : tie.Need-returns-in_default
 returns-2 c =
     let called = c.before.before in
-    let read = called.before.before.before.before.read-with-layout in
-    (checked called, read.ensures.1, turned-refused red _ _ _ (checked called) c.enum-told2.given.1)
+    let read = called.before.before.before.before.read_with_layout-reading in
+    (checked called, read.ensures.1, turned-refused red _ _ _ (checked called) c.enum_told-in_default-1.given.1)
 
-pub held-placing-spec : {M : Type 1} → statement M
-held-placing-spec =
+pub held_placing_spec : {M : Type 1} → statement M
+held_placing_spec =
     tie.close
     (tie.spec
     (λ c κs. search rules)

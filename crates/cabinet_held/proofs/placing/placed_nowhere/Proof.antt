@@ -7,23 +7,23 @@ use borrow.Author.Rules.{rules}
 use Rattle.cabinet_held.proofs.placing.placed_nowhere.Statement.{statement}
 use Rattle.cabinet_held.proofs.placing.placed_nowhere.Tie as tie
 
-enum_told : tie.Need-enum-told
+enum_told : tie.Need-enum_told-1
 enum_told c = search rules
 
-refusal-requires-2 : tie.Need-refusal-requires-2
+refusal-requires-2 : tie.Need-refusal-requires-in-Refused
 refusal-requires-2 c κs =
-    let read = c.before.before.before.read in
-    refused-near _ read.result read.ensures c.before.verdict.given.1
+    let read = c.before.before.before.read-verdict in
+    refused-near _ read.result read.ensures c.before.verdict-1.given.1
 
-returns : tie.Need-returns
+returns : tie.Need-returns-in-Accepted
 unfolding ◌or_else◌ packed_verdict
-returns c = let told = c.before in rw (sym told.before.before.read.ensures ∙ told.enum_told.given.1, c.refusal.ensures)
+returns c = let told = c.before in rw (sym told.before.before.read-verdict.ensures ∙ told.enum_told-1.given.1, c.refusal.ensures)
 
-returns-2 : tie.Need-returns-2
+returns-2 : tie.Need-returns-in-Refused
 unfolding ◌or_else◌ packed_verdict
-returns-2 c = let told = c.before.before in rw (sym told.before.before.read.ensures ∙ told.verdict.given.1, c.refusal2.ensures)
+returns-2 c = let told = c.before.before in rw (sym told.before.before.read-verdict.ensures ∙ told.verdict-1.given.1, c.refusal-in-Refused.ensures)
 
-pub placed-nowhere-spec : {M : Type 1} → statement M
-placed-nowhere-spec =
+pub placed_nowhere_spec : {M : Type 1} → statement M
+placed_nowhere_spec =
     tie.close
     (tie.spec (λ c κs. search rules) enum_told (λ c κs. search rules) (λ c. search rules) refusal-requires-2 returns returns-2)

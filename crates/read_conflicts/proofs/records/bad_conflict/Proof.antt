@@ -8,8 +8,8 @@ returns : tie.Need-returns
 returns c =
     let set = c.before.before in
     let pre = set.before.before.requires in
-    rw (c.reaches32.ensures, c.before.bit32.ensures, set.conflict-set.ensures, pre.0.laid.groupcount) (named-tested pre.2)
+    rw (c.reaches32.ensures, c.before.bit32.ensures, set.conflict_set-set.ensures, pre.0.laid.groupcount) (named-tested pre.2)
 
-pub bad-conflict-spec : {M : Type 1} → statement M
-bad-conflict-spec =
+pub bad_conflict_spec : {M : Type 1} → statement M
+bad_conflict_spec =
     tie.close (tie.spec (λ c κs. search rules) (λ c κs. search rules) (λ c κs. search rules) returns)

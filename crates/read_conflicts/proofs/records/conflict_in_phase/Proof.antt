@@ -12,15 +12,15 @@ returns c =
     let pre = at_set.before.before.requires in
     let laid = pre.0.laid in
     let phases = laid.phasecount in
-    rw c.conflict-set.ensures
+    rw c.conflict_set.ensures
     (members-tested _ _ (omega (arith, laid.groupcount, pre.0.few_groups)) (omega (arith, phases, pre.0.few_phases)) pre.3
-    (omega (arith, c.conflict-set.ensures))
+    (omega (arith, c.conflict_set.ensures))
     (omega arith)
     pre.2
-    (rw (at_set.group-set.ensures, phases) at at_sharing.sharing.ensures))
+    (rw (at_set.group_set-set.ensures, phases) at at_sharing.sharing-shared.ensures))
 
-pub conflict-in-phase-spec : {M : Type 1} → statement M
-conflict-in-phase-spec =
+pub conflict_in_phase_spec : {M : Type 1} → statement M
+conflict_in_phase_spec =
     tie.close
     (tie.spec
     (λ c κs. search rules)

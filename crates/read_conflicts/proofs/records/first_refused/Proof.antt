@@ -16,88 +16,88 @@ use native.Mathlib.Omega.{arith}
 use Rattle.read_conflicts.proofs.records.first_refused.Statement.{statement}
 use Rattle.read_conflicts.proofs.records.first_refused.Tie as tie
 
-abbrev invariant-loop : tie.invariant-loop
-invariant-loop s layout number count head rows₀ g₀ rows g =
+abbrev invariant-loop-g : tie.invariant-loop-g
+invariant-loop-g s layout number count head rows₀ g₀ rows g =
     (g ≤ count)
     × (first_of (record_check (refused_record s number) number (record_at (conflicts_head s) 4)) g ≡ Accepted)
     × (renewed_at number g ≡ false → Compared s number g rows)
 
-abbrev decreases-loop : tie.decreases-loop
-decreases-loop s layout number count head rows₀ g₀ rows g = count - g
+abbrev decreases-loop-g : tie.decreases-loop-g
+decreases-loop-g s layout number count head rows₀ g₀ rows g = count - g
 
-cast-count : tie.Need-overflow-cast-count invariant-loop decreases-loop
+cast-count : tie.Need-overflow_cast-count invariant-loop-g decreases-loop-g
 cast-count c = search rules
 
-loop-holds : tie.Need-loop-init invariant-loop decreases-loop
+loop-holds : tie.Need-loop-g-init invariant-loop-g decreases-loop-g
 unfolding first_of
 loop-holds c = (omega arith, refl, λ kept. absurd (never_both refl kept))
 
-renewed-requires : tie.Need-renewed-requires invariant-loop decreases-loop
+renewed-requires : tie.Need-renewed-requires invariant-loop-g decreases-loop-g
 renewed-requires c κs = search rules
 
-turned-requires : tie.Need-turned-requires invariant-loop decreases-loop
+turned-requires : tie.Need-turned-rows-requires invariant-loop-g decreases-loop-g
 turned-requires c κs = search rules
 
 -- the sets are those for the record of g: they are made anew, or were made for a group before it
 compared :
-    (c : tie.Joined1 invariant-loop decreases-loop) →
+    (c : tie.Joined-renewed invariant-loop-g decreases-loop-g) →
     let at_loop = c.before.before.before in
     let args = at_loop.before.before.before.args in
-    Compared args.s.now args.number at_loop.loop.g c.if1.rows
+    Compared args.s.now args.number at_loop.loop-g.g c.if-renewed.rows
 compared c =
     let at_test = c.before in
     ⊎_elim
     (λ w. rw w.2 w.1.ensures)
-    (λ w. rw w.1 (at_test.before.before.loop.invariant.2 (sym at_test.renewed.ensures ∙ w.0.left)))
-    c.if1.branch
+    (λ w. rw w.1 (at_test.before.before.loop-g.invariant.2 (sym at_test.renewed.ensures ∙ w.0.left)))
+    c.if-renewed.branch
 
-refused-record-requires : tie.Need-refused-record-requires invariant-loop decreases-loop
+refused-record-requires : tie.Need-refused_record-requires invariant-loop-g decreases-loop-g
 refused-record-requires c κs =
     let at_loop = c.before.before.before in
     let pre = at_loop.before.before.before.requires in
     (pre.0, pre.1, omega arith, compared c)
 
-add-t12 : tie.Need-overflow-add-t12 invariant-loop decreases-loop
+add-t12 : tie.Need-overflow_add-result invariant-loop-g decreases-loop-g
 add-t12 c = search rules
 
-mul-t13 : tie.Need-overflow-mul-t13 invariant-loop decreases-loop
+mul-t13 : tie.Need-overflow_mul-result invariant-loop-g decreases-loop-g
 mul-t13 c = search rules
 
-add-t14 : tie.Need-overflow-add-t14 invariant-loop decreases-loop
+add-t14 : tie.Need-overflow_add-result-then-refused_record invariant-loop-g decreases-loop-g
 add-t14 c = search rules
 
-returns : tie.Need-returns invariant-loop decreases-loop
+returns : tie.Need-returns-then-refused_record invariant-loop-g decreases-loop-g
 unfolding first_refused record_at body_at
 returns c =
     let at_record = c.before in
     let at_loop = at_record.before.before.before.before in
-    bad-stop _ _ _ _ at_loop.loop.g (omega arith) at_loop.loop.invariant.1 (sym at_record.refused-record.ensures ∙ c.if2.true) (omega arith)
+    bad-stop _ _ _ _ at_loop.loop-g.g (omega arith) at_loop.loop-g.invariant.1 (sym at_record.refused_record.ensures ∙ c.if-refused_record.true) (omega arith)
 
-add-g : tie.Need-overflow-add-g invariant-loop decreases-loop
+add-g : tie.Need-overflow_add-g invariant-loop-g decreases-loop-g
 add-g c = search rules
 
-loop-less : tie.Need-loop-smaller invariant-loop decreases-loop
+loop-less : tie.Need-loop-g-smaller invariant-loop-g decreases-loop-g
 loop-less c = search rules
 
-loop-again : tie.Need-loop-preserved invariant-loop decreases-loop
+loop-again : tie.Need-loop-g-preserved invariant-loop-g decreases-loop-g
 loop-again c =
     let at_record = c.before in
     let at_loop = at_record.before.before.before.before in (
       omega arith,
-      good_more _ _ _ _ at_loop.loop.invariant.1 (sym at_record.refused-record.ensures ∙ c.if2.false),
-      compared-next at_loop.loop.g (compared at_record.before),
+      good_more _ _ _ _ at_loop.loop-g.invariant.1 (sym at_record.refused_record.ensures ∙ c.if-refused_record.false),
+      compared-next at_loop.loop-g.g (compared at_record.before),
     )
 
-returns-2 : tie.Need-returns-2 invariant-loop decreases-loop
+returns-2 : tie.Need-returns invariant-loop-g decreases-loop-g
 unfolding first_refused
-returns-2 c = first_done _ _ _ c.before.loop.invariant.1 (omega arith)
+returns-2 c = first_done _ _ _ c.before.loop-g.invariant.1 (omega arith)
 
-pub first-refused-spec : {M : Type 1} → statement M
-first-refused-spec =
+pub first_refused_spec : {M : Type 1} → statement M
+first_refused_spec =
     tie.close
     (tie.spec
-    invariant-loop
-    decreases-loop
+    invariant-loop-g
+    decreases-loop-g
     cast-count
     loop-holds
     renewed-requires

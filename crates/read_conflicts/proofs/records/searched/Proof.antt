@@ -13,65 +13,65 @@ use native.Mathlib.Omega.{arith}
 use Rattle.read_conflicts.proofs.records.searched.Statement.{statement}
 use Rattle.read_conflicts.proofs.records.searched.Tie as tie
 
-abbrev invariant-loop : tie.invariant-loop
-invariant-loop s layout number₀ number =
+abbrev invariant-loop-number : tie.invariant-loop-number
+invariant-loop-number s layout number₀ number =
     (9 ≤ number) × (number ≤ 11) × ((k : ℕ) → 9 ≤ k → k < number → first_refused s k ≡ Accepted)
 
-abbrev decreases-loop : tie.decreases-loop
-decreases-loop s layout number₀ number = 11 - number
+abbrev decreases-loop-number : tie.decreases-loop-number
+decreases-loop-number s layout number₀ number = 11 - number
 
-loop-holds : tie.Need-loop-init invariant-loop decreases-loop
+loop-holds : tie.Need-loop-number-init invariant-loop-number decreases-loop-number
 loop-holds c = (omega arith, omega arith, λ k h l. absurd (omega arith))
 
-first-refused-requires : tie.Need-first-refused-requires invariant-loop decreases-loop
+first-refused-requires : tie.Need-first_refused-found-requires invariant-loop-number decreases-loop-number
 first-refused-requires c κs =
     let at_loop = c.before in
-    let number = at_loop.loop.number in (
+    let number = at_loop.loop-number.number in (
       at_loop.before.before.requires,
-      sets_below _ number (λ other. let apart = eqb-false number 9 other in at_loop.loop.invariant.2 9 (omega arith) (omega (arith, apart))),
+      sets_below _ number (λ other. let apart = eqb-false number 9 other in at_loop.loop-number.invariant.2 9 (omega arith) (omega (arith, apart))),
     )
 
-enum_told : tie.Need-enum-told invariant-loop decreases-loop
+enum_told : tie.Need-enum_told-1 invariant-loop-number decreases-loop-number
 enum_told c = search rules
 
-returns : tie.Need-returns invariant-loop decreases-loop
+returns : tie.Need-returns-in-Refused invariant-loop-number decreases-loop-number
 returns c =
     let found = c.before.before in
     let at_loop = found.before.before in
-    let number = at_loop.loop.number in
+    let number = at_loop.loop-number.number in
     ⊎_elim
-    (λ (nine : number ≡ 9). or-stop _ (found.first-refused.ensures ∙ ap (first_refused _) nine) c.enum_told.given.1)
+    (λ (nine : number ≡ 9). or-stop _ (found.first_refused-found.ensures ∙ ap (first_refused _) nine) c.enum_told-1.given.1)
     (λ apart.
     let ten : number ≡ 10 = omega (arith, apart) in
-    or-next refl (at_loop.loop.invariant.2 9 (omega arith) (omega arith)) (found.first-refused.ensures ∙ ap (first_refused _) ten))
+    or-next refl (at_loop.loop-number.invariant.2 9 (omega arith) (omega arith)) (found.first_refused-found.ensures ∙ ap (first_refused _) ten))
     (same-or-apart number 9)
 
-enum-told-2 : tie.Need-enum-told-2 invariant-loop decreases-loop
+enum-told-2 : tie.Need-enum_told-in_default invariant-loop-number decreases-loop-number
 enum-told-2 c = search rules
 
-add-number : tie.Need-overflow-add-number invariant-loop decreases-loop
+add-number : tie.Need-overflow_add-number invariant-loop-number decreases-loop-number
 add-number c = search rules
 
-loop-less : tie.Need-loop-smaller invariant-loop decreases-loop
+loop-less : tie.Need-loop-number-smaller invariant-loop-number decreases-loop-number
 loop-less c = search rules
 
-loop-again : tie.Need-loop-preserved invariant-loop decreases-loop
+loop-again : tie.Need-loop-number-preserved invariant-loop-number decreases-loop-number
 loop-again c =
     let found = c.before.before in
-    let passed = sym found.first-refused.ensures ∙ c.enum-told2.given.1 in
-    (omega arith, omega arith, upto-more (λ k. first_refused _ k ≡ Accepted) 9 _ found.before.before.loop.invariant.2 passed)
+    let passed = sym found.first_refused-found.ensures ∙ c.enum_told-in_default-1.given.1 in
+    (omega arith, omega arith, upto-more (λ k. first_refused _ k ≡ Accepted) 9 _ found.before.before.loop-number.invariant.2 passed)
 
-returns-2 : tie.Need-returns-2 invariant-loop decreases-loop
+returns-2 : tie.Need-returns invariant-loop-number decreases-loop-number
 returns-2 c =
-    let passed = c.before.loop.invariant.2 in
+    let passed = c.before.loop-number.invariant.2 in
     or-next refl (passed 9 (omega arith) (omega arith)) (sym (passed 10 (omega arith) (omega arith)))
 
-pub searched-spec : {M : Type 1} → statement M
-searched-spec =
+pub searched_spec : {M : Type 1} → statement M
+searched_spec =
     tie.close
     (tie.spec
-    invariant-loop
-    decreases-loop
+    invariant-loop-number
+    decreases-loop-number
     loop-holds
     first-refused-requires
     enum_told

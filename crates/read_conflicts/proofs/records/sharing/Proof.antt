@@ -8,52 +8,52 @@ use native.Mathlib.Omega.{arith}
 use Rattle.read_conflicts.proofs.records.sharing.Statement.{statement}
 use Rattle.read_conflicts.proofs.records.sharing.Tie as tie
 
-abbrev invariant-loop : tie.invariant-loop
-invariant-loop set phases members all₀ p₀ all p = (p ≤ phases) × United members set all p
+abbrev invariant-loop-p : tie.invariant-loop-p
+invariant-loop-p set phases members all₀ p₀ all p = (p ≤ phases) × United members set all p
 
-abbrev decreases-loop : tie.decreases-loop
-decreases-loop set phases members all₀ p₀ all p = phases - p
+abbrev decreases-loop-p : tie.decreases-loop-p
+decreases-loop-p set phases members all₀ p₀ all p = phases - p
 
-loop-holds : tie.Need-loop-init invariant-loop decreases-loop
+loop-holds : tie.Need-loop-p-init invariant-loop-p decreases-loop-p
 loop-holds c = (omega arith, united-none)
 
-bit32-requires : tie.Need-bit32-requires invariant-loop decreases-loop
+bit32-requires : tie.Need-bit32-requires invariant-loop-p decreases-loop-p
 bit32-requires c κs = search rules
 
-mul-all : tie.Need-overflow-mul-all invariant-loop decreases-loop
+mul-all : tie.Need-offset_bounds-members-p invariant-loop-p decreases-loop-p
 mul-all c = search rules
 
-array-read-all : tie.Need-array-read-all invariant-loop decreases-loop
+array-read-all : tie.Need-bounds-members-p invariant-loop-p decreases-loop-p
 array-read-all c = search rules
 
-add-p : tie.Need-overflow-add-p invariant-loop decreases-loop
+add-p : tie.Need-overflow_add-p invariant-loop-p decreases-loop-p
 add-p c = search rules
 
-loop-less : tie.Need-loop-smaller invariant-loop decreases-loop
+loop-less : tie.Need-loop-p-smaller invariant-loop-p decreases-loop-p
 loop-less c = search rules
 
-loop-again : tie.Need-loop-preserved invariant-loop decreases-loop
+loop-again : tie.Need-loop-p-preserved invariant-loop-p decreases-loop-p
 loop-again c =
     let at_loop = c.before.before.before in
-    let known = at_loop.loop.invariant.1 in
+    let known = at_loop.loop-p.invariant.1 in
     let asked = sym c.before.bit32.ensures in (
       omega arith,
       ⊎_elim
           (λ w. united-with known (asked ∙ w.0.taken) w.1)
           (λ w. united-same known (asked ∙ w.0.left) w.1)
-          c.if1.branch,
+          c.if-bit32.branch,
     )
 
-returns : tie.Need-returns invariant-loop decreases-loop
+returns : tie.Need-returns invariant-loop-p decreases-loop-p
 returns c j =
-    let last : c.before.loop.p ≡ c.before.before.args.phases = omega arith in rw last at (c.before.loop.invariant.1.told j)
+    let last : c.before.loop-p.p ≡ c.before.before.args.phases = omega arith in rw last at (c.before.loop-p.invariant.1.told j)
 
-pub sharing-spec : {M : Type 1} → statement M
-sharing-spec =
+pub sharing_spec : {M : Type 1} → statement M
+sharing_spec =
     tie.close
     (tie.spec
-    invariant-loop
-    decreases-loop
+    invariant-loop-p
+    decreases-loop-p
     loop-holds
     bit32-requires
     mul-all

@@ -10,25 +10,25 @@ use Rattle.laws.proofs.BitRanges.{ones-counted}
 use Rattle.read_groups.proofs.records.bad_group.Statement.{statement}
 use Rattle.read_groups.proofs.records.bad_group.Tie as tie
 
-returns : tie.Need-returns
+returns : tie.Need-returns-then-bound-set
 unfolding bad_group
 returns c =
     let args = c.before.args in
     rw (le-leb (2 ^ args.phases) args.set (omega (arith, c.before.requires)))
 
-returns-2 : tie.Need-returns-2
+returns-2 : tie.Need-returns-then-mark-eq2
 unfolding bad_group
 returns-2 c =
     let start = c.before.before in
     let small : start.args.set < 2 ^ start.args.phases = omega (arith, start.requires) in
-    rw (lt-leb (2 ^ start.args.phases) start.args.set small, c.if2.true, ones-counted start.args.phases start.args.set small)
+    rw (lt-leb (2 ^ start.args.phases) start.args.set small, c.if-mark-eq2.true, ones-counted start.args.phases start.args.set small)
 
-returns-3 : tie.Need-returns-3
+returns-3 : tie.Need-returns
 unfolding bad_group
 returns-3 c =
     let start = c.before.before in
     let small : start.args.set < 2 ^ start.args.phases = omega (arith, start.requires) in
-    rw (lt-leb (2 ^ start.args.phases) start.args.set small, ne_eqb _ _ c.if2.false) (sym (or-false _))
+    rw (lt-leb (2 ^ start.args.phases) start.args.set small, ne_eqb _ _ c.if-mark-eq2.false) (sym (or-false _))
 
-pub bad-group-spec : {M : Type 1} → statement M
-bad-group-spec = tie.close (tie.spec returns returns-2 returns-3)
+pub bad_group_spec : {M : Type 1} → statement M
+bad_group_spec = tie.close (tie.spec returns returns-2 returns-3)

@@ -24,8 +24,8 @@ use Rattle.read_groups.proofs.PhaseSets.{Gathered, gathered_none, gathered-more,
 use Rattle.read_groups.proofs.records.group_records.Statement.{statement}
 use Rattle.read_groups.proofs.records.group_records.Tie as tie
 
-abbrev invariant-loop : tie.invariant-loop
-invariant-loop s layout bound head count movements₀ crossed₀ early₀ served₀ g₀ movements crossed early served g =
+abbrev invariant-loop-g : tie.invariant-loop-g
+invariant-loop-g s layout bound head count movements₀ crossed₀ early₀ served₀ g₀ movements crossed early served g =
     (g ≤ count)
     × (movements ≡ count_of (pedestrian s) g)
     × (first_of (group_record s) g ≡ Accepted)
@@ -33,142 +33,142 @@ invariant-loop s layout bound head count movements₀ crossed₀ early₀ served
     × (early ≡ any_of (stops_early s) g)
     × CrossedPhases s crossed g
 
-abbrev decreases-loop : tie.decreases-loop
-decreases-loop s layout bound head count movements₀ crossed₀ early₀ served₀ g₀ movements crossed early served g = count - g
+abbrev decreases-loop-g : tie.decreases-loop-g
+decreases-loop-g s layout bound head count movements₀ crossed₀ early₀ served₀ g₀ movements crossed early served g = count - g
 
-set-bound-requires : tie.Need-set-bound-requires invariant-loop decreases-loop
+set-bound-requires : tie.Need-set_bound-bound-requires invariant-loop-g decreases-loop-g
 set-bound-requires c κs = search rules
 
 -- the bound is that of the site's phases
 bounded :
-    (c : tie.After-set-bound invariant-loop decreases-loop) →
-    c.set-bound.result ≡ min (2 ^ phase_count c.before.before.args.s.now) 512
-bounded c = c.set-bound.ensures ∙ ap (λ (phases : ℕ). min (2 ^ phases) 512) c.before.before.requires.0.phasecount
+    (c : tie.After-set_bound-bound invariant-loop-g decreases-loop-g) →
+    c.set_bound-bound.result ≡ min (2 ^ phase_count c.before.before.args.s.now) 512
+bounded c = c.set_bound-bound.ensures ∙ ap (λ (phases : ℕ). min (2 ^ phases) 512) c.before.before.requires.0.phasecount
 
-cast-count : tie.Need-overflow-cast-count invariant-loop decreases-loop
+cast-count : tie.Need-overflow_cast-count invariant-loop-g decreases-loop-g
 cast-count c = search rules
 
-loop-holds : tie.Need-loop-init invariant-loop decreases-loop
+loop-holds : tie.Need-loop-g-init invariant-loop-g decreases-loop-g
 unfolding count_of first_of any_of
 loop-holds c = (omega arith, refl, refl, gathered_none _, refl, crossed-none _)
 
-pair-at-requires : tie.Need-pair-at-requires invariant-loop decreases-loop
+pair-at-requires : tie.Need-pair_at-group-requires invariant-loop-g decreases-loop-g
 pair-at-requires c κs =
     let layout = c.before.before.before.before.before.args.layout in
-    omega (arith, record-within layout.groups 2 layout.groupcount c.before.loop.g c.loop-test.true)
+    omega (arith, record-within layout.groups 2 layout.groupcount c.before.loop-g.g c.loop-g-test.true)
 
-add-place : tie.Need-overflow-add-place invariant-loop decreases-loop
+add-place : tie.Need-overflow_add-place invariant-loop-g decreases-loop-g
 add-place c = search rules
 
-mul-place : tie.Need-overflow-mul-place invariant-loop decreases-loop
+mul-place : tie.Need-overflow_mul-place invariant-loop-g decreases-loop-g
 mul-place c = search rules
 
-add-place-2 : tie.Need-overflow-add-place-2 invariant-loop decreases-loop
+add-place-2 : tie.Need-overflow_add-place-in-loop-g invariant-loop-g decreases-loop-g
 add-place-2 c = search rules
 
-bad-group-requires : tie.Need-bad-group-requires invariant-loop decreases-loop
-bad-group-requires c κs = c.before.before.before.before.set-bound.ensures
+bad-group-requires : tie.Need-bad_group-requires invariant-loop-g decreases-loop-g
+bad-group-requires c κs = c.before.before.before.before.set_bound-bound.ensures
 
 -- where record g stands
 place :
-    (c : tie.At-loop invariant-loop decreases-loop) →
+    (c : tie.At-loop-g invariant-loop-g decreases-loop-g) →
     let at_start = c.before.before.before.before in
-    at_start.args.layout.groups + 4 + c.loop.g * 2 ≡ record_at (groups_head at_start.args.s.now) 2 c.loop.g
+    at_start.args.layout.groups + 4 + c.loop-g.g * 2 ≡ record_at (groups_head at_start.args.s.now) 2 c.loop-g.g
 unfolding record_at body_at
 place c = omega (arith, c.before.before.before.before.requires.0.groups)
 
 -- what record g holds, and whether it is bad
 record_read :
-    (c : tie.After-bad-group invariant-loop decreases-loop) →
+    (c : tie.After-bad_group invariant-loop-g decreases-loop-g) →
     let at_loop = c.before.before.before in
     let b = at_loop.before.before.before.before.args.s.now in
-    let g = at_loop.loop.g in
-    (c.before.pair-at.result.first ≡ group_set b g)
-    × (c.before.pair-at.result.second ≡ group_mark b g)
-    × (c.bad-group.result ≡ bad_group (phase_count b) (group_set b g) (group_mark b g))
+    let g = at_loop.loop-g.g in
+    (c.before.pair_at-group.result.first ≡ group_set b g)
+    × (c.before.pair_at-group.result.second ≡ group_mark b g)
+    × (c.bad_group.result ≡ bad_group (phase_count b) (group_set b g) (group_mark b g))
 unfolding group_set group_mark
 record_read c =
     let at_loop = c.before.before.before in
     let laid = at_loop.before.before.before.before.requires.0 in
     let head = laid.groups in
-    let set = rw head at c.before.pair-at.ensures.0 in
-    let mark = rw head at c.before.pair-at.ensures.1 in
-    (set, mark, c.bad-group.ensures ∙ rw (laid.phasecount, set, mark))
+    let set = rw head at c.before.pair_at-group.ensures.0 in
+    let mark = rw head at c.before.pair_at-group.ensures.1 in
+    (set, mark, c.bad_group.ensures ∙ rw (laid.phasecount, set, mark))
 
 -- record g is the first that does not pass
 refused_at :
-    (c : tie.After-bad-group invariant-loop decreases-loop) {v : Verdict} {k p : ℕ} →
+    (c : tie.After-bad_group invariant-loop-g decreases-loop-g) {v : Verdict} {k p : ℕ} →
     let at_loop = c.before.before.before in
     let b = at_loop.before.before.before.before.args.s.now in
-    v ≡ group_record b at_loop.loop.g →
+    v ≡ group_record b at_loop.loop-g.g →
     v ≡ Refused k p →
     v ≡ (first_of (group_record b) (group_count b) or_else refuse_if (phase_without_group b) 8 (groups_head b))
 refused_at c e r =
     let at_loop = c.before.before.before in
-    or-stop _ (first-stop _ _ at_loop.loop.g (omega arith) at_loop.loop.invariant.2 e r) r
+    or-stop _ (first-stop _ _ at_loop.loop-g.g (omega arith) at_loop.loop-g.invariant.2 e r) r
 
-refused-requires : tie.Need-refused-requires invariant-loop decreases-loop
+refused-requires : tie.Need-refused-requires invariant-loop-g decreases-loop-g
 refused-requires c κs = search rules
 
-returns : tie.Need-returns invariant-loop decreases-loop
+returns : tie.Need-returns-then-bad_group invariant-loop-g decreases-loop-g
 unfolding group_record
 returns c =
     let at_test = c.before in
     let at_record = at_test.before in
-    let bad = sym (record_read at_record).2 ∙ at_test.if1.true in
+    let bad = sym (record_read at_record).2 ∙ at_test.if-bad_group.true in
     refused-told _ c.refused.ensures
     (refused_at at_record (or-stop _ (ap (Refused 6) (place at_record.before.before.before) ∙ refuse-yes 6 _ bad) refl) refl)
 
-refused-requires-2 : tie.Need-refused-requires-2 invariant-loop decreases-loop
+refused-requires-2 : tie.Need-refused-requires-then-movements-eq8 invariant-loop-g decreases-loop-g
 refused-requires-2 c κs = search rules
 
-returns-2 : tie.Need-returns-2 invariant-loop decreases-loop
+returns-2 : tie.Need-returns-then-movements-eq8 invariant-loop-g decreases-loop-g
 unfolding group_record pedestrian ninth_pedestrian
 returns-2 c =
     let at_test = c.before in
     let at_record = at_test.before.before.before in
     let at_loop = at_record.before.before.before in
-    let good = sym (record_read at_record).2 ∙ at_test.before.before.if1.false in
-    let marked = eq-eqb _ _ (sym (record_read at_record).1 ∙ at_test.before.if2.true) in
-    let eight = eq-eqb _ _ (sym at_loop.loop.invariant.1 ∙ at_test.if3.true) in
-    refused-told _ c.refused2.ensures
+    let good = sym (record_read at_record).2 ∙ at_test.before.before.if-bad_group.false in
+    let marked = eq-eqb _ _ (sym (record_read at_record).1 ∙ at_test.before.if-mark-eq2.true) in
+    let eight = eq-eqb _ _ (sym at_loop.loop-g.invariant.1 ∙ at_test.if-movements-eq8.true) in
+    refused-told _ c.refused-then-movements-eq8.ensures
     (refused_at at_record
     (or-next refl (refuse-no 6 _ good) (ap (Refused 7) (place at_loop) ∙ refuse-yes 7 _ (and_both marked eight)))
     refl)
 
-add-movements : tie.Need-overflow-add-movements invariant-loop decreases-loop
+add-movements : tie.Need-overflow_add-movements invariant-loop-g decreases-loop-g
 add-movements c =
     let at_loop = c.before.before.before.before.before.before in
     let at_start = at_loop.before.before.before.before in
-    omega (arith, count_most (pedestrian at_start.args.s.now) at_loop.loop.g)
+    omega (arith, count_most (pedestrian at_start.args.s.now) at_loop.loop-g.g)
 
-add-g : tie.Need-overflow-add-g invariant-loop decreases-loop
+add-g : tie.Need-overflow_add-g invariant-loop-g decreases-loop-g
 add-g c = search rules
 
-loop-less : tie.Need-loop-smaller invariant-loop decreases-loop
+loop-less : tie.Need-loop-g-smaller invariant-loop-g decreases-loop-g
 loop-less c = search rules
 
 -- after the mark of group g was asked for: the count and the set go on, and the group is not the ninth pedestrian one
 counted :
-    (c : tie.Joined2 invariant-loop decreases-loop) →
+    (c : tie.Joined-mark-eq2 invariant-loop-g decreases-loop-g) →
     let at_loop = c.before.before.before.before.before in
     let b = at_loop.before.before.before.before.args.s.now in
-    let g = at_loop.loop.g in
-    (c.if2.movements ≡ count_of (pedestrian b) (g + 1)) × CrossedPhases b c.if2.crossed (g + 1) × (ninth_pedestrian b g ≡ false)
+    let g = at_loop.loop-g.g in
+    (c.if-mark-eq2.movements ≡ count_of (pedestrian b) (g + 1)) × CrossedPhases b c.if-mark-eq2.crossed (g + 1) × (ninth_pedestrian b g ≡ false)
 unfolding pedestrian ninth_pedestrian
 counted c =
     let at_loop = c.before.before.before.before.before in
     let b = at_loop.before.before.before.before.args.s.now in
-    let g = at_loop.loop.g in
-    let before = at_loop.loop.invariant.1 in
-    let crossed = at_loop.loop.invariant.5 in
+    let g = at_loop.loop-g.g in
+    let before = at_loop.loop-g.invariant.1 in
+    let crossed = at_loop.loop-g.invariant.5 in
     let read = record_read c.before.before in
     let mark = read.1 in
     ⊎_elim
     (λ w.
     let walks = eq-eqb _ _ (sym mark ∙ w.0.taken) in (
       w.2 ∙ count-one-more _ _ before walks,
-      subst (λ (set : ℕ). CrossedPhases b set (g + 1)) (sym w.3) (crossed-more b crossed read.0 (sym read.2 ∙ c.before.if1.false) walks),
+      subst (λ (set : ℕ). CrossedPhases b set (g + 1)) (sym w.3) (crossed-more b crossed read.0 (sym read.2 ∙ c.before.if-bad_group.false) walks),
       and-false-right (pedestrian b g) (ne_eqb _ _ (λ e. w.1.left (before ∙ e))),
     ))
     (λ w.
@@ -177,79 +177,79 @@ counted c =
       subst (λ (set : ℕ). CrossedPhases b set (g + 1)) (sym w.2) (crossed-same b crossed vehicle),
       and-false-left _ vehicle,
     ))
-    c.if2.branch
+    c.if-mark-eq2.branch
 
-loop-again : tie.Need-loop-preserved invariant-loop decreases-loop
+loop-again : tie.Need-loop-g-preserved invariant-loop-g decreases-loop-g
 unfolding stops_early any_of
 loop-again c =
     let at_record = c.before.before in
     let at_loop = at_record.before.before.before in
     let read = record_read at_record in
-    let good = sym read.2 ∙ c.before.if1.false in (
+    let good = sym read.2 ∙ c.before.if-bad_group.false in (
       omega arith,
       (counted c).0,
-      first_more _ _ at_loop.loop.invariant.2 (group-passed _ _ good (counted c).2),
-      gathered-more _ _ _ (omega arith) read.0 good at_loop.loop.invariant.3,
-      rw add-one (ap₂ (λ s t. s || t) at_loop.loop.invariant.4 (ap (λ m. eqb m 3) read.1)),
+      first_more _ _ at_loop.loop-g.invariant.2 (group-passed _ _ good (counted c).2),
+      gathered-more _ _ _ (omega arith) read.0 good at_loop.loop-g.invariant.3,
+      rw add-one (ap₂ (λ s t. s || t) at_loop.loop-g.invariant.4 (ap (λ m. eqb m 3) read.1)),
       (counted c).1,
     )
 
-cast-if4 : tie.Need-overflow-cast-if4 invariant-loop decreases-loop
-cast-if4 c = omega (arith, c.before.loop.invariant.3.0)
+cast-if4 : tie.Need-overflow_cast-served invariant-loop-g decreases-loop-g
+cast-if4 c = omega (arith, c.before.loop-g.invariant.3.0)
 
-add-if4 : tie.Need-overflow-add-if4 invariant-loop decreases-loop
-add-if4 c = omega (arith, c.before.loop.invariant.3.0)
+add-if4 : tie.Need-overflow_add-served invariant-loop-g decreases-loop-g
+add-if4 c = omega (arith, c.before.loop-g.invariant.3.0)
 
 -- every record has passed: the answer is that of number 8
 after_records :
-    (c : tie.After-loop invariant-loop decreases-loop) →
+    (c : tie.After-loop-g invariant-loop-g decreases-loop-g) →
     let b = c.before.before.before.before.before.args.s.now in
     ((v : Verdict) →
     v ≡ refuse_if (phase_without_group b) 8 (groups_head b) →
     v ≡ (first_of (group_record b) (group_count b) or_else refuse_if (phase_without_group b) 8 (groups_head b)))
-    × Gathered b c.before.loop.served (group_count b)
-    × (c.before.loop.g ≡ group_count b)
+    × Gathered b c.before.loop-g.served (group_count b)
+    × (c.before.loop-g.g ≡ group_count b)
 after_records c =
     let b = c.before.before.before.before.before.args.s.now in
-    let last : c.before.loop.g ≡ group_count b = omega arith in
-    let inv = c.before.loop.invariant in (
+    let last : c.before.loop-g.g ≡ group_count b = omega arith in
+    let inv = c.before.loop-g.invariant in (
       λ v e. or-next (first_done _ _ _ inv.2 last) refl e,
       rw (← last) inv.3,
       last,
     )
 
-returns-3 : tie.Need-returns-3 invariant-loop decreases-loop
+returns-3 : tie.Need-returns-then-served-bound invariant-loop-g decreases-loop-g
 unfolding movement_count
 returns-3 c =
     let passed = after_records c.before in
-    let inv = c.before.before.loop.invariant in
+    let inv = c.before.before.loop-g.invariant in
     record {
       verdict =
-          passed.0 _ (sym (refuse-no 8 _ (all-served _ _ (bounded c.before.before.before.before) passed.1 c.if4.true)));
+          passed.0 _ (sym (refuse-no 8 _ (all-served _ _ (bounded c.before.before.before.before) passed.1 c.if-served-bound.true)));
       movements = λ accepted. inv.1 ∙ ap (count_of (pedestrian _)) passed.2;
       crossed = λ accepted. rw (← passed.2) inv.5;
       early = λ accepted. inv.4 ∙ ap (any_of (stops_early _)) passed.2;
     }
 
-refused-requires-3 : tie.Need-refused-requires-3 invariant-loop decreases-loop
+refused-requires-3 : tie.Need-refused-requires-2 invariant-loop-g decreases-loop-g
 refused-requires-3 c κs = search rules
 
-returns-4 : tie.Need-returns-4 invariant-loop decreases-loop
+returns-4 : tie.Need-returns invariant-loop-g decreases-loop-g
 returns-4 c =
     let at_test = c.before in
     let passed = after_records at_test.before in
     let at_bound = at_test.before.before.before.before in
-    refused-told _ c.refused3.ensures
+    refused-told _ c.refused-2.ensures
     (passed.0 _
     (ap (Refused 8) at_bound.before.before.requires.0.groups
-    ∙ refuse-yes 8 _ (one-unserved _ _ (bounded at_bound) passed.1 at_test.if4.false)))
+    ∙ refuse-yes 8 _ (one-unserved _ _ (bounded at_bound) passed.1 at_test.if-served-bound.false)))
 
-pub group-records-spec : {M : Type 1} → statement M
-group-records-spec =
+pub group_records_spec : {M : Type 1} → statement M
+group_records_spec =
     tie.close
     (tie.spec
-    invariant-loop
-    decreases-loop
+    invariant-loop-g
+    decreases-loop-g
     set-bound-requires
     cast-count
     loop-holds

@@ -10,36 +10,36 @@ use Rattle.read_groups.proofs.GroupChecks.{refused-told, told-next}
 use Rattle.read_groups.proofs.records.groups_section.Statement.{statement}
 use Rattle.read_groups.proofs.records.groups_section.Tie as tie
 
-enum_told : tie.Need-enum-told
+enum_told : tie.Need-enum_told-1
 enum_told c = search rules
 
 -- the head is held to the length that N needs
 checked :
-    (c : tie.After-sized-section) →
+    (c : tie.After-sized_section-head) →
     let b = c.before.before.before.args.s.now in
-    c.sized-section.result ≡ section_at b (groups_head b) 3 (eqb (body_length b (groups_head b)) (group_count b * 2))
-checked c = let laid = c.before.before.before.requires in rw (laid.groups, laid.groupcount) at c.sized-section.ensures
+    c.sized_section-head.result ≡ section_at b (groups_head b) 3 (eqb (body_length b (groups_head b)) (group_count b * 2))
+checked c = let laid = c.before.before.before.requires in rw (laid.groups, laid.groupcount) at c.sized_section-head.ensures
 
-returns : tie.Need-returns
+returns : tie.Need-returns-in-Refused
 unfolding groups_section
 returns c =
     let told = c.before in
-    let head = told.enum_told.given.1 in
+    let head = told.enum_told-1.given.1 in
     refused-told _ (c.refused.ensures ∙ head) (sym head ∙ or-stop _ (checked told.before.before) head)
 
-group-records-requires : tie.Need-group-records-requires
+group-records-requires : tie.Need-group_records-requires
 group-records-requires c κs =
     let at_section = c.before.before in
-    (at_section.before.before.before.requires, records-held _ _ 3 _ 2 (sym at_section.sized-section.ensures ∙ c.enum-told2.given.1))
+    (at_section.before.before.before.requires, records-held _ _ 3 _ 2 (sym at_section.sized_section-head.ensures ∙ c.enum_told-in_default-1.given.1))
 
-returns-2 : tie.Need-returns-2
+returns-2 : tie.Need-returns
 unfolding groups_section
 returns-2 c =
     let passed = c.before in
-    told-next _ (checked passed.before.before) passed.enum-told2.given.1 c.group-records.ensures
+    told-next _ (checked passed.before.before) passed.enum_told-in_default-1.given.1 c.group_records.ensures
 
-pub groups-section-spec : {M : Type 1} → statement M
-groups-section-spec =
+pub groups_section_spec : {M : Type 1} → statement M
+groups_section_spec =
     tie.close
     (tie.spec
     (λ c. search rules)

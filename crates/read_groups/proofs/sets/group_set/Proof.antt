@@ -8,5 +8,5 @@ returns : tie.Need-returns
 unfolding group_set record_at body_at
 returns c = let head = c.before.before.before.requires.0.groups in rw (← head) c.byte_at.ensures
 
-pub group-set-spec : {M : Type 1} → statement M
-group-set-spec = tie.close (tie.spec (λ c. search rules) (λ c. search rules) (λ c. search rules) (λ c κs. search rules) returns)
+pub group_set_spec : {M : Type 1} → statement M
+group_set_spec = tie.close (tie.spec (λ c. search rules) (λ c. search rules) (λ c. search rules) (λ c κs. search rules) returns)

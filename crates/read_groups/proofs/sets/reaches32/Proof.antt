@@ -5,11 +5,11 @@ use Rattle.laws.proofs.BitRanges.{reaches, reaches-none}
 use Rattle.read_groups.proofs.sets.reaches32.Statement.{statement}
 use Rattle.read_groups.proofs.sets.reaches32.Tie as tie
 
-returns : tie.Need-returns
+returns : tie.Need-returns-then-k-lt32
 returns c = reaches c.before.args.k c.before.args.x
 
-returns-2 : tie.Need-returns-2
-returns-2 c = sym (reaches-none 32 c.before.args.k c.before.args.x c.before.ranges.x.fits c.if1.false)
+returns-2 : tie.Need-returns-else-k-lt32
+returns-2 c = sym (reaches-none 32 c.before.args.k c.before.args.x c.before.ranges.x.fits c.if-k-lt32.false)
 
-pub reaches32-spec : {M : Type 1} → statement M
-reaches32-spec = tie.close (tie.spec (λ c. search rules) returns returns-2)
+pub reaches32_spec : {M : Type 1} → statement M
+reaches32_spec = tie.close (tie.spec (λ c. search rules) returns returns-2)

@@ -6,13 +6,13 @@ use Rattle.rules.proofs.Verdicts.{refuse-yes, refuse-no}
 use Rattle.read_personality.proofs.after.left_over.Statement.{statement}
 use Rattle.read_personality.proofs.after.left_over.Tie as tie
 
-returns : tie.Need-returns
+returns : tie.Need-returns-then-place-s
 unfolding left_over
-returns c = refuse-yes 12 _ (lt-ltb _ _ c.if1.true)
+returns c = refuse-yes 12 _ (lt-ltb _ _ c.if-place-s.true)
 
-returns-2 : tie.Need-returns-2
+returns-2 : tie.Need-returns
 unfolding left_over
-returns-2 c = sym (refuse-no 12 _ (le-ltb _ _ c.if1.false))
+returns-2 c = sym (refuse-no 12 _ (le-ltb _ _ c.if-place-s.false))
 
-pub left-over-spec : {M : Type 1} → statement M
-left-over-spec = tie.close (tie.spec returns returns-2)
+pub left_over_spec : {M : Type 1} → statement M
+left_over_spec = tie.close (tie.spec returns returns-2)

@@ -4,27 +4,27 @@ use Rattle.rules.specs.Personality.{body_at, record_at}
 use Rattle.read_sections.proofs.records.pair_at.Statement.{statement}
 use Rattle.read_sections.proofs.records.pair_at.Tie as tie
 
-add-place : tie.Need-overflow-add-place
+add-place : tie.Need-overflow_add-place
 unfolding record_at body_at
 add-place c = search rules
 
-mul-place : tie.Need-overflow-mul-place
+mul-place : tie.Need-overflow_mul-place
 unfolding record_at body_at
 mul-place c = search rules
 
-add-place-2 : tie.Need-overflow-add-place-2
+add-place-2 : tie.Need-overflow_add-place-2
 unfolding record_at body_at
 add-place-2 c = search rules
 
-byte-in-requires : tie.Need-byte-in-requires
+byte-in-requires : tie.Need-byte_in-requires
 unfolding record_at body_at
 byte-in-requires c κs = search rules
 
-add-byte-in : tie.Need-overflow-add-byte-in
+add-byte-in : tie.Need-overflow_add-place-3
 unfolding record_at body_at
 add-byte-in c = search rules
 
-byte-in-requires-2 : tie.Need-byte-in-requires-2
+byte-in-requires-2 : tie.Need-byte_in-requires-2
 unfolding record_at body_at
 byte-in-requires-2 c κs = search rules
 
@@ -32,8 +32,8 @@ returns : tie.Need-returns
 unfolding record_at body_at
 returns c = search rules
 
-pub pair-at-spec : {M : Type 1} → statement M
-pair-at-spec =
+pub pair_at_spec : {M : Type 1} → statement M
+pair_at_spec =
     tie.close
     (tie.spec
     add-place

@@ -7,19 +7,19 @@ use borrow.Author.Rules.{rules}
 use Rattle.road_step.proofs.greens.greens_after.Statement.{statement}
 use Rattle.road_step.proofs.greens.greens_after.Tie as tie
 
-returns : tie.Need-returns
-returns c = λ old follows held. c.greens-in.ensures
+returns : tie.Need-returns-then-position-site
+returns c = λ old follows held. c.greens_in.ensures
 
-returns-2 : tie.Need-returns-2
+returns-2 : tie.Need-returns
 returns-2 c =
     let start = c.before.before.before.before in
     let site = start.args.site in
     let new = start.args.state in
-    let begins = eqb new.position.age 1 in
+    let begins = eqb new.position-1.age 1 in
     λ old follows held.
-    green-kept site start.requires (or-false-right begins site.early c.if1.false) old new start.args.greens
-    (eqb-false new.position.age 1 (or-false-left begins site.early c.if1.false))
+    green-kept site start.requires (or-false-right begins site.early c.if-position-site.false) old new start.args.greens
+    (eqb-false new.position-1.age 1 (or-false-left begins site.early c.if-position-site.false))
     follows held
 
-pub greens-after-spec : {M : Type 1} → statement M
-greens-after-spec = tie.close (tie.spec (λ c κs. search rules) returns returns-2)
+pub greens_after_spec : {M : Type 1} → statement M
+greens_after_spec = tie.close (tie.spec (λ c κs. search rules) returns returns-2)

@@ -17,58 +17,58 @@ use Rattle.road_step.proofs.greens.greens_at.Tie as tie
 abbrev shows : List Group → Bool → Position → ℕ → Bool
 shows groups closes position g = eqb (vehicle_shown closes position (group_of groups g)) green
 
-abbrev invariant-loop : tie.invariant-loop
-invariant-loop count closes position groups greens₀ g₀ greens g = (g ≤ count) × GreensTo (shows groups closes position) greens g
+abbrev invariant-loop-g : tie.invariant-loop-g
+invariant-loop-g count closes position groups greens₀ g₀ greens g = (g ≤ count) × GreensTo (shows groups closes position) greens g
 
-abbrev decreases-loop : tie.decreases-loop
-decreases-loop count closes position groups greens₀ g₀ greens g = count - g
+abbrev decreases-loop-g : tie.decreases-loop-g
+decreases-loop-g count closes position groups greens₀ g₀ greens g = count - g
 
-loop-holds : tie.Need-loop-init invariant-loop decreases-loop
+loop-holds : tie.Need-loop-g-init invariant-loop-g decreases-loop-g
 loop-holds c = (omega arith, greens-none)
 
-cast-group : tie.Need-overflow-cast-group invariant-loop decreases-loop
+cast-group : tie.Need-overflow_cast-group invariant-loop-g decreases-loop-g
 cast-group c = search rules
 
-mul-group : tie.Need-overflow-mul-group invariant-loop decreases-loop
-mul-group c = omega (arith, c.loop-test.true, c.before.before.requires)
+mul-group : tie.Need-offset_bounds-groups-g invariant-loop-g decreases-loop-g
+mul-group c = omega (arith, c.loop-g-test.true, c.before.before.requires)
 
-array-copy-out-group : tie.Need-array-copy-out-group invariant-loop decreases-loop
-array-copy-out-group c = omega (arith, c.loop-test.true, c.before.before.requires)
+array-copy-out-group : tie.Need-bounds-groups-g invariant-loop-g decreases-loop-g
+array-copy-out-group c = omega (arith, c.loop-g-test.true, c.before.before.requires)
 
-vehicle-shown-requires : tie.Need-vehicle-shown-requires invariant-loop decreases-loop
+vehicle-shown-requires : tie.Need-vehicle_shown-shown-requires invariant-loop-g decreases-loop-g
 vehicle-shown-requires c κs = search rules
 
-with-bit-requires : tie.Need-with-bit-requires invariant-loop decreases-loop
+with-bit-requires : tie.Need-with_bit-greens-requires invariant-loop-g decreases-loop-g
 with-bit-requires c κs =
     let turn = c.before.before.before in
-    omega (arith, turn.loop-test.true, turn.before.before.requires)
+    omega (arith, turn.loop-g-test.true, turn.before.before.requires)
 
-add-g : tie.Need-overflow-add-g invariant-loop decreases-loop
+add-g : tie.Need-overflow_add-g invariant-loop-g decreases-loop-g
 add-g c = search rules
 
-loop-less : tie.Need-loop-smaller invariant-loop decreases-loop
+loop-less : tie.Need-loop-g-smaller invariant-loop-g decreases-loop-g
 loop-less c = search rules
 
-loop-again : tie.Need-loop-preserved invariant-loop decreases-loop
+loop-again : tie.Need-loop-g-preserved invariant-loop-g decreases-loop-g
 unfolding group_of
 loop-again c =
     let seen = c.before.before in
     let turn = seen.before.before in (
       search rules,
-      greens-more turn.before.loop.invariant.1 (ap (λ (shown : ℕ). eqb shown green) seen.vehicle-shown.ensures) c.with-bit.ensures,
+      greens-more turn.before.loop-g.invariant.1 (ap (λ (shown : ℕ). eqb shown green) seen.vehicle_shown-shown.ensures) c.with_bit-greens.ensures,
     )
 
-returns : tie.Need-returns invariant-loop decreases-loop
+returns : tie.Need-returns invariant-loop-g decreases-loop-g
 returns c =
     let at = c.before in
-    λ g l. at.loop.invariant.1.passed g (omega (arith, l, c.loop-test.false))
+    λ g l. at.loop-g.invariant.1.passed g (omega (arith, l, c.loop-g-test.false))
 
-pub greens-at-spec : {M : Type 1} → statement M
-greens-at-spec =
+pub greens_at_spec : {M : Type 1} → statement M
+greens_at_spec =
     tie.close
     (tie.spec
-    invariant-loop
-    decreases-loop
+    invariant-loop-g
+    decreases-loop-g
     loop-holds
     cast-group
     mul-group

@@ -4,14 +4,14 @@ use borrow.Author.Rules.{rules}
 use Rattle.road_step.proofs.greens.greens_in.Statement.{statement}
 use Rattle.road_step.proofs.greens.greens_in.Tie as tie
 
-greens-at-requires : tie.Need-greens-at-requires
+greens-at-requires : tie.Need-greens_at-requires
 greens-at-requires c κs = c.before.before.before.before.requires.groups.1
 
 returns : tie.Need-returns
 returns c =
     let closed = c.before in
     let start = closed.before.before.before.before in
-    green-in start.args.site start.requires start.args.state c.greens-at.result (rw closed.closing-there.ensures at c.greens-at.ensures)
+    green-in start.args.site start.requires start.args.state c.greens_at.result (rw closed.closing_there-closes.ensures at c.greens_at.ensures)
 
-pub greens-in-spec : {M : Type 1} → statement M
-greens-in-spec = tie.close (tie.spec (λ c κs. search rules) greens-at-requires returns)
+pub greens_in_spec : {M : Type 1} → statement M
+greens_in_spec = tie.close (tie.spec (λ c κs. search rules) greens-at-requires returns)

@@ -9,5 +9,5 @@ returns : tie.Need-returns
 unfolding bit
 returns c = refl
 
-pub is-green-spec : {M : Type 1} → statement M
-is-green-spec = tie.close (tie.spec (λ c. search rules) returns)
+pub is_green_spec : {M : Type 1} → statement M
+is_green_spec = tie.close (tie.spec (λ c. search rules) returns)

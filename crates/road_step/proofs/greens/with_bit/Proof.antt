@@ -19,13 +19,13 @@ use Rattle.road_step.proofs.greens.with_bit.Tie as tie
 one_below : (k n : ℕ) → k < n → 1 * 2 ^ k < 2 ^ n
 one_below k n l = omega (arith, pow_mono {i = suc k} {j = n} l, pow-succ' 2 k, pow_pos k)
 
-returns : tie.Need-returns
+returns : tie.Need-returns-then-on
 returns c =
     let a = c.before.args in
     record {
       bits =
           λ d.
-          rw (shifted 64 a.k (omega (arith, c.before.requires)), bit-or d a.bits (1 * 2 ^ a.k), bit-one a.k d, c.if1.true)
+          rw (shifted 64 a.k (omega (arith, c.before.requires)), bit-or d a.bits (1 * 2 ^ a.k), bit-one a.k d, c.if-on.true)
           (ap (λ (t : Bool). bit d a.bits || t) (sym (and-true (eqb a.k d))));
       below =
           λ small.
@@ -33,15 +33,15 @@ returns c =
           (or_lt 48 a.bits (1 * 2 ^ a.k) small (one_below a.k 48 c.before.requires));
     }
 
-returns-2 : tie.Need-returns-2
+returns-2 : tie.Need-returns
 returns-2 c =
     let a = c.before.args in
     record {
       bits =
           λ d.
-          sym (ap (λ (t : Bool). bit d a.bits || t) (and-false-right (eqb a.k d) c.if1.false) ∙ or-false (bit d a.bits));
+          sym (ap (λ (t : Bool). bit d a.bits || t) (and-false-right (eqb a.k d) c.if-on.false) ∙ or-false (bit d a.bits));
       below = λ small. small;
     }
 
-pub with-bit-spec : {M : Type 1} → statement M
-with-bit-spec = tie.close (tie.spec (λ c. search rules) returns returns-2)
+pub with_bit_spec : {M : Type 1} → statement M
+with_bit_spec = tie.close (tie.spec (λ c. search rules) returns returns-2)

@@ -7,5 +7,5 @@ use Rattle.sheet_yellow.proofs.rule.ceiling.Tie as tie
 returns : tie.Need-returns
 returns c = refl
 
-pub ceiling-spec : {M : Type 1} → statement M
-ceiling-spec = tie.close (tie.spec (λ c. search rules) (λ c. search rules) (λ c. search rules) returns)
+pub ceiling_spec : {M : Type 1} → statement M
+ceiling_spec = tie.close (tie.spec (λ c. search rules) (λ c. search rules) (λ c. search rules) returns)

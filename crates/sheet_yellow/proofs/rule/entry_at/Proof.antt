@@ -10,26 +10,26 @@ use Rattle.sheet_yellow.proofs.rule.entry_at.Tie as tie
 ceiling-most : (speed column : ℕ) → speed < 111 → ceiling (100000 * speed) (divisor_at column) ≤ 77
 ceiling-most speed column l = div-le_of_le-mul (divisor_at column) (omega arith)
 
-add-steps : tie.Need-overflow-add-steps
+add-steps : tie.Need-overflow_add-steps
 add-steps c =
     let a = c.before.args in
-    record { fits = omega (arith, ceiling-most a.speed a.column c.before.requires.0, c.ceiling.ensures) }
+    record { fits = omega (arith, ceiling-most a.speed a.column c.before.requires.0, c.ceiling-steps.ensures) }
 
-cast-result : tie.Need-overflow-cast-result
+cast-result : tie.Need-overflow_cast-result
 cast-result c =
     let a = c.before.before.args in
-    record { fits = omega (arith, ceiling-most a.speed a.column c.before.before.requires.0, c.before.ceiling.ensures) }
+    record { fits = omega (arith, ceiling-most a.speed a.column c.before.before.requires.0, c.before.ceiling-steps.ensures) }
 
-returns : tie.Need-returns
+returns : tie.Need-returns-then-steps-lt30
 unfolding entry_at
-returns c = omega (arith, c.before.ceiling.ensures)
+returns c = omega (arith, c.before.ceiling-steps.ensures)
 
-returns-2 : tie.Need-returns-2
+returns-2 : tie.Need-returns-else-steps-lt30
 unfolding entry_at
-returns-2 c = omega (arith, c.before.ceiling.ensures)
+returns-2 c = omega (arith, c.before.ceiling-steps.ensures)
 
-pub entry-at-spec : {M : Type 1} → statement M
-entry-at-spec =
+pub entry_at_spec : {M : Type 1} → statement M
+entry_at_spec =
     tie.close
     (tie.spec
     (λ c. search rules)

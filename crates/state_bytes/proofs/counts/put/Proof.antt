@@ -15,7 +15,7 @@ returns c =
     let b = start.args.bytes.now in
     let at = start.args.at in
     let further : at + 2 ≡ suc (suc at) = omega arith in
-    rw (second.put-two2.ensures, first.put_two.ensures, add-zero at, further)
+    rw (second.put_two-2.ensures, first.put_two.ensures, add-zero at, further)
 
 pub put_spec : {M : Type 1} → statement M
 put_spec =

@@ -7,7 +7,7 @@ use borrow.Author.Rules.{rules}
 use Rattle.state_bytes.proofs.demands.put.Statement.{statement}
 use Rattle.state_bytes.proofs.demands.put.Tie as tie
 
-slice-write-bytes-2 : tie.Need-slice-write-bytes-2
+slice-write-bytes-2 : tie.Need-bounds-bytes-at-2
 slice-write-bytes-2 c = simp length-set (omega arith)
 
 returns : tie.Need-returns

@@ -13,54 +13,54 @@ use native.Mathlib.Omega.{arith}
 use Rattle.state_bytes.proofs.movements.known.Statement.{statement}
 use Rattle.state_bytes.proofs.movements.known.Tie as tie
 
-abbrev invariant-loop : tie.invariant-loop
-invariant-loop bytes at joined₀ k₀ joined k = Tested (λ k. stage.known bytes (at + k * 3 + 0)) 8 (ltb joined 4) k
+abbrev invariant-loop-k : tie.invariant-loop-k
+invariant-loop-k bytes at joined₀ k₀ joined k = Tested (λ k. stage.known bytes (at + k * 3 + 0)) 8 (ltb joined 4) k
 
-abbrev decreases-loop : tie.decreases-loop
-decreases-loop bytes at joined₀ k₀ joined k = 8 - k
+abbrev decreases-loop-k : tie.decreases-loop-k
+decreases-loop-k bytes at joined₀ k₀ joined k = 8 - k
 
-loop-holds : tie.Need-loop-init invariant-loop decreases-loop
+loop-holds : tie.Need-loop-k-init invariant-loop-k decreases-loop-k
 loop-holds c = tested-none
 
-mul-joined : tie.Need-overflow-mul-joined invariant-loop decreases-loop
+mul-joined : tie.Need-overflow_mul-joined invariant-loop-k decreases-loop-k
 mul-joined c = search rules
 
-add-joined : tie.Need-overflow-add-joined invariant-loop decreases-loop
+add-joined : tie.Need-overflow_add-joined invariant-loop-k decreases-loop-k
 add-joined c = search rules
 
-add-joined-2 : tie.Need-overflow-add-joined-2 invariant-loop decreases-loop
+add-joined-2 : tie.Need-overflow_add-joined-in-loop-k invariant-loop-k decreases-loop-k
 add-joined-2 c = search rules
 
-shared-slice-read-joined : tie.Need-shared-slice-read-joined invariant-loop decreases-loop
+shared-slice-read-joined : tie.Need-bounds-bytes-at invariant-loop-k decreases-loop-k
 shared-slice-read-joined c = search rules
 
-add-k : tie.Need-overflow-add-k invariant-loop decreases-loop
+add-k : tie.Need-overflow_add-k invariant-loop-k decreases-loop-k
 add-k c = search rules
 
-loop-less : tie.Need-loop-smaller invariant-loop decreases-loop
+loop-less : tie.Need-loop-k-smaller invariant-loop-k decreases-loop-k
 loop-less c = search rules
 
-loop-again : tie.Need-loop-preserved invariant-loop decreases-loop
+loop-again : tie.Need-loop-k-preserved invariant-loop-k decreases-loop-k
 unfolding byte_at
-loop-again c = rw (joined-below 2 _ _) (tested-more c.before.before.loop.invariant (omega arith) refl)
+loop-again c = rw (joined-below 2 _ _) (tested-more c.before.before.loop-k.invariant (omega arith) refl)
 
-stage-known-requires : tie.Need-stage-known-requires invariant-loop decreases-loop
+stage-known-requires : tie.Need-stage_known-requires invariant-loop-k decreases-loop-k
 stage-known-requires c κs = search rules
 
-returns : tie.Need-returns invariant-loop decreases-loop
+returns : tie.Need-returns invariant-loop-k decreases-loop-k
 returns c =
     let left = c.before in
     let args = left.before.before.before.args in
-    c.stage-known.ensures
-    ∙ tested-all left.before.loop.invariant left.loop-test.false
+    c.stage_known.ensures
+    ∙ tested-all left.before.loop-k.invariant left.loop-k-test.false
     ∙ sym (movements-tested args.bytes.now args.at 8)
 
-pub known-spec : {M : Type 1} → statement M
-known-spec =
+pub known_spec : {M : Type 1} → statement M
+known_spec =
     tie.close
     (tie.spec
-    invariant-loop
-    decreases-loop
+    invariant-loop-k
+    decreases-loop-k
     loop-holds
     mul-joined
     add-joined

@@ -15,60 +15,60 @@ use native.Mathlib.Omega.{arith}
 use Rattle.state_bytes.proofs.movements.put.Statement.{statement}
 use Rattle.state_bytes.proofs.movements.put.Tie as tie
 
-abbrev invariant-loop : tie.invariant-loop
-invariant-loop bytes₀ at movements k₀ bytes k = Stored (parts_of (λ k. movement.written (get_or movements k idle))) bytes₀ at 8 bytes k
+abbrev invariant-loop-k : tie.invariant-loop-k
+invariant-loop-k bytes₀ at movements k₀ bytes k = Stored (parts_of (λ k. movement.written (get_or movements k idle))) bytes₀ at 8 bytes k
 
-abbrev decreases-loop : tie.decreases-loop
-decreases-loop bytes₀ at movements k₀ bytes k = 8 - k
+abbrev decreases-loop-k : tie.decreases-loop-k
+decreases-loop-k bytes₀ at movements k₀ bytes k = 8 - k
 
-loop-holds : tie.Need-loop-init invariant-loop decreases-loop
+loop-holds : tie.Need-loop-k-init invariant-loop-k decreases-loop-k
 unfolding parts_of
 loop-holds c = stored-none refl
 
-mul-own : tie.Need-overflow-mul-own invariant-loop decreases-loop
+mul-own : tie.Need-offset_bounds-movements-k invariant-loop-k decreases-loop-k
 mul-own c = search rules
 
-array-copy-out-own : tie.Need-array-copy-out-own invariant-loop decreases-loop
+array-copy-out-own : tie.Need-bounds-movements-k invariant-loop-k decreases-loop-k
 array-copy-out-own c = search rules
 
-mul-put-one : tie.Need-overflow-mul-put-one invariant-loop decreases-loop
+mul-put-one : tie.Need-overflow_mul-k invariant-loop-k decreases-loop-k
 mul-put-one c = search rules
 
-add-put-one : tie.Need-overflow-add-put-one invariant-loop decreases-loop
+add-put-one : tie.Need-overflow_add-at invariant-loop-k decreases-loop-k
 add-put-one c = search rules
 
-put-one-requires : tie.Need-put-one-requires invariant-loop decreases-loop
-put-one-requires c κs = omega (arith, stored-length c.before.before.before.loop.invariant)
+put-one-requires : tie.Need-put_one-requires invariant-loop-k decreases-loop-k
+put-one-requires c κs = omega (arith, stored-length c.before.before.before.loop-k.invariant)
 
-add-k : tie.Need-overflow-add-k invariant-loop decreases-loop
+add-k : tie.Need-overflow_add-k invariant-loop-k decreases-loop-k
 add-k c = search rules
 
-loop-less : tie.Need-loop-smaller invariant-loop decreases-loop
+loop-less : tie.Need-loop-k-smaller invariant-loop-k decreases-loop-k
 loop-less c = search rules
 
-loop-again : tie.Need-loop-preserved invariant-loop decreases-loop
+loop-again : tie.Need-loop-k-preserved invariant-loop-k decreases-loop-k
 loop-again c =
     let turn = c.before.before.before.before.before in
     let start = turn.before.before.before in
-    let k = turn.before.loop.k in
+    let k = turn.before.loop-k.k in
     let own = start.args.t3 in
     let inside : k < length own = omega arith in
     rw c.before.before.put_one.ensures
-    (stored-record (λ k. movement.written (get_or own k idle)) 3 (λ k. refl) _ _ turn.before.loop.invariant turn.loop-test.true refl
+    (stored-record (λ k. movement.written (get_or own k idle)) 3 (λ k. refl) _ _ turn.before.loop-k.invariant turn.loop-k-test.true refl
     (ap movement.written (entry-same own k (record { stage = Idle; age = 0 }) idle inside)))
 
-same_length : tie.Need-same-length invariant-loop decreases-loop
-same_length c = stored-length c.before.loop.invariant
+same_length : tie.Need-shape_of-bytes invariant-loop-k decreases-loop-k
+same_length c = stored-length c.before.loop-k.invariant
 
-returns : tie.Need-returns invariant-loop decreases-loop
-returns c = stored-all c.before.loop.invariant c.loop-test.false
+returns : tie.Need-returns invariant-loop-k decreases-loop-k
+returns c = stored-all c.before.loop-k.invariant c.loop-k-test.false
 
 pub put_spec : {M : Type 1} → statement M
 put_spec =
     tie.close
     (tie.spec
-    invariant-loop
-    decreases-loop
+    invariant-loop-k
+    decreases-loop-k
     loop-holds
     mul-own
     array-copy-out-own

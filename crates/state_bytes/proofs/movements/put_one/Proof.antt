@@ -7,10 +7,10 @@ use borrow.Author.Rules.{rules}
 use Rattle.state_bytes.proofs.movements.put_one.Statement.{statement}
 use Rattle.state_bytes.proofs.movements.put_one.Tie as tie
 
-put-two-requires : tie.Need-put-two-requires
+put-two-requires : tie.Need-put_two-requires
 put-two-requires c κs = simp length-set (omega arith)
 
-same_length : tie.Need-same-length
+same_length : tie.Need-shape_of-bytes
 same_length c = rw c.before.before.put_two.ensures (simp length-set)
 
 returns : tie.Need-returns
@@ -18,10 +18,10 @@ returns c =
     let age = c.before.before in
     let row = age.before.before in
     let at = row.before.before.args.at in
-    rw (age.put_two.ensures, row.stage-row.ensures, add-zero at, add-one at)
+    rw (age.put_two.ensures, row.stage_row-row.ensures, add-zero at, add-one at)
 
-pub put-one-spec : {M : Type 1} → statement M
-put-one-spec =
+pub put_one_spec : {M : Type 1} → statement M
+put_one_spec =
     tie.close
     (tie.spec
     (λ c κs. search rules)

@@ -14,60 +14,60 @@ use native.Mathlib.Omega.{arith}
 use Rattle.state_bytes.proofs.movements.read.Statement.{statement}
 use Rattle.state_bytes.proofs.movements.read.Tie as tie
 
-abbrev invariant-loop : tie.invariant-loop
-invariant-loop bytes at records₀ k₀ records k = Stored (list_of (λ k. movement.read bytes (at + k * 3))) (replicate 8 idle) 0 8 records k
+abbrev invariant-loop-k : tie.invariant-loop-k
+invariant-loop-k bytes at records₀ k₀ records k = Stored (list_of (λ k. movement.read bytes (at + k * 3))) (replicate 8 idle) 0 8 records k
 
-abbrev decreases-loop : tie.decreases-loop
-decreases-loop bytes at records₀ k₀ records k = 8 - k
+abbrev decreases-loop-k : tie.decreases-loop-k
+decreases-loop-k bytes at records₀ k₀ records k = 8 - k
 
-loop-holds : tie.Need-loop-init invariant-loop decreases-loop
+loop-holds : tie.Need-loop-k-init invariant-loop-k decreases-loop-k
 unfolding list_of
 loop-holds c = stored-none refl
 
-mul-read-one : tie.Need-overflow-mul-read-one invariant-loop decreases-loop
+mul-read-one : tie.Need-overflow_mul-k invariant-loop-k decreases-loop-k
 mul-read-one c = search rules
 
-add-read-one : tie.Need-overflow-add-read-one invariant-loop decreases-loop
+add-read-one : tie.Need-overflow_add-at invariant-loop-k decreases-loop-k
 add-read-one c = search rules
 
-read-one-requires : tie.Need-read-one-requires invariant-loop decreases-loop
+read-one-requires : tie.Need-read_one-requires invariant-loop-k decreases-loop-k
 read-one-requires c κs =
     let turn = c.before in
     let start = turn.before.before in (
       omega arith,
-      all-at (λ k. movement.known start.args.bytes.now (start.args.at + k * 3)) 8 turn.loop.k start.requires.1 c.loop-test.true,
+      all-at (λ k. movement.known start.args.bytes.now (start.args.at + k * 3)) 8 turn.loop-k.k start.requires.1 c.loop-k-test.true,
     )
 
-mul-records : tie.Need-overflow-mul-records invariant-loop decreases-loop
+mul-records : tie.Need-offset_bounds-records-k invariant-loop-k decreases-loop-k
 mul-records c = search rules
 
-array-set-from-records : tie.Need-array-set-from-records invariant-loop decreases-loop
+array-set-from-records : tie.Need-bounds-records-k invariant-loop-k decreases-loop-k
 array-set-from-records c = search rules
 
-add-k : tie.Need-overflow-add-k invariant-loop decreases-loop
+add-k : tie.Need-overflow_add-k invariant-loop-k decreases-loop-k
 add-k c = search rules
 
-loop-less : tie.Need-loop-smaller invariant-loop decreases-loop
+loop-less : tie.Need-loop-k-smaller invariant-loop-k decreases-loop-k
 loop-less c = search rules
 
-loop-again : tie.Need-loop-preserved invariant-loop decreases-loop
+loop-again : tie.Need-loop-k-preserved invariant-loop-k decreases-loop-k
 loop-again c =
     let turn = c.before.before in
     let args = turn.before.before.args in
-    stored_one (λ k. movement.read args.bytes.now (args.at + k * 3)) turn.loop.invariant (omega arith) (omega arith) c.read_one.ensures
+    stored_one (λ k. movement.read args.bytes.now (args.at + k * 3)) turn.loop-k.invariant (omega arith) (omega arith) c.read_one.ensures
 
-returns : tie.Need-returns invariant-loop decreases-loop
+returns : tie.Need-returns invariant-loop-k decreases-loop-k
 returns c =
     let args = c.before.before.before.args in
-    stored-all c.before.loop.invariant c.loop-test.false
+    stored-all c.before.loop-k.invariant c.loop-k-test.false
     ∙ sets-whole (replicate 8 idle) _ (list_length (λ k. movement.read args.bytes.now (args.at + k * 3)) 8)
 
 pub read_spec : {M : Type 1} → statement M
 read_spec =
     tie.close
     (tie.spec
-    invariant-loop
-    decreases-loop
+    invariant-loop-k
+    decreases-loop-k
     loop-holds
     mul-read-one
     add-read-one

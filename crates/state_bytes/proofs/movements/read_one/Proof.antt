@@ -6,7 +6,7 @@ use borrow.Author.Rules.{rules}
 use Rattle.state_bytes.proofs.movements.read_one.Statement.{statement}
 use Rattle.state_bytes.proofs.movements.read_one.Tie as tie
 
-stage-of-requires : tie.Need-stage-of-requires
+stage-of-requires : tie.Need-stage_of-requires
 unfolding byte_at
 stage-of-requires c κs =
     let start = c.before.before in
@@ -14,10 +14,10 @@ stage-of-requires c κs =
 
 returns : tie.Need-returns
 unfolding byte_at
-returns c = rw (c.two_in.ensures, c.before.stage-of.ensures, add-zero)
+returns c = rw (c.two_in.ensures, c.before.stage_of.ensures, add-zero)
 
-pub read-one-spec : {M : Type 1} → statement M
-read-one-spec =
+pub read_one_spec : {M : Type 1} → statement M
+read_one_spec =
     tie.close
     (tie.spec
     (λ c. search rules)

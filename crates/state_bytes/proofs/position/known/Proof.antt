@@ -8,10 +8,10 @@ use Rattle.state_bytes.proofs.position.known.Tie as tie
 returns : tie.Need-returns
 unfolding byte_at
 returns c =
-    rw (c.held-known2.ensures, c.before.held-known.ensures, c.before.before.interval-known.ensures) (simp and-true)
+    rw (c.held_known-2.ensures, c.before.held_known.ensures, c.before.before.interval_known.ensures) (simp and-true)
 
-pub known-spec : {M : Type 1} → statement M
-known-spec =
+pub known_spec : {M : Type 1} → statement M
+known_spec =
     tie.close
     (tie.spec
     (λ c. search rules)

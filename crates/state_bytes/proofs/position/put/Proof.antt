@@ -9,21 +9,21 @@ use borrow.Author.Rules.{rules}
 use Rattle.state_bytes.proofs.position.put.Statement.{statement}
 use Rattle.state_bytes.proofs.position.put.Tie as tie
 
-slice-write-bytes-2 : tie.Need-slice-write-bytes-2
+slice-write-bytes-2 : tie.Need-bounds-bytes-at-2
 slice-write-bytes-2 c = simp length-set (omega arith)
 
-put-two-requires : tie.Need-put-two-requires
+put-two-requires : tie.Need-put_two-requires
 put-two-requires c κs = simp length-set (omega arith)
 
-put-held-requires : tie.Need-put-held-requires
+put-held-requires : tie.Need-put_held-requires
 put-held-requires c κs = omega (arith, simp length-set at c.before.before.before.put_two.auto.0)
 
-put-held-requires-2 : tie.Need-put-held-requires-2
+put-held-requires-2 : tie.Need-put_held-requires-2
 put-held-requires-2 c κs =
     let previous = c.before.before.before in
     omega (arith, simp length-set at previous.before.before.before.before.put_two.auto.0)
 
-same_length : tie.Need-same-length
+same_length : tie.Need-shape_of-bytes
 same_length c =
     let previous = c.before.before.before.before.before.before in
     omega (arith, simp length-set at previous.before.before.before.before.put_two.auto.0)
@@ -39,10 +39,10 @@ returns c =
     let four : at + 4 ≡ suc (suc (suc (suc at))) = omega arith in
     let six : at + 6 ≡ suc (suc (suc (suc (suc (suc at))))) = omega arith in
     rw (
-      target.put-held2.ensures,
-      previous.put-held.ensures,
+      target.put_held-2.ensures,
+      previous.put_held.ensures,
       age.put_two.ensures,
-      row.interval-row.ensures,
+      row.interval_row-row.ensures,
       add-zero at,
       add-one at,
       two,

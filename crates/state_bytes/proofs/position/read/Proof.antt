@@ -11,24 +11,24 @@ use Rattle.state_bytes.proofs.position.read.Tie as tie
 told : (c : tie.Start) → PositionKnown c.args.bytes.now c.args.at
 told c = position-told c.args.bytes.now c.args.at c.requires.1
 
-interval-of-requires : tie.Need-interval-of-requires
+interval-of-requires : tie.Need-interval_of-requires
 unfolding byte_at
 interval-of-requires c κs = (told c.before.before.before).code
 
-get-held-requires : tie.Need-get-held-requires
+get-held-requires : tie.Need-get_held-requires
 get-held-requires c κs = (omega arith, (told c.before.before.before.before.before).previous)
 
-get-held-requires-2 : tie.Need-get-held-requires-2
+get-held-requires-2 : tie.Need-get_held-requires-2
 get-held-requires-2 c κs = (omega arith, (told c.before.before.before.before.before.before).target)
 
 returns : tie.Need-returns
 unfolding byte_at
 returns c =
     rw (
-      c.get-held2.ensures,
-      c.before.get-held.ensures,
+      c.get_held-2.ensures,
+      c.before.get_held.ensures,
       c.before.before.two_in.ensures,
-      c.before.before.before.interval-of.ensures,
+      c.before.before.before.interval_of.ensures,
       add-zero,
     )
 

@@ -13,11 +13,11 @@ returns c =
     let second = c.before.before in
     let first = second.before.before.before.before in
     let a = first.before.before.before.args in
-    rw (second.put-two2.ensures, first.put_two.ensures)
-    (sets-next a.bytes.now (two (a.x % 65536)) (two (a.x / 65536)) a.at (a.at + 2) refl)
+    rw (second.put_two-2.ensures, first.put_two.ensures)
+    (sets-next a.bytes-1.now (two (a.x % 65536)) (two (a.x / 65536)) a.at (a.at + 2) refl)
 
-pub put-four-spec : {M : Type 1} → statement M
-put-four-spec =
+pub put_four_spec : {M : Type 1} → statement M
+put_four_spec =
     tie.close
     (tie.spec
     (λ c. search rules)

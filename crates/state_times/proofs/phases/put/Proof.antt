@@ -13,57 +13,57 @@ use native.Mathlib.Omega.{arith}
 use Rattle.state_times.proofs.phases.put.Statement.{statement}
 use Rattle.state_times.proofs.phases.put.Tie as tie
 
-abbrev invariant-loop : tie.invariant-loop
-invariant-loop bytes₀ at records p₀ bytes p = Stored (parts_of (λ k. six.written (get_or (map six_of records) k (six_of no_phase_times)))) bytes₀ at 7 bytes p
+abbrev invariant-loop-p : tie.invariant-loop-p
+invariant-loop-p bytes₀ at records p₀ bytes p = Stored (parts_of (λ k. six.written (get_or (map six_of records) k (six_of no_phase_times)))) bytes₀ at 7 bytes p
 
-abbrev decreases-loop : tie.decreases-loop
-decreases-loop bytes₀ at records p₀ bytes p = 7 - p
+abbrev decreases-loop-p : tie.decreases-loop-p
+decreases-loop-p bytes₀ at records p₀ bytes p = 7 - p
 
-loop-holds : tie.Need-loop-init invariant-loop decreases-loop
+loop-holds : tie.Need-loop-p-init invariant-loop-p decreases-loop-p
 unfolding parts_of
 loop-holds c = stored-none refl
 
-mul-own : tie.Need-overflow-mul-own invariant-loop decreases-loop
+mul-own : tie.Need-offset_bounds-records-p invariant-loop-p decreases-loop-p
 mul-own c = search rules
 
-array-copy-out-own : tie.Need-array-copy-out-own invariant-loop decreases-loop
+array-copy-out-own : tie.Need-bounds-records-p invariant-loop-p decreases-loop-p
 array-copy-out-own c = search rules
 
-mul-put-one : tie.Need-overflow-mul-put-one invariant-loop decreases-loop
+mul-put-one : tie.Need-overflow_mul-p invariant-loop-p decreases-loop-p
 mul-put-one c = search rules
 
-add-put-one : tie.Need-overflow-add-put-one invariant-loop decreases-loop
+add-put-one : tie.Need-overflow_add-at invariant-loop-p decreases-loop-p
 add-put-one c = search rules
 
-put-one-requires : tie.Need-put-one-requires invariant-loop decreases-loop
-put-one-requires c κs = omega (arith, stored-length c.before.before.before.loop.invariant)
+put-one-requires : tie.Need-put_one-requires invariant-loop-p decreases-loop-p
+put-one-requires c κs = omega (arith, stored-length c.before.before.before.loop-p.invariant)
 
-add-p : tie.Need-overflow-add-p invariant-loop decreases-loop
+add-p : tie.Need-overflow_add-p invariant-loop-p decreases-loop-p
 add-p c = search rules
 
-loop-less : tie.Need-loop-smaller invariant-loop decreases-loop
+loop-less : tie.Need-loop-p-smaller invariant-loop-p decreases-loop-p
 loop-less c = search rules
 
-loop-again : tie.Need-loop-preserved invariant-loop decreases-loop
+loop-again : tie.Need-loop-p-preserved invariant-loop-p decreases-loop-p
 loop-again c =
     let turn = c.before.before.before.before.before in
     let own = turn.before.before.before.args.t3 in
     rw c.before.before.put_one.ensures
-    (stored-record (λ k. six.written (get_or (map six_of own) k (six_of no_phase_times))) 12 (λ k. refl) _ _ turn.before.loop.invariant turn.loop-test.true refl
-    (ap six.written (sym (get_or-map six_of own turn.before.loop.p no_phase_times))))
+    (stored-record (λ k. six.written (get_or (map six_of own) k (six_of no_phase_times))) 12 (λ k. refl) _ _ turn.before.loop-p.invariant turn.loop-p-test.true refl
+    (ap six.written (sym (get_or-map six_of own turn.before.loop-p.p no_phase_times))))
 
-same_length : tie.Need-same-length invariant-loop decreases-loop
-same_length c = stored-length c.before.loop.invariant
+same_length : tie.Need-shape_of-bytes invariant-loop-p decreases-loop-p
+same_length c = stored-length c.before.loop-p.invariant
 
-returns : tie.Need-returns invariant-loop decreases-loop
-returns c = stored-all c.before.loop.invariant c.loop-test.false
+returns : tie.Need-returns invariant-loop-p decreases-loop-p
+returns c = stored-all c.before.loop-p.invariant c.loop-p-test.false
 
 pub put_spec : {M : Type 1} → statement M
 put_spec =
     tie.close
     (tie.spec
-    invariant-loop
-    decreases-loop
+    invariant-loop-p
+    decreases-loop-p
     loop-holds
     mul-own
     array-copy-out-own

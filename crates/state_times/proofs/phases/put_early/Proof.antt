@@ -17,57 +17,57 @@ use Rattle.state_times.proofs.phases.put_early.Tie as tie
 abbrev early_of : PhaseTimes → ℕ
 early_of t = t.early
 
-abbrev invariant-loop : tie.invariant-loop
-invariant-loop bytes₀ at records p₀ bytes p = Stored (parts_of (λ k. two.written (get_or (map early_of records) k 0))) bytes₀ at 7 bytes p
+abbrev invariant-loop-p : tie.invariant-loop-p
+invariant-loop-p bytes₀ at records p₀ bytes p = Stored (parts_of (λ k. two.written (get_or (map early_of records) k 0))) bytes₀ at 7 bytes p
 
-abbrev decreases-loop : tie.decreases-loop
-decreases-loop bytes₀ at records p₀ bytes p = 7 - p
+abbrev decreases-loop-p : tie.decreases-loop-p
+decreases-loop-p bytes₀ at records p₀ bytes p = 7 - p
 
-loop-holds : tie.Need-loop-init invariant-loop decreases-loop
+loop-holds : tie.Need-loop-p-init invariant-loop-p decreases-loop-p
 unfolding parts_of
 loop-holds c = stored-none refl
 
-mul-own : tie.Need-overflow-mul-own invariant-loop decreases-loop
+mul-own : tie.Need-offset_bounds-records-p invariant-loop-p decreases-loop-p
 mul-own c = search rules
 
-array-copy-out-own : tie.Need-array-copy-out-own invariant-loop decreases-loop
+array-copy-out-own : tie.Need-bounds-records-p invariant-loop-p decreases-loop-p
 array-copy-out-own c = search rules
 
-mul-put-two : tie.Need-overflow-mul-put-two invariant-loop decreases-loop
+mul-put-two : tie.Need-overflow_mul-p invariant-loop-p decreases-loop-p
 mul-put-two c = search rules
 
-add-put-two : tie.Need-overflow-add-put-two invariant-loop decreases-loop
+add-put-two : tie.Need-overflow_add-at invariant-loop-p decreases-loop-p
 add-put-two c = search rules
 
-put-two-requires : tie.Need-put-two-requires invariant-loop decreases-loop
-put-two-requires c κs = omega (arith, stored-length c.before.before.before.loop.invariant)
+put-two-requires : tie.Need-put_two-requires invariant-loop-p decreases-loop-p
+put-two-requires c κs = omega (arith, stored-length c.before.before.before.loop-p.invariant)
 
-add-p : tie.Need-overflow-add-p invariant-loop decreases-loop
+add-p : tie.Need-overflow_add-p invariant-loop-p decreases-loop-p
 add-p c = search rules
 
-loop-less : tie.Need-loop-smaller invariant-loop decreases-loop
+loop-less : tie.Need-loop-p-smaller invariant-loop-p decreases-loop-p
 loop-less c = search rules
 
-loop-again : tie.Need-loop-preserved invariant-loop decreases-loop
+loop-again : tie.Need-loop-p-preserved invariant-loop-p decreases-loop-p
 loop-again c =
     let turn = c.before.before.before.before.before in
     let own = turn.before.before.before.args.t3 in
     rw c.before.before.put_two.ensures
-    (stored-record (λ k. two.written (get_or (map early_of own) k 0)) 2 (λ k. refl) _ _ turn.before.loop.invariant turn.loop-test.true refl
-    (ap two.written (sym (get_or-map early_of own turn.before.loop.p no_phase_times))))
+    (stored-record (λ k. two.written (get_or (map early_of own) k 0)) 2 (λ k. refl) _ _ turn.before.loop-p.invariant turn.loop-p-test.true refl
+    (ap two.written (sym (get_or-map early_of own turn.before.loop-p.p no_phase_times))))
 
-same_length : tie.Need-same-length invariant-loop decreases-loop
-same_length c = stored-length c.before.loop.invariant
+same_length : tie.Need-shape_of-bytes invariant-loop-p decreases-loop-p
+same_length c = stored-length c.before.loop-p.invariant
 
-returns : tie.Need-returns invariant-loop decreases-loop
-returns c = stored-all c.before.loop.invariant c.loop-test.false
+returns : tie.Need-returns invariant-loop-p decreases-loop-p
+returns c = stored-all c.before.loop-p.invariant c.loop-p-test.false
 
-pub put-early-spec : {M : Type 1} → statement M
-put-early-spec =
+pub put_early_spec : {M : Type 1} → statement M
+put_early_spec =
     tie.close
     (tie.spec
-    invariant-loop
-    decreases-loop
+    invariant-loop-p
+    decreases-loop-p
     loop-holds
     mul-own
     array-copy-out-own

@@ -21,11 +21,11 @@ returns c =
     let eight : at + 8 ≡ suc (suc (at + 6)) = omega arith in
     let ten : at + 10 ≡ suc (suc (at + 8)) = omega arith in
     rw (
-      sixth.put-two6.ensures,
-      fifth.put-two5.ensures,
-      fourth.put-two4.ensures,
-      third.put-two3.ensures,
-      second.put-two2.ensures,
+      sixth.put_two-6.ensures,
+      fifth.put_two-5.ensures,
+      fourth.put_two-4.ensures,
+      third.put_two-3.ensures,
+      second.put_two-2.ensures,
       first.put_two.ensures,
       ten,
       eight,
@@ -34,8 +34,8 @@ returns c =
       two,
     )
 
-pub put-one-spec : {M : Type 1} → statement M
-put-one-spec =
+pub put_one_spec : {M : Type 1} → statement M
+put_one_spec =
     tie.close
     (tie.spec
     (λ c κs. search rules)

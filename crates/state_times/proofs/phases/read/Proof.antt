@@ -39,70 +39,70 @@ timed t early =
 
 -- ── The function ──
 
-abbrev invariant-loop : tie.invariant-loop
-invariant-loop bytes at early present count records₀ p₀ records p = Filled (phase_in bytes at early false) count 7 no_phase_times p records
+abbrev invariant-loop-p : tie.invariant-loop-p
+invariant-loop-p bytes at early present count records₀ p₀ records p = Filled (phase_in bytes at early false) count 7 no_phase_times p records
 
-abbrev decreases-loop : tie.decreases-loop
-decreases-loop bytes at early present count records₀ p₀ records p = count - p
+abbrev decreases-loop-p : tie.decreases-loop-p
+decreases-loop-p bytes at early present count records₀ p₀ records p = count - p
 
-abbrev invariant-loop2 : tie.invariant-loop2
-invariant-loop2 bytes at early present count records₀ p₀ records p =
+abbrev invariant-loop-p-2 : tie.invariant-loop-p-2
+invariant-loop-p-2 bytes at early present count records₀ p₀ records p =
     (p ≤ count)
     × fill.Filled (phase_in bytes at early true) (row_of (phase_in bytes at early false) count 7 no_phase_times) records p
 
-abbrev decreases-loop2 : tie.decreases-loop2
-decreases-loop2 bytes at early present count records₀ p₀ records p = count - p
+abbrev decreases-loop-p-2 : tie.decreases-loop-p-2
+decreases-loop-p-2 bytes at early present count records₀ p₀ records p = count - p
 
-loop-holds : tie.Need-loop-init invariant-loop decreases-loop invariant-loop2 decreases-loop2
+loop-holds : tie.Need-loop-p-init invariant-loop-p decreases-loop-p invariant-loop-p-2 decreases-loop-p-2
 loop-holds c = filled_none
 
-loop-again : tie.Need-loop-preserved invariant-loop decreases-loop invariant-loop2 decreases-loop2
-loop-again c = filled_more c.before.before.loop.invariant c.read_one.ensures (omega arith) (omega arith)
+loop-again : tie.Need-loop-p-preserved invariant-loop-p decreases-loop-p invariant-loop-p-2 decreases-loop-p-2
+loop-again c = filled_more c.before.before.loop-p.invariant c.read_one.ensures (omega arith) (omega arith)
 
-returns : tie.Need-returns invariant-loop decreases-loop invariant-loop2 decreases-loop2
-returns c = rw (not-true c.before.before.before.before.args.present c.if1.true) (filled-whole c.before.before.loop.invariant (omega arith))
+returns : tie.Need-returns-then-not-present invariant-loop-p decreases-loop-p invariant-loop-p-2 decreases-loop-p-2
+returns c = rw (not-true c.before.before.before.before.args.present c.if-not-present.true) (filled-whole c.before.before.loop-p.invariant (omega arith))
 
-loop2-holds : tie.Need-loop2-init invariant-loop decreases-loop invariant-loop2 decreases-loop2
+loop2-holds : tie.Need-loop-p-2-init invariant-loop-p decreases-loop-p invariant-loop-p-2 decreases-loop-p-2
 loop2-holds c =
-    let row = filled-whole c.before.before.loop.invariant (omega arith) in
+    let row = filled-whole c.before.before.loop-p.invariant (omega arith) in
     (omega arith, rw row (fill.fill_none _ _))
 
-add-two-in : tie.Need-overflow-add-two-in invariant-loop decreases-loop invariant-loop2 decreases-loop2
+add-two-in : tie.Need-overflow_add-early invariant-loop-p decreases-loop-p invariant-loop-p-2 decreases-loop-p-2
 add-two-in c =
     let passed = c.before.before.before in
-    omega (arith, passed.before.before.before.before.requires.2 (not-false _ passed.if1.false))
+    omega (arith, passed.before.before.before.before.requires.2 (not-false _ passed.if-not-present.false))
 
-two-in-requires : tie.Need-two-in-requires invariant-loop decreases-loop invariant-loop2 decreases-loop2
+two-in-requires : tie.Need-two_in-requires invariant-loop-p decreases-loop-p invariant-loop-p-2 decreases-loop-p-2
 two-in-requires c κs =
     let passed = c.before.before.before in
-    omega (arith, passed.before.before.before.before.requires.2 (not-false _ passed.if1.false))
+    omega (arith, passed.before.before.before.before.requires.2 (not-false _ passed.if-not-present.false))
 
-loop2-again : tie.Need-loop2-preserved invariant-loop decreases-loop invariant-loop2 decreases-loop2
+loop2-again : tie.Need-loop-p-2-preserved invariant-loop-p decreases-loop-p invariant-loop-p-2 decreases-loop-p-2
 loop2-again c =
     let turn = c.before.before in
     let a = turn.before.before.before.before.before.before.args in
     let plain = phase_in a.bytes.now a.at a.early false in
-    let p = turn.before.loop2.p in
+    let p = turn.before.loop-p-2.p in
     let room : p < length (row_of plain a.count 7 no_phase_times) = omega (arith, row_room plain a.count (omega arith)) in
-    let filled = turn.before.loop2.invariant.1 in
-    let own = fill.fill-boundary no_phase_times p filled room ∙ row_at plain a.count 7 p no_phase_times turn.loop2-test.true in
+    let filled = turn.before.loop-p-2.invariant.1 in
+    let own = fill.fill-boundary no_phase_times p filled room ∙ row_at plain a.count 7 p no_phase_times turn.loop-p-2-test.true in
     (omega arith, fill.fill_step filled room (ap (λ (t : PhaseTimes). timed t c.two_in.result) own ∙ ap (timed (plain p)) c.two_in.ensures))
 
-returns-2 : tie.Need-returns-2 invariant-loop decreases-loop invariant-loop2 decreases-loop2
+returns-2 : tie.Need-returns invariant-loop-p decreases-loop-p invariant-loop-p-2 decreases-loop-p-2
 returns-2 c =
     let a = c.before.before.before.before.before.before.args in
-    let last : c.before.loop2.p ≡ a.count = omega (arith, c.before.loop2.invariant.0) in
-    rw (not-false a.present c.before.before.if1.false)
-    (filled-again (phase_in a.bytes.now a.at a.early false) a.count (rw last at c.before.loop2.invariant.1))
+    let last : c.before.loop-p-2.p ≡ a.count = omega (arith, c.before.loop-p-2.invariant.0) in
+    rw (not-false a.present c.before.before.if-not-present.false)
+    (filled-again (phase_in a.bytes.now a.at a.early false) a.count (rw last at c.before.loop-p-2.invariant.1))
 
 pub read_spec : {M : Type 1} → statement M
 read_spec =
     tie.close
     (tie.spec
-    invariant-loop
-    decreases-loop
-    invariant-loop2
-    decreases-loop2
+    invariant-loop-p
+    decreases-loop-p
+    invariant-loop-p-2
+    decreases-loop-p-2
     loop-holds
     (λ c. search rules)
     (λ c. search rules)

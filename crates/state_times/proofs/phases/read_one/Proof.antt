@@ -7,16 +7,16 @@ returns : tie.Need-returns
 returns c =
     let third = c.before.before.before in
     rw (
-      c.two-in6.ensures,
-      c.before.two-in5.ensures,
-      c.before.before.two-in4.ensures,
-      third.two-in3.ensures,
-      third.before.two-in2.ensures,
+      c.two_in-6.ensures,
+      c.before.two_in-5.ensures,
+      c.before.before.two_in-4.ensures,
+      third.two_in-3.ensures,
+      third.before.two_in-2.ensures,
       third.before.before.two_in.ensures,
     )
 
-pub read-one-spec : {M : Type 1} → statement M
-read-one-spec =
+pub read_one_spec : {M : Type 1} → statement M
+read_one_spec =
     tie.close
     (tie.spec
     (λ c κs. search rules)

@@ -12,56 +12,56 @@ use native.Mathlib.Omega.{arith}
 use Rattle.state_times.proofs.walks.put.Statement.{statement}
 use Rattle.state_times.proofs.walks.put.Tie as tie
 
-abbrev invariant-loop : tie.invariant-loop
-invariant-loop bytes₀ at records k₀ bytes k = Stored (parts_of (λ k. walk.written (get_or records k no_walk_times))) bytes₀ at 8 bytes k
+abbrev invariant-loop-k : tie.invariant-loop-k
+invariant-loop-k bytes₀ at records k₀ bytes k = Stored (parts_of (λ k. walk.written (get_or records k no_walk_times))) bytes₀ at 8 bytes k
 
-abbrev decreases-loop : tie.decreases-loop
-decreases-loop bytes₀ at records k₀ bytes k = 8 - k
+abbrev decreases-loop-k : tie.decreases-loop-k
+decreases-loop-k bytes₀ at records k₀ bytes k = 8 - k
 
-loop-holds : tie.Need-loop-init invariant-loop decreases-loop
+loop-holds : tie.Need-loop-k-init invariant-loop-k decreases-loop-k
 unfolding parts_of
 loop-holds c = stored-none refl
 
-mul-own : tie.Need-overflow-mul-own invariant-loop decreases-loop
+mul-own : tie.Need-offset_bounds-records-k invariant-loop-k decreases-loop-k
 mul-own c = search rules
 
-array-copy-out-own : tie.Need-array-copy-out-own invariant-loop decreases-loop
+array-copy-out-own : tie.Need-bounds-records-k invariant-loop-k decreases-loop-k
 array-copy-out-own c = search rules
 
-mul-put-one : tie.Need-overflow-mul-put-one invariant-loop decreases-loop
+mul-put-one : tie.Need-overflow_mul-k invariant-loop-k decreases-loop-k
 mul-put-one c = search rules
 
-add-put-one : tie.Need-overflow-add-put-one invariant-loop decreases-loop
+add-put-one : tie.Need-overflow_add-at invariant-loop-k decreases-loop-k
 add-put-one c = search rules
 
-put-one-requires : tie.Need-put-one-requires invariant-loop decreases-loop
-put-one-requires c κs = omega (arith, stored-length c.before.before.before.loop.invariant)
+put-one-requires : tie.Need-put_one-requires invariant-loop-k decreases-loop-k
+put-one-requires c κs = omega (arith, stored-length c.before.before.before.loop-k.invariant)
 
-add-k : tie.Need-overflow-add-k invariant-loop decreases-loop
+add-k : tie.Need-overflow_add-k invariant-loop-k decreases-loop-k
 add-k c = search rules
 
-loop-less : tie.Need-loop-smaller invariant-loop decreases-loop
+loop-less : tie.Need-loop-k-smaller invariant-loop-k decreases-loop-k
 loop-less c = search rules
 
-loop-again : tie.Need-loop-preserved invariant-loop decreases-loop
+loop-again : tie.Need-loop-k-preserved invariant-loop-k decreases-loop-k
 loop-again c =
     let turn = c.before.before.before.before.before in
     let own = turn.before.before.before.args.t3 in
     rw c.before.before.put_one.ensures
-    (stored-record (λ k. walk.written (get_or own k no_walk_times)) 6 (λ k. refl) _ _ turn.before.loop.invariant turn.loop-test.true refl refl)
+    (stored-record (λ k. walk.written (get_or own k no_walk_times)) 6 (λ k. refl) _ _ turn.before.loop-k.invariant turn.loop-k-test.true refl refl)
 
-same_length : tie.Need-same-length invariant-loop decreases-loop
-same_length c = stored-length c.before.loop.invariant
+same_length : tie.Need-shape_of-bytes invariant-loop-k decreases-loop-k
+same_length c = stored-length c.before.loop-k.invariant
 
-returns : tie.Need-returns invariant-loop decreases-loop
-returns c = stored-all c.before.loop.invariant c.loop-test.false
+returns : tie.Need-returns invariant-loop-k decreases-loop-k
+returns c = stored-all c.before.loop-k.invariant c.loop-k-test.false
 
 pub put_spec : {M : Type 1} → statement M
 put_spec =
     tie.close
     (tie.spec
-    invariant-loop
-    decreases-loop
+    invariant-loop-k
+    decreases-loop-k
     loop-holds
     mul-own
     array-copy-out-own

@@ -14,10 +14,10 @@ returns c =
     let at = first.before.before.before.args.at in
     let two : at + 2 ≡ suc (suc at) = omega arith in
     let four : at + 4 ≡ suc (suc (suc (suc at))) = omega arith in
-    rw (third.put-two3.ensures, second.put-two2.ensures, first.put_two.ensures, two, four)
+    rw (third.put_two-3.ensures, second.put_two-2.ensures, first.put_two.ensures, two, four)
 
-pub put-one-spec : {M : Type 1} → statement M
-put-one-spec =
+pub put_one_spec : {M : Type 1} → statement M
+put_one_spec =
     tie.close
     (tie.spec
     (λ c κs. search rules)

@@ -8,48 +8,48 @@ use native.Mathlib.Omega.{arith}
 use Rattle.state_times.proofs.walks.read.Statement.{statement}
 use Rattle.state_times.proofs.walks.read.Tie as tie
 
-abbrev invariant-loop : tie.invariant-loop
-invariant-loop bytes at count records₀ k₀ records k = Filled (walk_in bytes at) count 8 no_walk_times k records
+abbrev invariant-loop-k : tie.invariant-loop-k
+invariant-loop-k bytes at count records₀ k₀ records k = Filled (walk_in bytes at) count 8 no_walk_times k records
 
-abbrev decreases-loop : tie.decreases-loop
-decreases-loop bytes at count records₀ k₀ records k = count - k
+abbrev decreases-loop-k : tie.decreases-loop-k
+decreases-loop-k bytes at count records₀ k₀ records k = count - k
 
-loop-holds : tie.Need-loop-init invariant-loop decreases-loop
+loop-holds : tie.Need-loop-k-init invariant-loop-k decreases-loop-k
 loop-holds c = filled_none
 
-mul-read-one : tie.Need-overflow-mul-read-one invariant-loop decreases-loop
+mul-read-one : tie.Need-overflow_mul-k invariant-loop-k decreases-loop-k
 mul-read-one c = search rules
 
-add-read-one : tie.Need-overflow-add-read-one invariant-loop decreases-loop
+add-read-one : tie.Need-overflow_add-at invariant-loop-k decreases-loop-k
 add-read-one c = search rules
 
-read-one-requires : tie.Need-read-one-requires invariant-loop decreases-loop
+read-one-requires : tie.Need-read_one-requires invariant-loop-k decreases-loop-k
 read-one-requires c κs = search rules
 
-mul-records : tie.Need-overflow-mul-records invariant-loop decreases-loop
+mul-records : tie.Need-offset_bounds-records-k invariant-loop-k decreases-loop-k
 mul-records c = search rules
 
-array-set-from-records : tie.Need-array-set-from-records invariant-loop decreases-loop
+array-set-from-records : tie.Need-bounds-records-k invariant-loop-k decreases-loop-k
 array-set-from-records c = search rules
 
-add-k : tie.Need-overflow-add-k invariant-loop decreases-loop
+add-k : tie.Need-overflow_add-k invariant-loop-k decreases-loop-k
 add-k c = search rules
 
-loop-less : tie.Need-loop-smaller invariant-loop decreases-loop
+loop-less : tie.Need-loop-k-smaller invariant-loop-k decreases-loop-k
 loop-less c = search rules
 
-loop-again : tie.Need-loop-preserved invariant-loop decreases-loop
-loop-again c = filled_more c.before.before.loop.invariant c.read_one.ensures (omega arith) (omega arith)
+loop-again : tie.Need-loop-k-preserved invariant-loop-k decreases-loop-k
+loop-again c = filled_more c.before.before.loop-k.invariant c.read_one.ensures (omega arith) (omega arith)
 
-returns : tie.Need-returns invariant-loop decreases-loop
-returns c = filled-whole c.before.loop.invariant (omega arith)
+returns : tie.Need-returns invariant-loop-k decreases-loop-k
+returns c = filled-whole c.before.loop-k.invariant (omega arith)
 
 pub read_spec : {M : Type 1} → statement M
 read_spec =
     tie.close
     (tie.spec
-    invariant-loop
-    decreases-loop
+    invariant-loop-k
+    decreases-loop-k
     loop-holds
     mul-read-one
     add-read-one

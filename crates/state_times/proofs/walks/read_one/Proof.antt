@@ -4,9 +4,9 @@ use Rattle.state_times.proofs.walks.read_one.Statement.{statement}
 use Rattle.state_times.proofs.walks.read_one.Tie as tie
 
 returns : tie.Need-returns
-returns c = rw (c.two-in3.ensures, c.before.two-in2.ensures, c.before.before.two_in.ensures)
+returns c = rw (c.two_in-3.ensures, c.before.two_in-2.ensures, c.before.before.two_in.ensures)
 
-pub read-one-spec : {M : Type 1} → statement M
-read-one-spec =
+pub read_one_spec : {M : Type 1} → statement M
+read_one_spec =
     tie.close
     (tie.spec (λ c κs. search rules) (λ c. search rules) (λ c κs. search rules) (λ c. search rules) (λ c κs. search rules) returns)

@@ -18,13 +18,13 @@ returns c = λ t.
     let eight = other.before in
     let known = eight.before in
     let a = known.before.before.args in
-    phase-same (record { each = λ i. omega (arith, known.before.shared-slice-known.given i) }) (record { each = λ i. omega (arith, known.shared-slice-known2.given i) })
+    phase-same (record { each = λ i. omega (arith, known.before.shared_slice_known-1.given i) }) (record { each = λ i. omega (arith, known.shared_slice_known-2-1.given i) })
     a.i a.j
-    (sym eight.eight-in.ensures ∙ eqb-true _ _ (and_left _ _ t) ∙ other.eight-in2.ensures)
-    (sym four.four-in.ensures ∙ eqb-true _ _ (and_right (eqb eight.eight-in.result other.eight-in2.result) _ t) ∙ c.four-in2.ensures)
+    (sym eight.eight_in.ensures ∙ eqb-true _ _ (and_left _ _ t) ∙ other.eight_in-2.ensures)
+    (sym four.four_in.ensures ∙ eqb-true _ _ (and_right (eqb eight.eight_in.result other.eight_in-2.result) _ t) ∙ c.four_in-2.ensures)
 
-pub phase-spec : {M : Type 1} → statement M
-phase-spec =
+pub phase_spec : {M : Type 1} → statement M
+phase_spec =
     tie.close
     (tie.spec
     (λ c κs. search rules)

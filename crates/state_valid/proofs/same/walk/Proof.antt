@@ -18,13 +18,13 @@ returns c = λ t.
     let four = other.before in
     let known = four.before in
     let a = known.before.before.args in
-    walk_same (record { each = λ i. omega (arith, known.before.shared-slice-known.given i) }) (record { each = λ i. omega (arith, known.shared-slice-known2.given i) })
+    walk_same (record { each = λ i. omega (arith, known.before.shared_slice_known-1.given i) }) (record { each = λ i. omega (arith, known.shared_slice_known-2-1.given i) })
     a.i a.j
-    (sym four.four-in.ensures ∙ eqb-true _ _ (and_left _ _ t) ∙ other.four-in2.ensures)
-    (sym two.two_in.ensures ∙ eqb-true _ _ (and_right (eqb four.four-in.result other.four-in2.result) _ t) ∙ c.two-in2.ensures)
+    (sym four.four_in.ensures ∙ eqb-true _ _ (and_left _ _ t) ∙ other.four_in-2.ensures)
+    (sym two.two_in.ensures ∙ eqb-true _ _ (and_right (eqb four.four_in.result other.four_in-2.result) _ t) ∙ c.two_in-2.ensures)
 
-pub walk-spec : {M : Type 1} → statement M
-walk-spec =
+pub walk_spec : {M : Type 1} → statement M
+walk_spec =
     tie.close
     (tie.spec
     (λ c κs. search rules)

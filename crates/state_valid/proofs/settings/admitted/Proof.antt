@@ -8,16 +8,16 @@ use Rattle.state_valid.proofs.settings.admitted.Statement.{statement}
 use Rattle.state_valid.proofs.settings.admitted.Tie as tie
 
 -- the table is that of the personality's edition
-taken : (c : tie.After-limits) → c.limits.result ≡ limits (edition_of c.before.before.before.before.args.s.now)
-taken c = c.limits.ensures ∙ ap limits c.before.edition-of.ensures
+taken : (c : tie.After-limits-table) → c.limits-table.result ≡ limits (edition_of c.before.before.before.before.args.s.now)
+taken c = c.limits-table.ensures ∙ ap limits c.before.edition_of.ensures
 
-phases-admitted-requires : tie.Need-phases-admitted-requires
+phases-admitted-requires : tie.Need-phases_admitted-requires
 phases-admitted-requires c κs =
     let table = c.before.before in
     let pre = table.before.before.before.before.requires in
     (pre.0, pre.1, taken table, pre.3)
 
-walks-admitted-requires : tie.Need-walks-admitted-requires
+walks-admitted-requires : tie.Need-walks_admitted-requires
 walks-admitted-requires c κs =
     let table = c.before.before.before in
     let pre = table.before.before.before.before.requires in
@@ -33,8 +33,8 @@ returns c =
     let laid = start.requires.1 in
     let a = start.args in
     rw (
-      c.walks-admitted.ensures,
-      phases.phases-admitted.ensures,
+      c.walks_admitted.ensures,
+      phases.phases_admitted.ensures,
       start-tested.within.ensures,
       read.two_in.ensures,
       taken table,
@@ -44,8 +44,8 @@ returns c =
     )
     (admitted-bytes a.s.now a.bytes.now a.at)
 
-pub admitted-spec : {M : Type 1} → statement M
-admitted-spec =
+pub admitted_spec : {M : Type 1} → statement M
+admitted_spec =
     tie.close
     (tie.spec
     (λ c κs. search rules)

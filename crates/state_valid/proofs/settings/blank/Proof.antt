@@ -13,7 +13,7 @@ returns c = λ site.
     let known = c.before in
     let start = known.before in
     c.all.ensures
-    ∙ blank-zeros start.args.bytes.now start.args.at site (record { each = λ i. omega (arith, known.shared-slice-known.given i) }) start.requires
+    ∙ blank-zeros start.args.bytes.now start.args.at site (record { each = λ i. omega (arith, known.shared_slice_known-1.given i) }) start.requires
 
-pub blank-spec : {M : Type 1} → statement M
-blank-spec = tie.close (tie.spec (λ c κs. search rules) returns)
+pub blank_spec : {M : Type 1} → statement M
+blank_spec = tie.close (tie.spec (λ c κs. search rules) returns)

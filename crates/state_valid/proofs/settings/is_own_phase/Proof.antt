@@ -15,22 +15,22 @@ phase-requires : tie.Need-phase-requires
 unfolding body_at
 phase-requires c κs = let pre = c.before.before.requires in (omega (arith, phases-end pre.0, pre.1), pre.2)
 
-early-in-requires : tie.Need-early-in-requires
+early-in-requires : tie.Need-early_in-requires
 unfolding body_at
 early-in-requires c κs = λ there. let pre = c.before.before.before.before.before.requires in omega (arith, pre.0.early there, pre.1)
 
-returns : tie.Need-returns
+returns : tie.Need-returns-then-phase
 returns c t =
     let met = c.before.before.before in
     let start = met.before.before.before in
     let a = start.args in
     sym (phase-own a.s.now a.layout start.requires.0.laid a.p)
-    ∙ ap₂ phase_of (met.phase.ensures c.before.before.if1.true) (sym (eqb-true a.early c.early-in.result t ∙ c.early-in.ensures))
+    ∙ ap₂ phase_of (met.phase.ensures c.before.before.if-phase.true) (sym (eqb-true a.early c.early_in.result t ∙ c.early_in.ensures))
 
-returns-2 : tie.Need-returns-2
+returns-2 : tie.Need-returns
 returns-2 c t = absurd (never_both t refl)
 
-pub is-own-phase-spec : {M : Type 1} → statement M
-is-own-phase-spec =
+pub is_own_phase_spec : {M : Type 1} → statement M
+is_own_phase_spec =
     tie.close
     (tie.spec (λ c. search rules) (λ c. search rules) phase-requires (λ c. search rules) early-in-requires returns returns-2)

@@ -17,37 +17,37 @@ use Rattle.state_valid.proofs.settings.own_phase_admitted.Tie as tie
 fits : (c : tie.Start) → Fitting c.args.s.now c.args.layout
 fits c = accepted-fits c.requires.0 c.requires.1
 
-two-in-requires : tie.Need-two-in-requires
+two-in-requires : tie.Need-two_in-early-requires
 two-in-requires c κs = let start = c.before.before in omega (arith, (fits start).phases, start.requires.3, start.requires.4)
 
-is-own-phase-requires : tie.Need-is-own-phase-requires
+is-own-phase-requires : tie.Need-is_own_phase-requires
 is-own-phase-requires c κs =
     let start = c.before.before.before in
     (fits start, start.requires.3, omega (arith, (fits start).phases, start.requires.3, start.requires.4))
 
-returns : tie.Need-returns
+returns : tie.Need-returns-then-is_own_phase
 returns c =
     let read = c.before.before in
     let start = read.before.before.before in
     let b = start.args.s.now in
     let laid = start.requires.1 in
-    let same = c.before.is-own-phase.ensures c.if1.true ∙ ap (phase_of _) read.two_in.ensures in
+    let same = c.before.is_own_phase.ensures c.if-is_own_phase.true ∙ ap (phase_of _) read.two_in-early.ensures in
     rw (start.requires.2, laid.hasearly)
     (sym
     (subst (λ (t : PhaseTimes). phase_within (limits (edition_of b)) (has_early b) t ≡ true) same
     (own-phase b start.requires.0 start.args.p (omega (arith, start.requires.3, laid.phasecount)))))
 
-read-one-requires : tie.Need-read-one-requires
+read-one-requires : tie.Need-read_one-requires
 read-one-requires c κs = let start = c.before.before.before.before.before in omega (arith, (fits start).phases, start.requires.3, start.requires.4)
 
-returns-2 : tie.Need-returns-2
+returns-2 : tie.Need-returns
 returns-2 c =
     let read = c.before.before.before.before in
     let a = read.before.before.before.args in
-    c.phase-within.ensures ∙ ap (phase_within a.table a.layout.hasearly) (c.before.read_one.ensures ∙ ap (phase_of _) read.two_in.ensures)
+    c.phase_within.ensures ∙ ap (phase_within a.table a.layout.hasearly) (c.before.read_one.ensures ∙ ap (phase_of _) read.two_in-early.ensures)
 
-pub own-phase-admitted-spec : {M : Type 1} → statement M
-own-phase-admitted-spec =
+pub own_phase_admitted_spec : {M : Type 1} → statement M
+own_phase_admitted_spec =
     tie.close
     (tie.spec
     (λ c. search rules)

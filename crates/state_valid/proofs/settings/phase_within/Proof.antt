@@ -14,18 +14,18 @@ returns c =
     let second = third.before in
     let first = second.before in
     rw (
-      seventh.within7.ensures,
-      sixth.within6.ensures,
-      fifth.within5.ensures,
-      fourth.within4.ensures,
-      third.within3.ensures,
-      second.within2.ensures,
+      seventh.within-7.ensures,
+      sixth.within-6.ensures,
+      fifth.within-5.ensures,
+      fourth.within-4.ensures,
+      third.within-3.ensures,
+      second.within-2.ensures,
       first.within.ensures,
     )
     (phase-joined _ _ _)
 
-pub phase-within-spec : {M : Type 1} → statement M
-phase-within-spec =
+pub phase_within_spec : {M : Type 1} → statement M
+phase_within_spec =
     tie.close
     (tie.spec
     (λ c κs. search rules)

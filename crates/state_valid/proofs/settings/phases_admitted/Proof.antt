@@ -19,47 +19,47 @@ abbrev passes : Layout → List Range → List ℕ → ℕ → ℕ → Bool
 passes layout table b at p =
     phase_within (record_limits table layout.phasecount p) layout.hasearly (phase_in b (at + phases_at) (at + earlies_at) true p)
 
-abbrev invariant-loop : tie.invariant-loop
-invariant-loop s layout table bytes at p₀ p = Tested (passes layout table bytes at) 7 true p
+abbrev invariant-loop-p : tie.invariant-loop-p
+invariant-loop-p s layout table bytes at p₀ p = Tested (passes layout table bytes at) 7 true p
 
-abbrev decreases-loop : tie.decreases-loop
-decreases-loop s layout table bytes at p₀ p = 7 - p
+abbrev decreases-loop-p : tie.decreases-loop-p
+decreases-loop-p s layout table bytes at p₀ p = 7 - p
 
-loop-holds : tie.Need-loop-init invariant-loop decreases-loop
+loop-holds : tie.Need-loop-p-init invariant-loop-p decreases-loop-p
 loop-holds c = tested-none
 
-phase-admitted-requires : tie.Need-phase-admitted-requires invariant-loop decreases-loop
+phase-admitted-requires : tie.Need-phase_admitted-requires invariant-loop-p decreases-loop-p
 phase-admitted-requires c κs = search rules
 
-returns : tie.Need-returns invariant-loop decreases-loop
+returns : tie.Need-returns-then-not-phase_admitted invariant-loop-p decreases-loop-p
 returns c =
     let tested = c.before in
     let head = tested.before.before in
     let a = head.before.before.before.args in
-    all-fails (passes a.layout a.table a.bytes.now a.at) 7 head.loop.p (omega arith)
-    (sym tested.phase-admitted.ensures ∙ not-true tested.phase-admitted.result c.if1.true)
+    all-fails (passes a.layout a.table a.bytes.now a.at) 7 head.loop-p.p (omega arith)
+    (sym tested.phase_admitted.ensures ∙ not-true tested.phase_admitted.result c.if-not-phase_admitted.true)
 
-add-p : tie.Need-overflow-add-p invariant-loop decreases-loop
+add-p : tie.Need-overflow_add-p invariant-loop-p decreases-loop-p
 add-p c = search rules
 
-loop-less : tie.Need-loop-smaller invariant-loop decreases-loop
+loop-less : tie.Need-loop-p-smaller invariant-loop-p decreases-loop-p
 loop-less c = search rules
 
-loop-again : tie.Need-loop-preserved invariant-loop decreases-loop
+loop-again : tie.Need-loop-p-preserved invariant-loop-p decreases-loop-p
 loop-again c =
     let tested = c.before in
-    tested-more tested.before.before.loop.invariant (omega arith)
-    (sym (not-false tested.phase-admitted.result c.if1.false) ∙ tested.phase-admitted.ensures)
+    tested-more tested.before.before.loop-p.invariant (omega arith)
+    (sym (not-false tested.phase_admitted.result c.if-not-phase_admitted.false) ∙ tested.phase_admitted.ensures)
 
-returns-2 : tie.Need-returns-2 invariant-loop decreases-loop
-returns-2 c = tested-all c.before.loop.invariant c.loop-test.false
+returns-2 : tie.Need-returns invariant-loop-p decreases-loop-p
+returns-2 c = tested-all c.before.loop-p.invariant c.loop-p-test.false
 
-pub phases-admitted-spec : {M : Type 1} → statement M
-phases-admitted-spec =
+pub phases_admitted_spec : {M : Type 1} → statement M
+phases_admitted_spec =
     tie.close
     (tie.spec
-    invariant-loop
-    decreases-loop
+    invariant-loop-p
+    decreases-loop-p
     loop-holds
     phase-admitted-requires
     returns

@@ -20,36 +20,36 @@ unfolding body_at
 walk-requires c κs =
     let here = c.before in
     let pre = here.before.before.before.requires in
-    (omega (arith, here.if1.true, pre.3, (accepted-fits pre.0 pre.1).whole), omega (arith, pre.4, pre.5))
+    (omega (arith, here.if-k-movements.true, pre.3, (accepted-fits pre.0 pre.1).whole), omega (arith, pre.4, pre.5))
 
-returns : tie.Need-returns
+returns : tie.Need-returns-then-walk
 returns c =
     let tested = c.before in
     let here = tested.before.before in
     let start = here.before.before.before in
     let a = start.args in
     let b = a.s.now in
-    let same = sym (walk-own b a.layout start.requires.1 a.k) ∙ tested.walk.ensures c.if2.true in
-    rw (lt-ltb a.k a.movements here.if1.true, start.requires.2)
+    let same = sym (walk-own b a.layout start.requires.1 a.k) ∙ tested.walk.ensures c.if-walk.true in
+    rw (lt-ltb a.k a.movements here.if-k-movements.true, start.requires.2)
     (sym
     (subst (λ (t : WalkTimes). walk_within (limits (edition_of b)) t ≡ true) same
-    (own-walk b start.requires.0 a.k (omega (arith, here.if1.true, start.requires.3)))))
+    (own-walk b start.requires.0 a.k (omega (arith, here.if-k-movements.true, start.requires.3)))))
 
-returns-2 : tie.Need-returns-2
+returns-2 : tie.Need-returns-then-k-movements
 returns-2 c =
     let here = c.before.before.before.before.before in
     let a = here.before.before.before.args in
-    rw (lt-ltb a.k a.movements here.if1.true)
-    (c.walk-within.ensures ∙ ap (walk_within a.table) c.before.read_one.ensures)
+    rw (lt-ltb a.k a.movements here.if-k-movements.true)
+    (c.walk_within.ensures ∙ ap (walk_within a.table) c.before.read_one.ensures)
 
-returns-3 : tie.Need-returns-3
+returns-3 : tie.Need-returns
 returns-3 c =
     let past = c.before in
     let a = past.before.before.before.args in
-    rw (le-ltb a.k a.movements past.if1.false) c.walk2.ensures
+    rw (le-ltb a.k a.movements past.if-k-movements.false) c.walk-2.ensures
 
-pub walk-admitted-spec : {M : Type 1} → statement M
-walk-admitted-spec =
+pub walk_admitted_spec : {M : Type 1} → statement M
+walk_admitted_spec =
     tie.close
     (tie.spec
     (λ c. search rules)

@@ -8,7 +8,7 @@ returns : tie.Need-returns
 returns c =
     let second = c.before in
     let first = second.before in
-    rw (c.within3.ensures, second.within2.ensures, first.within.ensures) (walk-joined _ _)
+    rw (c.within-3.ensures, second.within-2.ensures, first.within.ensures) (walk-joined _ _)
 
-pub walk-within-spec : {M : Type 1} → statement M
-walk-within-spec = tie.close (tie.spec (λ c κs. search rules) (λ c κs. search rules) (λ c κs. search rules) returns)
+pub walk_within_spec : {M : Type 1} → statement M
+walk_within_spec = tie.close (tie.spec (λ c κs. search rules) (λ c κs. search rules) (λ c κs. search rules) returns)

@@ -17,47 +17,47 @@ use Rattle.state_valid.proofs.settings.walks_admitted.Tie as tie
 abbrev passes : List Range → ℕ → List ℕ → ℕ → ℕ → Bool
 passes table movements b at k = walk_within (record_limits table movements k) (walk_in b (at + walks_at) k)
 
-abbrev invariant-loop : tie.invariant-loop
-invariant-loop s layout table movements bytes at k₀ k = Tested (passes table movements bytes at) 8 true k
+abbrev invariant-loop-k : tie.invariant-loop-k
+invariant-loop-k s layout table movements bytes at k₀ k = Tested (passes table movements bytes at) 8 true k
 
-abbrev decreases-loop : tie.decreases-loop
-decreases-loop s layout table movements bytes at k₀ k = 8 - k
+abbrev decreases-loop-k : tie.decreases-loop-k
+decreases-loop-k s layout table movements bytes at k₀ k = 8 - k
 
-loop-holds : tie.Need-loop-init invariant-loop decreases-loop
+loop-holds : tie.Need-loop-k-init invariant-loop-k decreases-loop-k
 loop-holds c = tested-none
 
-walk-admitted-requires : tie.Need-walk-admitted-requires invariant-loop decreases-loop
+walk-admitted-requires : tie.Need-walk_admitted-requires invariant-loop-k decreases-loop-k
 walk-admitted-requires c κs = search rules
 
-returns : tie.Need-returns invariant-loop decreases-loop
+returns : tie.Need-returns-then-not-walk_admitted invariant-loop-k decreases-loop-k
 returns c =
     let tested = c.before in
     let head = tested.before.before in
     let a = head.before.before.before.args in
-    all-fails (passes a.table a.movements a.bytes.now a.at) 8 head.loop.k (omega arith)
-    (sym tested.walk-admitted.ensures ∙ not-true tested.walk-admitted.result c.if1.true)
+    all-fails (passes a.table a.movements a.bytes.now a.at) 8 head.loop-k.k (omega arith)
+    (sym tested.walk_admitted.ensures ∙ not-true tested.walk_admitted.result c.if-not-walk_admitted.true)
 
-add-k : tie.Need-overflow-add-k invariant-loop decreases-loop
+add-k : tie.Need-overflow_add-k invariant-loop-k decreases-loop-k
 add-k c = search rules
 
-loop-less : tie.Need-loop-smaller invariant-loop decreases-loop
+loop-less : tie.Need-loop-k-smaller invariant-loop-k decreases-loop-k
 loop-less c = search rules
 
-loop-again : tie.Need-loop-preserved invariant-loop decreases-loop
+loop-again : tie.Need-loop-k-preserved invariant-loop-k decreases-loop-k
 loop-again c =
     let tested = c.before in
-    tested-more tested.before.before.loop.invariant (omega arith)
-    (sym (not-false tested.walk-admitted.result c.if1.false) ∙ tested.walk-admitted.ensures)
+    tested-more tested.before.before.loop-k.invariant (omega arith)
+    (sym (not-false tested.walk_admitted.result c.if-not-walk_admitted.false) ∙ tested.walk_admitted.ensures)
 
-returns-2 : tie.Need-returns-2 invariant-loop decreases-loop
-returns-2 c = tested-all c.before.loop.invariant c.loop-test.false
+returns-2 : tie.Need-returns invariant-loop-k decreases-loop-k
+returns-2 c = tested-all c.before.loop-k.invariant c.loop-k-test.false
 
-pub walks-admitted-spec : {M : Type 1} → statement M
-walks-admitted-spec =
+pub walks_admitted_spec : {M : Type 1} → statement M
+walks_admitted_spec =
     tie.close
     (tie.spec
-    invariant-loop
-    decreases-loop
+    invariant-loop-k
+    decreases-loop-k
     loop-holds
     walk-admitted-requires
     returns

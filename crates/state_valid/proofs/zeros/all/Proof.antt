@@ -10,45 +10,45 @@ use native.Mathlib.Omega.{arith}
 use Rattle.state_valid.proofs.zeros.all.Statement.{statement}
 use Rattle.state_valid.proofs.zeros.all.Tie as tie
 
-abbrev invariant-loop : tie.invariant-loop
-invariant-loop bytes at fours zero₀ i₀ zero i = Tested (λ k. eqb (byte_at bytes (at + k)) 0) (4 * fours) zero (4 * i)
+abbrev invariant-loop-i : tie.invariant-loop-i
+invariant-loop-i bytes at fours zero₀ i₀ zero i = Tested (λ k. eqb (byte_at bytes (at + k)) 0) (4 * fours) zero (4 * i)
 
-abbrev decreases-loop : tie.decreases-loop
-decreases-loop bytes at fours zero₀ i₀ zero i = fours - i
+abbrev decreases-loop-i : tie.decreases-loop-i
+decreases-loop-i bytes at fours zero₀ i₀ zero i = fours - i
 
-loop-holds : tie.Need-loop-init invariant-loop decreases-loop
+loop-holds : tie.Need-loop-i-init invariant-loop-i decreases-loop-i
 loop-holds c = tested-none
 
-mul-four-in : tie.Need-overflow-mul-four-in invariant-loop decreases-loop
+mul-four-in : tie.Need-overflow_mul-i invariant-loop-i decreases-loop-i
 mul-four-in c = search rules
 
-add-four-in : tie.Need-overflow-add-four-in invariant-loop decreases-loop
+add-four-in : tie.Need-overflow_add-at invariant-loop-i decreases-loop-i
 add-four-in c = search rules
 
-four-in-requires : tie.Need-four-in-requires invariant-loop decreases-loop
+four-in-requires : tie.Need-four_in-requires invariant-loop-i decreases-loop-i
 four-in-requires c κs = search rules
 
-add-i : tie.Need-overflow-add-i invariant-loop decreases-loop
+add-i : tie.Need-overflow_add-i invariant-loop-i decreases-loop-i
 add-i c = search rules
 
-loop-less : tie.Need-loop-smaller invariant-loop decreases-loop
+loop-less : tie.Need-loop-i-smaller invariant-loop-i decreases-loop-i
 loop-less c = search rules
 
-loop-again : tie.Need-loop-preserved invariant-loop decreases-loop
+loop-again : tie.Need-loop-i-preserved invariant-loop-i decreases-loop-i
 loop-again c =
     let head = c.before.before in
     let a = head.before.before.args in
-    four-tested a.bytes.now a.at head.loop.invariant c.before.loop-test.true (ap (λ (x : ℕ). eqb x 0) c.four-in.ensures)
+    four-tested a.bytes.now a.at head.loop-i.invariant c.before.loop-i-test.true (ap (λ (x : ℕ). eqb x 0) c.four_in.ensures)
 
-returns : tie.Need-returns invariant-loop decreases-loop
-returns c = tested-all c.before.loop.invariant (omega arith)
+returns : tie.Need-returns invariant-loop-i decreases-loop-i
+returns c = tested-all c.before.loop-i.invariant (omega arith)
 
-pub all-spec : {M : Type 1} → statement M
-all-spec =
+pub all_spec : {M : Type 1} → statement M
+all_spec =
     tie.close
     (tie.spec
-    invariant-loop
-    decreases-loop
+    invariant-loop-i
+    decreases-loop-i
     loop-holds
     mul-four-in
     add-four-in

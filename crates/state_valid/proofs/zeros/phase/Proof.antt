@@ -7,7 +7,7 @@ use Rattle.state_valid.proofs.zeros.phase.Tie as tie
 returns : tie.Need-returns
 returns c has =
     let a = c.before.before.before.args in
-    rw (c.before.eight-in.ensures, c.four-in.ensures) (phase-zero a.bytes.now a.at a.early has)
+    rw (c.before.eight_in.ensures, c.four_in.ensures) (phase-zero a.bytes.now a.at a.early has)
 
-pub phase-spec : {M : Type 1} → statement M
-phase-spec = tie.close (tie.spec (λ c κs. search rules) (λ c. search rules) (λ c κs. search rules) returns)
+pub phase_spec : {M : Type 1} → statement M
+phase_spec = tie.close (tie.spec (λ c κs. search rules) (λ c. search rules) (λ c κs. search rules) returns)

@@ -4,26 +4,26 @@ use Rattle.rules.specs.Colours.{movement_colour}
 use Rattle.step_colours.proofs.Colour.movement_colour.Statement.{statement}
 use Rattle.step_colours.proofs.Colour.movement_colour.Tie as tie
 
-enum_told : tie.Need-enum-told
+enum_told : tie.Need-enum_told-1
 enum_told c = search rules
 
-returns : tie.Need-returns
+returns : tie.Need-returns-in-Idle
 unfolding movement_colour
-returns c = rw c.enum_told.given.1
+returns c = rw c.enum_told-1.given.1
 
-returns-2 : tie.Need-returns-2
+returns-2 : tie.Need-returns-in-Walk
 unfolding movement_colour
-returns-2 c = rw c.enum-told2.given.1
+returns-2 c = rw c.enum_told-in-Walk-1.given.1
 
-returns-3 : tie.Need-returns-3
+returns-3 : tie.Need-returns-in-ClearanceOne
 unfolding movement_colour
-returns-3 c = rw c.enum-told3.given.1
+returns-3 c = rw c.enum_told-in-ClearanceOne-1.given.1
 
-returns-4 : tie.Need-returns-4
+returns-4 : tie.Need-returns-in-ClearanceTwo
 unfolding movement_colour
-returns-4 c = rw c.enum-told4.given.1
+returns-4 c = rw c.enum_told-in-ClearanceTwo-1.given.1
 
-pub movement-colour-spec : {M : Type 1} → statement M
-movement-colour-spec =
+pub movement_colour_spec : {M : Type 1} → statement M
+movement_colour_spec =
     tie.close
     (tie.spec enum_told (λ c. search rules) (λ c. search rules) (λ c. search rules) returns returns-2 returns-3 returns-4)

@@ -9,56 +9,56 @@ use Rattle.laws.proofs.Booleans.{chosen, passed-by}
 use Rattle.step_colours.proofs.Colour.vehicle_colour.Statement.{statement}
 use Rattle.step_colours.proofs.Colour.vehicle_colour.Tie as tie
 
-enum_told : tie.Need-enum-told
+enum_told : tie.Need-enum_told-1
 enum_told c = search rules
 
 -- the code's test of late start is the rule's
 waits :
-    (c : tie.After-held-in) →
+    (c : tie.After-held_in) →
     let args = c.before.before.before.before.args in
     (eqb args.group.mark 1 && not (held_in args.previous args.group.phases)) ≡ (eqb args.group.mark 1 && not c.held_in.result)
 waits c = rw c.held_in.ensures
 
-returns : tie.Need-returns
+returns : tie.Need-returns-in-StartRed
 unfolding vehicle_colour
-returns c = rw c.enum_told.given.1
+returns c = rw c.enum_told-1.given.1
 
-returns-2 : tie.Need-returns-2
+returns-2 : tie.Need-returns-then-group-held_in
 unfolding vehicle_colour
-returns-2 c = rw c.before.before.before.enum-told2.given.1 (chosen green (waits c.before ∙ c.if1.true) refl)
+returns-2 c = rw c.before.before.before.enum_told-in-LateStart-1.given.1 (chosen green (waits c.before ∙ c.if-group-held_in.true) refl)
 
-returns-3 : tie.Need-returns-3
+returns-3 : tie.Need-returns-else-group-held_in
 unfolding vehicle_colour
-returns-3 c = rw c.before.before.before.enum-told2.given.1 (passed-by red (waits c.before ∙ c.if1.false) refl)
+returns-3 c = rw c.before.before.before.enum_told-in-LateStart-1.given.1 (passed-by red (waits c.before ∙ c.if-group-held_in.false) refl)
 
-returns-4 : tie.Need-returns-4
+returns-4 : tie.Need-returns-in-MinimumGreen
 unfolding vehicle_colour
-returns-4 c = rw c.enum-told3.given.1
+returns-4 c = rw c.enum_told-in-MinimumGreen-1.given.1
 
-returns-5 : tie.Need-returns-5
+returns-5 : tie.Need-returns-in-Running
 unfolding vehicle_colour
-returns-5 c = rw c.enum-told4.given.1
+returns-5 c = rw c.enum_told-in-Running-1.given.1
 
-returns-6 : tie.Need-returns-6
+returns-6 : tie.Need-returns-in-EarlyCutOff
 unfolding vehicle_colour
 returns-6 c =
     let asked = c.before.before in
-    rw (asked.before.enum-told5.given.1, c.of-leaving.ensures, asked.held-in2.ensures)
+    rw (asked.before.enum_told-in-EarlyCutOff-1.given.1, c.of_leaving.ensures, asked.held_in-in-EarlyCutOff.ensures)
 
-returns-7 : tie.Need-returns-7
+returns-7 : tie.Need-returns-in-Yellow
 unfolding vehicle_colour
 returns-7 c =
     let asked = c.before in
-    rw (asked.before.before.enum-told6.given.1, c.of-leaving2.ensures, asked.held-in3.ensures)
+    rw (asked.before.before.enum_told-in-Yellow-1.given.1, c.of_leaving-in-Yellow.ensures, asked.held_in-in-Yellow.ensures)
 
-returns-8 : tie.Need-returns-8
+returns-8 : tie.Need-returns-in-AllRed
 unfolding vehicle_colour
 returns-8 c =
     let asked = c.before in
-    rw (asked.before.enum-told7.given.1, c.of-leaving3.ensures, asked.held-in4.ensures)
+    rw (asked.before.enum_told-in-AllRed-1.given.1, c.of_leaving-in-AllRed.ensures, asked.held_in-in-AllRed.ensures)
 
-pub vehicle-colour-spec : {M : Type 1} → statement M
-vehicle-colour-spec =
+pub vehicle_colour_spec : {M : Type 1} → statement M
+vehicle_colour_spec =
     tie.close
     (tie.spec
     enum_told

@@ -21,58 +21,58 @@ use Rattle.step_demands_buttons.proofs.Presses.{Pressed, stays, none-pressed, on
 use Rattle.step_demands_buttons.proofs.buttons.press.Statement.{statement}
 use Rattle.step_demands_buttons.proofs.buttons.press.Tie as tie
 
-abbrev invariant-loop : tie.invariant-loop
-invariant-loop buttons inputs movements crossings out₀ phases₀ rest₀ out phases rest = Pressed buttons movements crossings inputs rest out phases
+abbrev invariant-loop-rest : tie.invariant-loop-rest
+invariant-loop-rest buttons inputs movements crossings out₀ phases₀ rest₀ out phases rest = Pressed buttons movements crossings inputs rest out phases
 
-abbrev decreases-loop : tie.decreases-loop
-decreases-loop buttons inputs movements crossings out₀ phases₀ rest₀ out phases rest = rest
+abbrev decreases-loop-rest : tie.decreases-loop-rest
+decreases-loop-rest buttons inputs movements crossings out₀ phases₀ rest₀ out phases rest = rest
 
-loop-holds : tie.Need-loop-init invariant-loop decreases-loop
+loop-holds : tie.Need-loop-rest-init invariant-loop-rest decreases-loop-rest
 loop-holds c = none-pressed c.args.buttons c.args.t2 c.args.t3 c.args.inputs c.ranges.buttons.fits
 
 -- the button of a turn is one of the eight
-own-within : (c : tie.In-loop invariant-loop decreases-loop) → count_trailing_zeros 64 c.before.loop.rest < 8
-own-within c = turn-within c.before.loop.invariant.keeps (omega (arith, c.loop-test.true)) (omega arith)
+own-within : (c : tie.In-loop-rest invariant-loop-rest decreases-loop-rest) → count_trailing_zeros 64 c.before.loop-rest.rest < 8
+own-within c = turn-within c.before.loop-rest.invariant.keeps (omega (arith, c.loop-rest-test.true)) (omega arith)
 
-cast-k : tie.Need-overflow-cast-k invariant-loop decreases-loop
+cast-k : tie.Need-overflow_cast-k invariant-loop-rest decreases-loop-rest
 cast-k c = omega (arith, own-within c)
 
-cast-i : tie.Need-overflow-cast-i invariant-loop decreases-loop
+cast-i : tie.Need-overflow_cast-i invariant-loop-rest decreases-loop-rest
 cast-i c = omega (arith, own-within c)
 
-mul-movement : tie.Need-overflow-mul-movement invariant-loop decreases-loop
+mul-movement : tie.Need-offset_bounds-movements-i invariant-loop-rest decreases-loop-rest
 mul-movement c = omega (arith, own-within c)
 
-array-copy-out-movement : tie.Need-array-copy-out-movement invariant-loop decreases-loop
+array-copy-out-movement : tie.Need-bounds-movements-i invariant-loop-rest decreases-loop-rest
 array-copy-out-movement c = own-within c
 
-dropped-requires : tie.Need-dropped-requires invariant-loop decreases-loop
+dropped-requires : tie.Need-dropped-requires invariant-loop-rest decreases-loop-rest
 dropped-requires c κs = search rules
 
-with-requires : tie.Need-with-requires invariant-loop decreases-loop
+with-requires : tie.Need-with-out-requires invariant-loop-rest decreases-loop-rest
 with-requires c κs = own-within c.before.before.before
 
-array-read-phases : tie.Need-array-read-phases invariant-loop decreases-loop
+array-read-phases : tie.Need-bounds-crossings-i invariant-loop-rest decreases-loop-rest
 array-read-phases c = own-within c.before.before.before.before
 
-sub-rest : tie.Need-overflow-sub-rest invariant-loop decreases-loop
+sub-rest : tie.Need-overflow_sub-rest invariant-loop-rest decreases-loop-rest
 sub-rest c = search rules
 
-loop-less : tie.Need-loop-smaller invariant-loop decreases-loop
+loop-less : tie.Need-loop-rest-smaller invariant-loop-rest decreases-loop-rest
 loop-less c =
     let turn = c.before.before.before in
-    left_less turn.before.loop.invariant.keeps.left (omega (arith, turn.loop-test.true)) (omega arith)
+    left_less turn.before.loop-rest.invariant.keeps.left (omega (arith, turn.loop-rest-test.true)) (omega arith)
 
-loop-again : tie.Need-loop-preserved invariant-loop decreases-loop
+loop-again : tie.Need-loop-rest-preserved invariant-loop-rest decreases-loop-rest
 loop-again c =
     let dropped = c.before in
     let turn = dropped.before.before in
-    let at = turn.before.loop in
+    let at = turn.before.loop-rest in
     let start = turn.before.before in
     let a = start.args in
     let k = count_trailing_zeros 64 at.rest in
-    let some : 0 < at.rest = omega (arith, turn.loop-test.true) in
-    let inside : k < length a.t2 = omega (arith, own-within turn, start.well-formed.1.0.1.0.1) in
+    let some : 0 < at.rest = omega (arith, turn.loop-rest-test.true) in
+    let inside : k < length a.t2 = omega (arith, own-within turn, start.well_formed.1.0.1.0.1) in
     let byte : Fits w8 (get_or a.t3 k 0) = search rules in
     let own : not dropped.dropped.result ≡ stays a.t2 k =
     ap not
@@ -80,17 +80,17 @@ loop-again c =
     ⊎_elim
     (λ w. rw (w.2, w.3, w.1.ensures) (one-pressed at.invariant some byte.fits (sym own ∙ w.0.taken)))
     (λ w. rw (w.1, w.2) (one-dropped at.invariant some (sym own ∙ w.0.left)))
-    c.if1.branch
+    c.if-not-dropped.branch
 
-returns : tie.Need-returns invariant-loop decreases-loop
-returns c = (all-pressed c.before.loop.invariant c.loop-test.false, all-kept c.before.loop.invariant c.loop-test.false)
+returns : tie.Need-returns invariant-loop-rest decreases-loop-rest
+returns c = (all-pressed c.before.loop-rest.invariant c.loop-rest-test.false, all-kept c.before.loop-rest.invariant c.loop-rest-test.false)
 
-pub press-spec : {M : Type 1} → statement M
-press-spec =
+pub press_spec : {M : Type 1} → statement M
+press_spec =
     tie.close
     (tie.spec
-    invariant-loop
-    decreases-loop
+    invariant-loop-rest
+    decreases-loop-rest
     loop-holds
     cast-k
     cast-i

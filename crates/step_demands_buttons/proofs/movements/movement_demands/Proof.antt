@@ -21,59 +21,59 @@ use Rattle.step_demands_buttons.proofs.movements.movement_demands.Tie as tie
 abbrev every : ℕ → Bool
 every k = true
 
-abbrev invariant-loop : tie.invariant-loop
-invariant-loop buttons count crossings rest₀ set₀ rest set = Crossed crossings (firsts count buttons) count every rest set
+abbrev invariant-loop-rest : tie.invariant-loop-rest
+invariant-loop-rest buttons count crossings rest₀ set₀ rest set = Crossed crossings (firsts count buttons) count every rest set
 
-abbrev decreases-loop : tie.decreases-loop
-decreases-loop buttons count crossings rest₀ set₀ rest set = rest
+abbrev decreases-loop-rest : tie.decreases-loop-rest
+decreases-loop-rest buttons count crossings rest₀ set₀ rest set = rest
 
-shl-rest : tie.Need-overflow-shl-rest invariant-loop decreases-loop
+shl-rest : tie.Need-overflow_shl-rest invariant-loop-rest decreases-loop-rest
 shl-rest c = search rules
 
-rem-rest : tie.Need-nonzero-rem-rest invariant-loop decreases-loop
+rem-rest : tie.Need-nonzero_rem-rest invariant-loop-rest decreases-loop-rest
 rem-rest c = shifted-some 64 c.args.count (omega (arith, c.requires))
 
-loop-holds : tie.Need-loop-init invariant-loop decreases-loop
+loop-holds : tie.Need-loop-rest-init invariant-loop-rest decreases-loop-rest
 loop-holds c =
     none-crossed c.args.t1 (firsts c.args.count c.args.buttons) c.args.count every
     (firsts-within c.args.count c.args.buttons (omega (arith, c.requires)))
 
 -- the movement of a turn is one of the first count
-own-within : (c : tie.In-loop invariant-loop decreases-loop) → count_trailing_zeros 64 c.before.loop.rest < c.before.before.args.count
-own-within c = turn-within c.before.loop.invariant (omega (arith, c.loop-test.true)) (omega (arith, c.before.before.requires))
+own-within : (c : tie.In-loop-rest invariant-loop-rest decreases-loop-rest) → count_trailing_zeros 64 c.before.loop-rest.rest < c.before.before.args.count
+own-within c = turn-within c.before.loop-rest.invariant (omega (arith, c.loop-rest-test.true)) (omega (arith, c.before.before.requires))
 
-cast-k : tie.Need-overflow-cast-k invariant-loop decreases-loop
+cast-k : tie.Need-overflow_cast-k invariant-loop-rest decreases-loop-rest
 cast-k c = omega (arith, own-within c)
 
-array-read-set : tie.Need-array-read-set invariant-loop decreases-loop
+array-read-set : tie.Need-bounds-crossings-k invariant-loop-rest decreases-loop-rest
 array-read-set c = omega (arith, own-within c, c.before.before.requires)
 
-sub-rest : tie.Need-overflow-sub-rest invariant-loop decreases-loop
+sub-rest : tie.Need-overflow_sub-rest invariant-loop-rest decreases-loop-rest
 sub-rest c = search rules
 
-loop-less : tie.Need-loop-smaller invariant-loop decreases-loop
-loop-less c = left_less c.before.loop.invariant.left (omega (arith, c.loop-test.true)) (omega (arith, c.before.before.requires))
+loop-less : tie.Need-loop-rest-smaller invariant-loop-rest decreases-loop-rest
+loop-less c = left_less c.before.loop-rest.invariant.left (omega (arith, c.loop-rest-test.true)) (omega (arith, c.before.before.requires))
 
-loop-again : tie.Need-loop-preserved invariant-loop decreases-loop
+loop-again : tie.Need-loop-rest-preserved invariant-loop-rest decreases-loop-rest
 loop-again c =
     let start = c.before.before in
-    let byte : Fits w8 (get_or start.args.t1 (count_trailing_zeros 64 c.before.loop.rest) 0) = search rules in
-    one-crossed c.before.loop.invariant (omega (arith, c.loop-test.true)) (omega (arith, start.requires)) byte.fits refl
+    let byte : Fits w8 (get_or start.args.t1 (count_trailing_zeros 64 c.before.loop-rest.rest) 0) = search rules in
+    one-crossed c.before.loop-rest.invariant (omega (arith, c.loop-rest-test.true)) (omega (arith, start.requires)) byte.fits refl
 
-returns : tie.Need-returns invariant-loop decreases-loop
+returns : tie.Need-returns invariant-loop-rest decreases-loop-rest
 unfolding movement_demands
 returns c =
     let start = c.before.before in
     let a = start.args in
-    all-crossed c.before.loop.invariant c.loop-test.false (λ k. bit k a.buttons)
+    all-crossed c.before.loop-rest.invariant c.loop-rest-test.false (λ k. bit k a.buttons)
     (λ k l. and-true (bit k (firsts a.count a.buttons)) ∙ firsts-bit a.count a.buttons (omega (arith, start.requires)) k l)
 
-pub movement-demands-spec : {M : Type 1} → statement M
-movement-demands-spec =
+pub movement_demands_spec : {M : Type 1} → statement M
+movement_demands_spec =
     tie.close
     (tie.spec
-    invariant-loop
-    decreases-loop
+    invariant-loop-rest
+    decreases-loop-rest
     shl-rest
     rem-rest
     loop-holds

@@ -11,7 +11,7 @@ returns : tie.Need-returns
 unfolding stands
 returns c =
     let locks = c.before.before.args.demands.locks in
-    union-told (λ p. bit p locks) _ locks _ (self-told locks (omega arith)) c.before.movement-demands.ensures
+    union-told (λ p. bit p locks) _ locks _ (self-told locks (omega arith)) c.before.movement_demands.ensures
 
-pub stands-spec : {M : Type 1} → statement M
-stands-spec = tie.close (tie.spec (λ c κs. search rules) returns)
+pub stands_spec : {M : Type 1} → statement M
+stands_spec = tie.close (tie.spec (λ c κs. search rules) returns)

@@ -4,14 +4,14 @@ use Rattle.rules.specs.Interval.{counts_changed}
 use Rattle.step_interval.proofs.changes.counts_changed.Statement.{statement}
 use Rattle.step_interval.proofs.changes.counts_changed.Tie as tie
 
-returns : tie.Need-returns
+returns : tie.Need-returns-then-ended
 unfolding counts_changed
-returns c = rw (c.counts-entering.ensures, c.before.phase-times.ensures, c.before.before.counts-leaving.ensures, c.before.before.before.if1.true)
+returns c = rw (c.counts_entering.ensures, c.before.phase_times.ensures, c.before.before.counts_leaving-left.ensures, c.before.before.before.if-ended.true)
 
-returns-2 : tie.Need-returns-2
+returns-2 : tie.Need-returns
 unfolding counts_changed
-returns-2 c = rw c.if1.false
+returns-2 c = rw c.if-ended.false
 
-pub counts-changed-spec : {M : Type 1} → statement M
-counts-changed-spec =
+pub counts_changed_spec : {M : Type 1} → statement M
+counts_changed_spec =
     tie.close (tie.spec (λ c κs. search rules) (λ c κs. search rules) (λ c κs. search rules) returns returns-2)

@@ -5,24 +5,24 @@ use Rattle.rules.specs.Interval.{counts_entering}
 use Rattle.step_interval.proofs.changes.counts_entering.Statement.{statement}
 use Rattle.step_interval.proofs.changes.counts_entering.Tie as tie
 
-returns : tie.Need-returns
+returns : tie.Need-returns-then-is_running
 unfolding counts_entering
 returns c =
     let gap = c.before.before in
     ⊎_elim
-    (λ w. rw (w.1, ← gap.before.is-minimum-green.ensures, w.0.taken, ← c.before.is-running.ensures, c.if2.true))
-    (λ w. rw (w.1, ← gap.before.is-minimum-green.ensures, w.0.left, ← c.before.is-running.ensures, c.if2.true))
-    gap.if1.branch
+    (λ w. rw (w.1, ← gap.before.is_minimum_green.ensures, w.0.taken, ← c.before.is_running.ensures, c.if-is_running.true))
+    (λ w. rw (w.1, ← gap.before.is_minimum_green.ensures, w.0.left, ← c.before.is_running.ensures, c.if-is_running.true))
+    gap.if-is_minimum_green.branch
 
-returns-2 : tie.Need-returns-2
+returns-2 : tie.Need-returns-else-is_running
 unfolding counts_entering
 returns-2 c =
     let gap = c.before.before in
     ⊎_elim
-    (λ w. rw (w.1, ← gap.before.is-minimum-green.ensures, w.0.taken, ← c.before.is-running.ensures, c.if2.false))
-    (λ w. rw (w.1, ← gap.before.is-minimum-green.ensures, w.0.left, ← c.before.is-running.ensures, c.if2.false))
-    gap.if1.branch
+    (λ w. rw (w.1, ← gap.before.is_minimum_green.ensures, w.0.taken, ← c.before.is_running.ensures, c.if-is_running.false))
+    (λ w. rw (w.1, ← gap.before.is_minimum_green.ensures, w.0.left, ← c.before.is_running.ensures, c.if-is_running.false))
+    gap.if-is_minimum_green.branch
 
-pub counts-entering-spec : {M : Type 1} → statement M
-counts-entering-spec =
+pub counts_entering_spec : {M : Type 1} → statement M
+counts_entering_spec =
     tie.close (tie.spec (λ c κs. search rules) (λ c κs. search rules) returns returns-2)

@@ -4,13 +4,13 @@ use Rattle.rules.specs.Interval.{counts_leaving}
 use Rattle.step_interval.proofs.changes.counts_leaving.Statement.{statement}
 use Rattle.step_interval.proofs.changes.counts_leaving.Tie as tie
 
-returns : tie.Need-returns
+returns : tie.Need-returns-then-is_leaving-is_before_start
 unfolding counts_leaving
-returns c = rw (← c.before.is-before-start.ensures, ← c.before.before.is-leaving.ensures, c.if1.true)
+returns c = rw (← c.before.is_before_start.ensures, ← c.before.before.is_leaving.ensures, c.if-is_leaving-is_before_start.true)
 
-returns-2 : tie.Need-returns-2
+returns-2 : tie.Need-returns
 unfolding counts_leaving
-returns-2 c = rw (← c.before.is-before-start.ensures, ← c.before.before.is-leaving.ensures, c.if1.false)
+returns-2 c = rw (← c.before.is_before_start.ensures, ← c.before.before.is_leaving.ensures, c.if-is_leaving-is_before_start.false)
 
-pub counts-leaving-spec : {M : Type 1} → statement M
-counts-leaving-spec = tie.close (tie.spec (λ c κs. search rules) (λ c κs. search rules) returns returns-2)
+pub counts_leaving_spec : {M : Type 1} → statement M
+counts_leaving_spec = tie.close (tie.spec (λ c κs. search rules) (λ c κs. search rules) returns returns-2)

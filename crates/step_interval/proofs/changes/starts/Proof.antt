@@ -6,7 +6,7 @@ use Rattle.step_interval.proofs.changes.starts.Tie as tie
 
 returns : tie.Need-returns
 unfolding starts
-returns c = rw c.is-before-start.ensures
+returns c = rw c.is_before_start.ensures
 
-pub starts-spec : {M : Type 1} → statement M
-starts-spec = tie.close (tie.spec (λ c κs. search rules) returns)
+pub starts_spec : {M : Type 1} → statement M
+starts_spec = tie.close (tie.spec (λ c κs. search rules) returns)

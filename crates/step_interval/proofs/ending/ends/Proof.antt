@@ -10,64 +10,64 @@ use Rattle.step_interval.proofs.Some.{goes_on, goes-by-movements}
 use Rattle.step_interval.proofs.ending.ends.Statement.{statement}
 use Rattle.step_interval.proofs.ending.ends.Tie as tie
 
-enum_told : tie.Need-enum-told
+enum_told : tie.Need-enum_told-1
 enum_told c = search rules
 
-returns : tie.Need-returns
+returns : tie.Need-returns-then-not-another-due
 unfolding ends
 returns c =
     let told = c.before.before.before.before in
     let a = told.before.before.args in
-    rw told.enum-told4.given.1
-    (goes_on a.another (some_movement is_walk_or_first a.movements) (eqb a.counted.gap 0 || eqb a.counted.maximum a.times.maximum) c.if1.true)
+    rw told.enum_told-in-Running-1.given.1
+    (goes_on a.another (some_movement is_walk_or_first a.movements) (eqb a.counted.gap 0 || eqb a.counted.maximum a.times.maximum) c.if-not-another-due.true)
 
-returns-2 : tie.Need-returns-2
+returns-2 : tie.Need-returns-then-age-times
 unfolding ends
 returns-2 c =
     let told = c.before.before in
     let a = told.before.before.args in
-    rw (told.enum-told7.given.1, lt-leb a.times.red a.age c.if2.true)
+    rw (told.enum_told-in-AllRed-1.given.1, lt-leb a.times.red a.age c.if-age-times.true)
 
-returns-3 : tie.Need-returns-3
+returns-3 : tie.Need-returns-in-StartRed
 unfolding ends
-returns-3 c = rw c.enum_told.given.1
+returns-3 c = rw c.enum_told-1.given.1
 
-returns-4 : tie.Need-returns-4
+returns-4 : tie.Need-returns-in-LateStart
 unfolding ends
-returns-4 c = rw c.before.enum-told2.given.1
+returns-4 c = rw c.before.enum_told-in-LateStart-1.given.1
 
-returns-5 : tie.Need-returns-5
+returns-5 : tie.Need-returns-in-MinimumGreen
 unfolding ends
-returns-5 c = rw c.before.enum-told3.given.1
+returns-5 c = rw c.before.enum_told-in-MinimumGreen-1.given.1
 
-returns-6 : tie.Need-returns-6
+returns-6 : tie.Need-returns-else-not-another-due
 unfolding ends
 returns-6 c =
     let asked = c.before.before in
     let told = asked.before.before.before.before in
     let a = told.before.before.args in
-    ap not c.before.under-way.ensures.0
-    ∙ rw told.enum-told4.given.1
-    (goes-by-movements a.another (some_movement is_walk_or_first a.movements) (eqb a.counted.gap 0 || eqb a.counted.maximum a.times.maximum) asked.if1.false)
+    ap not c.before.under_way-now.ensures.0
+    ∙ rw told.enum_told-in-Running-1.given.1
+    (goes-by-movements a.another (some_movement is_walk_or_first a.movements) (eqb a.counted.gap 0 || eqb a.counted.maximum a.times.maximum) asked.if-not-another-due.false)
 
-returns-7 : tie.Need-returns-7
+returns-7 : tie.Need-returns-in-EarlyCutOff
 unfolding ends
-returns-7 c = rw c.before.enum-told5.given.1
+returns-7 c = rw c.before.enum_told-in-EarlyCutOff-1.given.1
 
-returns-8 : tie.Need-returns-8
+returns-8 : tie.Need-returns-in-Yellow
 unfolding ends
-returns-8 c = rw c.before.enum-told6.given.1
+returns-8 c = rw c.before.enum_told-in-Yellow-1.given.1
 
-returns-9 : tie.Need-returns-9
+returns-9 : tie.Need-returns-else-age-times
 unfolding ends
 returns-9 c =
     let asked = c.before.before in
     let told = asked.before.before in
     let a = told.before.before.args in
-    ap not c.before.under-way2.ensures.1 ∙ rw (told.enum-told7.given.1, le-leb a.times.red a.age asked.if2.false)
+    ap not c.before.under_way-now-in-AllRed.ensures.1 ∙ rw (told.enum_told-in-AllRed-1.given.1, le-leb a.times.red a.age asked.if-age-times.false)
 
-pub ends-spec : {M : Type 1} → statement M
-ends-spec =
+pub ends_spec : {M : Type 1} → statement M
+ends_spec =
     tie.close
     (tie.spec
     enum_told

@@ -22,60 +22,60 @@ use Rattle.step_interval.proofs.ending.under_way.Tie as tie
 abbrev at : (Stage → Bool) → List Movement → ℕ → Bool
 at test movements k = test (get_or movements k idle).stage
 
-abbrev invariant-loop : tie.invariant-loop
-invariant-loop count movements n walking₀ clearing₀ k₀ walking clearing k = (k ≤ n) × (walking ≡ any_of (at is_walk_or_first movements) k) × (clearing ≡ any_of (at is_second movements) k)
+abbrev invariant-loop-k : tie.invariant-loop-k
+invariant-loop-k count movements n walking₀ clearing₀ k₀ walking clearing k = (k ≤ n) × (walking ≡ any_of (at is_walk_or_first movements) k) × (clearing ≡ any_of (at is_second movements) k)
 
-abbrev decreases-loop : tie.decreases-loop
-decreases-loop count movements n walking₀ clearing₀ k₀ walking clearing k = n - k
+abbrev decreases-loop-k : tie.decreases-loop-k
+decreases-loop-k count movements n walking₀ clearing₀ k₀ walking clearing k = n - k
 
-loop-holds : tie.Need-loop-init invariant-loop decreases-loop
+loop-holds : tie.Need-loop-k-init invariant-loop-k decreases-loop-k
 loop-holds c = (search rules, none_passes _, none_passes _)
 
-mul-movement : tie.Need-overflow-mul-movement invariant-loop decreases-loop
+mul-movement : tie.Need-offset_bounds-movements-k invariant-loop-k decreases-loop-k
 mul-movement c = search rules
 
-array-copy-out-movement : tie.Need-array-copy-out-movement invariant-loop decreases-loop
+array-copy-out-movement : tie.Need-bounds-movements-k invariant-loop-k decreases-loop-k
 array-copy-out-movement c = search rules
 
-is-walk-or-first-requires : tie.Need-is-walk-or-first-requires invariant-loop decreases-loop
+is-walk-or-first-requires : tie.Need-is_walk_or_first-walking-requires invariant-loop-k decreases-loop-k
 is-walk-or-first-requires c κs = search rules
 
-is-second-requires : tie.Need-is-second-requires invariant-loop decreases-loop
+is-second-requires : tie.Need-is_second-clearing-requires invariant-loop-k decreases-loop-k
 is-second-requires c κs = search rules
 
-add-k : tie.Need-overflow-add-k invariant-loop decreases-loop
+add-k : tie.Need-overflow_add-k invariant-loop-k decreases-loop-k
 add-k c = search rules
 
-loop-less : tie.Need-loop-smaller invariant-loop decreases-loop
+loop-less : tie.Need-loop-k-smaller invariant-loop-k decreases-loop-k
 loop-less c = search rules
 
-loop-again : tie.Need-loop-preserved invariant-loop decreases-loop
+loop-again : tie.Need-loop-k-preserved invariant-loop-k decreases-loop-k
 loop-again c =
     let here = c.before.before.before.before in
     let list = here.before.args.t1 in
-    let k = here.loop.k in
-    let inside : k < length list = omega (arith, here.before.well-formed.0.1.0.1, here.before.requires.room) in
+    let k = here.loop-k.k in
+    let inside : k < length list = omega (arith, here.before.well_formed.0.1.0.1, here.before.requires.room) in
     let entry = ap (λ (m : Movement). m.stage) (entry-same list k (record { stage = Idle; age = 0 }) idle inside) in (
       search rules,
-      one_more (at is_walk_or_first list) k here.loop.invariant.1 (c.before.is-walk-or-first.ensures ∙ ap is_walk_or_first entry),
-      one_more (at is_second list) k here.loop.invariant.2 (c.is-second.ensures ∙ ap is_second entry),
+      one_more (at is_walk_or_first list) k here.loop-k.invariant.1 (c.before.is_walk_or_first-walking.ensures ∙ ap is_walk_or_first entry),
+      one_more (at is_second list) k here.loop-k.invariant.2 (c.is_second-clearing.ensures ∙ ap is_second entry),
     )
 
-returns : tie.Need-returns invariant-loop decreases-loop
+returns : tie.Need-returns invariant-loop-k decreases-loop-k
 returns c =
     let here = c.before in
     let a = here.before.args in
-    let last : here.loop.k ≡ a.count = omega arith in (
-      rw last at here.loop.invariant.1 ∙ some-counted is_walk_or_first a.t1 a.count here.before.requires refl,
-      rw last at here.loop.invariant.2 ∙ some-counted is_second a.t1 a.count here.before.requires refl,
+    let last : here.loop-k.k ≡ a.count = omega arith in (
+      rw last at here.loop-k.invariant.1 ∙ some-counted is_walk_or_first a.t1 a.count here.before.requires refl,
+      rw last at here.loop-k.invariant.2 ∙ some-counted is_second a.t1 a.count here.before.requires refl,
     )
 
-pub under-way-spec : {M : Type 1} → statement M
-under-way-spec =
+pub under_way_spec : {M : Type 1} → statement M
+under_way_spec =
     tie.close
     (tie.spec
-    invariant-loop
-    decreases-loop
+    invariant-loop-k
+    decreases-loop-k
     loop-holds
     mul-movement
     array-copy-out-movement

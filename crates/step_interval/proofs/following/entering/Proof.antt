@@ -8,5 +8,5 @@ returns : tie.Need-returns
 unfolding entering
 returns c = refl
 
-pub entering-spec : {M : Type 1} → statement M
-entering-spec = tie.close (tie.spec returns)
+pub entering_spec : {M : Type 1} → statement M
+entering_spec = tie.close (tie.spec returns)

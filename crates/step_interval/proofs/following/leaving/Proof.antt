@@ -6,13 +6,13 @@ use Rattle.rules.specs.Interval.{leaving}
 use Rattle.step_interval.proofs.following.leaving.Statement.{statement}
 use Rattle.step_interval.proofs.following.leaving.Tie as tie
 
-returns : tie.Need-returns
+returns : tie.Need-returns-then-own-eq0
 unfolding leaving
-returns c = rw (c.entering.ensures, sym c.before.before.before.phase-times.ensures, eq-eqb _ 0 c.before.if1.true)
+returns c = rw (c.entering.ensures, sym c.before.before.before.phase_times-own.ensures, eq-eqb _ 0 c.before.if-own-eq0.true)
 
-returns-2 : tie.Need-returns-2
+returns-2 : tie.Need-returns
 unfolding leaving
-returns-2 c = rw (c.entering2.ensures, sym c.before.before.before.phase-times.ensures, ne_eqb _ 0 c.before.if1.false)
+returns-2 c = rw (c.entering-2.ensures, sym c.before.before.before.phase_times-own.ensures, ne_eqb _ 0 c.before.if-own-eq0.false)
 
-pub leaving-spec : {M : Type 1} → statement M
-leaving-spec = tie.close (tie.spec (λ c κs. search rules) (λ c κs. search rules) returns (λ c κs. search rules) returns-2)
+pub leaving_spec : {M : Type 1} → statement M
+leaving_spec = tie.close (tie.spec (λ c κs. search rules) (λ c κs. search rules) returns (λ c κs. search rules) returns-2)

@@ -4,13 +4,13 @@ use Rattle.rules.specs.Interval.{position_after}
 use Rattle.step_interval.proofs.following.position_after.Statement.{statement}
 use Rattle.step_interval.proofs.following.position_after.Tie as tie
 
-returns : tie.Need-returns
+returns : tie.Need-returns-then-ended
 unfolding position_after
-returns c = rw (c.following.ensures, c.before.if1.true)
+returns c = rw (c.following.ensures, c.before.if-ended.true)
 
-returns-2 : tie.Need-returns-2
+returns-2 : tie.Need-returns
 unfolding position_after
-returns-2 c = rw (c.staying.ensures, c.before.if1.false)
+returns-2 c = rw (c.staying.ensures, c.before.if-ended.false)
 
-pub position-after-spec : {M : Type 1} → statement M
-position-after-spec = tie.close (tie.spec (λ c κs. search rules) returns (λ c κs. search rules) returns-2)
+pub position_after_spec : {M : Type 1} → statement M
+position_after_spec = tie.close (tie.spec (λ c κs. search rules) returns (λ c κs. search rules) returns-2)

@@ -6,13 +6,13 @@ use Rattle.rules.specs.Interval.{starting}
 use Rattle.step_interval.proofs.following.starting.Statement.{statement}
 use Rattle.step_interval.proofs.following.starting.Tie as tie
 
-returns : tie.Need-returns
+returns : tie.Need-returns-then-own-eq0
 unfolding starting
-returns c = rw (sym c.before.before.phase-times.ensures, eq-eqb _ 0 c.if1.true)
+returns c = rw (sym c.before.before.phase_times-own.ensures, eq-eqb _ 0 c.if-own-eq0.true)
 
-returns-2 : tie.Need-returns-2
+returns-2 : tie.Need-returns
 unfolding starting
-returns-2 c = rw (sym c.before.before.phase-times.ensures, ne_eqb _ 0 c.if1.false)
+returns-2 c = rw (sym c.before.before.phase_times-own.ensures, ne_eqb _ 0 c.if-own-eq0.false)
 
-pub starting-spec : {M : Type 1} → statement M
-starting-spec = tie.close (tie.spec (λ c κs. search rules) returns returns-2)
+pub starting_spec : {M : Type 1} → statement M
+starting_spec = tie.close (tie.spec (λ c κs. search rules) returns returns-2)

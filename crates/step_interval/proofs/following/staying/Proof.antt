@@ -8,5 +8,5 @@ returns : tie.Need-returns
 unfolding staying
 returns c = rw c.older.ensures
 
-pub staying-spec : {M : Type 1} → statement M
-staying-spec = tie.close (tie.spec (λ c κs. search rules) returns)
+pub staying_spec : {M : Type 1} → statement M
+staying_spec = tie.close (tie.spec (λ c κs. search rules) returns)
