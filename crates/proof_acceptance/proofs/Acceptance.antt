@@ -27,7 +27,7 @@ use Rattle.laws.proofs.Counting.{IthPassing, indices-at, count-before, count-apa
 use Rattle.laws.proofs.Bits.{bit_below}
 use Rattle.rules.proofs.Settings.{table-is-usable, zero-allowed}
 use Rattle.proof_acceptance.proofs.Sections.{PhasesAccepted, GroupsAccepted, ConflictsAccepted, PedestriansAccepted, EarlyAccepted, OrderAccepted, SectionsAccepted, sections-accepted}
-use Rattle.proof_acceptance.proofs.Entries.{phase-times-at, phase-times-past, walk-times-at, order-at, group_at, group-past, in-phase-at, in-phase-past, pedestrian-at, conflict-at, conflict-past, detector-at, crosses-at, crosses-past, movement-at}
+use Rattle.proof_acceptance.proofs.Entries.{phase-times-at, phase-times-past, walk-times-at, order-at, group-at, group-past, in-phase-at, in-phase-past, pedestrian-at, conflict-at, conflict-past, detector-at, crosses-at, crosses-past, movement-at}
 
 -- ── Times ──
 
@@ -133,7 +133,7 @@ group-phase b s g p e =
 group-mark : (b : List ℕ) → GroupsAccepted b → (g : ℕ) → (group_of (site_of b).groups g).mark ≤ 3
 group-mark b s g =
     ⊎_elim
-    (λ (l : g < group_count b). subst (λ (x : Group). x.mark ≤ 3) (sym (group_at b g l)) (s.mark g l))
+    (λ (l : g < group_count b). subst (λ (x : Group). x.mark ≤ 3) (sym (group-at b g l)) (s.mark g l))
     (λ (l : group_count b ≤ g). subst (λ (x : Group). x.mark ≤ 3) (sym (group-past b g l)) (omega arith))
     (below-or-past g (group_count b))
 
@@ -146,7 +146,7 @@ no-early-group :
     ⊥
 no-early-group b s g missing e =
     ⊎_elim
-    (λ (l : g < group_count b). s.none_early missing g l (sym (ap (λ (x : Group). x.mark) (group_at b g l)) ∙ e))
+    (λ (l : g < group_count b). s.none_early missing g l (sym (ap (λ (x : Group). x.mark) (group-at b g l)) ∙ e))
     (λ (l : group_count b ≤ g). omega (arith, ap (λ (x : Group). x.mark) (group-past b g l)))
     (below-or-past g (group_count b))
 

@@ -45,9 +45,9 @@ module _ (b : List ℕ) where
   abbrev group_at : ℕ → Group
   group_at g = record { phases = group_set b g; mark = group_mark b g }
 
-  pub group_at : (g : ℕ) → g < group_count b → group_of (site_of b).groups g ≡ group_at g
+  pub group-at : (g : ℕ) → g < group_count b → group_of (site_of b).groups g ≡ group_at g
   unfolding group_of site_of
-  group_at g l = row_at group_at (group_count b) 32 g no_group l
+  group-at g l = row_at group_at (group_count b) 32 g no_group l
 
   pub group-past : (g : ℕ) → group_count b ≤ g → group_of (site_of b).groups g ≡ no_group
   unfolding group_of site_of
@@ -55,7 +55,7 @@ module _ (b : List ℕ) where
 
   pub in-phase-at : (g p : ℕ) → g < group_count b → in_phase (site_of b).groups g p ≡ bit p (group_set b g)
   unfolding in_phase
-  in-phase-at g p l = ap (λ (x : Group). bit p x.phases) (group_at g l)
+  in-phase-at g p l = ap (λ (x : Group). bit p x.phases) (group-at g l)
 
   pub in-phase-past : (g p : ℕ) → group_count b ≤ g → in_phase (site_of b).groups g p ≡ false
   unfolding in_phase
@@ -63,7 +63,7 @@ module _ (b : List ℕ) where
 
   pub pedestrian-at : (g : ℕ) → g < group_count b → is_pedestrian (site_of b).groups g ≡ pedestrian b g
   unfolding is_pedestrian pedestrian
-  pedestrian-at g l = ap (λ (x : Group). eqb x.mark 2) (group_at g l)
+  pedestrian-at g l = ap (λ (x : Group). eqb x.mark 2) (group-at g l)
 
   -- ── Conflicts and detectors ──
 

@@ -11,7 +11,7 @@ unfolding bit
 returns c = refl
 
 returns-2 : tie.Need-returns-else-k-lt32
-returns-2 c = sym (bit-above c.before.args.x 32 c.before.args.k c.before.ranges.x.fits c.if-k-lt32.false)
+returns-2 c = sym (bit-above c.args.x 32 c.args.k c.ranges.x.fits c.if-k-lt32.false)
 
 pub bit32_spec : {M : Type 1} → statement M
 bit32_spec = tie.close (tie.spec (λ c. search rules) (λ c. search rules) returns returns-2)

@@ -11,7 +11,7 @@ unfolding byte_at
 returns c = refl
 
 returns-2 : tie.Need-returns-else-i-s
-returns-2 c = sym (byte_past c.before.args.s.now c.before.args.i c.if-i-s.false)
+returns-2 c = sym (byte_past c.args.s.now c.args.i c.if-i-s.false)
 
 pub byte_at_spec : {M : Type 1} → statement M
 byte_at_spec = tie.close (tie.spec (λ c. search rules) returns returns-2)

@@ -8,10 +8,10 @@ use Rattle.base_bytes.proofs.eight_at.Tie as tie
 
 returns : tie.Need-returns-then-i-s
 unfolding eight_at
-returns c = simp (c.halves.ensures, c.before.four_at-then-i-s.ensures, c.before.before.four_at.ensures)
+returns c = simp (c.halves.ensures, c.four_at-then-i-s.ensures, c.four_at.ensures)
 
 returns-2 : tie.Need-returns-else-i-s
-returns-2 c = sym (eight-past c.before.before.args.s.now c.before.before.args.i c.if-i-s.false)
+returns-2 c = sym (eight-past c.args.s.now c.args.i c.if-i-s.false)
 
 pub eight_at_spec : {M : Type 1} → statement M
 eight_at_spec =

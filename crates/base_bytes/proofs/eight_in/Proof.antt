@@ -6,7 +6,7 @@ use Rattle.base_bytes.proofs.eight_in.Tie as tie
 
 returns : tie.Need-returns
 unfolding eight_at
-returns c = simp (c.halves.ensures, c.before.four_in-2.ensures, c.before.before.four_in.ensures)
+returns c = simp (c.halves.ensures, c.four_in-2.ensures, c.four_in.ensures)
 
 pub eight_in_spec : {M : Type 1} → statement M
 eight_in_spec =

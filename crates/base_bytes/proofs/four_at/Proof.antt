@@ -8,10 +8,10 @@ use Rattle.base_bytes.proofs.four_at.Tie as tie
 
 returns : tie.Need-returns-then-i-s
 unfolding four_at
-returns c = simp (c.quad.ensures, c.before.two_at-then-i-s.ensures, c.before.before.two_at.ensures)
+returns c = simp (c.quad.ensures, c.two_at-then-i-s.ensures, c.two_at.ensures)
 
 returns-2 : tie.Need-returns-else-i-s
-returns-2 c = sym (four-past c.before.before.args.s.now c.before.before.args.i c.if-i-s.false)
+returns-2 c = sym (four-past c.args.s.now c.args.i c.if-i-s.false)
 
 pub four_at_spec : {M : Type 1} → statement M
 four_at_spec =

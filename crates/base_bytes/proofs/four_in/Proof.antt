@@ -6,7 +6,7 @@ use Rattle.base_bytes.proofs.four_in.Tie as tie
 
 returns : tie.Need-returns
 unfolding four_at
-returns c = simp (c.quad.ensures, c.before.two_in-2.ensures, c.before.before.two_in.ensures)
+returns c = simp (c.quad.ensures, c.two_in-2.ensures, c.two_in.ensures)
 
 pub four_in_spec : {M : Type 1} → statement M
 four_in_spec =

@@ -8,10 +8,10 @@ use Rattle.base_bytes.proofs.two_at.Tie as tie
 
 returns : tie.Need-returns-then-i-s
 unfolding two_at byte_at
-returns c = simp (c.pair.ensures, c.before.byte_at.ensures)
+returns c = simp (c.pair.ensures, c.byte_at.ensures)
 
 returns-2 : tie.Need-returns-else-i-s
-returns-2 c = sym (two_past c.before.before.args.s.now c.before.before.args.i c.if-i-s.false)
+returns-2 c = sym (two_past c.args.s.now c.args.i c.if-i-s.false)
 
 pub two_at_spec : {M : Type 1} → statement M
 two_at_spec =

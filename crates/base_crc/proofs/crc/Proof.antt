@@ -33,20 +33,17 @@ shared-slice-read-lowest c = search rules
 abbrev Turn : Type 0
 Turn = tie.After-shared_slice_known-in-loop-i-1 invariant-loop-i decreases-loop-i
 
-abbrev entry : Turn → tie.Start invariant-loop-i decreases-loop-i
-entry c = c.before.before.before.before.before
-
-byte_small : (c : Turn) → get_or (entry c).args.bytes.now c.before.before.loop-i.i 0 < 256
-byte_small c = omega (arith, c.shared_slice_known-in-loop-i-1.given c.before.before.loop-i.i)
+byte_small : (c : Turn) → get_or c.args.bytes.now c.loop-i.i 0 < 256
+byte_small c = omega (arith, c.shared_slice_known-in-loop-i-1.given c.loop-i.i)
 
 cast-register : tie.Need-overflow_cast-register invariant-loop-i decreases-loop-i
-cast-register c = record { fits = omega (arith, lowest-small c.before.before.loop-i.register _ (byte_small c)) }
+cast-register c = record { fits = omega (arith, lowest-small c.loop-i.register _ (byte_small c)) }
 
 mul-register : tie.Need-offset_bounds-table-lowest invariant-loop-i decreases-loop-i
-mul-register c = record { fits = omega (arith, lowest-small c.before.before.loop-i.register _ (byte_small c)) }
+mul-register c = record { fits = omega (arith, lowest-small c.loop-i.register _ (byte_small c)) }
 
 array-read-register : tie.Need-bounds-table-lowest invariant-loop-i decreases-loop-i
-array-read-register c = lowest-small c.before.before.loop-i.register _ (byte_small c)
+array-read-register c = lowest-small c.loop-i.register _ (byte_small c)
 
 add-i : tie.Need-overflow_add-i invariant-loop-i decreases-loop-i
 add-i c = search rules
@@ -56,21 +53,19 @@ loop-less c = search rules
 
 loop-again : tie.Need-loop-i-preserved invariant-loop-i decreases-loop-i
 loop-again c =
-    let head = c.before.before in
-    let bytes = (entry c).args.bytes.now in
-    let byte = get_or bytes head.loop-i.i 0 in
-    let inside : head.loop-i.i < length bytes = omega arith in (
+let bytes = c.args.bytes.now in
+    let byte = get_or bytes c.loop-i.i 0 in
+    let inside : c.loop-i.i < length bytes = omega arith in (
       search rules,
-      by-table head.before.table-table.result head.loop-i.register byte head.before.table-table.ensures (byte_small c)
-          ∙ ap (λ (register : ℕ). taken register byte) head.loop-i.invariant.1
-          ∙ sym (taken-one all_ones bytes head.loop-i.i inside),
+      by-table c.table-table.result c.loop-i.register byte c.table-table.ensures (byte_small c)
+          ∙ ap (λ (register : ℕ). taken register byte) c.loop-i.invariant.1
+          ∙ sym (taken-one all_ones bytes c.loop-i.i inside),
     )
 
 returns : tie.Need-returns invariant-loop-i decreases-loop-i
 unfolding crc
 returns c =
-    let head = c.before in
-    rw (head.loop-i.invariant.1, taken-whole all_ones head.before.before.before.args.bytes.now head.loop-i.i c.loop-i-test.false)
+rw (c.loop-i.invariant.1, taken-whole all_ones c.args.bytes.now c.loop-i.i c.loop-i-test.false)
 
 pub crc_spec : {M : Type 1} → statement M
 crc_spec =

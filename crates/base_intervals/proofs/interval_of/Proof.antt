@@ -5,25 +5,25 @@ use Rattle.base_intervals.proofs.interval_of.Statement.{statement}
 use Rattle.base_intervals.proofs.interval_of.Tie as tie
 
 returns : tie.Need-returns-in-1
-returns c = let e : c.before.args.code ≡ 1 = omega (arith, c.before.requires, c.in-1.keys1) in rw e
+returns c = let e : c.args.code ≡ 1 = omega (arith, c.requires, c.in-1.is) in rw e
 
 returns-2 : tie.Need-returns-in-2
-returns-2 c = let e : c.before.args.code ≡ 2 = omega (arith, c.before.requires, c.in-1.keys2) in rw e
+returns-2 c = let e : c.args.code ≡ 2 = omega (arith, c.requires, c.in-2.is) in rw e
 
 returns-3 : tie.Need-returns-in-3
-returns-3 c = let e : c.before.args.code ≡ 3 = omega (arith, c.before.requires, c.in-1.keys3) in rw e
+returns-3 c = let e : c.args.code ≡ 3 = omega (arith, c.requires, c.in-3.is) in rw e
 
 returns-4 : tie.Need-returns-in-4
-returns-4 c = let e : c.before.args.code ≡ 4 = omega (arith, c.before.requires, c.in-1.keys4) in rw e
+returns-4 c = let e : c.args.code ≡ 4 = omega (arith, c.requires, c.in-4.is) in rw e
 
 returns-5 : tie.Need-returns-in-5
-returns-5 c = let e : c.before.args.code ≡ 5 = omega (arith, c.before.requires, c.in-1.keys5) in rw e
+returns-5 c = let e : c.args.code ≡ 5 = omega (arith, c.requires, c.in-5.is) in rw e
 
 returns-6 : tie.Need-returns-in-6
-returns-6 c = let e : c.before.args.code ≡ 6 = omega (arith, c.before.requires, c.in-1.keys6) in rw e
+returns-6 c = let e : c.args.code ≡ 6 = omega (arith, c.requires, c.in-6.is) in rw e
 
 returns-7 : tie.Need-returns-in_default
-returns-7 c = let e : c.before.args.code ≡ 0 = omega (arith, c.before.requires, c.in-1.rest) in rw e
+returns-7 c = let e : c.args.code ≡ 0 = omega (arith, c.requires, c.in_default.rest) in rw e
 
 pub interval_of_spec : {M : Type 1} → statement M
 interval_of_spec = tie.close (tie.spec returns returns-2 returns-3 returns-4 returns-5 returns-6 returns-7)

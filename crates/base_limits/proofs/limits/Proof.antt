@@ -9,11 +9,11 @@ enum_told c = search rules
 
 returns : tie.Need-returns-in-One
 unfolding limits
-returns c = rw c.enum_told-1.given.1
+returns c = rw c.in-One.is
 
 returns-2 : tie.Need-returns-in-Two
 unfolding limits
-returns-2 c = rw c.enum_told-in-Two-1.given.1
+returns-2 c = rw c.in-Two.is
 
 pub limits_spec : {M : Type 1} → statement M
 limits_spec = tie.close (tie.spec enum_told (λ c. search rules) returns returns-2)

@@ -13,9 +13,9 @@ returns c = refl
 
 returns-2 : tie.Need-returns-else-setting-lt11
 returns-2 c =
-    let a = c.before.args in
-    let eleven = c.before.well_formed.0.1.0.1 in
-    past-the-table a.t1 a.setting a.value (omega arith)
+    let a = c.args in
+    let eleven = c.well_formed.0.1.0.1 in
+    past-the-table a.table a.setting a.value (omega arith)
 
 pub within_spec : {M : Type 1} → statement M
 within_spec = tie.close (tie.spec (λ c. search rules) (λ c. search rules) returns returns-2)

@@ -20,19 +20,19 @@ loop-holds c = refl
 
 add-count : tie.Need-overflow_add-count invariant-loop-rest decreases-loop-rest
 add-count c =
-    let n = c.before.before.args.n in
-    omega (arith, some-digit c.before.loop-rest.rest, at_most 4 n (omega arith))
+    let n = c.args.n in
+    omega (arith, some-digit c.loop-rest.rest, at_most 4 n (omega arith))
 
 loop-less : tie.Need-loop-rest-smaller invariant-loop-rest decreases-loop-rest
 loop-less c = search rules
 
 loop-again : tie.Need-loop-rest-preserved invariant-loop-rest decreases-loop-rest
-loop-again c = omega (arith, length_more c.before.loop-rest.rest (omega arith))
+loop-again c = omega (arith, length_more c.loop-rest.rest (omega arith))
 
 returns : tie.Need-returns invariant-loop-rest decreases-loop-rest
 returns c =
-    let one = length-one c.before.loop-rest.rest (omega arith) in
-    let few = at_most 4 c.before.before.args.n (omega arith) in
+    let one = length-one c.loop-rest.rest (omega arith) in
+    let few = at_most 4 c.args.n (omega arith) in
     (omega arith, omega arith)
 
 pub digit_count_spec : {M : Type 1} → statement M

@@ -20,19 +20,19 @@ loop-holds c = refl
 
 add-digits : tie.Need-overflow_add-digits invariant-loop-left decreases-loop-left
 add-digits c =
-    let n = c.before.before.args.n in
-    omega (arith, some-digit c.before.loop-left.left, at_most 19 n (omega arith))
+    let n = c.args.n in
+    omega (arith, some-digit c.loop-left.left, at_most 19 n (omega arith))
 
 loop-less : tie.Need-loop-left-smaller invariant-loop-left decreases-loop-left
 loop-less c = search rules
 
 loop-again : tie.Need-loop-left-preserved invariant-loop-left decreases-loop-left
-loop-again c = omega (arith, length_more c.before.loop-left.left (omega arith))
+loop-again c = omega (arith, length_more c.loop-left.left (omega arith))
 
 returns : tie.Need-returns invariant-loop-left decreases-loop-left
 returns c =
-    let one = length-one c.before.loop-left.left (omega arith) in
-    let few = at_most 19 c.before.before.args.n (omega arith) in
+    let one = length-one c.loop-left.left (omega arith) in
+    let few = at_most 19 c.args.n (omega arith) in
     (omega arith, omega arith)
 
 pub long_digit_count_spec : {M : Type 1} → statement M

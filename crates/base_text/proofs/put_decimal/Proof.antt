@@ -28,11 +28,11 @@ add-end : tie.Need-overflow_add-end invariant-loop-rest decreases-loop-rest
 add-end c = search rules
 
 sub-i : tie.Need-overflow_sub-i invariant-loop-rest decreases-loop-rest
-sub-i c = omega (arith, some-digit c.before.before.args.n)
+sub-i c = omega (arith, some-digit c.args.n)
 
 loop-holds : tie.Need-loop-rest-init invariant-loop-rest decreases-loop-rest
 loop-holds c =
-    let some = some-digit c.before.before.args.n in
+    let some = some-digit c.args.n in
     (omega arith, omega arith, omega arith, refl)
 
 cast-out : tie.Need-overflow_cast-out invariant-loop-rest decreases-loop-rest
@@ -47,7 +47,7 @@ slice-write-out c = search rules
 -- past the last digit there is another one
 sub-i-2 : tie.Need-overflow_sub-i-in-loop-rest invariant-loop-rest decreases-loop-rest
 sub-i-2 c =
-    let rest = c.before.loop-rest.rest in
+    let rest = c.loop-rest.rest in
     omega (arith, length_more rest (omega arith), some-digit (rest / 10))
 
 loop-less : tie.Need-loop-rest-smaller invariant-loop-rest decreases-loop-rest
@@ -55,8 +55,8 @@ loop-less c = search rules
 
 loop-again : tie.Need-loop-rest-preserved invariant-loop-rest decreases-loop-rest
 loop-again c =
-    let a = c.before.before.before.before.args in
-    let at = c.before.loop-rest in
+    let a = c.args in
+    let at = c.loop-rest in
     let front = decimal (at.rest / 10) in
     let last = 48 + at.rest % 10 in
     let more = length_more at.rest (omega arith) in
@@ -85,8 +85,8 @@ same_length c = simp length-set (omega arith)
 
 returns : tie.Need-returns invariant-loop-rest decreases-loop-rest
 returns c =
-    let a = c.before.before.before.before.args in
-    let at = c.before.loop-rest in
+    let a = c.args in
+    let at = c.loop-rest in
     let one = length-one at.rest (omega arith) in
     let place : at.i ≡ a.at = omega arith in
     record {

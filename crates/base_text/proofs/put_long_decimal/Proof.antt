@@ -28,11 +28,11 @@ add-end : tie.Need-overflow_add-end invariant-loop-left decreases-loop-left
 add-end c = search rules
 
 sub-i : tie.Need-overflow_sub-i invariant-loop-left decreases-loop-left
-sub-i c = omega (arith, some-digit c.before.before.args.n)
+sub-i c = omega (arith, some-digit c.args.n)
 
 loop-holds : tie.Need-loop-left-init invariant-loop-left decreases-loop-left
 loop-holds c =
-    let some = some-digit c.before.before.args.n in
+    let some = some-digit c.args.n in
     (omega arith, omega arith, omega arith, refl)
 
 cast-out : tie.Need-overflow_cast-out invariant-loop-left decreases-loop-left
@@ -47,7 +47,7 @@ slice-write-out c = search rules
 -- past the last digit there is another one
 sub-i-2 : tie.Need-overflow_sub-i-in-loop-left invariant-loop-left decreases-loop-left
 sub-i-2 c =
-    let left = c.before.loop-left.left in
+    let left = c.loop-left.left in
     omega (arith, length_more left (omega arith), some-digit (left / 10))
 
 loop-less : tie.Need-loop-left-smaller invariant-loop-left decreases-loop-left
@@ -55,8 +55,8 @@ loop-less c = search rules
 
 loop-again : tie.Need-loop-left-preserved invariant-loop-left decreases-loop-left
 loop-again c =
-    let a = c.before.before.before.before.args in
-    let at = c.before.loop-left in
+    let a = c.args in
+    let at = c.loop-left in
     let front = decimal (at.left / 10) in
     let last = 48 + at.left % 10 in
     let more = length_more at.left (omega arith) in
@@ -85,8 +85,8 @@ same_length c = simp length-set (omega arith)
 
 returns : tie.Need-returns invariant-loop-left decreases-loop-left
 returns c =
-    let a = c.before.before.before.before.args in
-    let at = c.before.loop-left in
+    let a = c.args in
+    let at = c.loop-left in
     let one = length-one at.left (omega arith) in
     let place : at.i ≡ a.at = omega arith in
     record {

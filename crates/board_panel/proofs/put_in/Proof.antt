@@ -10,14 +10,13 @@ use Rattle.board_panel.proofs.put_in.Tie as tie
 
 returns : tie.Need-returns-then-line-line_length
 returns c =
-    let a = c.before.before.before.before.args in
-    too_short (line_of a.why) a.line-1.now (omega arith) c.refusal.ensures
+    let a = c.args in
+    too_short (line_of a.why) a.line.now (omega arith) c.refusal.ensures
 
 returns-2 : tie.Need-returns
 returns-2 c =
-    let put = c.before.before.before in
-    let a = put.before.before.before.before.before.args in
-    has_room (line_of a.why) a.line-1.now (omega arith) (c.packed.ensures ∙ ap (packed 0) put.put_line.ensures.0) put.put_line.ensures.1
+let a = c.args in
+    has_room (line_of a.why) a.line.now (omega arith) (c.packed.ensures ∙ ap (packed 0) c.put_line.ensures.0) c.put_line.ensures.1
 
 pub put_in_spec : {M : Type 1} → statement M
 put_in_spec =

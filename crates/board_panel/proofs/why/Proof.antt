@@ -13,36 +13,31 @@ abbrev entry : tie.After-explained-found → tie.Start
 entry c = c.before.before.before.before
 
 -- what was found, as a match knows it
-said : (c : tie.After-explained-found) {found : Explanation} → c.explained-found.result ≡ found → let a = (entry c).args in Explains a.personality.now a.state.now a.inputs found
-said c e = let a = (entry c).args in subst (Explains a.personality.now a.state.now a.inputs) e c.explained-found.ensures
+said : (c : tie.After-explained-found) {found : Explanation} → c.explained-found.result ≡ found → let a = c.args in Explains a.personality.now a.state.now a.inputs found
+said c e = let a = (entry c).args in subst (Explains a.personality.now a.state.now a.inputs) e c.explained.ensures
 
 refusal-requires : tie.Need-refusal-requires
-refusal-requires c κs = (said c.before.before.before c.before.found-1.given.1).1
+refusal-requires c κs = (said c.before c.in-Refusal.is).1
 
 put-in-requires : tie.Need-put_in-requires
-put-in-requires c κs = let read = c.before.before in (said read.before.before read.found-in-Holds-1.given.1).2
+put-in-requires c κs = (said c.before.before c.in-Holds.is).2
 
 returns : tie.Need-returns-in-Refusal
 returns c =
-    let found = c.before.before.before.before in
-    let a = (entry found).args in
-    why-refused a.personality.now a.state.now a.inputs a.line-1.now (said found c.before.before.found-1.given.1).0 c.refusal.ensures
+let a = c.args in
+    why-refused a.personality.now a.state.now a.inputs a.line.now (said c.before.before c.in-Refusal.is).0 c.refusal.ensures
 
 returns-2 : tie.Need-returns-in-Silent
 returns-2 c =
-    let found = c.before.before.before in
-    let a = (entry found).args in
-    why-told a.personality.now a.state.now a.inputs a.line-1.now [] (said found c.before.enum_told-1.given.1)
-    (has_room [] a.line-1.now (omega arith) c.packed.ensures refl)
+let a = c.args in
+    why-told a.personality.now a.state.now a.inputs a.line.now [] (said c.before.before c.in-Silent.is)
+    (has_room [] a.line.now (omega arith) c.packed.ensures refl)
 
 returns-3 : tie.Need-returns-in-Holds
 returns-3 c =
-    let put = c.before.before in
-    let read = put.before.before.before in
-    let found = read.before.before in
-    let a = (entry found).args in
-    let told = said found read.found-in-Holds-1.given.1 in
-    why-told a.personality.now a.state.now a.inputs a.line-1.now _ (told.0, told.1) put.put_in.ensures
+let a = c.args in
+    let told = said c.before.before.before.before.before c.in-Holds.is in
+    why-told a.personality.now a.state.now a.inputs a.line.now _ (told.0, told.1) c.put_in.ensures
 
 pub why_spec : {M : Type 1} → statement M
 why_spec =

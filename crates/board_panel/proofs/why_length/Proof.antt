@@ -13,33 +13,28 @@ abbrev entry : tie.After-explained-found → tie.Start
 entry c = c.before.before.before
 
 -- what was found, as a match knows it
-said : (c : tie.After-explained-found) {found : Explanation} → c.explained-found.result ≡ found → let a = (entry c).args in Explains a.personality.now a.state.now a.inputs found
-said c e = let a = (entry c).args in subst (Explains a.personality.now a.state.now a.inputs) e c.explained-found.ensures
+said : (c : tie.After-explained-found) {found : Explanation} → c.explained-found.result ≡ found → let a = c.args in Explains a.personality.now a.state.now a.inputs found
+said c e = let a = (entry c).args in subst (Explains a.personality.now a.state.now a.inputs) e c.explained.ensures
 
 refusal-requires : tie.Need-refusal-requires
-refusal-requires c κs = (said c.before.before.before c.before.found-1.given.1).1
+refusal-requires c κs = (said c.before c.in-Refusal.is).1
 
 returns : tie.Need-returns-in-Refusal
 returns c =
-    let found = c.before.before.before.before in
-    let a = (entry found).args in
-    length-refused a.personality.now a.state.now a.inputs (said found c.before.before.found-1.given.1).0 c.refusal.ensures
+let a = c.args in
+    length-refused a.personality.now a.state.now a.inputs (said c.before.before c.in-Refusal.is).0 c.refusal.ensures
 
 returns-2 : tie.Need-returns-in-Silent
 returns-2 c =
-    let found = c.before.before.before in
-    let a = (entry found).args in
-    length-told a.personality.now a.state.now a.inputs [] (said found c.before.enum_told-1.given.1) c.packed.ensures
+let a = c.args in
+    length-told a.personality.now a.state.now a.inputs [] (said c.before.before c.in-Silent.is) c.packed.ensures
 
 returns-3 : tie.Need-returns-in-Holds
 returns-3 c =
-    let measured = c.before in
-    let read = measured.before.before in
-    let found = read.before.before in
-    let a = (entry found).args in
-    let told = said found read.found-in-Holds-1.given.1 in
+let a = c.args in
+    let told = said c.before.before.before c.in-Holds.is in
     length-told a.personality.now a.state.now a.inputs _ (told.0, told.1)
-    (c.packed-in-Holds.ensures ∙ ap (packed 0) measured.line_length.ensures.0)
+    (c.packed-in-Holds.ensures ∙ ap (packed 0) c.line_length.ensures.0)
 
 pub why_length_spec : {M : Type 1} → statement M
 why_length_spec =

@@ -10,19 +10,18 @@ enum_told c = search rules
 
 refusal-requires : tie.Need-refusal-requires
 refusal-requires c κs =
-    let read = c.before.before.before.before.read_with_layout-reading in
-    refused-near _ read.result.verdict read.ensures.0 c.before.verdict-1.given.1
+    let read = c.read_with_layout-reading in
+    refused-near _ read.result.verdict read.ensures.0 c.in-Refused.is
 
 returns : tie.Need-returns-in-Accepted
 returns c =
-    let told = c.before.before in
-    let read = told.before.before.before.read_with_layout-reading in
-    groups-told _ read.result.verdict _ _ read.ensures.0 told.enum_told-1.given.1 read.ensures.1.groupcount c.packed.ensures
+let read = c.read_with_layout-reading in
+    groups-told _ read.result.verdict _ _ read.ensures.0 c.in-Accepted.is read.ensures.1.groupcount c.packed.ensures
 
 returns-2 : tie.Need-returns-in-Refused
 returns-2 c =
-    let read = c.before.before.before.before.before.read_with_layout-reading in
-    groups-refused _ read.result.verdict _ read.ensures.0 c.before.before.verdict-1.given.1 c.refusal.ensures
+    let read = c.read_with_layout-reading in
+    groups-refused _ read.result.verdict _ read.ensures.0 c.in-Refused.is c.refusal.ensures
 
 pub groups_spec : {M : Type 1} → statement M
 groups_spec =

@@ -8,15 +8,15 @@ enum_told : tie.Need-enum_told-1
 enum_told c = search rules
 
 refusal-requires : tie.Need-refusal-requires
-refusal-requires c κs = let read = c.before.before.before.read-verdict in refused-near _ read.result read.ensures c.before.verdict-1.given.1
+refusal-requires c κs = let read = c.read-verdict in refused-near _ read.result read.ensures c.in-Refused.is
 
 returns : tie.Need-returns-in-Accepted
-returns c = let read = c.before.before.read-verdict in read-accepted _ read.result read.ensures c.enum_told-1.given.1
+returns c = let read = c.read-verdict in read-accepted _ read.result read.ensures c.in-Accepted.is
 
 returns-2 : tie.Need-returns-in-Refused
 returns-2 c =
-    let read = c.before.before.before.before.read-verdict in
-    read-refused _ read.result _ read.ensures c.before.before.verdict-1.given.1 c.refusal.ensures
+    let read = c.read-verdict in
+    read-refused _ read.result _ read.ensures c.in-Refused.is c.refusal.ensures
 
 pub read_spec : {M : Type 1} → statement M
 read_spec =

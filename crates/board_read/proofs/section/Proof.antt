@@ -10,20 +10,19 @@ enum_told c = search rules
 
 refusal-requires : tie.Need-refusal-requires
 refusal-requires c κs =
-    let looked = c.before.before.before.find-found in
-    section-near _ _ (sym looked.ensures.0 ∙ c.before.verdict-1.given.1)
+    let looked = c.find-found in
+    section-near _ _ (sym looked.ensures.0 ∙ c.in-Refused.is)
 
 returns : tie.Need-returns-in-Accepted
 returns c =
-    let told = c.before.before.before in
-    let found = told.before.before.find-found in
-    section-found _ _ found.result.head _ _ (sym found.ensures.0 ∙ told.enum_told-1.given.1) found.ensures.1 c.before.two_at.ensures
+let found = c.find-found in
+    section-found _ _ found.result.head _ _ (sym found.ensures.0 ∙ c.in-Accepted.is) found.ensures.1 c.two_at.ensures
     c.part.ensures
 
 returns-2 : tie.Need-returns-in-Refused
 returns-2 c =
-    let looked = c.before.before.before.before.find-found in
-    section-refused _ _ _ (sym looked.ensures.0 ∙ c.before.before.verdict-1.given.1) c.refusal.ensures
+    let looked = c.find-found in
+    section-refused _ _ _ (sym looked.ensures.0 ∙ c.in-Refused.is) c.refusal.ensures
 
 pub section_spec : {M : Type 1} → statement M
 section_spec =

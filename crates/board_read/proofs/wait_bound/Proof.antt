@@ -13,20 +13,19 @@ use Rattle.board_read.proofs.wait_bound.Tie as tie
 
 refusal-requires : tie.Need-refusal-requires
 refusal-requires c κs =
-    let read = c.before.before.before.read_with_layout-reading in
-    refused-near _ read.result.verdict read.ensures.0 c.before.verdict-1.given.1
+    let read = c.read_with_layout-reading in
+    refused-near _ read.result.verdict read.ensures.0 c.in-Refused.is
 
 returns : tie.Need-returns-in-Refused
 returns c =
-    let asked = c.before.before.before.before in
-    bound-refused _ c.refusal.result (sym asked.read_with_layout-reading.ensures.0 ∙ c.before.before.verdict-1.given.1) c.refusal.ensures
+bound-refused _ c.refusal.result (sym c.read_with_layout-reading.ensures.0 ∙ c.in-Refused.is) c.refusal.ensures
 
 -- past the refusal the personality is accepted
-accepted : (c : tie.In_default) → verdict_of c.before.before.before.before.args.personality.now ≡ Accepted
-accepted c = sym c.before.before.read_with_layout-reading.ensures.0 ∙ c.enum_told-1.given.1
+accepted : (c : tie.In_default) → verdict_of c.args.personality.now ≡ Accepted
+accepted c = sym c.read_with_layout-reading.ensures.0 ∙ c.in_default.is
 
 site-of-requires : tie.Need-site_of-site-requires
-site-of-requires c κs = accepted-fits (accepted c.before) c.before.before.before.read_with_layout-reading.ensures.1
+site-of-requires c κs = accepted-fits (accepted c.before) c.read_with_layout-reading.ensures.1
 
 wait-bound-requires : tie.Need-wait_bound-requires
 unfolding AcceptedIsSound
@@ -35,9 +34,8 @@ wait-bound-requires c κs =
 
 returns-2 : tie.Need-returns
 returns-2 c =
-    let held = c.before.before in
-    bound-given _ c.packed.result held.site_of-site.result (accepted held.before.before) held.site_of-site.ensures
-    c.before.wait_bound.ensures
+bound-given _ c.packed.result c.site_of-site.result (accepted c.before.before.before.before) c.site_of-site.ensures
+    c.wait_bound.ensures
     c.packed.ensures
 
 pub wait_bound_spec : {M : Type 1} → statement M

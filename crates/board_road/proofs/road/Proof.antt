@@ -20,15 +20,14 @@ use Rattle.board_road.proofs.road.Tie as tie
 
 refusal-requires : tie.Need-refusal-requires
 refusal-requires c κs =
-    let read = c.before.before.before.read_with_layout-reading in
-    refused-near _ read.result.verdict read.ensures.0 c.before.verdict-1.given.1
+    let read = c.read_with_layout-reading in
+    refused-near _ read.result.verdict read.ensures.0 c.in-Refused.is
 
 returns : tie.Need-returns-in-Refused
 returns c =
-    let asked = c.before.before.before.before in
-    let a = asked.before.before.before.before.before.args in
-    declines a.personality.now a.streams.now a.steps a.state-1.now a.results-1.now
-    (by-personality _ _ _ _ _ (sym asked.read_with_layout-reading.ensures.0 ∙ c.before.before.verdict-1.given.1))
+let a = c.args in
+    declines a.personality.now a.streams.now a.steps a.state.now a.results.now
+    (by-personality _ _ _ _ _ (sym c.read_with_layout-reading.ensures.0 ∙ c.in-Refused.is))
     c.refusal.ensures
 
 -- ── An accepted one, and streams that are refused ──
@@ -36,16 +35,13 @@ returns c =
 enum_told : tie.Need-enum_told-1
 enum_told c = search rules
 
-accepted : (c : tie.In_default) → verdict_of c.before.before.before.before.before.before.before.args.personality.now ≡ Accepted
-accepted c = sym c.before.before.read_with_layout-reading.ensures.0 ∙ c.enum_told-1.given.1
+accepted : (c : tie.In_default) → verdict_of c.args.personality.now ≡ Accepted
+accepted c = sym c.read_with_layout-reading.ensures.0 ∙ c.in_default.is
 
 site-of-requires : tie.Need-site_of-site-requires
-site-of-requires c κs = let told = c.before in accepted-fits (accepted told) told.before.before.read_with_layout-reading.ensures.1
+site-of-requires c κs = accepted-fits (accepted c.before) c.read_with_layout-reading.ensures.1
 
-abbrev entry : tie.After-site_of-site → tie.Start
-entry c = c.before.before.before.before.before.before.before.before.before
-
-read : (c : tie.After-site_of-site) → verdict_of (entry c).args.personality.now ≡ Accepted
+read : (c : tie.After-site_of-site) → verdict_of c.args.personality.now ≡ Accepted
 read c = accepted c.before.before
 
 bad-streams-requires : tie.Need-bad_streams-requires
@@ -55,76 +51,65 @@ bad-streams-requires c κs = subst⁻¹ Sound c.site_of-site.ensures (accepted-i
 -- whether the streams of the call are refused
 tested :
     (c : tie.After-bad_streams) →
-    let a = (entry c.before).args in
+    let a = c.args in
     c.bad_streams.result ≡ bad_streams (site_of a.personality.now) a.streams.now a.steps
 tested c =
-    let a = (entry c.before).args in
-    c.bad_streams.ensures ∙ ap (λ (s : Site). bad_streams s a.streams.now a.steps) c.before.site_of-site.ensures
+    let a = c.args in
+    c.bad_streams.ensures ∙ ap (λ (s : Site). bad_streams s a.streams.now a.steps) c.site_of-site.ensures
 
 returns-2 : tie.Need-returns-then-bad_streams
 returns-2 c =
-    let test = c.before.before in
-    let a = (entry test.before).args in
-    declines a.personality.now a.streams.now a.steps a.state-1.now a.results-1.now
-    (by-streams _ _ _ _ _ (read test.before) (sym (tested test) ∙ c.before.if-bad_streams.true))
+let a = c.args in
+    declines a.personality.now a.streams.now a.steps a.state.now a.results.now
+    (by-streams _ _ _ _ _ (read c.before.before.before) (sym (tested c.before.before) ∙ c.if-bad_streams.true))
     c.refusal-then-bad_streams.ensures
 
 -- ── Streams that are not refused, and buffers that are ──
 
-abbrev made : tie.Else-bad_streams → tie.After-site_of-site
-made c = c.before.before
-
 known :
     (c : tie.Else-bad_streams) →
-    let a = (entry (made c)).args in
+    let a = c.args in
     bad_streams (site_of a.personality.now) a.streams.now a.steps ≡ false
 known c = sym (tested c.before) ∙ c.if-bad_streams.false
 
 returns-3 : tie.Need-returns-then-state-ne-TIMED_BYTES
 returns-3 c =
-    let fine = c.before.before in
-    let a = (entry (made fine)).args in
-    declines a.personality.now a.streams.now a.steps a.state-1.now a.results-1.now
-    (by_state _ _ _ _ _ (read (made fine)) (known fine) c.before.if-state-ne-TIMED_BYTES.true)
+let a = c.args in
+    declines a.personality.now a.streams.now a.steps a.state.now a.results.now
+    (by_state _ _ _ _ _ (read c.before.before.before.before) (known c.before.before) c.if-state-ne-TIMED_BYTES.true)
     c.refusal-then-state-ne-TIMED_BYTES.ensures
 
 returns-4 : tie.Need-returns-then-results-streams
 returns-4 c =
-    let sized = c.before.before in
-    let fine = sized.before in
-    let a = (entry (made fine)).args in
-    declines a.personality.now a.streams.now a.steps a.state-1.now a.results-1.now
-    (by-room _ _ _ _ _ (read (made fine)) (known fine) sized.if-state-ne-TIMED_BYTES.false c.before.if-results-streams.true)
+let a = c.args in
+    declines a.personality.now a.streams.now a.steps a.state.now a.results.now
+    (by-room _ _ _ _ _ (read c.before.before.before.before.before) (known c.before.before.before) c.if-state-ne-TIMED_BYTES.false c.if-results-streams.true)
     c.refusal-then-results-streams.ensures
 
 -- ── The road ──
 
 startable :
     (c : tie.Else-bad_streams) →
-    let a = (entry (made c)).args in
-    OfPersonality a.personality.now (made c).site_of-site.result a.streams.now a.steps
-startable c = record { read = read (made c); place = (made c).site_of-site.ensures; known = known c }
+    let a = c.args in
+    OfPersonality a.personality.now c.site_of-site.result a.streams.now a.steps
+startable c = record { read = read c.before.before; place = c.site_of-site.ensures; known = known c }
 
 run-requires : tie.Need-run-last-requires
-run-requires c κs = record { b = _; start = startable c.before.before.before; enough = c.before.if-results-streams.false }
+run-requires c κs = record { b = _; start = startable c.before.before.before; enough = c.if-results-streams.false }
 
 put-settled-requires : tie.Need-put_settled-requires
-put-settled-requires c κs = c.before.before.before.before.before.before.before.if-state-ne-TIMED_BYTES.false
+put-settled-requires c κs = c.if-state-ne-TIMED_BYTES.false
 
 returns-5 : tie.Need-returns
 returns-5 c =
-    let stored = c.before.before in
-    let ran = stored.before.before.before.before.before in
-    let roomy = ran.before.before in
-    let fine = roomy.before.before in
-    let a = (entry (made fine)).args in
-    let whole = ran.run-last.ensures in
-    goes_on a.personality.now a.streams.now a.steps a.state-1.now a.results-1.now
-    (by-none _ _ _ _ _ (read (made fine)) (known fine) roomy.before.if-state-ne-TIMED_BYTES.false roomy.if-results-streams.false)
-    (made fine).site_of-site.ensures
-    (whole.state-1 a.personality.now (startable fine))
-    stored.put_settled.ensures
-    (whole.written a.personality.now (startable fine))
+let a = c.args in
+    let whole = c.run-last.ensures in
+    goes_on a.personality.now a.streams.now a.steps a.state.now a.results.now
+    (by-none _ _ _ _ _ (read c.before.before.before.before.before.before.before.before.before.before.before.before.before) (known c.before.before.before.before.before.before.before.before.before.before.before) c.if-state-ne-TIMED_BYTES.false c.if-results-streams.false)
+    c.site_of-site.ensures
+    (whole.state a.personality.now (startable c.before.before.before.before.before.before.before.before.before.before.before))
+    c.put_settled.ensures
+    (whole.written a.personality.now (startable c.before.before.before.before.before.before.before.before.before.before.before))
 
 pub road_spec : {M : Type 1} → statement M
 road_spec =

@@ -12,20 +12,19 @@ use Rattle.board_seal.proofs.record_verdict.Tie as tie
 
 returns : tie.Need-returns-then-other_version
 unfolding record_verdict ◌or_else◌ refuse_if
-returns c = rw (sym c.before.other_version.ensures ∙ c.if-other_version.true)
+returns c = rw (sym c.other_version.ensures ∙ c.if-other_version.true)
 
 -- what the tests that have passed tell
-version : (c : tie.Else-other_version) → other_version c.before.before.before.before.args.sealed.now ≡ false
-version c = sym c.before.other_version.ensures ∙ c.if-other_version.false
+version : (c : tie.Else-other_version) → other_version c.args.sealed.now ≡ false
+version c = sym c.other_version.ensures ∙ c.if-other_version.false
 
 returns-2 : tie.Need-returns-then-damaged
 unfolding record_verdict ◌or_else◌ refuse_if
 returns-2 c =
-    let tested = c.before in
-    rw (version tested.before, sym tested.damaged.ensures ∙ c.if-damaged.true)
+rw (version c.before.before, sym c.damaged.ensures ∙ c.if-damaged.true)
 
-whole : (c : tie.Else-damaged) → damaged c.before.before.before.before.before.before.args.sealed.now ≡ false
-whole c = sym c.before.damaged.ensures ∙ c.if-damaged.false
+whole : (c : tie.Else-damaged) → damaged c.args.sealed.now ≡ false
+whole c = sym c.damaged.ensures ∙ c.if-damaged.false
 
 other-personality-requires : tie.Need-other_personality-requires
 other-personality-requires c κs = whole_length _ (whole c)
@@ -33,9 +32,7 @@ other-personality-requires c κs = whole_length _ (whole c)
 returns-3 : tie.Need-returns-then-other_personality
 unfolding record_verdict ◌or_else◌ refuse_if
 returns-3 c =
-    let tested = c.before in
-    let passed = tested.before in
-    rw (version passed.before.before, whole passed, sym tested.other_personality.ensures ∙ c.if-other_personality.true)
+rw (version c.before.before.before.before, whole c.before.before, sym c.other_personality.ensures ∙ c.if-other_personality.true)
 
 state-in-requires : tie.Need-state_in-requires
 state-in-requires c κs = whole_length _ (whole c.before.before)
@@ -43,33 +40,25 @@ state-in-requires c κs = whole_length _ (whole c.before.before)
 returns-4 : tie.Need-returns-then-not-is_state_of
 unfolding record_verdict ◌or_else◌ refuse_if
 returns-4 c =
-    let tested = c.before in
-    let read = tested.before in
-    let third = read.before in
-    let passed = third.before.before in
-    rw (
-      version passed.before.before,
-      whole passed,
-      sym third.before.other_personality.ensures ∙ third.if-other_personality.false,
-      ← read.state_in.ensures,
-      ← tested.is_state_of.ensures,
-      not-true tested.is_state_of.result c.if-not-is_state_of.true,
+rw (
+      version c.before.before.before.before.before.before.before,
+      whole c.before.before.before.before.before,
+      sym c.other_personality.ensures ∙ c.if-other_personality.false,
+      ← c.state_in.ensures,
+      ← c.is_state_of.ensures,
+      not-true c.is_state_of.result c.if-not-is_state_of.true,
     )
 
 returns-5 : tie.Need-returns
 unfolding record_verdict ◌or_else◌ refuse_if
 returns-5 c =
-    let tested = c.before in
-    let read = tested.before in
-    let third = read.before in
-    let passed = third.before.before in
-    rw (
-      version passed.before.before,
-      whole passed,
-      sym third.before.other_personality.ensures ∙ third.if-other_personality.false,
-      ← read.state_in.ensures,
-      ← tested.is_state_of.ensures,
-      not-false tested.is_state_of.result c.if-not-is_state_of.false,
+rw (
+      version c.before.before.before.before.before.before.before,
+      whole c.before.before.before.before.before,
+      sym c.other_personality.ensures ∙ c.if-other_personality.false,
+      ← c.state_in.ensures,
+      ← c.is_state_of.ensures,
+      not-false c.is_state_of.result c.if-not-is_state_of.false,
     )
 
 pub record_verdict_spec : {M : Type 1} → statement M

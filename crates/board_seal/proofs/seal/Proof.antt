@@ -13,22 +13,18 @@ use Rattle.board_seal.proofs.SealCalls.{state-long, not-sealed, no-state, no_roo
 use Rattle.board_seal.proofs.seal.Statement.{statement}
 use Rattle.board_seal.proofs.seal.Tie as tie
 
-abbrev start : tie.After-read_with_layout-reading → tie.Start
-start c = c.before.before.before.before
-
 -- ── A refused personality ──
 
 refusal-requires : tie.Need-refusal-requires
 refusal-requires c κs =
-    let read = c.before.before.before.read_with_layout-reading in
-    refused-near _ read.result.verdict read.ensures.0 c.before.verdict-1.given.1
+    let read = c.read_with_layout-reading in
+    refused-near _ read.result.verdict read.ensures.0 c.in-Refused.is
 
 returns : tie.Need-returns-in-Refused
 returns c =
-    let asked = c.before.before.before.before in
-    let a = (start asked).args in
-    not-sealed a.personality.now a.state.now a.sealed-1.now c.refusal.result
-    (sym asked.read_with_layout-reading.ensures.0 ∙ c.before.before.verdict-1.given.1)
+let a = c.args in
+    not-sealed a.personality.now a.state.now a.sealed.now c.refusal.result
+    (sym c.read_with_layout-reading.ensures.0 ∙ c.in-Refused.is)
     c.refusal.ensures
 
 -- ── An accepted one, and bytes that are no valid state ──
@@ -36,38 +32,29 @@ returns c =
 enum_told : tie.Need-enum_told-1
 enum_told c = search rules
 
-abbrev entry : tie.In_default → tie.Start
-entry c = start c.before.before
-
-accepted : (c : tie.In_default) → verdict_of (entry c).args.personality.now ≡ Accepted
-accepted c = sym c.before.before.read_with_layout-reading.ensures.0 ∙ c.enum_told-1.given.1
+accepted : (c : tie.In_default) → verdict_of c.args.personality.now ≡ Accepted
+accepted c = sym c.read_with_layout-reading.ensures.0 ∙ c.in_default.is
 
 is-state-of-requires : tie.Need-is_state_of-requires
-is-state-of-requires c κs = let told = c.before in (accepted told, told.before.before.read_with_layout-reading.ensures.1)
+is-state-of-requires c κs = (accepted c.before, c.read_with_layout-reading.ensures.1)
 
 returns-2 : tie.Need-returns-then-not-is_state_of
 returns-2 c =
-    let tested = c.before.before in
-    let told = tested.before.before in
-    let a = (entry told).args in
-    no-state a.personality.now a.state.now a.sealed-1.now (accepted told) c.refusal-then-not-is_state_of.result
-    (sym tested.is_state_of.ensures ∙ not-true tested.is_state_of.result c.before.if-not-is_state_of.true)
+let a = c.args in
+    no-state a.personality.now a.state.now a.sealed.now (accepted c.before.before.before.before) c.refusal-then-not-is_state_of.result
+    (sym c.is_state_of.ensures ∙ not-true c.is_state_of.result c.if-not-is_state_of.true)
     c.refusal-then-not-is_state_of.ensures
 
 -- ── A valid state, and a buffer of another length ──
 
-abbrev told : tie.Else-not-is_state_of → tie.In_default
-told c = c.before.before.before
-
-valid : (c : tie.Else-not-is_state_of) → is_state_of (entry (told c)).args.personality.now (entry (told c)).args.state.now ≡ true
-valid c = sym c.before.is_state_of.ensures ∙ not-false c.before.is_state_of.result c.if-not-is_state_of.false
+valid : (c : tie.Else-not-is_state_of) → is_state_of c.args.personality.now c.args.state.now ≡ true
+valid c = sym c.is_state_of.ensures ∙ not-false c.is_state_of.result c.if-not-is_state_of.false
 
 returns-3 : tie.Need-returns-then-sealed-ne-SEALED_BYTES
 returns-3 c =
-    let tested = c.before.before in
-    let a = (entry (told tested)).args in
-    no_room a.personality.now a.state.now a.sealed-1.now (accepted (told tested)) (valid tested) c.refusal-then-sealed-ne-SEALED_BYTES.result
-    c.before.if-sealed-ne-SEALED_BYTES.true
+let a = c.args in
+    no_room a.personality.now a.state.now a.sealed.now (accepted c.before.before.before.before.before) (valid c.before.before) c.refusal-then-sealed-ne-SEALED_BYTES.result
+    c.if-sealed-ne-SEALED_BYTES.true
     c.refusal-then-sealed-ne-SEALED_BYTES.ensures
 
 -- ── A record ──
@@ -75,22 +62,18 @@ returns-3 c =
 write-sealed-requires : tie.Need-write_sealed-requires
 unfolding AcceptedIsShort
 write-sealed-requires c κs =
-    let tested = c.before.before in
-    let a = (entry (told tested)).args in (
-      accepted-is-short.1 a.personality.now (accepted (told tested)),
-      state-long a.personality.now a.state.now (valid tested),
-      c.before.if-sealed-ne-SEALED_BYTES.false,
+let a = c.args in (
+      accepted-is-short.1 a.personality.now (accepted c.before.before.before.before.before),
+      state-long a.personality.now a.state.now (valid c.before.before),
+      c.if-sealed-ne-SEALED_BYTES.false,
     )
 
 returns-4 : tie.Need-returns
 returns-4 c =
-    let written = c.before.before in
-    let fits = written.before.before in
-    let tested = fits.before in
-    let a = (entry (told tested)).args in
-    seals a.personality.now a.state.now a.sealed-1.now (accepted (told tested)) (valid tested) _
-    fits.if-sealed-ne-SEALED_BYTES.false
-    written.write_sealed.ensures
+let a = c.args in
+    seals a.personality.now a.state.now a.sealed.now (accepted c.before.before.before.before.before.before.before.before) (valid c.before.before.before.before.before) _
+    c.if-sealed-ne-SEALED_BYTES.false
+    c.write_sealed.ensures
 
 pub seal_spec : {M : Type 1} → statement M
 seal_spec =

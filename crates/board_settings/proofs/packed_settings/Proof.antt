@@ -23,17 +23,17 @@ packed-refused a b r e f p = rw (sym e ∙ f, p) (simp add-zero)
 
 refusal-requires : tie.Need-refusal-requires
 refusal-requires c κs =
-    let z = refused-place c.before.before.before.settings-answer.ensures.1 c.before.answer-in-Refused-1.given.1 in omega arith
+    let z = refused-place c.settings-answer.ensures.1 c.in-Refused.is in omega arith
 
 returns : tie.Need-returns-in-Settings
 returns c =
-    let made = c.before.before.before.before.settings-answer in
-    packed-given made.result _ _ made.ensures.0 c.before.before.answer-1.given.1 c.packed.ensures
+    let made = c.settings-answer in
+    packed-given made.result _ _ made.ensures.0 c.in-Settings.is c.packed.ensures
 
 returns-2 : tie.Need-returns-in-Refused
 returns-2 c =
-    let made = c.before.before.before.before.settings-answer in
-    packed-refused made.result _ _ made.ensures.0 c.before.before.answer-in-Refused-1.given.1 c.refusal.ensures
+    let made = c.settings-answer in
+    packed-refused made.result _ _ made.ensures.0 c.in-Refused.is c.refusal.ensures
 
 pub packed_settings_spec : {M : Type 1} → statement M
 packed_settings_spec =

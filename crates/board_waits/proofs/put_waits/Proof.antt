@@ -30,13 +30,11 @@ mul-put-two c = search rules
 
 wait-at-requires : tie.Need-wait_at-requires invariant-loop-i decreases-loop-i
 wait-at-requires c κs =
-    let start = c.before.before.before.before in
-    (start.requires.0, omega (arith, c.before.loop-i-test.true, start.requires.1))
+(c.requires.0, omega (arith, c.loop-i-test.true, c.requires.1))
 
 put-two-requires : tie.Need-put_two-requires invariant-loop-i decreases-loop-i
 put-two-requires c κs =
-    let turn = c.before.before.before in
-    omega (arith, stored-length turn.loop-i.invariant, turn.before.before.requires.2, c.before.before.loop-i-test.true)
+omega (arith, stored-length c.loop-i.invariant, c.requires.2, c.loop-i-test.true)
 
 add-i : tie.Need-overflow_add-i invariant-loop-i decreases-loop-i
 add-i c = search rules
@@ -46,25 +44,21 @@ loop-less c = search rules
 
 loop-again : tie.Need-loop-i-preserved invariant-loop-i decreases-loop-i
 loop-again c =
-    let put = c.before.before in
-    let read = put.before in
-    let turn = read.before.before in
-    let site = turn.before.before.before.args.site in
-    rw put.put_two.ensures
-    (stored-record (wait_part site) 2 (λ i. refl) (2 * turn.before.loop-i.i) (two.written read.wait_at.result) turn.before.loop-i.invariant
-    turn.loop-i-test.true
+let site = c.args.site in
+    rw c.put_two.ensures
+    (stored-record (wait_part site) 2 (λ i. refl) (2 * c.loop-i.i) (two.written c.wait_at.result) c.loop-i.invariant
+    c.loop-i-test.true
     (omega arith)
-    (ap two.written read.wait_at.ensures))
+    (ap two.written c.wait_at.ensures))
 
 same_length : tie.Need-shape_of-buffer invariant-loop-i decreases-loop-i
-same_length c = stored-length c.before.loop-i.invariant
+same_length c = stored-length c.loop-i.invariant
 
 returns : tie.Need-returns invariant-loop-i decreases-loop-i
 unfolding wait_bytes
 returns c =
-    let start = c.before.before.before in
-    stored-all c.before.loop-i.invariant c.loop-i-test.false
-    ∙ ap (λ (n : ℕ). sets start.args.buffer.now 0 (parts_of (wait_part start.args.site) n)) start.requires.1
+stored-all c.loop-i.invariant c.loop-i-test.false
+    ∙ ap (λ (n : ℕ). sets c.args.buffer.now 0 (parts_of (wait_part c.args.site) n)) c.requires.1
 
 pub put_waits_spec : {M : Type 1} → statement M
 put_waits_spec =

@@ -21,31 +21,30 @@ use Rattle.board_waits.proofs.waits.Tie as tie
 
 refusal-requires : tie.Need-refusal-requires
 refusal-requires c κs =
-    let read = c.before.before.before.read_with_layout-reading in
-    refused-near _ read.result.verdict read.ensures.0 c.before.verdict-1.given.1
+    let read = c.read_with_layout-reading in
+    refused-near _ read.result.verdict read.ensures.0 c.in-Refused.is
 
 returns : tie.Need-returns-in-Refused
 returns c =
-    let asked = c.before.before.before.before in
-    let a = asked.before.before.before.args in
-    waits-refused a.personality.now a.buffer-1.now _ _ c.refusal.result
-    (sym asked.read_with_layout-reading.ensures.0 ∙ c.before.before.verdict-1.given.1)
+let a = c.args in
+    waits-refused a.personality.now a.buffer.now _ _ c.refusal.result
+    (sym c.read_with_layout-reading.ensures.0 ∙ c.in-Refused.is)
     c.refusal.ensures
 
 enum_told : tie.Need-enum_told-1
 enum_told c = search rules
 
 -- past the refusal the personality is accepted
-accepted : (c : tie.In_default) → verdict_of c.before.before.before.before.before.args.personality.now ≡ Accepted
-accepted c = sym c.before.before.read_with_layout-reading.ensures.0 ∙ c.enum_told-1.given.1
+accepted : (c : tie.In_default) → verdict_of c.args.personality.now ≡ Accepted
+accepted c = sym c.read_with_layout-reading.ensures.0 ∙ c.in_default.is
 
 site-of-requires : tie.Need-site_of-site-requires
-site-of-requires c κs = accepted-fits (accepted c.before) c.before.before.before.read_with_layout-reading.ensures.1
+site-of-requires c κs = accepted-fits (accepted c.before) c.read_with_layout-reading.ensures.1
 
 -- the site is the one that the accepted bytes describe, and it is sound
-module _ (c : tie.After-site_of-site) where
+module _ (c : tie.After-site-of) where
   abbrev site : Site
-  site = c.site_of-site.result
+  site = c.site-of.result
 
   abbrev bytes : List ℕ
   bytes = c.before.before.before.before.before.before.before.args.personality.now
@@ -58,10 +57,10 @@ module _ (c : tie.After-site_of-site) where
 
   sound : Sound site
   unfolding AcceptedIsSound
-  sound = subst Sound (sym c.site_of-site.ensures) (accepted-is-sound bytes known)
+  sound = subst Sound (sym c.site-of.ensures) (accepted-is-sound bytes known)
 
   count : wait_count site ≡ wait_count (site_of bytes)
-  count = ap wait_count c.site_of-site.ensures
+  count = ap wait_count c.site-of.ensures
 
 add-count : tie.Need-overflow_add-count
 add-count c =
@@ -70,23 +69,20 @@ add-count c =
 
 returns-2 : tie.Need-returns-then-buffer-count
 returns-2 c =
-    let at = c.before.before.before in
-    waits-short (bytes at) (out at) c.refusal-then-buffer-count.result (known at) (omega (arith, c.before.if-buffer-count.true, count at)) c.refusal-then-buffer-count.ensures
+waits-short (bytes c.before.before.before) (out c.before.before.before) c.refusal-then-buffer-count.result (known c.before.before.before) (omega (arith, c.if-buffer-count.true, count c.before.before.before)) c.refusal-then-buffer-count.ensures
 
 put-waits-requires : tie.Need-put_waits-requires
 put-waits-requires c κs =
-    let at = c.before.before.before in
-    (sound at, refl, c.before.if-buffer-count.false)
+(sound c.before.before.before, refl, c.if-buffer-count.false)
 
 returns-3 : tie.Need-returns
 returns-3 c =
-    let at = c.before.before.before.before.before.before.before in
-    let written =
-    waits-written (bytes at) (out at) c.packed.result (known at) (omega (arith, c.before.before.before.before.before.if-buffer-count.false, count at))
-    (c.packed.ensures ∙ ap (λ (n : ℕ). packed 0 (2 * n)) (count at)) in (
+let written =
+    waits-written (bytes c.before.before.before.before.before.before.before) (out c.before.before.before.before.before.before.before) c.packed.result (known c.before.before.before.before.before.before.before) (omega (arith, c.if-buffer-count.false, count c.before.before.before.before.before.before.before))
+    (c.packed.ensures ∙ ap (λ (n : ℕ). packed 0 (2 * n)) (count c.before.before.before.before.before.before.before)) in (
       written.0,
-      c.before.before.before.put_waits.ensures
-          ∙ ap (λ (site : Site). sets (out at) 0 (wait_bytes site)) at.site_of-site.ensures
+      c.put_waits.ensures
+          ∙ ap (λ (site : Site). sets (out c.before.before.before.before.before.before.before) 0 (wait_bytes site)) c.site_of-site.ensures
           ∙ written.1,
     )
 

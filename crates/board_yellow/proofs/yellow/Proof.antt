@@ -24,23 +24,21 @@ packed-refused a b r e f p = rw (sym e ∙ f, p) (simp add-zero)
 
 refusal-requires : tie.Need-refusal-requires
 refusal-requires c κs =
-    let z = refused-place c.before.before.before.yellow-answer.ensures.1 c.before.answer-in-Refused-1.given.1 in omega arith
+    let z = refused-place c.yellow-answer.ensures.1 c.in-Refused.is in omega arith
 
 returns : tie.Need-returns-in-Yellow
 unfolding yellow_answer
 returns c =
-    let start = c.before.before.before.before.before in
-    let made = c.before.before.before.before.yellow-answer in
-    let told = made.ensures.0 ∙ ap (answer_of start.args.speed) (to_z-of_z start.ranges.grade) in
-    packed-given made.result _ _ told c.before.before.answer-1.given.1 c.packed.ensures
+let made = c.yellow-answer in
+    let told = made.ensures.0 ∙ ap (answer_of c.args.speed) (to_z-of_z c.ranges.grade) in
+    packed-given made.result _ _ told c.in-Yellow.is c.packed.ensures
 
 returns-2 : tie.Need-returns-in-Refused
 unfolding yellow_answer
 returns-2 c =
-    let start = c.before.before.before.before.before in
-    let made = c.before.before.before.before.yellow-answer in
-    let told = made.ensures.0 ∙ ap (answer_of start.args.speed) (to_z-of_z start.ranges.grade) in
-    packed-refused made.result _ _ told c.before.before.answer-in-Refused-1.given.1 c.refusal.ensures
+let made = c.yellow-answer in
+    let told = made.ensures.0 ∙ ap (answer_of c.args.speed) (to_z-of_z c.ranges.grade) in
+    packed-refused made.result _ _ told c.in-Refused.is c.refusal.ensures
 
 pub yellow_spec : {M : Type 1} → statement M
 yellow_spec =

@@ -12,21 +12,19 @@ enum_told c = search rules
 
 returns : tie.Need-returns-in-Refused
 unfolding held_checks
-returns c = or-stop _ c.before.before.read-verdict.ensures c.enum_told-1.given.1
+returns c = or-stop _ c.read-verdict.ensures c.in-Refused.is
 
 returns-2 : tie.Need-returns-then-past_last
 unfolding held_checks
 returns-2 c =
-    let read = c.before.before.before in
-    or-next read.before.before.read-verdict.ensures read.enum_told-in_default-1.given.1
-    (refuse-yes 25 0 (sym (ap (past_last read.before.before.before.before.args.first) c.before.before.outputs_of.ensures) ∙ sym c.before.past_last.ensures ∙ c.if-past_last.true))
+or-next c.read-verdict.ensures c.in_default.is
+    (refuse-yes 25 0 (sym (ap (past_last c.args.first) c.outputs_of.ensures) ∙ sym c.past_last.ensures ∙ c.if-past_last.true))
 
 returns-3 : tie.Need-returns
 unfolding held_checks
 returns-3 c =
-    let read = c.before.before.before in
-    or-next read.before.before.read-verdict.ensures read.enum_told-in_default-1.given.1
-    (sym (refuse-no 25 0 (sym (ap (past_last read.before.before.before.before.args.first) c.before.before.outputs_of.ensures) ∙ sym c.before.past_last.ensures ∙ c.if-past_last.false)))
+or-next c.read-verdict.ensures c.in_default.is
+    (sym (refuse-no 25 0 (sym (ap (past_last c.args.first) c.outputs_of.ensures) ∙ sym c.past_last.ensures ∙ c.if-past_last.false)))
 
 pub held_checks_spec : {M : Type 1} → statement M
 held_checks_spec =

@@ -12,42 +12,33 @@ use borrow.Author.Rules.{rules}
 use Rattle.cabinet_held.proofs.held_step.Statement.{statement}
 use Rattle.cabinet_held.proofs.held_step.Tie as tie
 
-abbrev start : tie.After-past_last → tie.Start
-start c = c.before.before.before.before.before
-
 -- what the test says
-tested : (c : tie.After-past_last) → past_last (start c).args.first (outputs_of (start c).args.personality.now) ≡ c.past_last.result
-tested c = sym (c.past_last.ensures ∙ ap (past_last (start c).args.first) c.before.outputs_of-count.ensures)
+tested : (c : tie.After-past_last) → past_last c.args.first (outputs_of c.args.personality.now) ≡ c.past_last.result
+tested c = sym (c.past_last.ensures ∙ ap (past_last c.args.first) c.outputs_of-count.ensures)
 
 packed-verdict-requires : tie.Need-packed_verdict-requires
 packed-verdict-requires c κs = subst⁻¹ Near c.held_checks.ensures (held-near _ _)
 
 returns : tie.Need-returns-then-past_last
 returns c =
-    let asked = c.before.before.before in
-    past-step _ _ _ _ _ (tested asked ∙ c.before.before.if-past_last.true) (c.packed_verdict.ensures ∙ ap packed_verdict c.before.held_checks.ensures)
+past-step _ _ _ _ _ (tested c.before.before.before ∙ c.if-past_last.true) (c.packed_verdict.ensures ∙ ap packed_verdict c.held_checks.ensures)
 
 returns-2 : tie.Need-returns-then-outputs-lt32
 returns-2 c =
-    let called = c.before.before.before.before in
-    let asked = called.before.before.before.before.before in
-    short-step _ _ _ _ _ called.step.ensures (tested asked ∙ called.before.before.before.before.if-past_last.false) called.before.before.before.if-outputs-lt32.true c.before.outputs-1.given.0
+short-step _ _ _ _ _ c.step.ensures (tested c.before.before.before.before.before.before.before.before.before ∙ c.if-past_last.false) c.if-outputs-lt32.true c.outputs-1.given.0
 
 part-step-end : tie.Need-slice_bounds-step-end-2
 unfolding past_last
 part-step-end c =
-    let past = c.before.before in
-    let a = (start past.before).args in
-    let within = ltb-false 32 (a.first + outputs_of a.personality.now) (tested past.before ∙ past.if-past_last.false) in
-    omega (arith, c.before.if-outputs-lt32.false, within, past.before.before.outputs_of-count.ensures)
+let a = c.args in
+    let within = ltb-false 32 (a.first + outputs_of a.personality.now) (tested c.before.before.before ∙ c.if-past_last.false) in
+    omega (arith, c.if-outputs-lt32.false, within, c.outputs_of-count.ensures)
 
 returns-3 : tie.Need-returns
 returns-3 c =
-    let called = c.before.before.before.before in
-    let past = called.before.before.before.before in
-    let count = past.before.before.outputs_of-count in
-    let size : (start past.before).args.first + count.result - (start past.before).args.first ≡ outputs_of (start past.before).args.personality.now = omega (arith, count.ensures) in
-    own-step _ _ _ _ _ _ size called.step-2.ensures (tested past.before ∙ past.if-past_last.false) called.before.before.before.if-outputs-lt32.false c.before.outputs-2-1.given.0
+let count = c.outputs_of-count in
+    let size : c.args.first + count.result - c.args.first ≡ outputs_of c.args.personality.now = omega (arith, count.ensures) in
+    own-step _ _ _ _ _ _ size c.step-2.ensures (tested c.before.before.before.before.before.before.before.before.before ∙ c.if-past_last.false) c.if-outputs-lt32.false c.outputs-2-1.given.0
 
 pub held_step_spec : {M : Type 1} → statement M
 held_step_spec =

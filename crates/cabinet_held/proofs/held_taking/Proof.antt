@@ -13,23 +13,21 @@ enum_told c = search rules
 
 returns : tie.Need-returns-in-Refused
 returns c =
-    let asked = c.before.before.taking_checks-verdict in
-    (asked.ensures, turned-refused dark _ _ _ asked.ensures c.enum_told-1.given.1)
+    let asked = c.taking_checks-verdict in
+    (asked.ensures, turned-refused dark _ _ _ asked.ensures c.in-Refused.is)
 
 fill-requires : tie.Need-fill-requires
 fill-requires c κs =
-    let asked = c.before.before.before.before.taking_checks-verdict in
-    let told = c.before.before.enum_told-in_default-1.given.1 in
+    let asked = c.taking_checks-verdict in
+    let told = c.in_default.is in
     omega (arith, taking-fits _ _ (sym asked.ensures ∙ told), c.outputs_of.ensures)
 
 returns-2 : tie.Need-returns
 returns-2 c =
-    let filled = c.before.before in
-    let told = filled.before.before.before in
-    let asked = told.before.before.taking_checks-verdict in
-    let fits = taking-fits _ _ (sym asked.ensures ∙ told.enum_told-in_default-1.given.1) in (
+let asked = c.taking_checks-verdict in
+    let fits = taking-fits _ _ (sym asked.ensures ∙ c.in_default.is) in (
       asked.ensures,
-      filled.fill.ensures ∙ turned-accepted dark _ _ _ asked.ensures told.enum_told-in_default-1.given.1 filled.before.outputs_of.ensures fits,
+      c.fill.ensures ∙ turned-accepted dark _ _ _ asked.ensures c.in_default.is c.outputs_of.ensures fits,
     )
 
 pub held_taking_spec : {M : Type 1} → statement M

@@ -10,11 +10,11 @@ enum_told c = search rules
 
 returns : tie.Need-returns-in-Accepted
 unfolding is_accepted
-returns c = rw (sym c.before.before.read-verdict.ensures ∙ c.enum_told-1.given.1)
+returns c = rw (sym c.read-verdict.ensures ∙ c.in-Accepted.is)
 
 returns-2 : tie.Need-returns-in-Refused
 unfolding is_accepted
-returns-2 c = rw (sym c.before.before.read-verdict.ensures ∙ c.enum_told-in-Refused-1.given.1)
+returns-2 c = rw (sym c.read-verdict.ensures ∙ c.in-Refused.is)
 
 pub is_accepted_spec : {M : Type 1} → statement M
 is_accepted_spec = tie.close (tie.spec (λ c κs. search rules) enum_told (λ c. search rules) returns returns-2)

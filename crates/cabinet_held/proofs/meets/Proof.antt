@@ -12,21 +12,19 @@ use Rattle.cabinet_held.proofs.meets.Tie as tie
 met :
     {t : Bool} (c : tie.After-meet) →
     c.meet.result ≡ t →
-    let a = c.before.before.before.args in
+    let a = c.args in
     meet a.first a.count a.own (outputs_of a.personality.now) ≡ t
-met c e = let a = c.before.before.before.args in sym (ap (meet a.first a.count a.own) c.before.outputs_of.ensures) ∙ sym c.meet.ensures ∙ e
+met c e = let a = c.before.before.before.args in sym (ap (meet a.first a.count a.own) c.before.outputs-of.ensures) ∙ sym c.meet.ensures ∙ e
 
 returns : tie.Need-returns-then-meet
 returns c =
-    let told = c.before.before in
-    let b = told.before.before.before.args.personality.now in
-    c.is_accepted.ensures ∙ sym (ap (◌&&◌ (is_accepted (verdict_of b))) (met told c.before.if-meet.true) ∙ and-true (is_accepted (verdict_of b)))
+let b = c.args.personality.now in
+    c.is_accepted.ensures ∙ sym (ap (◌&&◌ (is_accepted (verdict_of b))) (met c.before.before c.if-meet.true) ∙ and-true (is_accepted (verdict_of b)))
 
 returns-2 : tie.Need-returns
 returns-2 c =
-    let told = c.before in
-    let b = told.before.before.before.args.personality.now in
-    sym (and-false-right (is_accepted (verdict_of b)) (met told c.if-meet.false))
+let b = c.args.personality.now in
+    sym (and-false-right (is_accepted (verdict_of b)) (met c.before c.if-meet.false))
 
 pub meets_spec : {M : Type 1} → statement M
 meets_spec =

@@ -9,13 +9,13 @@ enum_told : tie.Need-enum_told-1
 enum_told c = search rules
 
 refusal-requires : tie.Need-refusal-requires
-refusal-requires c κs = c.before.before.before.requires _ _ c.before.verdict-1.given.1
+refusal-requires c κs = c.requires _ _ c.in-Refused.is
 
 returns : tie.Need-returns-in-Accepted
-returns c = read-accepted _ _ refl c.enum_told-1.given.1
+returns c = read-accepted _ _ refl c.in-Accepted.is
 
 returns-2 : tie.Need-returns-in-Refused
-returns-2 c = read-refused _ _ _ refl c.before.before.verdict-1.given.1 c.refusal.ensures
+returns-2 c = read-refused _ _ _ refl c.in-Refused.is c.refusal.ensures
 
 pub packed_verdict_spec : {M : Type 1} → statement M
 packed_verdict_spec =

@@ -10,7 +10,7 @@ use Rattle.cabinet_held.proofs.past_last.Tie as tie
 
 returns : tie.Need-returns-then-first-gt32
 unfolding past_last
-returns c = let past : 32 < c.before.args.first + c.before.args.count = omega (arith, c.if-first-gt32.true) in sym (lt-ltb 32 _ past)
+returns c = let past : 32 < c.args.first + c.args.count = omega (arith, c.if-first-gt32.true) in sym (lt-ltb 32 _ past)
 
 returns-2 : tie.Need-returns
 unfolding past_last

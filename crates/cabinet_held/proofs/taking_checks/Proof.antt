@@ -12,15 +12,15 @@ enum_told c = search rules
 
 returns : tie.Need-returns-in-Refused
 unfolding taking_checks
-returns c = or-stop _ c.before.before.held_checks-verdict.ensures c.enum_told-1.given.1
+returns c = or-stop _ c.held_checks-verdict.ensures c.in-Refused.is
 
 returns-2 : tie.Need-returns-then-room-lt32
 unfolding taking_checks
-returns-2 c = or-next c.before.before.before.held_checks-verdict.ensures c.before.enum_told-in_default-1.given.1 (refuse-yes 14 0 (lt-ltb _ 32 c.if-room-lt32.true))
+returns-2 c = or-next c.held_checks-verdict.ensures c.in_default.is (refuse-yes 14 0 (lt-ltb _ 32 c.if-room-lt32.true))
 
 returns-3 : tie.Need-returns
 unfolding taking_checks
-returns-3 c = or-next c.before.before.before.held_checks-verdict.ensures c.before.enum_told-in_default-1.given.1 (sym (refuse-no 14 0 (le-ltb _ 32 c.if-room-lt32.false)))
+returns-3 c = or-next c.held_checks-verdict.ensures c.in_default.is (sym (refuse-no 14 0 (le-ltb _ 32 c.if-room-lt32.false)))
 
 pub taking_checks_spec : {M : Type 1} → statement M
 taking_checks_spec =

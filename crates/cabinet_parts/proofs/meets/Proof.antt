@@ -19,7 +19,7 @@ held-size-requires : tie.Need-held_size-length-requires
 held-size-requires c κs = search rules
 
 slice-aggregate-meets : tie.Need-slice_bounds-meets-end
-slice-aggregate-meets c = room-length (own c.before.before.before.before) c.before.all-1.given.0 c.before.before.held_size-length.ensures
+slice-aggregate-meets c = room-length (own c.before.before.before.before) c.all-1.given.0 c.held_size-length.ensures
 
 meets-requires : tie.Need-meets-requires
 meets-requires c κs = search rules
@@ -27,9 +27,8 @@ meets-requires c κs = search rules
 returns-2 : tie.Need-returns
 unfolding meets_record has_outputs
 returns-2 c =
-    let sized = c.before.before.before in
-    let start = sized.before.before in
-    rw (held-record (own start) sized.before.if-held-eq0.false, ← room-part (own start) c.before.before.all-1.given.0 sized.held_size-length.ensures) c.meets.ensures
+let start = sized.before.before in
+    rw (held-record (own start) c.if-held-eq0.false, ← room-part (own start) c.all-1.given.0 c.held_size-length.ensures) c.meets.ensures
 
 pub meets_spec : {M : Type 1} → statement M
 meets_spec =

@@ -13,13 +13,13 @@ refusal-requires : tie.Need-refusal-requires
 refusal-requires c κs = search rules
 
 returns : tie.Need-returns-then-held-eq0
-returns c = step-free _ _ _ c.before.if-held-eq0.true c.refusal.ensures
+returns c = step-free _ _ _ c.if-held-eq0.true c.refusal.ensures
 
 held-size-requires : tie.Need-held_size-count-requires
 held-size-requires c κs = search rules
 
 slice-aggregate-held-step : tie.Need-slice_bounds-held_step-end
-slice-aggregate-held-step c = room-length (own c.before.before.before.before.before) c.before.all-1.given.0 c.before.before.held_size-count.ensures
+slice-aggregate-held-step c = room-length (own c.before.before.before.before.before) c.all-1.given.0 c.held_size-count.ensures
 
 held-step-requires : tie.Need-held_step-requires
 held-step-requires c κs = search rules
@@ -29,10 +29,8 @@ same_length c = search rules
 
 returns-2 : tie.Need-returns
 returns-2 c =
-    let lent = c.before.before.before.before.before in
-    let sized = lent.before.before in
-    let start = sized.before.before.before in
-    step-held (own start) _ _ sized.before.if-held-eq0.false (room-part (own start) lent.before.all-1.given.0 sized.held_size-count.ensures) c.before.before.held_step.ensures
+let start = sized.before.before.before in
+    step-held (own start) _ _ c.if-held-eq0.false (room-part (own start) c.all-1.given.0 c.held_size-count.ensures) c.held_step.ensures
 
 pub step_spec : {M : Type 1} → statement M
 step_spec =

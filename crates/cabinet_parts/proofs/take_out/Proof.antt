@@ -19,13 +19,13 @@ refusal-requires : tie.Need-refusal-requires
 refusal-requires c κs = search rules
 
 returns : tie.Need-returns-then-mark-eq0
-returns c = taking-free _ _ (free-record _ c.before.if-mark-eq0.true) c.refusal.ensures
+returns c = taking-free _ _ (free-record _ c.if-mark-eq0.true) c.refusal.ensures
 
 held-size-requires : tie.Need-held_size-count-requires
 held-size-requires c κs = search rules
 
 slice-aggregate-held-taking : tie.Need-slice_bounds-held_taking-end
-slice-aggregate-held-taking c = room-length (own c.before.before.before.before.before.before.before.before.before) c.before.all-2-1.given.0 c.before.before.before.held_size-count.ensures
+slice-aggregate-held-taking c = room-length (own c.before.before.before.before.before.before.before.before.before) c.all-2-1.given.0 c.held_size-count.ensures
 
 held-taking-requires : tie.Need-held_taking-verdict-requires
 held-taking-requires c κs = search rules
@@ -35,24 +35,23 @@ abbrev record_of : tie.After-held_taking-verdict → Record
 record_of c = own c.before.before.before.before.before.before.before.before.before.before.before
 
 is_held : (c : tie.After-held_taking-verdict) → is_free (record_of c) ≡ false
-is_held c = held-record (record_of c) c.before.before.before.before.before.before.before.before.if-mark-eq0.false
+is_held c = held-record (record_of c) c.if-mark-eq0.false
 
-whole : (c : tie.After-held_taking-verdict) → take c.before.before.before.before.before.held_size-count.result (record_of c).personality ≡ personality_of (record_of c)
-whole c = room-part (record_of c) c.before.before.before.all-2-1.given.0 c.before.before.before.before.before.held_size-count.ensures
+whole : (c : tie.After-held_taking-verdict) → take c.held_size-count.result (record_of c).personality ≡ personality_of (record_of c)
+whole c = room-part (record_of c) c.all-2-1.given.0 c.held_size-count.ensures
 
 enum-known-verdict : tie.Need-enum_known-verdict
 enum-known-verdict c = search rules
 
 refusal-requires-2 : tie.Need-refusal-requires-in-Refused
-refusal-requires-2 c κs = subst⁻¹ Near c.before.before.before.before.before.held_taking-verdict.ensures.0 (taking-near _ _ _) _ _ c.before.verdict-1.given.1
+refusal-requires-2 c κs = subst⁻¹ Near c.held_taking-verdict.ensures.0 (taking-near _ _ _) _ _ c.in-Refused.is
 
 same_length : tie.Need-shape_of-outputs-in-Refused
 same_length c = search rules
 
 returns-2 : tie.Need-returns-in-Refused
 returns-2 c =
-    let called = c.before.before.before.before.before.before in
-    taking-refused (record_of called) _ (is_held called) (whole called) called.held_taking-verdict.ensures.0 called.held_taking-verdict.ensures.1 c.before.before.verdict-1.given.1 c.refusal-in-Refused.ensures
+taking-refused (record_of c.before.before.before.before) _ (is_held c.before.before.before.before) (whole c.before.before.before.before) c.held_taking-verdict.ensures.0 c.held_taking-verdict.ensures.1 c.in-Refused.is c.refusal-in-Refused.ensures
 
 enum_told : tie.Need-enum_told-1
 enum_told c = search rules
@@ -71,12 +70,9 @@ same-length-2 c = search rules
 
 returns-3 : tie.Need-returns
 returns-3 c =
-    let cleared = c.before.before.before.before in
-    let told = cleared.before.before in
-    let called = told.before.before.before.before in
-    taking-accepted (record_of called) _ (is_held called) (whole called) called.held_taking-verdict.ensures.0 called.held_taking-verdict.ensures.1 told.enum_told-1.given.1
-    (cleared-record (record_of called).length (record_of called).personality (record_of called).state cleared.before.fill-arg-1.given.0.1 cleared.fill.ensures
-    c.before.before.before.fill-arg-2-1.given.0.1 c.before.before.fill-2.ensures c.before.fill-arg-3-1.given.0.1 c.fill-3.ensures)
+taking-accepted (record_of c.before.before.before.before.before.before.before.before.before) _ (is_held c.before.before.before.before.before.before.before.before.before) (whole c.before.before.before.before.before.before.before.before.before) c.held_taking-verdict.ensures.0 c.held_taking-verdict.ensures.1 c.in_default.is
+    (cleared-record (record_of c.before.before.before.before.before.before.before.before.before).length (record_of c.before.before.before.before.before.before.before.before.before).personality (record_of c.before.before.before.before.before.before.before.before.before).state c.fill-arg-1.given.0.1 c.fill.ensures
+    c.fill-arg-2-1.given.0.1 c.fill-2.ensures c.fill-arg-3-1.given.0.1 c.fill-3.ensures)
 
 pub take_out_spec : {M : Type 1} → statement M
 take_out_spec =

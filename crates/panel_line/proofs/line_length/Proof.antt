@@ -10,7 +10,7 @@ use Rattle.panel_line.proofs.line_length.Tie as tie
 returns : tie.Need-returns
 unfolding line_of
 returns c =
-    let why = c.before.before.before.before.args.why in
+    let why = c.args.why in
     let sum = whole_sum why.phase why.alone why.gap why.left (λ k. bit k why.walks) in
     (omega arith, omega arith)
 

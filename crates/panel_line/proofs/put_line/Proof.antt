@@ -39,77 +39,51 @@ module _ (why : Why) where
   sum = whole_sum why.phase why.alone why.gap why.left (λ k. bit k why.walks)
 
 put-phase-requires : tie.Need-put_phase-start-requires
-put-phase-requires c κs = let total = sum c.before.before.args.why in (omega arith, omega arith)
+put-phase-requires c κs = let total = sum c.args.why in (omega arith, omega arith)
 
 -- where each part ends, counted from the start
 
-abbrev phased : tie.After-put_phase-start → tie.Start
-phased c = c.before.before.before
-
 place-1 : (c : tie.After-put_phase-start) → c.put_phase-start.result ≡ 7
-place-1 c = omega (arith, c.put_phase-start.ensures.place, line-short (phased c).args.why.phase)
+place-1 c = omega (arith, c.put_phase-start.ensures.place, line-short c.args.why.phase)
 
 put-told-requires : tie.Need-put_told-first-requires
 put-told-requires c κs =
-    let last = c.before.before.before in
-    let start = phased last in
-    omega (arith, sum start.args.why, start.pre.1, place-1 last)
+omega (arith, sum c.args.why, c.pre.1, place-1 c.before.before.before)
 
-abbrev first : tie.After-put_told-first → tie.After-put_phase-start
-first c = c.before.before.before.before
-
-place-2 : (c : tie.After-put_told-first) → c.put_told-first.result ≡ 7 + length (reasons_text (alone (phased (first c)).args.why))
-place-2 c = omega (arith, c.put_told-first.ensures.place, place-1 (first c))
+place-2 : (c : tie.After-put_told-first) → c.put_told-first.result ≡ 7 + length (reasons_text (alone c.args.why))
+place-2 c = omega (arith, c.put_told-first.ensures.place, place-1 c.before.before.before.before)
 
 put-told-requires-2 : tie.Need-put_told-second-requires
 put-told-requires-2 c κs =
-    let last = c.before.before.before in
-    let start = phased (first last) in
-    omega (arith, sum start.args.why, start.pre.1, place-2 last)
-
-abbrev second : tie.After-put_told-second → tie.After-put_told-first
-second c = c.before.before.before.before
+omega (arith, sum c.args.why, c.pre.1, place-2 c.before.before.before)
 
 place-3 :
     (c : tie.After-put_told-second) →
-    let why = (phased (first (second c))).args.why in
+    let why = c.args.why in
     c.put_told-second.result ≡ 7 + length (reasons_text (alone why)) + length (reasons_text (gap why))
-place-3 c = omega (arith, c.put_told-second.ensures.place, place-2 (second c))
+place-3 c = omega (arith, c.put_told-second.ensures.place, place-2 c.before.before.before.before)
 
 put-told-requires-3 : tie.Need-put_told-third-requires
 put-told-requires-3 c κs =
-    let last = c.before.before.before in
-    let start = phased (first (second last)) in
-    omega (arith, sum start.args.why, start.pre.1, place-3 last)
-
-abbrev third : tie.After-put_told-third → tie.After-put_told-second
-third c = c.before.before.before.before
+omega (arith, sum c.args.why, c.pre.1, place-3 c.before.before.before)
 
 put-walks-requires : tie.Need-put_walks-requires
 put-walks-requires c κs =
-    let last = c.before.before.before in
-    let start = phased (first (second (third last))) in
-    omega (arith, sum start.args.why, start.pre.1, last.put_told-third.ensures.place, place-3 (third last))
+omega (arith, sum c.args.why, c.pre.1, c.put_told-third.ensures.place, place-3 c.before.before.before.before.before.before.before)
 
 returns : tie.Need-returns
 unfolding line_of reasons_by
 returns c =
-    let fourth = c.before.before in
-    let third-put = fourth.before.before.before.before in
-    let second-put = third third-put in
-    let first-put = second second-put in
-    let phase-put = first first-put in
-    let start = phased phase-put in
-    let why = start.args.why in
+let why = c.args.why in
     put_front
     (line-then why.phase (alone why ++ gap why ++ left why) (walking why)
     (line-then why.phase (alone why ++ gap why) (left why)
     (line-then why.phase (alone why) (gap why)
-    (line-then why.phase [] (alone why) phase-put.put_phase-start.ensures first-put.put_told-first.ensures)
-    second-put.put_told-second.ensures)
-    third-put.put_told-third.ensures)
-    fourth.put-Walks.ensures)
-    start.pre.1
+    (line-then why.phase [] (alone why) c.put_phase-start.ensures c.put_told-first.ensures)
+    c.put_told-second.ensures)
+    c.put_told-third.ensures)
+    c.put-Walks.ensures)
+    c.pre.1
 
 pub put_line_spec : {M : Type 1} → statement M
 put_line_spec =

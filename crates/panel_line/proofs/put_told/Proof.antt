@@ -10,19 +10,17 @@ use Rattle.panel_line.proofs.put_told.Tie as tie
 
 put-reason-requires : tie.Need-put_reason-requires
 put-reason-requires c κs =
-    let a = c.before.before.before.args in
-    omega (arith, ap length (told-yes a.reason c.before.if-test.true))
+    let a = c.args in
+    omega (arith, ap length (told-yes a.reason c.if-test.true))
 
 returns : tie.Need-returns-then-test
 returns c =
-    let put = c.before.before in
-    let chosen = put.before.before in
-    put_as (told-yes chosen.before.before.args.reason chosen.if-test.true) put.put_reason.ensures
+put_as (told-yes c.args.reason c.if-test.true) c.put_reason.ensures
 
 returns-2 : tie.Need-returns-else-test
 returns-2 c =
-    let a = c.before.before.args in
-    put_as (told-no a.reason c.if-test.false) (put-none a.at a.out-1.now)
+    let a = c.args in
+    put_as (told-no a.reason c.if-test.false) (put-none a.at a.out.now)
 
 pub put_told_spec : {M : Type 1} → statement M
 put_told_spec = tie.close (tie.spec put-reason-requires (λ c. search rules) returns returns-2)

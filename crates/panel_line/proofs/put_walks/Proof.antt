@@ -22,8 +22,8 @@ decreases-loop-k set at out₀ next₀ k₀ out next k = 8 - k
 
 loop-holds : tie.Need-loop-k-init invariant-loop-k decreases-loop-k
 loop-holds c =
-    let a = c.before.args in
-    (omega arith, put_as (walks-none (λ i. bit i a.set)) (put-none a.at a.out-1.now))
+    let a = c.args in
+    (omega arith, put_as (walks-none (λ i. bit i a.set)) (put-none a.at a.out.now))
 
 cast-number : tie.Need-overflow_cast-number invariant-loop-k decreases-loop-k
 cast-number c = search rules
@@ -37,11 +37,10 @@ bit8-requires c κs = search rules
 -- the text up to the next movement is no longer than that of all of them
 put-told-requires : tie.Need-put_told-next-requires invariant-loop-k decreases-loop-k
 put-told-requires c κs =
-    let tested = c.before in
-    let at = tested.before.before.loop-k in
-    let walking : ℕ → Bool = λ i. bit i tested.before.before.before.before.args.set in
+let at = c.loop-k in
+    let walking : ℕ → Bool = λ i. bit i c.args.set in
     let all : at.k + 1 + (7 - at.k) ≡ 8 = omega arith in
-    rw tested.bit8.ensures
+    rw c.bit8.ensures
     (omega (
       arith,
       at.invariant.1.place,
@@ -59,19 +58,17 @@ loop-less c = search rules
 
 loop-again : tie.Need-loop-k-preserved invariant-loop-k decreases-loop-k
 loop-again c =
-    let put = c.before.before in
-    let tested = put.before.before in
-    let at = tested.before.before.loop-k in
-    let walking : ℕ → Bool = λ i. bit i tested.before.before.before.before.args.set in
-    (omega arith, put_as (walks_more walking at.k) (put_then at.invariant.1 (rw tested.bit8.ensures at put.put_told-next.ensures)))
+let at = c.loop-k in
+    let walking : ℕ → Bool = λ i. bit i c.args.set in
+    (omega arith, put_as (walks_more walking at.k) (put_then at.invariant.1 (rw c.bit8.ensures at c.put_told-next.ensures)))
 
 same_length : tie.Need-shape_of-out invariant-loop-k decreases-loop-k
-same_length c = put-length c.before.loop-k.invariant.1
+same_length c = put-length c.loop-k.invariant.1
 
 returns : tie.Need-returns invariant-loop-k decreases-loop-k
 returns c =
-    let at = c.before.loop-k in
-    let set = c.before.before.before.args.set in
+    let at = c.loop-k in
+    let set = c.args.set in
     let all : 8 ≡ at.k = omega arith in
     put_as (ap (λ (n : ℕ). reasons_text (walks (λ i. bit i set) n)) all) at.invariant.1
 

@@ -9,11 +9,11 @@ use Rattle.panel_line.proofs.told_length.Tie as tie
 
 returns : tie.Need-returns-then-test
 returns c =
-    let same = ap length (told-yes c.before.before.args.reason c.before.if-test.true) in
+    let same = ap length (told-yes c.args.reason c.if-test.true) in
     (omega arith, omega arith)
 
 returns-2 : tie.Need-returns-else-test
-returns-2 c = let none = ap length (told-no c.before.args.reason c.if-test.false) in (omega arith, omega arith)
+returns-2 c = let none = ap length (told-no c.args.reason c.if-test.false) in (omega arith, omega arith)
 
 pub told_length_spec : {M : Type 1} → statement M
 told_length_spec = tie.close (tie.spec (λ c κs. search rules) returns returns-2)

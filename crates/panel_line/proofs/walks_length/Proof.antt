@@ -43,16 +43,15 @@ loop-less c = search rules
 
 loop-again : tie.Need-loop-k-preserved invariant-loop-k decreases-loop-k
 loop-again c =
-    let tested = c.before in
-    let at = tested.before.before.loop-k in
-    let own = rw tested.bit8.ensures at c.told_length-total.ensures.0 in
-    let sum = walks-sum (λ i. bit i tested.before.before.before.args.set) at.k in
+let at = c.loop-k in
+    let own = rw c.bit8.ensures at c.told_length-total.ensures.0 in
+    let sum = walks-sum (λ i. bit i c.args.set) at.k in
     (omega arith, omega arith, omega arith)
 
 returns : tie.Need-returns invariant-loop-k decreases-loop-k
 returns c =
-    let at = c.before.loop-k in
-    let set = c.before.before.args.set in
+    let at = c.loop-k in
+    let set = c.args.set in
     let all : at.k ≡ 8 = omega arith in
     (at.invariant.1 ∙ ap (λ (n : ℕ). length (reasons_text (walks (λ i. bit i set) n))) all, omega arith)
 

@@ -23,36 +23,31 @@ abbrev decreases-loop-k : tie.decreases-loop-k
 decreases-loop-k movements set₀ k₀ set k = 8 - k
 
 loop-holds : tie.Need-loop-k-init invariant-loop-k decreases-loop-k
-loop-holds c = (omega arith, passing-none (walking_among c.args.t1))
+loop-holds c = (omega arith, passing-none (walking_among c.args.table))
 
 -- the test of movement k
 own-walking :
     (c : tie.After-is_walk_or_first invariant-loop-k decreases-loop-k) →
-    let head = c.before.before.before in
-    c.is_walk_or_first.result ≡ walking_among head.before.args.t1 head.loop-k.k
+c.is_walk_or_first.result ≡ walking_among c.args.table c.loop-k.k
 unfolding walking_among
 own-walking c =
-    let head = c.before.before.before in
-    let start = head.before in
-    let inside : head.loop-k.k < length start.args.t1 = omega (arith, c.before.before.loop-k-test.true, start.well_formed.0.1.0.1) in
+let inside : c.loop-k.k < length c.args.table = omega (arith, c.loop-k-test.true, c.well_formed.0.1.0.1) in
     c.is_walk_or_first.ensures
-    ∙ ap (λ (m : Movement). is_walk_or_first m.stage) (entry-same start.args.t1 head.loop-k.k (record { stage = Idle; age = 0 }) idle inside)
+    ∙ ap (λ (m : Movement). is_walk_or_first m.stage) (entry-same c.args.table c.loop-k.k (record { stage = Idle; age = 0 }) idle inside)
 
 loop-again : tie.Need-loop-k-preserved invariant-loop-k decreases-loop-k
 loop-again c =
-    let tested = c.before in
-    let head = tested.before.before.before in
-    let walking = walking_among head.before.args.t1 in
-    let own = own-walking tested in (
+let walking = walking_among c.args.table in
+    let own = own-walking c.before in (
       omega arith,
       ⊎_elim
-          (λ w. w.2 ∙ passing-more walking head.loop-k.k head.loop-k.invariant.1 (sym own ∙ w.0.taken) w.1.ensures)
-          (λ w. w.1 ∙ passing-same walking head.loop-k.k head.loop-k.invariant.1 (sym own ∙ w.0.left))
+          (λ w. w.2 ∙ passing-more walking c.loop-k.k c.loop-k.invariant.1 (sym own ∙ w.0.taken) w.1.ensures)
+          (λ w. w.1 ∙ passing-same walking c.loop-k.k c.loop-k.invariant.1 (sym own ∙ w.0.left))
           c.if-is_walk_or_first.branch,
     )
 
 returns : tie.Need-returns invariant-loop-k decreases-loop-k
-returns c = let at = c.before.loop-k in passing-all (walking_among c.before.before.args.t1) at.invariant.1 (omega arith)
+returns c = let at = c.loop-k in passing-all (walking_among c.args.table) at.invariant.1 (omega arith)
 
 pub walking_spec : {M : Type 1} → statement M
 walking_spec =

@@ -14,26 +14,24 @@ start c = c.before.before.before.before.before
 -- the maximum count of a valid state is at most X
 sub-left : tie.Need-overflow_sub-left
 sub-left c =
-    let given = ap (λ (t : PhaseTimes). t.maximum) c.before.before.phase_times-own.ensures in
-    omega (arith, given, (holding-valid (start c.before.before).requires).maximum)
+    let given = ap (λ (t : PhaseTimes). t.maximum) c.phase_times-own.ensures in
+    omega (arith, given, (holding-valid c.requires).maximum)
 
 returns : tie.Need-returns
 returns c =
-    let timed = c.before.before.before.before in
-    let entry = start timed in
-    let a = entry.args in
+let a = c.args in
     record {
       line =
           line-told a.site a.state a.inputs _
           (record {
-            running = entry.pre.running;
+            running = c.pre.running;
             phase = refl;
-            alone = c.before.no_other.ensures;
+            alone = c.no_other.ensures;
             gap = refl;
-            left = ap (λ (t : PhaseTimes). t.maximum - a.state.core.counts.maximum) timed.phase_times-own.ensures;
+            left = ap (λ (t : PhaseTimes). t.maximum - a.state.core.counts.maximum) c.phase_times-own.ensures;
             walks = c.walking.ensures;
           });
-      phase = omega (arith, (holding-valid entry.pre).phase, entry.pre.sound.phases.1);
+      phase = omega (arith, (holding-valid c.pre).phase, c.pre.sound.phases.1);
     }
 
 pub why_of_spec : {M : Type 1} → statement M

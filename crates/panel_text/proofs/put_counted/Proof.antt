@@ -6,8 +6,7 @@ use Rattle.panel_text.proofs.put_counted.Tie as tie
 
 returns : tie.Need-returns
 returns c =
-    let second = c.before.before in
-    put_then second.before.before.before.before.put_bytes-next.ensures second.put_decimal.ensures
+put_then c.put_bytes-next.ensures c.put_decimal.ensures
 
 pub put_counted_spec : {M : Type 1} → statement M
 put_counted_spec = tie.close (tie.spec (λ c κs. search rules) (λ c κs. search rules) (λ c. search rules) returns)

@@ -12,15 +12,14 @@ use Rattle.panel_text.proofs.put_phase.Tie as tie
 
 same_length : tie.Need-shape_of-out
 same_length c =
-    let a = c.before.before.before.before.before.before.args in
-    omega (arith, length-set a.out-1.now 0 (65 + a.phase))
+    let a = c.args in
+    omega (arith, length-set a.out.now 0 (65 + a.phase))
 
 returns : tie.Need-returns
 returns c =
-    let put = c.before.before in
-    let a = put.before.before.before.before.args in
+let a = c.args in
     put_as (line-start a.phase (omega arith))
-    (put_then {a = (65 + a.phase) ∷ []} {at = 0} {old = a.out-1.now} (record { place = refl; bytes = refl }) put.put_bytes.ensures)
+    (put_then {a = (65 + a.phase) ∷ []} {at = 0} {old = a.out.now} (record { place = refl; bytes = refl }) c.put_bytes.ensures)
 
 pub put_phase_spec : {M : Type 1} → statement M
 put_phase_spec =

@@ -14,43 +14,39 @@ enum_told c = search rules
 
 put-bytes-requires : tie.Need-put_bytes-requires
 unfolding reason_text
-put-bytes-requires c κs = omega (arith, ap (λ (r : Reason). length (reason_text r)) c.before.before.enum_told-1.given.1)
+put-bytes-requires c κs = omega (arith, ap (λ (r : Reason). length (reason_text r)) c.in-NoOtherDemand.is)
 
 put-counted-requires : tie.Need-put_counted-requires
 unfolding reason_text
-put-counted-requires c κs = omega (arith, ap (λ (r : Reason). length (reason_text r)) c.before.before.before.reason-1.given.1)
+put-counted-requires c κs = omega (arith, ap (λ (r : Reason). length (reason_text r)) c.in-Gap.is)
 
 put-counted-requires-2 : tie.Need-put_counted-requires-in-Max
 unfolding reason_text
-put-counted-requires-2 c κs = omega (arith, ap (λ (r : Reason). length (reason_text r)) c.before.before.before.reason-in-Max-1.given.1)
+put-counted-requires-2 c κs = omega (arith, ap (λ (r : Reason). length (reason_text r)) c.in-Max.is)
 
 put-counted-requires-3 : tie.Need-put_counted-requires-in-Walk
 unfolding reason_text
-put-counted-requires-3 c κs = omega (arith, ap (λ (r : Reason). length (reason_text r)) c.before.before.before.reason-in-Walk-1.given.1)
+put-counted-requires-3 c κs = omega (arith, ap (λ (r : Reason). length (reason_text r)) c.in-Walk.is)
 
 returns : tie.Need-returns-in-NoOtherDemand
 unfolding reason_text
 returns c =
-    let put = c.before.before in
-    put_as (ap reason_text put.before.before.before.enum_told-1.given.1) put.put_bytes.ensures
+put_as (ap reason_text c.in-NoOtherDemand.is) c.put_bytes.ensures
 
 returns-2 : tie.Need-returns-in-Gap
 unfolding reason_text
 returns-2 c =
-    let put = c.before.before in
-    put_as (ap reason_text put.before.before.before.before.reason-1.given.1) put.put_counted.ensures
+put_as (ap reason_text c.in-Gap.is) c.put_counted.ensures
 
 returns-3 : tie.Need-returns-in-Max
 unfolding reason_text
 returns-3 c =
-    let put = c.before.before in
-    put_as (ap reason_text put.before.before.before.before.reason-in-Max-1.given.1) put.put_counted-in-Max.ensures
+put_as (ap reason_text c.in-Max.is) c.put_counted-in-Max.ensures
 
 returns-4 : tie.Need-returns-in-Walk
 unfolding reason_text
 returns-4 c =
-    let put = c.before.before in
-    put_as (ap reason_text put.before.before.before.before.reason-in-Walk-1.given.1) put.put_counted-in-Walk.ensures
+put_as (ap reason_text c.in-Walk.is) c.put_counted-in-Walk.ensures
 
 pub put_reason_spec : {M : Type 1} → statement M
 put_reason_spec =

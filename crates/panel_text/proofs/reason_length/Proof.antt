@@ -13,24 +13,24 @@ enum_told c = search rules
 
 returns : tie.Need-returns-in-NoOtherDemand
 unfolding reason_text
-returns c = let told = ap (λ (r : Reason). length (reason_text r)) c.enum_told-1.given.1 in (omega arith, omega arith)
+returns c = let told = ap (λ (r : Reason). length (reason_text r)) c.in-NoOtherDemand.is in (omega arith, omega arith)
 
 returns-2 : tie.Need-returns-in-Gap
 unfolding reason_text
 returns-2 c =
-    let told = ap (λ (r : Reason). length (reason_text r)) c.before.before.reason-1.given.1 in
+    let told = ap (λ (r : Reason). length (reason_text r)) c.in-Gap.is in
     (omega arith, omega arith)
 
 returns-3 : tie.Need-returns-in-Max
 unfolding reason_text
 returns-3 c =
-    let told = ap (λ (r : Reason). length (reason_text r)) c.before.before.reason-in-Max-1.given.1 in
+    let told = ap (λ (r : Reason). length (reason_text r)) c.in-Max.is in
     (omega arith, omega arith)
 
 returns-4 : tie.Need-returns-in-Walk
 unfolding reason_text
 returns-4 c =
-    let told = ap (λ (r : Reason). length (reason_text r)) c.before.before.reason-in-Walk-1.given.1 in
+    let told = ap (λ (r : Reason). length (reason_text r)) c.in-Walk.is in
     (omega arith, omega arith)
 
 pub reason_length_spec : {M : Type 1} → statement M

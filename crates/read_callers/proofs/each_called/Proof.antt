@@ -35,66 +35,62 @@ unfolding detector_count
 counted c = ap (λ (n : ℕ). n / 2) (detectors-length c.requires.0)
 
 sub-count : tie.Need-overflow_sub-count invariant-loop-called decreases-loop-called
-sub-count c = omega (arith, detectors-apart c.before.before.requires.0)
+sub-count c = omega (arith, detectors-apart c.requires.0)
 
 sub-count-2 : tie.Need-overflow_sub-count-2 invariant-loop-called decreases-loop-called
-sub-count-2 c = omega (arith, detectors-apart c.before.before.requires.0)
+sub-count-2 c = omega (arith, detectors-apart c.requires.0)
 
 shl-all : tie.Need-overflow_shl-all invariant-loop-called decreases-loop-called
-shl-all c = let start = c.before.before.before in omega (arith, few start, start.requires.0.phasecount)
+shl-all c = omega (arith, few c.before.before.before, c.requires.0.phasecount)
 
 sub-all : tie.Need-overflow_sub-all invariant-loop-called decreases-loop-called
-sub-all c = let start = c.before.before.before in shifted-some 8 _ (omega (arith, few start, start.requires.0.phasecount))
+sub-all c = shifted-some 8 _ (omega (arith, few c.before.before.before, c.requires.0.phasecount))
 
 loop-holds : tie.Need-loop-called-init invariant-loop-called decreases-loop-called
-loop-holds c = (omega arith, called-none _ c.before.before.before.requires.3)
+loop-holds c = (omega arith, called-none _ c.requires.3)
 
 -- the set has every phase
 abbrev is_full : tie.At-loop-called invariant-loop-called decreases-loop-called → Bool
-is_full c = eqb c.loop-called.called (1 * 2 ^ c.before.before.before.before.args.layout.phasecount % 2 ^ 8 - 1)
+is_full c = eqb c.loop-called.called (1 * 2 ^ c.args.layout.phasecount % 2 ^ 8 - 1)
 
 -- a turn's detector is one of the site's
 turn :
     (c : tie.In-loop-called invariant-loop-called decreases-loop-called) →
-    let layout = c.before.before.before.before.before.args.layout in
-    c.before.loop-called.d < (layout.pedestrians - layout.detectors - 4) / 2
+    let layout = c.args.layout in
+    c.loop-called.d < (layout.pedestrians - layout.detectors - 4) / 2
 turn c = ltb-true _ _ (and_right (not (is_full c.before)) _ c.loop-called-test.true)
 
-own-within : (c : tie.In-loop-called invariant-loop-called decreases-loop-called) → c.before.loop-called.d < detector_count c.before.before.before.before.before.args.s.now
+own-within : (c : tie.In-loop-called invariant-loop-called decreases-loop-called) → c.loop-called.d < detector_count c.args.s.now
 own-within c = omega (arith, turn c, counted c.before.before.before.before.before)
 
 pair-at-requires : tie.Need-pair_at-detector-requires invariant-loop-called decreases-loop-called
 unfolding pedestrians_head body_at
 pair-at-requires c κs =
-    let start = c.before.before.before.before.before in
-    let layout = start.args.layout in
+let layout = c.args.layout in
     omega (
       arith,
-      record-within layout.detectors 2 ((layout.pedestrians - layout.detectors - 4) / 2) c.before.loop-called.d (turn c),
-      (told start).next,
-      start.requires.0.pedestrians,
-      detectors-apart start.requires.0,
+      record-within layout.detectors 2 ((layout.pedestrians - layout.detectors - 4) / 2) c.loop-called.d (turn c),
+      (told c.before.before.before.before.before).next,
+      c.requires.0.pedestrians,
+      detectors-apart c.requires.0,
     )
 
 -- the record read is that of detector d
 record_read :
     (c : tie.After-pair_at-detector invariant-loop-called decreases-loop-called) →
-    let at_loop = c.before.before in
-    let b = at_loop.before.before.before.before.args.s.now in
-    let d = at_loop.loop-called.d in
+let b = c.args.s.now in
+    let d = c.loop-called.d in
     (c.pair_at-detector.result.first ≡ detector_phase b d)
     × (c.pair_at-detector.result.second ≡ detector_mode b d)
     × (c.pair_at-detector.result.first < phase_count b)
 unfolding detector_phase detector_mode
 record_read c =
-    let at_loop = c.before.before in
-    let start = at_loop.before.before.before.before in
-    let head = start.requires.0.detectors in
+let head = c.requires.0.detectors in
     let phase = rw head at c.pair_at-detector.ensures.0 in
-    (phase, rw head at c.pair_at-detector.ensures.1, omega (arith, phase, (told start).phase at_loop.loop-called.d (own-within c.before)))
+    (phase, rw head at c.pair_at-detector.ensures.1, omega (arith, phase, (told c.before.before.before.before.before.before).phase c.loop-called.d (own-within c.before)))
 
 shl-called : tie.Need-overflow_shl-called invariant-loop-called decreases-loop-called
-shl-called c = let read = c.before.before.before in omega (arith, (record_read read).2, few read.before.before.before.before.before.before)
+shl-called c = omega (arith, (record_read c.before.before.before).2, few c.before.before.before.before.before.before.before.before.before)
 
 add-d : tie.Need-overflow_add-d invariant-loop-called decreases-loop-called
 add-d c = search rules
@@ -104,16 +100,13 @@ loop-less c = omega (arith, turn c.before.before.before)
 
 loop-again : tie.Need-loop-called-preserved invariant-loop-called decreases-loop-called
 loop-again c =
-    let read = c.before.before in
-    let at_loop = read.before.before in
-    let start = at_loop.before.before.before.before in
-    let b = start.args.s.now in
-    let d = at_loop.loop-called.d in
-    let called = at_loop.loop-called.invariant.1 in
-    let held = record_read read in (
-      omega (arith, own-within read.before, counted start),
+let b = c.args.s.now in
+    let d = c.loop-called.d in
+    let called = c.loop-called.invariant.1 in
+    let held = record_read c.before.before in (
+      omega (arith, own-within c.before.before.before, counted c.before.before.before.before.before.before.before.before),
       ⊎_elim
-          (λ w. subst (λ (set : ℕ). Called b set (d + 1)) (sym w.2) (called_more b called held.0 held.1 (few start) held.2 w.0.taken))
+          (λ w. subst (λ (set : ℕ). Called b set (d + 1)) (sym w.2) (called_more b called held.0 held.1 (few c.before.before.before.before.before.before.before.before) held.2 w.0.taken))
           (λ w. subst (λ (set : ℕ). Called b set (d + 1)) (sym w.1) (called_same b called held.0 held.1 w.0.left))
           c.if-detector-ne0.branch,
     )
@@ -122,23 +115,19 @@ loop-again c =
 whole :
     (c : tie.After-loop-called invariant-loop-called decreases-loop-called) →
     is_full c.before ≡ false →
-    c.before.loop-called.d ≡ detector_count c.before.before.before.before.before.args.s.now
+    c.loop-called.d ≡ detector_count c.args.s.now
 whole c e =
-    let at_loop = c.before in
-    let start = at_loop.before.before.before.before in
-    let layout = start.args.layout in
+let layout = c.args.layout in
     let count = (layout.pedestrians - layout.detectors - 4) / 2 in
-    let past = ltb-false at_loop.loop-called.d count (and-false-rest (ltb at_loop.loop-called.d count) c.loop-called-test.false (ap not e)) in
-    omega (arith, past, at_loop.loop-called.invariant.0, counted start)
+    let past = ltb-false c.loop-called.d count (and-false-rest (ltb c.loop-called.d count) c.loop-called-test.false (ap not e)) in
+    omega (arith, past, c.loop-called.invariant.0, counted c.before.before.before.before.before)
 
 returns : tie.Need-returns invariant-loop-called decreases-loop-called
 returns c =
-    let at_loop = c.before in
-    let start = at_loop.before.before.before.before in
-    let phases = start.requires.0.phasecount in
+let phases = c.requires.0.phasecount in
     rw phases
-    (called-decided _ (few start) at_loop.loop-called.invariant.1 (omega (arith, at_loop.loop-called.invariant.0, counted start))
-    (λ e. whole c (ap (λ (n : ℕ). eqb at_loop.loop-called.called (1 * 2 ^ n % 2 ^ 8 - 1)) phases ∙ e)))
+    (called-decided _ (few c.before.before.before.before.before) c.loop-called.invariant.1 (omega (arith, c.loop-called.invariant.0, counted c.before.before.before.before.before))
+    (λ e. whole c (ap (λ (n : ℕ). eqb c.loop-called.called (1 * 2 ^ n % 2 ^ 8 - 1)) phases ∙ e)))
 
 pub each_called_spec : {M : Type 1} → statement M
 each_called_spec =

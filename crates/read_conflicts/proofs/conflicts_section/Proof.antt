@@ -21,23 +21,21 @@ enum_told c = search rules
 -- the head is held to the length that N needs
 checked :
     (c : tie.After-sized_section-head) →
-    let b = c.before.before.before.args.s.now in
+    let b = c.args.s.now in
     c.sized_section-head.result ≡ section_at b (conflicts_head b) 4 (eqb (body_length b (conflicts_head b)) (group_count b * 4))
-checked c = let laid = c.before.before.before.requires.0 in rw (laid.conflicts, laid.groupcount) at c.sized_section-head.ensures
+checked c = let laid = c.requires.0 in rw (laid.conflicts, laid.groupcount) at c.sized_section-head.ensures
 
 returns : tie.Need-returns-in-Refused
 unfolding conflicts_section
-returns c = or-stop _ (checked c.before.before) c.enum_told-1.given.1
+returns c = or-stop _ (checked c.before) c.in-Refused.is
 
 -- the head has passed: all records are there
 fits :
     (c : tie.In_default) →
-    let start = c.before.before.before.before.before in
-    MatrixFits start.args.s.now start.args.layout
+MatrixFits c.args.s.now c.args.layout
 unfolding conflicts_head
 fits c =
-    let at_section = c.before.before in
-    let pre = at_section.before.before.before.requires in
+let pre = c.requires in
     let site = site-accepted _ pre.1 in
     let laid = pre.0 in
     record {
@@ -46,7 +44,7 @@ fits c =
       some_groups = omega (arith, laid.groupcount, site.groups.0);
       few_groups = omega (arith, laid.groupcount, site.groups.1);
       sets = rw (laid.groups, laid.groupcount) (groups-accepted _ pre.2).next;
-      conflicts = records-held _ _ 4 _ 4 (sym at_section.sized_section-head.ensures ∙ c.enum_told-in_default-1.given.1);
+      conflicts = records-held _ _ 4 _ 4 (sym c.sized_section-head.ensures ∙ c.in_default.is);
     }
 
 surely-right-requires : tie.Need-surely_right-requires
@@ -55,16 +53,16 @@ surely-right-requires c κs = fits c
 -- the head has passed: the answer is that of the two searches
 after_head :
     (c : tie.In_default) {v : Verdict} →
-    let b = c.before.before.before.before.before.args.s.now in
+    let b = c.args.s.now in
     v ≡ (first_refused b 9 or_else first_refused b 10) →
     v ≡ conflicts_section b
 unfolding conflicts_section first_refused refused_record
-after_head c e = or-next (checked c.before.before) c.enum_told-in_default-1.given.1 e
+after_head c e = or-next (checked c.before.before) c.enum-told2.given.1 e
 
 returns-2 : tie.Need-returns-then-surely_right
 unfolding first_refused refused_record
 returns-2 c =
-    let good = c.before.surely_right.ensures c.if-surely_right.true in
+    let good = c.surely_right.ensures c.if-surely_right.true in
     after_head c.before.before (or-next (all-good _ _ _ _ (λ g l. (good g l).0)) refl (all-good _ _ _ _ (λ g l. (good g l).1)))
 
 searched-requires : tie.Need-searched-requires

@@ -11,9 +11,9 @@ use Rattle.read_conflicts_matrix.proofs.band_tile.Statement.{statement}
 use Rattle.read_conflicts_matrix.proofs.band_tile.Tie as tie
 
 -- the bytes of the bands before
-near : (c : tie.After-shared_slice_known-1) → let at = c.before.args in 8 * at.a * at.width ≤ 32 * 4
+near : (c : tie.After-shared_slice_known-1) → let at = c.args in 8 * at.a * at.width ≤ 32 * 4
 near c =
-    let at = c.before.args in
+    let at = c.args in
     let before : 8 * at.a ≤ 32 = omega arith in
     let narrow : at.width ≤ 4 = omega arith in
     mul-le-mul before narrow
@@ -21,7 +21,7 @@ near c =
 -- row r is in the bytes
 held :
     (c : tie.After-shared_slice_known-1) (r : ℕ) →
-    let at = c.before.args in
+    let at = c.args in
     8 * at.a + r < at.count →
     at.head + 4 + 8 * at.a * at.width + at.k + r * at.width < length at.s.now
 unfolding record_at body_at
@@ -44,7 +44,7 @@ tile-requires c κs =
 
 returns : tie.Need-returns-then-left-lt8
 returns c =
-    let at = c.before.before.before.args in
+    let at = c.args in
     band-rows at.head at.width at.count at.a at.k _ (λ r h l. omega (arith, l)) c.tile.ensures
 
 tile-requires-2 : tie.Need-tile-requires-2
@@ -53,7 +53,7 @@ tile-requires-2 c κs =
 
 returns-2 : tie.Need-returns
 returns-2 c =
-    let at = c.before.before.before.args in
+    let at = c.args in
     band-rows at.head at.width at.count at.a at.k _ (λ r h l. h) c.tile-2.ensures
 
 pub band_tile_spec : {M : Type 1} → statement M

@@ -16,7 +16,7 @@ loop-holds : tie.Need-loop-p-init invariant-loop-p decreases-loop-p
 loop-holds c = (found_none, omega arith)
 
 mul-found : tie.Need-overflow_mul-found invariant-loop-p decreases-loop-p
-mul-found c = let here = c.before.loop-p in omega (arith, product-room here.left (here.right % 256) (omega arith))
+mul-found c = let here = c.loop-p in omega (arith, product-room here.left (here.right % 256) (omega arith))
 
 add-p : tie.Need-overflow_add-p invariant-loop-p decreases-loop-p
 add-p c = search rules
@@ -25,11 +25,11 @@ loop-less : tie.Need-loop-p-smaller invariant-loop-p decreases-loop-p
 loop-less c = search rules
 
 loop-again : tie.Need-loop-p-preserved invariant-loop-p decreases-loop-p
-loop-again c = (found-more c.before.loop-p.invariant.0, omega (arith, c.loop-p-test.true))
+loop-again c = (found-more c.loop-p.invariant.0, omega (arith, c.loop-p-test.true))
 
 returns : tie.Need-returns invariant-loop-p decreases-loop-p
 returns c =
-    let found = c.before.loop-p.invariant.0 in
+    let found = c.loop-p.invariant.0 in
     (found.kept, λ r n p h l m. found.told r n p h l (omega (arith, m, c.loop-p-test.false)))
 
 pub barred_spec : {M : Type 1} → statement M

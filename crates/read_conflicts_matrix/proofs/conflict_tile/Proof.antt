@@ -7,15 +7,14 @@ use Rattle.read_conflicts_matrix.proofs.MatrixRows.{conflict-rows}
 use Rattle.read_conflicts_matrix.proofs.conflict_tile.Statement.{statement}
 use Rattle.read_conflicts_matrix.proofs.conflict_tile.Tie as tie
 
-small : (c : tie.After-shared_slice_known-1) → (i : ℕ) → byte_at c.before.args.s.now i < 256
+small : (c : tie.After-shared_slice_known-1) → (i : ℕ) → byte_at c.args.s.now i < 256
 unfolding byte_at
 small c i = omega (arith, c.shared_slice_known-1.given i)
 
 returns : tie.Need-returns
 returns c =
-    let known = c.before.before in
-    let pre = known.before.requires in
-    conflict-rows pre.0.laid _ _ (small known) pre.2 c.band_tile.ensures
+let pre = c.requires in
+    conflict-rows pre.0.laid _ _ (small c.before.before) pre.2 c.band_tile.ensures
 
 pub conflict_tile_spec : {M : Type 1} → statement M
 conflict_tile_spec = tie.close (tie.spec (λ c. search rules) (λ c κs. search rules) returns)

@@ -38,10 +38,10 @@ loop-less : tie.Need-loop-a-smaller invariant-loop-a decreases-loop-a
 loop-less c = search rules
 
 loop-again : tie.Need-loop-a-preserved invariant-loop-a decreases-loop-a
-loop-again c = (omega arith, kept_more c.before.before.loop-a.invariant.1 (omega arith) c.set_tile.ensures)
+loop-again c = (omega arith, kept_more c.loop-a.invariant.1 (omega arith) c.set_tile.ensures)
 
 returns : tie.Need-returns invariant-loop-a decreases-loop-a
-returns c = record { told = λ a h. c.before.loop-a.invariant.1.told a (omega (arith, h)) }
+returns c = record { told = λ a h. c.loop-a.invariant.1.told a (omega (arith, h)) }
 
 pub set_tiles_spec : {M : Type 1} → statement M
 set_tiles_spec =

@@ -20,17 +20,16 @@ sub-r : tie.Need-overflow_sub-r invariant-loop-r decreases-loop-r
 sub-r c = search rules
 
 -- one more row has room in 64 bits
-room : (c : tie.In-loop-r invariant-loop-r decreases-loop-r) → c.before.loop-r.t < 2 ^ 56
-room c = stacked-room c.before.loop-r.invariant c.before.before.before.requires.2 c.loop-r-test.true
+room : (c : tie.In-loop-r invariant-loop-r decreases-loop-r) → c.loop-r.t < 2 ^ 56
+room c = stacked-room c.loop-r.invariant c.requires.2 c.loop-r-test.true
 
 -- the row is near
 near :
     (c : tie.In-loop-r invariant-loop-r decreases-loop-r) →
-    (c.before.loop-r.r - 1) * c.before.before.before.args.stride ≤ 28
+    (c.loop-r.r - 1) * c.args.stride ≤ 28
 near c =
-    let start = c.before.before.before in
-    let r = c.before.loop-r.r in
-    omega (arith, mul-le-mul_left (r - 1) start.requires.1, start.requires.2, c.before.loop-r.invariant.within)
+let r = c.loop-r.r in
+    omega (arith, mul-le-mul_left (r - 1) c.requires.1, c.requires.2, c.loop-r.invariant.within)
 
 mul-t : tie.Need-overflow_mul-t invariant-loop-r decreases-loop-r
 mul-t c = omega (arith, room c)
@@ -39,11 +38,11 @@ mul-byte-in : tie.Need-overflow_mul-r invariant-loop-r decreases-loop-r
 mul-byte-in c = omega (arith, near c)
 
 add-byte-in : tie.Need-overflow_add-at invariant-loop-r decreases-loop-r
-add-byte-in c = omega (arith, near c, c.before.before.before.requires.0)
+add-byte-in c = omega (arith, near c, c.requires.0)
 
 byte-in-requires : tie.Need-byte_in-requires invariant-loop-r decreases-loop-r
 byte-in-requires c κs =
-    c.before.before.before.requires.3 (c.before.loop-r.r - 1) (omega (arith, c.loop-r-test.true, c.before.loop-r.invariant.within))
+    c.requires.3 (c.loop-r.r - 1) (omega (arith, c.loop-r-test.true, c.loop-r.invariant.within))
 
 cast_t : tie.Need-overflow_cast-t invariant-loop-r decreases-loop-r
 cast_t c = search rules
@@ -56,11 +55,10 @@ loop-less c = search rules
 
 loop-again : tie.Need-loop-r-preserved invariant-loop-r decreases-loop-r
 loop-again c =
-    let at_loop = c.before.before in
-    stacked-more at_loop.loop-r.invariant c.before.loop-r-test.true (omega arith) c.byte_in.ensures
+stacked-more c.loop-r.invariant c.loop-r-test.true (omega arith) c.byte_in.ensures
 
 returns : tie.Need-returns invariant-loop-r decreases-loop-r
-returns c = stacked-whole c.before.loop-r.invariant c.loop-r-test.false
+returns c = stacked-whole c.loop-r.invariant c.loop-r-test.false
 
 pub tile_spec : {M : Type 1} → statement M
 tile_spec =

@@ -22,9 +22,8 @@ decreases-loop-a s layout k sets groups own members a₀ a = groups - a
 -- the band's own sets
 rows :
     (c : tie.After-mirrored-members invariant-loop-a decreases-loop-a) →
-    let start = c.before.before.before in
-    SetRows start.args.s.now start.args.k (get_or start.args.t4 start.args.k 0)
-rows c = let pre = c.before.before.before.requires in pre.2.told _ (omega (arith, pre.0.laid.groupcount))
+SetRows c.args.s.now c.args.k (get_or c.args.t4 c.args.k 0)
+rows c = let pre = c.requires in pre.2.told _ (omega (arith, pre.0.laid.groupcount))
 
 cast-groups : tie.Need-overflow_cast-groups invariant-loop-a decreases-loop-a
 cast-groups c = search rules
@@ -40,7 +39,7 @@ mirrored-requires c κs = search rules
 
 own-block-requires : tie.Need-own_block-requires invariant-loop-a decreases-loop-a
 own-block-requires c κs =
-    let pre = c.before.before.before.requires in (pre.0, pre.1, rows c, member-rows (rows c) c.mirrored-members.ensures)
+    let pre = c.requires in (pre.0, pre.1, rows c, member-rows (rows c) c.mirrored-members.ensures)
 
 returns : tie.Need-returns-then-not-own_block invariant-loop-a decreases-loop-a
 returns c e = absurd (never_both e refl)
@@ -50,7 +49,7 @@ add_a c = search rules
 
 loop-holds : tie.Need-loop-a-init invariant-loop-a decreases-loop-a
 loop-holds c =
-    (omega arith, omega arith, band-first _ _ (c.before.own_Block.ensures (not-false _ c.if-not-own_block.false)))
+    (omega arith, omega arith, band-first _ _ (c.own_Block.ensures (not-false _ c.if-not-own_block.false)))
 
 mul-loop : tie.Need-overflow_mul-a invariant-loop-a decreases-loop-a
 mul-loop c = search rules
@@ -63,13 +62,12 @@ array-read-block c = search rules
 
 block-requires : tie.Need-block-requires invariant-loop-a decreases-loop-a
 block-requires c κs =
-    let at_mirror = c.before.before.before.before in
-    let pre = at_mirror.before.before.before.requires in (
+let pre = c.requires in (
       pre.0,
       c.loop-a-test.true,
-      c.before.loop-a.invariant.1,
+      c.loop-a.invariant.1,
       pre.2.told _ (omega (arith, pre.0.laid.groupcount, c.loop-a-test.true)),
-      member-rows (rows at_mirror) at_mirror.mirrored-members.ensures,
+      member-rows (rows c.before.before.before.before) c.mirrored-members.ensures,
     )
 
 returns-2 : tie.Need-returns-then-not-block invariant-loop-a decreases-loop-a
@@ -83,16 +81,16 @@ loop-less c = search rules
 
 loop-again : tie.Need-loop-a-preserved invariant-loop-a decreases-loop-a
 loop-again c =
-    let at_loop = c.before.before.before in (
+    (
       omega arith,
       omega arith,
-      upto-more (λ i. BlockRight _ i _) _ _ at_loop.loop-a.invariant.2 (c.before.block.ensures (not-false _ c.if-not-block.false)),
+      upto-more (λ i. BlockRight _ i _) _ _ c.loop-a.invariant.2 (c.block.ensures (not-false _ c.if-not-block.false)),
     )
 
 returns-3 : tie.Need-returns invariant-loop-a decreases-loop-a
 returns-3 c e =
-    let pre = c.before.before.before.before.before.before.before.requires in
-    band-whole _ _ c.before.loop-a.a c.before.loop-a.invariant.2 (omega (arith, pre.0.laid.groupcount))
+    let pre = c.requires in
+    band-whole _ _ c.loop-a.a c.loop-a.invariant.2 (omega (arith, pre.0.laid.groupcount))
 
 pub band_spec : {M : Type 1} → statement M
 band_spec =

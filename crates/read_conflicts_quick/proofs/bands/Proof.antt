@@ -45,11 +45,10 @@ loop-less c = search rules
 
 loop-again : tie.Need-loop-k-preserved invariant-loop-k decreases-loop-k
 loop-again c =
-    let at_loop = c.before.before.before in
-    (omega arith, upto-more (λ i. BandRight _ i) _ _ at_loop.loop-k.invariant.1 (c.before.band.ensures (not-false _ c.if-not-band.false)))
+(omega arith, upto-more (λ i. BandRight _ i) _ _ c.loop-k.invariant.1 (c.band.ensures (not-false _ c.if-not-band.false)))
 
 returns-2 : tie.Need-returns invariant-loop-k decreases-loop-k
-returns-2 c e = all_sound _ c.before.loop-k.k c.before.loop-k.invariant.1 (omega arith)
+returns-2 c e = all_sound _ c.loop-k.k c.loop-k.invariant.1 (omega arith)
 
 pub bands_spec : {M : Type 1} → statement M
 bands_spec =

@@ -32,7 +32,7 @@ add-place c = search rules
 
 loop-holds : tie.Need-loop-g-init invariant-loop-g decreases-loop-g
 unfolding any_of
-loop-holds c = (omega arith, reaches-nothing (group_count c.before.before.before.args.s.now))
+loop-holds c = (omega arith, reaches-nothing (group_count c.args.s.now))
 
 mul-four-in : tie.Need-overflow_mul-g invariant-loop-g decreases-loop-g
 mul-four-in c = search rules
@@ -53,19 +53,17 @@ loop-less c = search rules
 loop-again : tie.Need-loop-g-preserved invariant-loop-g decreases-loop-g
 unfolding conflict_set record_at body_at any_of
 loop-again c =
-    let at_loop = c.before.before in
-    let head = at_loop.before.before.before.before.requires.laid.conflicts in
-    (omega arith, rw (add-one, union-reaches, at_loop.loop-g.invariant.1, c.four_in-all.ensures, head))
+let head = c.requires.laid.conflicts in
+    (omega arith, rw (add-one, union-reaches, c.loop-g.invariant.1, c.four_in-all.ensures, head))
 
 reaches32-requires : tie.Need-reaches32-requires invariant-loop-g decreases-loop-g
 reaches32-requires c κs = search rules
 
 returns : tie.Need-returns invariant-loop-g decreases-loop-g
 returns c =
-    let at_loop = c.before.before in
-    let n = at_loop.before.before.before.before.requires.laid.groupcount in
-    let last : at_loop.loop-g.g ≡ group_count at_loop.before.before.before.before.args.s.now = omega arith in
-    ap not (rw n at c.reaches32.ensures ∙ at_loop.loop-g.invariant.1 ∙ ap (any_of (past _)) last)
+let n = c.requires.laid.groupcount in
+    let last : c.loop-g.g ≡ group_count c.args.s.now = omega arith in
+    ap not (rw n at c.reaches32.ensures ∙ c.loop-g.invariant.1 ∙ ap (any_of (past _)) last)
 
 pub below_spec : {M : Type 1} → statement M
 below_spec =

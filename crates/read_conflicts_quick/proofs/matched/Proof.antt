@@ -5,7 +5,7 @@ use Rattle.read_conflicts_quick.proofs.matched.Statement.{statement}
 use Rattle.read_conflicts_quick.proofs.matched.Tie as tie
 
 returns : tie.Need-returns
-returns c = let wrong = c.barred.ensures in tile-matched c.before.mirrored.result c.barred.result c.before.mirrored.ensures wrong.0 wrong.1
+returns c = let wrong = c.barred.ensures in tile-matched c.mirrored.result c.barred.result c.mirrored.ensures wrong.0 wrong.1
 
 pub matched_spec : {M : Type 1} → statement M
 matched_spec = tie.close (tie.spec (λ c κs. search rules) (λ c κs. search rules) returns)

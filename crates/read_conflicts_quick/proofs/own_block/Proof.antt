@@ -7,9 +7,8 @@ use Rattle.read_conflicts_quick.proofs.own_block.Tie as tie
 
 returns : tie.Need-returns
 returns c e =
-    let at_tile = c.before.before in
-    let pre = at_tile.before.before.requires in
-    let tile = at_tile.conflict_tile-t.ensures in
+let pre = c.requires in
+    let tile = c.conflict_tile-t.ensures in
     block-sound pre.0 tile tile pre.2 pre.3 (λ r n h l same. diagonal-bit r n h (omega (arith, same))) (c.matched.ensures e)
 
 pub own_block_spec : {M : Type 1} → statement M

@@ -7,13 +7,11 @@ use Rattle.read_conflicts_quick.proofs.single_band.Tie as tie
 
 returns : tie.Need-returns
 returns c e =
-    let at_mirror = c.before.before in
-    let at_tile = at_mirror.before in
-    let sets = at_tile.before.set_tile-sets.ensures in
-    let tile = at_tile.conflict_tile-t.ensures in
-    let pre = at_tile.before.before.before.requires in
+let sets = c.set_tile-sets.ensures in
+    let tile = c.conflict_tile-t.ensures in
+    let pre = c.requires in
     single-sound _
-    (block-sound pre.0 tile tile sets (member-rows sets at_mirror.mirrored.ensures)
+    (block-sound pre.0 tile tile sets (member-rows sets c.mirrored.ensures)
     (λ r n h l same. diagonal-bit r n h (omega (arith, same)))
     (c.matched.ensures e))
     (omega (arith, pre.0.laid.groupcount))

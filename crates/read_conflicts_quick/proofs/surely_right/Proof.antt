@@ -18,9 +18,9 @@ returns c e = absurd (never_both e refl)
 -- no set goes past N
 under :
     (c : tie.Else-not-below) →
-    let b = c.before.before.before.args.s.now in
+    let b = c.args.s.now in
     any_of (λ g. leb (2 ^ group_count b) (conflict_set b g)) (group_count b) ≡ false
-under c = not-true _ (sym c.before.below.ensures ∙ not-false _ c.if-not-below.false)
+under c = not-true _ (sym c.below.ensures ∙ not-false _ c.if-not-below.false)
 
 returns-2 : tie.Need-returns-then-layout-le8
 returns-2 c e = records-good _ (under c.before.before.before) (c.single_band.ensures e)

@@ -25,12 +25,12 @@ returns : tie.Need-returns
 unfolding bit all_of upper source mirrors
 returns c =
     mirrored-bit
-    c.before.before.before.args.tile
-    c.before.before.swapped-singles.result
-    c.before.swapped-twos.result
+    c.args.tile
+    c.swapped-singles.result
+    c.swapped-twos.result
     c.swapped.result
-    c.before.before.swapped-singles.ensures
-    c.before.swapped-twos.ensures
+    c.swapped-singles.ensures
+    c.swapped-twos.ensures
     c.swapped.ensures
     refl
 

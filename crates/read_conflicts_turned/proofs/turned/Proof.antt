@@ -37,16 +37,14 @@ loop-less c = search rules
 
 loop-again : tie.Need-loop-r-preserved invariant-loop-r decreases-loop-r
 loop-again c =
-    let at_loop = c.before.before in
-    let at_tiles = at_loop.before in
-    let pre = at_tiles.before.before.requires in (
+let pre = c.requires in (
       omega arith,
-      kept_more at_loop.loop-r.invariant.1 (omega arith)
-          (row-turned _ (omega (arith, pre.0.laid.groupcount, pre.0.few_groups)) (omega arith) at_tiles.turned_tiles-tiles.ensures c.row_of.ensures),
+      kept_more c.loop-r.invariant.1 (omega arith)
+          (row-turned _ (omega (arith, pre.0.laid.groupcount, pre.0.few_groups)) (omega arith) c.turned_tiles-tiles.ensures c.row_of.ensures),
     )
 
 returns : tie.Need-returns invariant-loop-r decreases-loop-r
-returns c = record { told = λ r h. c.before.loop-r.invariant.1.told r (omega (arith, h)) }
+returns c = record { told = λ r h. c.loop-r.invariant.1.told r (omega (arith, h)) }
 
 pub turned_spec : {M : Type 1} → statement M
 turned_spec =

@@ -7,11 +7,11 @@ use Rattle.read_conflicts_turned.proofs.turned_tile.Tie as tie
 
 returns : tie.Need-returns-then-number-eq9
 returns c =
-    conflicts-turned _ _ (eq-eqb _ _ c.before.before.if-number-eq9.true) c.before.conflict_tile.ensures c.mirrored.ensures
+    conflicts-turned _ _ (eq-eqb _ _ c.if-number-eq9.true) c.conflict_tile.ensures c.mirrored.ensures
 
 returns-2 : tie.Need-returns
 returns-2 c =
-    sets-turned _ _ (ne_eqb _ _ c.before.before.if-number-eq9.false) c.before.set_tile.ensures c.mirrored-2.ensures
+    sets-turned _ _ (ne_eqb _ _ c.if-number-eq9.false) c.set_tile.ensures c.mirrored-2.ensures
 
 pub turned_tile_spec : {M : Type 1} → statement M
 turned_tile_spec =

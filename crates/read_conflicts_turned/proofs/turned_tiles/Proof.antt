@@ -38,10 +38,10 @@ loop-less : tie.Need-loop-k-smaller invariant-loop-k decreases-loop-k
 loop-less c = search rules
 
 loop-again : tie.Need-loop-k-preserved invariant-loop-k decreases-loop-k
-loop-again c = (omega arith, kept_more c.before.before.loop-k.invariant.1 (omega arith) c.turned_tile.ensures)
+loop-again c = (omega arith, kept_more c.loop-k.invariant.1 (omega arith) c.turned_tile.ensures)
 
 returns : tie.Need-returns invariant-loop-k decreases-loop-k
-returns c = record { told = λ k h. c.before.loop-k.invariant.1.told k (omega (arith, h)) }
+returns c = record { told = λ k h. c.loop-k.invariant.1.told k (omega (arith, h)) }
 
 pub turned_tiles_spec : {M : Type 1} → statement M
 turned_tiles_spec =

@@ -26,8 +26,7 @@ loop-holds c = c.good_fours-d.ensures
 
 pair-at-requires : tie.Need-pair_at-detector-requires invariant-loop-d decreases-loop-d
 pair-at-requires c κs =
-    let at_start = c.before.before.before.before in
-    omega (arith, record-within at_start.args.layout.detectors 2 at_start.args.count c.before.loop-d.d c.loop-d-test.true)
+omega (arith, record-within c.args.layout.detectors 2 c.args.count c.loop-d.d c.loop-d-test.true)
 
 bad-detector-requires : tie.Need-bad_detector-requires invariant-loop-d decreases-loop-d
 bad-detector-requires c κs = search rules
@@ -35,12 +34,11 @@ bad-detector-requires c κs = search rules
 -- the test of the two bytes is that of record d
 tested :
     (c : tie.After-bad_detector invariant-loop-d decreases-loop-d) →
-    let at_loop = c.before.before.before in
-    c.bad_detector.result ≡ bad_detector_at at_loop.before.before.before.args.s.now at_loop.loop-d.d
+c.bad_detector.result ≡ bad_detector_at c.args.s.now c.loop-d.d
 unfolding bad_detector_at detector_phase detector_mode
 tested c =
-    let laid = c.before.before.before.before.before.before.requires.0 in
-    let detector = c.before.pair_at-detector.ensures in
+    let laid = c.requires.0 in
+    let detector = c.pair_at-detector.ensures in
     rw (← laid.detectors, ← laid.phasecount, ← detector.0, ← detector.1) c.bad_detector.ensures
 
 add-t9 : tie.Need-overflow_add-result invariant-loop-d decreases-loop-d
@@ -55,8 +53,7 @@ add-t11 c = search rules
 returns : tie.Need-returns-then-bad_detector invariant-loop-d decreases-loop-d
 unfolding record_at body_at detector_record
 returns c =
-    let at_loop = c.before.before.before.before in
-    bad-stop _ _ _ _ at_loop.loop-d.d (omega arith) at_loop.loop-d.invariant.1 (sym (tested c.before) ∙ c.if-bad_detector.true) (omega arith)
+bad-stop _ _ _ _ c.loop-d.d (omega arith) c.loop-d.invariant.1 (sym (tested c.before) ∙ c.if-bad_detector.true) (omega arith)
 
 add-d : tie.Need-overflow_add-d invariant-loop-d decreases-loop-d
 add-d c = search rules
@@ -67,11 +64,10 @@ loop-less c = search rules
 loop-again : tie.Need-loop-d-preserved invariant-loop-d decreases-loop-d
 unfolding detector_record
 loop-again c =
-    let at_loop = c.before.before.before.before in
-    (omega arith, good_more _ _ _ _ at_loop.loop-d.invariant.1 (sym (tested c.before) ∙ c.if-bad_detector.false))
+(omega arith, good_more _ _ _ _ c.loop-d.invariant.1 (sym (tested c.before) ∙ c.if-bad_detector.false))
 
 returns-2 : tie.Need-returns invariant-loop-d decreases-loop-d
-returns-2 c = first_done _ _ _ c.before.loop-d.invariant.1 (omega arith)
+returns-2 c = first_done _ _ _ c.loop-d.invariant.1 (omega arith)
 
 pub detector_records_spec : {M : Type 1} → statement M
 detector_records_spec =

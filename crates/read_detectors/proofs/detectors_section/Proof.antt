@@ -13,10 +13,10 @@ use Rattle.read_detectors.proofs.detectors_section.Statement.{statement}
 use Rattle.read_detectors.proofs.detectors_section.Tie as tie
 
 sub-length : tie.Need-overflow_sub-length
-sub-length c = omega (arith, detectors-apart c.before.before.requires.0)
+sub-length c = omega (arith, detectors-apart c.requires.0)
 
 sub-length-2 : tie.Need-overflow_sub-length-2
-sub-length-2 c = omega (arith, detectors-apart c.before.before.requires.0)
+sub-length-2 c = omega (arith, detectors-apart c.requires.0)
 
 enum_told : tie.Need-enum_told-1
 enum_told c = search rules
@@ -24,25 +24,24 @@ enum_told c = search rules
 -- the head is held to an even length of at most 96
 checked :
     (c : tie.After-section_at-head) →
-    let b = c.before.before.before.args.s.now in
+    let b = c.args.s.now in
     let bytes = body_length b (detectors_head b) in
     c.section_at-head.result ≡ section_at b (detectors_head b) 5 (eqb (bytes % 2) 0 && leb bytes 96)
 checked c =
-    let laid = c.before.before.before.requires.0 in
+    let laid = c.requires.0 in
     rw (detectors-length laid, laid.detectors) at c.section_at-head.ensures
 
 returns : tie.Need-returns-in-Refused
 unfolding detectors_section
-returns c = or-stop _ (checked c.before.before) c.enum_told-1.given.1
+returns c = or-stop _ (checked c.before) c.in-Refused.is
 
 detector-records-requires : tie.Need-detector_records-requires
 unfolding detector_count
 detector-records-requires c κs =
-    let at_section = c.before.before in
-    let pre = at_section.before.before.before.requires in
+let pre = c.requires in
     let laid = pre.0 in
     let length = detectors-length laid in
-    let held = (body-held _ _ 5 _ (sym (checked at_section) ∙ c.enum_told-in_default-1.given.1)).1 in (
+    let held = (body-held _ _ 5 _ (sym (checked c.before) ∙ c.in_default.is)).1 in (
       laid,
       ap (λ n. n / 2) length,
       omega (arith, laid.phasecount, (site-accepted _ pre.1).phases),
@@ -53,8 +52,7 @@ detector-records-requires c κs =
 returns-2 : tie.Need-returns
 unfolding detectors_section
 returns-2 c =
-    let passed = c.before in
-    or-next (checked passed.before.before) passed.enum_told-in_default-1.given.1 c.detector_records.ensures
+or-next (checked c.before.before) c.in_default.is c.detector_records.ensures
 
 pub detectors_section_spec : {M : Type 1} → statement M
 detectors_section_spec =

@@ -14,20 +14,18 @@ unfolding body_at
 eight-in-requires c κs = search rules
 
 add-raised : tie.Need-overflow_add-raised
-add-raised c = omega (arith, and_le_r c.before.eight_in-records.result 0x7b7f7b7f7b7f7b7f)
+add-raised c = omega (arith, and_le_r c.eight_in-records.result 0x7b7f7b7f7b7f7b7f)
 
 returns : tie.Need-returns
 unfolding byte_at eight_at
 returns c t =
-    let at_eight = c.before in
-    let known = at_eight.before.before in
-    let b = known.before.args.s.now in
-    let laid = known.before.requires.0 in
-    let bytes : (i : ℕ) → byte_at b i < 256 = λ i. omega (arith, known.shared_slice_known-1.given i) in
+let b = c.args.s.now in
+    let laid = c.requires.0 in
+    let bytes : (i : ℕ) → byte_at b i < 256 = λ i. omega (arith, c.shared_slice_known-1.given i) in
     let few : phase_count b ≤ 7 = omega (arith, laid.phasecount) in
-    let limits = 0x0001000100010001 * (0x7d80 - known.before.args.layout.phasecount) in
-    let passes = both-tests at_eight.eight_in-records.result 0x8080808080808080 0x7b7f7b7f7b7f7b7f limits t in
-    four-good b bytes few known.before.args.d (rw (at_eight.eight_in-records.ensures, laid.detectors, laid.phasecount) at passes)
+    let limits = 0x0001000100010001 * (0x7d80 - c.args.layout.phasecount) in
+    let passes = both-tests c.eight_in-records.result 0x8080808080808080 0x7b7f7b7f7b7f7b7f limits t in
+    four-good b bytes few c.args.d (rw (c.eight_in-records.ensures, laid.detectors, laid.phasecount) at passes)
 
 pub four_good_spec : {M : Type 1} → statement M
 four_good_spec =

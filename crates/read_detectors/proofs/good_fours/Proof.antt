@@ -28,7 +28,7 @@ four-good-requires : tie.Need-four_good-requires invariant-loop-d decreases-loop
 four-good-requires c κs = search rules
 
 returns : tie.Need-returns-then-not-four_good invariant-loop-d decreases-loop-d
-returns c = c.before.before.before.loop-d.invariant
+returns c = c.loop-d.invariant
 
 add-d : tie.Need-overflow_add-d-in-loop-d invariant-loop-d decreases-loop-d
 add-d c = search rules
@@ -39,11 +39,10 @@ loop-less c = search rules
 loop-again : tie.Need-loop-d-preserved invariant-loop-d decreases-loop-d
 unfolding detector_record
 loop-again c =
-    let at_loop = c.before.before.before in
-    (omega arith, four-more _ _ _ at_loop.loop-d.d at_loop.loop-d.invariant.1 (c.before.four_good.ensures (not-false _ c.if-not-four_good.false)))
+(omega arith, four-more _ _ _ c.loop-d.d c.loop-d.invariant.1 (c.four_good.ensures (not-false _ c.if-not-four_good.false)))
 
 returns-2 : tie.Need-returns invariant-loop-d decreases-loop-d
-returns-2 c = c.before.loop-d.invariant
+returns-2 c = c.loop-d.invariant
 
 pub good_fours_spec : {M : Type 1} → statement M
 good_fours_spec =

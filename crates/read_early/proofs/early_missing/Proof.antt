@@ -24,11 +24,10 @@ decreases-loop-g s some groups head g₀ g = groups - g
 
 returns : tie.Need-returns-then-layout-some invariant-loop-g decreases-loop-g
 returns c =
-    let start = c.before.before.before in
-    let asked = start.requires in
-    let some = start.args.some in
+let asked = c.requires in
+    let some = c.args.some in
     ⊎_elim
-    (λ (there : start.args.layout.hasearly ≡ true). none-missing _ (sym asked.0.hasearly ∙ there))
+    (λ (there : c.args.layout.hasearly ≡ true). none-missing _ (sym asked.0.hasearly ∙ there))
     (λ (none : not some ≡ true). none-stops _ (sym asked.2 ∙ not-true some none))
     (or_cases _ _ c.if-layout-some.true)
 
@@ -41,17 +40,14 @@ loop-holds c = (omega arith, refl)
 
 pair-at-requires : tie.Need-pair_at-group-requires invariant-loop-g decreases-loop-g
 pair-at-requires c κs =
-    let start = c.before.before.before.before.before.before in
-    group-held start.requires.0 start.requires.1 c.before.loop-g.g c.loop-g-test.true
+group-held c.requires.0 c.requires.1 c.loop-g.g c.loop-g-test.true
 
 -- the byte read is the mark of group g
 marked :
     (c : tie.After-pair_at-group invariant-loop-g decreases-loop-g) →
-    let at_loop = c.before.before in
-    c.pair_at-group.result.second ≡ group_mark at_loop.before.before.before.before.before.args.s.now at_loop.loop-g.g
+c.pair_at-group.result.second ≡ group_mark c.args.s.now c.loop-g.g
 marked c =
-    let at_loop = c.before.before in
-    mark-read at_loop.before.before.before.before.before.requires.0 at_loop.loop-g.g c.pair_at-group.ensures.1
+mark-read c.requires.0 c.loop-g.g c.pair_at-group.ensures.1
 
 add-t11 : tie.Need-overflow_add-result invariant-loop-g decreases-loop-g
 add-t11 c = search rules
@@ -65,11 +61,9 @@ add-t13 c = search rules
 returns-2 : tie.Need-returns-then-group-eq3 invariant-loop-g decreases-loop-g
 unfolding stops_early record_at body_at
 returns-2 c =
-    let read = c.before.before in
-    let at_loop = read.before.before in
-    let asked = at_loop.before.before.before.before.before.requires in
-    one-stops _ (sym asked.0.hasearly ∙ or-false-left _ _ at_loop.before.before.if-layout-some.false) at_loop.loop-g.g (omega arith) at_loop.loop-g.invariant.1
-    (eq-eqb _ _ (sym (marked read) ∙ c.if-group-eq3.true))
+let asked = c.requires in
+    one-stops _ (sym asked.0.hasearly ∙ or-false-left _ _ c.if-layout-some.false) c.loop-g.g (omega arith) c.loop-g.invariant.1
+    (eq-eqb _ _ (sym (marked c.before.before) ∙ c.if-group-eq3.true))
     (omega (arith, asked.0.groups))
 
 add-g : tie.Need-overflow_add-g invariant-loop-g decreases-loop-g
@@ -81,13 +75,12 @@ loop-less c = search rules
 loop-again : tie.Need-loop-g-preserved invariant-loop-g decreases-loop-g
 unfolding stops_early
 loop-again c =
-    let read = c.before.before in
-    (omega arith, any-more _ _ read.before.before.loop-g.invariant.1 (ne_eqb _ _ (λ e. c.if-group-eq3.false (marked read ∙ e))))
+(omega arith, any-more _ _ c.loop-g.invariant.1 (ne_eqb _ _ (λ e. c.if-group-eq3.false (marked c.before.before ∙ e))))
 
 returns-3 : tie.Need-returns invariant-loop-g decreases-loop-g
 returns-3 c =
-    let asked = c.before.before.before.before.before.before.requires in
-    none-stops _ (sym (any-done _ _ _ c.before.loop-g.invariant.1 (omega (arith, asked.0.groupcount))))
+    let asked = c.requires in
+    none-stops _ (sym (any-done _ _ _ c.loop-g.invariant.1 (omega (arith, asked.0.groupcount))))
 
 pub early_missing_spec : {M : Type 1} → statement M
 early_missing_spec =

@@ -8,19 +8,17 @@ use Rattle.read_early.proofs.early_section.Statement.{statement}
 use Rattle.read_early.proofs.early_section.Tie as tie
 
 returns : tie.Need-returns-then-not-layout
-returns c = none-early _ (sym c.before.before.before.requires.hasearly ∙ not-true _ c.if-not-layout.true)
+returns c = none-early _ (sym c.requires.hasearly ∙ not-true _ c.if-not-layout.true)
 
 -- the table is that of the personality's edition
 timed-section-requires : tie.Need-timed_section-requires
 timed-section-requires c κs =
-    let taken = c.before in
-    (search rules, taken.limits-table.ensures ∙ ap limits taken.before.edition_of.ensures)
+(search rules, c.limits-table.ensures ∙ ap limits c.edition_of.ensures)
 
 returns-2 : tie.Need-returns
 returns-2 c =
-    let tested = c.before.before.before.before in
-    let laid = tested.before.before.before.requires in
-    (rw (laid.early, laid.phasecount) at c.timed_section.ensures) ∙ early-checked _ (sym laid.hasearly ∙ not-false _ tested.if-not-layout.false)
+let laid = c.requires in
+    (rw (laid.early, laid.phasecount) at c.timed_section.ensures) ∙ early-checked _ (sym laid.hasearly ∙ not-false _ c.if-not-layout.false)
 
 pub early_section_spec : {M : Type 1} → statement M
 early_section_spec =

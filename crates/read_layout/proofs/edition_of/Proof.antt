@@ -15,10 +15,10 @@ unfolding edition_of
 named b t e = rw e
 
 returns : tie.Need-returns-then-has_head
-returns c = named _ true (sym c.before.has_head.ensures ∙ c.if-has_head.true)
+returns c = named _ true (sym c.has_head.ensures ∙ c.if-has_head.true)
 
 returns-2 : tie.Need-returns
-returns-2 c = named _ false (sym c.before.has_head.ensures ∙ c.if-has_head.false)
+returns-2 c = named _ false (sym c.has_head.ensures ∙ c.if-has_head.false)
 
 pub edition_of_spec : {M : Type 1} → statement M
 edition_of_spec = tie.close (tie.spec (λ c κs. search rules) returns returns-2)

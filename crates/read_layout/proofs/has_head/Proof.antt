@@ -7,7 +7,7 @@ use Rattle.read_layout.proofs.has_head.Tie as tie
 
 returns : tie.Need-returns-then-head-s
 unfolding has_head kind_at
-returns c = rw (le-leb _ _ c.before.if-head-s.true, c.two_in.ensures)
+returns c = rw (le-leb _ _ c.if-head-s.true, c.two_in.ensures)
 
 returns-2 : tie.Need-returns
 unfolding has_head

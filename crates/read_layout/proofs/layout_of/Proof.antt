@@ -83,16 +83,12 @@ module _
 returns : tie.Need-returns
 unfolding phase_count group_count past_section body_at
 returns c =
-    let ninth = c.before in
-    let seventh = ninth.before in
-    let sixth = seventh.before in
-    let fifth = sixth.before in
-    laid fifth.before.before.before.before.args.s.now _
-    fifth.before.before.byte_at-p.ensures fifth.before.byte_at-n.ensures
+laid c.args.s.now _
+    c.byte_at-p.ensures c.byte_at-n.ensures
     refl refl refl
-    (rw fifth.body_length.ensures.0) (rw sixth.body_length-2.ensures.0)
-    seventh.has_head-hasearly.ensures ninth.past_section-order.ensures.0 c.has_head.ensures
-    (omega arith) (omega arith) (omega arith) (omega arith) ninth.past_section-order.ensures.1
+    (rw c.body_length.ensures.0) (rw c.body_length-2.ensures.0)
+    c.has_head-hasearly.ensures c.past_section-order.ensures.0 c.has_head.ensures
+    (omega arith) (omega arith) (omega arith) (omega arith) c.past_section-order.ensures.1
 
 pub layout_of_spec : {M : Type 1} → statement M
 layout_of_spec =

@@ -7,7 +7,7 @@ use Rattle.read_layout.proofs.past_section.Tie as tie
 
 returns : tie.Need-returns-then-there
 unfolding past_section body_at
-returns c = (rw c.before.if-there.true (simp c.body_length.ensures.0), omega arith)
+returns c = (rw c.if-there.true (simp c.body_length.ensures.0), omega arith)
 
 pub past_section_spec : {M : Type 1} → statement M
 past_section_spec = tie.close (tie.spec (λ c. search rules) (λ c κs. search rules) (λ c. search rules) returns (λ c. search rules))

@@ -14,8 +14,8 @@ returns : tie.Need-returns-then-not-kind
 returns c = (sym (no-head _ _ (not-true _ c.if-not-kind.true)), omega arith)
 
 -- the kind has a head in the list
-listed : (c : tie.Else-not-kind) → let kind = c.before.args.kind in (1 ≤ kind) × (kind ≤ 9)
-listed c = kind-told c.before.args.kind (not-false _ c.if-not-kind.false)
+listed : (c : tie.Else-not-kind) → let kind = c.args.kind in (1 ≤ kind) × (kind ≤ 9)
+listed c = kind-told c.args.kind (not-false _ c.if-not-kind.false)
 
 sub-result : tie.Need-overflow_sub-result
 sub-result c = omega (arith, listed c)
@@ -26,14 +26,13 @@ array-read-result c = omega (arith, listed c)
 returns-2 : tie.Need-returns
 unfolding head_of
 returns-2 c =
-    let start = c.before in
-    let w = start.args.layout in
-    let laid = start.requires in
+let w = c.args.layout in
+    let laid = c.requires in
     let heads : List ℕ = 0 ∷ 8 ∷ w.groups ∷ w.conflicts ∷ w.detectors ∷ w.pedestrians ∷ w.early ∷ 0 ∷ w.order ∷ [] in (
       rw (laid.groups, laid.conflicts, laid.detectors, laid.pedestrians, laid.early, laid.order),
       all_near 201227 heads
           (omega arith, (omega arith, (omega arith, (omega arith, (omega arith, (omega arith, (omega arith, (omega arith, (omega arith, tt)))))))))
-          (start.args.kind - 1),
+          (c.args.kind - 1),
     )
 
 pub head_of_spec : {M : Type 1} → statement M

@@ -7,9 +7,8 @@ use Rattle.read_lookup.proofs.held_kind.Tie as tie
 returns : tie.Need-returns
 unfolding held_kind
 returns c =
-    let named = c.before.before in
-    let laid = named.before.before.before.requires in
-    rw (named.site_kind.ensures, named.before.edition_of.ensures, laid.hasearly, laid.hasorder)
+let laid = c.requires in
+    rw (c.site_kind.ensures, c.edition_of.ensures, laid.hasearly, laid.hasorder)
 
 pub held_kind_spec : {M : Type 1} → statement M
 held_kind_spec = tie.close (tie.spec (λ c κs. search rules) (λ c κs. search rules) returns)

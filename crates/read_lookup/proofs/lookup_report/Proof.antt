@@ -9,10 +9,10 @@ enum_told : tie.Need-enum_told-1
 enum_told c = search rules
 
 returns : tie.Need-returns-in-Accepted
-returns c = report-found _ _ (sym c.before.before.find-found.ensures.0 ∙ c.enum_told-1.given.1)
+returns c = report-found _ _ (sym c.find-found.ensures.0 ∙ c.in-Accepted.is)
 
 returns-2 : tie.Need-returns-in-Refused
-returns-2 c = report-refused _ _ (sym c.before.before.before.find-found.ensures.0 ∙ c.before.verdict-1.given.1)
+returns-2 c = report-refused _ _ (sym c.find-found.ensures.0 ∙ c.in-Refused.is)
 
 pub lookup_report_spec : {M : Type 1} → statement M
 lookup_report_spec =

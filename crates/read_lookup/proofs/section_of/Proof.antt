@@ -9,17 +9,17 @@ enum_told : tie.Need-enum_told-1
 enum_told c = search rules
 
 returns : tie.Need-returns-in-Refused
-returns c = part_none _ _ (sym c.before.before.before.find-found.ensures.0 ∙ c.before.enum_told-1.given.1)
+returns c = part_none _ _ (sym c.find-found.ensures.0 ∙ c.in-Refused.is)
 
 part-result-end-2 : tie.Need-slice_bounds-result-end-2
 part-result-end-2 c =
-    let looked = c.before.before.before.find-found.ensures in
-    part_end _ _ (sym looked.0 ∙ c.before.enum_told-in_default-1.given.1) looked.1 c.two_at.ensures
+    let looked = c.find-found.ensures in
+    part_end _ _ (sym looked.0 ∙ c.in_default.is) looked.1 c.two_at.ensures
 
 returns-2 : tie.Need-returns
 returns-2 c =
-    let looked = c.before.before.before.before.find-found.ensures in
-    part_held _ _ (sym looked.0 ∙ c.before.before.enum_told-in_default-1.given.1) looked.1 c.before.two_at.ensures
+    let looked = c.find-found.ensures in
+    part_held _ _ (sym looked.0 ∙ c.in_default.is) looked.1 c.two_at.ensures
 
 pub section_of_spec : {M : Type 1} → statement M
 section_of_spec =

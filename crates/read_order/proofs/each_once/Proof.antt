@@ -30,7 +30,7 @@ add-byte-in c = search rules
 
 byte-in-requires : tie.Need-byte_in-phase-requires invariant-loop-i decreases-loop-i
 unfolding body_at
-byte-in-requires c κs = omega (arith, c.before.before.before.before.requires.2)
+byte-in-requires c κs = omega (arith, c.requires.2)
 
 shl-listed : tie.Need-overflow_shl-listed invariant-loop-i decreases-loop-i
 shl-listed c = search rules
@@ -44,33 +44,29 @@ loop-less c = search rules
 loop-again : tie.Need-loop-i-preserved invariant-loop-i decreases-loop-i
 unfolding order_at record_at body_at
 loop-again c =
-    let at_loop = c.before.before.before in
-    let start = at_loop.before.before.before in
-    let laid = start.requires.0 in
-    let b = start.args.s.now in
-    let i = at_loop.loop-i.i in
-    let listed = at_loop.loop-i.invariant.1 in
-    let read = rw (laid.order, ← mul-one i) at c.before.byte_in-phase.ensures in (
+let laid = c.requires.0 in
+    let b = c.args.s.now in
+    let i = c.loop-i.i in
+    let listed = c.loop-i.invariant.1 in
+    let read = rw (laid.order, ← mul-one i) at c.byte_in-phase.ensures in (
       omega arith,
       ⊎_elim
-          (λ w. subst (λ (set : ℕ). Listed b set (i + 1)) (sym w.1) (listed_more b start.requires.1 listed read (rw laid.phasecount at w.0.taken)))
-          (λ w. subst (λ (set : ℕ). Listed b set (i + 1)) (sym w.1) (listed-other b start.requires.1 listed read (rw laid.phasecount at w.0.left)))
+          (λ w. subst (λ (set : ℕ). Listed b set (i + 1)) (sym w.1) (listed_more b c.requires.1 listed read (rw laid.phasecount at w.0.taken)))
+          (λ w. subst (λ (set : ℕ). Listed b set (i + 1)) (sym w.1) (listed-other b c.requires.1 listed read (rw laid.phasecount at w.0.left)))
           c.if-phase-phases.branch,
     )
 
 add-result : tie.Need-overflow_add-result invariant-loop-i decreases-loop-i
 add-result c =
-    let start = c.before.before.before.before in
-    omega (arith, set-fits _ start.requires.1 c.before.loop-i.invariant.1)
+omega (arith, set-fits _ c.requires.1 c.loop-i.invariant.1)
 
 shl-result : tie.Need-overflow_shl-result invariant-loop-i decreases-loop-i
 shl-result c = search rules
 
 returns : tie.Need-returns invariant-loop-i decreases-loop-i
 returns c =
-    let start = c.before.before.before.before in
-    let laid = start.requires.0 in
-    rw laid.phasecount (listed-decided _ start.requires.1 c.before.loop-i.invariant.1 (omega (arith, laid.phasecount)))
+let laid = c.requires.0 in
+    rw laid.phasecount (listed-decided _ c.requires.1 c.loop-i.invariant.1 (omega (arith, laid.phasecount)))
 
 pub each_once_spec : {M : Type 1} → statement M
 each_once_spec =

@@ -18,36 +18,34 @@ use Rattle.read_order.proofs.order_section.Statement.{statement}
 use Rattle.read_order.proofs.order_section.Tie as tie
 
 returns : tie.Need-returns-then-not-layout
-returns c = none-ordered _ (sym c.before.before.before.requires.0.hasorder ∙ not-true _ c.if-not-layout.true)
+returns c = none-ordered _ (sym c.requires.0.hasorder ∙ not-true _ c.if-not-layout.true)
 
 enum_told : tie.Need-enum_told-1
 enum_told c = search rules
 
 abbrev bytes : tie.After-sized_section-body → List ℕ
-bytes c = c.before.before.before.before.before.args.s.now
+bytes c = c.args.s.now
 
 -- kind 9 is there, and its head and its body are checked
 there : (c : tie.After-sized_section-body) → has_order (bytes c) ≡ true
-there c = let tested = c.before.before in sym tested.before.before.before.requires.0.hasorder ∙ not-false _ tested.if-not-layout.false
+there c = sym c.requires.0.hasorder ∙ not-false _ c.if-not-layout.false
 
 checked : (c : tie.After-sized_section-body) → c.sized_section-body.result ≡ section_at (bytes c) (order_head (bytes c)) 9 (eqb (body_length (bytes c) (order_head (bytes c))) (phase_count (bytes c)))
 checked c =
-    let laid = c.before.before.before.before.before.requires.0 in
+    let laid = c.requires.0 in
     rw (laid.order, laid.phasecount) at c.sized_section-body.ensures
 
 returns-2 : tie.Need-returns-in-Refused
 returns-2 c =
-    let sized = c.before.before in
-    ordered _ (there sized) (or-stop _ (checked sized) c.enum_told-1.given.1)
+ordered _ (there c.before) (or-stop _ (checked c.before) c.in-Refused.is)
 
 each-once-requires : tie.Need-each_once-requires
 unfolding body_at
 each-once-requires c κs =
-    let sized = c.before.before in
-    let asked = sized.before.before.before.before.before.requires in
+let asked = c.requires in
     let laid = asked.0 in
-    let b = bytes sized in
-    let held = body-held b (order_head b) 9 _ (sym (checked sized) ∙ c.enum_told-in_default-1.given.1) in (
+    let b = bytes c.before in
+    let held = body-held b (order_head b) 9 _ (sym (checked c.before) ∙ c.in_default.is) in (
       laid,
       (site-accepted _ asked.1).phases.1,
       omega (arith, laid.order, laid.phasecount, eqb-true (body_length b (order_head b)) (phase_count b) held.0, held.1),
@@ -56,21 +54,21 @@ each-once-requires c κs =
 -- the body has passed: the answer is that of the entries
 past_body :
     (c : tie.After-each_once) {v : Verdict} →
-    let b = bytes c.before.before.before in
+    let b = bytes c.before.before in
     v ≡ refuse_if (phase_not_once b) 18 (order_head b) →
     v ≡ order_section b
 past_body c e =
     let sized = c.before.before.before in
-    ordered _ (there sized) (or-next (checked sized) c.before.enum_told-in_default-1.given.1 e)
+    ordered _ (there sized) (or-next (checked sized) c.before.enum-told2.given.1 e)
 
 returns-3 : tie.Need-returns-then-each_once
-returns-3 c = past_body c.before (sym (refuse-no 18 _ (not-true _ (sym c.before.each_once.ensures ∙ c.if-each_once.true))))
+returns-3 c = past_body c.before (sym (refuse-no 18 _ (not-true _ (sym c.each_once.ensures ∙ c.if-each_once.true))))
 
 returns-4 : tie.Need-returns
 returns-4 c =
-    let laid = c.before.before.before.before.before.before.before.before.before.requires.0 in
+    let laid = c.requires.0 in
     past_body c.before
-    (ap (Refused 18) laid.order ∙ refuse-yes 18 _ (not-false _ (sym c.before.each_once.ensures ∙ c.if-each_once.false)))
+    (ap (Refused 18) laid.order ∙ refuse-yes 18 _ (not-false _ (sym c.each_once.ensures ∙ c.if-each_once.false)))
 
 pub order_section_spec : {M : Type 1} → statement M
 order_section_spec =

@@ -35,33 +35,27 @@ from_phases b = phases_section b or_else from_groups b
 -- ── The bytes, at the place where each section has passed ──
 
 abbrev at_site : tie.In_default → List ℕ
-at_site c = c.before.before.before.before.args.personality.now
+at_site c = c.args.personality.now
 
 abbrev at_phases : tie.In_default-phases → List ℕ
-at_phases c = at_site c.before.before.before
+at_phases c = at_site c.before.before
 
 abbrev at_groups : tie.In_default-grouped → List ℕ
-at_groups c = at_phases c.before.before.before
+at_groups c = at_phases c.before.before
 
 abbrev at_conflicts : tie.In_default-conflicts → List ℕ
-at_conflicts c = at_groups c.before.before.before
+at_conflicts c = at_groups c.before.before
 
 abbrev at_detectors : tie.In_default-detectors → List ℕ
-at_detectors c = at_conflicts c.before.before.before
+at_detectors c = at_conflicts c.before.before
 
 abbrev at_pedestrians : tie.In_default-pedestrians → List ℕ
-at_pedestrians c = at_detectors c.before.before.before
+at_pedestrians c = at_detectors c.before.before
 
 -- ── From there, the places where kinds 3 and 1 had passed, and the layout ──
 
-abbrev groups_before : tie.In_default-detectors → tie.In_default-grouped
-groups_before c = c.before.before.before.before.before.before
-
-abbrev site_before : tie.In_default-grouped → tie.In_default
-site_before c = c.before.before.before.before.before.before
-
 abbrev layout_at : tie.In_default → Layout
-layout_at c = c.before.before.before.before.args.layout
+layout_at c = c.args.layout
 
 -- ── The calls ──
 
@@ -70,86 +64,82 @@ enum_told c = search rules
 
 returns : tie.Need-returns-in-Refused
 unfolding verdict_of
-returns c = or-stop _ c.before.before.site_section-site.ensures c.enum_told-1.given.1
+returns c = or-stop _ c.site_section-site.ensures c.in-Refused.is
 
 -- kind 1 has passed: the answer is that of what follows
 after_site : (c : tie.In_default) {v : Verdict} → v ≡ from_phases (at_site c) → v ≡ verdict_of (at_site c)
 unfolding verdict_of
-after_site c e = or-next c.before.before.site_section-site.ensures c.enum_told-in_default-1.given.1 e
+after_site c e = or-next c.before.before.site-section.ensures c.enum-told2.given.1 e
 
 site_accepted : (c : tie.In_default) → site_section (at_site c) ≡ Accepted
-site_accepted c = sym c.before.before.site_section-site.ensures ∙ c.enum_told-in_default-1.given.1
+site_accepted c = sym c.site_section-site.ensures ∙ c.in_default.is
 
 returns-2 : tie.Need-returns-in-Refused-phases
-returns-2 c = after_site c.before.before.before (or-stop _ c.before.before.phases_section-phases.ensures c.enum_told-in-Refused-phases-1.given.1)
+returns-2 c = after_site c.before.before (or-stop _ c.phases_section-phases.ensures c.in-Refused-phases.is)
 
 -- kind 2 has passed: the answer is that of what follows
 after_phases : (c : tie.In_default-phases) {v : Verdict} → v ≡ from_groups (at_phases c) → v ≡ verdict_of (at_phases c)
-after_phases c e = after_site c.before.before.before (or-next c.before.before.phases_section-phases.ensures c.enum_told-in_default-phases-1.given.1 e)
+after_phases c e = after_site c.before.before.before (or-next c.before.before.phases-section.ensures c.enum-told4.given.1 e)
 
 returns-3 : tie.Need-returns-in-Refused-grouped
-returns-3 c = after_phases c.before.before.before (or-stop _ c.before.before.groups_section-groups.ensures.verdict c.enum_told-in-Refused-grouped-1.given.1)
+returns-3 c = after_phases c.before.before (or-stop _ c.groups_section-groups.ensures.verdict c.in-Refused-grouped.is)
 
 -- kind 3 has passed: the answer is that of what follows
 after_groups : (c : tie.In_default-grouped) {v : Verdict} → v ≡ from_conflicts (at_groups c) → v ≡ verdict_of (at_groups c)
-after_groups c e = after_phases c.before.before.before (or-next c.before.before.groups_section-groups.ensures.verdict c.enum_told-in_default-grouped-1.given.1 e)
+after_groups c e = after_phases c.before.before.before (or-next c.before.before.groups-section.ensures.verdict c.enum-told6.given.1 e)
 
 groups_accepted : (c : tie.In_default-grouped) → groups_section (at_groups c) ≡ Accepted
-groups_accepted c = sym c.before.before.groups_section-groups.ensures.verdict ∙ c.enum_told-in_default-grouped-1.given.1
+groups_accepted c = sym c.groups_section-groups.ensures.verdict ∙ c.in_default-grouped.is
 
 conflicts-section-requires : tie.Need-conflicts_section-conflicts-requires
 conflicts-section-requires c κs =
-    let site = site_before c in
-    (site.before.before.before.before.pre, site_accepted site, groups_accepted c)
+(c.pre, site_accepted c.before.before.before.before, groups_accepted c)
 
 returns-4 : tie.Need-returns-in-Refused-conflicts
-returns-4 c = after_groups c.before.before.before (or-stop _ c.before.before.conflicts_section-conflicts.ensures c.enum_told-in-Refused-conflicts-1.given.1)
+returns-4 c = after_groups c.before.before (or-stop _ c.conflicts_section-conflicts.ensures c.in-Refused-conflicts.is)
 
 -- kind 4 has passed: the answer is that of what follows
 after_conflicts : (c : tie.In_default-conflicts) {v : Verdict} → v ≡ from_detectors (at_conflicts c) → v ≡ verdict_of (at_conflicts c)
-after_conflicts c e = after_groups c.before.before.before (or-next c.before.before.conflicts_section-conflicts.ensures c.enum_told-in_default-conflicts-1.given.1 e)
+after_conflicts c e = after_groups c.before.before.before (or-next c.before.before.conflicts-section.ensures c.enum-told8.given.1 e)
 
 detectors-section-requires : tie.Need-detectors_section-detectors-requires
 detectors-section-requires c κs =
-    let site = c.before.before.before.before.before.before.before.before.before in
-    (site.before.before.before.before.requires, site_accepted site)
+(c.requires, site_accepted c.before.before.before.before.before.before)
 
 returns-5 : tie.Need-returns-in-Refused-detectors
-returns-5 c = after_conflicts c.before.before.before (or-stop _ c.before.before.detectors_section-detectors.ensures c.enum_told-in-Refused-detectors-1.given.1)
+returns-5 c = after_conflicts c.before.before (or-stop _ c.detectors_section-detectors.ensures c.in-Refused-detectors.is)
 
 -- kind 5 has passed: the answer is that of what follows
 after_detectors : (c : tie.In_default-detectors) {v : Verdict} → v ≡ from_pedestrians (at_detectors c) → v ≡ verdict_of (at_detectors c)
-after_detectors c e = after_conflicts c.before.before.before (or-next c.before.before.detectors_section-detectors.ensures c.enum_told-in_default-detectors-1.given.1 e)
+after_detectors c e = after_conflicts c.before.before.before (or-next c.before.before.detectors-section.ensures c.enum-told10.given.1 e)
 
 -- what kind 3 left, after kind 5
 groups_laid :
-    (c : tie.In_default-detectors) → LayoutOf (at_detectors c) (layout_at (site_before (groups_before c))) × (groups_section (at_detectors c) ≡ Accepted)
+    (c : tie.In_default-detectors) → LayoutOf (at_detectors c) (layout_at c.before.before.before.before.before.before.before.before) × (groups_section (at_detectors c) ≡ Accepted)
 groups_laid c =
-    let groups = groups_before c in
-    ((site_before groups).before.before.before.before.pre, groups_accepted groups)
+(c.pre, groups_accepted c.before.before.before.before)
 
 pedestrians-section-requires : tie.Need-pedestrians_section-pedestrians-requires
 pedestrians-section-requires c κs =
     let groups = groups_laid c in
-    let movements = (groups_before c).before.before.groups_section-groups.ensures.movements groups.1 in
+    let movements = c.groups_section-groups.ensures.movements groups.1 in
     (groups.0, movements, omega (arith, movements, (groups-accepted _ groups.1).movements))
 
 returns-6 : tie.Need-returns-in-Refused-pedestrians
-returns-6 c = after_detectors c.before.before.before (or-stop _ c.before.before.pedestrians_section-pedestrians.ensures c.enum_told-in-Refused-pedestrians-1.given.1)
+returns-6 c = after_detectors c.before.before (or-stop _ c.pedestrians_section-pedestrians.ensures c.in-Refused-pedestrians.is)
 
 -- kind 6 has passed: the answer is that of what follows
 past_pedestrians : (c : tie.In_default-pedestrians) {v : Verdict} → v ≡ after_pedestrians (at_pedestrians c) → v ≡ verdict_of (at_pedestrians c)
-past_pedestrians c e = after_detectors c.before.before.before (or-next c.before.before.pedestrians_section-pedestrians.ensures c.enum_told-in_default-pedestrians-1.given.1 e)
+past_pedestrians c e = after_detectors c.before.before.before (or-next c.before.before.pedestrians-section.ensures c.enum-told12.given.1 e)
 
 after-pedestrians-requires : tie.Need-after_pedestrians-requires
 after-pedestrians-requires c κs =
-    let detected = c.before.before.before in
-    let groups = groups_laid detected in
-    let told = (groups_before detected).before.before.groups_section-groups.ensures in (
+let groups = groups_laid c.before.before in
+    let told = c.groups_section-groups.ensures in (
       groups.0,
-      site_accepted (site_before (groups_before detected)),
+      site_accepted c.before.before.before.before.before.before.before.before.before.before,
       groups.1,
-      sym detected.before.before.detectors_section-detectors.ensures ∙ detected.enum_told-in_default-detectors-1.given.1,
+      sym c.detectors_section-detectors.ensures ∙ c.in_default-detectors.is,
       told.crossed groups.1,
       told.early groups.1,
     )

@@ -13,33 +13,33 @@ use Rattle.read_sections.proofs.section_at.Tie as tie
 
 -- ── The tests, each at the place where the code has made it ──
 
-short : (c : tie.Then-s-head) → let at = c.before.before.args in ltb (length at.s.now) (at.head + 4) ≡ true
+short : (c : tie.Then-s-head) → let at = c.args in ltb (length at.s.now) (at.head + 4) ≡ true
 short c = lt-ltb _ _ c.if-s-head.true
 
-not_short : (c : tie.Else-s-head) → let at = c.before.before.args in ltb (length at.s.now) (at.head + 4) ≡ false
+not_short : (c : tie.Else-s-head) → let at = c.args in ltb (length at.s.now) (at.head + 4) ≡ false
 not_short c = le-ltb _ _ c.if-s-head.false
 
-other_kind : (c : tie.Then-two_in-kind) → let at = c.before.before.before.before.args in eqb (kind_at at.s.now at.head) at.kind ≡ false
+other_kind : (c : tie.Then-two_in-kind) → let at = c.args in eqb (kind_at at.s.now at.head) at.kind ≡ false
 unfolding kind_at
-other_kind c = let e = c.before.two_in.ensures in rw (← e) (ne_eqb _ _ c.if-two_in-kind.true)
+other_kind c = let e = c.two_in.ensures in rw (← e) (ne_eqb _ _ c.if-two_in-kind.true)
 
-right_kind : (c : tie.Else-two_in-kind) → let at = c.before.before.before.before.args in eqb (kind_at at.s.now at.head) at.kind ≡ true
+right_kind : (c : tie.Else-two_in-kind) → let at = c.args in eqb (kind_at at.s.now at.head) at.kind ≡ true
 unfolding kind_at
-right_kind c = let e = c.before.two_in.ensures in rw (← e) (eq-eqb _ _ c.if-two_in-kind.false)
+right_kind c = let e = c.two_in.ensures in rw (← e) (eq-eqb _ _ c.if-two_in-kind.false)
 
 cut_body :
     (c : tie.Then-s-head-2) →
-    let at = c.before.before.before.before.before.before.before.args in
+    let at = c.args in
     ltb (length at.s.now) (body_at at.head + body_length at.s.now at.head) ≡ true
 unfolding body_at body_length
-cut_body c = let e = c.before.two_in-2.ensures in rw (← e) (lt-ltb _ _ c.if-s-head-2.true)
+cut_body c = let e = c.two_in-2.ensures in rw (← e) (lt-ltb _ _ c.if-s-head-2.true)
 
 whole_body :
     (c : tie.Else-s-head-2) →
-    let at = c.before.before.before.before.before.before.before.args in
+    let at = c.args in
     ltb (length at.s.now) (body_at at.head + body_length at.s.now at.head) ≡ false
 unfolding body_at body_length
-whole_body c = let e = c.before.two_in-2.ensures in rw (← e) (le-ltb _ _ c.if-s-head-2.false)
+whole_body c = let e = c.two_in-2.ensures in rw (← e) (le-ltb _ _ c.if-s-head-2.false)
 
 -- ── The returns ──
 
@@ -53,21 +53,17 @@ returns-2 c = rw (not_short c.before.before, other_kind c)
 
 returns-3 : tie.Need-returns-then-not-right
 unfolding section_at refuse_if ◌or_else◌
-returns-3 c = let named = c.before in rw (not_short named.before.before, right_kind named, c.if-not-right.true)
+returns-3 c = rw (not_short c.before.before.before, right_kind c.before, c.if-not-right.true)
 
 returns-4 : tie.Need-returns-then-s-head-2
 unfolding section_at refuse_if ◌or_else◌
 returns-4 c =
-    let length_right = c.before.before in
-    let named = length_right.before in
-    rw (not_short named.before.before, right_kind named, length_right.if-not-right.false, cut_body c)
+rw (not_short c.before.before.before.before.before, right_kind c.before.before.before, c.if-not-right.false, cut_body c)
 
 returns-5 : tie.Need-returns
 unfolding section_at refuse_if ◌or_else◌
 returns-5 c =
-    let length_right = c.before.before in
-    let named = length_right.before in
-    rw (not_short named.before.before, right_kind named, length_right.if-not-right.false, whole_body c)
+rw (not_short c.before.before.before.before.before, right_kind c.before.before.before, c.if-not-right.false, whole_body c)
 
 pub section_at_spec : {M : Type 1} → statement M
 section_at_spec =

@@ -22,11 +22,11 @@ unfolding section_at
 head-short b head kind right h = or-stop _ (refuse-yes 1 head (lt-ltb _ _ h)) refl
 
 returns : tie.Need-returns-then-s-head
-returns c = let at = c.before.before.args in head-short at.s.now at.head at.kind _ c.if-s-head.true
+returns c = let at = c.args in head-short at.s.now at.head at.kind _ c.if-s-head.true
 
 returns-2 : tie.Need-returns
 unfolding body_length
-returns-2 c = rw c.before.two_in.ensures at c.section_at.ensures
+returns-2 c = rw c.two_in.ensures at c.section_at.ensures
 
 pub sized_section_spec : {M : Type 1} → statement M
 sized_section_spec =

@@ -7,11 +7,11 @@ use Rattle.read_time_records.proofs.time_at.Tie as tie
 
 returns : tie.Need-returns-then-within
 unfolding time_at refuse_if
-returns c = let e = c.if-within.true in let f = c.before.within.ensures in let g = c.before.before.two_in.ensures in rw (← g, ← c.before.before.before.before.requires.1, ← f, e)
+returns c = let e = c.if-within.true in let f = c.within.ensures in let g = c.two_in.ensures in rw (← g, ← c.requires.1, ← f, e)
 
 returns-2 : tie.Need-returns
 unfolding time_at refuse_if
-returns-2 c = let e = c.if-within.false in let f = c.before.within.ensures in let g = c.before.before.two_in.ensures in rw (← g, ← c.before.before.before.before.requires.1, ← f, e)
+returns-2 c = let e = c.if-within.false in let f = c.within.ensures in let g = c.two_in.ensures in rw (← g, ← c.requires.1, ← f, e)
 
 pub time_at_spec : {M : Type 1} → statement M
 time_at_spec = tie.close (tie.spec (λ c κs. search rules) (λ c κs. search rules) returns returns-2)

@@ -24,17 +24,16 @@ add-place c = search rules
 
 loop-holds : tie.Need-loop-i-init invariant-loop-i decreases-loop-i
 unfolding time_records first_of
-loop-holds c = (omega arith, record-first c.before.args.head (c.before.args.fields * 2), refl)
+loop-holds c = (omega arith, record-first c.args.head (c.args.fields * 2), refl)
 
 times-at-requires : tie.Need-times_at-v-requires invariant-loop-i decreases-loop-i
 unfolding body_at
 times-at-requires c κs =
-    let at_start = c.before.before.before in
-    let head = at_start.args.head in
-    let width = at_start.args.fields * 2 in
-    let i = c.before.loop-i.i in (
-      omega (arith, record-near head width i (omega arith) (omega arith), record-within head width at_start.args.count i c.loop-i-test.true),
-      at_start.requires.1,
+let head = c.args.head in
+    let width = c.args.fields * 2 in
+    let i = c.loop-i.i in (
+      omega (arith, record-near head width i (omega arith) (omega arith), record-within head width c.args.count i c.loop-i-test.true),
+      c.requires.1,
     )
 
 enum_told : tie.Need-enum_told-1 invariant-loop-i decreases-loop-i
@@ -43,10 +42,8 @@ enum_told c = search rules
 returns : tie.Need-returns-in-Refused invariant-loop-i decreases-loop-i
 unfolding time_records
 returns c =
-    let at_loop_test = c.before.before.before in
-    let at_loop = at_loop_test.before in
-    first-stop _ _ _ at_loop_test.loop-i-test.true at_loop.loop-i.invariant.2 (rw at_loop.loop-i.invariant.1 at c.before.before.times_at-v.ensures)
-    c.enum_told-1.given.1
+first-stop _ _ _ c.loop-i-test.true c.loop-i.invariant.2 (rw c.loop-i.invariant.1 at c.times_at-v.ensures)
+    c.in-Refused.is
 
 enum-told-2 : tie.Need-enum_told-in_default invariant-loop-i decreases-loop-i
 enum-told-2 c = search rules
@@ -56,9 +53,7 @@ mul-place c = search rules
 
 add-place-2 : tie.Need-overflow_add-place-in-loop-i invariant-loop-i decreases-loop-i
 add-place-2 c =
-    let at_loop = c.before.before.before.before in
-    let at_start = at_loop.before.before in
-    omega (arith, record-near at_start.args.head (at_start.args.fields * 2) at_loop.loop-i.i (omega arith) (omega arith))
+omega (arith, record-near c.args.head (c.args.fields * 2) c.loop-i.i (omega arith) (omega arith))
 
 add-i : tie.Need-overflow_add-i invariant-loop-i decreases-loop-i
 add-i c = search rules
@@ -69,17 +64,16 @@ loop-less c = search rules
 loop-again : tie.Need-loop-i-preserved invariant-loop-i decreases-loop-i
 unfolding time_records
 loop-again c =
-    let at_loop = c.before.before.before.before in
-    let at_start = at_loop.before.before in (
+(
       omega arith,
-      rw at_loop.loop-i.invariant.1 (record-next at_start.args.head (at_start.args.fields * 2) at_loop.loop-i.i),
-      first_more _ _ at_loop.loop-i.invariant.2
-          (sym (rw at_loop.loop-i.invariant.1 at c.before.before.times_at-v.ensures) ∙ c.enum_told-in_default-1.given.1),
+      rw c.loop-i.invariant.1 (record-next c.args.head (c.args.fields * 2) c.loop-i.i),
+      first_more _ _ c.loop-i.invariant.2
+          (sym (rw c.loop-i.invariant.1 at c.times_at-v.ensures) ∙ c.in_default.is),
     )
 
 returns-2 : tie.Need-returns invariant-loop-i decreases-loop-i
 unfolding time_records
-returns-2 c = first_done _ _ _ c.before.loop-i.invariant.2 (omega arith)
+returns-2 c = first_done _ _ _ c.loop-i.invariant.2 (omega arith)
 
 pub time_records_spec : {M : Type 1} → statement M
 time_records_spec =

@@ -12,8 +12,8 @@ use Rattle.read_time_records.proofs.timed_section.Tie as tie
 
 mul-sized-section-2 : tie.Need-overflow_mul-count
 mul-sized-section-2 c =
-    let a = c.before.args in
-    let near : a.count * (a.fields * 2) ≤ 5100 = mul-le-mul {m₂ = 20} c.before.requires.0.3 (omega arith) in
+    let a = c.args in
+    let near : a.count * (a.fields * 2) ≤ 5100 = mul-le-mul {m₂ = 20} c.requires.0.3 (omega arith) in
     search rules
 
 enum_told : tie.Need-enum_told-1
@@ -21,19 +21,17 @@ enum_told c = search rules
 
 returns : tie.Need-returns-in-Refused
 unfolding timed_section
-returns c = or-stop _ c.before.before.sized_section-body.ensures c.enum_told-1.given.1
+returns c = or-stop _ c.sized_section-body.ensures c.in-Refused.is
 
 time-records-requires : tie.Need-time_records-requires
 unfolding body_at
 time-records-requires c κs =
-    let at_section = c.before.before in
-    (omega (arith, records-held _ _ _ _ _ (sym at_section.sized_section-body.ensures ∙ c.enum_told-in_default-1.given.1)), at_section.before.before.requires.1)
+(omega (arith, records-held _ _ _ _ _ (sym c.sized_section-body.ensures ∙ c.in_default.is)), c.requires.1)
 
 returns-2 : tie.Need-returns
 unfolding timed_section
 returns-2 c =
-    let passed = c.before in
-    or-next passed.before.before.sized_section-body.ensures passed.enum_told-in_default-1.given.1 c.time_records.ensures
+or-next c.sized_section-body.ensures c.in_default.is c.time_records.ensures
 
 pub timed_section_spec : {M : Type 1} → statement M
 timed_section_spec =

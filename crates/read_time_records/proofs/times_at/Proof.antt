@@ -44,10 +44,8 @@ enum_told c = search rules
 returns : tie.Need-returns-in-Refused invariant-loop-f decreases-loop-f
 unfolding times_at
 returns c =
-    let at_loop_test = c.before.before.before in
-    let at_loop = at_loop_test.before in
-    first-stop _ _ _ at_loop_test.loop-f-test.true at_loop.loop-f.invariant.1
-    c.before.before.time_at-v.ensures c.enum_told-1.given.1
+first-stop _ _ _ c.loop-f-test.true c.loop-f.invariant.1
+    c.time_at-v.ensures c.in-Refused.is
 
 enum-told-2 : tie.Need-enum_told-in_default invariant-loop-f decreases-loop-f
 enum-told-2 c = search rules
@@ -60,14 +58,13 @@ loop-less c = search rules
 
 loop-again : tie.Need-loop-f-preserved invariant-loop-f decreases-loop-f
 loop-again c =
-    let at_loop = c.before.before.before.before in
-    (omega arith, first_more _ _ at_loop.loop-f.invariant.1 (sym c.before.before.time_at-v.ensures ∙ c.enum_told-in_default-1.given.1))
+(omega arith, first_more _ _ c.loop-f.invariant.1 (sym c.time_at-v.ensures ∙ c.in_default.is))
 
 returns-2 : tie.Need-returns invariant-loop-f decreases-loop-f
 unfolding times_at
 returns-2 c =
-    let all : c.before.loop-f.f ≡ c.before.before.before.args.fields = omega arith in
-    sym (rw all at c.before.loop-f.invariant.1)
+    let all : c.loop-f.f ≡ c.args.fields = omega arith in
+    sym (rw all at c.loop-f.invariant.1)
 
 pub times_at_spec : {M : Type 1} → statement M
 times_at_spec =

@@ -8,12 +8,12 @@ use Rattle.read_time_sections.proofs.pedestrians_section.Tie as tie
 
 -- the table is that of the personality's edition
 timed-section-requires : tie.Need-timed_section-requires
-timed-section-requires c κs = (search rules, c.limits-table.ensures ∙ ap limits c.before.edition_of.ensures)
+timed-section-requires c κs = (search rules, c.limits-table.ensures ∙ ap limits c.edition_of.ensures)
 
 returns : tie.Need-returns
 unfolding pedestrians_section
 returns c =
-    let asked = c.before.before.before.before.requires in
+    let asked = c.requires in
     rw (asked.0.pedestrians, asked.1) at c.timed_section.ensures
 
 pub pedestrians_section_spec : {M : Type 1} → statement M

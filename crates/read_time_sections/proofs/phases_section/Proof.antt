@@ -9,12 +9,11 @@ use Rattle.read_time_sections.proofs.phases_section.Tie as tie
 -- the table is that of the personality's edition
 timed-section-requires : tie.Need-timed_section-requires
 timed-section-requires c κs =
-    let taken = c.before in
-    (search rules, taken.limits-table.ensures ∙ ap limits taken.before.edition_of.ensures)
+(search rules, c.limits-table.ensures ∙ ap limits c.edition_of.ensures)
 
 returns : tie.Need-returns
 unfolding phases_section
-returns c = rw c.before.before.before.before.before.requires.phasecount at c.timed_section.ensures
+returns c = rw c.requires.phasecount at c.timed_section.ensures
 
 pub phases_section_spec : {M : Type 1} → statement M
 phases_section_spec =

@@ -28,7 +28,7 @@ traffic-at-requires : tie.Need-traffic_at-requires invariant-loop-i decreases-lo
 traffic-at-requires c κs = omega arith
 
 put-result-requires : tie.Need-put_result-requires invariant-loop-i decreases-loop-i
-put-result-requires c κs = omega (arith, stored-length c.before.before.before.loop-i.invariant)
+put-result-requires c κs = omega (arith, stored-length c.loop-i.invariant)
 
 add-i : tie.Need-overflow_add-i invariant-loop-i decreases-loop-i
 add-i c = search rules
@@ -39,22 +39,19 @@ loop-less c = search rules
 loop-again : tie.Need-loop-i-preserved invariant-loop-i decreases-loop-i
 unfolding result_of
 loop-again c =
-    let put = c.before.before in
-    let read = put.before in
-    let turn = read.before.before in
-    let cells = turn.before.before.before.before.args.cells.now in
-    rw put.put_result.ensures
-    (stored-record (λ i. result_of (traffic_at cells i)) 4 (λ i. refl) (turn.before.loop-i.i * 4) (result_of read.traffic_at.result)
-    turn.before.loop-i.invariant
-    turn.loop-i-test.true
+let cells = c.args.cells.now in
+    rw c.put_result.ensures
+    (stored-record (λ i. result_of (traffic_at cells i)) 4 (λ i. refl) (c.loop-i.i * 4) (result_of c.traffic_at.result)
+    c.loop-i.invariant
+    c.loop-i-test.true
     (omega arith)
-    (ap result_of read.traffic_at.ensures))
+    (ap result_of c.traffic_at.ensures))
 
 same_length : tie.Need-shape_of-results invariant-loop-i decreases-loop-i
-same_length c = stored-length c.before.loop-i.invariant
+same_length c = stored-length c.loop-i.invariant
 
 returns : tie.Need-returns invariant-loop-i decreases-loop-i
-returns c = stored-all c.before.loop-i.invariant c.loop-i-test.false
+returns c = stored-all c.loop-i.invariant c.loop-i-test.false
 
 pub put_results_spec : {M : Type 1} → statement M
 put_results_spec =

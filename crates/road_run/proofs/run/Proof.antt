@@ -19,46 +19,41 @@ entry c = c.before.before.before.before.before
 -- the state that the road begins with is the fresh state
 begun :
     (c : tie.After-fresh) (b : List ℕ) →
-    let start = c.before.before.before in
-    OfPersonality b start.args.site start.args.streams.now start.args.steps →
-    OnRoad b start.args.streams.now start.args.steps start.args.site 0 c.fresh.result blank
+OfPersonality b c.args.site c.args.streams.now c.args.steps →
+    OnRoad b c.args.streams.now c.args.steps c.args.site 0 c.fresh.result blank
 begun c b start = rw c.fresh.ensures (start-road start)
 
 road-steps-requires : tie.Need-road_steps-state-requires
 road-steps-requires c κs =
-    let start = c.before.before.before.before in
-    let some = start.requires in
-    record { b = some.b; whole = start.args.steps; n = 0; enough = omega arith; road = begun c.before some.b some.start }
+let some = c.requires in
+    record { b = some.b; whole = c.args.steps; n = 0; enough = omega arith; road = begun c.before some.b some.start }
 
 ended :
     (c : tie.After-road_steps-state) (b : List ℕ) →
-    let a = (entry c).args in
+    let a = c.args in
     OfPersonality b a.site a.streams.now a.steps →
     OnRoad b a.streams.now a.steps a.site a.steps c.road_steps-state.result c.road_steps-state.new.1.1.1.1.0
 ended c b start =
     let steps = (entry c).args.steps in
     let whole : 0 + steps ≡ steps = omega arith in
-    rw whole at (c.road_steps-state.ensures.road b steps 0 (omega arith) (begun c.before.before b start))
+    rw whole at (c.road-steps.ensures.road b steps 0 (omega arith) (begun c.before.before b start))
 
 put-results-requires : tie.Need-put_results-requires
 unfolding stream_count
 put-results-requires c κs =
-    let ran = c.before.before.before in
-    let some = (entry ran).requires in
-    ((ended ran some.b some.start).room, omega (arith, (known-streams _ _ _ some.start.known).whole, some.enough))
+let some = c.requires in
+    ((ended c.before.before.before some.b some.start).room, omega (arith, (known-streams _ _ _ some.start.known).whole, some.enough))
 
 returns : tie.Need-returns
 unfolding stream_count
 returns c =
-    let put = c.before.before in
-    let ran = put.before.before.before.before in
-    record {
-      state = λ b start. (ended ran b start).held;
+record {
+      state = λ b start. (ended c.before.before.before.before.before.before b start).held;
       written =
           λ b start.
-          put.put_results.ensures
-          ∙ ap (λ (l : List ℕ). sets (entry ran).args.results.now 0 l) (end-results start (ended ran b start))
-          ∙ results-placed start (entry ran).args.results.now (entry ran).requires.enough;
+          c.put_results.ensures
+          ∙ ap (λ (l : List ℕ). sets c.args.results.now 0 l) (end-results start (ended c.before.before.before.before.before.before b start))
+          ∙ results-placed start c.args.results.now c.requires.enough;
     }
 
 pub run_spec : {M : Type 1} → statement M

@@ -23,41 +23,35 @@ loop-holds c = arrived-none
 
 -- ── A turn ──
 
-abbrev entry : tie.At-loop-i invariant-loop-i decreases-loop-i → tie.Start invariant-loop-i decreases-loop-i
-entry c = c.before.before.before
-
 -- the stream is one of those, and its cells are in the row
-within : (c : tie.In-loop-i invariant-loop-i decreases-loop-i) → c.before.loop-i.i < stream_count (entry c.before).args.streams.now
+within : (c : tie.In-loop-i invariant-loop-i decreases-loop-i) → c.loop-i.i < stream_count c.args.streams.now
 unfolding stream_count
 within c = c.loop-i-test.true
 
-inside : (c : tie.In-loop-i invariant-loop-i decreases-loop-i) → 4 * c.before.loop-i.i + 4 ≤ length c.before.loop-i.cells
-inside c = omega (arith, within c, (entry c.before).pre.room, c.before.loop-i.invariant.pass.same)
+inside : (c : tie.In-loop-i invariant-loop-i decreases-loop-i) → 4 * c.loop-i.i + 4 ≤ length c.loop-i.cells
+inside c = omega (arith, within c, c.pre.room, c.loop-i.invariant.pass.same)
 
 -- its traffic is as handed in
-fine : (c : tie.In-loop-i invariant-loop-i decreases-loop-i) → MayArrive (stream_at (entry c.before).args.streams.now c.before.loop-i.i) (traffic_at c.before.loop-i.cells c.before.loop-i.i)
-fine c = rw (c.before.loop-i.invariant.pass.left c.before.loop-i.i (omega arith)) ((entry c.before).pre.each c.before.loop-i.i (within c))
+fine : (c : tie.In-loop-i invariant-loop-i decreases-loop-i) → MayArrive (stream_at c.args.streams.now c.loop-i.i) (traffic_at c.loop-i.cells c.loop-i.i)
+fine c = rw (c.loop-i.invariant.pass.left c.loop-i.i (omega arith)) (c.pre.each c.loop-i.i (within c))
 
 stream-at-requires : tie.Need-stream_at-stream-requires invariant-loop-i decreases-loop-i
 stream-at-requires c κs = omega (arith, c.loop-i-test.true)
 
 traffic-at-requires : tie.Need-traffic_at-before-requires invariant-loop-i decreases-loop-i
-traffic-at-requires c κs = inside c.before.before
+traffic-at-requires c κs = inside c.before
 
 arrived-requires : tie.Need-arrived-traffic-requires invariant-loop-i decreases-loop-i
 arrived-requires c κs =
-    let turn = c.before.before.before in
-    let ok = fine turn in
-    rw (c.before.before.stream_at-stream.ensures, c.traffic_at-before.ensures) (ok.rate, ok.below, ok.fits)
+let ok = fine c.before.before in
+    rw (c.stream_at-stream.ensures, c.traffic_at-before.ensures) (ok.rate, ok.below, ok.fits)
 
 put-at-requires : tie.Need-put_at-requires invariant-loop-i decreases-loop-i
-put-at-requires c κs = inside c.before.before.before.before.before
+put-at-requires c κs = inside c.before.before.before.before
 
 with-bit-requires : tie.Need-with_bit-inputs-requires invariant-loop-i decreases-loop-i
 with-bit-requires c κs =
-    let put = c.before.before.before in
-    let read = put.before.before.before in
-    rw read.before.before.stream_at-stream.ensures (fine read.before.before.before).detector
+rw c.stream_at-stream.ensures (fine c.before.before.before.before.before.before.before.before).detector
 
 add-i : tie.Need-overflow_add-i invariant-loop-i decreases-loop-i
 add-i c = search rules
@@ -68,21 +62,16 @@ loop-less c = search rules
 loop-again : tie.Need-loop-i-preserved invariant-loop-i decreases-loop-i
 unfolding queues
 loop-again c =
-    let put = c.before.before.before.before in
-    let made = put.before.before in
-    let read = made.before in
-    let seen = read.before.before in
-    let turn = seen.before in
-    arrived-more made.arrived-traffic.result turn.before.loop-i.invariant turn.loop-i-test.true (inside turn) put.put_at.ensures
-    (made.arrived-traffic.ensures ∙ cc)
-    (ap (λ (s : Stream). s.detector) seen.stream_at-stream.ensures) refl c.with_bit-inputs.ensures
+arrived-more c.arrived-traffic.result c.loop-i.invariant c.loop-i-test.true (inside c.before.before.before.before.before.before.before.before.before) c.put_at.ensures
+    (c.arrived-traffic.ensures ∙ cc)
+    (ap (λ (s : Stream). s.detector) c.stream_at-stream.ensures) refl c.with_bit-inputs.ensures
 
 same_length : tie.Need-shape_of-cells invariant-loop-i decreases-loop-i
-same_length c = c.before.loop-i.invariant.pass.same
+same_length c = c.loop-i.invariant.pass.same
 
 returns : tie.Need-returns invariant-loop-i decreases-loop-i
 unfolding stream_count
-returns c = arrived-all c.before.loop-i.invariant c.loop-i-test.false
+returns c = arrived-all c.loop-i.invariant c.loop-i-test.false
 
 pub arrivals_spec : {M : Type 1} → statement M
 arrivals_spec =

@@ -14,21 +14,17 @@ released-requires c κs =
 
 returns : tie.Need-returns-then-shows_green
 returns c =
-    let put = c.before.before in
-    let made = put.before.before in
-    let read = made.before in
-    let chosen = read.before.before in
-    let a = chosen.before.before.args in
+let a = chosen.before.before.args in
     λ colour e.
-    put.put_at.ensures
-    ∙ ap (put_at a.cells-1.now a.i)
-    (made.released-traffic.ensures colour (e ∙ chosen.if-shows_green.true) ∙ ap (released colour) read.traffic_at-before.ensures)
+    c.put_at.ensures
+    ∙ ap (put_at a.cells.now a.i)
+    (c.released-traffic.ensures colour (e ∙ c.if-shows_green.true) ∙ ap (released colour) c.traffic_at-before.ensures)
 
 returns-2 : tie.Need-returns
 unfolding released
 returns-2 c =
-    let a = c.before.before.args in
-    λ colour e. rw (e, c.if-shows_green.false) (count-cleared a.cells-1.now a.i)
+    let a = c.args in
+    λ colour e. rw (e, c.if-shows_green.false) (count-cleared a.cells.now a.i)
 
 pub release_spec : {M : Type 1} → statement M
 release_spec =

@@ -23,22 +23,19 @@ loop-holds c = (search rules, passed_none)
 
 -- ── A turn ──
 
-abbrev entry : tie.At-loop-i invariant-loop-i decreases-loop-i → tie.Start invariant-loop-i decreases-loop-i
-entry c = c.before.before.before
-
 -- the stream is one of those, and its cells are in the row
-within : (c : tie.In-loop-i invariant-loop-i decreases-loop-i) → c.before.loop-i.i < stream_count (entry c.before).args.streams.now
+within : (c : tie.In-loop-i invariant-loop-i decreases-loop-i) → c.loop-i.i < stream_count c.args.streams.now
 unfolding stream_count
 within c = c.loop-i-test.true
 
-inside : (c : tie.In-loop-i invariant-loop-i decreases-loop-i) → 4 * c.before.loop-i.i + 4 ≤ length c.before.loop-i.cells
-inside c = omega (arith, within c, (entry c.before).pre.room, c.before.loop-i.invariant.1.same)
+inside : (c : tie.In-loop-i invariant-loop-i decreases-loop-i) → 4 * c.loop-i.i + 4 ≤ length c.loop-i.cells
+inside c = omega (arith, within c, c.pre.room, c.loop-i.invariant.1.same)
 
 -- its traffic is as handed in
 fine :
     (c : tie.In-loop-i invariant-loop-i decreases-loop-i) →
-    MayRelease (stream_at (entry c.before).args.streams.now c.before.loop-i.i) (traffic_at c.before.loop-i.cells c.before.loop-i.i)
-fine c = rw (c.before.loop-i.invariant.1.left c.before.loop-i.i (omega arith)) ((entry c.before).pre.each c.before.loop-i.i (within c))
+    MayRelease (stream_at c.args.streams.now c.loop-i.i) (traffic_at c.loop-i.cells c.loop-i.i)
+fine c = rw (c.loop-i.invariant.1.left c.loop-i.i (omega arith)) (c.pre.each c.loop-i.i (within c))
 
 stream-at-requires : tie.Need-stream_at-stream-requires invariant-loop-i decreases-loop-i
 stream-at-requires c κs = omega (arith, c.loop-i-test.true)
@@ -48,9 +45,8 @@ is-green-requires c κs = rw c.stream_at-stream.ensures (omega (arith, (fine c.b
 
 release-requires : tie.Need-release-requires invariant-loop-i decreases-loop-i
 release-requires c κs =
-    let turn = c.before.before.before in
-    let ok = fine turn in
-    (inside turn, ok.fits, ok.counting)
+let ok = fine c.before.before.before in
+    (inside c.before.before.before, ok.fits, ok.counting)
 
 add-i : tie.Need-overflow_add-i invariant-loop-i decreases-loop-i
 add-i c = search rules
@@ -60,27 +56,23 @@ loop-less c = search rules
 
 loop-again : tie.Need-loop-i-preserved invariant-loop-i decreases-loop-i
 loop-again c =
-    let left = c.before.before in
-    let shown = left.before.before in
-    let seen = shown.before in
-    let turn = seen.before in
-    let i = turn.before.loop-i.i in
-    let cells = turn.before.loop-i.cells in
-    let streams = (entry turn.before).args.streams.now in
-    let greens = (entry turn.before).args.greens in (
+let i = c.loop-i.i in
+    let cells = c.loop-i.cells in
+    let streams = c.args.streams.now in
+    let greens = c.args.greens in (
       search rules,
-      passed-more (releasing streams greens i (traffic_at cells i)) turn.before.loop-i.invariant.1 (inside turn)
-          (left.release.ensures (coloured greens (stream_at streams i).group)
-          (coloured-green greens (stream_at streams i).group ∙ sym (shown.is_green-shows_green.ensures ∙ cc)))
+      passed-more (releasing streams greens i (traffic_at cells i)) c.loop-i.invariant.1 (inside c.before.before.before.before.before.before)
+          (c.release.ensures (coloured greens (stream_at streams i).group)
+          (coloured-green greens (stream_at streams i).group ∙ sym (c.is_green-shows_green.ensures ∙ cc)))
           refl,
     )
 
 same_length : tie.Need-shape_of-cells invariant-loop-i decreases-loop-i
-same_length c = c.before.loop-i.invariant.1.same
+same_length c = c.loop-i.invariant.1.same
 
 returns : tie.Need-returns invariant-loop-i decreases-loop-i
 unfolding stream_count
-returns c = released-all c.before.loop-i.invariant.1 c.before.loop-i.invariant.0 c.loop-i-test.false
+returns c = released-all c.loop-i.invariant.1 c.loop-i.invariant.0 c.loop-i-test.false
 
 pub releases_spec : {M : Type 1} → statement M
 releases_spec =

@@ -6,12 +6,12 @@ use Rattle.road_step.proofs.road_stepped.Tie as tie
 
 road-steps-requires : tie.Need-road_steps-requires
 road-steps-requires c κs =
-    let some = c.before.before.before.requires in
+    let some = c.requires in
     record { b = some.b; whole = some.steps; n = some.n; enough = omega (arith, some.before); road = some.road }
 
 returns : tie.Need-returns
 returns c =
-    let further = c.before.before.road_steps.ensures in
+    let further = c.road_steps.ensures in
     record { same = further.same; rest = further.rest; road = λ b steps n before road. further.road b steps n (omega (arith, before)) road }
 
 pub road_stepped_spec : {M : Type 1} → statement M

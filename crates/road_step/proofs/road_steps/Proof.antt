@@ -22,7 +22,7 @@ invariant-loop-n site streams steps cells₀ greens₀ last₀ n₀ cells greens
     (n ≤ steps)
     × (length cells ≡ length cells₀)
     × RestStays (stream_count streams) cells₀ cells
-    × GreenIn site last.core-1 greens
+    × GreenIn site last.core greens
     × ((b : List ℕ) (whole m : ℕ) →
     m + steps ≤ whole →
     OnRoad b streams whole site m last₀ cells₀ →
@@ -32,25 +32,21 @@ abbrev decreases-loop-n : tie.decreases-loop-n
 decreases-loop-n site streams steps cells₀ greens₀ last₀ n₀ cells greens last n = steps - n
 
 greens-in-requires : tie.Need-greens_in-greens-requires invariant-loop-n decreases-loop-n
-greens-in-requires c κs = on-sound c.before.before.before.requires.road
+greens-in-requires c κs = on-sound c.requires.road
 
 loop-holds : tie.Need-loop-n-init invariant-loop-n decreases-loop-n
 loop-holds c = (omega arith, refl, λ i l. refl, c.greens_in-greens.ensures, λ b whole m l road. rw (add-zero m) road)
 
 -- ── A turn: the road that is known to be there ──
 
-abbrev start : tie.At-loop-n invariant-loop-n decreases-loop-n → tie.Start invariant-loop-n decreases-loop-n
-start c = c.before.before.before.before.before
-
 here :
     (c : tie.In-loop-n invariant-loop-n decreases-loop-n) →
-    let at = c.before in
-    let ahead = (start at).requires in
-    OnRoad ahead.b (start at).args.streams.now ahead.whole (start at).args.site (ahead.n + at.loop-n.n) at.loop-n.last at.loop-n.cells
-here c = let ahead = (start c.before).pre in c.before.loop-n.invariant.4 ahead.b ahead.whole ahead.n ahead.enough ahead.road
+let ahead = c.requires in
+    OnRoad ahead.b c.args.streams.now ahead.whole c.args.site (ahead.n + c.loop-n.n) c.loop-n.last c.loop-n.cells
+here c = let ahead = c.pre in c.loop-n.invariant.4 ahead.b ahead.whole ahead.n ahead.enough ahead.road
 
-before-end : (c : tie.In-loop-n invariant-loop-n decreases-loop-n) → (start c.before).pre.n + c.before.loop-n.n < (start c.before).pre.whole
-before-end c = omega (arith, (start c.before).pre.enough, c.loop-n-test.true)
+before-end : (c : tie.In-loop-n invariant-loop-n decreases-loop-n) → c.pre.n + c.loop-n.n < c.pre.whole
+before-end c = omega (arith, c.pre.enough, c.loop-n-test.true)
 
 arrivals-requires : tie.Need-arrivals-inputs-requires invariant-loop-n decreases-loop-n
 arrivals-requires c κs = may-arrive (here c.before) (before-end c.before)
@@ -65,49 +61,39 @@ greens-after-requires c κs = on-sound (here c.before.before.before.before.befor
 
 releases-requires : tie.Need-releases-requires invariant-loop-n decreases-loop-n
 releases-requires c κs =
-    let came = c.before.before.before.before.before.before in
-    let turn = came.before.before in
-    may-release (here turn) (before-end turn) came.arrivals-inputs.ensures
+may-release (here c.before.before.before.before.before.before.before.before) (before-end c.before.before.before.before.before.before.before.before) c.arrivals-inputs.ensures
 
 add-n : tie.Need-overflow_add-n invariant-loop-n decreases-loop-n
 add-n c =
-    let turn = c.before.before.before.before.before.before.before.before.before.before.before in
-    search (rules, turn.loop-n-test.true, (start turn.before).fits.steps)
+search (rules, c.loop-n-test.true, c.fits.steps)
 
 loop-less : tie.Need-loop-n-smaller invariant-loop-n decreases-loop-n
 loop-less c = search rules
 
 loop-again : tie.Need-loop-n-preserved invariant-loop-n decreases-loop-n
 loop-again c =
-    let left = c.before.before in
-    let lit = left.before.before in
-    let stepped = lit.before.before in
-    let came = stepped.before.before.before in
-    let turn = came.before.before in
-    let at = turn.before in
-    let inv = at.loop-n.invariant in
-    let shown : GreenIn (start at).args.site stepped.kept_stepped-last.result.core lit.greens_after-greens.result =
-    lit.greens_after-greens.ensures at.loop-n.last.core
-    (subst (λ (next : KeptState). Follows at.loop-n.last.core.position next.core-1.position) (sym stepped.kept_stepped-last.ensures)
-    (step_follows (start at).args.site at.loop-n.last came.arrivals-inputs.result))
+let inv = c.loop-n.invariant in
+    let shown : GreenIn c.args.site c.kept_stepped-last.result.core c.greens_after-greens.result =
+    c.greens_after-greens.ensures c.loop-n.last.core
+    (subst (λ (next : KeptState). Follows c.loop-n.last.core.position next.core.position) (sym c.kept_stepped-last.ensures)
+    (step_follows c.args.site c.loop-n.last c.arrivals-inputs.result))
     inv.3 in (
       search rules,
-      left.releases.ensures.same ∙ came.arrivals-inputs.ensures.same ∙ inv.1,
-      λ i l. left.releases.ensures.rest i l ∙ came.arrivals-inputs.ensures.rest i l ∙ inv.2 i l,
+      c.releases.ensures.same ∙ c.arrivals-inputs.ensures.same ∙ inv.1,
+      λ i l. c.releases.ensures.rest i l ∙ c.arrivals-inputs.ensures.rest i l ∙ inv.2 i l,
       shown,
       λ b whole m l road.
-          let later : m + at.loop-n.n + 1 ≡ m + (at.loop-n.n + 1) = omega arith in
-          rw later at (next-road (inv.4 b whole m l road) (omega (arith, l, turn.loop-n-test.true)) came.arrivals-inputs.ensures stepped.kept_stepped-last.ensures shown left.releases.ensures),
+          let later : m + c.loop-n.n + 1 ≡ m + (c.loop-n.n + 1) = omega arith in
+          rw later c.before.before.before.before.before.before.before.before.before.before.before.before (next-road (inv.4 b whole m l road) (omega (arith, l, c.loop-n-test.true)) c.arrivals-inputs.ensures c.kept_stepped-last.ensures shown c.releases.ensures),
     )
 
 same_length : tie.Need-shape_of-cells invariant-loop-n decreases-loop-n
-same_length c = c.before.loop-n.invariant.1
+same_length c = c.loop-n.invariant.1
 
 returns : tie.Need-returns invariant-loop-n decreases-loop-n
 returns c =
-    let at = c.before in
-    let last : at.loop-n.n ≡ (start at).args.steps = omega (arith, at.loop-n.invariant.0, c.loop-n-test.false) in
-    record { same = at.loop-n.invariant.1; rest = at.loop-n.invariant.2; road = rw last at at.loop-n.invariant.4 }
+let last : c.loop-n.n ≡ c.args.steps = omega (arith, c.loop-n.invariant.0, c.loop-n-test.false) in
+    record { same = c.loop-n.invariant.1; rest = c.loop-n.invariant.2; road = rw last c.before c.loop-n.invariant.4 }
 
 pub road_steps_spec : {M : Type 1} → statement M
 road_steps_spec =

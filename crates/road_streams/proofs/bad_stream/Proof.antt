@@ -7,7 +7,7 @@ use Rattle.road_streams.proofs.bad_stream.Tie as tie
 
 returns : tie.Need-returns
 unfolding bad_stream
-returns c = rw c.before.before.before.vehicle_group-known.ensures refl
+returns c = rw c.vehicle_group-known.ensures refl
 
 pub bad_stream_spec : {M : Type 1} → statement M
 bad_stream_spec = tie.close (tie.spec (λ c κs. search rules) returns)

@@ -7,7 +7,7 @@ use Rattle.road_streams.proofs.count_after.Tie as tie
 
 returns : tie.Need-returns-then-shows_green-traffic
 unfolding queues
-returns c = rw c.before.if-shows_green-traffic.true refl
+returns c = rw c.if-shows_green-traffic.true refl
 
 returns-2 : tie.Need-returns
 unfolding queues

@@ -40,20 +40,18 @@ loop-less c = search rules
 
 loop-again : tie.Need-loop-i-preserved invariant-loop-i decreases-loop-i
 loop-again c =
-    let here = c.before.before.before in
-    let a = here.before.before.args in (
+let a = c.args in (
       search rules,
-      one_more (at a.site a.streams.now) here.loop-i.i here.loop-i.invariant.1
-          (c.bad_stream-bad.ensures ∙ ap (λ (s : Stream). bad_stream a.site s) c.before.stream_at.ensures),
+      one_more (at a.site a.streams.now) c.loop-i.i c.loop-i.invariant.1
+          (c.bad_stream-bad.ensures ∙ ap (λ (s : Stream). bad_stream a.site s) c.stream_at.ensures),
     )
 
 returns : tie.Need-returns invariant-loop-i decreases-loop-i
 unfolding stream_count
 returns c =
-    let here = c.before in
-    let a = here.before.before.args in
-    let last : here.loop-i.i ≡ length a.streams.now / 4 = omega arith in
-    rw last at here.loop-i.invariant.1
+let a = c.args in
+    let last : c.loop-i.i ≡ length a.streams.now / 4 = omega arith in
+    rw last at c.loop-i.invariant.1
 
 pub some_bad_spec : {M : Type 1} → statement M
 some_bad_spec =

@@ -7,7 +7,7 @@ use Rattle.road_streams.proofs.stream_at.Tie as tie
 
 returns : tie.Need-returns
 unfolding stream_at
-returns c = rw (c.before.before.byte_in.ensures, c.before.byte_in-2.ensures, c.two_in.ensures) refl
+returns c = rw (c.byte_in.ensures, c.byte_in-2.ensures, c.two_in.ensures) refl
 
 pub stream_at_spec : {M : Type 1} → statement M
 stream_at_spec =

@@ -9,7 +9,7 @@ use Rattle.road_streams.proofs.vehicle_group.Tie as tie
 
 returns : tie.Need-returns-then-g-site
 unfolding vehicle_group is_pedestrian group_of
-returns c = rw (lt-ltb _ _ c.before.before.before.if-g-site.true) refl
+returns c = rw (lt-ltb _ _ c.if-g-site.true) refl
 
 returns-2 : tie.Need-returns
 unfolding vehicle_group

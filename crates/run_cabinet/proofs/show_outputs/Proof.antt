@@ -37,7 +37,7 @@ loop-less : tie.Need-loop-i-smaller invariant-loop-i decreases-loop-i
 loop-less c = search rules
 
 loop-again : tie.Need-loop-i-preserved invariant-loop-i decreases-loop-i
-loop-again c = (search rules, simp length-set c.before.before.before.before.loop-i.invariant.1)
+loop-again c = (search rules, simp length-set c.loop-i.invariant.1)
 
 slice-aggregate-write-all-2 : tie.Need-slice-aggregate-write-all-2 invariant-loop-i decreases-loop-i
 slice-aggregate-write-all-2 c = search rules

@@ -19,40 +19,35 @@ start c = c.before.before.before.before
 
 returns : tie.Need-returns-then-number-ne0
 returns c =
-    let numbered = c.before.before in
-    let called = numbered.before.before in
-    let a = (start called).args in (
-      rw (call-refused a.personality.now a.state.now a.step-answer a.inputs called.step-answer.ensures.0 numbered.if-number-ne0.true)
+let a = c.args in (
+      rw (call-refused a.personality.now a.state.now a.step a.inputs c.step-answer.ensures.0 c.if-number-ne0.true)
           c.refuse.ensures,
-      called.step-answer.ensures.1,
+      c.step-answer.ensures.1,
     )
 
 -- the answer has no number
-accepted : (c : tie.Else-number-ne0) → let a = (start c.before.before).args in step_answer a.personality.now a.state.now a.inputs 32 % 256 ≡ 0
-accepted c = ap (λ (r : ℕ). r % 256) (sym c.before.before.step-answer.ensures.0) ∙ c.if-number-ne0.false
+accepted : (c : tie.Else-number-ne0) → let a = c.args in step_answer a.personality.now a.state.now a.inputs 32 % 256 ≡ 0
+accepted c = ap (λ (r : ℕ). r % 256) (sym c.step-answer.ensures.0) ∙ c.if-number-ne0.false
 
 read-requires : tie.Need-read-kept-requires
 read-requires c κs =
-    let here = c.before.before in
-    let called = here.before.before in
-    let a = (start called).args in
+let a = c.args in
     let told =
-    timed-known _ (ap is_timed called.step-answer.ensures.1 ∙ state-timed a.personality.now a.state.now a.inputs 32 (accepted here)) in
+    timed-known _ (ap is_timed c.step-answer.ensures.1 ∙ state-timed a.personality.now a.state.now a.inputs 32 (accepted c.before.before)) in
     (omega (arith, told.size), told.kept-known)
 
 -- the site has at most 32 groups
 few : (c : tie.After-byte_at-groups) → c.byte_at-groups.result ≤ 32
 unfolding group_count
 few c =
-    let here = c.before.before.before.before.before.before in
-    let a = (start here.before.before).args in
-    omega (arith, c.byte_at-groups.ensures, few-groups a.personality.now a.state.now a.inputs 32 (accepted here))
+let a = c.args in
+    omega (arith, c.byte_at-groups.ensures, few-groups a.personality.now a.state.now a.inputs 32 (accepted c.before.before.before.before.before.before))
 
 array-share-prefix-colours : tie.Need-slice_bounds-colours-end
 array-share-prefix-colours c = omega (arith, few c)
 
 slice-aggregate-put-step : tie.Need-slice_bounds-put_step-end
-slice-aggregate-put-step c = sym (length-take-le c.before.byte_at-groups.result _ (omega (arith, few c.before)))
+slice-aggregate-put-step c = sym (length-take-le c.byte_at-groups.result _ (omega (arith, few c.before)))
 
 put-step-requires : tie.Need-put_step-length-requires
 put-step-requires c κs =
@@ -60,17 +55,13 @@ put-step-requires c κs =
 
 returns-2 : tie.Need-returns
 returns-2 c =
-    let counted = c.before.before.before in
-    let read = counted.before.before.before in
-    let here = read.before.before.before in
-    let called = here.before.before in
-    let a = (start called).args in
+let a = c.args in
     let line =
-    line-told a.personality.now a.state.now a.step-answer a.inputs read.read-kept.ensures called.step-answer.ensures.1 counted.byte_at-groups.ensures
-    called.step-answer.ensures.2 in (
-      rw (call-accepted a.personality.now a.state.now a.step-answer a.inputs called.step-answer.ensures.0 here.if-number-ne0.false)
+    line-told a.personality.now a.state.now a.step a.inputs c.read-kept.ensures c.step-answer.ensures.1 c.byte_at-groups.ensures
+    c.step-answer.ensures.2 in (
+      rw (call-accepted a.personality.now a.state.now a.step a.inputs c.step-answer.ensures.0 c.if-number-ne0.false)
           (record { text = rw (← line) c.put_step-length.ensures; more = refl }),
-      called.step-answer.ensures.1,
+      c.step-answer.ensures.1,
     )
 
 pub call_part_spec : {M : Type 1} → statement M

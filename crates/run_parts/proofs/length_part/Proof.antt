@@ -11,13 +11,12 @@ use Rattle.run_parts.proofs.length_part.Tie as tie
 returns : tie.Need-returns-then-bytes-lt2
 unfolding length_part
 returns c =
-    let few = c.before.before in
-    rw (lt-ltb (length few.before.before.args.bytes.now) 2 few.if-bytes-lt2.true) c.refuse_cut.ensures
+rw (lt-ltb (length c.args.bytes.now) 2 c.if-bytes-lt2.true) c.refuse_cut.ensures
 
 returns-2 : tie.Need-returns
 unfolding length_part
 returns-2 c =
-    let a = c.before.before.args in
+    let a = c.args in
     rw (le-ltb (length a.bytes.now) 2 c.if-bytes-lt2.false) (nothing a.out.now true)
 
 pub length_part_spec : {M : Type 1} → statement M

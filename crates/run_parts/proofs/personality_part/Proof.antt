@@ -11,31 +11,22 @@ use Rattle.run_parts.proofs.personality_part.Tie as tie
 returns : tie.Need-returns-then-bytes-size
 unfolding personality_part state_for
 returns c =
-    let few = c.before.before in
-    let a = few.before.before.args in
-    rw (lt-ltb (length a.bytes.now) a.size few.if-bytes-size.true) (c.refuse_cut.ensures, refl)
+let a = c.args in
+    rw (lt-ltb (length a.bytes.now) a.size c.if-bytes-size.true) (c.refuse_cut.ensures, refl)
 
 returns-2 : tie.Need-returns-in-Refused
 unfolding personality_part verdict_part state_for
 returns-2 c =
-    let told = c.before.before.before in
-    let fresh = told.before.before in
-    let read = fresh.before.before in
-    let enough = read.before in
-    let a = enough.before.before.args in
-    rw (le-ltb (length a.bytes.now) a.size enough.if-bytes-size.false, sym read.read-verdict.ensures ∙ told.verdict-1.given.1)
-    (c.refuse.ensures, fresh.fresh.ensures.1)
+let a = c.args in
+    rw (le-ltb (length a.bytes.now) a.size c.if-bytes-size.false, sym c.read-verdict.ensures ∙ c.in-Refused.is)
+    (c.refuse.ensures, c.fresh.ensures.1)
 
 returns-3 : tie.Need-returns
 unfolding personality_part verdict_part state_for
 returns-3 c =
-    let told = c.before.before in
-    let fresh = told.before.before in
-    let read = fresh.before.before in
-    let enough = read.before in
-    let a = enough.before.before.args in
-    rw (le-ltb (length a.bytes.now) a.size enough.if-bytes-size.false, sym read.read-verdict.ensures ∙ told.enum_told-1.given.1)
-    (record { text = c.put_header-length.ensures; more = refl }, fresh.fresh.ensures.1)
+let a = c.args in
+    rw (le-ltb (length a.bytes.now) a.size c.if-bytes-size.false, sym c.read-verdict.ensures ∙ c.in_default.is)
+    (record { text = c.put_header-length.ensures; more = refl }, c.fresh.ensures.1)
 
 pub personality_part_spec : {M : Type 1} → statement M
 personality_part_spec =

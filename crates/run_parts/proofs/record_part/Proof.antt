@@ -14,28 +14,23 @@ use Rattle.run_parts.proofs.record_part.Tie as tie
 returns : tie.Need-returns-then-bytes-eq0
 unfolding part_of record_part state_of
 returns c =
-    let a = c.before.before.before.args in
+    let a = c.args in
     let size = length a.bytes.now in
     rw (eq-eqb size 0 c.if-bytes-eq0.true, lt-ltb size 8 (omega (arith, c.if-bytes-eq0.true))) (nothing a.out.now false, refl)
 
 returns-2 : tie.Need-returns-then-bytes-lt8
 unfolding part_of record_part state_of
 returns-2 c =
-    let few = c.before.before in
-    let some = few.before in
-    let a = some.before.before.before.args in
+let a = c.args in
     let size = length a.bytes.now in
-    rw (ne_eqb size 0 some.if-bytes-eq0.false, lt-ltb size 8 few.if-bytes-lt8.true) (c.refuse_cut.ensures, refl)
+    rw (ne_eqb size 0 c.if-bytes-eq0.false, lt-ltb size 8 c.if-bytes-lt8.true) (c.refuse_cut.ensures, refl)
 
 returns-3 : tie.Need-returns
 unfolding part_of record_part state_of
 returns-3 c =
-    let read = c.before.before in
-    let enough = read.before.before in
-    let some = enough.before in
-    let a = some.before.before.before.args in
+let a = c.args in
     let size = length a.bytes.now in
-    rw (ne_eqb size 0 some.if-bytes-eq0.false, le-ltb size 8 enough.if-bytes-lt8.false, ← read.eight_at.ensures) c.call_part.ensures
+    rw (ne_eqb size 0 c.if-bytes-eq0.false, le-ltb size 8 c.if-bytes-lt8.false, ← c.eight_at.ensures) c.call_part.ensures
 
 pub record_part_spec : {M : Type 1} → statement M
 record_part_spec =

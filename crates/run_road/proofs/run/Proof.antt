@@ -28,18 +28,15 @@ loop-holds c = (search rules, refl, refl, λ b road. rw c.fresh-state.ensures ro
 
 road-stepped-requires : tie.Need-road_stepped-state-requires invariant-loop-n decreases-loop-n
 road-stepped-requires c κs =
-    let turn = c.before in
-    let start = turn.before.before.before.before.before.before.requires.0 in
-    record { b = start.b; steps = _; n = _; before = turn.loop-n-test.true; road = turn.before.loop-n.invariant.3 start.b start.road }
+let start = c.requires.0 in
+    record { b = start.b; steps = _; n = _; before = c.loop-n-test.true; road = c.loop-n.invariant.3 start.b start.road }
 
 watch-requires : tie.Need-watch-requires invariant-loop-n decreases-loop-n
 watch-requires c κs =
-    let stepped = c.before.before.before.before in
-    let here = stepped.before.before.before in
-    let rows = here.before.before.before.before.before.requires.1 in
+let rows = here.before.before.before.before.before.requires.1 in
     record {
-      held = omega (arith, rows.held, here.loop-n.invariant.1, stepped.road_stepped-state.ensures.same);
-      watched = omega (arith, rows.watched, here.loop-n.invariant.2);
+      held = omega (arith, rows.held, c.loop-n.invariant.1, c.road_stepped-state.ensures.same);
+      watched = omega (arith, rows.watched, c.loop-n.invariant.2);
     }
 
 add-n : tie.Need-overflow_add-n invariant-loop-n decreases-loop-n
@@ -50,27 +47,23 @@ loop-less c = search rules
 
 loop-again : tie.Need-loop-n-preserved invariant-loop-n decreases-loop-n
 loop-again c =
-    let seen = c.before.before in
-    let stepped = seen.before.before.before.before.before in
-    let turn = stepped.before.before in
-    let inv = turn.before.loop-n.invariant in (
+let inv = c.loop-n.invariant in (
       search rules,
-      stepped.road_stepped-state.ensures.same ∙ inv.1,
-      seen.watch.ensures ∙ inv.2,
-      λ b road. stepped.road_stepped-state.ensures.road b _ _ turn.loop-n-test.true (inv.3 b road),
+      c.road_stepped-state.ensures.same ∙ inv.1,
+      c.watch.ensures ∙ inv.2,
+      λ b road. c.road_stepped-state.ensures.road b _ _ c.loop-n-test.true (inv.3 b road),
     )
 
 same_length : tie.Need-shape_of-cells invariant-loop-n decreases-loop-n
-same_length c = c.before.loop-n.invariant.1
+same_length c = c.loop-n.invariant.1
 
 same-length-2 : tie.Need-shape_of-longest invariant-loop-n decreases-loop-n
-same-length-2 c = c.before.loop-n.invariant.2
+same-length-2 c = c.loop-n.invariant.2
 
 returns : tie.Need-returns invariant-loop-n decreases-loop-n
 returns c =
-    let here = c.before in
-    let rows = here.before.before.before.before.before.requires.1 in
-    record { held = omega (arith, rows.held, here.loop-n.invariant.1); watched = omega (arith, rows.watched, here.loop-n.invariant.2) }
+let rows = c.requires.1 in
+    record { held = omega (arith, rows.held, c.loop-n.invariant.1); watched = omega (arith, rows.watched, c.loop-n.invariant.2) }
 
 pub run_spec : {M : Type 1} → statement M
 run_spec =

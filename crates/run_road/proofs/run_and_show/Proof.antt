@@ -7,12 +7,12 @@ use Rattle.run_road.proofs.run_and_show.Tie as tie
 
 run-requires : tie.Need-run-requires
 run-requires c κs =
-    let may = c.before.before.before.requires in
+    let may = c.requires in
     let road = start-road may.start in
     (record { b = may.b; road = road }, record { held = road.room; watched = (known-streams _ _ _ may.start.known).most })
 
 show-requires : tie.Need-show-requires
-show-requires c κs = c.before.before.before.before.run.ensures
+show-requires c κs = c.run.ensures
 
 pub run_and_show_spec : {M : Type 1} → statement M
 run_and_show_spec =

@@ -25,14 +25,13 @@ loop-holds c = search rules
 -- the stream has its bytes, its cells and its longest queue
 inside :
     (c : tie.In-loop-i invariant-loop-i decreases-loop-i) →
-    let a = c.before.before.before.before.before.before.before.args in
-    let i = c.before.loop-i.i in
+    let a = c.args in
+    let i = c.loop-i.i in
     (4 * i + 4 ≤ length a.streams.now) × (4 * i + 4 ≤ length a.cells.now) × (i < length a.longest.now)
 unfolding stream_count
 inside c =
-    let start = c.before.before.before.before.before.before.before in
-    let l = c.loop-i-test.true in
-    (omega (arith, l), omega (arith, l, start.requires.held), omega (arith, l, start.requires.watched))
+let l = c.loop-i-test.true in
+    (omega (arith, l), omega (arith, l, c.requires.held), omega (arith, l, c.requires.watched))
 
 stream-at-requires : tie.Need-stream_at-stream-requires invariant-loop-i decreases-loop-i
 stream-at-requires c κs = (inside c).0

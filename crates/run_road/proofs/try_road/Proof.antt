@@ -15,11 +15,11 @@ enum_told : tie.Need-enum_told-1
 enum_told c = search rules
 
 -- past the refusal the personality is accepted
-accepted : (c : tie.In_default) → verdict_of c.before.before.before.before.before.args.personality.now ≡ Accepted
-accepted c = sym c.before.before.read_with_layout-reading.ensures.0 ∙ c.enum_told-1.given.1
+accepted : (c : tie.In_default) → verdict_of c.args.personality.now ≡ Accepted
+accepted c = sym c.read_with_layout-reading.ensures.0 ∙ c.in_default.is
 
 site-of-requires : tie.Need-site_of-site-requires
-site-of-requires c κs = let told = c.before in accepted-fits (accepted told) told.before.before.read_with_layout-reading.ensures.1
+site-of-requires c κs = accepted-fits (accepted c.before) c.read_with_layout-reading.ensures.1
 
 bad-streams-requires : tie.Need-bad_streams-requires
 unfolding AcceptedIsSound
@@ -27,16 +27,15 @@ bad-streams-requires c κs = subst⁻¹ Sound c.site_of-site.ensures (accepted-i
 
 run-and-show-requires : tie.Need-run_and_show-requires
 run-and-show-requires c κs =
-    let found = c.before.before in
-    let a = found.before.before.before.before.before.before.before.args in
-    let site-is = found.site_of-site.ensures in
+let a = c.args in
+    let site-is = c.site_of-site.ensures in
     record {
       b = a.personality.now;
       start =
           record {
-            read = accepted found.before.before;
+            read = accepted c.before.before.before.before;
             place = site-is;
-            known = ap (λ (s : Site). bad_streams s a.streams.now a.steps) (sym site-is) ∙ sym c.before.bad_streams.ensures ∙ c.if-bad_streams.false;
+            known = ap (λ (s : Site). bad_streams s a.streams.now a.steps) (sym site-is) ∙ sym c.bad_streams.ensures ∙ c.if-bad_streams.false;
           };
     }
 

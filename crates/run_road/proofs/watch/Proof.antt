@@ -20,12 +20,11 @@ loop-holds c = (search rules, refl)
 -- the stream has its cells and its longest queue
 inside :
     (c : tie.In-loop-i invariant-loop-i decreases-loop-i) →
-    (4 * c.before.loop-i.i + 4 ≤ length c.before.before.before.before.before.args.cells.now) × (c.before.loop-i.i < length c.before.loop-i.longest)
+    (4 * c.loop-i.i + 4 ≤ length c.args.cells.now) × (c.loop-i.i < length c.loop-i.longest)
 unfolding stream_count
 inside c =
-    let start = c.before.before.before.before.before in
-    let l = c.loop-i-test.true in
-    (omega (arith, l, start.requires.held), omega (arith, l, start.requires.watched, c.before.loop-i.invariant.1))
+let l = c.loop-i-test.true in
+    (omega (arith, l, c.requires.held), omega (arith, l, c.requires.watched, c.loop-i.invariant.1))
 
 traffic-at-requires : tie.Need-traffic_at-traffic-requires invariant-loop-i decreases-loop-i
 traffic-at-requires c κs = (inside c).0
@@ -52,13 +51,13 @@ loop-less : tie.Need-loop-i-smaller invariant-loop-i decreases-loop-i
 loop-less c = search rules
 
 loop-again : tie.Need-loop-i-preserved invariant-loop-i decreases-loop-i
-loop-again c = (search rules, simp length-set c.before.before.before.before.loop-i.invariant.1)
+loop-again c = (search rules, simp length-set c.loop-i.invariant.1)
 
 same_length : tie.Need-shape_of-longest invariant-loop-i decreases-loop-i
-same_length c = c.before.loop-i.invariant.1
+same_length c = c.loop-i.invariant.1
 
 returns : tie.Need-returns invariant-loop-i decreases-loop-i
-returns c = c.before.loop-i.invariant.1
+returns c = c.loop-i.invariant.1
 
 pub watch_spec : {M : Type 1} → statement M
 watch_spec =

@@ -10,7 +10,7 @@ use Rattle.run_text.proofs.colour_letter.Tie as tie
 
 returns : tie.Need-returns-then-at-lt4
 unfolding colour_letter
-returns c = entry-same (82 ∷ 89 ∷ 71 ∷ 70 ∷ []) c.before.args.code 0 82 c.if-at-lt4.true
+returns c = entry-same (82 ∷ 89 ∷ 71 ∷ 70 ∷ []) c.args.code 0 82 c.if-at-lt4.true
 
 returns-2 : tie.Need-returns-else-at-lt4
 unfolding colour_letter

@@ -10,17 +10,17 @@ use Rattle.run_text.proofs.leading_letter.Tie as tie
 
 returns : tie.Need-returns-then-i-eq1
 unfolding leading
-returns c = rw c.before.if-i-eq1.true c.phase_letter.ensures
+returns c = rw c.if-i-eq1.true c.phase_letter.ensures
 
 returns-2 : tie.Need-returns-then-i-eq3
 unfolding leading letter_of
-returns-2 c = rw (c.before.if-i-eq3.true, c.interval_row.ensures)
+returns-2 c = rw (c.if-i-eq3.true, c.interval_row.ensures)
 
 returns-3 : tie.Need-returns
 unfolding leading
 returns-3 c =
-    let a = c.before.before.args in
-    sym (space-at (phase_letter a.position.phase) (letter_of a.position.interval) a.i c.before.if-i-eq1.false c.if-i-eq3.false)
+    let a = c.args in
+    sym (space-at (phase_letter a.position.phase) (letter_of a.position.interval) a.i c.if-i-eq1.false c.if-i-eq3.false)
 
 pub leading_letter_spec : {M : Type 1} → statement M
 leading_letter_spec =

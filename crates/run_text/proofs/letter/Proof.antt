@@ -7,13 +7,13 @@ use Rattle.run_text.proofs.letter.Tie as tie
 
 returns : tie.Need-returns-then-i-lt5
 returns c =
-    let a = c.before.before.before.args in
-    c.leading_letter.ensures ∙ sym (before-groups a.position a.colours.now a.i c.before.if-i-lt5.true)
+    let a = c.args in
+    c.leading_letter.ensures ∙ sym (before-groups a.position a.colours.now a.i c.if-i-lt5.true)
 
 returns-2 : tie.Need-returns-else-i-lt5
 returns-2 c =
-    let a = c.before.before.before.args in
-    c.shown_letter.ensures ∙ sym (from-groups a.position a.colours.now a.i c.before.if-i-lt5.false)
+    let a = c.args in
+    c.shown_letter.ensures ∙ sym (from-groups a.position a.colours.now a.i c.if-i-lt5.false)
 
 pub letter_spec : {M : Type 1} → statement M
 letter_spec = tie.close (tie.spec (λ c κs. search rules) (λ c κs. search rules) returns returns-2)

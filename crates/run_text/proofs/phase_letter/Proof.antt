@@ -10,7 +10,7 @@ use Rattle.run_text.proofs.phase_letter.Tie as tie
 
 returns : tie.Need-returns-then-at-lt7
 unfolding phase_letter
-returns c = entry-same (65 ∷ 66 ∷ 67 ∷ 68 ∷ 69 ∷ 70 ∷ 71 ∷ []) c.before.args.phase 0 63 c.if-at-lt7.true
+returns c = entry-same (65 ∷ 66 ∷ 67 ∷ 68 ∷ 69 ∷ 70 ∷ 71 ∷ []) c.args.phase 0 63 c.if-at-lt7.true
 
 returns-2 : tie.Need-returns-else-at-lt7
 unfolding phase_letter

@@ -32,7 +32,7 @@ add-out : tie.Need-overflow_add-out invariant-loop-i decreases-loop-i
 add-out c = search rules
 
 slice-write-out : tie.Need-bounds-out-at invariant-loop-i decreases-loop-i
-slice-write-out c = omega (arith, put-length c.before.before.before.loop-i.invariant.1)
+slice-write-out c = omega (arith, put-length c.loop-i.invariant.1)
 
 add-i : tie.Need-overflow_add-i invariant-loop-i decreases-loop-i
 add-i c = search rules
@@ -42,8 +42,8 @@ loop-less c = search rules
 
 loop-again : tie.Need-loop-i-preserved invariant-loop-i decreases-loop-i
 loop-again c =
-    let at = c.before.before.before.loop-i in
-    let a = c.before.before.before.before.before.before.args in (
+    let at = c.loop-i in
+    let a = c.args in (
       omega arith,
       put_as (letter-more a.colours.now at.i (omega arith))
           (put_then at.invariant.1 (record { place = omega arith; bytes = ap (set at.out (a.at + at.i)) c.colour_letter.ensures })),
@@ -53,12 +53,12 @@ add-result : tie.Need-overflow_add-result invariant-loop-i decreases-loop-i
 add-result c = search rules
 
 same_length : tie.Need-shape_of-out invariant-loop-i decreases-loop-i
-same_length c = put-length c.before.loop-i.invariant.1
+same_length c = put-length c.loop-i.invariant.1
 
 returns : tie.Need-returns invariant-loop-i decreases-loop-i
 returns c =
-    let at = c.before.loop-i in
-    let colours = c.before.before.before.before.args.colours.now in
+    let at = c.loop-i in
+    let colours = c.args.colours.now in
     put_as (ap (map colour_letter) (sym (take_all at.i colours (omega arith)))) at.invariant.1
 
 pub put_colours_spec : {M : Type 1} → statement M

@@ -8,7 +8,7 @@ use Rattle.run_text.proofs.put_header.Tie as tie
 
 returns : tie.Need-returns
 unfolding header
-returns c = put_first c.before.before.put_bytes.ensures (omega (arith, c.before.before.put_bytes.ensures.place))
+returns c = put_first c.put_bytes.ensures (omega (arith, c.put_bytes.ensures.place))
 
 pub put_header_spec : {M : Type 1} → statement M
 put_header_spec = tie.close (tie.spec (λ c. search rules) (λ c κs. search rules) (λ c. search rules) returns)

@@ -9,22 +9,20 @@ use Rattle.run_text.proofs.put_step.Statement.{statement}
 use Rattle.run_text.proofs.put_step.Tie as tie
 
 put-long-decimal-requires : tie.Need-put_long_decimal-next-requires
-put-long-decimal-requires c κs = omega (arith, at_most 19 c.before.before.before.args.step (omega arith))
+put-long-decimal-requires c κs = omega (arith, at_most 19 c.args.step (omega arith))
 
 put-tail-requires : tie.Need-put_tail-requires
-put-tail-requires c κs = omega (arith, at_most 19 c.before.before.before.before.before.before.before.args.step (omega arith))
+put-tail-requires c κs = omega (arith, at_most 19 c.args.step (omega arith))
 
 returns : tie.Need-returns
 unfolding step_line
 returns c =
-    let rest = c.before.before in
-    let number = rest.before.before.before.before in
-    let a = number.before.before.before.before.args in
-    put_first (put_then number.put_long_decimal-next.ensures rest.put_tail.ensures)
+let a = c.args in
+    put_first (put_then c.put_long_decimal-next.ensures c.put_tail.ensures)
     (omega (
       arith,
-      number.put_long_decimal-next.ensures.place,
-      rest.put_tail.ensures.place,
+      c.put_long_decimal-next.ensures.place,
+      c.put_tail.ensures.place,
       tail-length a.position a.colours.now,
       at_most 19 a.step (omega arith),
     ))

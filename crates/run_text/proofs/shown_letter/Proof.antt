@@ -7,11 +7,11 @@ use Rattle.run_text.proofs.shown_letter.Tie as tie
 
 returns : tie.Need-returns-then-i-colours
 returns c =
-    let a = c.before.before.before.before.args in
-    c.colour_letter.ensures ∙ sym (group_at a.colours.now a.i c.before.before.if-i-colours.true)
+    let a = c.args in
+    c.colour_letter.ensures ∙ sym (group_at a.colours.now a.i c.if-i-colours.true)
 
 returns-2 : tie.Need-returns-else-i-colours
-returns-2 c = let a = c.before.before.args in sym (end-at a.colours.now a.i c.if-i-colours.false)
+returns-2 c = let a = c.args in sym (end-at a.colours.now a.i c.if-i-colours.false)
 
 pub shown_letter_spec : {M : Type 1} → statement M
 shown_letter_spec =

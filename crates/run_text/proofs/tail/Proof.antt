@@ -22,7 +22,7 @@ add-end c = search rules
 
 returns : tie.Need-returns-then-out-end invariant-loop-i decreases-loop-i
 returns c =
-    let a = c.before.before.before.args in
+    let a = c.args in
     (counted 0 a.out.now (omega arith), too_long a.position a.colours.now a.out.now c.if-out-end.true)
 
 loop-holds : tie.Need-loop-i-init invariant-loop-i decreases-loop-i
@@ -42,8 +42,8 @@ loop-less c = search rules
 
 loop-again : tie.Need-loop-i-preserved invariant-loop-i decreases-loop-i
 loop-again c =
-    let e = c.before.before.before.before.before.before.args in
-    let at = c.before.before.loop-i in (
+    let e = c.args in
+    let at = c.loop-i in (
       search rules,
       simp length-set (omega arith),
       letter-more e.position e.colours.now e.out.now at.out at.i c.letter.result
@@ -55,15 +55,15 @@ same_length c = search rules
 
 returns-2 : tie.Need-returns invariant-loop-i decreases-loop-i
 returns-2 c =
-    let e = c.before.before.before.before.before.args in
+    let e = c.args in
     let end = length e.colours.now + 6 in
-    let i = c.before.loop-i.i in
+    let i = c.loop-i.i in
     let all : i ≡ end = omega arith in
     let fit = fitting e.position e.colours.now e.out.now (omega arith) in (
-      counted end c.before.loop-i.out (omega arith),
+      counted end c.loop-i.out (omega arith),
       (
         fit.0,
-        c.before.loop-i.invariant.2 ∙ ap (written (line_tail e.position e.colours.now) e.out.now) all ∙ fit.1,
+        c.loop-i.invariant.2 ∙ ap (written (line_tail e.position e.colours.now) e.out.now) all ∙ fit.1,
       ),
     )
 

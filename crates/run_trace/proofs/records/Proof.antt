@@ -19,11 +19,11 @@ loop-holds : tie.Need-loop-more-init invariant-loop-more decreases-loop-more
 loop-holds c = (omega arith, λ e. omega arith)
 
 write-requires : tie.Need-write-more-requires invariant-loop-more decreases-loop-more
-write-requires c κs = c.before.record_part-part.ensures.0.text.fits
+write-requires c κs = c.record_part-part.ensures.0.text.fits
 
 -- the turn is that of a step up to the last
-turn : (c : tie.After-write-more invariant-loop-more decreases-loop-more) → c.before.before.before.before.before.before.before.before.before.before.loop-more.step ≤ most_steps
-turn c = c.before.before.before.before.before.before.before.before.before.before.loop-more.invariant.1 c.before.before.before.before.before.before.before.before.before.loop-more-test.true
+turn : (c : tie.After-write-more invariant-loop-more decreases-loop-more) → c.loop-more.step ≤ most_steps
+turn c = c.loop-more.invariant.1 c.loop-more-test.true
 
 add_step : tie.Need-overflow_add-step invariant-loop-more decreases-loop-more
 add_step c = omega (arith, turn c)
@@ -33,7 +33,7 @@ loop-less c = omega (arith, turn c)
 
 loop-again : tie.Need-loop-more-preserved invariant-loop-more decreases-loop-more
 loop-again c =
-    let printed = c.before.before.record_part-part.ensures.0 in
+    let printed = c.record_part-part.ensures.0 in
     (omega arith, λ e. omega (arith, before_last _ _ _ _ (sym printed.more ∙ sym c.write-more.ensures ∙ e)))
 
 pub records_spec : {M : Type 1} → statement M

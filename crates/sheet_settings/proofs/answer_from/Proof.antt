@@ -11,14 +11,14 @@ use Rattle.sheet_settings.proofs.answer_from.Tie as tie
 returns : tie.Need-returns-then-minimum-limits
 unfolding answer_from within_limits highest_minimum highest_gap limit_of limits
 returns c =
-    let a = c.before.before.args in
-    let t : within_limits One a.minimum a.passage ≡ true = rw c.before.limits-limits.ensures at c.if-minimum-limits.true in rw t
+    let a = c.args in
+    let t : within_limits One a.minimum a.passage ≡ true = rw c.limits-limits.ensures at c.if-minimum-limits.true in rw t
 
 returns-2 : tie.Need-returns-else-minimum-limits
 unfolding answer_from within_limits highest_minimum highest_gap limit_of limits
 returns-2 c =
-    let a = c.before.before.args in
-    let t : within_limits One a.minimum a.passage ≡ false = rw c.before.limits-limits.ensures at c.if-minimum-limits.false in rw t
+    let a = c.args in
+    let t : within_limits One a.minimum a.passage ≡ false = rw c.limits-limits.ensures at c.if-minimum-limits.false in rw t
 
 pub answer_from_spec : {M : Type 1} → statement M
 answer_from_spec =

@@ -14,7 +14,7 @@ unfolding in_range metres_in_range of_bits of_int
 returns c =
     let x = c.metres_of-metres.result in
     rw (← c.metres_of-metres.ensures)
-    (ap (λ (t : Bool). speed_in_range c.before.args.sheet.speed && (le (whole 0) x && t)) (le-cast 300 x (lit≤ tt)))
+    (ap (λ (t : Bool). speed_in_range c.args.sheet.speed && (le (whole 0) x && t)) (le-cast 300 x (lit≤ tt)))
 
 pub in_range_spec : {M : Type 1} → statement M
 in_range_spec = tie.close (tie.spec (λ c κs. search rules) returns)

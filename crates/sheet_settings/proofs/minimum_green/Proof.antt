@@ -38,10 +38,10 @@ loop-less c = search rules
 
 loop-again : tie.Need-loop-n-preserved invariant-loop-n decreases-loop-n
 loop-again c =
-    let x = c.before.before.before.args.metres in
-    let n = c.before.before.loop-n.n in
+    let x = c.args.metres in
+    let n = c.loop-n.n in
     let t = sym (stand-tested x (n + 1) (omega arith)) ∙ c.loop-n-test.true in
-    (t, stands-most (as-fraction x c.before.before.before.requires) (n + 1) t)
+    (t, stands-most (as-fraction x c.requires) (n + 1) t)
 
 mul-result : tie.Need-overflow_mul-result invariant-loop-n decreases-loop-n
 mul-result c = search rules
@@ -52,10 +52,10 @@ add-result c = search rules
 returns : tie.Need-returns invariant-loop-n decreases-loop-n
 unfolding minimum_green
 returns c =
-    let x = c.before.before.before.args.metres in
-    let n = c.before.before.loop-n.n in
-    let fraction = as-fraction x c.before.before.before.requires in
-    let largest = stands-largest fraction n c.before.before.loop-n.invariant.0 (sym (stand-tested x (n + 1) (omega arith)) ∙ c.loop-n-test.false) in
+    let x = c.args.metres in
+    let n = c.loop-n.n in
+    let fraction = as-fraction x c.requires in
+    let largest = stands-largest fraction n c.loop-n.invariant.0 (sym (stand-tested x (n + 1) (omega arith)) ∙ c.loop-n-test.false) in
     ap (λ (k : ℕ). 40 + 20 * k) (largest-only (stand x) largest (vehicles-largest fraction))
 
 pub minimum_green_spec : {M : Type 1} → statement M

@@ -25,7 +25,7 @@ loop-holds : tie.Need-loop-t-init invariant-loop-t decreases-loop-t
 loop-holds c = ((λ k l. absurd (omega arith)), omega arith)
 
 mul-if1 : tie.Need-overflow_mul-t invariant-loop-t decreases-loop-t
-mul-if1 c = let l = bounded c.before.args.speed c.loop-t.t c.before.requires.0 c.loop-t.invariant.1 in omega arith
+mul-if1 c = let l = bounded c.args.speed c.loop-t.t c.requires.0 c.loop-t.invariant.1 in omega arith
 
 int-to-float-if1 : tie.Need-int_to_float-t invariant-loop-t decreases-loop-t
 int-to-float-if1 c = search rules
@@ -39,14 +39,13 @@ loop-less c = search rules
 loop-again : tie.Need-loop-t-preserved invariant-loop-t decreases-loop-t
 unfolding of_bits
 loop-again c =
-    let start = c.before.before.before in
-    let speed = start.args.speed in
-    let x = start.args.metres in
-    let loop = c.before.before.loop-t in
+let speed = c.args.speed in
+    let x = c.args.metres in
+    let loop = c.loop-t in
     let t = loop.t in
-    let fails = sym (covered-tested speed x t start.requires.0 loop.invariant.1) ∙ not-true _ c.loop-t-test.true in
+    let fails = sym (covered-tested speed x t c.requires.0 loop.invariant.1) ∙ not-true _ c.loop-t-test.true in
     let before = below_more (λ k. covered speed x k ≡ false) t loop.invariant.0 fails in
-    rw add-one (before, fails-to (covered speed x) before (covered-last speed (as-fraction x start.requires.1) start.requires.0))
+    rw add-one (before, fails-to (covered speed x) before (covered-last speed (as-fraction x c.requires.1) c.requires.0))
 
 cast-result : tie.Need-overflow_cast-result invariant-loop-t decreases-loop-t
 cast-result c = search rules
@@ -54,15 +53,14 @@ cast-result c = search rules
 returns : tie.Need-returns invariant-loop-t decreases-loop-t
 unfolding of_bits
 returns c =
-    let start = c.before.before.before in
-    let speed = start.args.speed in
-    let x = start.args.metres in
-    let loop = c.before.before.loop-t in
+let speed = c.args.speed in
+    let x = c.args.metres in
+    let loop = c.loop-t in
     let t = loop.t in
-    let passes = sym (covered-tested speed x t start.requires.0 loop.invariant.1) ∙ not-false _ c.loop-t-test.false in
+    let passes = sym (covered-tested speed x t c.requires.0 loop.invariant.1) ∙ not-false _ c.loop-t-test.false in
     smallest-only (covered speed x)
     (record { passed = passes; none-smaller = loop.invariant.0 })
-    (passage-smallest speed (as-fraction x start.requires.1) start.requires.0)
+    (passage-smallest speed (as-fraction x c.requires.1) c.requires.0)
 
 pub passage_over_spec : {M : Type 1} → statement M
 passage_over_spec =

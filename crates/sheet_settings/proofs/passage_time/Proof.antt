@@ -4,10 +4,10 @@ use Rattle.sheet_settings.proofs.passage_time.Statement.{statement}
 use Rattle.sheet_settings.proofs.passage_time.Tie as tie
 
 passage-over-requires : tie.Need-passage_over-requires
-passage-over-requires c κs = rw c.before.detector-1.given.1 at c.before.before.before.requires
+passage-over-requires c κs = rw c.in-Advance.is at c.requires
 
 returns : tie.Need-returns-in-Advance
-returns c = rw c.before.before.detector-1.given.1 c.passage_over.ensures
+returns c = rw c.in-Advance.is c.passage_over.ensures
 
 pub passage_time_spec : {M : Type 1} → statement M
 passage_time_spec =

@@ -25,26 +25,26 @@ settled s e = rw e
 
 returns : tie.Need-returns-then-not-in_range
 returns c =
-    let s = c.before.before.args.sheet in
-    promised s (refused s (sym c.before.in_range.ensures ∙ not-true _ c.if-not-in_range.true))
+    let s = c.args.sheet in
+    promised s (refused s (sym c.in_range.ensures ∙ not-true _ c.if-not-in_range.true))
 
 -- what the test tells of the sheet
-fine : (c : tie.Else-not-in_range) → in_range c.before.before.args.sheet ≡ true
-fine c = sym c.before.in_range.ensures ∙ not-false _ c.if-not-in_range.false
+fine : (c : tie.Else-not-in_range) → in_range c.args.sheet ≡ true
+fine c = sym c.in_range.ensures ∙ not-false _ c.if-not-in_range.false
 
 minimum-green-requires : tie.Need-minimum_green-requires
 minimum-green-requires c κs =
-    rw c.metres_of.ensures (in-range-parts c.before.before.before.args.sheet (fine c.before)).1
+    rw c.metres_of.ensures (in-range-parts c.args.sheet (fine c.before)).1
 
 passage-time-requires : tie.Need-passage_time-requires
 passage-time-requires c κs =
-    in-range-parts c.before.before.before.before.args.sheet (fine c.before.before)
+    in-range-parts c.args.sheet (fine c.before.before)
 
 returns-2 : tie.Need-returns
 returns-2 c =
-    let s = c.before.before.before.before.before.before.args.sheet in
+    let s = c.args.sheet in
     promised s
-    (rw (c.answer_from.ensures, c.before.passage_time.ensures, c.before.before.minimum_green.ensures, c.before.before.before.metres_of.ensures)
+    (rw (c.answer_from.ensures, c.passage_time.ensures, c.minimum_green.ensures, c.metres_of.ensures)
     (settled s (fine c.before.before.before.before)))
 
 pub settings_spec : {M : Type 1} → statement M

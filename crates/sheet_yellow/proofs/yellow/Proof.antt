@@ -19,36 +19,36 @@ use Rattle.sheet_yellow.proofs.yellow.Tie as tie
 
 returns : tie.Need-returns-then-not-in_range
 returns c =
-    let a = c.before.before.args in
+    let a = c.args in
     promise-refused a.speed a.grade
-    (rw (to_z-of_z c.before.before.ranges.grade) at (sym c.before.in_range.ensures ∙ not-true _ c.if-not-in_range.true))
+    (rw (to_z-of_z c.ranges.grade) at (sym c.in_range.ensures ∙ not-true _ c.if-not-in_range.true))
 
 -- what the test tells
-fine : (c : tie.Else-not-in_range) → in_range c.before.before.args.speed c.before.before.args.grade ≡ true
-fine c = rw (to_z-of_z c.before.before.ranges.grade) at (sym c.before.in_range.ensures ∙ not-false _ c.if-not-in_range.false)
+fine : (c : tie.Else-not-in_range) → in_range c.args.speed c.args.grade ≡ true
+fine c = rw (to_z-of_z c.ranges.grade) at (sym c.in_range.ensures ∙ not-false _ c.if-not-in_range.false)
 
 sub_row : tie.Need-overflow_sub-row
-sub_row c = let a = c.before.before.args in omega (arith, (in-range-parts a.speed a.grade (fine c)).0)
+sub_row c = let a = c.args in omega (arith, (in-range-parts a.speed a.grade (fine c)).0)
 
 column-of-requires : tie.Need-column_of-column-requires
 column-of-requires c κs =
-    let a = c.before.before.args in
-    rw (to_z-of_z c.before.before.ranges.grade) (in-range-parts a.speed a.grade (fine c)).2
+    let a = c.args in
+    rw (to_z-of_z c.ranges.grade) (in-range-parts a.speed a.grade (fine c)).2
 
 -- what is then known of row and column
-range : (c : tie.After-table-table) → in_range c.before.before.before.before.args.speed c.before.before.before.before.args.grade ≡ true
+range : (c : tie.After-table-table) → in_range c.args.speed c.args.grade ≡ true
 range c = fine c.before.before
 
-column : (c : tie.After-table-table) → c.before.column_of-column.result ≡ column_of c.before.before.before.before.args.grade
-column c = c.before.column_of-column.ensures ∙ ap column_of (to_z-of_z c.before.before.before.before.ranges.grade)
+column : (c : tie.After-table-table) → c.column_of-column.result ≡ column_of c.args.grade
+column c = c.column_of-column.ensures ∙ ap column_of (to_z-of_z c.ranges.grade)
 
 known :
     (c : tie.After-table-table) →
-    (40 ≤ c.before.before.before.before.args.speed)
-    × (c.before.before.before.before.args.speed ≤ 110)
-    × (c.before.column_of-column.result < 21)
+    (40 ≤ c.args.speed)
+    × (c.args.speed ≤ 110)
+    × (c.column_of-column.result < 21)
 known c =
-    let a = c.before.before.before.before.args in
+    let a = c.args in
     let parts = in-range-parts a.speed a.grade (range c) in
     (parts.0, parts.1, rw (column c) (column-small a.grade parts.2))
 
@@ -73,10 +73,10 @@ looked-up xs s g k follows e p =
 
 returns-2 : tie.Need-returns
 returns-2 c =
-    let a = c.before.before.before.before.args in
-    let entry = get_or c.table-table.result (21 * (a.speed - 40) + c.before.column_of-column.result) 0 in
+    let a = c.args in
+    let entry = get_or c.table-table.result (21 * (a.speed - 40) + c.column_of-column.result) 0 in
     promise-given a.speed a.grade entry (range c)
-    (looked-up c.table-table.result a.speed a.grade c.before.column_of-column.result c.table-table.ensures (range c) (column c))
+    (looked-up c.table-table.result a.speed a.grade c.column_of-column.result c.table-table.ensures (range c) (column c))
 
 pub yellow_spec : {M : Type 1} → statement M
 yellow_spec =

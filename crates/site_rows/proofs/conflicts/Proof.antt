@@ -34,9 +34,8 @@ add-four-in-2 c = search rules
 four-in-requires : tie.Need-four_in-requires invariant-loop-g decreases-loop-g
 unfolding record_at body_at
 four-in-requires c κs =
-    let at_start = c.before.before.before.before in
-    let layout = at_start.args.layout in
-    omega (arith, conflicts-end at_start.requires, record-within layout.conflicts 4 layout.groupcount c.before.loop-g.g c.loop-g-test.true)
+let layout = c.args.layout in
+    omega (arith, conflicts-end c.requires, record-within layout.conflicts 4 layout.groupcount c.loop-g.g c.loop-g-test.true)
 
 mul-rows : tie.Need-offset_bounds-rows-g invariant-loop-g decreases-loop-g
 mul-rows c = search rules
@@ -53,13 +52,12 @@ loop-less c = search rules
 loop-again : tie.Need-loop-g-preserved invariant-loop-g decreases-loop-g
 unfolding conflict_set record_at body_at
 loop-again c =
-    let at_loop = c.before.before in
-    let head = at_loop.before.before.before.requires.laid.conflicts in
-    filled_more at_loop.loop-g.invariant (simp (c.four_in.ensures, head)) (omega arith) (omega arith)
+let head = c.requires.laid.conflicts in
+    filled_more c.loop-g.invariant (simp (c.four_in.ensures, head)) (omega arith) (omega arith)
 
 returns : tie.Need-returns invariant-loop-g decreases-loop-g
 unfolding site_of
-returns c = filled-whole c.before.loop-g.invariant (omega arith)
+returns c = filled-whole c.loop-g.invariant (omega arith)
 
 pub conflicts_spec : {M : Type 1} → statement M
 conflicts_spec =

@@ -21,9 +21,8 @@ loop-holds c = filled_none
 
 pair-at-requires : tie.Need-pair_at-detector-requires invariant-loop-d decreases-loop-d
 pair-at-requires c κs =
-    let at_start = c.before.before.before in
-    let head = at_start.args.layout.detectors in
-    omega (arith, detectors-end at_start.requires.0, record-within head 2 at_start.args.count c.before.loop-d.d c.loop-d-test.true)
+let head = c.args.layout.detectors in
+    omega (arith, detectors-end c.requires.0, record-within head 2 c.args.count c.loop-d.d c.loop-d-test.true)
 
 mul-rows : tie.Need-offset_bounds-rows-d invariant-loop-d decreases-loop-d
 mul-rows c = search rules
@@ -40,13 +39,12 @@ loop-less c = search rules
 loop-again : tie.Need-loop-d-preserved invariant-loop-d decreases-loop-d
 unfolding detector_phase detector_mode
 loop-again c =
-    let at_loop = c.before.before in
-    let head = at_loop.before.before.requires.0.laid.detectors in
-    filled_more at_loop.loop-d.invariant (simp (c.pair_at-detector.ensures.0, c.pair_at-detector.ensures.1, head)) (omega arith) (omega arith)
+let head = c.requires.0.laid.detectors in
+    filled_more c.loop-d.invariant (simp (c.pair_at-detector.ensures.0, c.pair_at-detector.ensures.1, head)) (omega arith) (omega arith)
 
 returns : tie.Need-returns invariant-loop-d decreases-loop-d
 unfolding site_of
-returns c = filled-whole c.before.loop-d.invariant (omega arith)
+returns c = filled-whole c.loop-d.invariant (omega arith)
 
 pub detectors_spec : {M : Type 1} → statement M
 detectors_spec =

@@ -30,9 +30,8 @@ loop-holds c = (filled_none, passed_none _)
 
 pair-at-requires : tie.Need-pair_at-group-requires invariant-loop-g decreases-loop-g
 pair-at-requires c κs =
-    let at_start = c.before.before.before.before in
-    let layout = at_start.args.layout in
-    omega (arith, groups-end at_start.requires, record-within layout.groups 2 layout.groupcount c.before.loop-g.g c.loop-g-test.true)
+let layout = c.args.layout in
+    omega (arith, groups-end c.requires, record-within layout.groups 2 layout.groupcount c.loop-g.g c.loop-g-test.true)
 
 mul-rows : tie.Need-offset_bounds-rows-g invariant-loop-g decreases-loop-g
 mul-rows c = search rules
@@ -43,18 +42,16 @@ array-set-from-rows c = search rules
 -- the record read is that of group g
 read :
     (c : tie.After-pair_at-group invariant-loop-g decreases-loop-g) →
-    let at_loop = c.before.before in
-    let b = at_loop.before.before.before.args.s.now in
-    (c.pair_at-group.result.first ≡ group_set b at_loop.loop-g.g) × (c.pair_at-group.result.second ≡ group_mark b at_loop.loop-g.g)
+let b = c.args.s.now in
+    (c.pair_at-group.result.first ≡ group_set b c.loop-g.g) × (c.pair_at-group.result.second ≡ group_mark b c.loop-g.g)
 unfolding group_set group_mark
 read c =
-    let head = c.before.before.before.before.before.requires.laid.groups in
+    let head = c.requires.laid.groups in
     (rw head at c.pair_at-group.ensures.0, rw head at c.pair_at-group.ensures.1)
 
 array-write-sets : tie.Need-bounds-sets-movements invariant-loop-g decreases-loop-g
 array-write-sets c =
-    let at_pair = c.before.before in
-    room-left _ at_pair.before.before.loop-g.invariant.1 (read at_pair).1 c.if-group-eq2.true (omega arith) (omega arith)
+room-left _ c.loop-g.invariant.1 (read c.before.before).1 c.if-group-eq2.true (omega arith) (omega arith)
 
 add-movements : tie.Need-overflow_add-movements invariant-loop-g decreases-loop-g
 add-movements c = search rules
@@ -67,22 +64,21 @@ loop-less c = search rules
 
 loop-again : tie.Need-loop-g-preserved invariant-loop-g decreases-loop-g
 loop-again c =
-    let at_pair = c.before.before in
-    let inv = at_pair.before.before.loop-g.invariant in (
-      filled_more inv.0 (simp ((read at_pair).0, (read at_pair).1)) (omega arith) (omega arith),
+let inv = c.loop-g.invariant in (
+      filled_more inv.0 (simp ((read c.before.before).0, (read c.before.before).1)) (omega arith) (omega arith),
       ⊎_elim
           (λ w.
           rw (w.1, w.2)
-          (passed-pedestrian _ inv.1 (read at_pair).1 w.0.taken (read at_pair).0
-          (room-left _ inv.1 (read at_pair).1 w.0.taken (omega arith) (omega arith))))
-          (λ w. rw (w.1, w.2) (passed-vehicle _ inv.1 (read at_pair).1 w.0.left))
+          (passed-pedestrian _ inv.1 (read c.before.before).1 w.0.taken (read c.before.before).0
+          (room-left _ inv.1 (read c.before.before).1 w.0.taken (omega arith) (omega arith))))
+          (λ w. rw (w.1, w.2) (passed-vehicle _ inv.1 (read c.before.before).1 w.0.left))
           c.if-group-eq2.branch,
     )
 
 returns : tie.Need-returns invariant-loop-g decreases-loop-g
 unfolding group_rows_in site_of
 returns c =
-    let inv = c.before.loop-g.invariant in
+    let inv = c.loop-g.invariant in
     let found = passed-whole _ inv.1 (omega arith) in
     rw (filled-whole inv.0 (omega arith), found.0, found.1)
 

@@ -33,11 +33,11 @@ loop-less : tie.Need-loop-i-smaller invariant-loop-i decreases-loop-i
 loop-less c = search rules
 
 loop-again : tie.Need-loop-i-preserved invariant-loop-i decreases-loop-i
-loop-again c = filled_more c.before.before.loop-i.invariant c.order_in.ensures (omega arith) (omega arith)
+loop-again c = filled_more c.loop-i.invariant c.order_in.ensures (omega arith) (omega arith)
 
 returns : tie.Need-returns invariant-loop-i decreases-loop-i
 unfolding site_of
-returns c = filled-whole c.before.loop-i.invariant (omega arith)
+returns c = filled-whole c.loop-i.invariant (omega arith)
 
 pub order_spec : {M : Type 1} → statement M
 order_spec =

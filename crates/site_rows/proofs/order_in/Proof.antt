@@ -11,20 +11,17 @@ use Rattle.site_rows.proofs.order_in.Tie as tie
 byte-in-requires : tie.Need-byte_in-requires
 unfolding body_at
 byte-in-requires c κs =
-    let at = c.before in
-    omega (arith, at.before.before.requires.0.order at.if-layout.true)
+omega (arith, c.requires.0.order c.if-layout.true)
 
 returns : tie.Need-returns-then-layout
 unfolding order_in order_at record_at body_at
 returns c =
-    let at = c.before.before in
-    let start = at.before.before in
-    let laid = start.requires.0.laid in
-    rw (sym laid.hasorder ∙ at.if-layout.true) (rw (laid.order, ← mul-one start.args.i) at c.byte_in.ensures)
+let laid = c.requires.0.laid in
+    rw (sym laid.hasorder ∙ c.if-layout.true) (rw (laid.order, ← mul-one c.args.i) c.before.before c.byte_in.ensures)
 
 returns-2 : tie.Need-returns
 unfolding order_in
-returns-2 c = let laid = c.before.before.requires.0.laid in rw (sym laid.hasorder ∙ c.if-layout.false)
+returns-2 c = let laid = c.requires.0.laid in rw (sym laid.hasorder ∙ c.if-layout.false)
 
 pub order_in_spec : {M : Type 1} → statement M
 order_in_spec = tie.close (tie.spec (λ c. search rules) (λ c. search rules) byte-in-requires returns returns-2)

@@ -9,28 +9,23 @@ use Rattle.site_whole.proofs.decoded.Statement.{statement}
 use Rattle.site_whole.proofs.decoded.Tie as tie
 
 size-requires : tie.Need-size-size-requires
-size-requires c κs = let pre = c.before.before.before.before.requires in (pre.0, counted _ pre.1)
+size-requires c κs = let pre = c.requires in (pre.0, counted _ pre.1)
 
 detectors-requires : tie.Need-detectors-requires
 unfolding site_of
 detectors-requires c κs =
-    let sized = c.before.before in
-    (sized.before.before.before.before.before.requires.0, ap (λ (x : Size). x.detectors) sized.size-size.ensures)
+(c.requires.0, ap (λ (x : Size). x.detectors) c.size-size.ensures)
 
 returns : tie.Need-returns
 unfolding site_of group_rows_in
 returns c =
-    let detected = c.before in
-    let named = detected.before.before in
-    let sized = named.before in
-    let listed = sized.before in
-    let pre = listed.before.before.before.before.requires in
+let pre = c.requires in
     simp (
       c.order.ensures,
-      detected.detectors.ensures,
-      named.edition_of-edition.ensures,
-      sized.size-size.ensures,
-      listed.conflicts-conflicts.ensures,
+      c.detectors.ensures,
+      c.edition_of-edition.ensures,
+      c.size-size.ensures,
+      c.conflicts-conflicts.ensures,
       pre.1,
       pre.0.laid.hasearly,
     )

@@ -10,14 +10,14 @@ use Rattle.site_whole.proofs.own_times.Tie as tie
 
 two-in-requires : tie.Need-two_in-requires
 unfolding body_at
-two-in-requires c κs = omega (arith, phases-end c.before.before.requires)
+two-in-requires c κs = omega (arith, phases-end c.requires)
 
 walk-times-requires : tie.Need-walk_times-requires
-walk-times-requires c κs = let found = c.before.before in (found.before.before.requires, counted _ found.group_rows_in-found.ensures)
+walk-times-requires c κs = (c.requires, counted _ c.group_rows_in-found.ensures)
 
 returns : tie.Need-returns
 unfolding times_in
-returns c = simp (c.walk_times.ensures, c.before.phase_times.ensures, c.before.before.two_in.ensures)
+returns c = simp (c.walk_times.ensures, c.phase_times.ensures, c.two_in.ensures)
 
 pub own_times_spec : {M : Type 1} → statement M
 own_times_spec =

@@ -10,12 +10,11 @@ use Rattle.site_whole.proofs.phase_times.Tie as tie
 
 read-requires : tie.Need-read-requires
 unfolding body_at
-read-requires c κs = let fitting = c.before.before.before.requires in (fitting.phases, omega (arith, phases-end fitting), fitting.early)
+read-requires c κs = let fitting = c.requires in (fitting.phases, omega (arith, phases-end fitting), fitting.early)
 
 returns : tie.Need-returns
 returns c =
-    let start = c.before.before.before.before in
-    c.read.ensures ∙ phases-own start.args.s.now start.args.layout start.requires.laid
+c.read.ensures ∙ phases-own c.args.s.now c.args.layout c.requires.laid
 
 pub phase_times_spec : {M : Type 1} → statement M
 phase_times_spec = tie.close (tie.spec (λ c. search rules) (λ c. search rules) read-requires returns)

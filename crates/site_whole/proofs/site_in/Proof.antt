@@ -7,14 +7,13 @@ use Rattle.site_whole.proofs.site_in.Tie as tie
 
 site-times-requires : tie.Need-site_times-requires
 site-times-requires c κs =
-    let pre = c.before.before.before.requires in
+    let pre = c.requires in
     (pre.0.phases, omega (arith, counted _ c.group_rows_in-found.ensures, pre.0.movements), pre.1)
 
 returns : tie.Need-returns
 returns c =
-    let found = c.before.before in
-    let laid = found.before.before.before.requires.0.laid in
-    rw (c.decoded.ensures, c.before.site_times.ensures, counted _ found.group_rows_in-found.ensures, laid.phasecount, laid.hasearly)
+let laid = c.requires.0.laid in
+    rw (c.decoded.ensures, c.site_times.ensures, counted _ c.group_rows_in-found.ensures, laid.phasecount, laid.hasearly)
 
 pub site_in_spec : {M : Type 1} → statement M
 site_in_spec = tie.close (tie.spec (λ c κs. search rules) site-times-requires (λ c κs. search rules) returns)

@@ -10,17 +10,15 @@ use Rattle.site_whole.proofs.site_of.Tie as tie
 
 two-in-requires : tie.Need-two_in-requires
 unfolding body_at
-two-in-requires c κs = omega (arith, phases-end c.before.before.requires)
+two-in-requires c κs = omega (arith, phases-end c.requires)
 
 walk-times-requires : tie.Need-walk_times-requires
-walk-times-requires c κs = let found = c.before.before in (found.before.before.requires, counted _ found.group_rows_in-found.ensures)
+walk-times-requires c κs = (c.requires, counted _ c.group_rows_in-found.ensures)
 
 returns : tie.Need-returns
 unfolding site_of times_in
 returns c =
-    let walks = c.before in
-    let phases = walks.before in
-    simp (c.decoded.ensures, walks.walk_times.ensures, phases.phase_times.ensures, phases.before.two_in.ensures)
+simp (c.decoded.ensures, c.walk_times.ensures, c.phase_times.ensures, c.two_in.ensures)
 
 pub site_of_spec : {M : Type 1} → statement M
 site_of_spec =

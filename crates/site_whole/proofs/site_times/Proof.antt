@@ -4,7 +4,7 @@ use Rattle.site_whole.proofs.site_times.Statement.{statement}
 use Rattle.site_whole.proofs.site_times.Tie as tie
 
 returns : tie.Need-returns
-returns c = rw (c.read-2.ensures, c.before.read.ensures, c.before.before.before.two_in.ensures)
+returns c = rw (c.read-2.ensures, c.read.ensures, c.two_in.ensures)
 
 pub site_times_spec : {M : Type 1} → statement M
 site_times_spec =

@@ -10,13 +10,12 @@ use Rattle.site_whole.proofs.walk_times.Tie as tie
 read-requires : tie.Need-read-requires
 unfolding body_at
 read-requires c κs =
-    let pre = c.before.before.requires in
+    let pre = c.requires in
     (omega (arith, pre.1, pre.0.movements), omega (arith, pre.1, pre.0.whole))
 
 returns : tie.Need-returns
 returns c =
-    let start = c.before.before.before in
-    rw start.requires.1 at c.read.ensures ∙ walks-own start.args.s.now start.args.layout start.requires.0.laid
+rw c.requires.1 at c.read.ensures ∙ walks-own c.args.s.now c.args.layout c.requires.0.laid
 
 pub walk_times_spec : {M : Type 1} → statement M
 walk_times_spec = tie.close (tie.spec (λ c. search rules) read-requires returns)

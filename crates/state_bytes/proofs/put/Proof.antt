@@ -10,13 +10,9 @@ same_length c = simp length-set (search rules)
 
 returns : tie.Need-returns
 returns c =
-    let movements = c.before.before in
-    let demands = movements.before.before.before.before in
-    let counts = demands.before.before.before.before in
-    let position = counts.before.before.before.before in
-    let a = position.before.before.before.before.args in
-    rw (movements.put-4.ensures, demands.put-3.ensures, counts.put-2.ensures, position.put.ensures)
-    (written a.state a.bytes-1.now a.at)
+let a = c.args in
+    rw (c.put-4.ensures, c.put-3.ensures, c.put-2.ensures, c.put.ensures)
+    (written a.state a.bytes.now a.at)
 
 pub put_spec : {M : Type 1} → statement M
 put_spec =

@@ -12,19 +12,19 @@ told : (c : tie.Start) → KeptKnown c.args.bytes.now c.args.at
 told c = kept-told c.args.bytes.now c.args.at c.requires.1
 
 read-requires : tie.Need-read-requires
-read-requires c κs = let start = c.before in (omega arith, (told start).position-known)
+read-requires c κs = (omega arith, (told c.before).position-known)
 
 read-requires-4 : tie.Need-read-requires-4
-read-requires-4 c κs = let start = c.before.before.before.before in (omega arith, (told start).movements-known)
+read-requires-4 c κs = (omega arith, (told c.before.before.before.before).movements-known)
 
 returns : tie.Need-returns
 unfolding byte_at
 returns c =
     rw (
-      c.before.read-4.ensures,
-      c.before.before.read-3.ensures,
-      c.before.before.before.read-2.ensures,
-      c.before.before.before.before.read.ensures,
+      c.read-4.ensures,
+      c.read-3.ensures,
+      c.read-2.ensures,
+      c.read.ensures,
       add-zero,
     )
 

@@ -10,7 +10,7 @@ slice-write-bytes-2 : tie.Need-bounds-bytes-at-2
 slice-write-bytes-2 c = simp length-set (omega arith)
 
 returns : tie.Need-returns
-returns c = rw (add-one, c.phase_held.ensures, c.before.flag_code.ensures, c.before.before.is_held.ensures)
+returns c = rw (add-one, c.phase_held.ensures, c.flag_code.ensures, c.is_held.ensures)
 
 pub put_held_spec : {M : Type 1} → statement M
 put_held_spec =

@@ -7,14 +7,12 @@ use Rattle.state_fresh.proofs.put_fresh.Statement.{statement}
 use Rattle.state_fresh.proofs.put_fresh.Tie as tie
 
 own-times-requires : tie.Need-own_times-times-requires
-own-times-requires c κs = let start = c.before.before in accepted-fits start.requires.0 start.requires.1
+own-times-requires c κs = accepted-fits c.requires.0 c.requires.1
 
 returns : tie.Need-returns
 unfolding fresh_timed site_of
 returns c =
-    let put = c.before.before in
-    let begun = put.before in
-    rw (put.put_settled.ensures, begun.fresh.ensures, begun.before.before.own_times-times.ensures)
+rw (c.put_settled.ensures, c.fresh.ensures, c.own_times-times.ensures)
 
 pub put_fresh_spec : {M : Type 1} → statement M
 put_fresh_spec =

@@ -11,7 +11,7 @@ use Rattle.state_sealed.proofs.damaged.Tie as tie
 
 returns : tie.Need-returns-then-sealed-ne-SEALED_BYTES
 unfolding damaged
-returns c = rw (ne_eqb (length c.before.before.args.sealed.now) sealed_bytes c.if-sealed-ne-SEALED_BYTES.true)
+returns c = rw (ne_eqb (length c.args.sealed.now) sealed_bytes c.if-sealed-ne-SEALED_BYTES.true)
 
 slice-aggregate-crc : tie.Need-slice_bounds-crc-end
 slice-aggregate-crc c = sym (length-take-le 343 c.before.before.before.before.args.sealed.now (omega arith))
@@ -19,9 +19,7 @@ slice-aggregate-crc c = sym (length-take-le 343 c.before.before.before.before.ar
 returns-2 : tie.Need-returns
 unfolding damaged
 returns-2 c =
-    let read = c.before.before in
-    let left = read.before in
-    rw (read.four_in.ensures, c.crc.ensures, eq-eqb (length left.before.before.args.sealed.now) sealed_bytes left.if-sealed-ne-SEALED_BYTES.false)
+rw (c.four_in.ensures, c.crc.ensures, eq-eqb (length left.before.before.args.sealed.now) sealed_bytes c.if-sealed-ne-SEALED_BYTES.false)
 
 pub damaged_spec : {M : Type 1} → statement M
 damaged_spec =

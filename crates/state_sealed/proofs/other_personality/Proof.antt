@@ -10,20 +10,17 @@ use Rattle.state_sealed.proofs.other_personality.Tie as tie
 returns : tie.Need-returns-then-two_in-personality
 unfolding other_personality
 returns c =
-    let read = c.before in
-    let a = read.before.before.before.args in
-    rw (ne_eqb (two_at a.sealed.now 1) (length a.personality.now) (rw read.two_in.ensures at c.if-two_in-personality.true))
+let a = c.args in
+    rw (ne_eqb (two_at a.sealed.now 1) (length a.personality.now) (rw c.two_in.ensures at c.if-two_in-personality.true))
 
 returns-2 : tie.Need-returns
 unfolding other_personality
 returns-2 c =
-    let left = c.before.before in
-    let read = left.before in
-    let a = read.before.before.before.args in
+let a = c.args in
     rw (
-      c.before.four_in.ensures,
+      c.four_in.ensures,
       c.crc.ensures,
-      eq-eqb (two_at a.sealed.now 1) (length a.personality.now) (rw read.two_in.ensures at left.if-two_in-personality.false),
+      eq-eqb (two_at a.sealed.now 1) (length a.personality.now) (rw c.two_in.ensures at c.if-two_in-personality.false),
     )
 
 pub other_personality_spec : {M : Type 1} → statement M

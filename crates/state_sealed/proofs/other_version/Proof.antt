@@ -8,7 +8,7 @@ use Rattle.state_sealed.proofs.other_version.Tie as tie
 
 returns : tie.Need-returns-then-sealed-gt0
 unfolding other_version byte_at
-returns c = simp (lt-ltb _ _ c.before.if-sealed-gt0.true)
+returns c = simp (lt-ltb _ _ c.if-sealed-gt0.true)
 
 returns-2 : tie.Need-returns-else-sealed-gt0
 unfolding other_version

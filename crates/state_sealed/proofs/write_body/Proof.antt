@@ -12,12 +12,9 @@ use Rattle.state_sealed.proofs.write_body.Tie as tie
 put-two-requires : tie.Need-put_two-requires
 put-two-requires c κs = simp length-set (omega arith)
 
-abbrev start : tie.After-put_two → tie.Start
-start c = c.before.before.before.before.before
-
 -- the length after two parts and after three
 sized : (c : tie.After-put_two) → length c.put_two.new.0 ≡ sealed_bytes
-sized c = c.put_two.auto.0 ∙ length-set (start c).args.sealed.now 0 interface_version ∙ (start c).requires.2
+sized c = c.put_two.auto.0 ∙ length-set c.args.sealed.now 0 interface_version ∙ c.requires.2
 
 put-four-requires : tie.Need-put_four-requires
 put-four-requires c κs = omega (arith, sized c.before.before.before.before)
@@ -30,19 +27,14 @@ put-all-requires c κs = omega (arith, marked c.before.before.before)
 
 same_length : tie.Need-shape_of-sealed
 same_length c =
-    let stated = c.before.before in
-    let four = stated.before.before.before.before in
-    stated.put_all_lem.auto.0 ∙ marked four ∙ sym (start four.before.before.before.before.before).requires.2
+c.put_all_lem.auto.0 ∙ marked c.before.before.before.before.before.before ∙ sym c.requires.2
 
 returns : tie.Need-returns
 unfolding two
 returns c =
-    let stated = c.before.before in
-    let four = stated.before.before.before.before in
-    let two = four.before.before.before.before.before in
-    let a = (start two).args in
-    rw (stated.put_all_lem.ensures, four.put_four.ensures, four.before.crc.ensures, two.put_two.ensures)
-    (body-written a.personality.now a.state.now a.sealed-1.now)
+let a = c.args in
+    rw (c.put_all_lem.ensures, c.put_four.ensures, c.crc.ensures, c.put_two.ensures)
+    (body-written a.personality.now a.state.now a.sealed.now)
 
 pub write_body_spec : {M : Type 1} → statement M
 write_body_spec =

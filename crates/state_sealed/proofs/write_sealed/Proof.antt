@@ -7,16 +7,13 @@ use Rattle.state_sealed.proofs.write_sealed.Statement.{statement}
 use Rattle.state_sealed.proofs.write_sealed.Tie as tie
 
 slice-aggregate-crc : tie.Need-slice_bounds-crc-end-2
-slice-aggregate-crc c = sym (length-take-le 343 c.before.before.before.write_body.new.1.1.0 (search rules))
+slice-aggregate-crc c = sym (length-take-le 343 c.write_body.new.1.1.0 (search rules))
 
 returns : tie.Need-returns
 returns c =
-    let closed = c.before.before in
-    let checked = closed.before.before in
-    let body = checked.before.before.before.before in
-    let a = body.before.before.before.before.before.args in
-    rw (closed.put_four.ensures, checked.crc-check.ensures, body.write_body.ensures)
-    (sealed-written a.personality.now a.state.now a.sealed-1.now (search rules) (search rules))
+let a = body.before.before.before.before.before.args in
+    rw (c.put_four.ensures, c.crc-check.ensures, c.write_body.ensures)
+    (sealed-written a.personality.now a.state.now a.sealed.now (search rules) (search rules))
 
 pub write_sealed_spec : {M : Type 1} → statement M
 write_sealed_spec =

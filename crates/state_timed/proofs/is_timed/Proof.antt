@@ -10,13 +10,12 @@ use Rattle.state_timed.proofs.is_timed.Tie as tie
 
 returns : tie.Need-returns-then-bytes-ne-TIMED_BYTES
 unfolding is_timed
-returns c = rw (ne_eqb (length c.before.before.args.bytes.now) timed_bytes c.if-bytes-ne-TIMED_BYTES.true)
+returns c = rw (ne_eqb (length c.args.bytes.now) timed_bytes c.if-bytes-ne-TIMED_BYTES.true)
 
 returns-2 : tie.Need-returns
 unfolding byte_at
 returns-2 c =
-    let tested = c.before.before in
-    rw c.before.known.ensures (timed-tested tested.before.before.args.bytes.now tested.if-bytes-ne-TIMED_BYTES.false)
+rw c.known.ensures (timed-tested c.args.bytes.now c.if-bytes-ne-TIMED_BYTES.false)
 
 pub is_timed_spec : {M : Type 1} → statement M
 is_timed_spec = tie.close (tie.spec returns (λ c κs. search rules) (λ c. search rules) returns-2)

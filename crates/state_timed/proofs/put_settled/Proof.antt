@@ -6,12 +6,8 @@ use Rattle.state_timed.proofs.put_settled.Tie as tie
 
 returns : tie.Need-returns
 returns c =
-    let none = c.before.before in
-    let ruling = none.before.before.before.before.before in
-    let kept = ruling.before.before.before.before in
-    let start = kept.before.before.before in
-    rw (none.put_all_lem.ensures, ruling.put-2.ensures, kept.put.ensures)
-    (settled-written start.args.bytes.now start.args.state start.args.ruling start.requires)
+rw (c.put_all_lem.ensures, c.put-2.ensures, c.put.ensures)
+    (settled-written c.args.bytes.now c.args.state c.args.ruling c.requires)
 
 pub put_settled_spec : {M : Type 1} → statement M
 put_settled_spec =

@@ -12,7 +12,7 @@ use Rattle.state_timed.proofs.put_waiting.Tie as tie
 told : (c : tie.Start) → TimedKnown c.args.bytes.now
 told c = timed-known c.args.bytes.now c.requires
 
-bytes : (c : tie.After-slice_known-1) → AreBytes c.before.args.bytes.now
+bytes : (c : tie.After-slice_known-1) → AreBytes c.args.bytes.now
 unfolding byte_at
 bytes c = record { each = λ i. omega (arith, c.slice_known-1.given i) }
 
@@ -23,13 +23,11 @@ put-requires : tie.Need-put-requires
 put-requires c κs = simp length-set (omega (arith, (told c.before.before).size))
 
 same_length : tie.Need-shape_of-bytes
-same_length c = rw c.before.before.put.ensures (simp (length-sets, length-set))
+same_length c = rw c.put.ensures (simp (length-sets, length-set))
 
 returns : tie.Need-returns
 returns c =
-    let put = c.before.before in
-    let known = put.before.before in
-    rw put.put.ensures (waiting-written known.before.args.bytes.now (bytes known) known.before.requires known.before.args.times)
+rw c.put.ensures (waiting-written c.args.bytes.now (bytes c.before.before.before.before) c.requires c.args.times)
 
 pub put_waiting_spec : {M : Type 1} → statement M
 put_waiting_spec = tie.close (tie.spec slice-write-bytes put-requires same_length returns)

@@ -6,13 +6,9 @@ use Rattle.state_times.proofs.put.Tie as tie
 
 returns : tie.Need-returns
 returns c =
-    let early = c.before.before in
-    let walks = early.before.before.before.before in
-    let phases = walks.before.before.before.before in
-    let start = phases.before.before.before.before in
-    let a = start.before.before.before.before.before.args in
-    rw (early.put_early.ensures, walks.put-2.ensures, phases.put.ensures, start.put_two.ensures)
-    (times-written a.times a.bytes-1.now a.at)
+let a = c.args in
+    rw (c.put_early.ensures, c.put-2.ensures, c.put.ensures, c.put_two.ensures)
+    (times-written a.times a.bytes.now a.at)
 
 pub put_spec : {M : Type 1} → statement M
 put_spec =

@@ -13,31 +13,27 @@ use Rattle.state_valid.proofs.is_state_of.Tie as tie
 
 returns : tie.Need-returns-then-not-is_timed
 returns c =
-    let a = c.before.before.before.before.args in
-    no-state a.personality.now a.bytes.now (sym c.before.is_timed.ensures ∙ not-true c.before.is_timed.result c.if-not-is_timed.true)
+    let a = c.args in
+    no-state a.personality.now a.bytes.now (sym c.is_timed.ensures ∙ not-true c.is_timed.result c.if-not-is_timed.true)
 
-abbrev first : tie.Else-not-is_timed → tie.Start
-first c = c.before.before.before.before
+known : (c : tie.Else-not-is_timed) → is_timed c.args.bytes.now ≡ true
+known c = sym c.is_timed.ensures ∙ not-false c.is_timed.result c.if-not-is_timed.false
 
-known : (c : tie.Else-not-is_timed) → is_timed (first c).args.bytes.now ≡ true
-known c = sym c.before.is_timed.ensures ∙ not-false c.before.is_timed.result c.if-not-is_timed.false
-
-told : (c : tie.Else-not-is_timed) → TimedKnown (first c).args.bytes.now
-told c = timed-known (first c).args.bytes.now (known c)
+told : (c : tie.Else-not-is_timed) → TimedKnown c.args.bytes.now
+told c = timed-known c.args.bytes.now (known c)
 
 site-in-requires : tie.Need-site_in-site-requires
-site-in-requires c κs = (accepted-fits (first c).requires.0 (first c).requires.1, omega (arith, (told c).size))
+site-in-requires c κs = (accepted-fits c.requires.0 c.requires.1, omega (arith, (told c).size))
 
 read-requires : tie.Need-read-state-requires
 read-requires c κs = (omega (arith, (told c.before).size), (told c.before).kept-known)
 
 valid-requires : tie.Need-valid-requires
-valid-requires c κs =
-    let here = c.before.before in (
-      (first here).requires.0,
-      (first here).requires.1,
-      record { known = known here; under-times = c.before.site_in-site.ensures; rest = c.read-state.ensures },
-    )
+valid-requires c κs = (
+  c.requires.0,
+  c.requires.1,
+  record { known = known c.before.before; under-times = c.site_in-site.ensures; rest = c.read-state.ensures },
+)
 
 pub is_state_of_spec : {M : Type 1} → statement M
 is_state_of_spec =

@@ -11,33 +11,26 @@ use borrow.Author.Rules.{rules}
 use Rattle.state_valid.proofs.valid.Statement.{statement}
 use Rattle.state_valid.proofs.valid.Tie as tie
 
-abbrev start : tie.After-times_valid → tie.Start
-start c = c.before.before.before.before
-
 times-valid-requires : tie.Need-times_valid-requires
 unfolding site_of
 times-valid-requires c κs =
-    let start = c.before.before.before in
-    (start.requires.0, start.requires.1, ap (λ (x : Site). x.size.movements) start.requires.2.under-times, start.requires.2.known)
+(c.requires.0, c.requires.1, ap (λ (x : Site). x.size.movements) c.requires.2.under-times, c.requires.2.known)
 
 returns : tie.Need-returns-then-not-times_valid
 returns c =
-    let first = start c.before in
-    times-fail first.args.personality.now first.args.bytes.now first.pre.0 first.pre.2
-    (sym c.before.times_valid.ensures ∙ not-true c.before.times_valid.result c.if-not-times_valid.true)
+times-fail c.args.personality.now c.args.bytes.now c.pre.0 c.pre.2
+    (sym c.times_valid.ensures ∙ not-true c.times_valid.result c.if-not-times_valid.true)
 
-ok : (c : tie.Else-not-times_valid) → let a = (start c.before).args in times_valid a.personality.now (timed_decoded a.bytes.now) ≡ true
-ok c = sym c.before.times_valid.ensures ∙ not-false c.before.times_valid.result c.if-not-times_valid.false
+ok : (c : tie.Else-not-times_valid) → let a = c.args in times_valid a.personality.now (timed_decoded a.bytes.now) ≡ true
+ok c = sym c.times_valid.ensures ∙ not-false c.times_valid.result c.if-not-times_valid.false
 
 kept-valid-requires : tie.Need-kept_valid-requires
 kept-valid-requires c κs =
-    let first = start c.before in
-    site-sound first.args.personality.now first.args.bytes.now first.pre.0 first.pre.2 (ok c)
+site-sound c.args.personality.now c.args.bytes.now c.pre.0 c.pre.2 (ok c)
 
 returns-2 : tie.Need-returns
 returns-2 c =
-    let first = start c.before.before in
-    rest-decides first.args.personality.now first.args.bytes.now first.pre.0 first.pre.2 (ok c.before) c.kept_valid.ensures
+rest-decides c.args.personality.now c.args.bytes.now c.pre.0 c.pre.2 (ok c.before) c.kept_valid.ensures
 
 pub valid_spec : {M : Type 1} → statement M
 valid_spec = tie.close (tie.spec (λ c. search rules) times-valid-requires returns kept-valid-requires returns-2)

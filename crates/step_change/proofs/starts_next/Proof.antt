@@ -12,31 +12,24 @@ use Rattle.step_change.proofs.starts_next.Tie as tie
 
 returns : tie.Need-returns-then-not-is_before_start
 unfolding starts_next
-returns c = rw (sym c.before.is_before_start.ensures ∙ not-true _ c.if-not-is_before_start.true)
-
-abbrev begin : tie.After-stages-1 → tie.Start
-begin c = c.before.before.before.before.before.before.before
+returns c = rw (sym c.is_before_start.ensures ∙ not-true _ c.if-not-is_before_start.true)
 
 past : (c : tie.Start) → IdlePast c.args.site.size.movements c.args.state.core.movements
 past c = idle-past c.args.site c.args.state c.requires
 
 movements-after-requires : tie.Need-movements_after-moved-requires
-movements-after-requires c κs = past (begin c)
+movements-after-requires c κs = past c.before.before.before.before.before.before.before
 
 ends-requires : tie.Need-ends-requires
 ends-requires c κs =
-    let start = begin c.before.before in
-    rw c.before.movements_after-moved.ensures
-    (still-past start.args.site.times _ start.args.state.core.movements start.args.site.size.movements (past start))
+rw c.movements_after-moved.ensures
+    (still-past c.args.site.times _ c.args.state.core.movements c.args.site.size.movements (past c.before.before.before.before.before.before.before.before.before))
 
 returns-2 : tie.Need-returns
 unfolding starts_next
 returns-2 c =
-    let moved = c.before.before in
-    let own = moved.before.before in
-    let else = own.before.before in
-    c.ends.ensures
-    ∙ rw (own.phase_times-own.ensures, moved.movements_after-moved.ensures, sym else.before.is_before_start.ensures ∙ not-false _ else.if-not-is_before_start.false)
+c.ends.ensures
+    ∙ rw (c.phase_times-own.ensures, c.movements_after-moved.ensures, sym c.is_before_start.ensures ∙ not-false _ c.if-not-is_before_start.false)
 
 pub starts_next_spec : {M : Type 1} → statement M
 starts_next_spec =

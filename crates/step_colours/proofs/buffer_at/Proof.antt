@@ -26,24 +26,21 @@ abbrev decreases-loop-g : tie.decreases-loop-g
 decreases-loop-g count closes position buffer₀ groups movements k₀ g₀ buffer k g = count - g
 
 -- the buffer is as long as it was
-length-kept : (c : tie.At-loop-g invariant-loop-g decreases-loop-g) → length c.loop-g.buffer ≡ length c.before.before.args.buffer.now
+length-kept : (c : tie.At-loop-g invariant-loop-g decreases-loop-g) → length c.loop-g.buffer ≡ length c.args.buffer.now
 length-kept c =
-    let start = c.before.before in
-    let a = start.args in
-    let shown = colour_of a.t1 a.closes a.position a.t5 in
-    omega (arith, start.requires.fits, c.loop-g.invariant.0, ap length c.loop-g.invariant.1.bytes, passed_length shown a.buffer-1.now c.loop-g.g)
+let a = c.args in
+    let shown = colour_of a.table a.closes a.position a.t5 in
+    omega (arith, c.requires.fits, c.loop-g.invariant.0, ap length c.loop-g.invariant.1.bytes, passed_length shown a.buffer.now c.loop-g.g)
 
 -- a pedestrian group has a movement record
-own : (c : tie.Then-group-eq2 invariant-loop-g decreases-loop-g) → c.before.before.before.before.loop-g.k < 8
+own : (c : tie.Then-group-eq2 invariant-loop-g decreases-loop-g) → c.loop-g.k < 8
 unfolding group_of
 own c =
-    let turn = c.before.before.before in
-    let start = turn.before.before.before in
-    let g = turn.before.loop-g.g in
+let g = c.loop-g.g in
     omega (
       arith,
-      turn.before.loop-g.invariant.1.counted,
-      start.requires.movement g turn.loop-g-test.true (pedestrian-mark start.args.t1 g c.if-group-eq2.true),
+      c.loop-g.invariant.1.counted,
+      c.requires.movement g c.loop-g-test.true (pedestrian-mark c.args.table g c.if-group-eq2.true),
     )
 
 -- the stage read of a movement record: past the array it is idle, whatever the age there
@@ -57,19 +54,16 @@ stage-read movements k =
 loop-again : tie.Need-loop-g-preserved invariant-loop-g decreases-loop-g
 unfolding group_of
 loop-again c =
-    let passed = c.before.before in
-    let joined = passed.before.before in
-    let at = joined.before.before.before.before in
-    let a = at.before.before.args in (
+let a = c.args in (
       search rules,
-      passed.pass_group-k.ensures a.t1 a.t5 refl
+      c.pass_group-k.ensures a.table a.t5 refl
           (λ is.
           ⊎_elim
-          (λ w. sym (w.2 ∙ stage-read a.t5 at.loop-g.k ∙ ap (λ (j : ℕ). (get_or a.t5 j idle).stage) at.loop-g.invariant.1.counted))
-          (λ w. absurd (w.0.left (pedestrian-has a.t1 at.loop-g.g is)))
-          joined.if-group-eq2.branch)
+          (λ w. sym (w.2 ∙ stage-read a.t5 c.loop-g.k ∙ ap (λ (j : ℕ). (get_or a.t5 j idle).stage) c.loop-g.invariant.1.counted))
+          (λ w. absurd (w.0.left (pedestrian-has a.table c.loop-g.g is)))
+          c.if-group-eq2.branch)
           _
-          at.loop-g.invariant.1,
+          c.loop-g.invariant.1,
     )
 
 loop-holds : tie.Need-loop-g-init invariant-loop-g decreases-loop-g
@@ -90,11 +84,9 @@ array-copy-out-own c = own c
 pass-group-requires : tie.Need-pass_group-k-requires invariant-loop-g decreases-loop-g
 unfolding movement_of
 pass-group-requires c κs =
-    let turn = c.before.before.before.before in
-    let at = turn.before in
-    let start = at.before.before in (
-      omega (arith, turn.loop-g-test.true, start.requires.fits, length-kept at),
-      omega (arith, at.loop-g.invariant.1.counted, count_most (is_pedestrian start.args.t1) at.loop-g.g),
+(
+      omega (arith, c.loop-g-test.true, c.requires.fits, length-kept c.before.before.before.before.before),
+      omega (arith, c.loop-g.invariant.1.counted, count_most (is_pedestrian c.args.table) c.loop-g.g),
     )
 
 add-g : tie.Need-overflow_add-g invariant-loop-g decreases-loop-g
@@ -108,9 +100,8 @@ same_length c = length-kept c.before
 
 returns : tie.Need-returns invariant-loop-g decreases-loop-g
 returns c =
-    let at = c.before in
-    let all : at.loop-g.g ≡ at.before.before.args.count = omega (arith, at.loop-g.invariant.0, c.loop-g-test.false) in
-    rw all at at.loop-g.invariant.1.bytes
+let all : c.loop-g.g ≡ c.args.count = omega (arith, c.loop-g.invariant.0, c.loop-g-test.false) in
+    rw all c.before c.loop-g.invariant.1.bytes
 
 pub buffer_at_spec : {M : Type 1} → statement M
 buffer_at_spec =

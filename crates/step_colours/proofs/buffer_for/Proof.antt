@@ -14,18 +14,16 @@ use Rattle.step_colours.proofs.buffer_for.Tie as tie
 
 buffer-at-requires : tie.Need-buffer_at-requires
 buffer-at-requires c κs =
-    let start = c.before.before.before.before.before.before.before.before in
-    showable start.args.site (length start.args.buffer.now) start.requires.0 start.requires.1
+showable c.args.site (length c.args.buffer.now) c.requires.0 c.requires.1
 
 returns : tie.Need-returns
 unfolding buffer_for colours_of shown_in buffer_at
 returns c =
-    let start = c.before.before.before.before.before.before.before.before.before.before.before in
-    let a = start.args in
-    c.before.before.buffer_at.ensures
-    ∙ rw c.before.before.before.before.closing_there-closes.ensures
-    (ap (λ (l : List ℕ). l ++ drop a.site.size.groups a.buffer-1.now)
-    (list_same _ (shown_in a.site a.state) a.site.size.groups (λ g l. closing-there a.site start.requires.0 a.state g)))
+let a = c.args in
+    c.buffer_at.ensures
+    ∙ rw c.closing_there-closes.ensures
+    (ap (λ (l : List ℕ). l ++ drop a.site.size.groups a.buffer.now)
+    (list_same _ (shown_in a.site a.state) a.site.size.groups (λ g l. closing-there a.site c.requires.0 a.state g)))
 
 pub buffer_for_spec : {M : Type 1} → statement M
 buffer_for_spec = tie.close (tie.spec (λ c. search rules) (λ c κs. search rules) buffer-at-requires (λ c. search rules) returns)

@@ -6,7 +6,7 @@ use Rattle.step_colours.proofs.closing.Tie as tie
 
 returns : tie.Need-returns
 unfolding closing
-returns c = rw (c.before.since_cut_off.ensures, c.before.before.phase_times-own.ensures)
+returns c = rw (c.since_cut_off.ensures, c.phase_times-own.ensures)
 
 pub closing_spec : {M : Type 1} → statement M
 closing_spec =

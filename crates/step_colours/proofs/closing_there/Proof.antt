@@ -4,7 +4,7 @@ use Rattle.step_colours.proofs.closing_there.Statement.{statement}
 use Rattle.step_colours.proofs.closing_there.Tie as tie
 
 returns : tie.Need-returns-then-early
-returns c = rw (c.before.if-early.true, c.closing.ensures)
+returns c = rw (c.if-early.true, c.closing.ensures)
 
 returns-2 : tie.Need-returns
 returns-2 c = rw c.if-early.false

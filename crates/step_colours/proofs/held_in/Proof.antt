@@ -9,11 +9,11 @@ enum_told c = search rules
 
 returns : tie.Need-returns-in-Nothing
 unfolding held_in
-returns c = rw c.enum_told-1.given.1
+returns c = rw c.in-Nothing.is
 
 returns-2 : tie.Need-returns-in-Phase
 unfolding held_in
-returns-2 c = rw c.before.before.held-1.given.1 c.bit8.ensures
+returns-2 c = rw c.in-Phase.is c.bit8.ensures
 
 pub held_in_spec : {M : Type 1} → statement M
 held_in_spec = tie.close (tie.spec enum_told (λ c. search rules) (λ c κs. search rules) returns returns-2)

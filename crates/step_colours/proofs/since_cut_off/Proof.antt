@@ -10,8 +10,8 @@ use Rattle.step_colours.proofs.since_cut_off.Tie as tie
 returns : tie.Need-returns
 unfolding since_cut_off
 returns c =
-    let test = sym c.before.before.is_early.ensures in
-    ⊎_elim (λ w. rw (test ∙ w.0.taken, w.1) (zero-add _)) (λ w. rw (test ∙ w.0.left, w.1)) c.before.if-is_early.branch
+    let test = sym c.is_early.ensures in
+    ⊎_elim (λ w. rw (test ∙ w.0.taken, w.1) (zero-add _)) (λ w. rw (test ∙ w.0.left, w.1)) c.if-is_early.branch
 
 pub since_cut_off_spec : {M : Type 1} → statement M
 since_cut_off_spec = tie.close (tie.spec (λ c κs. search rules) (λ c. search rules) returns)

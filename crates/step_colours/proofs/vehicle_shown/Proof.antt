@@ -8,15 +8,15 @@ use Rattle.step_colours.proofs.vehicle_shown.Tie as tie
 
 returns : tie.Need-returns-then-bit8
 unfolding vehicle_shown
-returns c = chosen red (sym c.before.before.bit8.ensures ∙ c.before.if-bit8.true) c.vehicle_colour.ensures
+returns c = chosen red (sym c.bit8.ensures ∙ c.if-bit8.true) c.vehicle_colour.ensures
 
 returns-2 : tie.Need-returns-else-bit8
 unfolding vehicle_shown
 returns-2 c =
-    let args = c.before.before.args in
+    let args = c.args in
     let position = args.position in
     passed-by (vehicle_colour position.interval args.closes position.previous position.target args.group)
-    (sym c.before.bit8.ensures ∙ c.if-bit8.false)
+    (sym c.bit8.ensures ∙ c.if-bit8.false)
     refl
 
 pub vehicle_shown_spec : {M : Type 1} → statement M

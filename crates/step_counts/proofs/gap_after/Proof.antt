@@ -8,19 +8,19 @@ use Rattle.step_counts.proofs.gap_after.Tie as tie
 
 returns : tie.Need-returns-then-extended
 unfolding gap_after
-returns c = rw (sym c.before.before.is_green.ensures ∙ c.before.if-is_green.true, c.if-extended.true)
+returns c = rw (sym c.is_green.ensures ∙ c.if-is_green.true, c.if-extended.true)
 
 returns-2 : tie.Need-returns-then-gap-gt0
 unfolding gap_after
-returns-2 c = rw (sym c.before.before.before.is_green.ensures ∙ c.before.before.if-is_green.true, c.before.if-extended.false)
+returns-2 c = rw (sym c.is_green.ensures ∙ c.if-is_green.true, c.if-extended.false)
 
 returns-3 : tie.Need-returns-then-is_green
 unfolding gap_after
-returns-3 c = rw (sym c.before.before.before.is_green.ensures ∙ c.before.before.if-is_green.true, c.before.if-extended.false) (omega arith)
+returns-3 c = rw (sym c.is_green.ensures ∙ c.if-is_green.true, c.if-extended.false) (omega arith)
 
 returns-4 : tie.Need-returns
 unfolding gap_after
-returns-4 c = rw (sym c.before.is_green.ensures ∙ c.if-is_green.false)
+returns-4 c = rw (sym c.is_green.ensures ∙ c.if-is_green.false)
 
 pub gap_after_spec : {M : Type 1} → statement M
 gap_after_spec =

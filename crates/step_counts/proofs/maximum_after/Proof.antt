@@ -10,30 +10,25 @@ use Rattle.step_counts.proofs.maximum_after.Tie as tie
 -- X or one more, whichever is less
 returns : tie.Need-returns-then-maximum-times
 returns c =
-    let at = c.before.before in
-    let run = at.before in
-    let args = run.before.before.args in
+let args = c.args in
     ◌∙◌ {b = min (args.maximum + 1) args.times.maximum} (omega arith)
-    (rises args.interval args.times args.another args.maximum (sym run.before.is_running.ensures ∙ run.if-is_running.true) at.if-another-maximum.true)
+    (rises args.interval args.times args.another args.maximum (sym c.is_running.ensures ∙ c.if-is_running.true) c.if-another-maximum.true)
 
 returns-2 : tie.Need-returns-then-another-maximum
 returns-2 c =
-    let at = c.before.before in
-    let run = at.before in
-    let args = run.before.before.args in
+let args = c.args in
     ◌∙◌ {b = min (args.maximum + 1) args.times.maximum} (omega arith)
-    (rises args.interval args.times args.another args.maximum (sym run.before.is_running.ensures ∙ run.if-is_running.true) at.if-another-maximum.true)
+    (rises args.interval args.times args.another args.maximum (sym c.is_running.ensures ∙ c.if-is_running.true) c.if-another-maximum.true)
 
 returns-3 : tie.Need-returns-then-is_running
 returns-3 c =
-    let run = c.before in
-    let args = run.before.before.args in
-    still-none args.interval args.times args.another args.maximum (sym run.before.is_running.ensures ∙ run.if-is_running.true) c.if-another-maximum.false
+let args = c.args in
+    still-none args.interval args.times args.another args.maximum (sym c.is_running.ensures ∙ c.if-is_running.true) c.if-another-maximum.false
 
 returns-4 : tie.Need-returns
 returns-4 c =
-    let args = c.before.before.args in
-    stands args.interval args.times args.another args.maximum (sym c.before.is_running.ensures ∙ c.if-is_running.false)
+    let args = c.args in
+    stands args.interval args.times args.another args.maximum (sym c.is_running.ensures ∙ c.if-is_running.false)
 
 pub maximum_after_spec : {M : Type 1} → statement M
 maximum_after_spec =

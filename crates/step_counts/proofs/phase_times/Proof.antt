@@ -14,8 +14,8 @@ returns c = search rules
 returns-2 : tie.Need-returns
 unfolding phase_times
 returns-2 c =
-    let settings = c.before.before.args.times.phases in
-    sym (get_or-eq_default settings no_phase_times (omega (arith, rw length-map at c.before.before.well_formed.0.1.1.1.0.1.0.1)))
+    let settings = c.args.times.phases in
+    sym (get_or-eq_default settings no_phase_times (omega (arith, rw length-map at c.well_formed.0.1.1.1.0.1.0.1)))
 
 pub phase_times_spec : {M : Type 1} → statement M
 phase_times_spec = tie.close (tie.spec (λ c. search rules) (λ c. search rules) returns returns-2)

@@ -10,20 +10,13 @@ use Rattle.step_demands.proofs.register.Tie as tie
 
 sense-requires : tie.Need-sense-sensed-requires
 sense-requires c κs =
-    let start = c.before.before.before.before in (
-      tabled start.args.site start.requires.0,
-      omega (arith, start.requires.1, start.requires.0.phases.1),
+    (
+      tabled c.args.site c.requires.0,
+      omega (arith, c.requires.1, c.requires.0.phases.1),
     )
 
--- where the buttons are pressed: the two sets of phases that detectors demand, and the start
-abbrev demanding : tie.After-press-pressed → tie.After-except-calling
-demanding c = c.before.before.before.before
-
-abbrev start : tie.After-press-pressed → tie.Start
-start c = (demanding c).before.before.before.before.before.before.before.before
-
 next-after-requires : tie.Need-next_after-requires
-next-after-requires c κs = (start c.before.before.before.before).requires.0.phases.1
+next-after-requires c κs = c.requires.0.phases.1
 
 -- the sets of the state are bytes
 locks-small : (c : tie.Start) → c.args.state.core.demands.locks < 256
@@ -34,18 +27,12 @@ kept_small c = search rules
 
 returns : tie.Need-returns
 returns c =
-    let pressed = c.before.before.before.before.before in
-    let calling = demanding pressed in
-    let locking = calling.before in
-    let green = locking.before in
-    let scanned = green.before in
-    let entry = start pressed in
-    asked-told entry.args.site entry.args.state entry.args.inputs scanned.sense-sensed.result green.in_green-green.result
-    locking.except-locking.result calling.except-calling.result
-    scanned.sense-sensed.ensures green.in_green-green.ensures locking.except-locking.ensures calling.except-calling.ensures
-    pressed.press-pressed.result.buttons pressed.press-pressed.result.phases c.next_after.result
-    pressed.press-pressed.ensures.0 pressed.press-pressed.ensures.1 c.next_after.ensures
-    entry.pre.0 (locks-small entry) (kept_small entry)
+asked-told c.args.site c.args.state c.args.inputs c.sense-sensed.result c.in_green-green.result
+    c.except-locking.result c.except-calling.result
+    c.sense-sensed.ensures c.in_green-green.ensures c.except-locking.ensures c.except-calling.ensures
+    c.press-pressed.result.buttons c.press-pressed.result.phases c.next_after.result
+    c.press-pressed.ensures.0 c.press-pressed.ensures.1 c.next_after.ensures
+    c.pre.0 (locks-small c.before.before.before.before.before.before.before.before.before.before.before.before.before.before.before.before.before) (kept_small c.before.before.before.before.before.before.before.before.before.before.before.before.before.before.before.before.before)
 
 pub register_spec : {M : Type 1} → statement M
 register_spec = tie.close (tie.spec sense-requires (λ c κs. search rules) (λ c κs. search rules) (λ c κs. search rules) (λ c κs. search rules) next-after-requires returns)

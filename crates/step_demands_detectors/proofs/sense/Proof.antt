@@ -10,23 +10,19 @@ use Rattle.step_demands_detectors.proofs.sense.Tie as tie
 
 returns : tie.Need-returns
 returns c =
-    let a = c.before in
-    let b = a.before.before in
-    let e = b.before.before in
-    let at = e.before.before.before in
-    let args = at.before.args in
-    let known = at.before.requires.0 in
-    let row : (m set : ℕ) → ((p : ℕ) → p < 8 → bit p set ≡ bit (8 * m + p) at.table-set.result) → Of args.detectors args.count args.inputs (λ mode. eqb mode m) set =
-    λ m set own. record { told = λ p l. own p l ∙ at.table-set.ensures m p l } in
+let args = c.args in
+    let known = c.requires.0 in
+    let row : (m set : ℕ) → ((p : ℕ) → p < 8 → bit p set ≡ bit (8 * m + p) c.table-set.result) → Of args.detectors args.count args.inputs (λ mode. eqb mode m) set =
+    λ m set own. record { told = λ p l. own p l ∙ c.table-set.ensures m p l } in
     record {
-      locks = of-kind known locking-modes (of_either (row 2 _ b.before.with_mode-4.ensures) (row 6 _ b.with_mode-5.ensures));
-      calls = of-kind known calling-modes (of_either (row 1 _ a.before.with_mode-6.ensures) (row 5 _ a.with_mode-7.ensures));
+      locks = of-kind known locking-modes (of_either (row 2 _ c.with_mode-4.ensures) (row 6 _ c.with_mode-5.ensures));
+      calls = of-kind known calling-modes (of_either (row 1 _ c.with_mode-6.ensures) (row 5 _ c.with_mode-7.ensures));
       extended =
           c.bit8.ensures
           ∙ of-kind known extending-modes
           (of_either
-          (of_either (row 4 _ e.before.before.with_mode.ensures) (row 5 _ e.before.with_mode-2.ensures))
-          (row 6 _ e.with_mode-3.ensures)) args.phase at.before.requires.1;
+          (of_either (row 4 _ c.with_mode.ensures) (row 5 _ c.with_mode-2.ensures))
+          (row 6 _ c.with_mode-3.ensures)) args.phase c.requires.1;
     }
 
 pub sense_spec : {M : Type 1} → statement M

@@ -25,33 +25,32 @@ rem-rest : tie.Need-nonzero_rem-rest invariant-loop-rest decreases-loop-rest
 rem-rest c = shifted-some 64 c.args.count (omega (arith, c.requires.room))
 
 loop-holds : tie.Need-loop-rest-init invariant-loop-rest decreases-loop-rest
-loop-holds c = none-entered c.args.t1 c.args.count c.args.inputs c.requires
+loop-holds c = none-entered c.args.table c.args.count c.args.inputs c.requires
 
 -- the detector of a turn is one of the first count
-own-within : (c : tie.In-loop-rest invariant-loop-rest decreases-loop-rest) → count_trailing_zeros 64 c.before.loop-rest.rest < c.before.before.args.count
+own-within : (c : tie.In-loop-rest invariant-loop-rest decreases-loop-rest) → count_trailing_zeros 64 c.loop-rest.rest < c.args.count
 own-within c =
-    let start = c.before.before in
-    turn-within start.args.t1 start.args.count start.args.inputs start.requires c.before.loop-rest.invariant
+turn-within c.args.table c.args.count c.args.inputs c.requires c.loop-rest.invariant
     (omega (arith, c.loop-rest-test.true))
 
 abbrev own : tie.In-loop-rest invariant-loop-rest decreases-loop-rest → Detector
-own c = detector_of c.before.before.args.t1 (count_trailing_zeros 64 c.before.loop-rest.rest)
+own c = detector_of c.args.table (count_trailing_zeros 64 c.loop-rest.rest)
 
 -- so its cell is within the table
 cell-within : (c : tie.In-loop-rest invariant-loop-rest decreases-loop-rest) → 8 * (own c).mode + (own c).phase < 64
 cell-within c =
-    let known = c.before.before.requires in
-    let d = count_trailing_zeros 64 c.before.loop-rest.rest in
+    let known = c.requires in
+    let d = count_trailing_zeros 64 c.loop-rest.rest in
     omega (arith, known.phase d (own-within c), known.mode d (own-within c))
 
 cast-d : tie.Need-overflow_cast-d invariant-loop-rest decreases-loop-rest
 cast-d c = omega (arith, own-within c)
 
 mul-detector : tie.Need-offset_bounds-detectors-d invariant-loop-rest decreases-loop-rest
-mul-detector c = omega (arith, own-within c, c.before.before.requires.room)
+mul-detector c = omega (arith, own-within c, c.requires.room)
 
 array-copy-out-detector : tie.Need-bounds-detectors-d invariant-loop-rest decreases-loop-rest
-array-copy-out-detector c = omega (arith, own-within c, c.before.before.requires.room)
+array-copy-out-detector c = omega (arith, own-within c, c.requires.room)
 
 mul-set : tie.Need-overflow_mul-set invariant-loop-rest decreases-loop-rest
 unfolding detector_of
@@ -74,21 +73,17 @@ sub-rest c = search rules
 
 loop-less : tie.Need-loop-rest-smaller invariant-loop-rest decreases-loop-rest
 loop-less c =
-    let turn = c.before.before.before in
-    left_less turn.before.loop-rest.invariant.left (omega (arith, turn.loop-rest-test.true)) (omega (arith, turn.before.before.requires.room))
+left_less c.loop-rest.invariant.left (omega (arith, c.loop-rest-test.true)) (omega (arith, c.requires.room))
 
 loop-again : tie.Need-loop-rest-preserved invariant-loop-rest decreases-loop-rest
 unfolding detector_of
 loop-again c =
-    let turn = c.before.before.before in
-    let start = turn.before.before in
-    one-entered start.args.t1 start.args.count start.args.inputs start.requires turn.before.loop-rest.invariant
-    (omega (arith, turn.loop-rest-test.true))
+one-entered c.args.table c.args.count c.args.inputs c.requires c.loop-rest.invariant
+    (omega (arith, c.loop-rest-test.true))
 
 returns : tie.Need-returns invariant-loop-rest decreases-loop-rest
 returns c =
-    let start = c.before.before in
-    all-entered start.args.t1 start.args.count start.args.inputs start.requires c.before.loop-rest.invariant c.loop-rest-test.false
+all-entered c.args.table c.args.count c.args.inputs c.requires c.loop-rest.invariant c.loop-rest-test.false
 
 pub table_spec : {M : Type 1} → statement M
 table_spec =

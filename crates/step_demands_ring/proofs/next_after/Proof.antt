@@ -14,26 +14,23 @@ add-search c = omega (arith, c.place_of-at.ensures.within)
 
 returns : tie.Need-returns-in-Phase
 returns c =
-    let at = c.before.before.before in
-    let args = at.before.before.args in
+let args = c.args in
     let test : ℕ → Bool = λ p. bit p args.set in
-    sym (next-later args.order at.before.place_of-at.ensures test (sym at.search-later.ensures ∙ c.before.later-1.given.1))
+    sym (next-later args.order c.place_of-at.ensures test (sym c.search-later.ensures ∙ c.in-Phase.is))
 
 enum_told : tie.Need-enum_told-1
 enum_told c = search rules
 
 search-requires-2 : tie.Need-search-requires
 search-requires-2 c κs =
-    let at = c.before.before in
-    omega (arith, at.before.before.requires, at.before.place_of-at.ensures.within)
+omega (arith, c.requires, c.place_of-at.ensures.within)
 
 returns-2 : tie.Need-returns
 returns-2 c =
-    let at = c.before.before.before in
-    let args = at.before.before.args in
+let args = c.args in
     let test : ℕ → Bool = λ p. bit p args.set in
     c.search.ensures
-    ∙ sym (next-earlier args.order at.before.place_of-at.ensures test (sym at.search-later.ensures ∙ c.before.enum_told-1.given.1))
+    ∙ sym (next-earlier args.order c.place_of-at.ensures test (sym c.search-later.ensures ∙ c.in_default.is))
 
 pub next_after_spec : {M : Type 1} → statement M
 next_after_spec =

@@ -25,8 +25,7 @@ array-read-if1 c = search rules
 
 returns : tie.Need-returns-then-order-i invariant-loop-i decreases-loop-i
 returns c =
-    let at_loop = c.before.before in
-    record { within = omega arith; earlier = at_loop.loop-i.invariant.1; own = λ l. c.if-order-i.true }
+record { within = omega arith; earlier = c.loop-i.invariant.1; own = λ l. c.if-order-i.true }
 
 add-i : tie.Need-overflow_add-i invariant-loop-i decreases-loop-i
 add-i c = search rules
@@ -35,12 +34,11 @@ loop-less : tie.Need-loop-i-smaller invariant-loop-i decreases-loop-i
 loop-less c = search rules
 
 loop-again : tie.Need-loop-i-preserved invariant-loop-i decreases-loop-i
-loop-again c = (omega arith, below_more _ _ c.before.before.loop-i.invariant.1 c.if-order-i.false)
+loop-again c = (omega arith, below_more _ _ c.loop-i.invariant.1 c.if-order-i.false)
 
 returns-2 : tie.Need-returns invariant-loop-i decreases-loop-i
 returns-2 c =
-    let at_loop = c.before in
-    record { within = omega arith; earlier = λ j l. at_loop.loop-i.invariant.1 j (omega arith); own = λ l. absurd (omega arith) }
+record { within = omega arith; earlier = λ j l. c.loop-i.invariant.1 j (omega arith); own = λ l. absurd (omega arith) }
 
 pub place_of_spec : {M : Type 1} → statement M
 place_of_spec =

@@ -33,12 +33,11 @@ bit8-requires c κs = search rules
 
 returns : tie.Need-returns-then-bit8 invariant-loop-i decreases-loop-i
 returns c =
-    let here = c.before.before.before in
-    let args = here.before.args in
+let args = c.args in
     sym
-    (here.loop-i.invariant
-    ∙ search-found (at args.set) args.t2 here.loop-i.i args.to c.before.before.loop-i-test.true
-    (sym c.before.bit8.ensures ∙ c.if-bit8.true))
+    (c.loop-i.invariant
+    ∙ search-found (at args.set) args.t2 c.loop-i.i args.to c.loop-i-test.true
+    (sym c.bit8.ensures ∙ c.if-bit8.true))
 
 add-i : tie.Need-overflow_add-i invariant-loop-i decreases-loop-i
 add-i c = search rules
@@ -48,17 +47,15 @@ loop-less c = search rules
 
 loop-again : tie.Need-loop-i-preserved invariant-loop-i decreases-loop-i
 loop-again c =
-    let here = c.before.before.before in
-    let args = here.before.args in
-    here.loop-i.invariant
-    ∙ search-on (at args.set) args.t2 here.loop-i.i args.to c.before.before.loop-i-test.true
-    (sym c.before.bit8.ensures ∙ c.if-bit8.false)
+let args = c.args in
+    c.loop-i.invariant
+    ∙ search-on (at args.set) args.t2 c.loop-i.i args.to c.loop-i-test.true
+    (sym c.bit8.ensures ∙ c.if-bit8.false)
 
 returns-2 : tie.Need-returns invariant-loop-i decreases-loop-i
 returns-2 c =
-    let here = c.before in
-    let args = here.before.args in
-    sym (here.loop-i.invariant ∙ search-none (at args.set) args.t2 here.loop-i.i args.to c.loop-i-test.false)
+let args = c.args in
+    sym (c.loop-i.invariant ∙ search-none (at args.set) args.t2 c.loop-i.i args.to c.loop-i-test.false)
 
 pub search_spec : {M : Type 1} → statement M
 search_spec =

@@ -9,19 +9,19 @@ enum_told c = search rules
 
 returns : tie.Need-returns-in-Idle
 unfolding advanced
-returns c = rw c.enum_told-1.given.1
+returns c = rw c.in-Idle.is
 
 returns-2 : tie.Need-returns-in-Walk
 unfolding advanced
-returns-2 c = rw (c.lasting.ensures, c.before.enum_told-in-Walk-1.given.1)
+returns-2 c = rw (c.lasting.ensures, c.in-Walk.is)
 
 returns-3 : tie.Need-returns-in-ClearanceOne
 unfolding advanced
-returns-3 c = rw (c.lasting-in-ClearanceOne.ensures, c.before.enum_told-in-ClearanceOne-1.given.1)
+returns-3 c = rw (c.lasting-in-ClearanceOne.ensures, c.in-ClearanceOne.is)
 
 returns-4 : tie.Need-returns-in-ClearanceTwo
 unfolding advanced
-returns-4 c = rw (c.lasting-in-ClearanceTwo.ensures, c.before.enum_told-in-ClearanceTwo-1.given.1)
+returns-4 c = rw (c.lasting-in-ClearanceTwo.ensures, c.in-ClearanceTwo.is)
 
 pub advanced_spec : {M : Type 1} → statement M
 advanced_spec =

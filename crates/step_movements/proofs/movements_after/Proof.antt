@@ -30,10 +30,9 @@ decreases-loop-k may-end count n settings out₀ k₀ out k = n - k
 returns : tie.Need-returns-then-n-eq0 invariant-loop-k decreases-loop-k
 unfolding movements_after walk_times
 returns c =
-    let start = c.before in
-    let args = start.args in
-    list-told (after args.times.walks args.may-end args.movements) args.movements 8 idle start.well_formed.1.1.0.1.0.1
-    (λ k b. past-stays args.times.walks args.may-end args.movements args.count start.requires k (omega (arith, c.if-n-eq0.true)) b)
+let args = c.args in
+    list-told (after args.times.walks args.may-end args.movements) args.movements 8 idle c.well_formed.1.1.0.1.0.1
+    (λ k b. past-stays args.times.walks args.may-end args.movements args.count c.requires k (omega (arith, c.if-n-eq0.true)) b)
 
 loop-holds : tie.Need-loop-k-init invariant-loop-k decreases-loop-k
 loop-holds c = (search rules, fill_none _ _)
@@ -70,13 +69,10 @@ loop-less c = search rules
 
 loop-again : tie.Need-loop-k-preserved invariant-loop-k decreases-loop-k
 loop-again c =
-    let tested = c.before in
-    let at = tested.before.before.before in
-    let start = at.before.before.before in
-    let args = start.args in
-    let k = at.loop-k.k in
-    let filled = at.loop-k.invariant.1 in
-    let inside : k < length args.movements = omega (arith, start.well_formed.1.1.0.1.0.1, start.requires.room) in
+let args = c.args in
+    let k = c.loop-k.k in
+    let filled = c.loop-k.invariant.1 in
+    let inside : k < length args.movements = omega (arith, c.well_formed.1.1.0.1.0.1, c.requires.room) in
     let blank : Movement = record { stage = Idle; age = 0 } in
     let entry = fill-boundary blank k filled inside ∙ entry-same args.movements k blank idle inside in (
       search rules,
@@ -87,8 +83,8 @@ loop-again c =
           (λ w.
           let rests : is_idle (get_or args.movements k idle).stage ≡ true =
           ap (λ (m : Movement). is_idle m.stage) (sym entry)
-          ∙ sym tested.is_idle.ensures
-          ∙ not-false tested.is_idle.result w.0.left in
+          ∙ sym c.is_idle.ensures
+          ∙ not-false c.is_idle.result w.0.left in
           fill-skip idle w.1 filled inside (idle-stays args.times.walks args.may-end args.movements k (idle-only _ rests)))
           c.if-not-is_idle.branch,
     )
@@ -96,11 +92,9 @@ loop-again c =
 returns-2 : tie.Need-returns invariant-loop-k decreases-loop-k
 unfolding movements_after walk_times
 returns-2 c =
-    let at = c.before in
-    let start = at.before.before.before in
-    let args = start.args in
-    fill-kept idle at.loop-k.k 8 at.loop-k.invariant.1 start.well_formed.1.1.0.1.0.1 (omega (arith, at.loop-k.invariant.0, start.requires.room))
-    (λ k a b. past-stays args.times.walks args.may-end args.movements args.count start.requires k (omega (arith, c.loop-k-test.false)) b)
+let args = c.args in
+    fill-kept idle c.loop-k.k 8 c.loop-k.invariant.1 c.well_formed.1.1.0.1.0.1 (omega (arith, c.loop-k.invariant.0, c.requires.room))
+    (λ k a b. past-stays args.times.walks args.may-end args.movements args.count c.requires k (omega (arith, c.loop-k-test.false)) b)
 
 pub movements_after_spec : {M : Type 1} → statement M
 movements_after_spec =

@@ -6,7 +6,7 @@ use Rattle.step_valid.proofs.demands_valid.Tie as tie
 
 returns : tie.Need-returns
 unfolding demands_valid
-returns c = rw (c.before.all_below.ensures, c.all_below-2.ensures)
+returns c = rw (c.all_below.ensures, c.all_below-2.ensures)
 
 pub demands_valid_spec : {M : Type 1} → statement M
 demands_valid_spec = tie.close (tie.spec (λ c κs. search rules) (λ c κs. search rules) returns)

@@ -6,7 +6,7 @@ use Rattle.step_valid.proofs.kept_valid.Tie as tie
 
 returns : tie.Need-returns
 unfolding kept_valid
-returns c = rw (c.before.valid.ensures, c.before.before.stands-standing.ensures)
+returns c = rw (c.valid.ensures, c.stands-standing.ensures)
 
 pub kept_valid_spec : {M : Type 1} → statement M
 kept_valid_spec = tie.close (tie.spec (λ c κs. search rules) (λ c κs. search rules) returns)

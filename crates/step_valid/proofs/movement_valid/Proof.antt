@@ -7,18 +7,14 @@ use Rattle.step_valid.proofs.movement_valid.Tie as tie
 
 returns : tie.Need-returns-then-is_idle
 returns c =
-    let a = c.before.before.args in
-    idle-valid a.of-phase a.interval a.movement (sym c.before.is_idle.ensures ∙ c.if-is_idle.true)
+    let a = c.args in
+    idle-valid a.of-phase a.interval a.movement (sym c.is_idle.ensures ∙ c.if-is_idle.true)
 
 returns-2 : tie.Need-returns
 returns-2 c =
-    let walks = c.before in
-    let leaves = walks.before in
-    let aged = leaves.before in
-    let tested = aged.before in
-    let a = tested.before.before.args in
-    rw (aged.age_valid.ensures, leaves.is_leaving.ensures, walks.is_walk_or_first.ensures, c.is_start_red.ensures)
-    (busy-valid a.of-phase a.interval a.movement (sym tested.before.is_idle.ensures ∙ tested.if-is_idle.false))
+let a = c.args in
+    rw (c.age_valid.ensures, c.is_leaving.ensures, c.is_walk_or_first.ensures, c.is_start_red.ensures)
+    (busy-valid a.of-phase a.interval a.movement (sym c.is_idle.ensures ∙ c.if-is_idle.false))
 
 pub movement_valid_spec : {M : Type 1} → statement M
 movement_valid_spec =

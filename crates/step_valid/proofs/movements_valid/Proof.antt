@@ -53,28 +53,24 @@ movement-valid-requires c κs = search rules
 
 own-valid :
     (c : tie.After-movement_valid invariant-loop-k decreases-loop-k) →
-    let head = c.before.before.before.before in
-    let a = head.before.args in
-    c.movement_valid.result ≡ passes a.count a.t2 a.position a.t4 head.loop-k.k
+let a = c.args in
+    c.movement_valid.result ≡ passes a.count a.t2 a.position a.t4 c.loop-k.k
 unfolding crosses
 own-valid c =
-    let turn = c.before.before.before in
-    let start = turn.before.before in
-    let a = start.args in
-    let k = turn.before.loop-k.k in
-    let inside : k < length a.t4 = omega (arith, turn.loop-k-test.true, start.well_formed.1.1.1.0.1.0.1) in
+let a = c.args in
+    let k = c.loop-k.k in
+    let inside : k < length a.t4 = omega (arith, c.loop-k-test.true, c.well_formed.1.1.1.0.1.0.1) in
     c.movement_valid.ensures
-    ∙ rw c.before.bit8.ensures
+    ∙ rw c.bit8.ensures
     (ap (movement_valid (ltb k a.count && bit a.position.phase (get_or a.t2 k 0)) a.position.interval)
     (entry-same a.t4 k (record { stage = Idle; age = 0 }) idle inside))
 
 returns : tie.Need-returns-then-not-movement_valid invariant-loop-k decreases-loop-k
 unfolding movements_valid
 returns c =
-    let head = c.before.before.before.before.before in
-    let a = head.before.args in
-    all-fails (passes a.count a.t2 a.position a.t4) 8 head.loop-k.k (omega arith)
-    (sym (own-valid c.before) ∙ not-true c.before.movement_valid.result c.if-not-movement_valid.true)
+let a = c.args in
+    all-fails (passes a.count a.t2 a.position a.t4) 8 c.loop-k.k (omega arith)
+    (sym (own-valid c.before) ∙ not-true c.movement_valid.result c.if-not-movement_valid.true)
 
 add-k : tie.Need-overflow_add-k invariant-loop-k decreases-loop-k
 add-k c = search rules
@@ -84,12 +80,12 @@ loop-less c = search rules
 
 loop-again : tie.Need-loop-k-preserved invariant-loop-k decreases-loop-k
 loop-again c =
-    tested-more c.before.before.before.before.before.loop-k.invariant (omega arith)
-    (sym (not-false c.before.movement_valid.result c.if-not-movement_valid.false) ∙ own-valid c.before)
+    tested-more c.loop-k.invariant (omega arith)
+    (sym (not-false c.movement_valid.result c.if-not-movement_valid.false) ∙ own-valid c.before)
 
 returns-2 : tie.Need-returns invariant-loop-k decreases-loop-k
 unfolding movements_valid
-returns-2 c = tested-all c.before.loop-k.invariant c.loop-k-test.false
+returns-2 c = tested-all c.loop-k.invariant c.loop-k-test.false
 
 pub movements_valid_spec : {M : Type 1} → statement M
 movements_valid_spec =

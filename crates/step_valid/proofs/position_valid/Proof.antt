@@ -7,12 +7,11 @@ use Rattle.step_valid.proofs.position_valid.Tie as tie
 returns : tie.Need-returns
 unfolding position_valid
 returns c =
-    let called = c.before.before in
-    rw (
-      called.before.before.interval_valid.ensures,
-      called.target_valid.ensures,
-      called.before.is_leaving.ensures,
-      c.before.previous_valid.ensures,
+rw (
+      c.interval_valid.ensures,
+      c.target_valid.ensures,
+      c.is_leaving.ensures,
+      c.previous_valid.ensures,
       c.age_valid.ensures,
     )
 

@@ -9,11 +9,11 @@ enum_told c = search rules
 
 returns : tie.Need-returns-in-Nothing
 unfolding previous_valid
-returns c = rw c.enum_told-1.given.1
+returns c = rw c.in-Nothing.is
 
 returns-2 : tie.Need-returns-in-Phase
 unfolding previous_valid
-returns-2 c = rw c.before.previous-1.given.1
+returns-2 c = rw c.in-Phase.is
 
 pub previous_valid_spec : {M : Type 1} → statement M
 previous_valid_spec = tie.close (tie.spec enum_told (λ c. search rules) returns returns-2)

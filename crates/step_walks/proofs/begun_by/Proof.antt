@@ -28,20 +28,20 @@ is-running-requires c κs = search rules
 
 returns : tie.Need-returns-then-not-starts-free invariant-loop-rest decreases-loop-rest
 returns c =
-    let a = c.before.before.args in
-    let runs = c.before.is_running in
+    let a = c.args in
+    let runs = c.is_running in
     walked-told
-    (leaves_none (begins a.t1 a.starts a.another a.now a.buttons a.movements) (search rules) (search rules)
+    (leaves_none (begins a.table a.starts a.another a.now a.buttons a.movements) (search rules) (search rules)
     (λ k.
-    none_free a.t1 a.starts a.another a.now a.movements a.buttons k
+    none_free a.table a.starts a.another a.now a.movements a.buttons k
     (rw (← runs.ensures) (not-true (a.starts || (runs.result && not a.another)) c.if-not-starts-free.true))))
 
 loop-holds : tie.Need-loop-rest-init invariant-loop-rest decreases-loop-rest
 loop-holds c = none-walking _ _ _ (search rules) (search rules)
 
 -- the movement of a turn is one of the eight
-own-within : (c : tie.In-loop-rest invariant-loop-rest decreases-loop-rest) → count_trailing_zeros 64 c.before.loop-rest.rest < 8
-own-within c = turn-within c.before.loop-rest.invariant (omega (arith, c.loop-rest-test.true))
+own-within : (c : tie.In-loop-rest invariant-loop-rest decreases-loop-rest) → count_trailing_zeros 64 c.loop-rest.rest < 8
+own-within c = turn-within c.loop-rest.invariant (omega (arith, c.loop-rest-test.true))
 
 cast-k : tie.Need-overflow_cast-k invariant-loop-rest decreases-loop-rest
 cast-k c = omega (arith, own-within c)
@@ -78,33 +78,28 @@ sub-rest c = search rules
 
 loop-less : tie.Need-loop-rest-smaller invariant-loop-rest decreases-loop-rest
 loop-less c =
-    let turn = c.before.before.before.before in
-    left_less turn.before.loop-rest.invariant.untaken (omega (arith, turn.loop-rest-test.true)) (omega arith)
+left_less c.loop-rest.invariant.untaken (omega (arith, c.loop-rest-test.true)) (omega arith)
 
 loop-again : tie.Need-loop-rest-preserved invariant-loop-rest decreases-loop-rest
 unfolding crosses
 loop-again c =
-    let idled = c.before in
-    let owned = idled.before in
-    let turn = owned.before.before in
-    let tested = turn.before.before.before in
-    let at = turn.before.loop-rest in
-    let a = tested.before.args in
-    let some : 0 < at.rest = omega (arith, turn.loop-rest-test.true) in
+let at = c.loop-rest in
+    let a = c.args in
+    let some : 0 < at.rest = omega (arith, c.loop-rest-test.true) in
     let may-now =
-    may-told a.t1 a.starts a.another a.now a.movements (count_trailing_zeros 64 at.rest)
-    (turn-entry at.invariant some (record { stage = Idle; age = 0 })) owned.bit8-own.ensures idled.is_idle.ensures in
+    may-told a.table a.starts a.another a.now a.movements (count_trailing_zeros 64 at.rest)
+    (turn-entry at.invariant some (record { stage = Idle; age = 0 })) c.bit8-own.ensures c.is_idle.ensures in
     ⊎_elim
-    (λ w. one-begun at.invariant some (may-now ∙ rw (← tested.is_running.ensures) w.0.taken) (w.2 ∙ w.1.ensures) w.3)
-    (λ w. rw (w.1, w.2) (one_kept at.invariant some (may-now ∙ rw (← tested.is_running.ensures) w.0.left)))
+    (λ w. one-begun at.invariant some (may-now ∙ rw (← c.is_running.ensures) w.0.taken) (w.2 ∙ w.1.ensures) w.3)
+    (λ w. rw (w.1, w.2) (one_kept at.invariant some (may-now ∙ rw (← c.is_running.ensures) w.0.left)))
     c.if-own-starts.branch
 
 returns-2 : tie.Need-returns invariant-loop-rest decreases-loop-rest
 returns-2 c =
-    let a = c.before.before.before.before.args in
+    let a = c.args in
     walked-told
-    (leaves-same c.before.loop-rest.invariant.told (begins a.t1 a.starts a.another a.now a.buttons a.movements)
-    (λ k. rw (taken-all a.buttons k c.loop-rest-test.false) (asked-begins a.t1 a.starts a.another a.now a.movements a.buttons k)))
+    (leaves-same c.loop-rest.invariant.told (begins a.table a.starts a.another a.now a.buttons a.movements)
+    (λ k. rw (taken-all a.buttons k c.loop-rest-test.false) (asked-begins a.table a.starts a.another a.now a.movements a.buttons k)))
 
 pub begun_by_spec : {M : Type 1} → statement M
 begun_by_spec =

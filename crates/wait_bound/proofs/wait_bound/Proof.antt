@@ -18,14 +18,10 @@ invariant-loop-phase owns phases longest sum₀ phase₀ sum phase = (phase ≤ 
 abbrev decreases-loop-phase : tie.decreases-loop-phase
 decreases-loop-phase owns phases longest sum₀ phase₀ sum phase = phases - phase
 
-abbrev entry : tie.After-crossings-1 invariant-loop-phase decreases-loop-phase → tie.Start invariant-loop-phase decreases-loop-phase
-entry c = c.before.before.before.before.before
-
 longest-of-requires : tie.Need-longest_of-longest-requires invariant-loop-phase decreases-loop-phase
 unfolding walk_times
 longest-of-requires c κs =
-    let start = entry c in
-    (start.pre.movements, walk-fits start.args.site.size start.args.site.times start.pre.times)
+(c.pre.movements, walk-fits c.args.site.size c.args.site.times c.pre.times)
 
 loop-holds : tie.Need-loop-phase-init invariant-loop-phase decreases-loop-phase
 unfolding sum_of
@@ -58,19 +54,16 @@ array-read-phase-share-2 c = search rules
 -- the sum with the share of a turn's phase
 turn-fits :
     (c : tie.In-loop-phase invariant-loop-phase decreases-loop-phase) →
-    let at = c.before.before in
-    c.before.loop-phase.sum
-    + share_at (entry at.before).args.site.times.phases at.longest_of-longest.result c.before.loop-phase.phase
+c.loop-phase.sum
+    + share_at c.args.site.times.phases c.longest_of-longest.result c.loop-phase.phase
     ≤ 65535
 turn-fits c =
-    let at = c.before.before in
-    let start = entry at.before in
-    let a = start.args in
+let a = c.args in
     omega (
       arith,
-      c.before.loop-phase.invariant.1,
-      shares-fit a.site.size a.site.times a.site.crossings at.longest_of-longest.result start.pre.phases.1 at.longest_of-longest.ensures start.pre.times
-          c.before.loop-phase.phase c.loop-phase-test.true,
+      c.loop-phase.invariant.1,
+      shares-fit a.site.size a.site.times a.site.crossings c.longest_of-longest.result c.pre.phases.1 c.longest_of-longest.ensures c.pre.times
+          c.loop-phase.phase c.loop-phase-test.true,
     )
 
 phase-share-requires : tie.Need-phase_share-sum-requires invariant-loop-phase decreases-loop-phase
@@ -88,29 +81,25 @@ loop-less c = search rules
 loop-again : tie.Need-loop-phase-preserved invariant-loop-phase decreases-loop-phase
 unfolding sum_of
 loop-again c =
-    let turn = c.before.before in
-    (omega (arith, turn.loop-phase-test.true), rw add-one (omega (arith, turn.before.loop-phase.invariant.1, c.phase_share-sum.ensures)))
+(omega (arith, c.loop-phase-test.true), rw add-one (omega (arith, c.loop-phase.invariant.1, c.phase_share-sum.ensures)))
 
 -- once every phase is passed the sum is the bound
 summed :
     (c : tie.After-loop-phase invariant-loop-phase decreases-loop-phase) →
-    let a = (entry c.before.before.before).args in
-    c.before.loop-phase.sum ≡ wait_bound a.site
+    let a = c.args in
+    c.loop-phase.sum ≡ wait_bound a.site
 unfolding wait_bound
 summed c =
-    let at = c.before.before in
-    let start = entry at.before in
-    let a = start.args in
-    c.before.loop-phase.invariant.1
-    ∙ all-shares a.site.size a.site.times a.site.crossings at.longest_of-longest.result start.pre.phases.1 at.longest_of-longest.ensures
-    c.before.loop-phase.phase (omega (arith, c.before.loop-phase.invariant.0, c.loop-phase-test.false))
+let a = c.args in
+    c.loop-phase.invariant.1
+    ∙ all-shares a.site.size a.site.times a.site.crossings c.longest_of-longest.result c.pre.phases.1 c.longest_of-longest.ensures
+    c.loop-phase.phase (omega (arith, c.loop-phase.invariant.0, c.loop-phase-test.false))
 
 cast-result : tie.Need-overflow_cast-result invariant-loop-phase decreases-loop-phase
 unfolding wait_bound
 cast-result c =
-    let start = entry c.before.before.before in
-    let a = start.args in
-    omega (arith, summed c, bound-fits a.site.size a.site.times a.site.crossings start.pre.phases.1 start.pre.times)
+let a = c.args in
+    omega (arith, summed c, bound-fits a.site.size a.site.times a.site.crossings c.pre.phases.1 c.pre.times)
 
 returns : tie.Need-returns invariant-loop-phase decreases-loop-phase
 returns c = summed c

@@ -20,17 +20,17 @@ sets-of-requires : tie.Need-sets_of-rest-requires invariant-loop-rest decreases-
 sets-of-requires c κs = search rules
 
 loop-holds : tie.Need-loop-rest-init invariant-loop-rest decreases-loop-rest
-loop-holds c = passed_none c.before.args.t2 c.sets_of-rest.result (search rules)
+loop-holds c = passed_none c.args.t2 c.sets_of-rest.result (search rules)
 
 -- the bit of a turn is one of the 64
-turn-within : (c : tie.In-loop-rest invariant-loop-rest decreases-loop-rest) → count_trailing_zeros 64 c.before.loop-rest.rest < 64
-turn-within c = at-within c.before.before.before.args.t2 c.before.loop-rest.invariant (omega (arith, c.loop-rest-test.true))
+turn-within : (c : tie.In-loop-rest invariant-loop-rest decreases-loop-rest) → count_trailing_zeros 64 c.loop-rest.rest < 64
+turn-within c = at-within c.args.t2 c.loop-rest.invariant (omega (arith, c.loop-rest-test.true))
 
 -- its movement is one of the first count
-turn_below : (c : tie.In-loop-rest invariant-loop-rest decreases-loop-rest) → count_trailing_zeros 64 c.before.loop-rest.rest / 8 < c.before.before.before.args.count
+turn_below : (c : tie.In-loop-rest invariant-loop-rest decreases-loop-rest) → count_trailing_zeros 64 c.loop-rest.rest / 8 < c.args.count
 turn_below c =
-    let a = c.before.before.before.args in
-    movement-below a.t2 a.crossings a.count c.before.loop-rest.invariant c.before.before.sets_of-rest.ensures
+    let a = c.args in
+    movement-below a.t2 a.crossings a.count c.loop-rest.invariant c.sets_of-rest.ensures
     (omega (arith, c.loop-rest-test.true))
 
 cast-i : tie.Need-overflow_cast-i invariant-loop-rest decreases-loop-rest
@@ -50,8 +50,7 @@ array-read-greater c = search rules
 
 add-greater : tie.Need-overflow_add-own invariant-loop-rest decreases-loop-rest
 add-greater c =
-    let turn = c.before.before in
-    let fits = turn.before.before.before.requires.1 _ (turn_below turn) in
+let fits = c.requires.1 _ (turn_below c.before.before) in
     search rules
 
 greater-requires : tie.Need-greater-walk-requires invariant-loop-rest decreases-loop-rest
@@ -89,22 +88,19 @@ sub-rest c = search rules
 
 loop-less : tie.Need-loop-rest-smaller invariant-loop-rest decreases-loop-rest
 loop-less c =
-    let turn = c.before.before.before.before in
-    let rest = turn.before.loop-rest.rest in
-    omega (arith, and_le_r rest (rest - 1), turn.loop-rest-test.true)
+let rest = c.loop-rest.rest in
+    omega (arith, and_le_r rest (rest - 1), c.loop-rest-test.true)
 
 loop-again : tie.Need-loop-rest-preserved invariant-loop-rest decreases-loop-rest
 loop-again c =
-    let turn = c.before.before.before.before in
-    passed-more turn.before.before.before.args.t2 turn.before.loop-rest.invariant (omega (arith, turn.loop-rest-test.true))
-    c.before.greater-walk.ensures
+passed-more c.args.t2 c.loop-rest.invariant (omega (arith, c.loop-rest-test.true))
+    c.greater-walk.ensures
     c.greater-clearance.ensures
 
 returns : tie.Need-returns invariant-loop-rest decreases-loop-rest
 returns c =
-    let start = c.before.before in
-    let a = start.before.args in
-    passed-all a.t2 a.crossings a.count c.before.loop-rest.invariant start.sets_of-rest.ensures c.loop-rest-test.false start.before.requires.0
+let a = c.args in
+    passed-all a.t2 a.crossings a.count c.loop-rest.invariant c.sets_of-rest.ensures c.loop-rest-test.false c.requires.0
 
 pub longest_of_spec : {M : Type 1} → statement M
 longest_of_spec =

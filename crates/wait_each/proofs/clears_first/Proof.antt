@@ -18,13 +18,12 @@ abbrev decreases-loop-r : tie.decreases-loop-r
 decreases-loop-r q owns phases next longest most₀ r₀ most r = phases - r
 
 next-after-requires : tie.Need-next_after-next-requires invariant-loop-r decreases-loop-r
-next-after-requires c κs = c.before.before.before.before.before.requires.0.phases.1
+next-after-requires c κs = c.requires.0.phases.1
 
 longest-of-requires : tie.Need-longest_of-longest-requires invariant-loop-r decreases-loop-r
 unfolding walk_times
 longest-of-requires c κs =
-    let start = c.before.before.before.before.before.before in
-    (start.requires.0.movements, walks-fit start.args.site start.requires.0)
+(c.requires.0.movements, walks-fit c.args.site c.requires.0)
 
 cast-most : tie.Need-overflow_cast-most invariant-loop-r decreases-loop-r
 cast-most c = search rules
@@ -68,36 +67,31 @@ loop-less c = search rules
 
 loop-again : tie.Need-loop-r-preserved invariant-loop-r decreases-loop-r
 loop-again c =
-    let turn = c.before.before.before.before.before in
-    let found = turn.before.before.before in
-    let a = found.before.before.before.before.before.before.args in
+let a = c.args in
     let owns = a.site.times.phases in
-    let longest = turn.before.before.longest_of-longest.result in
+    let longest = c.longest_of-longest.result in
     let own =
-    clearing-told found.next_after-next.result owns longest turn.loop-r.r c.before.clearing_but.result c.before.before.before.is_held-skipped.result
-    c.before.before.before.is_held-skipped.ensures
-    c.before.clearing_but.ensures in (
-      omega (arith, c.before.before.before.before.loop-r-test.true),
+    clearing-told c.next_after-next.result owns longest c.loop-r.r c.clearing_but.result c.is_held-skipped.result
+    c.is_held-skipped.ensures
+    c.clearing_but.ensures in (
+      omega (arith, c.loop-r-test.true),
       c.greater-most.ensures
-          ∙ greatest-next (clearing_part found.next_after-next.result owns longest) a.site.times.start turn.loop-r.most c.before.clearing_but.result
-          turn.loop-r.r
-          turn.loop-r.invariant.1
+          ∙ greatest-next (clearing_part c.next_after-next.result owns longest) a.site.times.start c.loop-r.most c.clearing_but.result
+          c.loop-r.r
+          c.loop-r.invariant.1
           own,
     )
 
 returns : tie.Need-returns invariant-loop-r decreases-loop-r
 returns c =
-    let turn = c.before in
-    let found = turn.before.before.before in
-    let start = found.before.before.before.before.before.before in
-    all-clearings start.args.site start.requires.0 start.args.q start.requires.1 found.next_after-next.result
-    turn.before.before.longest_of-longest.result
-    turn.loop-r.most
-    turn.loop-r.r
-    found.next_after-next.ensures
-    (λ p l. (turn.before.before.longest_of-longest.ensures p l).1)
-    turn.loop-r.invariant.1
-    (omega (arith, turn.loop-r.invariant.0, c.loop-r-test.false))
+all-clearings c.args.site c.requires.0 c.args.q c.requires.1 c.next_after-next.result
+    c.longest_of-longest.result
+    c.loop-r.most
+    c.loop-r.r
+    c.next_after-next.ensures
+    (λ p l. (c.longest_of-longest.ensures p l).1)
+    c.loop-r.invariant.1
+    (omega (arith, c.loop-r.invariant.0, c.loop-r-test.false))
 
 pub clears_first_spec : {M : Type 1} → statement M
 clears_first_spec =

@@ -9,11 +9,11 @@ enum_told c = search rules
 
 returns : tie.Need-returns-in-Nothing
 unfolding is_held
-returns c = rw c.enum_told-1.given.1
+returns c = rw c.in-Nothing.is
 
 returns-2 : tie.Need-returns-in-Phase
 unfolding is_held phase_held
-returns-2 c = rw c.before.next-1.given.1
+returns-2 c = rw c.in-Phase.is
 
 pub is_held_spec : {M : Type 1} → statement M
 is_held_spec = tie.close (tie.spec enum_told (λ c. search rules) returns returns-2)

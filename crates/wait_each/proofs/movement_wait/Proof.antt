@@ -9,14 +9,13 @@ use Rattle.wait_each.proofs.movement_wait.Tie as tie
 add-result : tie.Need-overflow_add-result
 unfolding movement_wait_by
 add-result c =
-    let start = c.before.before.before.before in
-    let pre = start.requires in
+let pre = c.requires in
     omega (
       arith,
-      movement-fits start.args.site pre.0 start.args.q pre.1 start.args.m pre.2 pre.3,
-      c.before.greater.ensures,
-      c.before.before.own_of_lem.ensures,
-      c.before.before.before.clears_first.ensures,
+      movement-fits c.args.site pre.0 c.args.q pre.1 c.args.m pre.2 pre.3,
+      c.greater.ensures,
+      c.own_of_lem.ensures,
+      c.clears_first.ensures,
       c.rest_of.ensures,
     )
 
@@ -25,9 +24,9 @@ unfolding movement_wait_by
 returns c =
     omega (
       arith,
-      c.before.greater.ensures,
-      c.before.before.own_of_lem.ensures,
-      c.before.before.before.clears_first.ensures,
+      c.greater.ensures,
+      c.own_of_lem.ensures,
+      c.clears_first.ensures,
       c.rest_of.ensures,
     )
 

@@ -14,19 +14,16 @@ use Rattle.wait_each.proofs.own_of.Tie as tie
 ending-requires : tie.Need-ending-requires
 unfolding phase_times
 ending-requires c κs =
-    let at = c.before.before.before in
-    let start = at.before.before.before.before.before in
-    let pre = start.requires in
-    let green : at.green_of-green.result ≤ 6000 = omega (arith, at.green_of-green.ensures, green-fits start.args.site pre.0 start.args.q pre.1) in
+let pre = c.requires in
+    let green : c.green_of-green.result ≤ 6000 = omega (arith, c.green_of-green.ensures, green-fits c.args.site pre.0 c.args.q pre.1) in
     (pre.0, pre.1, green, omega arith)
 
 ending-requires-2 : tie.Need-ending-requires-2
 unfolding walk_times
 ending-requires-2 c κs =
-    let start = c.before.before.before.before.before.before.before.before.before in
-    let pre = start.requires in
-    let fits = walk-fits start.args.site pre.0 start.args.m pre.2 in
-    let walk = walk_times start.args.site.times start.args.m in
+let pre = c.requires in
+    let fits = walk-fits c.args.site pre.0 c.args.m pre.2 in
+    let walk = walk_times c.args.site.times c.args.m in
     let both : walk.first + walk.second ≤ 4000 = omega (arith, fits.1, fits.2) in
     let less : walk.first + walk.second ≤ 6000 = omega (arith, both) in
     (pre.0, pre.1, less, both)
@@ -34,13 +31,12 @@ ending-requires-2 c κs =
 returns : tie.Need-returns
 unfolding own_of phase_times walk_times
 returns c =
-    let at = c.before.before.before.before.before.before in
-    let a = at.before.before.before.before.before.args in
+let a = c.args in
     let others : ℕ → Bool = λ k. not (eqb k a.m) in
     c.greater.ensures
     ∙ ap₂ max
-    (c.before.before.ending.ensures ∙ ap (λ (green : ℕ). ending a.site a.q others green 0) at.green_of-green.ensures)
-    c.before.ending-2.ensures
+    (c.ending.ensures ∙ ap (λ (green : ℕ). ending a.site a.q others green 0) c.green_of-green.ensures)
+    c.ending-2.ensures
 
 pub own_of_spec : {M : Type 1} → statement M
 own_of_spec =

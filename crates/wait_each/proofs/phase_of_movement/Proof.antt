@@ -42,30 +42,28 @@ loop-less c = search rules
 
 loop-again : tie.Need-loop-p-preserved invariant-loop-p decreases-loop-p
 loop-again c =
-    let turn = c.before.before.before.before in
-    let a = turn.before.before.args in
+let a = c.args in
     let set = get_or a.site.crossings a.m 0 in
     let own =
-    phase-told set turn.loop-p.p c.before.phase_if.result c.before.before.bit8-has.result c.before.before.bit8-has.ensures c.before.phase_if.ensures in (
-      omega (arith, c.before.before.before.loop-p-test.true),
-      c.greater-most.ensures ∙ greatest-next (phase_in set) 0 turn.loop-p.most c.before.phase_if.result turn.loop-p.p turn.loop-p.invariant.1 own,
+    phase-told set c.loop-p.p c.phase_if.result c.bit8-has.result c.bit8-has.ensures c.phase_if.ensures in (
+      omega (arith, c.loop-p-test.true),
+      c.greater-most.ensures ∙ greatest-next (phase_in set) 0 c.loop-p.most c.phase_if.result c.loop-p.p c.loop-p.invariant.1 own,
     )
 
 -- once every phase is passed the greatest is the phase
 found :
     (c : tie.After-loop-p invariant-loop-p decreases-loop-p) →
-    let a = c.before.before.before.args in
-    c.before.loop-p.most ≡ phase_of_movement a.site a.m
+    let a = c.args in
+    c.loop-p.most ≡ phase_of_movement a.site a.m
 found c =
-    let a = c.before.before.before.args in
-    all-phases a.site a.m c.before.loop-p.most c.before.loop-p.p c.before.loop-p.invariant.1
-    (omega (arith, c.before.loop-p.invariant.0, c.loop-p-test.false))
+    let a = c.args in
+    all-phases a.site a.m c.loop-p.most c.loop-p.p c.loop-p.invariant.1
+    (omega (arith, c.loop-p.invariant.0, c.loop-p-test.false))
 
 cast-result : tie.Need-overflow_cast-result invariant-loop-p decreases-loop-p
 cast-result c =
-    let start = c.before.before.before in
-    let a = start.args in
-    omega (arith, found c, (phase-fits a.site start.requires.0 a.m start.requires.1).0, start.requires.0.phases)
+let a = c.args in
+    omega (arith, found c, (phase-fits a.site c.requires.0 a.m c.requires.1).0, c.requires.0.phases)
 
 returns : tie.Need-returns invariant-loop-p decreases-loop-p
 returns c = found c

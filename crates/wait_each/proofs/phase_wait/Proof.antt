@@ -10,20 +10,18 @@ use Rattle.wait_each.proofs.phase_wait.Tie as tie
 add-result : tie.Need-overflow_add-result
 unfolding phase_wait_by phase_times
 add-result c =
-    let start = c.before.before.before.before.before in
-    let pre = start.requires in
-    omega (arith, wait-fits start.args.site pre.0 start.args.q pre.1, c.clears_first.ensures)
+let pre = c.requires in
+    omega (arith, wait-fits c.args.site pre.0 c.args.q pre.1, c.clears_first.ensures)
 
 add-result-2 : tie.Need-overflow_add-result-2
 unfolding phase_wait_by phase_times
 add-result-2 c =
-    let start = c.before.before.before.before.before.before in
-    let pre = start.requires in
-    omega (arith, wait-fits start.args.site pre.0 start.args.q pre.1, c.before.clears_first.ensures, c.rest_of.ensures)
+let pre = c.requires in
+    omega (arith, wait-fits c.args.site pre.0 c.args.q pre.1, c.clears_first.ensures, c.rest_of.ensures)
 
 returns : tie.Need-returns
 unfolding phase_wait_by phase_times
-returns c = omega (arith, c.before.clears_first.ensures, c.rest_of.ensures)
+returns c = omega (arith, c.clears_first.ensures, c.rest_of.ensures)
 
 pub phase_wait_spec : {M : Type 1} → statement M
 phase_wait_spec =

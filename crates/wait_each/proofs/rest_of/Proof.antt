@@ -25,10 +25,9 @@ turn-but-requires c κs = search rules
 
 add-sum : tie.Need-overflow_add-sum invariant-loop-p decreases-loop-p
 add-sum c =
-    let turn = c.before.before in
-    let a = turn.before.args in
-    let pre = turn.before.requires in
-    omega (arith, turn.loop-p.invariant.1, c.turn_but-sum.ensures, turns_fit a.site pre.0 a.q pre.1 turn.loop-p.p c.before.loop-p-test.true)
+let a = c.args in
+    let pre = c.requires in
+    omega (arith, c.loop-p.invariant.1, c.turn_but-sum.ensures, turns_fit a.site pre.0 a.q pre.1 c.loop-p.p c.loop-p-test.true)
 
 add-p : tie.Need-overflow_add-p invariant-loop-p decreases-loop-p
 add-p c = search rules
@@ -39,15 +38,14 @@ loop-less c = search rules
 loop-again : tie.Need-loop-p-preserved invariant-loop-p decreases-loop-p
 unfolding sum_of
 loop-again c =
-    let turn = c.before.before in
-    (omega (arith, c.before.loop-p-test.true), rw add-one (omega (arith, turn.loop-p.invariant.1, c.turn_but-sum.ensures)))
+(omega (arith, c.loop-p-test.true), rw add-one (omega (arith, c.loop-p.invariant.1, c.turn_but-sum.ensures)))
 
 returns : tie.Need-returns invariant-loop-p decreases-loop-p
 unfolding rest_of
 returns c =
-    let a = c.before.before.args in
-    let all : c.before.loop-p.p ≡ a.site.size.phases = omega (arith, c.before.loop-p.invariant.0, c.loop-p-test.false) in
-    c.before.loop-p.invariant.1 ∙ ap (sum_of (other_turn a.site a.q)) all
+    let a = c.args in
+    let all : c.loop-p.p ≡ a.site.size.phases = omega (arith, c.loop-p.invariant.0, c.loop-p-test.false) in
+    c.loop-p.invariant.1 ∙ ap (sum_of (other_turn a.site a.q)) all
 
 pub rest_of_spec : {M : Type 1} → statement M
 rest_of_spec =

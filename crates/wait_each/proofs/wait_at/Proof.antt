@@ -13,11 +13,10 @@ use Rattle.wait_each.proofs.wait_at.Tie as tie
 
 cast-result : tie.Need-overflow_cast-result
 cast-result c =
-    let start = c.before.before in
-    omega (arith, c.phase_wait.ensures, wait-fits start.args.site start.requires.0 start.args.i c.before.if-i-phases.true)
+omega (arith, c.phase_wait.ensures, wait-fits c.args.site c.requires.0 c.args.i c.if-i-phases.true)
 
 -- past the phases it is a movement of the site, and its phase is found
-module _ (c : tie.After-phase_of_movement-q) where
+module _ (c : tie.After-phase-of-movement) where
   abbrev site : Site
   site = c.before.before.args.site
 
@@ -25,37 +24,36 @@ module _ (c : tie.After-phase_of_movement-q) where
   m = c.before.before.args.i - site.size.phases
 
   exists : m < site.size.movements
-  exists = omega (arith, c.before.before.requires.1, c.before.if-i-phases.false)
+  exists = omega (arith, c.before.before.requires.1, c.before.if1.false)
 
-  of-phase : (c.phase_of_movement-q.result < site.size.phases) × (crosses site.crossings m c.phase_of_movement-q.result ≡ true)
+  of-phase : (c.phase-of-movement.result < site.size.phases) × (crosses site.crossings m c.phase-of-movement.result ≡ true)
   of-phase =
-      subst (λ (q : ℕ). (q < site.size.phases) × (crosses site.crossings m q ≡ true)) (sym c.phase_of_movement-q.ensures)
+      subst (λ (q : ℕ). (q < site.size.phases) × (crosses site.crossings m q ≡ true)) (sym c.phase-of-movement.ensures)
       (phase-fits site c.before.before.requires.0 m exists)
 
 movement-wait-requires : tie.Need-movement_wait-requires
-movement-wait-requires c κs = (c.before.before.requires.0, (of-phase c).0, exists c, (of-phase c).1)
+movement-wait-requires c κs = (c.requires.0, (of-phase c).0, exists c, (of-phase c).1)
 
 cast-result-2 : tie.Need-overflow_cast-result-else-i-phases
 cast-result-2 c =
-    let q = c.before.phase_of_movement-q.result in
+    let q = c.phase_of_movement-q.result in
     omega (
       arith,
       c.movement_wait.ensures,
-      movement-fits (site c.before) c.before.before.before.requires.0 q (of-phase c.before).0 (m c.before) (exists c.before)
+      movement-fits (site c.before) c.requires.0 q (of-phase c.before).0 (m c.before) (exists c.before)
           (of-phase c.before).1,
     )
 
 returns : tie.Need-returns-then-i-phases
 returns c =
-    let start = c.before.before in
-    c.phase_wait.ensures ∙ sym (wait-of-phase start.args.site start.args.i c.before.if-i-phases.true)
+c.phase_wait.ensures ∙ sym (wait-of-phase c.args.site c.args.i c.if-i-phases.true)
 
 returns-2 : tie.Need-returns-else-i-phases
 returns-2 c =
-    let a = c.before.before.before.args in
+    let a = c.args in
     c.movement_wait.ensures
-    ∙ ap (λ (q : ℕ). movement_wait a.site q (m c.before)) c.before.phase_of_movement-q.ensures
-    ∙ sym (wait-of-movement a.site (m c.before) a.i (exists c.before) (omega (arith, c.before.before.if-i-phases.false)))
+    ∙ ap (λ (q : ℕ). movement_wait a.site q (m c.before)) c.phase_of_movement-q.ensures
+    ∙ sym (wait-of-movement a.site (m c.before) a.i (exists c.before) (omega (arith, c.if-i-phases.false)))
 
 pub wait_at_spec : {M : Type 1} → statement M
 wait_at_spec =

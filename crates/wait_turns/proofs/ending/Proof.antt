@@ -29,9 +29,8 @@ leaving-of-requires c κs = search rules
 add_most : tie.Need-overflow_add-most invariant-loop-k decreases-loop-k
 unfolding phase_times
 add_most c =
-    let start = c.before.before.before.before.before.before in
-    let pre = start.requires in
-    omega (arith, pre.2, c.leaving_of-leaving.ensures, leaving-fits start.args.site pre.0 start.args.p pre.1)
+let pre = c.requires in
+    omega (arith, pre.2, c.leaving_of-leaving.ensures, leaving-fits c.args.site pre.0 c.args.p pre.1)
 
 loop-holds : tie.Need-loop-k-init invariant-loop-k decreases-loop-k
 unfolding greatest_of
@@ -55,12 +54,10 @@ array-copy-out-walk-part c = search rules
 walk-part-requires : tie.Need-walk_part-requires invariant-loop-k decreases-loop-k
 unfolding phase_times walk_times
 walk-part-requires c κs =
-    let at = c.before.before.before.before in
-    let start = at.before.before.before.before.before.before in
-    let pre = start.requires in
-    let fits = walk-fits start.args.site pre.0 c.before.before.before.loop-k.k c.before.before.loop-k-test.true in
-    let left : at.leaving_of-leaving.result ≤ 6000 =
-    omega (arith, at.leaving_of-leaving.ensures, leaving-fits start.args.site pre.0 start.args.p pre.1) in
+let pre = c.requires in
+    let fits = walk-fits c.args.site pre.0 c.loop-k.k c.loop-k-test.true in
+    let left : c.leaving_of-leaving.result ≤ 6000 =
+    omega (arith, c.leaving_of-leaving.ensures, leaving-fits c.args.site pre.0 c.args.p pre.1) in
     (left, pre.2, pre.3, fits.0, fits.1, fits.2)
 
 greater-requires : tie.Need-greater-most-requires invariant-loop-k decreases-loop-k
@@ -74,38 +71,34 @@ loop-less c = search rules
 
 loop-again : tie.Need-loop-k-preserved invariant-loop-k decreases-loop-k
 loop-again c =
-    let turn = c.before.before.before.before.before in
-    let at = turn.before in
-    let a = at.before.before.before.before.before.before.args in
+let a = c.args in
     let walks = a.site.times.walks in
     let own =
-    part-told walks a.site.crossings a.p a.without at.leaving_of-leaving.result a.z a.b turn.loop-k.k c.before.walk_part.result
-    c.before.before.before.bit8.result
-    c.before.before.before.bit8.ensures
-    c.before.walk_part.ensures in (
-      omega (arith, c.before.before.before.before.loop-k-test.true),
+    part-told walks a.site.crossings a.p a.without c.leaving_of-leaving.result a.z a.b c.loop-k.k c.walk_part.result
+    c.bit8.result
+    c.bit8.ensures
+    c.walk_part.ensures in (
+      omega (arith, c.loop-k-test.true),
       c.greater-most.ensures
-          ∙ greatest-next (part_of walks a.site.crossings a.p a.without at.leaving_of-leaving.result a.z a.b) (a.z + at.leaving_of-leaving.result)
-          turn.loop-k.most
-          c.before.walk_part.result
-          turn.loop-k.k
-          turn.loop-k.invariant.1
+          ∙ greatest-next (part_of walks a.site.crossings a.p a.without c.leaving_of-leaving.result a.z a.b) (a.z + c.leaving_of-leaving.result)
+          c.loop-k.most
+          c.walk_part.result
+          c.loop-k.k
+          c.loop-k.invariant.1
           own,
     )
 
 returns : tie.Need-returns invariant-loop-k decreases-loop-k
 unfolding phase_times
 returns c =
-    let at = c.before.before in
-    let start = at.before.before.before.before.before.before in
-    let a = start.args in
-    all-parts a.site a.p _ a.z a.b c.before.loop-k.most c.before.loop-k.k
+let a = c.args in
+    all-parts a.site a.p _ a.z a.b c.loop-k.most c.loop-k.k
     (subst
     (λ (leaving : ℕ).
-    c.before.loop-k.most ≡ max (a.z + leaving) (greatest_of (part_of a.site.times.walks a.site.crossings a.p a.without leaving a.z a.b) c.before.loop-k.k))
-    at.leaving_of-leaving.ensures
-    c.before.loop-k.invariant.1)
-    (omega (arith, c.before.loop-k.invariant.0, c.loop-k-test.false))
+    c.loop-k.most ≡ max (a.z + leaving) (greatest_of (part_of a.site.times.walks a.site.crossings a.p a.without leaving a.z a.b) c.loop-k.k))
+    c.leaving_of-leaving.ensures
+    c.loop-k.invariant.1)
+    (omega (arith, c.loop-k.invariant.0, c.loop-k-test.false))
 
 pub ending_spec : {M : Type 1} → statement M
 ending_spec =

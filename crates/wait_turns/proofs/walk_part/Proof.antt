@@ -8,7 +8,7 @@ use Rattle.wait_turns.proofs.walk_part.Tie as tie
 returns : tie.Need-returns-then-counts
 unfolding walk_ending
 returns c =
-    rw c.before.before.before.before.before.if-counts.true (omega (arith, c.before.before.before.greater.ensures, c.greater-then-counts.ensures))
+    rw c.if-counts.true (omega (arith, c.greater.ensures, c.greater-then-counts.ensures))
 
 pub walk_part_spec : {M : Type 1} → statement M
 walk_part_spec =

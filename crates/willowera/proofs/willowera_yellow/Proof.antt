@@ -7,7 +7,7 @@ use Rattle.willowera.proofs.willowera_yellow.Statement.{statement}
 use Rattle.willowera.proofs.willowera_yellow.Tie as tie
 
 returns : tie.Need-returns
-returns c = let start = c.before in c.yellow.ensures ∙ ap (yellow_answer start.args.speed) (to_z-of_z start.ranges.grade)
+returns c = c.yellow.ensures ∙ ap (yellow_answer c.args.speed) (to_z-of_z c.ranges.grade)
 
 pub willowera_yellow_spec : {M : Type 1} → statement M
 willowera_yellow_spec = tie.close (tie.spec (λ c κs. search rules) returns)

@@ -19,14 +19,14 @@ always false = refl
 returns : tie.Need-returns-then-new-i
 unfolding byte_at
 returns c =
-    let a = c.before.before.before.before.before.args in
+    let a = c.args in
     rw (eq-eqb _ _ c.if-new-i.true) (never (not (time_byte a.s.now a.i)))
 
 returns-2 : tie.Need-returns
 unfolding byte_at
 returns-2 c =
-    let a = c.before.before.before.before.before.before.args in
-    rw (c.time_byte.ensures, ne_eqb _ _ c.before.if-new-i.false) (always (not (time_byte a.s.now a.i)))
+    let a = c.args in
+    rw (c.time_byte.ensures, ne_eqb _ _ c.if-new-i.false) (always (not (time_byte a.s.now a.i)))
 
 pub differs_at_spec : {M : Type 1} → statement M
 differs_at_spec =

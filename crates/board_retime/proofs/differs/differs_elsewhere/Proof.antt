@@ -19,7 +19,7 @@ decreases-loop-i s layout new length i₀ i = length - i
 
 returns : tie.Need-returns-then-new-length invariant-loop-i decreases-loop-i
 returns c =
-    let a = c.before.before.before.args in
+    let a = c.args in
     other_length a.s.now a.new.now c.if-new-length.true
 
 loop-holds : tie.Need-loop-i-init invariant-loop-i decreases-loop-i
@@ -28,31 +28,25 @@ loop-holds c = (omega arith, refl)
 
 differs-at-requires : tie.Need-differs_at-requires invariant-loop-i decreases-loop-i
 differs-at-requires c κs =
-    let else = c.before.before in
-    let start = else.before.before.before in
-    (start.requires.0, start.requires.1, omega arith, omega (arith, else.if-new-length.false))
+(c.requires.0, c.requires.1, omega arith, omega (arith, c.if-new-length.false))
 
 returns-2 : tie.Need-returns-then-differs_at invariant-loop-i decreases-loop-i
 returns-2 c =
-    let turn = c.before.before in
-    let else = turn.before.before in
-    let a = else.before.before.before.args in
-    difference-found a.s.now a.new.now turn.before.loop-i.i else.if-new-length.false (omega arith) (sym c.before.differs_at.ensures ∙ c.if-differs_at.true)
+let a = c.args in
+    difference-found a.s.now a.new.now c.loop-i.i c.if-new-length.false (omega arith) (sym c.differs_at.ensures ∙ c.if-differs_at.true)
 
 loop-again : tie.Need-loop-i-preserved invariant-loop-i decreases-loop-i
 loop-again c =
-    let turn = c.before.before in
-    let a = turn.before.before.before.before.before.args in (
+let a = c.args in (
       omega arith,
-      any-more (differs a.s.now a.new.now) turn.before.loop-i.i turn.before.loop-i.invariant.1
-          (sym c.before.differs_at.ensures ∙ c.if-differs_at.false),
+      any-more (differs a.s.now a.new.now) c.loop-i.i c.loop-i.invariant.1
+          (sym c.differs_at.ensures ∙ c.if-differs_at.false),
     )
 
 returns-3 : tie.Need-returns invariant-loop-i decreases-loop-i
 returns-3 c =
-    let else = c.before.before in
-    let a = else.before.before.before.args in
-    no_difference a.s.now a.new.now c.before.loop-i.i else.if-new-length.false c.before.loop-i.invariant.1 (omega arith)
+let a = c.args in
+    no_difference a.s.now a.new.now c.loop-i.i c.if-new-length.false c.loop-i.invariant.1 (omega arith)
 
 pub differs_elsewhere_spec : {M : Type 1} → statement M
 differs_elsewhere_spec =

@@ -6,13 +6,8 @@ use Rattle.board_retime.proofs.differs.time_byte.Tie as tie
 
 returns : tie.Need-returns
 returns c =
-    let fourth = c.before in
-    let third = fourth.before.before in
-    let second = third.before.before in
-    let first = second.before in
-    let start = first.before.before in
-    rw (fourth.between-4.ensures, third.between-3.ensures, second.between-2.ensures, first.between.ensures)
-    (time-bytes-laid start.args.s.now start.args.layout start.args.i start.requires.1)
+rw (c.between-4.ensures, c.between-3.ensures, c.between-2.ensures, c.between.ensures)
+    (time-bytes-laid c.args.s.now c.args.layout c.args.i c.requires.1)
 
 pub time_byte_spec : {M : Type 1} → statement M
 time_byte_spec =

@@ -20,28 +20,23 @@ put-settled-requires c κs = (told c.before.before.before.before).size
 
 returns : tie.Need-returns-then-over
 returns c =
-    let put = c.before.before in
-    let then = put.before.before.before in
-    let a = then.before.before.args in
-    put.put_settled.ensures
-    ∙ ap (λ (over : Bool). timed_encoded (after a.site a.next over (timed_decoded a.state-1.now))) (sym then.if-over.true)
+let a = c.args in
+    c.put_settled.ensures
+    ∙ ap (λ (over : Bool). timed_encoded (after a.site a.next over (timed_decoded a.state.now))) (sym c.if-over.true)
 
 put-requires : tie.Need-put-requires
 put-requires c κs = omega (arith, (told c.before.before.before).size)
 
-bytes : (c : tie.After-slice_known-1) → AreBytes c.before.args.state.now
+bytes : (c : tie.After-slice_known-1) → AreBytes c.args.state.now
 unfolding byte_at
 bytes c = record { each = λ i. omega (arith, c.slice_known-1.given i) }
 
 returns-2 : tie.Need-returns
 returns-2 c =
-    let put = c.before.before in
-    let else = put.before.before in
-    let start = else.before.before in
-    let a = start.args in
-    put.put.ensures
-    ∙ kept-written a.state-1.now (bytes else.before) start.requires a.next
-    ∙ ap (λ (over : Bool). timed_encoded (after a.site a.next over (timed_decoded a.state-1.now))) (sym else.if-over.false)
+let a = c.args in
+    c.put.ensures
+    ∙ kept-written a.state.now (bytes c.before.before.before.before.before) c.requires a.next
+    ∙ ap (λ (over : Bool). timed_encoded (after a.site a.next over (timed_decoded a.state.now))) (sym c.if-over.false)
 
 pub put_next_spec : {M : Type 1} → statement M
 put_next_spec =

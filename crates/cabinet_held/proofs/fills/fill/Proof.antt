@@ -24,7 +24,7 @@ add-bytes : tie.Need-overflow_add-bytes invariant-loop-i decreases-loop-i
 add-bytes c = omega arith
 
 slice-write-bytes : tie.Need-bounds-bytes-at invariant-loop-i decreases-loop-i
-slice-write-bytes c = omega (arith, stored-length c.before.loop-i.invariant)
+slice-write-bytes c = omega (arith, stored-length c.loop-i.invariant)
 
 add-i : tie.Need-overflow_add-i invariant-loop-i decreases-loop-i
 add-i c = search rules
@@ -33,15 +33,15 @@ loop-less : tie.Need-loop-i-smaller invariant-loop-i decreases-loop-i
 loop-less c = search rules
 
 loop-again : tie.Need-loop-i-preserved invariant-loop-i decreases-loop-i
-loop-again c = stored_one _ c.before.loop-i.invariant c.loop-i-test.true refl refl
+loop-again c = stored_one _ c.loop-i.invariant c.loop-i-test.true refl refl
 
 same_length : tie.Need-shape_of-bytes invariant-loop-i decreases-loop-i
-same_length c = stored-length c.before.loop-i.invariant
+same_length c = stored-length c.loop-i.invariant
 
 returns : tie.Need-returns invariant-loop-i decreases-loop-i
 returns c =
-    let a = c.before.before.args in
-    stored-all c.before.loop-i.invariant c.loop-i-test.false ∙ ap (sets a.bytes.now a.at) (list-alike a.value a.count)
+    let a = c.args in
+    stored-all c.loop-i.invariant c.loop-i-test.false ∙ ap (sets a.bytes.now a.at) (list-alike a.value a.count)
 
 pub fill_spec : {M : Type 1} → statement M
 fill_spec = tie.close (tie.spec invariant-loop-i decreases-loop-i loop-holds add-bytes slice-write-bytes add-i loop-less loop-again same_length returns)

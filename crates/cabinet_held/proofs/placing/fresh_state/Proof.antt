@@ -9,13 +9,11 @@ use Rattle.cabinet_held.proofs.placing.fresh_state.Tie as tie
 returns : tie.Need-returns-then-state-eq-TIMED_BYTES
 unfolding timed_encoded_over
 returns c =
-    let put = c.before.before in
-    let then = put.before.before in
-    rw (eq-eqb (length then.before.before.before.args.state.now) timed_bytes then.if-state-eq-TIMED_BYTES.true) put.put_fresh.ensures
+rw (eq-eqb (length c.args.state.now) timed_bytes c.if-state-eq-TIMED_BYTES.true) c.put_fresh.ensures
 
 returns-2 : tie.Need-returns-else-state-eq-TIMED_BYTES
 unfolding timed_encoded_over
-returns-2 c = rw (ne_eqb (length c.before.before.before.args.state.now) timed_bytes c.if-state-eq-TIMED_BYTES.false)
+returns-2 c = rw (ne_eqb (length c.args.state.now) timed_bytes c.if-state-eq-TIMED_BYTES.false)
 
 pub fresh_state_spec : {M : Type 1} → statement M
 fresh_state_spec = tie.close (tie.spec (λ c κs. search rules) (λ c. search rules) returns returns-2)

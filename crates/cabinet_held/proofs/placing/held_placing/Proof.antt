@@ -10,45 +10,35 @@ use borrow.Author.Rules.{rules}
 use Rattle.cabinet_held.proofs.placing.held_placing.Statement.{statement}
 use Rattle.cabinet_held.proofs.placing.held_placing.Tie as tie
 
-abbrev start : tie.After-checks-verdict → tie.Start
-start c = c.before.before.before.before.before.before.before
-
 -- what the checks say
 checked :
     (c : tie.After-checks-verdict) →
-    let a = (start c).args in
-    c.checks-verdict.result ≡ placing_checks a.personality.now a.free a.met a.first (length a.outputs-1.now)
+    let a = c.args in
+    c.checks-verdict.result ≡ placing_checks a.personality.now a.free a.met a.first (length a.outputs.now)
 unfolding placing_checks
 checked c =
-    let counted = c.before.before in
-    rw (← counted.before.before.read_with_layout-reading.ensures.0, ← counted.outputs_of-count.ensures, ← c.before.past_last.ensures) c.checks-verdict.ensures
+rw (← c.read_with_layout-reading.ensures.0, ← c.outputs_of-count.ensures, ← c.past_last.ensures) c.checks-verdict.ensures
 
 enum_told : tie.Need-enum_told-1
 enum_told c = search rules
 
 fill-requires : tie.Need-fill-requires
 fill-requires c κs =
-    let called = c.before.before.before in
-    let fits = placing-fits _ _ _ _ _ (sym (checked called) ∙ c.before.enum_told-1.given.1) in
-    omega (arith, fits, called.before.before.outputs_of-count.ensures)
+let fits = placing-fits _ _ _ _ _ (sym (checked c.before.before) ∙ c.in-Accepted.is) in
+    omega (arith, fits, c.outputs_of-count.ensures)
 
 returns : tie.Need-returns-in-Accepted
 returns c =
-    let filled = c.before.before in
-    let told = filled.before.before in
-    let called = told.before.before in
-    let counted = called.before.before in
-    let fits = placing-fits _ _ _ _ _ (sym (checked called) ∙ told.enum_told-1.given.1) in (
-      checked called,
-      counted.before.before.read_with_layout-reading.ensures.1,
-      filled.fill.ensures ∙ turned-accepted red _ _ _ (checked called) told.enum_told-1.given.1 counted.outputs_of-count.ensures fits,
+let fits = placing-fits _ _ _ _ _ (sym (checked c.before.before.before.before.before) ∙ c.in-Accepted.is) in (
+      checked c.before.before.before.before.before,
+      c.read_with_layout-reading.ensures.1,
+      c.fill.ensures ∙ turned-accepted red _ _ _ (checked c.before.before.before.before.before) c.in-Accepted.is c.outputs_of-count.ensures fits,
     )
 
 returns-2 : tie.Need-returns-in_default
 returns-2 c =
-    let called = c.before.before in
-    let read = called.before.before.before.before.read_with_layout-reading in
-    (checked called, read.ensures.1, turned-refused red _ _ _ (checked called) c.enum_told-in_default-1.given.1)
+let read = c.read_with_layout-reading in
+    (checked c.before, read.ensures.1, turned-refused red _ _ _ (checked c.before) c.in_default.is)
 
 pub held_placing_spec : {M : Type 1} → statement M
 held_placing_spec =

@@ -12,16 +12,16 @@ enum_told c = search rules
 
 refusal-requires-2 : tie.Need-refusal-requires-in-Refused
 refusal-requires-2 c κs =
-    let read = c.before.before.before.read-verdict in
-    refused-near _ read.result read.ensures c.before.verdict-1.given.1
+    let read = c.read-verdict in
+    refused-near _ read.result read.ensures c.in-Refused.is
 
 returns : tie.Need-returns-in-Accepted
 unfolding ◌or_else◌ packed_verdict
-returns c = let told = c.before in rw (sym told.before.before.read-verdict.ensures ∙ told.enum_told-1.given.1, c.refusal.ensures)
+returns c = rw (sym c.read-verdict.ensures ∙ c.in-Accepted.is, c.refusal.ensures)
 
 returns-2 : tie.Need-returns-in-Refused
 unfolding ◌or_else◌ packed_verdict
-returns-2 c = let told = c.before.before in rw (sym told.before.before.read-verdict.ensures ∙ told.verdict-1.given.1, c.refusal-in-Refused.ensures)
+returns-2 c = rw (sym c.read-verdict.ensures ∙ c.in-Refused.is, c.refusal-in-Refused.ensures)
 
 pub placed_nowhere_spec : {M : Type 1} → statement M
 placed_nowhere_spec =

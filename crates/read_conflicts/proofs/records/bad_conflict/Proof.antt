@@ -6,9 +6,8 @@ use Rattle.read_conflicts.proofs.records.bad_conflict.Tie as tie
 
 returns : tie.Need-returns
 returns c =
-    let set = c.before.before in
-    let pre = set.before.before.requires in
-    rw (c.reaches32.ensures, c.before.bit32.ensures, set.conflict_set-set.ensures, pre.0.laid.groupcount) (named-tested pre.2)
+let pre = c.requires in
+    rw (c.reaches32.ensures, c.bit32.ensures, c.conflict_set-set.ensures, pre.0.laid.groupcount) (named-tested pre.2)
 
 pub bad_conflict_spec : {M : Type 1} → statement M
 bad_conflict_spec =

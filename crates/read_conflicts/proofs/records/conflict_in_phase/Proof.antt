@@ -7,9 +7,7 @@ use Rattle.read_conflicts.proofs.records.conflict_in_phase.Tie as tie
 
 returns : tie.Need-returns
 returns c =
-    let at_sharing = c.before in
-    let at_set = at_sharing.before.before in
-    let pre = at_set.before.before.requires in
+let pre = c.requires in
     let laid = pre.0.laid in
     let phases = laid.phasecount in
     rw c.conflict_set.ensures
@@ -17,7 +15,7 @@ returns c =
     (omega (arith, c.conflict_set.ensures))
     (omega arith)
     pre.2
-    (rw (at_set.group_set-set.ensures, phases) at at_sharing.sharing-shared.ensures))
+    (rw (c.group_set-set.ensures, phases) at c.sharing-shared.ensures))
 
 pub conflict_in_phase_spec : {M : Type 1} → statement M
 conflict_in_phase_spec =

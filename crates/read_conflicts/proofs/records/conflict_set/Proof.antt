@@ -10,7 +10,7 @@ four-in-requires c κs = search rules
 
 returns : tie.Need-returns
 unfolding conflict_set record_at body_at
-returns c = let head = c.before.before.before.requires.0.laid.conflicts in rw (← head) c.four_in.ensures
+returns c = let head = c.requires.0.laid.conflicts in rw (← head) c.four_in.ensures
 
 pub conflict_set_spec : {M : Type 1} → statement M
 conflict_set_spec =

@@ -40,21 +40,18 @@ turned-requires c κs = search rules
 
 -- the sets are those for the record of g: they are made anew, or were made for a group before it
 compared :
-    (c : tie.Joined-renewed invariant-loop-g decreases-loop-g) →
-    let at_loop = c.before.before.before in
-    let args = at_loop.before.before.before.args in
-    Compared args.s.now args.number at_loop.loop-g.g c.if-renewed.rows
+    (c : tie.Joined1 invariant-loop-g decreases-loop-g) →
+let args = c.args in
+    Compared args.s.now args.number c.loop-g.g c.if-renewed.rows
 compared c =
-    let at_test = c.before in
-    ⊎_elim
+⊎_elim
     (λ w. rw w.2 w.1.ensures)
-    (λ w. rw w.1 (at_test.before.before.loop-g.invariant.2 (sym at_test.renewed.ensures ∙ w.0.left)))
+    (λ w. rw w.1 (c.loop-g.invariant.2 (sym c.renewed.ensures ∙ w.0.left)))
     c.if-renewed.branch
 
 refused-record-requires : tie.Need-refused_record-requires invariant-loop-g decreases-loop-g
 refused-record-requires c κs =
-    let at_loop = c.before.before.before in
-    let pre = at_loop.before.before.before.requires in
+let pre = c.requires in
     (pre.0, pre.1, omega arith, compared c)
 
 add-t12 : tie.Need-overflow_add-result invariant-loop-g decreases-loop-g
@@ -69,9 +66,7 @@ add-t14 c = search rules
 returns : tie.Need-returns-then-refused_record invariant-loop-g decreases-loop-g
 unfolding first_refused record_at body_at
 returns c =
-    let at_record = c.before in
-    let at_loop = at_record.before.before.before.before in
-    bad-stop _ _ _ _ at_loop.loop-g.g (omega arith) at_loop.loop-g.invariant.1 (sym at_record.refused_record.ensures ∙ c.if-refused_record.true) (omega arith)
+bad-stop _ _ _ _ c.loop-g.g (omega arith) c.loop-g.invariant.1 (sym c.refused_record.ensures ∙ c.if-refused_record.true) (omega arith)
 
 add-g : tie.Need-overflow_add-g invariant-loop-g decreases-loop-g
 add-g c = search rules
@@ -81,16 +76,15 @@ loop-less c = search rules
 
 loop-again : tie.Need-loop-g-preserved invariant-loop-g decreases-loop-g
 loop-again c =
-    let at_record = c.before in
-    let at_loop = at_record.before.before.before.before in (
+(
       omega arith,
-      good_more _ _ _ _ at_loop.loop-g.invariant.1 (sym at_record.refused_record.ensures ∙ c.if-refused_record.false),
-      compared-next at_loop.loop-g.g (compared at_record.before),
+      good_more _ _ _ _ c.loop-g.invariant.1 (sym c.refused_record.ensures ∙ c.if-refused_record.false),
+      compared-next c.loop-g.g (compared c.before.before),
     )
 
 returns-2 : tie.Need-returns invariant-loop-g decreases-loop-g
 unfolding first_refused
-returns-2 c = first_done _ _ _ c.before.loop-g.invariant.1 (omega arith)
+returns-2 c = first_done _ _ _ c.loop-g.invariant.1 (omega arith)
 
 pub first_refused_spec : {M : Type 1} → statement M
 first_refused_spec =

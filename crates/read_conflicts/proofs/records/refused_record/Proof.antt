@@ -9,15 +9,15 @@ use Rattle.read_conflicts.proofs.records.refused_record.Tie as tie
 
 bad-conflict-requires : tie.Need-bad_conflict-requires
 bad-conflict-requires c κs =
-    let pre = c.before.before.requires in (pre.0, pre.2, turned-named _ _ (eq-eqb _ _ c.if-number-eq9.true) pre.3)
+    let pre = c.requires in (pre.0, pre.2, turned-named _ _ (eq-eqb _ _ c.if-number-eq9.true) pre.3)
 
 returns : tie.Need-returns-then-number-eq9
 unfolding refused_record
-returns c = rw (eq-eqb _ _ c.before.if-number-eq9.true) c.bad_conflict.ensures
+returns c = rw (eq-eqb _ _ c.if-number-eq9.true) c.bad_conflict.ensures
 
 conflict-in-phase-requires : tie.Need-conflict_in_phase-requires
 conflict-in-phase-requires c κs =
-    let pre = c.before.before.requires in
+    let pre = c.requires in
     let other = ne_eqb _ _ c.if-number-eq9.false in (
       pre.0,
       pre.2,
@@ -27,7 +27,7 @@ conflict-in-phase-requires c κs =
 
 returns-2 : tie.Need-returns
 unfolding refused_record
-returns-2 c = rw (ne_eqb _ _ c.before.if-number-eq9.false) c.conflict_in_phase.ensures
+returns-2 c = rw (ne_eqb _ _ c.if-number-eq9.false) c.conflict_in_phase.ensures
 
 pub refused_record_spec : {M : Type 1} → statement M
 refused_record_spec =

@@ -25,10 +25,9 @@ loop-holds c = (omega arith, omega arith, λ k h l. absurd (omega arith))
 
 first-refused-requires : tie.Need-first_refused-found-requires invariant-loop-number decreases-loop-number
 first-refused-requires c κs =
-    let at_loop = c.before in
-    let number = at_loop.loop-number.number in (
-      at_loop.before.before.requires,
-      sets_below _ number (λ other. let apart = eqb-false number 9 other in at_loop.loop-number.invariant.2 9 (omega arith) (omega (arith, apart))),
+let number = c.loop-number.number in (
+      c.requires,
+      sets_below _ number (λ other. let apart = eqb-false number 9 other in c.loop-number.invariant.2 9 (omega arith) (omega (arith, apart))),
     )
 
 enum_told : tie.Need-enum_told-1 invariant-loop-number decreases-loop-number
@@ -36,14 +35,12 @@ enum_told c = search rules
 
 returns : tie.Need-returns-in-Refused invariant-loop-number decreases-loop-number
 returns c =
-    let found = c.before.before in
-    let at_loop = found.before.before in
-    let number = at_loop.loop-number.number in
+let number = c.loop-number.number in
     ⊎_elim
-    (λ (nine : number ≡ 9). or-stop _ (found.first_refused-found.ensures ∙ ap (first_refused _) nine) c.enum_told-1.given.1)
+    (λ (nine : number ≡ 9). or-stop _ (c.first_refused-found.ensures ∙ ap (first_refused _) nine) c.in-Refused.is)
     (λ apart.
     let ten : number ≡ 10 = omega (arith, apart) in
-    or-next refl (at_loop.loop-number.invariant.2 9 (omega arith) (omega arith)) (found.first_refused-found.ensures ∙ ap (first_refused _) ten))
+    or-next refl (c.loop-number.invariant.2 9 (omega arith) (omega arith)) (c.first_refused-found.ensures ∙ ap (first_refused _) ten))
     (same-or-apart number 9)
 
 enum-told-2 : tie.Need-enum_told-in_default invariant-loop-number decreases-loop-number
@@ -57,13 +54,12 @@ loop-less c = search rules
 
 loop-again : tie.Need-loop-number-preserved invariant-loop-number decreases-loop-number
 loop-again c =
-    let found = c.before.before in
-    let passed = sym found.first_refused-found.ensures ∙ c.enum_told-in_default-1.given.1 in
-    (omega arith, omega arith, upto-more (λ k. first_refused _ k ≡ Accepted) 9 _ found.before.before.loop-number.invariant.2 passed)
+let passed = sym c.first_refused-found.ensures ∙ c.in_default.is in
+    (omega arith, omega arith, upto-more (λ k. first_refused _ k ≡ Accepted) 9 _ c.loop-number.invariant.2 passed)
 
 returns-2 : tie.Need-returns invariant-loop-number decreases-loop-number
 returns-2 c =
-    let passed = c.before.loop-number.invariant.2 in
+    let passed = c.loop-number.invariant.2 in
     or-next refl (passed 9 (omega arith) (omega arith)) (sym (passed 10 (omega arith) (omega arith)))
 
 pub searched_spec : {M : Type 1} → statement M

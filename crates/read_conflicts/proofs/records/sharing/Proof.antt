@@ -34,9 +34,8 @@ loop-less c = search rules
 
 loop-again : tie.Need-loop-p-preserved invariant-loop-p decreases-loop-p
 loop-again c =
-    let at_loop = c.before.before.before in
-    let known = at_loop.loop-p.invariant.1 in
-    let asked = sym c.before.bit32.ensures in (
+let known = c.loop-p.invariant.1 in
+    let asked = sym c.bit32.ensures in (
       omega arith,
       ⊎_elim
           (λ w. united-with known (asked ∙ w.0.taken) w.1)
@@ -46,7 +45,7 @@ loop-again c =
 
 returns : tie.Need-returns invariant-loop-p decreases-loop-p
 returns c j =
-    let last : c.before.loop-p.p ≡ c.before.before.args.phases = omega arith in rw last at (c.before.loop-p.invariant.1.told j)
+    let last : c.loop-p.p ≡ c.args.phases = omega arith in rw last at (c.loop-p.invariant.1.told j)
 
 pub sharing_spec : {M : Type 1} → statement M
 sharing_spec =

@@ -13,22 +13,20 @@ use Rattle.read_groups.proofs.records.bad_group.Tie as tie
 returns : tie.Need-returns-then-bound-set
 unfolding bad_group
 returns c =
-    let args = c.before.args in
-    rw (le-leb (2 ^ args.phases) args.set (omega (arith, c.before.requires)))
+    let args = c.args in
+    rw (le-leb (2 ^ args.phases) args.set (omega (arith, c.requires)))
 
 returns-2 : tie.Need-returns-then-mark-eq2
 unfolding bad_group
 returns-2 c =
-    let start = c.before.before in
-    let small : start.args.set < 2 ^ start.args.phases = omega (arith, start.requires) in
-    rw (lt-leb (2 ^ start.args.phases) start.args.set small, c.if-mark-eq2.true, ones-counted start.args.phases start.args.set small)
+let small : c.args.set < 2 ^ c.args.phases = omega (arith, c.requires) in
+    rw (lt-leb (2 ^ c.args.phases) c.args.set small, c.if-mark-eq2.true, ones-counted c.args.phases c.args.set small)
 
 returns-3 : tie.Need-returns
 unfolding bad_group
 returns-3 c =
-    let start = c.before.before in
-    let small : start.args.set < 2 ^ start.args.phases = omega (arith, start.requires) in
-    rw (lt-leb (2 ^ start.args.phases) start.args.set small, ne_eqb _ _ c.if-mark-eq2.false) (sym (or-false _))
+let small : c.args.set < 2 ^ c.args.phases = omega (arith, c.requires) in
+    rw (lt-leb (2 ^ c.args.phases) c.args.set small, ne_eqb _ _ c.if-mark-eq2.false) (sym (or-false _))
 
 pub bad_group_spec : {M : Type 1} → statement M
 bad_group_spec = tie.close (tie.spec returns returns-2 returns-3)

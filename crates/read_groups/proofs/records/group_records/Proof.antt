@@ -42,8 +42,8 @@ set-bound-requires c κs = search rules
 -- the bound is that of the site's phases
 bounded :
     (c : tie.After-set_bound-bound invariant-loop-g decreases-loop-g) →
-    c.set_bound-bound.result ≡ min (2 ^ phase_count c.before.before.args.s.now) 512
-bounded c = c.set_bound-bound.ensures ∙ ap (λ (phases : ℕ). min (2 ^ phases) 512) c.before.before.requires.0.phasecount
+    c.set_bound-bound.result ≡ min (2 ^ phase_count c.args.s.now) 512
+bounded c = c.set_bound-bound.ensures ∙ ap (λ (phases : ℕ). min (2 ^ phases) 512) c.requires.0.phasecount
 
 cast-count : tie.Need-overflow_cast-count invariant-loop-g decreases-loop-g
 cast-count c = search rules
@@ -54,8 +54,8 @@ loop-holds c = (omega arith, refl, refl, gathered_none _, refl, crossed-none _)
 
 pair-at-requires : tie.Need-pair_at-group-requires invariant-loop-g decreases-loop-g
 pair-at-requires c κs =
-    let layout = c.before.before.before.before.before.args.layout in
-    omega (arith, record-within layout.groups 2 layout.groupcount c.before.loop-g.g c.loop-g-test.true)
+    let layout = c.args.layout in
+    omega (arith, record-within layout.groups 2 layout.groupcount c.loop-g.g c.loop-g-test.true)
 
 add-place : tie.Need-overflow_add-place invariant-loop-g decreases-loop-g
 add-place c = search rules
@@ -67,45 +67,41 @@ add-place-2 : tie.Need-overflow_add-place-in-loop-g invariant-loop-g decreases-l
 add-place-2 c = search rules
 
 bad-group-requires : tie.Need-bad_group-requires invariant-loop-g decreases-loop-g
-bad-group-requires c κs = c.before.before.before.before.set_bound-bound.ensures
+bad-group-requires c κs = c.set_bound-bound.ensures
 
 -- where record g stands
 place :
     (c : tie.At-loop-g invariant-loop-g decreases-loop-g) →
-    let at_start = c.before.before.before.before in
-    at_start.args.layout.groups + 4 + c.loop-g.g * 2 ≡ record_at (groups_head at_start.args.s.now) 2 c.loop-g.g
+c.args.layout.groups + 4 + c.loop-g.g * 2 ≡ record_at (groups_head c.args.s.now) 2 c.loop-g.g
 unfolding record_at body_at
-place c = omega (arith, c.before.before.before.before.requires.0.groups)
+place c = omega (arith, c.requires.0.groups)
 
 -- what record g holds, and whether it is bad
 record_read :
     (c : tie.After-bad_group invariant-loop-g decreases-loop-g) →
-    let at_loop = c.before.before.before in
-    let b = at_loop.before.before.before.before.args.s.now in
-    let g = at_loop.loop-g.g in
-    (c.before.pair_at-group.result.first ≡ group_set b g)
-    × (c.before.pair_at-group.result.second ≡ group_mark b g)
+let b = c.args.s.now in
+    let g = c.loop-g.g in
+    (c.pair_at-group.result.first ≡ group_set b g)
+    × (c.pair_at-group.result.second ≡ group_mark b g)
     × (c.bad_group.result ≡ bad_group (phase_count b) (group_set b g) (group_mark b g))
 unfolding group_set group_mark
 record_read c =
-    let at_loop = c.before.before.before in
-    let laid = at_loop.before.before.before.before.requires.0 in
+let laid = c.requires.0 in
     let head = laid.groups in
-    let set = rw head at c.before.pair_at-group.ensures.0 in
-    let mark = rw head at c.before.pair_at-group.ensures.1 in
+    let set = rw head at c.pair_at-group.ensures.0 in
+    let mark = rw head at c.pair_at-group.ensures.1 in
     (set, mark, c.bad_group.ensures ∙ rw (laid.phasecount, set, mark))
 
 -- record g is the first that does not pass
 refused_at :
     (c : tie.After-bad_group invariant-loop-g decreases-loop-g) {v : Verdict} {k p : ℕ} →
-    let at_loop = c.before.before.before in
-    let b = at_loop.before.before.before.before.args.s.now in
-    v ≡ group_record b at_loop.loop-g.g →
+let b = c.args.s.now in
+    v ≡ group_record b c.loop-g.g →
     v ≡ Refused k p →
     v ≡ (first_of (group_record b) (group_count b) or_else refuse_if (phase_without_group b) 8 (groups_head b))
 refused_at c e r =
     let at_loop = c.before.before.before in
-    or-stop _ (first-stop _ _ at_loop.loop-g.g (omega arith) at_loop.loop-g.invariant.2 e r) r
+    or-stop _ (first-stop _ _ at_loop.loop.g (omega arith) at_loop.loop.invariant.2 e r) r
 
 refused-requires : tie.Need-refused-requires invariant-loop-g decreases-loop-g
 refused-requires c κs = search rules
@@ -113,11 +109,9 @@ refused-requires c κs = search rules
 returns : tie.Need-returns-then-bad_group invariant-loop-g decreases-loop-g
 unfolding group_record
 returns c =
-    let at_test = c.before in
-    let at_record = at_test.before in
-    let bad = sym (record_read at_record).2 ∙ at_test.if-bad_group.true in
+let bad = sym (record_read c.before.before).2 ∙ c.if-bad_group.true in
     refused-told _ c.refused.ensures
-    (refused_at at_record (or-stop _ (ap (Refused 6) (place at_record.before.before.before) ∙ refuse-yes 6 _ bad) refl) refl)
+    (refused_at c.before.before (or-stop _ (ap (Refused 6) (place c.before.before.before.before.before) ∙ refuse-yes 6 _ bad) refl) refl)
 
 refused-requires-2 : tie.Need-refused-requires-then-movements-eq8 invariant-loop-g decreases-loop-g
 refused-requires-2 c κs = search rules
@@ -125,22 +119,17 @@ refused-requires-2 c κs = search rules
 returns-2 : tie.Need-returns-then-movements-eq8 invariant-loop-g decreases-loop-g
 unfolding group_record pedestrian ninth_pedestrian
 returns-2 c =
-    let at_test = c.before in
-    let at_record = at_test.before.before.before in
-    let at_loop = at_record.before.before.before in
-    let good = sym (record_read at_record).2 ∙ at_test.before.before.if-bad_group.false in
-    let marked = eq-eqb _ _ (sym (record_read at_record).1 ∙ at_test.before.if-mark-eq2.true) in
-    let eight = eq-eqb _ _ (sym at_loop.loop-g.invariant.1 ∙ at_test.if-movements-eq8.true) in
+let good = sym (record_read c.before.before.before.before).2 ∙ c.if-bad_group.false in
+    let marked = eq-eqb _ _ (sym (record_read c.before.before.before.before).1 ∙ c.if-mark-eq2.true) in
+    let eight = eq-eqb _ _ (sym c.loop-g.invariant.1 ∙ c.if-movements-eq8.true) in
     refused-told _ c.refused-then-movements-eq8.ensures
-    (refused_at at_record
-    (or-next refl (refuse-no 6 _ good) (ap (Refused 7) (place at_loop) ∙ refuse-yes 7 _ (and_both marked eight)))
+    (refused_at c.before.before.before.before
+    (or-next refl (refuse-no 6 _ good) (ap (Refused 7) (place c.before.before.before.before.before.before.before) ∙ refuse-yes 7 _ (and_both marked eight)))
     refl)
 
 add-movements : tie.Need-overflow_add-movements invariant-loop-g decreases-loop-g
 add-movements c =
-    let at_loop = c.before.before.before.before.before.before in
-    let at_start = at_loop.before.before.before.before in
-    omega (arith, count_most (pedestrian at_start.args.s.now) at_loop.loop-g.g)
+omega (arith, count_most (pedestrian c.args.s.now) c.loop-g.g)
 
 add-g : tie.Need-overflow_add-g invariant-loop-g decreases-loop-g
 add-g c = search rules
@@ -150,25 +139,23 @@ loop-less c = search rules
 
 -- after the mark of group g was asked for: the count and the set go on, and the group is not the ninth pedestrian one
 counted :
-    (c : tie.Joined-mark-eq2 invariant-loop-g decreases-loop-g) →
-    let at_loop = c.before.before.before.before.before in
-    let b = at_loop.before.before.before.before.args.s.now in
-    let g = at_loop.loop-g.g in
+    (c : tie.Joined2 invariant-loop-g decreases-loop-g) →
+let b = c.args.s.now in
+    let g = c.loop-g.g in
     (c.if-mark-eq2.movements ≡ count_of (pedestrian b) (g + 1)) × CrossedPhases b c.if-mark-eq2.crossed (g + 1) × (ninth_pedestrian b g ≡ false)
 unfolding pedestrian ninth_pedestrian
 counted c =
-    let at_loop = c.before.before.before.before.before in
-    let b = at_loop.before.before.before.before.args.s.now in
-    let g = at_loop.loop-g.g in
-    let before = at_loop.loop-g.invariant.1 in
-    let crossed = at_loop.loop-g.invariant.5 in
+let b = c.args.s.now in
+    let g = c.loop-g.g in
+    let before = c.loop-g.invariant.1 in
+    let crossed = c.loop-g.invariant.5 in
     let read = record_read c.before.before in
     let mark = read.1 in
     ⊎_elim
     (λ w.
     let walks = eq-eqb _ _ (sym mark ∙ w.0.taken) in (
       w.2 ∙ count-one-more _ _ before walks,
-      subst (λ (set : ℕ). CrossedPhases b set (g + 1)) (sym w.3) (crossed-more b crossed read.0 (sym read.2 ∙ c.before.if-bad_group.false) walks),
+      subst (λ (set : ℕ). CrossedPhases b set (g + 1)) (sym w.3) (crossed-more b crossed read.0 (sym read.2 ∙ c.if-bad_group.false) walks),
       and-false-right (pedestrian b g) (ne_eqb _ _ (λ e. w.1.left (before ∙ e))),
     ))
     (λ w.
@@ -182,37 +169,35 @@ counted c =
 loop-again : tie.Need-loop-g-preserved invariant-loop-g decreases-loop-g
 unfolding stops_early any_of
 loop-again c =
-    let at_record = c.before.before in
-    let at_loop = at_record.before.before.before in
-    let read = record_read at_record in
-    let good = sym read.2 ∙ c.before.if-bad_group.false in (
+let read = record_read c.before.before in
+    let good = sym read.2 ∙ c.if-bad_group.false in (
       omega arith,
       (counted c).0,
-      first_more _ _ at_loop.loop-g.invariant.2 (group-passed _ _ good (counted c).2),
-      gathered-more _ _ _ (omega arith) read.0 good at_loop.loop-g.invariant.3,
-      rw add-one (ap₂ (λ s t. s || t) at_loop.loop-g.invariant.4 (ap (λ m. eqb m 3) read.1)),
+      first_more _ _ c.loop-g.invariant.2 (group-passed _ _ good (counted c).2),
+      gathered-more _ _ _ (omega arith) read.0 good c.loop-g.invariant.3,
+      rw add-one (ap₂ (λ s t. s || t) c.loop-g.invariant.4 (ap (λ m. eqb m 3) read.1)),
       (counted c).1,
     )
 
 cast-if4 : tie.Need-overflow_cast-served invariant-loop-g decreases-loop-g
-cast-if4 c = omega (arith, c.before.loop-g.invariant.3.0)
+cast-if4 c = omega (arith, c.loop-g.invariant.3.0)
 
 add-if4 : tie.Need-overflow_add-served invariant-loop-g decreases-loop-g
-add-if4 c = omega (arith, c.before.loop-g.invariant.3.0)
+add-if4 c = omega (arith, c.loop-g.invariant.3.0)
 
 -- every record has passed: the answer is that of number 8
 after_records :
     (c : tie.After-loop-g invariant-loop-g decreases-loop-g) →
-    let b = c.before.before.before.before.before.args.s.now in
+    let b = c.args.s.now in
     ((v : Verdict) →
     v ≡ refuse_if (phase_without_group b) 8 (groups_head b) →
     v ≡ (first_of (group_record b) (group_count b) or_else refuse_if (phase_without_group b) 8 (groups_head b)))
-    × Gathered b c.before.loop-g.served (group_count b)
-    × (c.before.loop-g.g ≡ group_count b)
+    × Gathered b c.loop-g.served (group_count b)
+    × (c.loop-g.g ≡ group_count b)
 after_records c =
-    let b = c.before.before.before.before.before.args.s.now in
-    let last : c.before.loop-g.g ≡ group_count b = omega arith in
-    let inv = c.before.loop-g.invariant in (
+    let b = c.args.s.now in
+    let last : c.loop-g.g ≡ group_count b = omega arith in
+    let inv = c.loop-g.invariant in (
       λ v e. or-next (first_done _ _ _ inv.2 last) refl e,
       rw (← last) inv.3,
       last,
@@ -222,7 +207,7 @@ returns-3 : tie.Need-returns-then-served-bound invariant-loop-g decreases-loop-g
 unfolding movement_count
 returns-3 c =
     let passed = after_records c.before in
-    let inv = c.before.before.loop-g.invariant in
+    let inv = c.loop-g.invariant in
     record {
       verdict =
           passed.0 _ (sym (refuse-no 8 _ (all-served _ _ (bounded c.before.before.before.before) passed.1 c.if-served-bound.true)));
@@ -236,13 +221,11 @@ refused-requires-3 c κs = search rules
 
 returns-4 : tie.Need-returns invariant-loop-g decreases-loop-g
 returns-4 c =
-    let at_test = c.before in
-    let passed = after_records at_test.before in
-    let at_bound = at_test.before.before.before.before in
-    refused-told _ c.refused-2.ensures
+let passed = after_records c.before.before in
+refused-told _ c.refused-2.ensures
     (passed.0 _
-    (ap (Refused 8) at_bound.before.before.requires.0.groups
-    ∙ refuse-yes 8 _ (one-unserved _ _ (bounded at_bound) passed.1 at_test.if-served-bound.false)))
+    (ap (Refused 8) c.requires.0.groups
+    ∙ refuse-yes 8 _ (one-unserved _ _ (bounded c.before.before.before.before.before) passed.1 c.if-served-bound.false)))
 
 pub group_records_spec : {M : Type 1} → statement M
 group_records_spec =

@@ -16,27 +16,24 @@ enum_told c = search rules
 -- the head is held to the length that N needs
 checked :
     (c : tie.After-sized_section-head) →
-    let b = c.before.before.before.args.s.now in
+    let b = c.args.s.now in
     c.sized_section-head.result ≡ section_at b (groups_head b) 3 (eqb (body_length b (groups_head b)) (group_count b * 2))
-checked c = let laid = c.before.before.before.requires in rw (laid.groups, laid.groupcount) at c.sized_section-head.ensures
+checked c = let laid = c.requires in rw (laid.groups, laid.groupcount) at c.sized_section-head.ensures
 
 returns : tie.Need-returns-in-Refused
 unfolding groups_section
 returns c =
-    let told = c.before in
-    let head = told.enum_told-1.given.1 in
-    refused-told _ (c.refused.ensures ∙ head) (sym head ∙ or-stop _ (checked told.before.before) head)
+let head = c.in-Refused.is in
+    refused-told _ (c.refused.ensures ∙ head) (sym head ∙ or-stop _ (checked c.before.before) head)
 
 group-records-requires : tie.Need-group_records-requires
 group-records-requires c κs =
-    let at_section = c.before.before in
-    (at_section.before.before.before.requires, records-held _ _ 3 _ 2 (sym at_section.sized_section-head.ensures ∙ c.enum_told-in_default-1.given.1))
+(c.requires, records-held _ _ 3 _ 2 (sym c.sized_section-head.ensures ∙ c.in_default.is))
 
 returns-2 : tie.Need-returns
 unfolding groups_section
 returns-2 c =
-    let passed = c.before in
-    told-next _ (checked passed.before.before) passed.enum_told-in_default-1.given.1 c.group_records.ensures
+told-next _ (checked c.before.before) c.in_default.is c.group_records.ensures
 
 pub groups_section_spec : {M : Type 1} → statement M
 groups_section_spec =

@@ -6,7 +6,7 @@ use Rattle.read_groups.proofs.sets.group_set.Tie as tie
 
 returns : tie.Need-returns
 unfolding group_set record_at body_at
-returns c = let head = c.before.before.before.requires.0.groups in rw (← head) c.byte_at.ensures
+returns c = let head = c.requires.0.groups in rw (← head) c.byte_at.ensures
 
 pub group_set_spec : {M : Type 1} → statement M
 group_set_spec = tie.close (tie.spec (λ c. search rules) (λ c. search rules) (λ c. search rules) (λ c κs. search rules) returns)

@@ -25,62 +25,59 @@ enum_told c = search rules
 
 returns : tie.Need-returns-in-Refused
 unfolding after_pedestrians
-returns c = or-stop _ c.before.before.early_section-times.ensures c.enum_told-1.given.1
+returns c = or-stop _ c.early_section-times.ensures c.in-Refused.is
 
 -- kind 7 has passed: the answer is that of what follows
 past_early :
     (c : tie.In_default) {v : Verdict} →
-    let b = c.before.before.before.before.args.s.now in
+    let b = c.args.s.now in
     v ≡ (order_section b or_else callers b or_else early_missing b or_else rest_from b) →
     v ≡ after_pedestrians b
 unfolding after_pedestrians
-past_early c e = or-next c.before.before.early_section-times.ensures c.enum_told-in_default-1.given.1 e
+past_early c e = or-next c.before.before.early-section.ensures c.enum-told2.given.1 e
 
 returns-2 : tie.Need-returns-in-Refused-order
-returns-2 c = past_early c.before.before.before (or-stop _ c.before.before.order_section-order.ensures c.enum_told-in-Refused-order-1.given.1)
+returns-2 c = past_early c.before.before (or-stop _ c.order_section-order.ensures c.in-Refused-order.is)
 
 -- and so has kind 9
 past_order :
     (c : tie.In_default-order) {v : Verdict} →
-    let b = c.before.before.before.before.before.before.before.args.s.now in
+    let b = c.args.s.now in
     v ≡ (callers b or_else early_missing b or_else rest_from b) →
     v ≡ after_pedestrians b
 past_order c e =
-    past_early c.before.before.before (or-next c.before.before.order_section-order.ensures c.enum_told-in_default-order-1.given.1 e)
+    past_early c.before.before.before (or-next c.before.before.order-section.ensures c.enum-told4.given.1 e)
 
 returns-3 : tie.Need-returns-then-not-each_called
 returns-3 c =
-    let call = c.before in
-    let laid = call.before.before.before.before.before.before.before.before.requires.0 in
-    past_order call.before
+let laid = c.requires.0 in
+    past_order c.before.before
     (or-stop _
     (ap (Refused 21) laid.detectors
-    ∙ refuse-yes 21 _ (not-false _ (sym call.each_called.ensures ∙ not-true _ c.if-not-each_called.true)))
+    ∙ refuse-yes 21 _ (not-false _ (sym c.each_called.ensures ∙ not-true _ c.if-not-each_called.true)))
     refl)
 
 -- and each phase has a caller
 past_callers :
     (c : tie.Else-not-each_called) {v : Verdict} →
-    let b = c.before.before.before.before.before.before.before.before.before.args.s.now in
+    let b = c.args.s.now in
     v ≡ (early_missing b or_else rest_from b) →
     v ≡ after_pedestrians b
 past_callers c e =
     let call = c.before in
     past_order call.before
-    (or-next refl (refuse-no 21 _ (not-true _ (sym call.each_called.ensures ∙ not-false _ c.if-not-each_called.false))) e)
+    (or-next refl (refuse-no 21 _ (not-true _ (sym call.each-called.ensures ∙ not-false _ c.if1.false))) e)
 
 returns-4 : tie.Need-returns-in-Refused-missing
-returns-4 c = past_callers c.before.before.before (or-stop _ c.before.before.early_missing-missing.ensures c.enum_told-in-Refused-missing-1.given.1)
+returns-4 c = past_callers c.before.before (or-stop _ c.early_missing-missing.ensures c.in-Refused-missing.is)
 
 returns-5 : tie.Need-returns
 unfolding end_of
 returns-5 c =
-    let passed = c.before.before in
-    let missing = passed.before.before in
-    let laid = missing.before.before.before.before.before.before.before.before.before.before.requires.0 in
-    past_callers missing.before
-    (or-next missing.early_missing-missing.ensures passed.enum_told-in_default-missing-1.given.1
-    (rw (c.before.past_section.ensures.0, laid.order, laid.hasorder) at c.left_over.ensures))
+let laid = c.requires.0 in
+    past_callers c.before.before.before.before
+    (or-next c.early_missing-missing.ensures c.in_default-missing.is
+    (rw (c.past_section.ensures.0, laid.order, laid.hasorder) at c.left_over.ensures))
 
 pub after_pedestrians_spec : {M : Type 1} → statement M
 after_pedestrians_spec =

@@ -12,13 +12,12 @@ returns c = λ old follows held. c.greens_in.ensures
 
 returns-2 : tie.Need-returns
 returns-2 c =
-    let start = c.before.before.before.before in
-    let site = start.args.site in
-    let new = start.args.state in
-    let begins = eqb new.position-1.age 1 in
+let site = c.args.site in
+    let new = c.args.state in
+    let begins = eqb new.position.age 1 in
     λ old follows held.
-    green-kept site start.requires (or-false-right begins site.early c.if-position-site.false) old new start.args.greens
-    (eqb-false new.position-1.age 1 (or-false-left begins site.early c.if-position-site.false))
+    green-kept site c.requires (or-false-right begins site.early c.if-position-site.false) old new c.args.greens
+    (eqb-false new.position.age 1 (or-false-left begins site.early c.if-position-site.false))
     follows held
 
 pub greens_after_spec : {M : Type 1} → statement M

@@ -30,18 +30,17 @@ cast-group : tie.Need-overflow_cast-group invariant-loop-g decreases-loop-g
 cast-group c = search rules
 
 mul-group : tie.Need-offset_bounds-groups-g invariant-loop-g decreases-loop-g
-mul-group c = omega (arith, c.loop-g-test.true, c.before.before.requires)
+mul-group c = omega (arith, c.loop-g-test.true, c.requires)
 
 array-copy-out-group : tie.Need-bounds-groups-g invariant-loop-g decreases-loop-g
-array-copy-out-group c = omega (arith, c.loop-g-test.true, c.before.before.requires)
+array-copy-out-group c = omega (arith, c.loop-g-test.true, c.requires)
 
 vehicle-shown-requires : tie.Need-vehicle_shown-shown-requires invariant-loop-g decreases-loop-g
 vehicle-shown-requires c κs = search rules
 
 with-bit-requires : tie.Need-with_bit-greens-requires invariant-loop-g decreases-loop-g
 with-bit-requires c κs =
-    let turn = c.before.before.before in
-    omega (arith, turn.loop-g-test.true, turn.before.before.requires)
+omega (arith, c.loop-g-test.true, c.requires)
 
 add-g : tie.Need-overflow_add-g invariant-loop-g decreases-loop-g
 add-g c = search rules
@@ -52,16 +51,14 @@ loop-less c = search rules
 loop-again : tie.Need-loop-g-preserved invariant-loop-g decreases-loop-g
 unfolding group_of
 loop-again c =
-    let seen = c.before.before in
-    let turn = seen.before.before in (
+(
       search rules,
-      greens-more turn.before.loop-g.invariant.1 (ap (λ (shown : ℕ). eqb shown green) seen.vehicle_shown-shown.ensures) c.with_bit-greens.ensures,
+      greens-more c.loop-g.invariant.1 (ap (λ (shown : ℕ). eqb shown green) c.vehicle_shown-shown.ensures) c.with_bit-greens.ensures,
     )
 
 returns : tie.Need-returns invariant-loop-g decreases-loop-g
 returns c =
-    let at = c.before in
-    λ g l. at.loop-g.invariant.1.passed g (omega (arith, l, c.loop-g-test.false))
+λ g l. c.loop-g.invariant.1.passed g (omega (arith, l, c.loop-g-test.false))
 
 pub greens_at_spec : {M : Type 1} → statement M
 greens_at_spec =

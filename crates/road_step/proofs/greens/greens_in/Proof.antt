@@ -5,13 +5,11 @@ use Rattle.road_step.proofs.greens.greens_in.Statement.{statement}
 use Rattle.road_step.proofs.greens.greens_in.Tie as tie
 
 greens-at-requires : tie.Need-greens_at-requires
-greens-at-requires c κs = c.before.before.before.before.requires.groups.1
+greens-at-requires c κs = c.requires.groups.1
 
 returns : tie.Need-returns
 returns c =
-    let closed = c.before in
-    let start = closed.before.before.before.before in
-    green-in start.args.site start.requires start.args.state c.greens_at.result (rw closed.closing_there-closes.ensures at c.greens_at.ensures)
+green-in c.args.site c.requires c.args.state c.greens_at.result (rw c.closing_there-closes.ensures at c.greens_at.ensures)
 
 pub greens_in_spec : {M : Type 1} → statement M
 greens_in_spec = tie.close (tie.spec (λ c κs. search rules) greens-at-requires returns)

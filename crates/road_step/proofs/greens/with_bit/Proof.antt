@@ -21,21 +21,21 @@ one_below k n l = omega (arith, pow_mono {i = suc k} {j = n} l, pow-succ' 2 k, p
 
 returns : tie.Need-returns-then-on
 returns c =
-    let a = c.before.args in
+    let a = c.args in
     record {
       bits =
           λ d.
-          rw (shifted 64 a.k (omega (arith, c.before.requires)), bit-or d a.bits (1 * 2 ^ a.k), bit-one a.k d, c.if-on.true)
+          rw (shifted 64 a.k (omega (arith, c.requires)), bit-or d a.bits (1 * 2 ^ a.k), bit-one a.k d, c.if-on.true)
           (ap (λ (t : Bool). bit d a.bits || t) (sym (and-true (eqb a.k d))));
       below =
           λ small.
-          rw (shifted 64 a.k (omega (arith, c.before.requires)))
-          (or_lt 48 a.bits (1 * 2 ^ a.k) small (one_below a.k 48 c.before.requires));
+          rw (shifted 64 a.k (omega (arith, c.requires)))
+          (or_lt 48 a.bits (1 * 2 ^ a.k) small (one_below a.k 48 c.requires));
     }
 
 returns-2 : tie.Need-returns
 returns-2 c =
-    let a = c.before.args in
+    let a = c.args in
     record {
       bits =
           λ d.

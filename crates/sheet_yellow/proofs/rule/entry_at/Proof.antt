@@ -12,21 +12,21 @@ ceiling-most speed column l = div-le_of_le-mul (divisor_at column) (omega arith)
 
 add-steps : tie.Need-overflow_add-steps
 add-steps c =
-    let a = c.before.args in
-    record { fits = omega (arith, ceiling-most a.speed a.column c.before.requires.0, c.ceiling-steps.ensures) }
+    let a = c.args in
+    record { fits = omega (arith, ceiling-most a.speed a.column c.requires.0, c.ceiling-steps.ensures) }
 
 cast-result : tie.Need-overflow_cast-result
 cast-result c =
-    let a = c.before.before.args in
-    record { fits = omega (arith, ceiling-most a.speed a.column c.before.before.requires.0, c.before.ceiling-steps.ensures) }
+    let a = c.args in
+    record { fits = omega (arith, ceiling-most a.speed a.column c.requires.0, c.ceiling-steps.ensures) }
 
 returns : tie.Need-returns-then-steps-lt30
 unfolding entry_at
-returns c = omega (arith, c.before.ceiling-steps.ensures)
+returns c = omega (arith, c.ceiling-steps.ensures)
 
 returns-2 : tie.Need-returns-else-steps-lt30
 unfolding entry_at
-returns-2 c = omega (arith, c.before.ceiling-steps.ensures)
+returns-2 c = omega (arith, c.ceiling-steps.ensures)
 
 pub entry_at_spec : {M : Type 1} → statement M
 entry_at_spec =

@@ -9,13 +9,10 @@ use Rattle.state_bytes.proofs.counts.put.Tie as tie
 
 returns : tie.Need-returns
 returns c =
-    let second = c.before.before in
-    let first = second.before.before.before.before in
-    let start = first.before.before.before in
-    let b = start.args.bytes.now in
-    let at = start.args.at in
+let b = c.args.bytes.now in
+    let at = c.args.at in
     let further : at + 2 ≡ suc (suc at) = omega arith in
-    rw (second.put_two-2.ensures, first.put_two.ensures, add-zero at, further)
+    rw (c.put_two-2.ensures, c.put_two.ensures, add-zero at, further)
 
 pub put_spec : {M : Type 1} → statement M
 put_spec =

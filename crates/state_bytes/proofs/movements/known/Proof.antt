@@ -42,17 +42,16 @@ loop-less c = search rules
 
 loop-again : tie.Need-loop-k-preserved invariant-loop-k decreases-loop-k
 unfolding byte_at
-loop-again c = rw (joined-below 2 _ _) (tested-more c.before.before.loop-k.invariant (omega arith) refl)
+loop-again c = rw (joined-below 2 _ _) (tested-more c.loop-k.invariant (omega arith) refl)
 
 stage-known-requires : tie.Need-stage_known-requires invariant-loop-k decreases-loop-k
 stage-known-requires c κs = search rules
 
 returns : tie.Need-returns invariant-loop-k decreases-loop-k
 returns c =
-    let left = c.before in
-    let args = left.before.before.before.args in
+let args = c.args in
     c.stage_known.ensures
-    ∙ tested-all left.before.loop-k.invariant left.loop-k-test.false
+    ∙ tested-all c.loop-k.invariant c.loop-k-test.false
     ∙ sym (movements-tested args.bytes.now args.at 8)
 
 pub known_spec : {M : Type 1} → statement M

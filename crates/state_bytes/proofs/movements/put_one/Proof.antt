@@ -11,14 +11,12 @@ put-two-requires : tie.Need-put_two-requires
 put-two-requires c κs = simp length-set (omega arith)
 
 same_length : tie.Need-shape_of-bytes
-same_length c = rw c.before.before.put_two.ensures (simp length-set)
+same_length c = rw c.put_two.ensures (simp length-set)
 
 returns : tie.Need-returns
 returns c =
-    let age = c.before.before in
-    let row = age.before.before in
-    let at = row.before.before.args.at in
-    rw (age.put_two.ensures, row.stage_row-row.ensures, add-zero at, add-one at)
+let at = c.args.at in
+    rw (c.put_two.ensures, c.stage_row-row.ensures, add-zero at, add-one at)
 
 pub put_one_spec : {M : Type 1} → statement M
 put_one_spec =

@@ -32,10 +32,9 @@ add-read-one c = search rules
 
 read-one-requires : tie.Need-read_one-requires invariant-loop-k decreases-loop-k
 read-one-requires c κs =
-    let turn = c.before in
-    let start = turn.before.before in (
+(
       omega arith,
-      all-at (λ k. movement.known start.args.bytes.now (start.args.at + k * 3)) 8 turn.loop-k.k start.requires.1 c.loop-k-test.true,
+      all-at (λ k. movement.known c.args.bytes.now (c.args.at + k * 3)) 8 c.loop-k.k c.requires.1 c.loop-k-test.true,
     )
 
 mul-records : tie.Need-offset_bounds-records-k invariant-loop-k decreases-loop-k
@@ -52,14 +51,13 @@ loop-less c = search rules
 
 loop-again : tie.Need-loop-k-preserved invariant-loop-k decreases-loop-k
 loop-again c =
-    let turn = c.before.before in
-    let args = turn.before.before.args in
-    stored_one (λ k. movement.read args.bytes.now (args.at + k * 3)) turn.loop-k.invariant (omega arith) (omega arith) c.read_one.ensures
+let args = c.args in
+    stored_one (λ k. movement.read args.bytes.now (args.at + k * 3)) c.loop-k.invariant (omega arith) (omega arith) c.read_one.ensures
 
 returns : tie.Need-returns invariant-loop-k decreases-loop-k
 returns c =
-    let args = c.before.before.before.args in
-    stored-all c.before.loop-k.invariant c.loop-k-test.false
+    let args = c.args in
+    stored-all c.loop-k.invariant c.loop-k-test.false
     ∙ sets-whole (replicate 8 idle) _ (list_length (λ k. movement.read args.bytes.now (args.at + k * 3)) 8)
 
 pub read_spec : {M : Type 1} → statement M

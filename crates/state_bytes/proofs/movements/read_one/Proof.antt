@@ -9,12 +9,11 @@ use Rattle.state_bytes.proofs.movements.read_one.Tie as tie
 stage-of-requires : tie.Need-stage_of-requires
 unfolding byte_at
 stage-of-requires c κs =
-    let start = c.before.before in
-    stage-told start.args.bytes.now start.args.at start.requires.1
+stage-told c.args.bytes.now c.args.at c.requires.1
 
 returns : tie.Need-returns
 unfolding byte_at
-returns c = rw (c.two_in.ensures, c.before.stage_of.ensures, add-zero)
+returns c = rw (c.two_in.ensures, c.stage_of.ensures, add-zero)
 
 pub read_one_spec : {M : Type 1} → statement M
 read_one_spec =

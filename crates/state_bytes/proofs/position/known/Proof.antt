@@ -8,7 +8,7 @@ use Rattle.state_bytes.proofs.position.known.Tie as tie
 returns : tie.Need-returns
 unfolding byte_at
 returns c =
-    rw (c.held_known-2.ensures, c.before.held_known.ensures, c.before.before.interval_known.ensures) (simp and-true)
+    rw (c.held_known-2.ensures, c.held_known.ensures, c.interval_known.ensures) (simp and-true)
 
 pub known_spec : {M : Type 1} → statement M
 known_spec =

@@ -16,33 +16,27 @@ put-two-requires : tie.Need-put_two-requires
 put-two-requires c κs = simp length-set (omega arith)
 
 put-held-requires : tie.Need-put_held-requires
-put-held-requires c κs = omega (arith, simp length-set at c.before.before.before.put_two.auto.0)
+put-held-requires c κs = omega (arith, simp length-set at c.put_two.auto.0)
 
 put-held-requires-2 : tie.Need-put_held-requires-2
 put-held-requires-2 c κs =
-    let previous = c.before.before.before in
-    omega (arith, simp length-set at previous.before.before.before.before.put_two.auto.0)
+omega (arith, simp length-set at c.put_two.auto.0)
 
 same_length : tie.Need-shape_of-bytes
 same_length c =
-    let previous = c.before.before.before.before.before.before in
-    omega (arith, simp length-set at previous.before.before.before.before.put_two.auto.0)
+omega (arith, simp length-set at c.put_two.auto.0)
 
 returns : tie.Need-returns
 returns c =
-    let target = c.before.before in
-    let previous = target.before.before.before.before in
-    let age = previous.before.before.before.before in
-    let row = age.before.before in
-    let at = row.before.before.args.at in
+let at = c.args.at in
     let two : at + 2 ≡ suc (suc at) = omega arith in
     let four : at + 4 ≡ suc (suc (suc (suc at))) = omega arith in
     let six : at + 6 ≡ suc (suc (suc (suc (suc (suc at))))) = omega arith in
     rw (
-      target.put_held-2.ensures,
-      previous.put_held.ensures,
-      age.put_two.ensures,
-      row.interval_row-row.ensures,
+      c.put_held-2.ensures,
+      c.put_held.ensures,
+      c.put_two.ensures,
+      c.interval_row-row.ensures,
       add-zero at,
       add-one at,
       two,

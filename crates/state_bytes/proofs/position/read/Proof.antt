@@ -26,9 +26,9 @@ unfolding byte_at
 returns c =
     rw (
       c.get_held-2.ensures,
-      c.before.get_held.ensures,
-      c.before.before.two_in.ensures,
-      c.before.before.before.interval_of.ensures,
+      c.get_held.ensures,
+      c.two_in.ensures,
+      c.interval_of.ensures,
       add-zero,
     )
 

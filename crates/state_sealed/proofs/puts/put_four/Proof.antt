@@ -10,11 +10,9 @@ use Rattle.state_sealed.proofs.puts.put_four.Tie as tie
 returns : tie.Need-returns
 unfolding two four
 returns c =
-    let second = c.before.before in
-    let first = second.before.before.before.before in
-    let a = first.before.before.before.args in
-    rw (second.put_two-2.ensures, first.put_two.ensures)
-    (sets-next a.bytes-1.now (two (a.x % 65536)) (two (a.x / 65536)) a.at (a.at + 2) refl)
+let a = c.args in
+    rw (c.put_two-2.ensures, c.put_two.ensures)
+    (sets-next a.bytes.now (two (a.x % 65536)) (two (a.x / 65536)) a.at (a.at + 2) refl)
 
 pub put_four_spec : {M : Type 1} → statement M
 put_four_spec =

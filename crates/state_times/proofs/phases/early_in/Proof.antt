@@ -4,16 +4,16 @@ use Rattle.state_times.proofs.phases.early_in.Statement.{statement}
 use Rattle.state_times.proofs.phases.early_in.Tie as tie
 
 mul-two-in : tie.Need-overflow_mul-p
-mul-two-in c = omega (arith, c.before.before.requires c.if-present.true)
+mul-two-in c = omega (arith, c.requires c.if-present.true)
 
 add-two-in : tie.Need-overflow_add-early
-add-two-in c = omega (arith, c.before.before.requires c.if-present.true)
+add-two-in c = omega (arith, c.requires c.if-present.true)
 
 two-in-requires : tie.Need-two_in-requires
-two-in-requires c κs = omega (arith, c.before.before.requires c.if-present.true)
+two-in-requires c κs = omega (arith, c.requires c.if-present.true)
 
 returns : tie.Need-returns-then-present
-returns c = rw c.before.if-present.true c.two_in.ensures
+returns c = rw c.if-present.true c.two_in.ensures
 
 returns-2 : tie.Need-returns
 returns-2 c = rw c.if-present.false

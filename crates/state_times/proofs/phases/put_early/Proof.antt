@@ -40,7 +40,7 @@ add-put-two : tie.Need-overflow_add-at invariant-loop-p decreases-loop-p
 add-put-two c = search rules
 
 put-two-requires : tie.Need-put_two-requires invariant-loop-p decreases-loop-p
-put-two-requires c κs = omega (arith, stored-length c.before.before.before.loop-p.invariant)
+put-two-requires c κs = omega (arith, stored-length c.loop-p.invariant)
 
 add-p : tie.Need-overflow_add-p invariant-loop-p decreases-loop-p
 add-p c = search rules
@@ -50,17 +50,16 @@ loop-less c = search rules
 
 loop-again : tie.Need-loop-p-preserved invariant-loop-p decreases-loop-p
 loop-again c =
-    let turn = c.before.before.before.before.before in
-    let own = turn.before.before.before.args.t3 in
-    rw c.before.before.put_two.ensures
-    (stored-record (λ k. two.written (get_or (map early_of own) k 0)) 2 (λ k. refl) _ _ turn.before.loop-p.invariant turn.loop-p-test.true refl
-    (ap two.written (sym (get_or-map early_of own turn.before.loop-p.p no_phase_times))))
+let own = c.args.t3 in
+    rw c.put_two.ensures
+    (stored-record (λ k. two.written (get_or (map early_of own) k 0)) 2 (λ k. refl) _ _ c.loop-p.invariant c.loop-p-test.true refl
+    (ap two.written (sym (get_or-map early_of own c.loop-p.p no_phase_times))))
 
 same_length : tie.Need-shape_of-bytes invariant-loop-p decreases-loop-p
-same_length c = stored-length c.before.loop-p.invariant
+same_length c = stored-length c.loop-p.invariant
 
 returns : tie.Need-returns invariant-loop-p decreases-loop-p
-returns c = stored-all c.before.loop-p.invariant c.loop-p-test.false
+returns c = stored-all c.loop-p.invariant c.loop-p-test.false
 
 pub put_early_spec : {M : Type 1} → statement M
 put_early_spec =

@@ -8,25 +8,19 @@ use Rattle.state_times.proofs.phases.put_one.Tie as tie
 
 returns : tie.Need-returns
 returns c =
-    let sixth = c.before.before in
-    let fifth = sixth.before.before.before.before in
-    let fourth = fifth.before.before.before.before in
-    let third = fourth.before.before.before.before in
-    let second = third.before.before.before.before in
-    let first = second.before.before.before.before in
-    let at = first.before.before.before.args.at in
+let at = c.args.at in
     let two : at + 2 ≡ suc (suc at) = omega arith in
     let four : at + 4 ≡ suc (suc (at + 2)) = omega arith in
     let six : at + 6 ≡ suc (suc (at + 4)) = omega arith in
     let eight : at + 8 ≡ suc (suc (at + 6)) = omega arith in
     let ten : at + 10 ≡ suc (suc (at + 8)) = omega arith in
     rw (
-      sixth.put_two-6.ensures,
-      fifth.put_two-5.ensures,
-      fourth.put_two-4.ensures,
-      third.put_two-3.ensures,
-      second.put_two-2.ensures,
-      first.put_two.ensures,
+      c.put_two-6.ensures,
+      c.put_two-5.ensures,
+      c.put_two-4.ensures,
+      c.put_two-3.ensures,
+      c.put_two-2.ensures,
+      c.put_two.ensures,
       ten,
       eight,
       six,

@@ -57,43 +57,40 @@ loop-holds : tie.Need-loop-p-init invariant-loop-p decreases-loop-p invariant-lo
 loop-holds c = filled_none
 
 loop-again : tie.Need-loop-p-preserved invariant-loop-p decreases-loop-p invariant-loop-p-2 decreases-loop-p-2
-loop-again c = filled_more c.before.before.loop-p.invariant c.read_one.ensures (omega arith) (omega arith)
+loop-again c = filled_more c.loop-p.invariant c.read_one.ensures (omega arith) (omega arith)
 
 returns : tie.Need-returns-then-not-present invariant-loop-p decreases-loop-p invariant-loop-p-2 decreases-loop-p-2
-returns c = rw (not-true c.before.before.before.before.args.present c.if-not-present.true) (filled-whole c.before.before.loop-p.invariant (omega arith))
+returns c = rw (not-true c.args.present c.if-not-present.true) (filled-whole c.loop-p.invariant (omega arith))
 
 loop2-holds : tie.Need-loop-p-2-init invariant-loop-p decreases-loop-p invariant-loop-p-2 decreases-loop-p-2
 loop2-holds c =
-    let row = filled-whole c.before.before.loop-p.invariant (omega arith) in
+    let row = filled-whole c.loop-p.invariant (omega arith) in
     (omega arith, rw row (fill.fill_none _ _))
 
 add-two-in : tie.Need-overflow_add-early invariant-loop-p decreases-loop-p invariant-loop-p-2 decreases-loop-p-2
 add-two-in c =
-    let passed = c.before.before.before in
-    omega (arith, passed.before.before.before.before.requires.2 (not-false _ passed.if-not-present.false))
+omega (arith, c.requires.2 (not-false _ c.if-not-present.false))
 
 two-in-requires : tie.Need-two_in-requires invariant-loop-p decreases-loop-p invariant-loop-p-2 decreases-loop-p-2
 two-in-requires c κs =
-    let passed = c.before.before.before in
-    omega (arith, passed.before.before.before.before.requires.2 (not-false _ passed.if-not-present.false))
+omega (arith, c.requires.2 (not-false _ c.if-not-present.false))
 
 loop2-again : tie.Need-loop-p-2-preserved invariant-loop-p decreases-loop-p invariant-loop-p-2 decreases-loop-p-2
 loop2-again c =
-    let turn = c.before.before in
-    let a = turn.before.before.before.before.before.before.args in
+let a = c.args in
     let plain = phase_in a.bytes.now a.at a.early false in
-    let p = turn.before.loop-p-2.p in
+    let p = c.loop-p-2.p in
     let room : p < length (row_of plain a.count 7 no_phase_times) = omega (arith, row_room plain a.count (omega arith)) in
-    let filled = turn.before.loop-p-2.invariant.1 in
-    let own = fill.fill-boundary no_phase_times p filled room ∙ row_at plain a.count 7 p no_phase_times turn.loop-p-2-test.true in
+    let filled = c.loop-p-2.invariant.1 in
+    let own = fill.fill-boundary no_phase_times p filled room ∙ row_at plain a.count 7 p no_phase_times c.loop-p-2-test.true in
     (omega arith, fill.fill_step filled room (ap (λ (t : PhaseTimes). timed t c.two_in.result) own ∙ ap (timed (plain p)) c.two_in.ensures))
 
 returns-2 : tie.Need-returns invariant-loop-p decreases-loop-p invariant-loop-p-2 decreases-loop-p-2
 returns-2 c =
-    let a = c.before.before.before.before.before.before.args in
-    let last : c.before.loop-p-2.p ≡ a.count = omega (arith, c.before.loop-p-2.invariant.0) in
-    rw (not-false a.present c.before.before.if-not-present.false)
-    (filled-again (phase_in a.bytes.now a.at a.early false) a.count (rw last at c.before.loop-p-2.invariant.1))
+    let a = c.args in
+    let last : c.loop-p-2.p ≡ a.count = omega (arith, c.loop-p-2.invariant.0) in
+    rw (not-false a.present c.if-not-present.false)
+    (filled-again (phase_in a.bytes.now a.at a.early false) a.count (rw last at c.loop-p-2.invariant.1))
 
 pub read_spec : {M : Type 1} → statement M
 read_spec =

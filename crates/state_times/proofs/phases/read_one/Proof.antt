@@ -5,14 +5,13 @@ use Rattle.state_times.proofs.phases.read_one.Tie as tie
 
 returns : tie.Need-returns
 returns c =
-    let third = c.before.before.before in
-    rw (
+rw (
       c.two_in-6.ensures,
-      c.before.two_in-5.ensures,
-      c.before.before.two_in-4.ensures,
-      third.two_in-3.ensures,
-      third.before.two_in-2.ensures,
-      third.before.before.two_in.ensures,
+      c.two_in-5.ensures,
+      c.two_in-4.ensures,
+      c.two_in-3.ensures,
+      c.two_in-2.ensures,
+      c.two_in.ensures,
     )
 
 pub read_one_spec : {M : Type 1} → statement M

@@ -35,7 +35,7 @@ add-put-one : tie.Need-overflow_add-at invariant-loop-k decreases-loop-k
 add-put-one c = search rules
 
 put-one-requires : tie.Need-put_one-requires invariant-loop-k decreases-loop-k
-put-one-requires c κs = omega (arith, stored-length c.before.before.before.loop-k.invariant)
+put-one-requires c κs = omega (arith, stored-length c.loop-k.invariant)
 
 add-k : tie.Need-overflow_add-k invariant-loop-k decreases-loop-k
 add-k c = search rules
@@ -45,16 +45,15 @@ loop-less c = search rules
 
 loop-again : tie.Need-loop-k-preserved invariant-loop-k decreases-loop-k
 loop-again c =
-    let turn = c.before.before.before.before.before in
-    let own = turn.before.before.before.args.t3 in
-    rw c.before.before.put_one.ensures
-    (stored-record (λ k. walk.written (get_or own k no_walk_times)) 6 (λ k. refl) _ _ turn.before.loop-k.invariant turn.loop-k-test.true refl refl)
+let own = c.args.t3 in
+    rw c.put_one.ensures
+    (stored-record (λ k. walk.written (get_or own k no_walk_times)) 6 (λ k. refl) _ _ c.loop-k.invariant c.loop-k-test.true refl refl)
 
 same_length : tie.Need-shape_of-bytes invariant-loop-k decreases-loop-k
-same_length c = stored-length c.before.loop-k.invariant
+same_length c = stored-length c.loop-k.invariant
 
 returns : tie.Need-returns invariant-loop-k decreases-loop-k
-returns c = stored-all c.before.loop-k.invariant c.loop-k-test.false
+returns c = stored-all c.loop-k.invariant c.loop-k-test.false
 
 pub put_spec : {M : Type 1} → statement M
 put_spec =

@@ -8,13 +8,10 @@ use Rattle.state_times.proofs.walks.put_one.Tie as tie
 
 returns : tie.Need-returns
 returns c =
-    let third = c.before.before in
-    let second = third.before.before.before.before in
-    let first = second.before.before.before.before in
-    let at = first.before.before.before.args.at in
+let at = c.args.at in
     let two : at + 2 ≡ suc (suc at) = omega arith in
     let four : at + 4 ≡ suc (suc (suc (suc at))) = omega arith in
-    rw (third.put_two-3.ensures, second.put_two-2.ensures, first.put_two.ensures, two, four)
+    rw (c.put_two-3.ensures, c.put_two-2.ensures, c.put_two.ensures, two, four)
 
 pub put_one_spec : {M : Type 1} → statement M
 put_one_spec =

@@ -39,10 +39,10 @@ loop-less : tie.Need-loop-k-smaller invariant-loop-k decreases-loop-k
 loop-less c = search rules
 
 loop-again : tie.Need-loop-k-preserved invariant-loop-k decreases-loop-k
-loop-again c = filled_more c.before.before.loop-k.invariant c.read_one.ensures (omega arith) (omega arith)
+loop-again c = filled_more c.loop-k.invariant c.read_one.ensures (omega arith) (omega arith)
 
 returns : tie.Need-returns invariant-loop-k decreases-loop-k
-returns c = filled-whole c.before.loop-k.invariant (omega arith)
+returns c = filled-whole c.loop-k.invariant (omega arith)
 
 pub read_spec : {M : Type 1} → statement M
 read_spec =

@@ -4,7 +4,7 @@ use Rattle.state_times.proofs.walks.read_one.Statement.{statement}
 use Rattle.state_times.proofs.walks.read_one.Tie as tie
 
 returns : tie.Need-returns
-returns c = rw (c.two_in-3.ensures, c.before.two_in-2.ensures, c.before.before.two_in.ensures)
+returns c = rw (c.two_in-3.ensures, c.two_in-2.ensures, c.two_in.ensures)
 
 pub read_one_spec : {M : Type 1} → statement M
 read_one_spec =

@@ -13,15 +13,11 @@ use Rattle.state_valid.proofs.same.phase.Tie as tie
 returns : tie.Need-returns
 unfolding byte_at
 returns c = λ t.
-    let four = c.before in
-    let other = four.before in
-    let eight = other.before in
-    let known = eight.before in
-    let a = known.before.before.args in
-    phase-same (record { each = λ i. omega (arith, known.before.shared_slice_known-1.given i) }) (record { each = λ i. omega (arith, known.shared_slice_known-2-1.given i) })
+let a = c.args in
+    phase-same (record { each = λ i. omega (arith, c.shared_slice_known-1.given i) }) (record { each = λ i. omega (arith, c.shared_slice_known-2-1.given i) })
     a.i a.j
-    (sym eight.eight_in.ensures ∙ eqb-true _ _ (and_left _ _ t) ∙ other.eight_in-2.ensures)
-    (sym four.four_in.ensures ∙ eqb-true _ _ (and_right (eqb eight.eight_in.result other.eight_in-2.result) _ t) ∙ c.four_in-2.ensures)
+    (sym c.eight_in.ensures ∙ eqb-true _ _ (and_left _ _ t) ∙ c.eight_in-2.ensures)
+    (sym c.four_in.ensures ∙ eqb-true _ _ (and_right (eqb c.eight_in.result c.eight_in-2.result) _ t) ∙ c.four_in-2.ensures)
 
 pub phase_spec : {M : Type 1} → statement M
 phase_spec =

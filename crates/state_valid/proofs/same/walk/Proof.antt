@@ -13,15 +13,11 @@ use Rattle.state_valid.proofs.same.walk.Tie as tie
 returns : tie.Need-returns
 unfolding byte_at
 returns c = λ t.
-    let two = c.before in
-    let other = two.before in
-    let four = other.before in
-    let known = four.before in
-    let a = known.before.before.args in
-    walk_same (record { each = λ i. omega (arith, known.before.shared_slice_known-1.given i) }) (record { each = λ i. omega (arith, known.shared_slice_known-2-1.given i) })
+let a = c.args in
+    walk_same (record { each = λ i. omega (arith, c.shared_slice_known-1.given i) }) (record { each = λ i. omega (arith, c.shared_slice_known-2-1.given i) })
     a.i a.j
-    (sym four.four_in.ensures ∙ eqb-true _ _ (and_left _ _ t) ∙ other.four_in-2.ensures)
-    (sym two.two_in.ensures ∙ eqb-true _ _ (and_right (eqb four.four_in.result other.four_in-2.result) _ t) ∙ c.two_in-2.ensures)
+    (sym c.four_in.ensures ∙ eqb-true _ _ (and_left _ _ t) ∙ c.four_in-2.ensures)
+    (sym c.two_in.ensures ∙ eqb-true _ _ (and_right (eqb c.four_in.result c.four_in-2.result) _ t) ∙ c.two_in-2.ensures)
 
 pub walk_spec : {M : Type 1} → statement M
 walk_spec =

@@ -8,39 +8,32 @@ use Rattle.state_valid.proofs.settings.admitted.Statement.{statement}
 use Rattle.state_valid.proofs.settings.admitted.Tie as tie
 
 -- the table is that of the personality's edition
-taken : (c : tie.After-limits-table) → c.limits-table.result ≡ limits (edition_of c.before.before.before.before.args.s.now)
-taken c = c.limits-table.ensures ∙ ap limits c.before.edition_of.ensures
+taken : (c : tie.After-limits-table) → c.limits-table.result ≡ limits (edition_of c.args.s.now)
+taken c = c.limits-table.ensures ∙ ap limits c.edition_of.ensures
 
 phases-admitted-requires : tie.Need-phases_admitted-requires
 phases-admitted-requires c κs =
-    let table = c.before.before in
-    let pre = table.before.before.before.before.requires in
-    (pre.0, pre.1, taken table, pre.3)
+let pre = c.requires in
+    (pre.0, pre.1, taken c.before.before, pre.3)
 
 walks-admitted-requires : tie.Need-walks_admitted-requires
 walks-admitted-requires c κs =
-    let table = c.before.before.before in
-    let pre = table.before.before.before.before.requires in
-    (pre.0, pre.1, taken table, pre.2, pre.3)
+let pre = c.requires in
+    (pre.0, pre.1, taken c.before.before.before, pre.2, pre.3)
 
 returns : tie.Need-returns
 returns c =
-    let phases = c.before in
-    let start-tested = phases.before in
-    let read = start-tested.before in
-    let table = read.before in
-    let start = table.before.before.before.before in
-    let laid = start.requires.1 in
-    let a = start.args in
+let laid = c.requires.1 in
+    let a = c.args in
     rw (
       c.walks_admitted.ensures,
-      phases.phases_admitted.ensures,
-      start-tested.within.ensures,
-      read.two_in.ensures,
-      taken table,
+      c.phases_admitted.ensures,
+      c.within.ensures,
+      c.two_in.ensures,
+      taken c.before.before.before.before,
       laid.phasecount,
       laid.hasearly,
-      start.requires.2,
+      c.requires.2,
     )
     (admitted-bytes a.s.now a.bytes.now a.at)
 

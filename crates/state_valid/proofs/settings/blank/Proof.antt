@@ -10,10 +10,8 @@ use Rattle.state_valid.proofs.settings.blank.Tie as tie
 returns : tie.Need-returns
 unfolding byte_at
 returns c = λ site.
-    let known = c.before in
-    let start = known.before in
-    c.all.ensures
-    ∙ blank-zeros start.args.bytes.now start.args.at site (record { each = λ i. omega (arith, known.shared_slice_known-1.given i) }) start.requires
+c.all.ensures
+    ∙ blank-zeros c.args.bytes.now c.args.at site (record { each = λ i. omega (arith, c.shared_slice_known-1.given i) }) c.requires
 
 pub blank_spec : {M : Type 1} → statement M
 blank_spec = tie.close (tie.spec (λ c κs. search rules) returns)

@@ -13,19 +13,17 @@ use Rattle.state_valid.proofs.settings.is_own_phase.Tie as tie
 
 phase-requires : tie.Need-phase-requires
 unfolding body_at
-phase-requires c κs = let pre = c.before.before.requires in (omega (arith, phases-end pre.0, pre.1), pre.2)
+phase-requires c κs = let pre = c.requires in (omega (arith, phases-end pre.0, pre.1), pre.2)
 
 early-in-requires : tie.Need-early_in-requires
 unfolding body_at
-early-in-requires c κs = λ there. let pre = c.before.before.before.before.before.requires in omega (arith, pre.0.early there, pre.1)
+early-in-requires c κs = λ there. let pre = c.requires in omega (arith, pre.0.early there, pre.1)
 
 returns : tie.Need-returns-then-phase
 returns c t =
-    let met = c.before.before.before in
-    let start = met.before.before.before in
-    let a = start.args in
-    sym (phase-own a.s.now a.layout start.requires.0.laid a.p)
-    ∙ ap₂ phase_of (met.phase.ensures c.before.before.if-phase.true) (sym (eqb-true a.early c.early_in.result t ∙ c.early_in.ensures))
+let a = c.args in
+    sym (phase-own a.s.now a.layout c.requires.0.laid a.p)
+    ∙ ap₂ phase_of (c.phase.ensures c.if-phase.true) (sym (eqb-true a.early c.early_in.result t ∙ c.early_in.ensures))
 
 returns-2 : tie.Need-returns
 returns-2 c t = absurd (never_both t refl)

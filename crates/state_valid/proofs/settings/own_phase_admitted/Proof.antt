@@ -18,33 +18,29 @@ fits : (c : tie.Start) → Fitting c.args.s.now c.args.layout
 fits c = accepted-fits c.requires.0 c.requires.1
 
 two-in-requires : tie.Need-two_in-early-requires
-two-in-requires c κs = let start = c.before.before in omega (arith, (fits start).phases, start.requires.3, start.requires.4)
+two-in-requires c κs = omega (arith, (fits c.before.before).phases, c.requires.3, c.requires.4)
 
 is-own-phase-requires : tie.Need-is_own_phase-requires
 is-own-phase-requires c κs =
-    let start = c.before.before.before in
-    (fits start, start.requires.3, omega (arith, (fits start).phases, start.requires.3, start.requires.4))
+(fits c.before.before.before, c.requires.3, omega (arith, (fits c.before.before.before).phases, c.requires.3, c.requires.4))
 
 returns : tie.Need-returns-then-is_own_phase
 returns c =
-    let read = c.before.before in
-    let start = read.before.before.before in
-    let b = start.args.s.now in
-    let laid = start.requires.1 in
-    let same = c.before.is_own_phase.ensures c.if-is_own_phase.true ∙ ap (phase_of _) read.two_in-early.ensures in
-    rw (start.requires.2, laid.hasearly)
+let b = c.args.s.now in
+    let laid = c.requires.1 in
+    let same = c.is_own_phase.ensures c.if-is_own_phase.true ∙ ap (phase_of _) c.two_in-early.ensures in
+    rw (c.requires.2, laid.hasearly)
     (sym
     (subst (λ (t : PhaseTimes). phase_within (limits (edition_of b)) (has_early b) t ≡ true) same
-    (own-phase b start.requires.0 start.args.p (omega (arith, start.requires.3, laid.phasecount)))))
+    (own-phase b c.requires.0 c.args.p (omega (arith, c.requires.3, laid.phasecount)))))
 
 read-one-requires : tie.Need-read_one-requires
-read-one-requires c κs = let start = c.before.before.before.before.before in omega (arith, (fits start).phases, start.requires.3, start.requires.4)
+read-one-requires c κs = omega (arith, (fits c.before.before.before.before.before).phases, c.requires.3, c.requires.4)
 
 returns-2 : tie.Need-returns
 returns-2 c =
-    let read = c.before.before.before.before in
-    let a = read.before.before.before.args in
-    c.phase_within.ensures ∙ ap (phase_within a.table a.layout.hasearly) (c.before.read_one.ensures ∙ ap (phase_of _) read.two_in-early.ensures)
+let a = c.args in
+    c.phase_within.ensures ∙ ap (phase_within a.table a.layout.hasearly) (c.read_one.ensures ∙ ap (phase_of _) c.two_in-early.ensures)
 
 pub own_phase_admitted_spec : {M : Type 1} → statement M
 own_phase_admitted_spec =

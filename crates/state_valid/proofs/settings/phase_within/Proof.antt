@@ -6,21 +6,14 @@ use Rattle.state_valid.proofs.settings.phase_within.Tie as tie
 
 returns : tie.Need-returns
 returns c =
-    let seventh = c.before in
-    let sixth = seventh.before in
-    let fifth = sixth.before in
-    let fourth = fifth.before in
-    let third = fourth.before in
-    let second = third.before in
-    let first = second.before in
-    rw (
-      seventh.within-7.ensures,
-      sixth.within-6.ensures,
-      fifth.within-5.ensures,
-      fourth.within-4.ensures,
-      third.within-3.ensures,
-      second.within-2.ensures,
-      first.within.ensures,
+rw (
+      c.within-7.ensures,
+      c.within-6.ensures,
+      c.within-5.ensures,
+      c.within-4.ensures,
+      c.within-3.ensures,
+      c.within-2.ensures,
+      c.within.ensures,
     )
     (phase-joined _ _ _)
 

@@ -33,11 +33,9 @@ phase-admitted-requires c κs = search rules
 
 returns : tie.Need-returns-then-not-phase_admitted invariant-loop-p decreases-loop-p
 returns c =
-    let tested = c.before in
-    let head = tested.before.before in
-    let a = head.before.before.before.args in
-    all-fails (passes a.layout a.table a.bytes.now a.at) 7 head.loop-p.p (omega arith)
-    (sym tested.phase_admitted.ensures ∙ not-true tested.phase_admitted.result c.if-not-phase_admitted.true)
+let a = c.args in
+    all-fails (passes a.layout a.table a.bytes.now a.at) 7 c.loop-p.p (omega arith)
+    (sym c.phase_admitted.ensures ∙ not-true c.phase_admitted.result c.if-not-phase_admitted.true)
 
 add-p : tie.Need-overflow_add-p invariant-loop-p decreases-loop-p
 add-p c = search rules
@@ -47,12 +45,11 @@ loop-less c = search rules
 
 loop-again : tie.Need-loop-p-preserved invariant-loop-p decreases-loop-p
 loop-again c =
-    let tested = c.before in
-    tested-more tested.before.before.loop-p.invariant (omega arith)
-    (sym (not-false tested.phase_admitted.result c.if-not-phase_admitted.false) ∙ tested.phase_admitted.ensures)
+tested-more c.loop-p.invariant (omega arith)
+    (sym (not-false c.phase_admitted.result c.if-not-phase_admitted.false) ∙ c.phase_admitted.ensures)
 
 returns-2 : tie.Need-returns invariant-loop-p decreases-loop-p
-returns-2 c = tested-all c.before.loop-p.invariant c.loop-p-test.false
+returns-2 c = tested-all c.loop-p.invariant c.loop-p-test.false
 
 pub phases_admitted_spec : {M : Type 1} → statement M
 phases_admitted_spec =

@@ -18,35 +18,29 @@ use Rattle.state_valid.proofs.settings.walk_admitted.Tie as tie
 walk-requires : tie.Need-walk-requires
 unfolding body_at
 walk-requires c κs =
-    let here = c.before in
-    let pre = here.before.before.before.requires in
-    (omega (arith, here.if-k-movements.true, pre.3, (accepted-fits pre.0 pre.1).whole), omega (arith, pre.4, pre.5))
+let pre = c.requires in
+    (omega (arith, c.if-k-movements.true, pre.3, (accepted-fits pre.0 pre.1).whole), omega (arith, pre.4, pre.5))
 
 returns : tie.Need-returns-then-walk
 returns c =
-    let tested = c.before in
-    let here = tested.before.before in
-    let start = here.before.before.before in
-    let a = start.args in
+let a = c.args in
     let b = a.s.now in
-    let same = sym (walk-own b a.layout start.requires.1 a.k) ∙ tested.walk.ensures c.if-walk.true in
-    rw (lt-ltb a.k a.movements here.if-k-movements.true, start.requires.2)
+    let same = sym (walk-own b a.layout c.requires.1 a.k) ∙ c.walk.ensures c.if-walk.true in
+    rw (lt-ltb a.k a.movements c.if-k-movements.true, c.requires.2)
     (sym
     (subst (λ (t : WalkTimes). walk_within (limits (edition_of b)) t ≡ true) same
-    (own-walk b start.requires.0 a.k (omega (arith, here.if-k-movements.true, start.requires.3)))))
+    (own-walk b c.requires.0 a.k (omega (arith, c.if-k-movements.true, c.requires.3)))))
 
 returns-2 : tie.Need-returns-then-k-movements
 returns-2 c =
-    let here = c.before.before.before.before.before in
-    let a = here.before.before.before.args in
-    rw (lt-ltb a.k a.movements here.if-k-movements.true)
-    (c.walk_within.ensures ∙ ap (walk_within a.table) c.before.read_one.ensures)
+let a = c.args in
+    rw (lt-ltb a.k a.movements c.if-k-movements.true)
+    (c.walk_within.ensures ∙ ap (walk_within a.table) c.read_one.ensures)
 
 returns-3 : tie.Need-returns
 returns-3 c =
-    let past = c.before in
-    let a = past.before.before.before.args in
-    rw (le-ltb a.k a.movements past.if-k-movements.false) c.walk-2.ensures
+let a = c.args in
+    rw (le-ltb a.k a.movements c.if-k-movements.false) c.walk-2.ensures
 
 pub walk_admitted_spec : {M : Type 1} → statement M
 walk_admitted_spec =

@@ -31,11 +31,9 @@ walk-admitted-requires c κs = search rules
 
 returns : tie.Need-returns-then-not-walk_admitted invariant-loop-k decreases-loop-k
 returns c =
-    let tested = c.before in
-    let head = tested.before.before in
-    let a = head.before.before.before.args in
-    all-fails (passes a.table a.movements a.bytes.now a.at) 8 head.loop-k.k (omega arith)
-    (sym tested.walk_admitted.ensures ∙ not-true tested.walk_admitted.result c.if-not-walk_admitted.true)
+let a = c.args in
+    all-fails (passes a.table a.movements a.bytes.now a.at) 8 c.loop-k.k (omega arith)
+    (sym c.walk_admitted.ensures ∙ not-true c.walk_admitted.result c.if-not-walk_admitted.true)
 
 add-k : tie.Need-overflow_add-k invariant-loop-k decreases-loop-k
 add-k c = search rules
@@ -45,12 +43,11 @@ loop-less c = search rules
 
 loop-again : tie.Need-loop-k-preserved invariant-loop-k decreases-loop-k
 loop-again c =
-    let tested = c.before in
-    tested-more tested.before.before.loop-k.invariant (omega arith)
-    (sym (not-false tested.walk_admitted.result c.if-not-walk_admitted.false) ∙ tested.walk_admitted.ensures)
+tested-more c.loop-k.invariant (omega arith)
+    (sym (not-false c.walk_admitted.result c.if-not-walk_admitted.false) ∙ c.walk_admitted.ensures)
 
 returns-2 : tie.Need-returns invariant-loop-k decreases-loop-k
-returns-2 c = tested-all c.before.loop-k.invariant c.loop-k-test.false
+returns-2 c = tested-all c.loop-k.invariant c.loop-k-test.false
 
 pub walks_admitted_spec : {M : Type 1} → statement M
 walks_admitted_spec =

@@ -36,12 +36,11 @@ loop-less c = search rules
 
 loop-again : tie.Need-loop-i-preserved invariant-loop-i decreases-loop-i
 loop-again c =
-    let head = c.before.before in
-    let a = head.before.before.args in
-    four-tested a.bytes.now a.at head.loop-i.invariant c.before.loop-i-test.true (ap (λ (x : ℕ). eqb x 0) c.four_in.ensures)
+let a = c.args in
+    four-tested a.bytes.now a.at c.loop-i.invariant c.loop-i-test.true (ap (λ (x : ℕ). eqb x 0) c.four_in.ensures)
 
 returns : tie.Need-returns invariant-loop-i decreases-loop-i
-returns c = tested-all c.before.loop-i.invariant (omega arith)
+returns c = tested-all c.loop-i.invariant (omega arith)
 
 pub all_spec : {M : Type 1} → statement M
 all_spec =

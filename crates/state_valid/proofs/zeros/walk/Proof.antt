@@ -6,8 +6,8 @@ use Rattle.state_valid.proofs.zeros.walk.Tie as tie
 
 returns : tie.Need-returns
 returns c =
-    let a = c.before.before.before.args in
-    rw (c.before.four_in.ensures, c.two_in.ensures) (walk-zero a.bytes.now a.at)
+    let a = c.args in
+    rw (c.four_in.ensures, c.two_in.ensures) (walk-zero a.bytes.now a.at)
 
 pub walk_spec : {M : Type 1} → statement M
 walk_spec = tie.close (tie.spec (λ c κs. search rules) (λ c. search rules) (λ c κs. search rules) returns)

@@ -9,19 +9,19 @@ enum_told c = search rules
 
 returns : tie.Need-returns-in-Idle
 unfolding movement_colour
-returns c = rw c.enum_told-1.given.1
+returns c = rw c.in-Idle.is
 
 returns-2 : tie.Need-returns-in-Walk
 unfolding movement_colour
-returns-2 c = rw c.enum_told-in-Walk-1.given.1
+returns-2 c = rw c.in-Walk.is
 
 returns-3 : tie.Need-returns-in-ClearanceOne
 unfolding movement_colour
-returns-3 c = rw c.enum_told-in-ClearanceOne-1.given.1
+returns-3 c = rw c.in-ClearanceOne.is
 
 returns-4 : tie.Need-returns-in-ClearanceTwo
 unfolding movement_colour
-returns-4 c = rw c.enum_told-in-ClearanceTwo-1.given.1
+returns-4 c = rw c.in-ClearanceTwo.is
 
 pub movement_colour_spec : {M : Type 1} → statement M
 movement_colour_spec =

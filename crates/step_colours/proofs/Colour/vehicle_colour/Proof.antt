@@ -15,47 +15,44 @@ enum_told c = search rules
 -- the code's test of late start is the rule's
 waits :
     (c : tie.After-held_in) →
-    let args = c.before.before.before.before.args in
+    let args = c.args in
     (eqb args.group.mark 1 && not (held_in args.previous args.group.phases)) ≡ (eqb args.group.mark 1 && not c.held_in.result)
 waits c = rw c.held_in.ensures
 
 returns : tie.Need-returns-in-StartRed
 unfolding vehicle_colour
-returns c = rw c.enum_told-1.given.1
+returns c = rw c.in-StartRed.is
 
 returns-2 : tie.Need-returns-then-group-held_in
 unfolding vehicle_colour
-returns-2 c = rw c.before.before.before.enum_told-in-LateStart-1.given.1 (chosen green (waits c.before ∙ c.if-group-held_in.true) refl)
+returns-2 c = rw c.in-LateStart.is (chosen green (waits c.before ∙ c.if-group-held_in.true) refl)
 
 returns-3 : tie.Need-returns-else-group-held_in
 unfolding vehicle_colour
-returns-3 c = rw c.before.before.before.enum_told-in-LateStart-1.given.1 (passed-by red (waits c.before ∙ c.if-group-held_in.false) refl)
+returns-3 c = rw c.in-LateStart.is (passed-by red (waits c.before ∙ c.if-group-held_in.false) refl)
 
 returns-4 : tie.Need-returns-in-MinimumGreen
 unfolding vehicle_colour
-returns-4 c = rw c.enum_told-in-MinimumGreen-1.given.1
+returns-4 c = rw c.in-MinimumGreen.is
 
 returns-5 : tie.Need-returns-in-Running
 unfolding vehicle_colour
-returns-5 c = rw c.enum_told-in-Running-1.given.1
+returns-5 c = rw c.in-Running.is
 
 returns-6 : tie.Need-returns-in-EarlyCutOff
 unfolding vehicle_colour
 returns-6 c =
-    let asked = c.before.before in
-    rw (asked.before.enum_told-in-EarlyCutOff-1.given.1, c.of_leaving.ensures, asked.held_in-in-EarlyCutOff.ensures)
+rw (c.in-EarlyCutOff.is, c.of_leaving.ensures, c.held_in-in-EarlyCutOff.ensures)
 
 returns-7 : tie.Need-returns-in-Yellow
 unfolding vehicle_colour
 returns-7 c =
-    let asked = c.before in
-    rw (asked.before.before.enum_told-in-Yellow-1.given.1, c.of_leaving-in-Yellow.ensures, asked.held_in-in-Yellow.ensures)
+rw (c.in-Yellow.is, c.of_leaving-in-Yellow.ensures, c.held_in-in-Yellow.ensures)
 
 returns-8 : tie.Need-returns-in-AllRed
 unfolding vehicle_colour
 returns-8 c =
-    let asked = c.before in
-    rw (asked.before.enum_told-in-AllRed-1.given.1, c.of_leaving-in-AllRed.ensures, asked.held_in-in-AllRed.ensures)
+rw (c.in-AllRed.is, c.of_leaving-in-AllRed.ensures, c.held_in-in-AllRed.ensures)
 
 pub vehicle_colour_spec : {M : Type 1} → statement M
 vehicle_colour_spec =

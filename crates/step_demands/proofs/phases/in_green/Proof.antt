@@ -14,18 +14,16 @@ use Rattle.step_demands.proofs.phases.in_green.Tie as tie
 returns : tie.Need-returns-then-is_green
 unfolding in_green
 returns c =
-    let tested = c.before.before in
-    let phase = tested.before.args.position.phase in
-    let green = sym tested.is_green.ensures ∙ c.before.if-is_green.true in
+let phase = c.args.position.phase in
+    let green = sym c.is_green.ensures ∙ c.if-is_green.true in
     c.with.ensures ∙ set_same _ _ (λ p l. rw (bit-blank p, green) (sym (and-true (eqb p phase))))
 
 returns-2 : tie.Need-returns
 unfolding in_green
 returns-2 c =
-    let tested = c.before in
-    let phase = tested.before.args.position.phase in
+let phase = c.args.position.phase in
     set_told _ 0 (omega arith)
-    (λ p l. bit-blank p ∙ sym (and-false-right (eqb p phase) (sym tested.is_green.ensures ∙ c.if-is_green.false)))
+    (λ p l. bit-blank p ∙ sym (and-false-right (eqb p phase) (sym c.is_green.ensures ∙ c.if-is_green.false)))
 
 pub in_green_spec : {M : Type 1} → statement M
 in_green_spec = tie.close (tie.spec (λ c κs. search rules) (λ c κs. search rules) returns returns-2)

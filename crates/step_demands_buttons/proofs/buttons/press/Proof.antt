@@ -31,8 +31,8 @@ loop-holds : tie.Need-loop-rest-init invariant-loop-rest decreases-loop-rest
 loop-holds c = none-pressed c.args.buttons c.args.t2 c.args.t3 c.args.inputs c.ranges.buttons.fits
 
 -- the button of a turn is one of the eight
-own-within : (c : tie.In-loop-rest invariant-loop-rest decreases-loop-rest) → count_trailing_zeros 64 c.before.loop-rest.rest < 8
-own-within c = turn-within c.before.loop-rest.invariant.keeps (omega (arith, c.loop-rest-test.true)) (omega arith)
+own-within : (c : tie.In-loop-rest invariant-loop-rest decreases-loop-rest) → count_trailing_zeros 64 c.loop-rest.rest < 8
+own-within c = turn-within c.loop-rest.invariant.keeps (omega (arith, c.loop-rest-test.true)) (omega arith)
 
 cast-k : tie.Need-overflow_cast-k invariant-loop-rest decreases-loop-rest
 cast-k c = omega (arith, own-within c)
@@ -60,30 +60,26 @@ sub-rest c = search rules
 
 loop-less : tie.Need-loop-rest-smaller invariant-loop-rest decreases-loop-rest
 loop-less c =
-    let turn = c.before.before.before in
-    left_less turn.before.loop-rest.invariant.keeps.left (omega (arith, turn.loop-rest-test.true)) (omega arith)
+left_less c.loop-rest.invariant.keeps.left (omega (arith, c.loop-rest-test.true)) (omega arith)
 
 loop-again : tie.Need-loop-rest-preserved invariant-loop-rest decreases-loop-rest
 loop-again c =
-    let dropped = c.before in
-    let turn = dropped.before.before in
-    let at = turn.before.loop-rest in
-    let start = turn.before.before in
-    let a = start.args in
+let at = c.loop-rest in
+let a = c.args in
     let k = count_trailing_zeros 64 at.rest in
-    let some : 0 < at.rest = omega (arith, turn.loop-rest-test.true) in
-    let inside : k < length a.t2 = omega (arith, own-within turn, start.well_formed.1.0.1.0.1) in
+    let some : 0 < at.rest = omega (arith, c.loop-rest-test.true) in
+    let inside : k < length a.t2 = omega (arith, own-within c.before.before.before, c.well_formed.1.0.1.0.1) in
     let byte : Fits w8 (get_or a.t3 k 0) = search rules in
-    let own : not dropped.dropped.result ≡ stays a.t2 k =
+    let own : not c.dropped.result ≡ stays a.t2 k =
     ap not
-    (dropped.dropped.ensures ∙ ap (λ (m : Movement). is_walk m.stage) (entry-same a.t2 k (record { stage = Idle; age = 0 }) idle inside)) in
+    (c.dropped.ensures ∙ ap (λ (m : Movement). is_walk m.stage) (entry-same a.t2 k (record { stage = Idle; age = 0 }) idle inside)) in
     ⊎_elim
     (λ w. rw (w.2, w.3, w.1.ensures) (one-pressed at.invariant some byte.fits (sym own ∙ w.0.taken)))
     (λ w. rw (w.1, w.2) (one-dropped at.invariant some (sym own ∙ w.0.left)))
     c.if-not-dropped.branch
 
 returns : tie.Need-returns invariant-loop-rest decreases-loop-rest
-returns c = (all-pressed c.before.loop-rest.invariant c.loop-rest-test.false, all-kept c.before.loop-rest.invariant c.loop-rest-test.false)
+returns c = (all-pressed c.loop-rest.invariant c.loop-rest-test.false, all-kept c.loop-rest.invariant c.loop-rest-test.false)
 
 pub press_spec : {M : Type 1} → statement M
 press_spec =

@@ -35,38 +35,36 @@ rem-rest c = shifted-some 64 c.args.count (omega (arith, c.requires))
 
 loop-holds : tie.Need-loop-rest-init invariant-loop-rest decreases-loop-rest
 loop-holds c =
-    none-crossed c.args.t1 (firsts c.args.count c.args.buttons) c.args.count every
+    none-crossed c.args.table (firsts c.args.count c.args.buttons) c.args.count every
     (firsts-within c.args.count c.args.buttons (omega (arith, c.requires)))
 
 -- the movement of a turn is one of the first count
-own-within : (c : tie.In-loop-rest invariant-loop-rest decreases-loop-rest) → count_trailing_zeros 64 c.before.loop-rest.rest < c.before.before.args.count
-own-within c = turn-within c.before.loop-rest.invariant (omega (arith, c.loop-rest-test.true)) (omega (arith, c.before.before.requires))
+own-within : (c : tie.In-loop-rest invariant-loop-rest decreases-loop-rest) → count_trailing_zeros 64 c.loop-rest.rest < c.args.count
+own-within c = turn-within c.loop-rest.invariant (omega (arith, c.loop-rest-test.true)) (omega (arith, c.requires))
 
 cast-k : tie.Need-overflow_cast-k invariant-loop-rest decreases-loop-rest
 cast-k c = omega (arith, own-within c)
 
 array-read-set : tie.Need-bounds-crossings-k invariant-loop-rest decreases-loop-rest
-array-read-set c = omega (arith, own-within c, c.before.before.requires)
+array-read-set c = omega (arith, own-within c, c.requires)
 
 sub-rest : tie.Need-overflow_sub-rest invariant-loop-rest decreases-loop-rest
 sub-rest c = search rules
 
 loop-less : tie.Need-loop-rest-smaller invariant-loop-rest decreases-loop-rest
-loop-less c = left_less c.before.loop-rest.invariant.left (omega (arith, c.loop-rest-test.true)) (omega (arith, c.before.before.requires))
+loop-less c = left_less c.loop-rest.invariant.left (omega (arith, c.loop-rest-test.true)) (omega (arith, c.requires))
 
 loop-again : tie.Need-loop-rest-preserved invariant-loop-rest decreases-loop-rest
 loop-again c =
-    let start = c.before.before in
-    let byte : Fits w8 (get_or start.args.t1 (count_trailing_zeros 64 c.before.loop-rest.rest) 0) = search rules in
-    one-crossed c.before.loop-rest.invariant (omega (arith, c.loop-rest-test.true)) (omega (arith, start.requires)) byte.fits refl
+let byte : Fits w8 (get_or c.args.table (count_trailing_zeros 64 c.loop-rest.rest) 0) = search rules in
+    one-crossed c.loop-rest.invariant (omega (arith, c.loop-rest-test.true)) (omega (arith, c.requires)) byte.fits refl
 
 returns : tie.Need-returns invariant-loop-rest decreases-loop-rest
 unfolding movement_demands
 returns c =
-    let start = c.before.before in
-    let a = start.args in
-    all-crossed c.before.loop-rest.invariant c.loop-rest-test.false (λ k. bit k a.buttons)
-    (λ k l. and-true (bit k (firsts a.count a.buttons)) ∙ firsts-bit a.count a.buttons (omega (arith, start.requires)) k l)
+let a = c.args in
+    all-crossed c.loop-rest.invariant c.loop-rest-test.false (λ k. bit k a.buttons)
+    (λ k l. and-true (bit k (firsts a.count a.buttons)) ∙ firsts-bit a.count a.buttons (omega (arith, c.requires)) k l)
 
 pub movement_demands_spec : {M : Type 1} → statement M
 movement_demands_spec =

@@ -10,8 +10,8 @@ use Rattle.step_demands_buttons.proofs.movements.stands.Tie as tie
 returns : tie.Need-returns
 unfolding stands
 returns c =
-    let locks = c.before.before.args.demands.locks in
-    union-told (λ p. bit p locks) _ locks _ (self-told locks (omega arith)) c.before.movement_demands.ensures
+    let locks = c.args.demands.locks in
+    union-told (λ p. bit p locks) _ locks _ (self-told locks (omega arith)) c.movement_demands.ensures
 
 pub stands_spec : {M : Type 1} → statement M
 stands_spec = tie.close (tie.spec (λ c κs. search rules) returns)

@@ -6,7 +6,7 @@ use Rattle.step_interval.proofs.changes.counts_changed.Tie as tie
 
 returns : tie.Need-returns-then-ended
 unfolding counts_changed
-returns c = rw (c.counts_entering.ensures, c.before.phase_times.ensures, c.before.before.counts_leaving-left.ensures, c.before.before.before.if-ended.true)
+returns c = rw (c.counts_entering.ensures, c.phase_times.ensures, c.counts_leaving-left.ensures, c.if-ended.true)
 
 returns-2 : tie.Need-returns
 unfolding counts_changed

@@ -8,20 +8,18 @@ use Rattle.step_interval.proofs.changes.counts_entering.Tie as tie
 returns : tie.Need-returns-then-is_running
 unfolding counts_entering
 returns c =
-    let gap = c.before.before in
-    ⊎_elim
-    (λ w. rw (w.1, ← gap.before.is_minimum_green.ensures, w.0.taken, ← c.before.is_running.ensures, c.if-is_running.true))
-    (λ w. rw (w.1, ← gap.before.is_minimum_green.ensures, w.0.left, ← c.before.is_running.ensures, c.if-is_running.true))
-    gap.if-is_minimum_green.branch
+⊎_elim
+    (λ w. rw (w.1, ← c.is_minimum_green.ensures, w.0.taken, ← c.is_running.ensures, c.if-is_running.true))
+    (λ w. rw (w.1, ← c.is_minimum_green.ensures, w.0.left, ← c.is_running.ensures, c.if-is_running.true))
+    c.if-is_minimum_green.branch
 
 returns-2 : tie.Need-returns-else-is_running
 unfolding counts_entering
 returns-2 c =
-    let gap = c.before.before in
-    ⊎_elim
-    (λ w. rw (w.1, ← gap.before.is_minimum_green.ensures, w.0.taken, ← c.before.is_running.ensures, c.if-is_running.false))
-    (λ w. rw (w.1, ← gap.before.is_minimum_green.ensures, w.0.left, ← c.before.is_running.ensures, c.if-is_running.false))
-    gap.if-is_minimum_green.branch
+⊎_elim
+    (λ w. rw (w.1, ← c.is_minimum_green.ensures, w.0.taken, ← c.is_running.ensures, c.if-is_running.false))
+    (λ w. rw (w.1, ← c.is_minimum_green.ensures, w.0.left, ← c.is_running.ensures, c.if-is_running.false))
+    c.if-is_minimum_green.branch
 
 pub counts_entering_spec : {M : Type 1} → statement M
 counts_entering_spec =

@@ -6,11 +6,11 @@ use Rattle.step_interval.proofs.changes.counts_leaving.Tie as tie
 
 returns : tie.Need-returns-then-is_leaving-is_before_start
 unfolding counts_leaving
-returns c = rw (← c.before.is_before_start.ensures, ← c.before.before.is_leaving.ensures, c.if-is_leaving-is_before_start.true)
+returns c = rw (← c.is_before_start.ensures, ← c.is_leaving.ensures, c.if-is_leaving-is_before_start.true)
 
 returns-2 : tie.Need-returns
 unfolding counts_leaving
-returns-2 c = rw (← c.before.is_before_start.ensures, ← c.before.before.is_leaving.ensures, c.if-is_leaving-is_before_start.false)
+returns-2 c = rw (← c.is_before_start.ensures, ← c.is_leaving.ensures, c.if-is_leaving-is_before_start.false)
 
 pub counts_leaving_spec : {M : Type 1} → statement M
 counts_leaving_spec = tie.close (tie.spec (λ c κs. search rules) (λ c κs. search rules) returns returns-2)

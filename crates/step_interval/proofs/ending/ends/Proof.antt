@@ -16,55 +16,49 @@ enum_told c = search rules
 returns : tie.Need-returns-then-not-another-due
 unfolding ends
 returns c =
-    let told = c.before.before.before.before in
-    let a = told.before.before.args in
-    rw told.enum_told-in-Running-1.given.1
+let a = c.args in
+    rw c.in-Running.is
     (goes_on a.another (some_movement is_walk_or_first a.movements) (eqb a.counted.gap 0 || eqb a.counted.maximum a.times.maximum) c.if-not-another-due.true)
 
 returns-2 : tie.Need-returns-then-age-times
 unfolding ends
 returns-2 c =
-    let told = c.before.before in
-    let a = told.before.before.args in
-    rw (told.enum_told-in-AllRed-1.given.1, lt-leb a.times.red a.age c.if-age-times.true)
+let a = c.args in
+    rw (c.in-AllRed.is, lt-leb a.times.red a.age c.if-age-times.true)
 
 returns-3 : tie.Need-returns-in-StartRed
 unfolding ends
-returns-3 c = rw c.enum_told-1.given.1
+returns-3 c = rw c.in-StartRed.is
 
 returns-4 : tie.Need-returns-in-LateStart
 unfolding ends
-returns-4 c = rw c.before.enum_told-in-LateStart-1.given.1
+returns-4 c = rw c.in-LateStart.is
 
 returns-5 : tie.Need-returns-in-MinimumGreen
 unfolding ends
-returns-5 c = rw c.before.enum_told-in-MinimumGreen-1.given.1
+returns-5 c = rw c.in-MinimumGreen.is
 
 returns-6 : tie.Need-returns-else-not-another-due
 unfolding ends
 returns-6 c =
-    let asked = c.before.before in
-    let told = asked.before.before.before.before in
-    let a = told.before.before.args in
-    ap not c.before.under_way-now.ensures.0
-    ∙ rw told.enum_told-in-Running-1.given.1
-    (goes-by-movements a.another (some_movement is_walk_or_first a.movements) (eqb a.counted.gap 0 || eqb a.counted.maximum a.times.maximum) asked.if-not-another-due.false)
+let a = c.args in
+    ap not c.under_way-now.ensures.0
+    ∙ rw c.in-Running.is
+    (goes-by-movements a.another (some_movement is_walk_or_first a.movements) (eqb a.counted.gap 0 || eqb a.counted.maximum a.times.maximum) c.if-not-another-due.false)
 
 returns-7 : tie.Need-returns-in-EarlyCutOff
 unfolding ends
-returns-7 c = rw c.before.enum_told-in-EarlyCutOff-1.given.1
+returns-7 c = rw c.in-EarlyCutOff.is
 
 returns-8 : tie.Need-returns-in-Yellow
 unfolding ends
-returns-8 c = rw c.before.enum_told-in-Yellow-1.given.1
+returns-8 c = rw c.in-Yellow.is
 
 returns-9 : tie.Need-returns-else-age-times
 unfolding ends
 returns-9 c =
-    let asked = c.before.before in
-    let told = asked.before.before in
-    let a = told.before.before.args in
-    ap not c.before.under_way-now-in-AllRed.ensures.1 ∙ rw (told.enum_told-in-AllRed-1.given.1, le-leb a.times.red a.age asked.if-age-times.false)
+let a = c.args in
+    ap not c.under_way-now-in-AllRed.ensures.1 ∙ rw (c.in-AllRed.is, le-leb a.times.red a.age c.if-age-times.false)
 
 pub ends_spec : {M : Type 1} → statement M
 ends_spec =

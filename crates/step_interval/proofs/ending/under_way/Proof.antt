@@ -51,23 +51,21 @@ loop-less c = search rules
 
 loop-again : tie.Need-loop-k-preserved invariant-loop-k decreases-loop-k
 loop-again c =
-    let here = c.before.before.before.before in
-    let list = here.before.args.t1 in
-    let k = here.loop-k.k in
-    let inside : k < length list = omega (arith, here.before.well_formed.0.1.0.1, here.before.requires.room) in
+let list = c.args.table in
+    let k = c.loop-k.k in
+    let inside : k < length list = omega (arith, c.well_formed.0.1.0.1, c.requires.room) in
     let entry = ap (λ (m : Movement). m.stage) (entry-same list k (record { stage = Idle; age = 0 }) idle inside) in (
       search rules,
-      one_more (at is_walk_or_first list) k here.loop-k.invariant.1 (c.before.is_walk_or_first-walking.ensures ∙ ap is_walk_or_first entry),
-      one_more (at is_second list) k here.loop-k.invariant.2 (c.is_second-clearing.ensures ∙ ap is_second entry),
+      one_more (at is_walk_or_first list) k c.loop-k.invariant.1 (c.is_walk_or_first-walking.ensures ∙ ap is_walk_or_first entry),
+      one_more (at is_second list) k c.loop-k.invariant.2 (c.is_second-clearing.ensures ∙ ap is_second entry),
     )
 
 returns : tie.Need-returns invariant-loop-k decreases-loop-k
 returns c =
-    let here = c.before in
-    let a = here.before.args in
-    let last : here.loop-k.k ≡ a.count = omega arith in (
-      rw last at here.loop-k.invariant.1 ∙ some-counted is_walk_or_first a.t1 a.count here.before.requires refl,
-      rw last at here.loop-k.invariant.2 ∙ some-counted is_second a.t1 a.count here.before.requires refl,
+let a = c.args in
+    let last : c.loop-k.k ≡ a.count = omega arith in (
+      rw last at c.loop-k.invariant.1 ∙ some-counted is_walk_or_first a.table a.count c.requires refl,
+      rw last at c.loop-k.invariant.2 ∙ some-counted is_second a.table a.count c.requires refl,
     )
 
 pub under_way_spec : {M : Type 1} → statement M

@@ -9,31 +9,31 @@ enum_told c = search rules
 
 returns : tie.Need-returns-in-StartRed
 unfolding following
-returns c = rw (c.starting.ensures, c.before.enum_told-1.given.1)
+returns c = rw (c.starting.ensures, c.in-StartRed.is)
 
 returns-2 : tie.Need-returns-in-LateStart
 unfolding following
-returns-2 c = rw (c.entering.ensures, c.before.enum_told-in-LateStart-1.given.1)
+returns-2 c = rw (c.entering.ensures, c.in-LateStart.is)
 
 returns-3 : tie.Need-returns-in-MinimumGreen
 unfolding following
-returns-3 c = rw (c.entering-in-MinimumGreen.ensures, c.before.enum_told-in-MinimumGreen-1.given.1)
+returns-3 c = rw (c.entering-in-MinimumGreen.ensures, c.in-MinimumGreen.is)
 
 returns-4 : tie.Need-returns-in-Running
 unfolding following
-returns-4 c = rw (c.leaving.ensures, c.before.enum_told-in-Running-1.given.1)
+returns-4 c = rw (c.leaving.ensures, c.in-Running.is)
 
 returns-5 : tie.Need-returns-in-EarlyCutOff
 unfolding following
-returns-5 c = rw (c.entering-in-EarlyCutOff.ensures, c.before.enum_told-in-EarlyCutOff-1.given.1)
+returns-5 c = rw (c.entering-in-EarlyCutOff.ensures, c.in-EarlyCutOff.is)
 
 returns-6 : tie.Need-returns-in-Yellow
 unfolding following
-returns-6 c = rw (c.entering-in-Yellow.ensures, c.before.enum_told-in-Yellow-1.given.1)
+returns-6 c = rw (c.entering-in-Yellow.ensures, c.in-Yellow.is)
 
 returns-7 : tie.Need-returns-in-AllRed
 unfolding following
-returns-7 c = rw (c.starting-in-AllRed.ensures, c.before.phase_held.ensures, c.before.before.enum_told-in-AllRed-1.given.1)
+returns-7 c = rw (c.starting-in-AllRed.ensures, c.phase_held.ensures, c.in-AllRed.is)
 
 pub following_spec : {M : Type 1} → statement M
 following_spec =

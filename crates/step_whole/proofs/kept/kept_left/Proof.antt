@@ -15,32 +15,27 @@ use Rattle.step_whole.proofs.kept.kept_left.Tie as tie
 
 returns : tie.Need-returns-then-old-new
 returns c =
-    let start = c.before.before.before.before.before in
-    let a = start.args in
+let a = c.args in
     let locks = eqb a.old.locks a.new.locks in
     let buttons = eqb a.old.buttons a.new.buttons in
-    none-cleared a.crossings a.count start.requires a.old a.new a.kept (omega arith)
+    none-cleared a.crossings a.count c.requires a.old a.new a.kept (omega arith)
     (eqb-true _ _ (and_left locks buttons c.if-old-new.true))
     (eqb-true _ _ (and_right locks buttons c.if-old-new.true))
 
 -- the phases of the demands that are gone
 gone-told :
     (c : tie.After-stands-cleared) →
-    let a = c.before.before.before.before.before.before.before.before.args in
+    let a = c.args in
     c.stands-cleared.result ≡ set_of (stands a.crossings a.count (gone_ones a.old a.new))
 unfolding gone
-gone-told c = c.stands-cleared.ensures ∙ rw (c.before.before.except.ensures, c.before.except-2.ensures)
+gone-told c = c.stands-cleared.ensures ∙ rw (c.except.ensures, c.except-2.ensures)
 
 returns-2 : tie.Need-returns
 returns-2 c =
-    let lost = c.before in
-    let left = lost.before in
-    let cleared = left.before in
-    let start = cleared.before.before.before.before.before.before.before.before in
-    let a = start.args in
+let a = c.args in
     c.except-4.ensures
-    ∙ some-cleared a.crossings a.count start.requires a.old a.new a.kept lost.except-3.result
-    (rw (gone-told cleared, left.stands.ensures) at lost.except-3.ensures)
+    ∙ some-cleared a.crossings a.count c.requires a.old a.new a.kept c.except-3.result
+    (rw (gone-told c.before.before.before, c.stands.ensures) at c.except-3.ensures)
 
 pub kept_left_spec : {M : Type 1} → statement M
 kept_left_spec =
