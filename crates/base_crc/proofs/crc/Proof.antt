@@ -53,7 +53,7 @@ loop-less c = search rules
 
 loop-again : tie.Need-loop-i-preserved invariant-loop-i decreases-loop-i
 loop-again c =
-let bytes = c.args.bytes.now in
+    let bytes = c.args.bytes.now in
     let byte = get_or bytes c.loop-i.i 0 in
     let inside : c.loop-i.i < length bytes = omega arith in (
       search rules,
@@ -65,7 +65,7 @@ let bytes = c.args.bytes.now in
 returns : tie.Need-returns invariant-loop-i decreases-loop-i
 unfolding crc
 returns c =
-rw (c.loop-i.invariant.1, taken-whole all_ones c.args.bytes.now c.loop-i.i c.loop-i-test.false)
+    rw (c.loop-i.invariant.1, taken-whole all_ones c.args.bytes.now c.loop-i.i c.loop-i-test.false)
 
 pub crc_spec : {M : Type 1} → statement M
 crc_spec =

@@ -23,7 +23,7 @@ returns-6 : tie.Need-returns-in-6
 returns-6 c = let e : c.args.code ≡ 6 = omega (arith, c.requires, c.in-6.is) in rw e
 
 returns-7 : tie.Need-returns-in_default
-returns-7 c = let e : c.args.code ≡ 0 = omega (arith, c.requires, c.in_default.rest) in rw e
+returns-7 c = let e : c.args.code ≡ 0 = omega (arith, c.requires, c.in_default) in rw e
 
 pub interval_of_spec : {M : Type 1} → statement M
 interval_of_spec = tie.close (tie.spec returns returns-2 returns-3 returns-4 returns-5 returns-6 returns-7)

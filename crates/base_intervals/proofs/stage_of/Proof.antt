@@ -14,7 +14,7 @@ returns-3 : tie.Need-returns-in-3
 returns-3 c = let e : c.args.code ≡ 3 = omega (arith, c.requires, c.in-3.is) in rw e
 
 returns-4 : tie.Need-returns-in_default
-returns-4 c = let e : c.args.code ≡ 0 = omega (arith, c.requires, c.in_default.rest) in rw e
+returns-4 c = let e : c.args.code ≡ 0 = omega (arith, c.requires, c.in_default) in rw e
 
 pub stage_of_spec : {M : Type 1} → statement M
 stage_of_spec = tie.close (tie.spec returns returns-2 returns-3 returns-4)

@@ -17,7 +17,7 @@ refusal-requires c κs =
 
 returns : tie.Need-returns-in-Refused
 returns c =
-let a = c.args in
+    let a = c.args in
     refuses a.personality.now a.state.now c.refusal.result
     (sym c.read_with_layout-reading.ensures.0 ∙ c.in-Refused.is)
     c.refusal.ensures
@@ -32,16 +32,16 @@ accepted c = sym c.read_with_layout-reading.ensures.0 ∙ c.in_default.is
 
 returns-2 : tie.Need-returns-then-state-ne-TIMED_BYTES
 returns-2 c =
-let a = c.args in
+    let a = c.args in
     other_length a.personality.now a.state.now (accepted c.before.before) c.refusal-then-state-ne-TIMED_BYTES.result c.if-state-ne-TIMED_BYTES.true c.refusal-then-state-ne-TIMED_BYTES.ensures
 
 put-fresh-requires : tie.Need-put_fresh-requires
 put-fresh-requires c κs =
-(accepted c.before.before.before, c.read_with_layout-reading.ensures.1, c.if-state-ne-TIMED_BYTES.false)
+    (accepted c.before.before.before, c.read_with_layout-reading.ensures.1, c.if-state-ne-TIMED_BYTES.false)
 
 returns-3 : tie.Need-returns
 returns-3 c =
-let a = c.args in
+    let a = c.args in
     begins a.personality.now a.state.now (accepted c.before.before.before.before.before.before) _ c.if-state-ne-TIMED_BYTES.false c.put_fresh.ensures
 
 pub fresh_spec : {M : Type 1} → statement M

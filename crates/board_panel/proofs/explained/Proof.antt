@@ -27,7 +27,7 @@ use Rattle.board_panel.proofs.explained.Tie as tie
 
 returns : tie.Need-returns-in-Refused
 returns c =
-let a = c.args in
+    let a = c.args in
     let told = c.in-Refused.is in (
       refused a.personality.now a.state.now a.inputs (sym c.read_with_layout-reading.ensures.0 ∙ told),
       refused-near _ c.read_with_layout-reading.result.verdict c.read_with_layout-reading.ensures.0 told,
@@ -43,7 +43,7 @@ told c = c.before.before
 
 returns-2 : tie.Need-returns-then-not-is_timed
 returns-2 c =
-let a = c.args in (
+    let a = c.args in (
       no-state a.personality.now a.state.now a.inputs (accepted c.before.before.before)
           (sym (none a.personality.now a.state.now (sym c.is_timed.ensures ∙ not-true c.is_timed.result c.if-not-is_timed.true))),
       omega arith,
@@ -57,7 +57,7 @@ sizes c = timed-known c.args.state.now (timed c)
 
 site-in-requires : tie.Need-site_in-site-requires
 site-in-requires c κs =
-(accepted-fits (accepted c.before.before.before) c.read_with_layout-reading.ensures.1, omega (arith, (sizes c).size))
+    (accepted-fits (accepted c.before.before.before) c.read_with_layout-reading.ensures.1, omega (arith, (sizes c).size))
 
 read-requires : tie.Need-read-kept-requires
 read-requires c κs = (omega (arith, (sizes c.before).size), (sizes c.before).kept-known)
@@ -69,11 +69,11 @@ decoded c = record { known = timed c.before.before; under-times = c.site_in-site
 
 valid-requires : tie.Need-valid-requires
 valid-requires c κs =
-(accepted c.before.before.before.before.before, c.read_with_layout-reading.ensures.1, decoded c)
+    (accepted c.before.before.before.before.before, c.read_with_layout-reading.ensures.1, decoded c)
 
 returns-3 : tie.Need-returns-then-not-valid
 returns-3 c =
-let a = c.args in (
+    let a = c.args in (
       no-state a.personality.now a.state.now a.inputs (accepted c.before.before.before.before.before.before.before)
           (sym c.valid.ensures ∙ not-true c.valid.result c.if-not-valid.true),
       omega arith,
@@ -108,19 +108,19 @@ tested c = c.stray_input.ensures ∙ ap (λ (x : Site). stray_input x c.args.inp
 
 returns-4 : tie.Need-returns-then-stray_input
 returns-4 c =
-let a = c.args in
+    let a = c.args in
     (stray a.personality.now a.state.now a.inputs (known c.before.before) (valid c.before.before) (sym (tested c.before) ∙ c.if-stray_input.true), omega arith)
 
 -- ── The line ──
 
 fine : (c : tie.After-is_running) → let a = c.args in length_checks a.personality.now a.state.now a.inputs ≡ Accepted
 fine c =
-let a = c.args in
-passed a.personality.now a.state.now a.inputs (known c.before.before.before.before) (valid c.before.before.before.before) (sym (tested c.before.before.before) ∙ c.if-stray_input.false)
+    let a = c.args in
+    passed a.personality.now a.state.now a.inputs (known c.before.before.before.before) (valid c.before.before.before.before) (sym (tested c.before.before.before) ∙ c.if-stray_input.false)
 
 returns-5 : tie.Need-returns-then-not-is_running
 returns-5 c =
-let a = c.args in (
+    let a = c.args in (
       fine c.before,
       silent a.personality.now a.state.now a.inputs (kept c.before.before.before.before.before)
           (sym c.is_running.ensures ∙ not-true c.is_running.result c.if-not-is_running.true),
@@ -128,7 +128,7 @@ let a = c.args in (
 
 why-of-requires : tie.Need-why_of-requires
 why-of-requires c κs =
-let a = c.args in
+    let a = c.args in
     record {
       sound = site-sound a.personality.now a.state.now a.inputs (known c.before.before.before.before.before) (valid c.before.before.before.before.before) (ruled c.before.before.before.before.before);
       valid = kept-valid a.personality.now a.state.now a.inputs (known c.before.before.before.before.before) (valid c.before.before.before.before.before) (ruled c.before.before.before.before.before) (kept c.before.before.before.before.before);
@@ -137,7 +137,7 @@ let a = c.args in
 
 returns-6 : tie.Need-returns
 returns-6 c =
-let a = c.args in
+    let a = c.args in
     let tells = c.why_of.ensures in
     (fine c.before.before, tells.line (site_of a.personality.now) (timed_decoded a.state.now) (ruled c.before.before.before.before.before.before) (kept c.before.before.before.before.before.before), tells.phase)
 

@@ -15,7 +15,7 @@ returns c =
 
 returns-2 : tie.Need-returns
 returns-2 c =
-let a = c.args in
+    let a = c.args in
     has_room (line_of a.why) a.line.now (omega arith) (c.packed.ensures ∙ ap (packed 0) c.put_line.ensures.0) c.put_line.ensures.1
 
 pub put_in_spec : {M : Type 1} → statement M

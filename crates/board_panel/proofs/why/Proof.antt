@@ -24,18 +24,18 @@ put-in-requires c κs = (said c.before.before c.in-Holds.is).2
 
 returns : tie.Need-returns-in-Refusal
 returns c =
-let a = c.args in
+    let a = c.args in
     why-refused a.personality.now a.state.now a.inputs a.line.now (said c.before.before c.in-Refusal.is).0 c.refusal.ensures
 
 returns-2 : tie.Need-returns-in-Silent
 returns-2 c =
-let a = c.args in
+    let a = c.args in
     why-told a.personality.now a.state.now a.inputs a.line.now [] (said c.before.before c.in-Silent.is)
     (has_room [] a.line.now (omega arith) c.packed.ensures refl)
 
 returns-3 : tie.Need-returns-in-Holds
 returns-3 c =
-let a = c.args in
+    let a = c.args in
     let told = said c.before.before.before.before.before c.in-Holds.is in
     why-told a.personality.now a.state.now a.inputs a.line.now _ (told.0, told.1) c.put_in.ensures
 

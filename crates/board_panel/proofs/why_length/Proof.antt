@@ -21,17 +21,17 @@ refusal-requires c κs = (said c.before c.in-Refusal.is).1
 
 returns : tie.Need-returns-in-Refusal
 returns c =
-let a = c.args in
+    let a = c.args in
     length-refused a.personality.now a.state.now a.inputs (said c.before.before c.in-Refusal.is).0 c.refusal.ensures
 
 returns-2 : tie.Need-returns-in-Silent
 returns-2 c =
-let a = c.args in
+    let a = c.args in
     length-told a.personality.now a.state.now a.inputs [] (said c.before.before c.in-Silent.is) c.packed.ensures
 
 returns-3 : tie.Need-returns-in-Holds
 returns-3 c =
-let a = c.args in
+    let a = c.args in
     let told = said c.before.before.before c.in-Holds.is in
     length-told a.personality.now a.state.now a.inputs _ (told.0, told.1)
     (c.packed-in-Holds.ensures ∙ ap (packed 0) c.line_length.ensures.0)

@@ -15,7 +15,7 @@ refusal-requires c κs =
 
 returns : tie.Need-returns-in-Accepted
 returns c =
-let read = c.read_with_layout-reading in
+    let read = c.read_with_layout-reading in
     groups-told _ read.result.verdict _ _ read.ensures.0 c.in-Accepted.is read.ensures.1.groupcount c.packed.ensures
 
 returns-2 : tie.Need-returns-in-Refused

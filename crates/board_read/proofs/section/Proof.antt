@@ -15,7 +15,7 @@ refusal-requires c κs =
 
 returns : tie.Need-returns-in-Accepted
 returns c =
-let found = c.find-found in
+    let found = c.find-found in
     section-found _ _ found.result.head _ _ (sym found.ensures.0 ∙ c.in-Accepted.is) found.ensures.1 c.two_at.ensures
     c.part.ensures
 

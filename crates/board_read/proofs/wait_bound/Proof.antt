@@ -18,7 +18,7 @@ refusal-requires c κs =
 
 returns : tie.Need-returns-in-Refused
 returns c =
-bound-refused _ c.refusal.result (sym c.read_with_layout-reading.ensures.0 ∙ c.in-Refused.is) c.refusal.ensures
+    bound-refused _ c.refusal.result (sym c.read_with_layout-reading.ensures.0 ∙ c.in-Refused.is) c.refusal.ensures
 
 -- past the refusal the personality is accepted
 accepted : (c : tie.In_default) → verdict_of c.args.personality.now ≡ Accepted
@@ -34,7 +34,7 @@ wait-bound-requires c κs =
 
 returns-2 : tie.Need-returns
 returns-2 c =
-bound-given _ c.packed.result c.site_of-site.result (accepted c.before.before.before.before) c.site_of-site.ensures
+    bound-given _ c.packed.result c.site_of-site.result (accepted c.before.before.before.before) c.site_of-site.ensures
     c.wait_bound.ensures
     c.packed.ensures
 

@@ -24,7 +24,7 @@ refusal-requires c κs =
 
 returns : tie.Need-returns-in-Refused
 returns c =
-let a = c.args in
+    let a = c.args in
     refused a.personality.now a.state.now a.new.now c.refusal.result
     (sym c.read_with_layout-reading.ensures.0 ∙ c.in-Refused.is)
     c.refusal.ensures
@@ -39,7 +39,7 @@ is-state-of-requires c κs = (accepted c.before, c.read_with_layout-reading.ensu
 
 returns-2 : tie.Need-returns-then-not-is_state_of
 returns-2 c =
-let a = c.args in
+    let a = c.args in
     no-state a.personality.now a.state.now a.new.now (accepted c.before.before.before.before) c.refusal-then-not-is_state_of.result
     (sym c.is_state_of.ensures ∙ not-true c.is_state_of.result c.if-not-is_state_of.true)
     c.refusal-then-not-is_state_of.ensures
@@ -58,7 +58,7 @@ refusal-requires-3 c κs =
 
 returns-3 : tie.Need-returns-in-Refused-found
 returns-3 c =
-let a = c.args in
+    let a = c.args in
     new-refused a.personality.now a.state.now a.new.now (accepted c.before.before.before.before.before.before) (valid c.before.before.before) c.refusal-in-Refused-found.result
     (sym c.read_with_layout-second.ensures.0 ∙ c.in-Refused-found.is)
     c.refusal-in-Refused-found.ensures
@@ -70,27 +70,27 @@ second c = sym c.read_with_layout-second.ensures.0 ∙ c.in_default-found.is
 
 differs-elsewhere-requires : tie.Need-differs_elsewhere-requires
 differs-elsewhere-requires c κs =
-(accepted c.before.before.before.before.before, c.read_with_layout-reading.ensures.1)
+    (accepted c.before.before.before.before.before, c.read_with_layout-reading.ensures.1)
 
 returns-4 : tie.Need-returns-then-differs_elsewhere
 returns-4 c =
-let a = c.args in
+    let a = c.args in
     differs-refused a.personality.now a.state.now a.new.now (accepted c.before.before.before.before.before.before.before.before) (valid c.before.before.before.before.before) (second c.before.before.before) c.refusal-then-differs_elsewhere.result
     (sym c.differs_elsewhere.ensures ∙ c.if-differs_elsewhere.true)
     c.refusal-then-differs_elsewhere.ensures
 
 own-times-requires : tie.Need-own_times-times-requires
 own-times-requires c κs =
-accepted-fits (second c.before.before.before) c.read_with_layout-second.ensures.1
+    accepted-fits (second c.before.before.before) c.read_with_layout-second.ensures.1
 
 put-waiting-requires : tie.Need-put_waiting-requires
 unfolding is_state_of
 put-waiting-requires c κs =
-and_left (is_timed c.args.state.now) _ (valid c.before.before.before.before.before.before.before)
+    and_left (is_timed c.args.state.now) _ (valid c.before.before.before.before.before.before.before)
 
 returns-5 : tie.Need-returns
 returns-5 c =
-let a = c.args in
+    let a = c.args in
     retimes a.personality.now a.state.now a.new.now (accepted c.before.before.before.before.before.before.before.before.before.before.before.before.before) (valid c.before.before.before.before.before.before.before.before.before.before) (second c.before.before.before.before.before.before.before.before) c.own_times-times.result _
     (sym c.differs_elsewhere.ensures ∙ c.if-differs_elsewhere.false)
     c.own_times-times.ensures

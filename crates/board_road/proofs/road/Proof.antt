@@ -25,7 +25,7 @@ refusal-requires c κs =
 
 returns : tie.Need-returns-in-Refused
 returns c =
-let a = c.args in
+    let a = c.args in
     declines a.personality.now a.streams.now a.steps a.state.now a.results.now
     (by-personality _ _ _ _ _ (sym c.read_with_layout-reading.ensures.0 ∙ c.in-Refused.is))
     c.refusal.ensures
@@ -59,7 +59,7 @@ tested c =
 
 returns-2 : tie.Need-returns-then-bad_streams
 returns-2 c =
-let a = c.args in
+    let a = c.args in
     declines a.personality.now a.streams.now a.steps a.state.now a.results.now
     (by-streams _ _ _ _ _ (read c.before.before.before) (sym (tested c.before.before) ∙ c.if-bad_streams.true))
     c.refusal-then-bad_streams.ensures
@@ -74,14 +74,14 @@ known c = sym (tested c.before) ∙ c.if-bad_streams.false
 
 returns-3 : tie.Need-returns-then-state-ne-TIMED_BYTES
 returns-3 c =
-let a = c.args in
+    let a = c.args in
     declines a.personality.now a.streams.now a.steps a.state.now a.results.now
     (by_state _ _ _ _ _ (read c.before.before.before.before) (known c.before.before) c.if-state-ne-TIMED_BYTES.true)
     c.refusal-then-state-ne-TIMED_BYTES.ensures
 
 returns-4 : tie.Need-returns-then-results-streams
 returns-4 c =
-let a = c.args in
+    let a = c.args in
     declines a.personality.now a.streams.now a.steps a.state.now a.results.now
     (by-room _ _ _ _ _ (read c.before.before.before.before.before) (known c.before.before.before) c.if-state-ne-TIMED_BYTES.false c.if-results-streams.true)
     c.refusal-then-results-streams.ensures
@@ -102,7 +102,7 @@ put-settled-requires c κs = c.if-state-ne-TIMED_BYTES.false
 
 returns-5 : tie.Need-returns
 returns-5 c =
-let a = c.args in
+    let a = c.args in
     let whole = c.run-last.ensures in
     goes_on a.personality.now a.streams.now a.steps a.state.now a.results.now
     (by-none _ _ _ _ _ (read c.before.before.before.before.before.before.before.before.before.before.before.before.before) (known c.before.before.before.before.before.before.before.before.before.before.before) c.if-state-ne-TIMED_BYTES.false c.if-results-streams.false)

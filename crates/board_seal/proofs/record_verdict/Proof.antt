@@ -21,7 +21,7 @@ version c = sym c.other_version.ensures ∙ c.if-other_version.false
 returns-2 : tie.Need-returns-then-damaged
 unfolding record_verdict ◌or_else◌ refuse_if
 returns-2 c =
-rw (version c.before.before, sym c.damaged.ensures ∙ c.if-damaged.true)
+    rw (version c.before.before, sym c.damaged.ensures ∙ c.if-damaged.true)
 
 whole : (c : tie.Else-damaged) → damaged c.args.sealed.now ≡ false
 whole c = sym c.damaged.ensures ∙ c.if-damaged.false
@@ -32,7 +32,7 @@ other-personality-requires c κs = whole_length _ (whole c)
 returns-3 : tie.Need-returns-then-other_personality
 unfolding record_verdict ◌or_else◌ refuse_if
 returns-3 c =
-rw (version c.before.before.before.before, whole c.before.before, sym c.other_personality.ensures ∙ c.if-other_personality.true)
+    rw (version c.before.before.before.before, whole c.before.before, sym c.other_personality.ensures ∙ c.if-other_personality.true)
 
 state-in-requires : tie.Need-state_in-requires
 state-in-requires c κs = whole_length _ (whole c.before.before)
@@ -40,7 +40,7 @@ state-in-requires c κs = whole_length _ (whole c.before.before)
 returns-4 : tie.Need-returns-then-not-is_state_of
 unfolding record_verdict ◌or_else◌ refuse_if
 returns-4 c =
-rw (
+    rw (
       version c.before.before.before.before.before.before.before,
       whole c.before.before.before.before.before,
       sym c.other_personality.ensures ∙ c.if-other_personality.false,
@@ -52,7 +52,7 @@ rw (
 returns-5 : tie.Need-returns
 unfolding record_verdict ◌or_else◌ refuse_if
 returns-5 c =
-rw (
+    rw (
       version c.before.before.before.before.before.before.before,
       whole c.before.before.before.before.before,
       sym c.other_personality.ensures ∙ c.if-other_personality.false,

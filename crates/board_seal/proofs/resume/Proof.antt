@@ -23,7 +23,7 @@ refusal-requires c κs =
 
 returns : tie.Need-returns-in-Refused
 returns c =
-let a = c.args in
+    let a = c.args in
     not-resumed a.personality.now a.sealed.now a.state.now c.refusal.result
     (sym c.read_with_layout-reading.ensures.0 ∙ c.in-Refused.is)
     c.refusal.ensures
@@ -38,7 +38,7 @@ accepted c = sym c.read_with_layout-reading.ensures.0 ∙ c.in_default.is
 
 returns-2 : tie.Need-returns-then-state-ne-TIMED_BYTES
 returns-2 c =
-let a = c.args in
+    let a = c.args in
     other-room a.personality.now a.sealed.now a.state.now (accepted c.before.before) c.refusal-then-state-ne-TIMED_BYTES.result
     c.if-state-ne-TIMED_BYTES.true
     c.refusal-then-state-ne-TIMED_BYTES.ensures
@@ -47,7 +47,7 @@ let a = c.args in
 
 record-verdict-requires : tie.Need-record_verdict-checked-requires
 record-verdict-requires c κs =
-(accepted c.before.before, c.read_with_layout-reading.ensures.1)
+    (accepted c.before.before, c.read_with_layout-reading.ensures.1)
 
 passed :
     (c : tie.In-Accepted) → let a = c.args in record_verdict a.personality.now a.sealed.now ≡ Accepted
@@ -61,17 +61,17 @@ state-in-requires c κs = long c.before
 
 put-all-requires : tie.Need-put_all-requires
 put-all-requires c κs =
-rw c.state_in.ensures (omega (arith, state-length c.args.sealed.now (long c.before.before), c.if-state-ne-TIMED_BYTES.false))
+    rw c.state_in.ensures (omega (arith, state-length c.args.sealed.now (long c.before.before), c.if-state-ne-TIMED_BYTES.false))
 
 refusal-requires-3 : tie.Need-refusal-requires-in-Refused-checked
 refusal-requires-3 c κs =
-let a = c.args in
+    let a = c.args in
     let refused = sym c.record_verdict-checked.ensures ∙ c.in-Refused-checked.is in
     omega (arith, record-place a.personality.now a.sealed.now refused)
 
 returns-3 : tie.Need-returns-in-Accepted
 returns-3 c =
-let a = c.args in
+    let a = c.args in
     let room = c.if-state-ne-TIMED_BYTES.false in
     resumes a.personality.now a.sealed.now a.state.now (accepted c.before.before.before.before.before.before.before.before.before) room _ (passed c.before.before.before.before.before)
     (rw (c.put_all_lem.ensures, c.state_in.ensures)
@@ -79,7 +79,7 @@ let a = c.args in
 
 returns-4 : tie.Need-returns-in-Refused-checked
 returns-4 c =
-let a = c.args in
+    let a = c.args in
     record-refused a.personality.now a.sealed.now a.state.now (accepted c.before.before.before.before.before) c.if-state-ne-TIMED_BYTES.false
     c.refusal-in-Refused-checked.result
     (sym c.record_verdict-checked.ensures ∙ c.in-Refused-checked.is)

@@ -22,7 +22,7 @@ refusal-requires c κs =
 
 returns : tie.Need-returns-in-Refused
 returns c =
-let a = c.args in
+    let a = c.args in
     not-sealed a.personality.now a.state.now a.sealed.now c.refusal.result
     (sym c.read_with_layout-reading.ensures.0 ∙ c.in-Refused.is)
     c.refusal.ensures
@@ -40,7 +40,7 @@ is-state-of-requires c κs = (accepted c.before, c.read_with_layout-reading.ensu
 
 returns-2 : tie.Need-returns-then-not-is_state_of
 returns-2 c =
-let a = c.args in
+    let a = c.args in
     no-state a.personality.now a.state.now a.sealed.now (accepted c.before.before.before.before) c.refusal-then-not-is_state_of.result
     (sym c.is_state_of.ensures ∙ not-true c.is_state_of.result c.if-not-is_state_of.true)
     c.refusal-then-not-is_state_of.ensures
@@ -52,7 +52,7 @@ valid c = sym c.is_state_of.ensures ∙ not-false c.is_state_of.result c.if-not-
 
 returns-3 : tie.Need-returns-then-sealed-ne-SEALED_BYTES
 returns-3 c =
-let a = c.args in
+    let a = c.args in
     no_room a.personality.now a.state.now a.sealed.now (accepted c.before.before.before.before.before) (valid c.before.before) c.refusal-then-sealed-ne-SEALED_BYTES.result
     c.if-sealed-ne-SEALED_BYTES.true
     c.refusal-then-sealed-ne-SEALED_BYTES.ensures
@@ -62,7 +62,7 @@ let a = c.args in
 write-sealed-requires : tie.Need-write_sealed-requires
 unfolding AcceptedIsShort
 write-sealed-requires c κs =
-let a = c.args in (
+    let a = c.args in (
       accepted-is-short.1 a.personality.now (accepted c.before.before.before.before.before),
       state-long a.personality.now a.state.now (valid c.before.before),
       c.if-sealed-ne-SEALED_BYTES.false,
@@ -70,7 +70,7 @@ let a = c.args in (
 
 returns-4 : tie.Need-returns
 returns-4 c =
-let a = c.args in
+    let a = c.args in
     seals a.personality.now a.state.now a.sealed.now (accepted c.before.before.before.before.before.before.before.before) (valid c.before.before.before.before.before) _
     c.if-sealed-ne-SEALED_BYTES.false
     c.write_sealed.ensures

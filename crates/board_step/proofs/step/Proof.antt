@@ -37,7 +37,7 @@ refusal-requires c κs =
 
 returns : tie.Need-returns-in-Refused
 returns c =
-let a = c.args in
+    let a = c.args in
     refused a.personality.now a.state.now a.inputs a.colours.now c.refusal.result
     (sym c.read_with_layout-reading.ensures.0 ∙ c.in-Refused.is)
     c.refusal.ensures
@@ -49,7 +49,7 @@ accepted c = sym c.read_with_layout-reading.ensures.0 ∙ c.in_default.is
 
 returns-2 : tie.Need-returns-then-not-is_timed
 returns-2 c =
-let a = c.args in
+    let a = c.args in
     no-state a.personality.now a.state.now a.inputs a.colours.now (accepted c.before.before.before.before) c.refusal-then-not-is_timed.result
     (sym (none a.personality.now a.state.now (sym c.is_timed.ensures ∙ not-true c.is_timed.result c.if-not-is_timed.true)))
     c.refusal-then-not-is_timed.ensures
@@ -64,11 +64,11 @@ sizes c = timed-known c.args.state.now (known c)
 
 site-in-requires : tie.Need-site_in-site-requires
 site-in-requires c κs =
-(accepted-fits (accepted c.before.before.before) c.read_with_layout-reading.ensures.1, omega (arith, (sizes c).size))
+    (accepted-fits (accepted c.before.before.before) c.read_with_layout-reading.ensures.1, omega (arith, (sizes c).size))
 
 read-requires : tie.Need-read-before-requires
 read-requires c κs =
-(omega (arith, (sizes c.before).size), (sizes c.before).kept-known)
+    (omega (arith, (sizes c.before).size), (sizes c.before).kept-known)
 
 decoded :
     (c : tie.After-read-before) →
@@ -77,11 +77,11 @@ decoded c = record { known = known c.before.before; under-times = c.site_in-site
 
 valid-requires : tie.Need-valid-requires
 valid-requires c κs =
-(accepted c.before.before.before.before.before, c.read_with_layout-reading.ensures.1, decoded c)
+    (accepted c.before.before.before.before.before, c.read_with_layout-reading.ensures.1, decoded c)
 
 returns-3 : tie.Need-returns-then-not-valid
 returns-3 c =
-let a = c.args in
+    let a = c.args in
     no-state a.personality.now a.state.now a.inputs a.colours.now (accepted c.before.before.before.before.before.before.before.before) c.refusal-then-not-valid.result
     (sym c.valid.ensures ∙ not-true c.valid.result c.if-not-valid.true)
     c.refusal-then-not-valid.ensures
@@ -122,7 +122,7 @@ tested c =
 
 returns-4 : tie.Need-returns-then-stray_input
 returns-4 c =
-let a = c.args in
+    let a = c.args in
     stray a.personality.now a.state.now a.inputs a.colours.now (accepted c.before.before.before.before.before.before.before.before.before.before) (valid c.before.before.before) c.refusal-then-stray_input.result
     (sym (tested c.before.before) ∙ c.if-stray_input.true)
     c.refusal-then-stray_input.ensures
@@ -137,7 +137,7 @@ groups c = ap (λ (x : Site). x.size.groups) (ruled c.before.before.before)
 
 returns-5 : tie.Need-returns-then-colours-site
 returns-5 c =
-let a = c.args in
+    let a = c.args in
     no_room a.personality.now a.state.now a.inputs a.colours.now (accepted c.before.before.before.before.before.before.before.before.before.before.before.before) (valid c.before.before.before.before.before) (only c.before.before)
     c.refusal-then-colours-site.result
     (lt-ltb (length a.colours.now) _ (rw (groups c.before.before) at c.if-colours-site.true))
@@ -153,14 +153,14 @@ takes-over-requires c κs = ready c.before.before.before.before
 
 site-in-requires-2 : tie.Need-site_in-site-requires-then-over
 site-in-requires-2 c κs =
-(accepted-fits (accepted c.before.before.before.before.before.before.before.before.before.before.before.before.before) c.read_with_layout-reading.ensures.1, omega (arith, (sizes c.before.before.before.before.before.before.before.before.before.before).size))
+    (accepted-fits (accepted c.before.before.before.before.before.before.before.before.before.before.before.before.before) c.read_with_layout-reading.ensures.1, omega (arith, (sizes c.before.before.before.before.before.before.before.before.before.before).size))
 
 -- waiting times take over, or the step goes on under those that rule
 goes :
     (c : tie.Joined5) →
-Goes (site c.before.before.before.before.before.before) c.args.state.now c.takes_over-over.result c.if-over.site c.if-over.before
+    Goes (site c.before.before.before.before.before.before) c.args.state.now c.takes_over-over.result c.if-over.site c.if-over.before
 goes c =
-let a = c.args in
+    let a = c.args in
     let takes = c.takes_over-over.ensures in
     ⊎_elim
     (λ w. goes_over (site c.before.before.before.before.before.before) c.read-before.result a.state.now (ready c.before.before.before.before.before.before) takes w.0.taken
@@ -181,12 +181,12 @@ put-next-requires c κs = known c.before.before.before.before.before.before.befo
 
 shown-requires : tie.Need-shown-requires
 shown-requires c κs =
-let by = goes c.before.before.before.before.before.before in
+    let by = goes c.before.before.before.before.before.before in
     (by.sound, subst (λ (x : Site). x.size.groups ≤ length c.args.colours.now) by.ruled c.if-colours-site.left)
 
 returns-6 : tie.Need-returns
 returns-6 c =
-let a = c.args in
+    let a = c.args in
     steps a.personality.now a.state.now a.inputs a.colours.now (accepted c.before.before.before.before.before.before.before.before.before.before.before.before.before.before.before.before.before.before.before.before.before.before) (valid c.before.before.before.before.before.before.before.before.before.before.before.before.before.before.before) (only c.before.before.before.before.before.before.before.before.before.before.before.before)
     (le-ltb (length a.colours.now) _ (room c.before.before.before.before.before.before.before.before.before.before.before))
     (ruled c.before.before.before.before.before.before.before.before.before.before.before.before.before.before.before)

@@ -30,11 +30,11 @@ mul-put-two c = search rules
 
 wait-at-requires : tie.Need-wait_at-requires invariant-loop-i decreases-loop-i
 wait-at-requires c κs =
-(c.requires.0, omega (arith, c.loop-i-test.true, c.requires.1))
+    (c.requires.0, omega (arith, c.loop-i-test.true, c.requires.1))
 
 put-two-requires : tie.Need-put_two-requires invariant-loop-i decreases-loop-i
 put-two-requires c κs =
-omega (arith, stored-length c.loop-i.invariant, c.requires.2, c.loop-i-test.true)
+    omega (arith, stored-length c.loop-i.invariant, c.requires.2, c.loop-i-test.true)
 
 add-i : tie.Need-overflow_add-i invariant-loop-i decreases-loop-i
 add-i c = search rules
@@ -44,7 +44,7 @@ loop-less c = search rules
 
 loop-again : tie.Need-loop-i-preserved invariant-loop-i decreases-loop-i
 loop-again c =
-let site = c.args.site in
+    let site = c.args.site in
     rw c.put_two.ensures
     (stored-record (wait_part site) 2 (λ i. refl) (2 * c.loop-i.i) (two.written c.wait_at.result) c.loop-i.invariant
     c.loop-i-test.true
@@ -57,7 +57,7 @@ same_length c = stored-length c.loop-i.invariant
 returns : tie.Need-returns invariant-loop-i decreases-loop-i
 unfolding wait_bytes
 returns c =
-stored-all c.loop-i.invariant c.loop-i-test.false
+    stored-all c.loop-i.invariant c.loop-i-test.false
     ∙ ap (λ (n : ℕ). sets c.args.buffer.now 0 (parts_of (wait_part c.args.site) n)) c.requires.1
 
 pub put_waits_spec : {M : Type 1} → statement M

@@ -26,7 +26,7 @@ refusal-requires c κs =
 
 returns : tie.Need-returns-in-Refused
 returns c =
-let a = c.args in
+    let a = c.args in
     waits-refused a.personality.now a.buffer.now _ _ c.refusal.result
     (sym c.read_with_layout-reading.ensures.0 ∙ c.in-Refused.is)
     c.refusal.ensures
@@ -69,15 +69,15 @@ add-count c =
 
 returns-2 : tie.Need-returns-then-buffer-count
 returns-2 c =
-waits-short (bytes c.before.before.before) (out c.before.before.before) c.refusal-then-buffer-count.result (known c.before.before.before) (omega (arith, c.if-buffer-count.true, count c.before.before.before)) c.refusal-then-buffer-count.ensures
+    waits-short (bytes c.before.before.before) (out c.before.before.before) c.refusal-then-buffer-count.result (known c.before.before.before) (omega (arith, c.if-buffer-count.true, count c.before.before.before)) c.refusal-then-buffer-count.ensures
 
 put-waits-requires : tie.Need-put_waits-requires
 put-waits-requires c κs =
-(sound c.before.before.before, refl, c.if-buffer-count.false)
+    (sound c.before.before.before, refl, c.if-buffer-count.false)
 
 returns-3 : tie.Need-returns
 returns-3 c =
-let written =
+    let written =
     waits-written (bytes c.before.before.before.before.before.before.before) (out c.before.before.before.before.before.before.before) c.packed.result (known c.before.before.before.before.before.before.before) (omega (arith, c.if-buffer-count.false, count c.before.before.before.before.before.before.before))
     (c.packed.ensures ∙ ap (λ (n : ℕ). packed 0 (2 * n)) (count c.before.before.before.before.before.before.before)) in (
       written.0,

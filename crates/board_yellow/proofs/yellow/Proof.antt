@@ -29,14 +29,14 @@ refusal-requires c κs =
 returns : tie.Need-returns-in-Yellow
 unfolding yellow_answer
 returns c =
-let made = c.yellow-answer in
+    let made = c.yellow-answer in
     let told = made.ensures.0 ∙ ap (answer_of c.args.speed) (to_z-of_z c.ranges.grade) in
     packed-given made.result _ _ told c.in-Yellow.is c.packed.ensures
 
 returns-2 : tie.Need-returns-in-Refused
 unfolding yellow_answer
 returns-2 c =
-let made = c.yellow-answer in
+    let made = c.yellow-answer in
     let told = made.ensures.0 ∙ ap (answer_of c.args.speed) (to_z-of_z c.ranges.grade) in
     packed-refused made.result _ _ told c.in-Refused.is c.refusal.ensures
 

@@ -17,13 +17,13 @@ returns c = or-stop _ c.read-verdict.ensures c.in-Refused.is
 returns-2 : tie.Need-returns-then-past_last
 unfolding held_checks
 returns-2 c =
-or-next c.read-verdict.ensures c.in_default.is
+    or-next c.read-verdict.ensures c.in_default.is
     (refuse-yes 25 0 (sym (ap (past_last c.args.first) c.outputs_of.ensures) ∙ sym c.past_last.ensures ∙ c.if-past_last.true))
 
 returns-3 : tie.Need-returns
 unfolding held_checks
 returns-3 c =
-or-next c.read-verdict.ensures c.in_default.is
+    or-next c.read-verdict.ensures c.in_default.is
     (sym (refuse-no 25 0 (sym (ap (past_last c.args.first) c.outputs_of.ensures) ∙ sym c.past_last.ensures ∙ c.if-past_last.false)))
 
 pub held_checks_spec : {M : Type 1} → statement M

@@ -21,22 +21,22 @@ packed-verdict-requires c κs = subst⁻¹ Near c.held_checks.ensures (held-near
 
 returns : tie.Need-returns-then-past_last
 returns c =
-past-step _ _ _ _ _ (tested c.before.before.before ∙ c.if-past_last.true) (c.packed_verdict.ensures ∙ ap packed_verdict c.held_checks.ensures)
+    past-step _ _ _ _ _ (tested c.before.before.before ∙ c.if-past_last.true) (c.packed_verdict.ensures ∙ ap packed_verdict c.held_checks.ensures)
 
 returns-2 : tie.Need-returns-then-outputs-lt32
 returns-2 c =
-short-step _ _ _ _ _ c.step.ensures (tested c.before.before.before.before.before.before.before.before.before ∙ c.if-past_last.false) c.if-outputs-lt32.true c.outputs-1.given.0
+    short-step _ _ _ _ _ c.step.ensures (tested c.before.before.before.before.before.before.before.before.before ∙ c.if-past_last.false) c.if-outputs-lt32.true c.outputs-1.given.0
 
 part-step-end : tie.Need-slice_bounds-step-end-2
 unfolding past_last
 part-step-end c =
-let a = c.args in
+    let a = c.args in
     let within = ltb-false 32 (a.first + outputs_of a.personality.now) (tested c.before.before.before ∙ c.if-past_last.false) in
     omega (arith, c.if-outputs-lt32.false, within, c.outputs_of-count.ensures)
 
 returns-3 : tie.Need-returns
 returns-3 c =
-let count = c.outputs_of-count in
+    let count = c.outputs_of-count in
     let size : c.args.first + count.result - c.args.first ≡ outputs_of c.args.personality.now = omega (arith, count.ensures) in
     own-step _ _ _ _ _ _ size c.step-2.ensures (tested c.before.before.before.before.before.before.before.before.before ∙ c.if-past_last.false) c.if-outputs-lt32.false c.outputs-2-1.given.0
 

@@ -24,7 +24,7 @@ fill-requires c κs =
 
 returns-2 : tie.Need-returns
 returns-2 c =
-let asked = c.taking_checks-verdict in
+    let asked = c.taking_checks-verdict in
     let fits = taking-fits _ _ (sym asked.ensures ∙ c.in_default.is) in (
       asked.ensures,
       c.fill.ensures ∙ turned-accepted dark _ _ _ asked.ensures c.in_default.is c.outputs_of.ensures fits,

@@ -18,12 +18,12 @@ met c e = let a = c.before.before.before.args in sym (ap (meet a.first a.count a
 
 returns : tie.Need-returns-then-meet
 returns c =
-let b = c.args.personality.now in
+    let b = c.args.personality.now in
     c.is_accepted.ensures ∙ sym (ap (◌&&◌ (is_accepted (verdict_of b))) (met c.before.before c.if-meet.true) ∙ and-true (is_accepted (verdict_of b)))
 
 returns-2 : tie.Need-returns
 returns-2 c =
-let b = c.args.personality.now in
+    let b = c.args.personality.now in
     sym (and-false-right (is_accepted (verdict_of b)) (met c.before c.if-meet.false))
 
 pub meets_spec : {M : Type 1} → statement M

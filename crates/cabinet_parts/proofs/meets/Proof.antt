@@ -27,7 +27,7 @@ meets-requires c κs = search rules
 returns-2 : tie.Need-returns
 unfolding meets_record has_outputs
 returns-2 c =
-let start = sized.before.before in
+    let start = sized.before.before in
     rw (held-record (own start) c.if-held-eq0.false, ← room-part (own start) c.all-1.given.0 c.held_size-length.ensures) c.meets.ensures
 
 pub meets_spec : {M : Type 1} → statement M

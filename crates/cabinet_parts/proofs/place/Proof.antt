@@ -30,7 +30,7 @@ same_length c = search rules
 returns : tie.Need-returns-in-Refused
 unfolding is_free
 returns c =
-placing-refused (own c.before.before.before.before.before.before.before.before.before) _ _ _ _ c.held_placing-reading.ensures.0 c.held_placing-reading.ensures.2 c.in-Refused.is c.refusal.ensures
+    placing-refused (own c.before.before.before.before.before.before.before.before.before) _ _ _ _ c.held_placing-reading.ensures.0 c.held_placing-reading.ensures.2 c.in-Refused.is c.refusal.ensures
 
 enum_told : tie.Need-enum_told-1
 enum_told c = search rules
@@ -61,7 +61,7 @@ same-length-2 c = search rules
 returns-2 : tie.Need-returns
 unfolding is_free
 returns-2 c =
-placing-accepted (own c.before.before.before.before.before.before.before.before.before.before.before.before.before.before.before) _ _ _ _ c.held_placing-reading.ensures.0 c.held_placing-reading.ensures.2 c.in_default.is
+    placing-accepted (own c.before.before.before.before.before.before.before.before.before.before.before.before.before.before.before) _ _ _ _ c.held_placing-reading.ensures.0 c.held_placing-reading.ensures.2 c.in_default.is
     (held-parts c.args.personality.now c.args.size.now c.args.room.now c.args.state.now c.args.first
     c.put_two-arg-1.given.0.1 c.put_two.ensures c.store-arg-1.given.0.1 c.store.ensures c.fresh_state-arg-1.given.0.1 c.fresh_state.ensures)
 

@@ -29,7 +29,7 @@ same_length c = search rules
 
 returns-2 : tie.Need-returns
 returns-2 c =
-let start = sized.before.before.before in
+    let start = sized.before.before.before in
     step-held (own start) _ _ c.if-held-eq0.false (room-part (own start) c.all-1.given.0 c.held_size-count.ensures) c.held_step.ensures
 
 pub step_spec : {M : Type 1} → statement M

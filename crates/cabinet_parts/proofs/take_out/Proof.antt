@@ -51,7 +51,7 @@ same_length c = search rules
 
 returns-2 : tie.Need-returns-in-Refused
 returns-2 c =
-taking-refused (record_of c.before.before.before.before) _ (is_held c.before.before.before.before) (whole c.before.before.before.before) c.held_taking-verdict.ensures.0 c.held_taking-verdict.ensures.1 c.in-Refused.is c.refusal-in-Refused.ensures
+    taking-refused (record_of c.before.before.before.before) _ (is_held c.before.before.before.before) (whole c.before.before.before.before) c.held_taking-verdict.ensures.0 c.held_taking-verdict.ensures.1 c.in-Refused.is c.refusal-in-Refused.ensures
 
 enum_told : tie.Need-enum_told-1
 enum_told c = search rules
@@ -70,7 +70,7 @@ same-length-2 c = search rules
 
 returns-3 : tie.Need-returns
 returns-3 c =
-taking-accepted (record_of c.before.before.before.before.before.before.before.before.before) _ (is_held c.before.before.before.before.before.before.before.before.before) (whole c.before.before.before.before.before.before.before.before.before) c.held_taking-verdict.ensures.0 c.held_taking-verdict.ensures.1 c.in_default.is
+    taking-accepted (record_of c.before.before.before.before.before.before.before.before.before) _ (is_held c.before.before.before.before.before.before.before.before.before) (whole c.before.before.before.before.before.before.before.before.before) c.held_taking-verdict.ensures.0 c.held_taking-verdict.ensures.1 c.in_default.is
     (cleared-record (record_of c.before.before.before.before.before.before.before.before.before).length (record_of c.before.before.before.before.before.before.before.before.before).personality (record_of c.before.before.before.before.before.before.before.before.before).state c.fill-arg-1.given.0.1 c.fill.ensures
     c.fill-arg-2-1.given.0.1 c.fill-2.ensures c.fill-arg-3-1.given.0.1 c.fill-3.ensures)
 

@@ -15,7 +15,7 @@ put-reason-requires c κs =
 
 returns : tie.Need-returns-then-test
 returns c =
-put_as (told-yes c.args.reason c.if-test.true) c.put_reason.ensures
+    put_as (told-yes c.args.reason c.if-test.true) c.put_reason.ensures
 
 returns-2 : tie.Need-returns-else-test
 returns-2 c =

@@ -37,7 +37,7 @@ bit8-requires c κs = search rules
 -- the text up to the next movement is no longer than that of all of them
 put-told-requires : tie.Need-put_told-next-requires invariant-loop-k decreases-loop-k
 put-told-requires c κs =
-let at = c.loop-k in
+    let at = c.loop-k in
     let walking : ℕ → Bool = λ i. bit i c.args.set in
     let all : at.k + 1 + (7 - at.k) ≡ 8 = omega arith in
     rw c.bit8.ensures
@@ -58,7 +58,7 @@ loop-less c = search rules
 
 loop-again : tie.Need-loop-k-preserved invariant-loop-k decreases-loop-k
 loop-again c =
-let at = c.loop-k in
+    let at = c.loop-k in
     let walking : ℕ → Bool = λ i. bit i c.args.set in
     (omega arith, put_as (walks_more walking at.k) (put_then at.invariant.1 (rw c.bit8.ensures at c.put_told-next.ensures)))
 

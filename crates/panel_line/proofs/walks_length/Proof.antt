@@ -43,7 +43,7 @@ loop-less c = search rules
 
 loop-again : tie.Need-loop-k-preserved invariant-loop-k decreases-loop-k
 loop-again c =
-let at = c.loop-k in
+    let at = c.loop-k in
     let own = rw c.bit8.ensures at c.told_length-total.ensures.0 in
     let sum = walks-sum (λ i. bit i c.args.set) at.k in
     (omega arith, omega arith, omega arith)

@@ -28,16 +28,16 @@ loop-holds c = (omega arith, passing-none (walking_among c.args.table))
 -- the test of movement k
 own-walking :
     (c : tie.After-is_walk_or_first invariant-loop-k decreases-loop-k) →
-c.is_walk_or_first.result ≡ walking_among c.args.table c.loop-k.k
+    c.is_walk_or_first.result ≡ walking_among c.args.table c.loop-k.k
 unfolding walking_among
 own-walking c =
-let inside : c.loop-k.k < length c.args.table = omega (arith, c.loop-k-test.true, c.well_formed.0.1.0.1) in
+    let inside : c.loop-k.k < length c.args.table = omega (arith, c.loop-k-test.true, c.well_formed.0.1.0.1) in
     c.is_walk_or_first.ensures
     ∙ ap (λ (m : Movement). is_walk_or_first m.stage) (entry-same c.args.table c.loop-k.k (record { stage = Idle; age = 0 }) idle inside)
 
 loop-again : tie.Need-loop-k-preserved invariant-loop-k decreases-loop-k
 loop-again c =
-let walking = walking_among c.args.table in
+    let walking = walking_among c.args.table in
     let own = own-walking c.before in (
       omega arith,
       ⊎_elim

@@ -19,7 +19,7 @@ sub-left c =
 
 returns : tie.Need-returns
 returns c =
-let a = c.args in
+    let a = c.args in
     record {
       line =
           line-told a.site a.state a.inputs _

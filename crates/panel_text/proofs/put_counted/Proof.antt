@@ -6,7 +6,7 @@ use Rattle.panel_text.proofs.put_counted.Tie as tie
 
 returns : tie.Need-returns
 returns c =
-put_then c.put_bytes-next.ensures c.put_decimal.ensures
+    put_then c.put_bytes-next.ensures c.put_decimal.ensures
 
 pub put_counted_spec : {M : Type 1} → statement M
 put_counted_spec = tie.close (tie.spec (λ c κs. search rules) (λ c κs. search rules) (λ c. search rules) returns)

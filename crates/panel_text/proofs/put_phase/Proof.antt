@@ -17,7 +17,7 @@ same_length c =
 
 returns : tie.Need-returns
 returns c =
-let a = c.args in
+    let a = c.args in
     put_as (line-start a.phase (omega arith))
     (put_then {a = (65 + a.phase) ∷ []} {at = 0} {old = a.out.now} (record { place = refl; bytes = refl }) c.put_bytes.ensures)
 

@@ -31,22 +31,22 @@ put-counted-requires-3 c κs = omega (arith, ap (λ (r : Reason). length (reason
 returns : tie.Need-returns-in-NoOtherDemand
 unfolding reason_text
 returns c =
-put_as (ap reason_text c.in-NoOtherDemand.is) c.put_bytes.ensures
+    put_as (ap reason_text c.in-NoOtherDemand.is) c.put_bytes.ensures
 
 returns-2 : tie.Need-returns-in-Gap
 unfolding reason_text
 returns-2 c =
-put_as (ap reason_text c.in-Gap.is) c.put_counted.ensures
+    put_as (ap reason_text c.in-Gap.is) c.put_counted.ensures
 
 returns-3 : tie.Need-returns-in-Max
 unfolding reason_text
 returns-3 c =
-put_as (ap reason_text c.in-Max.is) c.put_counted-in-Max.ensures
+    put_as (ap reason_text c.in-Max.is) c.put_counted-in-Max.ensures
 
 returns-4 : tie.Need-returns-in-Walk
 unfolding reason_text
 returns-4 c =
-put_as (ap reason_text c.in-Walk.is) c.put_counted-in-Walk.ensures
+    put_as (ap reason_text c.in-Walk.is) c.put_counted-in-Walk.ensures
 
 pub put_reason_spec : {M : Type 1} → statement M
 put_reason_spec =

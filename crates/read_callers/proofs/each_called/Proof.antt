@@ -66,7 +66,7 @@ own-within c = omega (arith, turn c, counted c.before.before.before.before.befor
 pair-at-requires : tie.Need-pair_at-detector-requires invariant-loop-called decreases-loop-called
 unfolding pedestrians_head body_at
 pair-at-requires c κs =
-let layout = c.args.layout in
+    let layout = c.args.layout in
     omega (
       arith,
       record-within layout.detectors 2 ((layout.pedestrians - layout.detectors - 4) / 2) c.loop-called.d (turn c),
@@ -78,14 +78,14 @@ let layout = c.args.layout in
 -- the record read is that of detector d
 record_read :
     (c : tie.After-pair_at-detector invariant-loop-called decreases-loop-called) →
-let b = c.args.s.now in
+    let b = c.args.s.now in
     let d = c.loop-called.d in
     (c.pair_at-detector.result.first ≡ detector_phase b d)
     × (c.pair_at-detector.result.second ≡ detector_mode b d)
     × (c.pair_at-detector.result.first < phase_count b)
 unfolding detector_phase detector_mode
 record_read c =
-let head = c.requires.0.detectors in
+    let head = c.requires.0.detectors in
     let phase = rw head at c.pair_at-detector.ensures.0 in
     (phase, rw head at c.pair_at-detector.ensures.1, omega (arith, phase, (told c.before.before.before.before.before.before).phase c.loop-called.d (own-within c.before)))
 
@@ -100,7 +100,7 @@ loop-less c = omega (arith, turn c.before.before.before)
 
 loop-again : tie.Need-loop-called-preserved invariant-loop-called decreases-loop-called
 loop-again c =
-let b = c.args.s.now in
+    let b = c.args.s.now in
     let d = c.loop-called.d in
     let called = c.loop-called.invariant.1 in
     let held = record_read c.before.before in (
@@ -117,14 +117,14 @@ whole :
     is_full c.before ≡ false →
     c.loop-called.d ≡ detector_count c.args.s.now
 whole c e =
-let layout = c.args.layout in
+    let layout = c.args.layout in
     let count = (layout.pedestrians - layout.detectors - 4) / 2 in
     let past = ltb-false c.loop-called.d count (and-false-rest (ltb c.loop-called.d count) c.loop-called-test.false (ap not e)) in
     omega (arith, past, c.loop-called.invariant.0, counted c.before.before.before.before.before)
 
 returns : tie.Need-returns invariant-loop-called decreases-loop-called
 returns c =
-let phases = c.requires.0.phasecount in
+    let phases = c.requires.0.phasecount in
     rw phases
     (called-decided _ (few c.before.before.before.before.before) c.loop-called.invariant.1 (omega (arith, c.loop-called.invariant.0, counted c.before.before.before.before.before))
     (λ e. whole c (ap (λ (n : ℕ). eqb c.loop-called.called (1 * 2 ^ n % 2 ^ 8 - 1)) phases ∙ e)))

@@ -32,10 +32,10 @@ returns c = or-stop _ (checked c.before) c.in-Refused.is
 -- the head has passed: all records are there
 fits :
     (c : tie.In_default) →
-MatrixFits c.args.s.now c.args.layout
+    MatrixFits c.args.s.now c.args.layout
 unfolding conflicts_head
 fits c =
-let pre = c.requires in
+    let pre = c.requires in
     let site = site-accepted _ pre.1 in
     let laid = pre.0 in
     record {

@@ -13,7 +13,7 @@ small c i = omega (arith, c.shared_slice_known-1.given i)
 
 returns : tie.Need-returns
 returns c =
-let pre = c.requires in
+    let pre = c.requires in
     conflict-rows pre.0.laid _ _ (small c.before.before) pre.2 c.band_tile.ensures
 
 pub conflict_tile_spec : {M : Type 1} → statement M

@@ -28,7 +28,7 @@ near :
     (c : tie.In-loop-r invariant-loop-r decreases-loop-r) →
     (c.loop-r.r - 1) * c.args.stride ≤ 28
 near c =
-let r = c.loop-r.r in
+    let r = c.loop-r.r in
     omega (arith, mul-le-mul_left (r - 1) c.requires.1, c.requires.2, c.loop-r.invariant.within)
 
 mul-t : tie.Need-overflow_mul-t invariant-loop-r decreases-loop-r
@@ -55,7 +55,7 @@ loop-less c = search rules
 
 loop-again : tie.Need-loop-r-preserved invariant-loop-r decreases-loop-r
 loop-again c =
-stacked-more c.loop-r.invariant c.loop-r-test.true (omega arith) c.byte_in.ensures
+    stacked-more c.loop-r.invariant c.loop-r-test.true (omega arith) c.byte_in.ensures
 
 returns : tie.Need-returns invariant-loop-r decreases-loop-r
 returns c = stacked-whole c.loop-r.invariant c.loop-r-test.false

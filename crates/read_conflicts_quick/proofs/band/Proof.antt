@@ -22,7 +22,7 @@ decreases-loop-a s layout k sets groups own members a₀ a = groups - a
 -- the band's own sets
 rows :
     (c : tie.After-mirrored-members invariant-loop-a decreases-loop-a) →
-SetRows c.args.s.now c.args.k (get_or c.args.t4 c.args.k 0)
+    SetRows c.args.s.now c.args.k (get_or c.args.t4 c.args.k 0)
 rows c = let pre = c.requires in pre.2.told _ (omega (arith, pre.0.laid.groupcount))
 
 cast-groups : tie.Need-overflow_cast-groups invariant-loop-a decreases-loop-a
@@ -62,7 +62,7 @@ array-read-block c = search rules
 
 block-requires : tie.Need-block-requires invariant-loop-a decreases-loop-a
 block-requires c κs =
-let pre = c.requires in (
+    let pre = c.requires in (
       pre.0,
       c.loop-a-test.true,
       c.loop-a.invariant.1,
@@ -80,12 +80,11 @@ loop-less : tie.Need-loop-a-smaller invariant-loop-a decreases-loop-a
 loop-less c = search rules
 
 loop-again : tie.Need-loop-a-preserved invariant-loop-a decreases-loop-a
-loop-again c =
-    (
-      omega arith,
-      omega arith,
-      upto-more (λ i. BlockRight _ i _) _ _ c.loop-a.invariant.2 (c.block.ensures (not-false _ c.if-not-block.false)),
-    )
+loop-again c = (
+  omega arith,
+  omega arith,
+  upto-more (λ i. BlockRight _ i _) _ _ c.loop-a.invariant.2 (c.block.ensures (not-false _ c.if-not-block.false)),
+)
 
 returns-3 : tie.Need-returns invariant-loop-a decreases-loop-a
 returns-3 c e =

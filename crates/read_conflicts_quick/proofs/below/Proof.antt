@@ -53,7 +53,7 @@ loop-less c = search rules
 loop-again : tie.Need-loop-g-preserved invariant-loop-g decreases-loop-g
 unfolding conflict_set record_at body_at any_of
 loop-again c =
-let head = c.requires.laid.conflicts in
+    let head = c.requires.laid.conflicts in
     (omega arith, rw (add-one, union-reaches, c.loop-g.invariant.1, c.four_in-all.ensures, head))
 
 reaches32-requires : tie.Need-reaches32-requires invariant-loop-g decreases-loop-g
@@ -61,7 +61,7 @@ reaches32-requires c κs = search rules
 
 returns : tie.Need-returns invariant-loop-g decreases-loop-g
 returns c =
-let n = c.requires.laid.groupcount in
+    let n = c.requires.laid.groupcount in
     let last : c.loop-g.g ≡ group_count c.args.s.now = omega arith in
     ap not (rw n at c.reaches32.ensures ∙ c.loop-g.invariant.1 ∙ ap (any_of (past _)) last)
 

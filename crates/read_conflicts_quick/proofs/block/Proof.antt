@@ -7,7 +7,7 @@ use Rattle.read_conflicts_quick.proofs.block.Tie as tie
 
 returns : tie.Need-returns
 returns c e =
-let pre = c.requires in
+    let pre = c.requires in
     block-sound pre.0 c.conflict_tile-t.ensures c.conflict_tile-back.ensures pre.3 pre.4
     (λ r n h l same. absurd (omega (arith, h, l, same, pre.2)))
     (c.matched.ensures e)

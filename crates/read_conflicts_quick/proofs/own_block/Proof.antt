@@ -7,7 +7,7 @@ use Rattle.read_conflicts_quick.proofs.own_block.Tie as tie
 
 returns : tie.Need-returns
 returns c e =
-let pre = c.requires in
+    let pre = c.requires in
     let tile = c.conflict_tile-t.ensures in
     block-sound pre.0 tile tile pre.2 pre.3 (λ r n h l same. diagonal-bit r n h (omega (arith, same))) (c.matched.ensures e)
 

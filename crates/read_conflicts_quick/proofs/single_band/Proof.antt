@@ -7,7 +7,7 @@ use Rattle.read_conflicts_quick.proofs.single_band.Tie as tie
 
 returns : tie.Need-returns
 returns c e =
-let sets = c.set_tile-sets.ensures in
+    let sets = c.set_tile-sets.ensures in
     let tile = c.conflict_tile-t.ensures in
     let pre = c.requires in
     single-sound _

@@ -6,7 +6,7 @@ use Rattle.read_conflicts_turned.proofs.row_of.Tie as tie
 
 returns : tie.Need-returns
 returns c =
-row_told _ _ (rw (c.tile_row.ensures, c.tile_row-2.ensures, c.tile_row-3.ensures, c.tile_row-4.ensures))
+    row_told _ _ (rw (c.tile_row.ensures, c.tile_row-2.ensures, c.tile_row-3.ensures, c.tile_row-4.ensures))
 
 pub row_of_spec : {M : Type 1} → statement M
 row_of_spec =

@@ -37,7 +37,7 @@ loop-less c = search rules
 
 loop-again : tie.Need-loop-r-preserved invariant-loop-r decreases-loop-r
 loop-again c =
-let pre = c.requires in (
+    let pre = c.requires in (
       omega arith,
       kept_more c.loop-r.invariant.1 (omega arith)
           (row-turned _ (omega (arith, pre.0.laid.groupcount, pre.0.few_groups)) (omega arith) c.turned_tiles-tiles.ensures c.row_of.ensures),

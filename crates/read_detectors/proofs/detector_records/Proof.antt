@@ -26,7 +26,7 @@ loop-holds c = c.good_fours-d.ensures
 
 pair-at-requires : tie.Need-pair_at-detector-requires invariant-loop-d decreases-loop-d
 pair-at-requires c κs =
-omega (arith, record-within c.args.layout.detectors 2 c.args.count c.loop-d.d c.loop-d-test.true)
+    omega (arith, record-within c.args.layout.detectors 2 c.args.count c.loop-d.d c.loop-d-test.true)
 
 bad-detector-requires : tie.Need-bad_detector-requires invariant-loop-d decreases-loop-d
 bad-detector-requires c κs = search rules
@@ -34,7 +34,7 @@ bad-detector-requires c κs = search rules
 -- the test of the two bytes is that of record d
 tested :
     (c : tie.After-bad_detector invariant-loop-d decreases-loop-d) →
-c.bad_detector.result ≡ bad_detector_at c.args.s.now c.loop-d.d
+    c.bad_detector.result ≡ bad_detector_at c.args.s.now c.loop-d.d
 unfolding bad_detector_at detector_phase detector_mode
 tested c =
     let laid = c.requires.0 in
@@ -53,7 +53,7 @@ add-t11 c = search rules
 returns : tie.Need-returns-then-bad_detector invariant-loop-d decreases-loop-d
 unfolding record_at body_at detector_record
 returns c =
-bad-stop _ _ _ _ c.loop-d.d (omega arith) c.loop-d.invariant.1 (sym (tested c.before) ∙ c.if-bad_detector.true) (omega arith)
+    bad-stop _ _ _ _ c.loop-d.d (omega arith) c.loop-d.invariant.1 (sym (tested c.before) ∙ c.if-bad_detector.true) (omega arith)
 
 add-d : tie.Need-overflow_add-d invariant-loop-d decreases-loop-d
 add-d c = search rules
@@ -64,7 +64,7 @@ loop-less c = search rules
 loop-again : tie.Need-loop-d-preserved invariant-loop-d decreases-loop-d
 unfolding detector_record
 loop-again c =
-(omega arith, good_more _ _ _ _ c.loop-d.invariant.1 (sym (tested c.before) ∙ c.if-bad_detector.false))
+    (omega arith, good_more _ _ _ _ c.loop-d.invariant.1 (sym (tested c.before) ∙ c.if-bad_detector.false))
 
 returns-2 : tie.Need-returns invariant-loop-d decreases-loop-d
 returns-2 c = first_done _ _ _ c.loop-d.invariant.1 (omega arith)

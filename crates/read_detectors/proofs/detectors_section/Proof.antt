@@ -38,7 +38,7 @@ returns c = or-stop _ (checked c.before) c.in-Refused.is
 detector-records-requires : tie.Need-detector_records-requires
 unfolding detector_count
 detector-records-requires c κs =
-let pre = c.requires in
+    let pre = c.requires in
     let laid = pre.0 in
     let length = detectors-length laid in
     let held = (body-held _ _ 5 _ (sym (checked c.before) ∙ c.in_default.is)).1 in (
@@ -52,7 +52,7 @@ let pre = c.requires in
 returns-2 : tie.Need-returns
 unfolding detectors_section
 returns-2 c =
-or-next (checked c.before.before) c.in_default.is c.detector_records.ensures
+    or-next (checked c.before.before) c.in_default.is c.detector_records.ensures
 
 pub detectors_section_spec : {M : Type 1} → statement M
 detectors_section_spec =

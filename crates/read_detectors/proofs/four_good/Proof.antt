@@ -19,7 +19,7 @@ add-raised c = omega (arith, and_le_r c.eight_in-records.result 0x7b7f7b7f7b7f7b
 returns : tie.Need-returns
 unfolding byte_at eight_at
 returns c t =
-let b = c.args.s.now in
+    let b = c.args.s.now in
     let laid = c.requires.0 in
     let bytes : (i : ℕ) → byte_at b i < 256 = λ i. omega (arith, c.shared_slice_known-1.given i) in
     let few : phase_count b ≤ 7 = omega (arith, laid.phasecount) in

@@ -24,7 +24,7 @@ decreases-loop-g s some groups head g₀ g = groups - g
 
 returns : tie.Need-returns-then-layout-some invariant-loop-g decreases-loop-g
 returns c =
-let asked = c.requires in
+    let asked = c.requires in
     let some = c.args.some in
     ⊎_elim
     (λ (there : c.args.layout.hasearly ≡ true). none-missing _ (sym asked.0.hasearly ∙ there))
@@ -40,14 +40,14 @@ loop-holds c = (omega arith, refl)
 
 pair-at-requires : tie.Need-pair_at-group-requires invariant-loop-g decreases-loop-g
 pair-at-requires c κs =
-group-held c.requires.0 c.requires.1 c.loop-g.g c.loop-g-test.true
+    group-held c.requires.0 c.requires.1 c.loop-g.g c.loop-g-test.true
 
 -- the byte read is the mark of group g
 marked :
     (c : tie.After-pair_at-group invariant-loop-g decreases-loop-g) →
-c.pair_at-group.result.second ≡ group_mark c.args.s.now c.loop-g.g
+    c.pair_at-group.result.second ≡ group_mark c.args.s.now c.loop-g.g
 marked c =
-mark-read c.requires.0 c.loop-g.g c.pair_at-group.ensures.1
+    mark-read c.requires.0 c.loop-g.g c.pair_at-group.ensures.1
 
 add-t11 : tie.Need-overflow_add-result invariant-loop-g decreases-loop-g
 add-t11 c = search rules
@@ -61,7 +61,7 @@ add-t13 c = search rules
 returns-2 : tie.Need-returns-then-group-eq3 invariant-loop-g decreases-loop-g
 unfolding stops_early record_at body_at
 returns-2 c =
-let asked = c.requires in
+    let asked = c.requires in
     one-stops _ (sym asked.0.hasearly ∙ or-false-left _ _ c.if-layout-some.false) c.loop-g.g (omega arith) c.loop-g.invariant.1
     (eq-eqb _ _ (sym (marked c.before.before) ∙ c.if-group-eq3.true))
     (omega (arith, asked.0.groups))
@@ -75,7 +75,7 @@ loop-less c = search rules
 loop-again : tie.Need-loop-g-preserved invariant-loop-g decreases-loop-g
 unfolding stops_early
 loop-again c =
-(omega arith, any-more _ _ c.loop-g.invariant.1 (ne_eqb _ _ (λ e. c.if-group-eq3.false (marked c.before.before ∙ e))))
+    (omega arith, any-more _ _ c.loop-g.invariant.1 (ne_eqb _ _ (λ e. c.if-group-eq3.false (marked c.before.before ∙ e))))
 
 returns-3 : tie.Need-returns invariant-loop-g decreases-loop-g
 returns-3 c =

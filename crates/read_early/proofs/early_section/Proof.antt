@@ -13,11 +13,11 @@ returns c = none-early _ (sym c.requires.hasearly ∙ not-true _ c.if-not-layout
 -- the table is that of the personality's edition
 timed-section-requires : tie.Need-timed_section-requires
 timed-section-requires c κs =
-(search rules, c.limits-table.ensures ∙ ap limits c.edition_of.ensures)
+    (search rules, c.limits-table.ensures ∙ ap limits c.edition_of.ensures)
 
 returns-2 : tie.Need-returns
 returns-2 c =
-let laid = c.requires in
+    let laid = c.requires in
     (rw (laid.early, laid.phasecount) at c.timed_section.ensures) ∙ early-checked _ (sym laid.hasearly ∙ not-false _ c.if-not-layout.false)
 
 pub early_section_spec : {M : Type 1} → statement M

@@ -83,7 +83,7 @@ module _
 returns : tie.Need-returns
 unfolding phase_count group_count past_section body_at
 returns c =
-laid c.args.s.now _
+    laid c.args.s.now _
     c.byte_at-p.ensures c.byte_at-n.ensures
     refl refl refl
     (rw c.body_length.ensures.0) (rw c.body_length-2.ensures.0)

@@ -8,7 +8,7 @@ use Rattle.read_lookup.proofs.find.Tie as tie
 returns : tie.Need-returns
 unfolding lookup_verdict
 returns c =
-(c.or_missing.ensures ∙ rw (c.read_with_layout-reading.ensures.0, c.held_kind.ensures), c.head_of.ensures.0, c.head_of.ensures.1)
+    (c.or_missing.ensures ∙ rw (c.read_with_layout-reading.ensures.0, c.held_kind.ensures), c.head_of.ensures.0, c.head_of.ensures.1)
 
 pub find_spec : {M : Type 1} → statement M
 find_spec = tie.close (tie.spec (λ c κs. search rules) (λ c κs. search rules) (λ c κs. search rules) (λ c κs. search rules) returns)

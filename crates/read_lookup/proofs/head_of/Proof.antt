@@ -26,7 +26,7 @@ array-read-result c = omega (arith, listed c)
 returns-2 : tie.Need-returns
 unfolding head_of
 returns-2 c =
-let w = c.args.layout in
+    let w = c.args.layout in
     let laid = c.requires in
     let heads : List ℕ = 0 ∷ 8 ∷ w.groups ∷ w.conflicts ∷ w.detectors ∷ w.pedestrians ∷ w.early ∷ 0 ∷ w.order ∷ [] in (
       rw (laid.groups, laid.conflicts, laid.detectors, laid.pedestrians, laid.early, laid.order),

@@ -7,7 +7,7 @@ use Rattle.read_lookup.proofs.held_kind.Tie as tie
 returns : tie.Need-returns
 unfolding held_kind
 returns c =
-let laid = c.requires in
+    let laid = c.requires in
     rw (c.site_kind.ensures, c.edition_of.ensures, laid.hasearly, laid.hasorder)
 
 pub held_kind_spec : {M : Type 1} → statement M

@@ -44,7 +44,7 @@ loop-less c = search rules
 loop-again : tie.Need-loop-i-preserved invariant-loop-i decreases-loop-i
 unfolding order_at record_at body_at
 loop-again c =
-let laid = c.requires.0 in
+    let laid = c.requires.0 in
     let b = c.args.s.now in
     let i = c.loop-i.i in
     let listed = c.loop-i.invariant.1 in
@@ -58,14 +58,14 @@ let laid = c.requires.0 in
 
 add-result : tie.Need-overflow_add-result invariant-loop-i decreases-loop-i
 add-result c =
-omega (arith, set-fits _ c.requires.1 c.loop-i.invariant.1)
+    omega (arith, set-fits _ c.requires.1 c.loop-i.invariant.1)
 
 shl-result : tie.Need-overflow_shl-result invariant-loop-i decreases-loop-i
 shl-result c = search rules
 
 returns : tie.Need-returns invariant-loop-i decreases-loop-i
 returns c =
-let laid = c.requires.0 in
+    let laid = c.requires.0 in
     rw laid.phasecount (listed-decided _ c.requires.1 c.loop-i.invariant.1 (omega (arith, laid.phasecount)))
 
 pub each_once_spec : {M : Type 1} → statement M

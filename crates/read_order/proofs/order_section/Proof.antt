@@ -37,12 +37,12 @@ checked c =
 
 returns-2 : tie.Need-returns-in-Refused
 returns-2 c =
-ordered _ (there c.before) (or-stop _ (checked c.before) c.in-Refused.is)
+    ordered _ (there c.before) (or-stop _ (checked c.before) c.in-Refused.is)
 
 each-once-requires : tie.Need-each_once-requires
 unfolding body_at
 each-once-requires c κs =
-let asked = c.requires in
+    let asked = c.requires in
     let laid = asked.0 in
     let b = bytes c.before in
     let held = body-held b (order_head b) 9 _ (sym (checked c.before) ∙ c.in_default.is) in (

@@ -93,7 +93,7 @@ groups_accepted c = sym c.groups_section-groups.ensures.verdict ∙ c.in_default
 
 conflicts-section-requires : tie.Need-conflicts_section-conflicts-requires
 conflicts-section-requires c κs =
-(c.pre, site_accepted c.before.before.before.before, groups_accepted c)
+    (c.pre, site_accepted c.before.before.before.before, groups_accepted c)
 
 returns-4 : tie.Need-returns-in-Refused-conflicts
 returns-4 c = after_groups c.before.before (or-stop _ c.conflicts_section-conflicts.ensures c.in-Refused-conflicts.is)
@@ -104,7 +104,7 @@ after_conflicts c e = after_groups c.before.before.before (or-next c.before.befo
 
 detectors-section-requires : tie.Need-detectors_section-detectors-requires
 detectors-section-requires c κs =
-(c.requires, site_accepted c.before.before.before.before.before.before)
+    (c.requires, site_accepted c.before.before.before.before.before.before)
 
 returns-5 : tie.Need-returns-in-Refused-detectors
 returns-5 c = after_conflicts c.before.before (or-stop _ c.detectors_section-detectors.ensures c.in-Refused-detectors.is)
@@ -117,7 +117,7 @@ after_detectors c e = after_conflicts c.before.before.before (or-next c.before.b
 groups_laid :
     (c : tie.In_default-detectors) → LayoutOf (at_detectors c) (layout_at c.before.before.before.before.before.before.before.before) × (groups_section (at_detectors c) ≡ Accepted)
 groups_laid c =
-(c.pre, groups_accepted c.before.before.before.before)
+    (c.pre, groups_accepted c.before.before.before.before)
 
 pedestrians-section-requires : tie.Need-pedestrians_section-pedestrians-requires
 pedestrians-section-requires c κs =
@@ -134,7 +134,7 @@ past_pedestrians c e = after_detectors c.before.before.before (or-next c.before.
 
 after-pedestrians-requires : tie.Need-after_pedestrians-requires
 after-pedestrians-requires c κs =
-let groups = groups_laid c.before.before in
+    let groups = groups_laid c.before.before in
     let told = c.groups_section-groups.ensures in (
       groups.0,
       site_accepted c.before.before.before.before.before.before.before.before.before.before,

@@ -29,7 +29,7 @@ loop-holds c = (omega arith, record-first c.args.head (c.args.fields * 2), refl)
 times-at-requires : tie.Need-times_at-v-requires invariant-loop-i decreases-loop-i
 unfolding body_at
 times-at-requires c κs =
-let head = c.args.head in
+    let head = c.args.head in
     let width = c.args.fields * 2 in
     let i = c.loop-i.i in (
       omega (arith, record-near head width i (omega arith) (omega arith), record-within head width c.args.count i c.loop-i-test.true),
@@ -42,7 +42,7 @@ enum_told c = search rules
 returns : tie.Need-returns-in-Refused invariant-loop-i decreases-loop-i
 unfolding time_records
 returns c =
-first-stop _ _ _ c.loop-i-test.true c.loop-i.invariant.2 (rw c.loop-i.invariant.1 at c.times_at-v.ensures)
+    first-stop _ _ _ c.loop-i-test.true c.loop-i.invariant.2 (rw c.loop-i.invariant.1 at c.times_at-v.ensures)
     c.in-Refused.is
 
 enum-told-2 : tie.Need-enum_told-in_default invariant-loop-i decreases-loop-i
@@ -53,7 +53,7 @@ mul-place c = search rules
 
 add-place-2 : tie.Need-overflow_add-place-in-loop-i invariant-loop-i decreases-loop-i
 add-place-2 c =
-omega (arith, record-near c.args.head (c.args.fields * 2) c.loop-i.i (omega arith) (omega arith))
+    omega (arith, record-near c.args.head (c.args.fields * 2) c.loop-i.i (omega arith) (omega arith))
 
 add-i : tie.Need-overflow_add-i invariant-loop-i decreases-loop-i
 add-i c = search rules
@@ -63,13 +63,12 @@ loop-less c = search rules
 
 loop-again : tie.Need-loop-i-preserved invariant-loop-i decreases-loop-i
 unfolding time_records
-loop-again c =
-(
-      omega arith,
-      rw c.loop-i.invariant.1 (record-next c.args.head (c.args.fields * 2) c.loop-i.i),
-      first_more _ _ c.loop-i.invariant.2
-          (sym (rw c.loop-i.invariant.1 at c.times_at-v.ensures) ∙ c.in_default.is),
-    )
+loop-again c = (
+  omega arith,
+  rw c.loop-i.invariant.1 (record-next c.args.head (c.args.fields * 2) c.loop-i.i),
+  first_more _ _ c.loop-i.invariant.2
+      (sym (rw c.loop-i.invariant.1 at c.times_at-v.ensures) ∙ c.in_default.is),
+)
 
 returns-2 : tie.Need-returns invariant-loop-i decreases-loop-i
 unfolding time_records

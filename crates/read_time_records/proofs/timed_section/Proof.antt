@@ -26,12 +26,12 @@ returns c = or-stop _ c.sized_section-body.ensures c.in-Refused.is
 time-records-requires : tie.Need-time_records-requires
 unfolding body_at
 time-records-requires c κs =
-(omega (arith, records-held _ _ _ _ _ (sym c.sized_section-body.ensures ∙ c.in_default.is)), c.requires.1)
+    (omega (arith, records-held _ _ _ _ _ (sym c.sized_section-body.ensures ∙ c.in_default.is)), c.requires.1)
 
 returns-2 : tie.Need-returns
 unfolding timed_section
 returns-2 c =
-or-next c.sized_section-body.ensures c.in_default.is c.time_records.ensures
+    or-next c.sized_section-body.ensures c.in_default.is c.time_records.ensures
 
 pub timed_section_spec : {M : Type 1} → statement M
 timed_section_spec =

@@ -44,7 +44,7 @@ enum_told c = search rules
 returns : tie.Need-returns-in-Refused invariant-loop-f decreases-loop-f
 unfolding times_at
 returns c =
-first-stop _ _ _ c.loop-f-test.true c.loop-f.invariant.1
+    first-stop _ _ _ c.loop-f-test.true c.loop-f.invariant.1
     c.time_at-v.ensures c.in-Refused.is
 
 enum-told-2 : tie.Need-enum_told-in_default invariant-loop-f decreases-loop-f
@@ -58,7 +58,7 @@ loop-less c = search rules
 
 loop-again : tie.Need-loop-f-preserved invariant-loop-f decreases-loop-f
 loop-again c =
-(omega arith, first_more _ _ c.loop-f.invariant.1 (sym c.time_at-v.ensures ∙ c.in_default.is))
+    (omega arith, first_more _ _ c.loop-f.invariant.1 (sym c.time_at-v.ensures ∙ c.in_default.is))
 
 returns-2 : tie.Need-returns invariant-loop-f decreases-loop-f
 unfolding times_at

@@ -9,7 +9,7 @@ use Rattle.read_time_sections.proofs.phases_section.Tie as tie
 -- the table is that of the personality's edition
 timed-section-requires : tie.Need-timed_section-requires
 timed-section-requires c κs =
-(search rules, c.limits-table.ensures ∙ ap limits c.edition_of.ensures)
+    (search rules, c.limits-table.ensures ∙ ap limits c.edition_of.ensures)
 
 returns : tie.Need-returns
 unfolding phases_section

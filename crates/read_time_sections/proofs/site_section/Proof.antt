@@ -28,34 +28,33 @@ returns c = or-stop _ (headed c.before) c.in-Refused.is
 -- what the layout holds
 laid :
     (c : tie.In_default) →
-LayoutOf c.args.s.now c.args.layout
+    LayoutOf c.args.s.now c.args.layout
 laid c = c.requires
 
 returns-2 : tie.Need-returns-then-not-phases
 unfolding site_section
 returns-2 c =
-or-next (headed c.before.before) c.in_default.is
+    or-next (headed c.before.before) c.in_default.is
     (or-stop _ (refuse-yes 4 4 (rw (laid c.before).phasecount at c.if-not-phases.true)) refl)
 
 returns-3 : tie.Need-returns-then-not-groups
 unfolding site_section
 returns-3 c =
-or-next (headed c.before.before.before) c.in_default.is
+    or-next (headed c.before.before.before) c.in_default.is
     (or-next refl (refuse-no 4 4 (rw (laid c.before.before).phasecount at c.if-not-phases.false))
     (or-stop _ (refuse-yes 4 5 (rw (laid c.before.before).groupcount at c.if-not-groups.true)) refl))
 
 time-at-requires : tie.Need-time_at-requires
 unfolding body_at
-time-at-requires c κs =
-    (
-      omega (arith, records-held _ site_head _ 1 4 (sym (headed c.before.before.before.before) ∙ c.in_default.is)),
-      c.limits.ensures ∙ ap limits c.edition_of-edition.ensures,
-    )
+time-at-requires c κs = (
+  omega (arith, records-held _ site_head _ 1 4 (sym (headed c.before.before.before.before) ∙ c.in_default.is)),
+  c.limits.ensures ∙ ap limits c.edition_of-edition.ensures,
+)
 
 returns-4 : tie.Need-returns
 unfolding site_section
 returns-4 c =
-or-next (headed c.before.before.before.before.before) c.in_default.is
+    or-next (headed c.before.before.before.before.before) c.in_default.is
     (or-next refl (refuse-no 4 4 (rw (laid c.before.before.before.before).phasecount at c.if-not-phases.false))
     (or-next refl (refuse-no 4 5 (rw (laid c.before.before.before.before).groupcount at c.if-not-groups.false)) c.time_at.ensures))
 

@@ -9,7 +9,7 @@ use Rattle.road_run.proofs.put_result.Tie as tie
 returns : tie.Need-returns
 unfolding result_of
 returns c =
-rw (c.put_two-2.ensures, c.put_two.ensures, add-two c.args.at) refl
+    rw (c.put_two-2.ensures, c.put_two.ensures, add-two c.args.at) refl
 
 pub put_result_spec : {M : Type 1} → statement M
 put_result_spec =

@@ -39,7 +39,7 @@ loop-less c = search rules
 loop-again : tie.Need-loop-i-preserved invariant-loop-i decreases-loop-i
 unfolding result_of
 loop-again c =
-let cells = c.args.cells.now in
+    let cells = c.args.cells.now in
     rw c.put_result.ensures
     (stored-record (λ i. result_of (traffic_at cells i)) 4 (λ i. refl) (c.loop-i.i * 4) (result_of c.traffic_at.result)
     c.loop-i.invariant

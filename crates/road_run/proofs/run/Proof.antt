@@ -19,13 +19,13 @@ entry c = c.before.before.before.before.before
 -- the state that the road begins with is the fresh state
 begun :
     (c : tie.After-fresh) (b : List ℕ) →
-OfPersonality b c.args.site c.args.streams.now c.args.steps →
+    OfPersonality b c.args.site c.args.streams.now c.args.steps →
     OnRoad b c.args.streams.now c.args.steps c.args.site 0 c.fresh.result blank
 begun c b start = rw c.fresh.ensures (start-road start)
 
 road-steps-requires : tie.Need-road_steps-state-requires
 road-steps-requires c κs =
-let some = c.requires in
+    let some = c.requires in
     record { b = some.b; whole = c.args.steps; n = 0; enough = omega arith; road = begun c.before some.b some.start }
 
 ended :
@@ -41,13 +41,13 @@ ended c b start =
 put-results-requires : tie.Need-put_results-requires
 unfolding stream_count
 put-results-requires c κs =
-let some = c.requires in
+    let some = c.requires in
     ((ended c.before.before.before some.b some.start).room, omega (arith, (known-streams _ _ _ some.start.known).whole, some.enough))
 
 returns : tie.Need-returns
 unfolding stream_count
 returns c =
-record {
+    record {
       state = λ b start. (ended c.before.before.before.before.before.before b start).held;
       written =
           λ b start.

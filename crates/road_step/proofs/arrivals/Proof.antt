@@ -43,7 +43,7 @@ traffic-at-requires c κs = inside c.before
 
 arrived-requires : tie.Need-arrived-traffic-requires invariant-loop-i decreases-loop-i
 arrived-requires c κs =
-let ok = fine c.before.before in
+    let ok = fine c.before.before in
     rw (c.stream_at-stream.ensures, c.traffic_at-before.ensures) (ok.rate, ok.below, ok.fits)
 
 put-at-requires : tie.Need-put_at-requires invariant-loop-i decreases-loop-i
@@ -51,7 +51,7 @@ put-at-requires c κs = inside c.before.before.before.before
 
 with-bit-requires : tie.Need-with_bit-inputs-requires invariant-loop-i decreases-loop-i
 with-bit-requires c κs =
-rw c.stream_at-stream.ensures (fine c.before.before.before.before.before.before.before.before).detector
+    rw c.stream_at-stream.ensures (fine c.before.before.before.before.before.before.before.before).detector
 
 add-i : tie.Need-overflow_add-i invariant-loop-i decreases-loop-i
 add-i c = search rules
@@ -62,7 +62,7 @@ loop-less c = search rules
 loop-again : tie.Need-loop-i-preserved invariant-loop-i decreases-loop-i
 unfolding queues
 loop-again c =
-arrived-more c.arrived-traffic.result c.loop-i.invariant c.loop-i-test.true (inside c.before.before.before.before.before.before.before.before.before) c.put_at.ensures
+    arrived-more c.arrived-traffic.result c.loop-i.invariant c.loop-i-test.true (inside c.before.before.before.before.before.before.before.before.before) c.put_at.ensures
     (c.arrived-traffic.ensures ∙ cc)
     (ap (λ (s : Stream). s.detector) c.stream_at-stream.ensures) refl c.with_bit-inputs.ensures
 

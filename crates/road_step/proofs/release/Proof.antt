@@ -14,7 +14,7 @@ released-requires c κs =
 
 returns : tie.Need-returns-then-shows_green
 returns c =
-let a = chosen.before.before.args in
+    let a = chosen.before.before.args in
     λ colour e.
     c.put_at.ensures
     ∙ ap (put_at a.cells.now a.i)

@@ -45,7 +45,7 @@ is-green-requires c κs = rw c.stream_at-stream.ensures (omega (arith, (fine c.b
 
 release-requires : tie.Need-release-requires invariant-loop-i decreases-loop-i
 release-requires c κs =
-let ok = fine c.before.before.before in
+    let ok = fine c.before.before.before in
     (inside c.before.before.before, ok.fits, ok.counting)
 
 add-i : tie.Need-overflow_add-i invariant-loop-i decreases-loop-i
@@ -56,7 +56,7 @@ loop-less c = search rules
 
 loop-again : tie.Need-loop-i-preserved invariant-loop-i decreases-loop-i
 loop-again c =
-let i = c.loop-i.i in
+    let i = c.loop-i.i in
     let cells = c.loop-i.cells in
     let streams = c.args.streams.now in
     let greens = c.args.greens in (

@@ -41,7 +41,7 @@ loop-holds c = (omega arith, refl, λ i l. refl, c.greens_in-greens.ensures, λ 
 
 here :
     (c : tie.In-loop-n invariant-loop-n decreases-loop-n) →
-let ahead = c.requires in
+    let ahead = c.requires in
     OnRoad ahead.b c.args.streams.now ahead.whole c.args.site (ahead.n + c.loop-n.n) c.loop-n.last c.loop-n.cells
 here c = let ahead = c.pre in c.loop-n.invariant.4 ahead.b ahead.whole ahead.n ahead.enough ahead.road
 
@@ -61,18 +61,18 @@ greens-after-requires c κs = on-sound (here c.before.before.before.before.befor
 
 releases-requires : tie.Need-releases-requires invariant-loop-n decreases-loop-n
 releases-requires c κs =
-may-release (here c.before.before.before.before.before.before.before.before) (before-end c.before.before.before.before.before.before.before.before) c.arrivals-inputs.ensures
+    may-release (here c.before.before.before.before.before.before.before.before) (before-end c.before.before.before.before.before.before.before.before) c.arrivals-inputs.ensures
 
 add-n : tie.Need-overflow_add-n invariant-loop-n decreases-loop-n
 add-n c =
-search (rules, c.loop-n-test.true, c.fits.steps)
+    search (rules, c.loop-n-test.true, c.fits.steps)
 
 loop-less : tie.Need-loop-n-smaller invariant-loop-n decreases-loop-n
 loop-less c = search rules
 
 loop-again : tie.Need-loop-n-preserved invariant-loop-n decreases-loop-n
 loop-again c =
-let inv = c.loop-n.invariant in
+    let inv = c.loop-n.invariant in
     let shown : GreenIn c.args.site c.kept_stepped-last.result.core c.greens_after-greens.result =
     c.greens_after-greens.ensures c.loop-n.last.core
     (subst (λ (next : KeptState). Follows c.loop-n.last.core.position next.core.position) (sym c.kept_stepped-last.ensures)
@@ -92,7 +92,7 @@ same_length c = c.loop-n.invariant.1
 
 returns : tie.Need-returns invariant-loop-n decreases-loop-n
 returns c =
-let last : c.loop-n.n ≡ c.args.steps = omega (arith, c.loop-n.invariant.0, c.loop-n-test.false) in
+    let last : c.loop-n.n ≡ c.args.steps = omega (arith, c.loop-n.invariant.0, c.loop-n-test.false) in
     record { same = c.loop-n.invariant.1; rest = c.loop-n.invariant.2; road = rw last c.before c.loop-n.invariant.4 }
 
 pub road_steps_spec : {M : Type 1} → statement M

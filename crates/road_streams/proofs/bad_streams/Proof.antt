@@ -15,7 +15,7 @@ returns-3 c = many-steps _ _ _ c.if-streams-ne0.false c.if-streams-gt48.false c.
 
 returns-4 : tie.Need-returns
 returns-4 c =
-each-stream _ _ _ c.if-streams-ne0.false c.if-streams-gt48.false c.if-steps-gt180000.false c.some_bad.ensures
+    each-stream _ _ _ c.if-streams-ne0.false c.if-streams-gt48.false c.if-steps-gt180000.false c.some_bad.ensures
 
 pub bad_streams_spec : {M : Type 1} → statement M
 bad_streams_spec = tie.close (tie.spec returns returns-2 returns-3 (λ c κs. search rules) returns-4)

@@ -6,12 +6,12 @@ use Rattle.road_streams.proofs.released.Tie as tie
 
 sub-t5 : tie.Need-overflow_sub-result
 sub-t5 c =
-let a = c.args in
+    let a = c.args in
     some-queue a.traffic a.shows-green _ c.count_after-count.ensures c.if-count-eq20.true
 
 returns : tie.Need-returns-then-count-eq20
 returns c =
-let a = c.args in
+    let a = c.args in
     λ colour e. one-leaves a.traffic a.shows-green _ c.count_after-count.ensures colour e c.if-count-eq20.true
 
 returns-2 : tie.Need-returns

@@ -40,7 +40,7 @@ loop-less c = search rules
 
 loop-again : tie.Need-loop-i-preserved invariant-loop-i decreases-loop-i
 loop-again c =
-let a = c.args in (
+    let a = c.args in (
       search rules,
       one_more (at a.site a.streams.now) c.loop-i.i c.loop-i.invariant.1
           (c.bad_stream-bad.ensures ∙ ap (λ (s : Stream). bad_stream a.site s) c.stream_at.ensures),
@@ -49,7 +49,7 @@ let a = c.args in (
 returns : tie.Need-returns invariant-loop-i decreases-loop-i
 unfolding stream_count
 returns c =
-let a = c.args in
+    let a = c.args in
     let last : c.loop-i.i ≡ length a.streams.now / 4 = omega arith in
     rw last at c.loop-i.invariant.1
 

@@ -19,7 +19,7 @@ start c = c.before.before.before.before
 
 returns : tie.Need-returns-then-number-ne0
 returns c =
-let a = c.args in (
+    let a = c.args in (
       rw (call-refused a.personality.now a.state.now a.step a.inputs c.step-answer.ensures.0 c.if-number-ne0.true)
           c.refuse.ensures,
       c.step-answer.ensures.1,
@@ -31,7 +31,7 @@ accepted c = ap (λ (r : ℕ). r % 256) (sym c.step-answer.ensures.0) ∙ c.if-n
 
 read-requires : tie.Need-read-kept-requires
 read-requires c κs =
-let a = c.args in
+    let a = c.args in
     let told =
     timed-known _ (ap is_timed c.step-answer.ensures.1 ∙ state-timed a.personality.now a.state.now a.inputs 32 (accepted c.before.before)) in
     (omega (arith, told.size), told.kept-known)
@@ -40,7 +40,7 @@ let a = c.args in
 few : (c : tie.After-byte_at-groups) → c.byte_at-groups.result ≤ 32
 unfolding group_count
 few c =
-let a = c.args in
+    let a = c.args in
     omega (arith, c.byte_at-groups.ensures, few-groups a.personality.now a.state.now a.inputs 32 (accepted c.before.before.before.before.before.before))
 
 array-share-prefix-colours : tie.Need-slice_bounds-colours-end
@@ -55,7 +55,7 @@ put-step-requires c κs =
 
 returns-2 : tie.Need-returns
 returns-2 c =
-let a = c.args in
+    let a = c.args in
     let line =
     line-told a.personality.now a.state.now a.step a.inputs c.read-kept.ensures c.step-answer.ensures.1 c.byte_at-groups.ensures
     c.step-answer.ensures.2 in (

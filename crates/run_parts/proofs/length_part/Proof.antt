@@ -11,7 +11,7 @@ use Rattle.run_parts.proofs.length_part.Tie as tie
 returns : tie.Need-returns-then-bytes-lt2
 unfolding length_part
 returns c =
-rw (lt-ltb (length c.args.bytes.now) 2 c.if-bytes-lt2.true) c.refuse_cut.ensures
+    rw (lt-ltb (length c.args.bytes.now) 2 c.if-bytes-lt2.true) c.refuse_cut.ensures
 
 returns-2 : tie.Need-returns
 unfolding length_part

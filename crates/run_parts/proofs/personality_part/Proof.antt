@@ -11,20 +11,20 @@ use Rattle.run_parts.proofs.personality_part.Tie as tie
 returns : tie.Need-returns-then-bytes-size
 unfolding personality_part state_for
 returns c =
-let a = c.args in
+    let a = c.args in
     rw (lt-ltb (length a.bytes.now) a.size c.if-bytes-size.true) (c.refuse_cut.ensures, refl)
 
 returns-2 : tie.Need-returns-in-Refused
 unfolding personality_part verdict_part state_for
 returns-2 c =
-let a = c.args in
+    let a = c.args in
     rw (le-ltb (length a.bytes.now) a.size c.if-bytes-size.false, sym c.read-verdict.ensures ∙ c.in-Refused.is)
     (c.refuse.ensures, c.fresh.ensures.1)
 
 returns-3 : tie.Need-returns
 unfolding personality_part verdict_part state_for
 returns-3 c =
-let a = c.args in
+    let a = c.args in
     rw (le-ltb (length a.bytes.now) a.size c.if-bytes-size.false, sym c.read-verdict.ensures ∙ c.in_default.is)
     (record { text = c.put_header-length.ensures; more = refl }, c.fresh.ensures.1)
 

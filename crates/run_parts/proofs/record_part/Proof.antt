@@ -21,14 +21,14 @@ returns c =
 returns-2 : tie.Need-returns-then-bytes-lt8
 unfolding part_of record_part state_of
 returns-2 c =
-let a = c.args in
+    let a = c.args in
     let size = length a.bytes.now in
     rw (ne_eqb size 0 c.if-bytes-eq0.false, lt-ltb size 8 c.if-bytes-lt8.true) (c.refuse_cut.ensures, refl)
 
 returns-3 : tie.Need-returns
 unfolding part_of record_part state_of
 returns-3 c =
-let a = c.args in
+    let a = c.args in
     let size = length a.bytes.now in
     rw (ne_eqb size 0 c.if-bytes-eq0.false, le-ltb size 8 c.if-bytes-lt8.false, ← c.eight_at.ensures) c.call_part.ensures
 

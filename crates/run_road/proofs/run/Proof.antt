@@ -28,12 +28,12 @@ loop-holds c = (search rules, refl, refl, λ b road. rw c.fresh-state.ensures ro
 
 road-stepped-requires : tie.Need-road_stepped-state-requires invariant-loop-n decreases-loop-n
 road-stepped-requires c κs =
-let start = c.requires.0 in
+    let start = c.requires.0 in
     record { b = start.b; steps = _; n = _; before = c.loop-n-test.true; road = c.loop-n.invariant.3 start.b start.road }
 
 watch-requires : tie.Need-watch-requires invariant-loop-n decreases-loop-n
 watch-requires c κs =
-let rows = here.before.before.before.before.before.requires.1 in
+    let rows = here.before.before.before.before.before.requires.1 in
     record {
       held = omega (arith, rows.held, c.loop-n.invariant.1, c.road_stepped-state.ensures.same);
       watched = omega (arith, rows.watched, c.loop-n.invariant.2);
@@ -47,7 +47,7 @@ loop-less c = search rules
 
 loop-again : tie.Need-loop-n-preserved invariant-loop-n decreases-loop-n
 loop-again c =
-let inv = c.loop-n.invariant in (
+    let inv = c.loop-n.invariant in (
       search rules,
       c.road_stepped-state.ensures.same ∙ inv.1,
       c.watch.ensures ∙ inv.2,
@@ -62,7 +62,7 @@ same-length-2 c = c.loop-n.invariant.2
 
 returns : tie.Need-returns invariant-loop-n decreases-loop-n
 returns c =
-let rows = c.requires.1 in
+    let rows = c.requires.1 in
     record { held = omega (arith, rows.held, c.loop-n.invariant.1); watched = omega (arith, rows.watched, c.loop-n.invariant.2) }
 
 pub run_spec : {M : Type 1} → statement M

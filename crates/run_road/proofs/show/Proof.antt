@@ -30,7 +30,7 @@ inside :
     (4 * i + 4 ≤ length a.streams.now) × (4 * i + 4 ≤ length a.cells.now) × (i < length a.longest.now)
 unfolding stream_count
 inside c =
-let l = c.loop-i-test.true in
+    let l = c.loop-i-test.true in
     (omega (arith, l), omega (arith, l, c.requires.held), omega (arith, l, c.requires.watched))
 
 stream-at-requires : tie.Need-stream_at-stream-requires invariant-loop-i decreases-loop-i

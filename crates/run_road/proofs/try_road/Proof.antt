@@ -27,7 +27,7 @@ bad-streams-requires c κs = subst⁻¹ Sound c.site_of-site.ensures (accepted-i
 
 run-and-show-requires : tie.Need-run_and_show-requires
 run-and-show-requires c κs =
-let a = c.args in
+    let a = c.args in
     let site-is = c.site_of-site.ensures in
     record {
       b = a.personality.now;

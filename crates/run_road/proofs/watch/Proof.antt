@@ -23,7 +23,7 @@ inside :
     (4 * c.loop-i.i + 4 ≤ length c.args.cells.now) × (c.loop-i.i < length c.loop-i.longest)
 unfolding stream_count
 inside c =
-let l = c.loop-i-test.true in
+    let l = c.loop-i-test.true in
     (omega (arith, l, c.requires.held), omega (arith, l, c.requires.watched, c.loop-i.invariant.1))
 
 traffic-at-requires : tie.Need-traffic_at-traffic-requires invariant-loop-i decreases-loop-i

@@ -14,22 +14,22 @@ put-long-decimal-requires c κs =
 
 put-bytes-requires-2 : tie.Need-put_bytes-third-requires
 put-bytes-requires-2 c κs =
-omega (arith, at_most 19 c.args.number (omega arith))
+    omega (arith, at_most 19 c.args.number (omega arith))
 
 put-long-decimal-requires-2 : tie.Need-put_long_decimal-fourth-requires
 put-long-decimal-requires-2 c κs =
-let a = c.args in
+    let a = c.args in
     omega (arith, at_most 19 a.number (omega arith), at_most 19 a.place (omega arith))
 
 put-bytes-requires-3 : tie.Need-put_bytes-requires
 put-bytes-requires-3 c κs =
-let a = c.args in
+    let a = c.args in
     omega (arith, at_most 19 a.number (omega arith), at_most 19 a.place (omega arith))
 
 returns : tie.Need-returns
 unfolding refusal_line
 returns c =
-put_first
+    put_first
     (put_then
     (put_then
     (put_then (put_then c.put_bytes-first.ensures c.put_long_decimal-second.ensures) c.put_bytes-third.ensures)

@@ -17,7 +17,7 @@ put-tail-requires c κs = omega (arith, at_most 19 c.args.step (omega arith))
 returns : tie.Need-returns
 unfolding step_line
 returns c =
-let a = c.args in
+    let a = c.args in
     put_first (put_then c.put_long_decimal-next.ensures c.put_tail.ensures)
     (omega (
       arith,

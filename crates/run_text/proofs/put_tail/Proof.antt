@@ -10,13 +10,13 @@ use Rattle.run_text.proofs.put_tail.Tie as tie
 
 put-bytes-requires-2 : tie.Need-put_bytes-requires
 put-bytes-requires-2 c κs =
-let a = c.args in
+    let a = c.args in
     omega (arith, length-map a.colours.now colour_letter)
 
 returns : tie.Need-returns
 unfolding line_tail letter_of
 returns c =
-put_then (rw (c.phase_letter-phase.ensures, c.interval_row-letter.ensures) at c.put_bytes-first.ensures)
+    put_then (rw (c.phase_letter-phase.ensures, c.interval_row-letter.ensures) at c.put_bytes-first.ensures)
     (put_then c.put_colours-second.ensures c.put_bytes.ensures)
 
 pub put_tail_spec : {M : Type 1} → statement M

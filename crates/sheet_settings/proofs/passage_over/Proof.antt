@@ -39,7 +39,7 @@ loop-less c = search rules
 loop-again : tie.Need-loop-t-preserved invariant-loop-t decreases-loop-t
 unfolding of_bits
 loop-again c =
-let speed = c.args.speed in
+    let speed = c.args.speed in
     let x = c.args.metres in
     let loop = c.loop-t in
     let t = loop.t in
@@ -53,7 +53,7 @@ cast-result c = search rules
 returns : tie.Need-returns invariant-loop-t decreases-loop-t
 unfolding of_bits
 returns c =
-let speed = c.args.speed in
+    let speed = c.args.speed in
     let x = c.args.metres in
     let loop = c.loop-t in
     let t = loop.t in

@@ -34,7 +34,7 @@ add-four-in-2 c = search rules
 four-in-requires : tie.Need-four_in-requires invariant-loop-g decreases-loop-g
 unfolding record_at body_at
 four-in-requires c κs =
-let layout = c.args.layout in
+    let layout = c.args.layout in
     omega (arith, conflicts-end c.requires, record-within layout.conflicts 4 layout.groupcount c.loop-g.g c.loop-g-test.true)
 
 mul-rows : tie.Need-offset_bounds-rows-g invariant-loop-g decreases-loop-g
@@ -52,7 +52,7 @@ loop-less c = search rules
 loop-again : tie.Need-loop-g-preserved invariant-loop-g decreases-loop-g
 unfolding conflict_set record_at body_at
 loop-again c =
-let head = c.requires.laid.conflicts in
+    let head = c.requires.laid.conflicts in
     filled_more c.loop-g.invariant (simp (c.four_in.ensures, head)) (omega arith) (omega arith)
 
 returns : tie.Need-returns invariant-loop-g decreases-loop-g

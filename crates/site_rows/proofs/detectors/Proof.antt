@@ -21,7 +21,7 @@ loop-holds c = filled_none
 
 pair-at-requires : tie.Need-pair_at-detector-requires invariant-loop-d decreases-loop-d
 pair-at-requires c κs =
-let head = c.args.layout.detectors in
+    let head = c.args.layout.detectors in
     omega (arith, detectors-end c.requires.0, record-within head 2 c.args.count c.loop-d.d c.loop-d-test.true)
 
 mul-rows : tie.Need-offset_bounds-rows-d invariant-loop-d decreases-loop-d
@@ -39,7 +39,7 @@ loop-less c = search rules
 loop-again : tie.Need-loop-d-preserved invariant-loop-d decreases-loop-d
 unfolding detector_phase detector_mode
 loop-again c =
-let head = c.requires.0.laid.detectors in
+    let head = c.requires.0.laid.detectors in
     filled_more c.loop-d.invariant (simp (c.pair_at-detector.ensures.0, c.pair_at-detector.ensures.1, head)) (omega arith) (omega arith)
 
 returns : tie.Need-returns invariant-loop-d decreases-loop-d

@@ -30,7 +30,7 @@ loop-holds c = (filled_none, passed_none _)
 
 pair-at-requires : tie.Need-pair_at-group-requires invariant-loop-g decreases-loop-g
 pair-at-requires c κs =
-let layout = c.args.layout in
+    let layout = c.args.layout in
     omega (arith, groups-end c.requires, record-within layout.groups 2 layout.groupcount c.loop-g.g c.loop-g-test.true)
 
 mul-rows : tie.Need-offset_bounds-rows-g invariant-loop-g decreases-loop-g
@@ -42,7 +42,7 @@ array-set-from-rows c = search rules
 -- the record read is that of group g
 read :
     (c : tie.After-pair_at-group invariant-loop-g decreases-loop-g) →
-let b = c.args.s.now in
+    let b = c.args.s.now in
     (c.pair_at-group.result.first ≡ group_set b c.loop-g.g) × (c.pair_at-group.result.second ≡ group_mark b c.loop-g.g)
 unfolding group_set group_mark
 read c =
@@ -51,7 +51,7 @@ read c =
 
 array-write-sets : tie.Need-bounds-sets-movements invariant-loop-g decreases-loop-g
 array-write-sets c =
-room-left _ c.loop-g.invariant.1 (read c.before.before).1 c.if-group-eq2.true (omega arith) (omega arith)
+    room-left _ c.loop-g.invariant.1 (read c.before.before).1 c.if-group-eq2.true (omega arith) (omega arith)
 
 add-movements : tie.Need-overflow_add-movements invariant-loop-g decreases-loop-g
 add-movements c = search rules
@@ -64,7 +64,7 @@ loop-less c = search rules
 
 loop-again : tie.Need-loop-g-preserved invariant-loop-g decreases-loop-g
 loop-again c =
-let inv = c.loop-g.invariant in (
+    let inv = c.loop-g.invariant in (
       filled_more inv.0 (simp ((read c.before.before).0, (read c.before.before).1)) (omega arith) (omega arith),
       ⊎_elim
           (λ w.

@@ -11,12 +11,12 @@ use Rattle.site_rows.proofs.order_in.Tie as tie
 byte-in-requires : tie.Need-byte_in-requires
 unfolding body_at
 byte-in-requires c κs =
-omega (arith, c.requires.0.order c.if-layout.true)
+    omega (arith, c.requires.0.order c.if-layout.true)
 
 returns : tie.Need-returns-then-layout
 unfolding order_in order_at record_at body_at
 returns c =
-let laid = c.requires.0.laid in
+    let laid = c.requires.0.laid in
     rw (sym laid.hasorder ∙ c.if-layout.true) (rw (laid.order, ← mul-one c.args.i) c.before.before c.byte_in.ensures)
 
 returns-2 : tie.Need-returns

@@ -14,12 +14,12 @@ size-requires c κs = let pre = c.requires in (pre.0, counted _ pre.1)
 detectors-requires : tie.Need-detectors-requires
 unfolding site_of
 detectors-requires c κs =
-(c.requires.0, ap (λ (x : Size). x.detectors) c.size-size.ensures)
+    (c.requires.0, ap (λ (x : Size). x.detectors) c.size-size.ensures)
 
 returns : tie.Need-returns
 unfolding site_of group_rows_in
 returns c =
-let pre = c.requires in
+    let pre = c.requires in
     simp (
       c.order.ensures,
       c.detectors.ensures,

@@ -14,7 +14,7 @@ read-requires c κs = let fitting = c.requires in (fitting.phases, omega (arith,
 
 returns : tie.Need-returns
 returns c =
-c.read.ensures ∙ phases-own c.args.s.now c.args.layout c.requires.laid
+    c.read.ensures ∙ phases-own c.args.s.now c.args.layout c.requires.laid
 
 pub phase_times_spec : {M : Type 1} → statement M
 phase_times_spec = tie.close (tie.spec (λ c. search rules) (λ c. search rules) read-requires returns)

@@ -12,7 +12,7 @@ site-times-requires c κs =
 
 returns : tie.Need-returns
 returns c =
-let laid = c.requires.0.laid in
+    let laid = c.requires.0.laid in
     rw (c.decoded.ensures, c.site_times.ensures, counted _ c.group_rows_in-found.ensures, laid.phasecount, laid.hasearly)
 
 pub site_in_spec : {M : Type 1} → statement M

@@ -18,7 +18,7 @@ walk-times-requires c κs = (c.requires, counted _ c.group_rows_in-found.ensures
 returns : tie.Need-returns
 unfolding site_of times_in
 returns c =
-simp (c.decoded.ensures, c.walk_times.ensures, c.phase_times.ensures, c.two_in.ensures)
+    simp (c.decoded.ensures, c.walk_times.ensures, c.phase_times.ensures, c.two_in.ensures)
 
 pub site_of_spec : {M : Type 1} → statement M
 site_of_spec =

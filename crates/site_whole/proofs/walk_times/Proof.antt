@@ -15,7 +15,7 @@ read-requires c κs =
 
 returns : tie.Need-returns
 returns c =
-rw c.requires.1 at c.read.ensures ∙ walks-own c.args.s.now c.args.layout c.requires.0.laid
+    rw c.requires.1 at c.read.ensures ∙ walks-own c.args.s.now c.args.layout c.requires.0.laid
 
 pub walk_times_spec : {M : Type 1} → statement M
 walk_times_spec = tie.close (tie.spec (λ c. search rules) read-requires returns)

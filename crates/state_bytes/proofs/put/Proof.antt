@@ -10,7 +10,7 @@ same_length c = simp length-set (search rules)
 
 returns : tie.Need-returns
 returns c =
-let a = c.args in
+    let a = c.args in
     rw (c.put-4.ensures, c.put-3.ensures, c.put-2.ensures, c.put.ensures)
     (written a.state a.bytes.now a.at)
 

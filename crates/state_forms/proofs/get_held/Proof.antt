@@ -17,13 +17,13 @@ tag c =
 returns : tie.Need-returns-then-bytes-at-eq1
 unfolding byte_at
 returns c =
-let e : byte_at c.args.bytes.now c.args.at ≡ 1 = omega (arith, tag c.before.before.before) in
+    let e : byte_at c.args.bytes.now c.args.at ≡ 1 = omega (arith, tag c.before.before.before) in
     rw e
 
 returns-2 : tie.Need-returns-else-bytes-at-eq1
 unfolding byte_at
 returns-2 c =
-let e : byte_at c.args.bytes.now c.args.at ≡ 0 = omega (arith, tag c.before.before.before) in
+    let e : byte_at c.args.bytes.now c.args.at ≡ 0 = omega (arith, tag c.before.before.before) in
     rw e
 
 pub get_held_spec : {M : Type 1} → statement M

@@ -12,7 +12,7 @@ own-times-requires c κs = accepted-fits c.requires.0 c.requires.1
 returns : tie.Need-returns
 unfolding fresh_timed site_of
 returns c =
-rw (c.put_settled.ensures, c.fresh.ensures, c.own_times-times.ensures)
+    rw (c.put_settled.ensures, c.fresh.ensures, c.own_times-times.ensures)
 
 pub put_fresh_spec : {M : Type 1} → statement M
 put_fresh_spec =

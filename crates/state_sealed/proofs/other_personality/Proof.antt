@@ -10,13 +10,13 @@ use Rattle.state_sealed.proofs.other_personality.Tie as tie
 returns : tie.Need-returns-then-two_in-personality
 unfolding other_personality
 returns c =
-let a = c.args in
+    let a = c.args in
     rw (ne_eqb (two_at a.sealed.now 1) (length a.personality.now) (rw c.two_in.ensures at c.if-two_in-personality.true))
 
 returns-2 : tie.Need-returns
 unfolding other_personality
 returns-2 c =
-let a = c.args in
+    let a = c.args in
     rw (
       c.four_in.ensures,
       c.crc.ensures,

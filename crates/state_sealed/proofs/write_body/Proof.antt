@@ -27,12 +27,12 @@ put-all-requires c κs = omega (arith, marked c.before.before.before)
 
 same_length : tie.Need-shape_of-sealed
 same_length c =
-c.put_all_lem.auto.0 ∙ marked c.before.before.before.before.before.before ∙ sym c.requires.2
+    c.put_all_lem.auto.0 ∙ marked c.before.before.before.before.before.before ∙ sym c.requires.2
 
 returns : tie.Need-returns
 unfolding two
 returns c =
-let a = c.args in
+    let a = c.args in
     rw (c.put_all_lem.ensures, c.put_four.ensures, c.crc.ensures, c.put_two.ensures)
     (body-written a.personality.now a.state.now a.sealed.now)
 

@@ -11,7 +11,7 @@ slice-aggregate-crc c = sym (length-take-le 343 c.write_body.new.1.1.0 (search r
 
 returns : tie.Need-returns
 returns c =
-let a = body.before.before.before.before.before.args in
+    let a = body.before.before.before.before.before.args in
     rw (c.put_four.ensures, c.crc-check.ensures, c.write_body.ensures)
     (sealed-written a.personality.now a.state.now a.sealed.now (search rules) (search rules))
 

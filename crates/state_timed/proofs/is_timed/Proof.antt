@@ -15,7 +15,7 @@ returns c = rw (ne_eqb (length c.args.bytes.now) timed_bytes c.if-bytes-ne-TIMED
 returns-2 : tie.Need-returns
 unfolding byte_at
 returns-2 c =
-rw c.known.ensures (timed-tested c.args.bytes.now c.if-bytes-ne-TIMED_BYTES.false)
+    rw c.known.ensures (timed-tested c.args.bytes.now c.if-bytes-ne-TIMED_BYTES.false)
 
 pub is_timed_spec : {M : Type 1} → statement M
 is_timed_spec = tie.close (tie.spec returns (λ c κs. search rules) (λ c. search rules) returns-2)

@@ -6,7 +6,7 @@ use Rattle.state_timed.proofs.put_settled.Tie as tie
 
 returns : tie.Need-returns
 returns c =
-rw (c.put_all_lem.ensures, c.put-2.ensures, c.put.ensures)
+    rw (c.put_all_lem.ensures, c.put-2.ensures, c.put.ensures)
     (settled-written c.args.bytes.now c.args.state c.args.ruling c.requires)
 
 pub put_settled_spec : {M : Type 1} → statement M

@@ -27,7 +27,7 @@ same_length c = rw c.put.ensures (simp (length-sets, length-set))
 
 returns : tie.Need-returns
 returns c =
-rw c.put.ensures (waiting-written c.args.bytes.now (bytes c.before.before.before.before) c.requires c.args.times)
+    rw c.put.ensures (waiting-written c.args.bytes.now (bytes c.before.before.before.before) c.requires c.args.times)
 
 pub put_waiting_spec : {M : Type 1} → statement M
 put_waiting_spec = tie.close (tie.spec slice-write-bytes put-requires same_length returns)

@@ -6,7 +6,7 @@ use Rattle.state_times.proofs.put.Tie as tie
 
 returns : tie.Need-returns
 returns c =
-let a = c.args in
+    let a = c.args in
     rw (c.put_early.ensures, c.put-2.ensures, c.put.ensures, c.put_two.ensures)
     (times-written a.times a.bytes.now a.at)
 

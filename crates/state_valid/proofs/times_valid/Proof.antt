@@ -36,7 +36,7 @@ blank-requires c κs = omega (arith, (told c.before.before.before.before.before.
 returns-2 : tie.Need-returns-then-bytes-eq0
 unfolding byte_at
 returns-2 c =
-let a = c.args in
+    let a = c.args in
     none-wait a.personality.now a.bytes.now (ok c.before.before.before) c.if-bytes-eq0.true (c.blank.ensures (site_of a.personality.now))
 
 admitted-requires-2 : tie.Need-admitted-requires-2
@@ -45,7 +45,7 @@ admitted-requires-2 c κs = (c.pre.0, c.pre.1, c.pre.2, omega (arith, (told c.be
 returns-3 : tie.Need-returns
 unfolding byte_at
 returns-3 c =
-let a = c.args in
+    let a = c.args in
     some-wait a.personality.now a.bytes.now (ok c.before.before.before) c.if-bytes-eq0.false (told c.before.before.before.before.before.before.before).code c.admitted-2.ensures
 
 pub times_valid_spec : {M : Type 1} → statement M

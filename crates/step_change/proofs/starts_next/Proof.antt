@@ -22,13 +22,13 @@ movements-after-requires c κs = past c.before.before.before.before.before.befor
 
 ends-requires : tie.Need-ends-requires
 ends-requires c κs =
-rw c.movements_after-moved.ensures
+    rw c.movements_after-moved.ensures
     (still-past c.args.site.times _ c.args.state.core.movements c.args.site.size.movements (past c.before.before.before.before.before.before.before.before.before))
 
 returns-2 : tie.Need-returns
 unfolding starts_next
 returns-2 c =
-c.ends.ensures
+    c.ends.ensures
     ∙ rw (c.phase_times-own.ensures, c.movements_after-moved.ensures, sym c.is_before_start.ensures ∙ not-false _ c.if-not-is_before_start.false)
 
 pub starts_next_spec : {M : Type 1} → statement M

@@ -28,7 +28,7 @@ decreases-loop-g count closes position buffer₀ groups movements k₀ g₀ buff
 -- the buffer is as long as it was
 length-kept : (c : tie.At-loop-g invariant-loop-g decreases-loop-g) → length c.loop-g.buffer ≡ length c.args.buffer.now
 length-kept c =
-let a = c.args in
+    let a = c.args in
     let shown = colour_of a.table a.closes a.position a.t5 in
     omega (arith, c.requires.fits, c.loop-g.invariant.0, ap length c.loop-g.invariant.1.bytes, passed_length shown a.buffer.now c.loop-g.g)
 
@@ -36,7 +36,7 @@ let a = c.args in
 own : (c : tie.Then-group-eq2 invariant-loop-g decreases-loop-g) → c.loop-g.k < 8
 unfolding group_of
 own c =
-let g = c.loop-g.g in
+    let g = c.loop-g.g in
     omega (
       arith,
       c.loop-g.invariant.1.counted,
@@ -54,7 +54,7 @@ stage-read movements k =
 loop-again : tie.Need-loop-g-preserved invariant-loop-g decreases-loop-g
 unfolding group_of
 loop-again c =
-let a = c.args in (
+    let a = c.args in (
       search rules,
       c.pass_group-k.ensures a.table a.t5 refl
           (λ is.
@@ -83,11 +83,10 @@ array-copy-out-own c = own c
 
 pass-group-requires : tie.Need-pass_group-k-requires invariant-loop-g decreases-loop-g
 unfolding movement_of
-pass-group-requires c κs =
-(
-      omega (arith, c.loop-g-test.true, c.requires.fits, length-kept c.before.before.before.before.before),
-      omega (arith, c.loop-g.invariant.1.counted, count_most (is_pedestrian c.args.table) c.loop-g.g),
-    )
+pass-group-requires c κs = (
+  omega (arith, c.loop-g-test.true, c.requires.fits, length-kept c.before.before.before.before.before),
+  omega (arith, c.loop-g.invariant.1.counted, count_most (is_pedestrian c.args.table) c.loop-g.g),
+)
 
 add-g : tie.Need-overflow_add-g invariant-loop-g decreases-loop-g
 add-g c = search rules
@@ -100,7 +99,7 @@ same_length c = length-kept c.before
 
 returns : tie.Need-returns invariant-loop-g decreases-loop-g
 returns c =
-let all : c.loop-g.g ≡ c.args.count = omega (arith, c.loop-g.invariant.0, c.loop-g-test.false) in
+    let all : c.loop-g.g ≡ c.args.count = omega (arith, c.loop-g.invariant.0, c.loop-g-test.false) in
     rw all c.before c.loop-g.invariant.1.bytes
 
 pub buffer_at_spec : {M : Type 1} → statement M

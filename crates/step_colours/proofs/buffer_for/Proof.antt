@@ -14,12 +14,12 @@ use Rattle.step_colours.proofs.buffer_for.Tie as tie
 
 buffer-at-requires : tie.Need-buffer_at-requires
 buffer-at-requires c κs =
-showable c.args.site (length c.args.buffer.now) c.requires.0 c.requires.1
+    showable c.args.site (length c.args.buffer.now) c.requires.0 c.requires.1
 
 returns : tie.Need-returns
 unfolding buffer_for colours_of shown_in buffer_at
 returns c =
-let a = c.args in
+    let a = c.args in
     c.buffer_at.ensures
     ∙ rw c.closing_there-closes.ensures
     (ap (λ (l : List ℕ). l ++ drop a.site.size.groups a.buffer.now)

@@ -8,12 +8,12 @@ use Rattle.step_colours.proofs.pass_group.Tie as tie
 
 returns : tie.Need-returns-then-group-eq2
 returns c =
-let a = c.args in
+    let a = c.args in
     pedestrian-passed a.g c.requires.0 refl a.group a.stage a.closes a.position c.if-group-eq2.true c.movement_colour.ensures refl
 
 returns-2 : tie.Need-returns
 returns-2 c =
-let a = c.args in
+    let a = c.args in
     vehicle-passed a.g c.requires.0 refl a.group a.stage a.closes a.position c.if-group-eq2.false c.vehicle_shown.ensures refl
 
 pub pass_group_spec : {M : Type 1} → statement M

@@ -10,19 +10,19 @@ use Rattle.step_counts.proofs.maximum_after.Tie as tie
 -- X or one more, whichever is less
 returns : tie.Need-returns-then-maximum-times
 returns c =
-let args = c.args in
+    let args = c.args in
     ◌∙◌ {b = min (args.maximum + 1) args.times.maximum} (omega arith)
     (rises args.interval args.times args.another args.maximum (sym c.is_running.ensures ∙ c.if-is_running.true) c.if-another-maximum.true)
 
 returns-2 : tie.Need-returns-then-another-maximum
 returns-2 c =
-let args = c.args in
+    let args = c.args in
     ◌∙◌ {b = min (args.maximum + 1) args.times.maximum} (omega arith)
     (rises args.interval args.times args.another args.maximum (sym c.is_running.ensures ∙ c.if-is_running.true) c.if-another-maximum.true)
 
 returns-3 : tie.Need-returns-then-is_running
 returns-3 c =
-let args = c.args in
+    let args = c.args in
     still-none args.interval args.times args.another args.maximum (sym c.is_running.ensures ∙ c.if-is_running.true) c.if-another-maximum.false
 
 returns-4 : tie.Need-returns

@@ -9,11 +9,10 @@ use Rattle.step_demands.proofs.register.Statement.{statement}
 use Rattle.step_demands.proofs.register.Tie as tie
 
 sense-requires : tie.Need-sense-sensed-requires
-sense-requires c κs =
-    (
-      tabled c.args.site c.requires.0,
-      omega (arith, c.requires.1, c.requires.0.phases.1),
-    )
+sense-requires c κs = (
+  tabled c.args.site c.requires.0,
+  omega (arith, c.requires.1, c.requires.0.phases.1),
+)
 
 next-after-requires : tie.Need-next_after-requires
 next-after-requires c κs = c.requires.0.phases.1
@@ -27,7 +26,7 @@ kept_small c = search rules
 
 returns : tie.Need-returns
 returns c =
-asked-told c.args.site c.args.state c.args.inputs c.sense-sensed.result c.in_green-green.result
+    asked-told c.args.site c.args.state c.args.inputs c.sense-sensed.result c.in_green-green.result
     c.except-locking.result c.except-calling.result
     c.sense-sensed.ensures c.in_green-green.ensures c.except-locking.ensures c.except-calling.ensures
     c.press-pressed.result.buttons c.press-pressed.result.phases c.next_after.result

@@ -10,7 +10,7 @@ use Rattle.step_demands_detectors.proofs.sense.Tie as tie
 
 returns : tie.Need-returns
 returns c =
-let args = c.args in
+    let args = c.args in
     let known = c.requires.0 in
     let row : (m set : ℕ) → ((p : ℕ) → p < 8 → bit p set ≡ bit (8 * m + p) c.table-set.result) → Of args.detectors args.count args.inputs (λ mode. eqb mode m) set =
     λ m set own. record { told = λ p l. own p l ∙ c.table-set.ensures m p l } in

@@ -30,7 +30,7 @@ loop-holds c = none-entered c.args.table c.args.count c.args.inputs c.requires
 -- the detector of a turn is one of the first count
 own-within : (c : tie.In-loop-rest invariant-loop-rest decreases-loop-rest) → count_trailing_zeros 64 c.loop-rest.rest < c.args.count
 own-within c =
-turn-within c.args.table c.args.count c.args.inputs c.requires c.loop-rest.invariant
+    turn-within c.args.table c.args.count c.args.inputs c.requires c.loop-rest.invariant
     (omega (arith, c.loop-rest-test.true))
 
 abbrev own : tie.In-loop-rest invariant-loop-rest decreases-loop-rest → Detector
@@ -73,17 +73,17 @@ sub-rest c = search rules
 
 loop-less : tie.Need-loop-rest-smaller invariant-loop-rest decreases-loop-rest
 loop-less c =
-left_less c.loop-rest.invariant.left (omega (arith, c.loop-rest-test.true)) (omega (arith, c.requires.room))
+    left_less c.loop-rest.invariant.left (omega (arith, c.loop-rest-test.true)) (omega (arith, c.requires.room))
 
 loop-again : tie.Need-loop-rest-preserved invariant-loop-rest decreases-loop-rest
 unfolding detector_of
 loop-again c =
-one-entered c.args.table c.args.count c.args.inputs c.requires c.loop-rest.invariant
+    one-entered c.args.table c.args.count c.args.inputs c.requires c.loop-rest.invariant
     (omega (arith, c.loop-rest-test.true))
 
 returns : tie.Need-returns invariant-loop-rest decreases-loop-rest
 returns c =
-all-entered c.args.table c.args.count c.args.inputs c.requires c.loop-rest.invariant c.loop-rest-test.false
+    all-entered c.args.table c.args.count c.args.inputs c.requires c.loop-rest.invariant c.loop-rest-test.false
 
 pub table_spec : {M : Type 1} → statement M
 table_spec =

@@ -14,7 +14,7 @@ add-search c = omega (arith, c.place_of-at.ensures.within)
 
 returns : tie.Need-returns-in-Phase
 returns c =
-let args = c.args in
+    let args = c.args in
     let test : ℕ → Bool = λ p. bit p args.set in
     sym (next-later args.order c.place_of-at.ensures test (sym c.search-later.ensures ∙ c.in-Phase.is))
 
@@ -23,11 +23,11 @@ enum_told c = search rules
 
 search-requires-2 : tie.Need-search-requires
 search-requires-2 c κs =
-omega (arith, c.requires, c.place_of-at.ensures.within)
+    omega (arith, c.requires, c.place_of-at.ensures.within)
 
 returns-2 : tie.Need-returns
 returns-2 c =
-let args = c.args in
+    let args = c.args in
     let test : ℕ → Bool = λ p. bit p args.set in
     c.search.ensures
     ∙ sym (next-earlier args.order c.place_of-at.ensures test (sym c.search-later.ensures ∙ c.in_default.is))

@@ -25,7 +25,7 @@ array-read-if1 c = search rules
 
 returns : tie.Need-returns-then-order-i invariant-loop-i decreases-loop-i
 returns c =
-record { within = omega arith; earlier = c.loop-i.invariant.1; own = λ l. c.if-order-i.true }
+    record { within = omega arith; earlier = c.loop-i.invariant.1; own = λ l. c.if-order-i.true }
 
 add-i : tie.Need-overflow_add-i invariant-loop-i decreases-loop-i
 add-i c = search rules
@@ -38,7 +38,7 @@ loop-again c = (omega arith, below_more _ _ c.loop-i.invariant.1 c.if-order-i.fa
 
 returns-2 : tie.Need-returns invariant-loop-i decreases-loop-i
 returns-2 c =
-record { within = omega arith; earlier = λ j l. c.loop-i.invariant.1 j (omega arith); own = λ l. absurd (omega arith) }
+    record { within = omega arith; earlier = λ j l. c.loop-i.invariant.1 j (omega arith); own = λ l. absurd (omega arith) }
 
 pub place_of_spec : {M : Type 1} → statement M
 place_of_spec =

@@ -33,7 +33,7 @@ bit8-requires c κs = search rules
 
 returns : tie.Need-returns-then-bit8 invariant-loop-i decreases-loop-i
 returns c =
-let args = c.args in
+    let args = c.args in
     sym
     (c.loop-i.invariant
     ∙ search-found (at args.set) args.t2 c.loop-i.i args.to c.loop-i-test.true
@@ -47,14 +47,14 @@ loop-less c = search rules
 
 loop-again : tie.Need-loop-i-preserved invariant-loop-i decreases-loop-i
 loop-again c =
-let args = c.args in
+    let args = c.args in
     c.loop-i.invariant
     ∙ search-on (at args.set) args.t2 c.loop-i.i args.to c.loop-i-test.true
     (sym c.bit8.ensures ∙ c.if-bit8.false)
 
 returns-2 : tie.Need-returns invariant-loop-i decreases-loop-i
 returns-2 c =
-let args = c.args in
+    let args = c.args in
     sym (c.loop-i.invariant ∙ search-none (at args.set) args.t2 c.loop-i.i args.to c.loop-i-test.false)
 
 pub search_spec : {M : Type 1} → statement M

@@ -30,7 +30,7 @@ decreases-loop-k may-end count n settings out₀ k₀ out k = n - k
 returns : tie.Need-returns-then-n-eq0 invariant-loop-k decreases-loop-k
 unfolding movements_after walk_times
 returns c =
-let args = c.args in
+    let args = c.args in
     list-told (after args.times.walks args.may-end args.movements) args.movements 8 idle c.well_formed.1.1.0.1.0.1
     (λ k b. past-stays args.times.walks args.may-end args.movements args.count c.requires k (omega (arith, c.if-n-eq0.true)) b)
 
@@ -69,7 +69,7 @@ loop-less c = search rules
 
 loop-again : tie.Need-loop-k-preserved invariant-loop-k decreases-loop-k
 loop-again c =
-let args = c.args in
+    let args = c.args in
     let k = c.loop-k.k in
     let filled = c.loop-k.invariant.1 in
     let inside : k < length args.movements = omega (arith, c.well_formed.1.1.0.1.0.1, c.requires.room) in
@@ -92,7 +92,7 @@ let args = c.args in
 returns-2 : tie.Need-returns invariant-loop-k decreases-loop-k
 unfolding movements_after walk_times
 returns-2 c =
-let args = c.args in
+    let args = c.args in
     fill-kept idle c.loop-k.k 8 c.loop-k.invariant.1 c.well_formed.1.1.0.1.0.1 (omega (arith, c.loop-k.invariant.0, c.requires.room))
     (λ k a b. past-stays args.times.walks args.may-end args.movements args.count c.requires k (omega (arith, c.loop-k-test.false)) b)
 

@@ -12,7 +12,7 @@ returns c =
 
 returns-2 : tie.Need-returns
 returns-2 c =
-let a = c.args in
+    let a = c.args in
     rw (c.age_valid.ensures, c.is_leaving.ensures, c.is_walk_or_first.ensures, c.is_start_red.ensures)
     (busy-valid a.of-phase a.interval a.movement (sym c.is_idle.ensures ∙ c.if-is_idle.false))
 

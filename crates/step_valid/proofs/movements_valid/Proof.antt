@@ -53,11 +53,11 @@ movement-valid-requires c κs = search rules
 
 own-valid :
     (c : tie.After-movement_valid invariant-loop-k decreases-loop-k) →
-let a = c.args in
+    let a = c.args in
     c.movement_valid.result ≡ passes a.count a.t2 a.position a.t4 c.loop-k.k
 unfolding crosses
 own-valid c =
-let a = c.args in
+    let a = c.args in
     let k = c.loop-k.k in
     let inside : k < length a.t4 = omega (arith, c.loop-k-test.true, c.well_formed.1.1.1.0.1.0.1) in
     c.movement_valid.ensures
@@ -68,7 +68,7 @@ let a = c.args in
 returns : tie.Need-returns-then-not-movement_valid invariant-loop-k decreases-loop-k
 unfolding movements_valid
 returns c =
-let a = c.args in
+    let a = c.args in
     all-fails (passes a.count a.t2 a.position a.t4) 8 c.loop-k.k (omega arith)
     (sym (own-valid c.before) ∙ not-true c.movement_valid.result c.if-not-movement_valid.true)
 

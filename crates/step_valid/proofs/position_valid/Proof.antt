@@ -7,7 +7,7 @@ use Rattle.step_valid.proofs.position_valid.Tie as tie
 returns : tie.Need-returns
 unfolding position_valid
 returns c =
-rw (
+    rw (
       c.interval_valid.ensures,
       c.target_valid.ensures,
       c.is_leaving.ensures,

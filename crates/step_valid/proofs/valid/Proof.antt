@@ -7,7 +7,7 @@ use Rattle.step_valid.proofs.valid.Tie as tie
 returns : tie.Need-returns
 unfolding valid
 returns c =
-rw (
+    rw (
       c.position_valid.ensures,
       c.counts_valid.ensures,
       c.demands_valid.ensures,

@@ -78,12 +78,12 @@ sub-rest c = search rules
 
 loop-less : tie.Need-loop-rest-smaller invariant-loop-rest decreases-loop-rest
 loop-less c =
-left_less c.loop-rest.invariant.untaken (omega (arith, c.loop-rest-test.true)) (omega arith)
+    left_less c.loop-rest.invariant.untaken (omega (arith, c.loop-rest-test.true)) (omega arith)
 
 loop-again : tie.Need-loop-rest-preserved invariant-loop-rest decreases-loop-rest
 unfolding crosses
 loop-again c =
-let at = c.loop-rest in
+    let at = c.loop-rest in
     let a = c.args in
     let some : 0 < at.rest = omega (arith, c.loop-rest-test.true) in
     let may-now =

@@ -21,7 +21,7 @@ decreases-loop-phase owns phases longest sum₀ phase₀ sum phase = phases - ph
 longest-of-requires : tie.Need-longest_of-longest-requires invariant-loop-phase decreases-loop-phase
 unfolding walk_times
 longest-of-requires c κs =
-(c.pre.movements, walk-fits c.args.site.size c.args.site.times c.pre.times)
+    (c.pre.movements, walk-fits c.args.site.size c.args.site.times c.pre.times)
 
 loop-holds : tie.Need-loop-phase-init invariant-loop-phase decreases-loop-phase
 unfolding sum_of
@@ -54,11 +54,11 @@ array-read-phase-share-2 c = search rules
 -- the sum with the share of a turn's phase
 turn-fits :
     (c : tie.In-loop-phase invariant-loop-phase decreases-loop-phase) →
-c.loop-phase.sum
+    c.loop-phase.sum
     + share_at c.args.site.times.phases c.longest_of-longest.result c.loop-phase.phase
     ≤ 65535
 turn-fits c =
-let a = c.args in
+    let a = c.args in
     omega (
       arith,
       c.loop-phase.invariant.1,
@@ -81,7 +81,7 @@ loop-less c = search rules
 loop-again : tie.Need-loop-phase-preserved invariant-loop-phase decreases-loop-phase
 unfolding sum_of
 loop-again c =
-(omega (arith, c.loop-phase-test.true), rw add-one (omega (arith, c.loop-phase.invariant.1, c.phase_share-sum.ensures)))
+    (omega (arith, c.loop-phase-test.true), rw add-one (omega (arith, c.loop-phase.invariant.1, c.phase_share-sum.ensures)))
 
 -- once every phase is passed the sum is the bound
 summed :
@@ -90,7 +90,7 @@ summed :
     c.loop-phase.sum ≡ wait_bound a.site
 unfolding wait_bound
 summed c =
-let a = c.args in
+    let a = c.args in
     c.loop-phase.invariant.1
     ∙ all-shares a.site.size a.site.times a.site.crossings c.longest_of-longest.result c.pre.phases.1 c.longest_of-longest.ensures
     c.loop-phase.phase (omega (arith, c.loop-phase.invariant.0, c.loop-phase-test.false))
@@ -98,7 +98,7 @@ let a = c.args in
 cast-result : tie.Need-overflow_cast-result invariant-loop-phase decreases-loop-phase
 unfolding wait_bound
 cast-result c =
-let a = c.args in
+    let a = c.args in
     omega (arith, summed c, bound-fits a.site.size a.site.times a.site.crossings c.pre.phases.1 c.pre.times)
 
 returns : tie.Need-returns invariant-loop-phase decreases-loop-phase

@@ -50,7 +50,7 @@ array-read-greater c = search rules
 
 add-greater : tie.Need-overflow_add-own invariant-loop-rest decreases-loop-rest
 add-greater c =
-let fits = c.requires.1 _ (turn_below c.before.before) in
+    let fits = c.requires.1 _ (turn_below c.before.before) in
     search rules
 
 greater-requires : tie.Need-greater-walk-requires invariant-loop-rest decreases-loop-rest
@@ -88,18 +88,18 @@ sub-rest c = search rules
 
 loop-less : tie.Need-loop-rest-smaller invariant-loop-rest decreases-loop-rest
 loop-less c =
-let rest = c.loop-rest.rest in
+    let rest = c.loop-rest.rest in
     omega (arith, and_le_r rest (rest - 1), c.loop-rest-test.true)
 
 loop-again : tie.Need-loop-rest-preserved invariant-loop-rest decreases-loop-rest
 loop-again c =
-passed-more c.args.t2 c.loop-rest.invariant (omega (arith, c.loop-rest-test.true))
+    passed-more c.args.t2 c.loop-rest.invariant (omega (arith, c.loop-rest-test.true))
     c.greater-walk.ensures
     c.greater-clearance.ensures
 
 returns : tie.Need-returns invariant-loop-rest decreases-loop-rest
 returns c =
-let a = c.args in
+    let a = c.args in
     passed-all a.t2 a.crossings a.count c.loop-rest.invariant c.sets_of-rest.ensures c.loop-rest-test.false c.requires.0
 
 pub longest_of_spec : {M : Type 1} → statement M

@@ -23,7 +23,7 @@ next-after-requires c κs = c.requires.0.phases.1
 longest-of-requires : tie.Need-longest_of-longest-requires invariant-loop-r decreases-loop-r
 unfolding walk_times
 longest-of-requires c κs =
-(c.requires.0.movements, walks-fit c.args.site c.requires.0)
+    (c.requires.0.movements, walks-fit c.args.site c.requires.0)
 
 cast-most : tie.Need-overflow_cast-most invariant-loop-r decreases-loop-r
 cast-most c = search rules
@@ -67,7 +67,7 @@ loop-less c = search rules
 
 loop-again : tie.Need-loop-r-preserved invariant-loop-r decreases-loop-r
 loop-again c =
-let a = c.args in
+    let a = c.args in
     let owns = a.site.times.phases in
     let longest = c.longest_of-longest.result in
     let own =
@@ -84,7 +84,7 @@ let a = c.args in
 
 returns : tie.Need-returns invariant-loop-r decreases-loop-r
 returns c =
-all-clearings c.args.site c.requires.0 c.args.q c.requires.1 c.next_after-next.result
+    all-clearings c.args.site c.requires.0 c.args.q c.requires.1 c.next_after-next.result
     c.longest_of-longest.result
     c.loop-r.most
     c.loop-r.r

@@ -9,7 +9,7 @@ use Rattle.wait_each.proofs.movement_wait.Tie as tie
 add-result : tie.Need-overflow_add-result
 unfolding movement_wait_by
 add-result c =
-let pre = c.requires in
+    let pre = c.requires in
     omega (
       arith,
       movement-fits c.args.site pre.0 c.args.q pre.1 c.args.m pre.2 pre.3,

@@ -14,14 +14,14 @@ use Rattle.wait_each.proofs.own_of.Tie as tie
 ending-requires : tie.Need-ending-requires
 unfolding phase_times
 ending-requires c κs =
-let pre = c.requires in
+    let pre = c.requires in
     let green : c.green_of-green.result ≤ 6000 = omega (arith, c.green_of-green.ensures, green-fits c.args.site pre.0 c.args.q pre.1) in
     (pre.0, pre.1, green, omega arith)
 
 ending-requires-2 : tie.Need-ending-requires-2
 unfolding walk_times
 ending-requires-2 c κs =
-let pre = c.requires in
+    let pre = c.requires in
     let fits = walk-fits c.args.site pre.0 c.args.m pre.2 in
     let walk = walk_times c.args.site.times c.args.m in
     let both : walk.first + walk.second ≤ 4000 = omega (arith, fits.1, fits.2) in
@@ -31,7 +31,7 @@ let pre = c.requires in
 returns : tie.Need-returns
 unfolding own_of phase_times walk_times
 returns c =
-let a = c.args in
+    let a = c.args in
     let others : ℕ → Bool = λ k. not (eqb k a.m) in
     c.greater.ensures
     ∙ ap₂ max

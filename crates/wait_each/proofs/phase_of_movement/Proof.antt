@@ -42,7 +42,7 @@ loop-less c = search rules
 
 loop-again : tie.Need-loop-p-preserved invariant-loop-p decreases-loop-p
 loop-again c =
-let a = c.args in
+    let a = c.args in
     let set = get_or a.site.crossings a.m 0 in
     let own =
     phase-told set c.loop-p.p c.phase_if.result c.bit8-has.result c.bit8-has.ensures c.phase_if.ensures in (
@@ -62,7 +62,7 @@ found c =
 
 cast-result : tie.Need-overflow_cast-result invariant-loop-p decreases-loop-p
 cast-result c =
-let a = c.args in
+    let a = c.args in
     omega (arith, found c, (phase-fits a.site c.requires.0 a.m c.requires.1).0, c.requires.0.phases)
 
 returns : tie.Need-returns invariant-loop-p decreases-loop-p

@@ -10,13 +10,13 @@ use Rattle.wait_each.proofs.phase_wait.Tie as tie
 add-result : tie.Need-overflow_add-result
 unfolding phase_wait_by phase_times
 add-result c =
-let pre = c.requires in
+    let pre = c.requires in
     omega (arith, wait-fits c.args.site pre.0 c.args.q pre.1, c.clears_first.ensures)
 
 add-result-2 : tie.Need-overflow_add-result-2
 unfolding phase_wait_by phase_times
 add-result-2 c =
-let pre = c.requires in
+    let pre = c.requires in
     omega (arith, wait-fits c.args.site pre.0 c.args.q pre.1, c.clears_first.ensures, c.rest_of.ensures)
 
 returns : tie.Need-returns

@@ -25,7 +25,7 @@ turn-but-requires c κs = search rules
 
 add-sum : tie.Need-overflow_add-sum invariant-loop-p decreases-loop-p
 add-sum c =
-let a = c.args in
+    let a = c.args in
     let pre = c.requires in
     omega (arith, c.loop-p.invariant.1, c.turn_but-sum.ensures, turns_fit a.site pre.0 a.q pre.1 c.loop-p.p c.loop-p-test.true)
 
@@ -38,7 +38,7 @@ loop-less c = search rules
 loop-again : tie.Need-loop-p-preserved invariant-loop-p decreases-loop-p
 unfolding sum_of
 loop-again c =
-(omega (arith, c.loop-p-test.true), rw add-one (omega (arith, c.loop-p.invariant.1, c.turn_but-sum.ensures)))
+    (omega (arith, c.loop-p-test.true), rw add-one (omega (arith, c.loop-p.invariant.1, c.turn_but-sum.ensures)))
 
 returns : tie.Need-returns invariant-loop-p decreases-loop-p
 unfolding rest_of

@@ -13,7 +13,7 @@ use Rattle.wait_each.proofs.wait_at.Tie as tie
 
 cast-result : tie.Need-overflow_cast-result
 cast-result c =
-omega (arith, c.phase_wait.ensures, wait-fits c.args.site c.requires.0 c.args.i c.if-i-phases.true)
+    omega (arith, c.phase_wait.ensures, wait-fits c.args.site c.requires.0 c.args.i c.if-i-phases.true)
 
 -- past the phases it is a movement of the site, and its phase is found
 module _ (c : tie.After-phase-of-movement) where
@@ -46,7 +46,7 @@ cast-result-2 c =
 
 returns : tie.Need-returns-then-i-phases
 returns c =
-c.phase_wait.ensures ∙ sym (wait-of-phase c.args.site c.args.i c.if-i-phases.true)
+    c.phase_wait.ensures ∙ sym (wait-of-phase c.args.site c.args.i c.if-i-phases.true)
 
 returns-2 : tie.Need-returns-else-i-phases
 returns-2 c =

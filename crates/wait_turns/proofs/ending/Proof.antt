@@ -29,7 +29,7 @@ leaving-of-requires c κs = search rules
 add_most : tie.Need-overflow_add-most invariant-loop-k decreases-loop-k
 unfolding phase_times
 add_most c =
-let pre = c.requires in
+    let pre = c.requires in
     omega (arith, pre.2, c.leaving_of-leaving.ensures, leaving-fits c.args.site pre.0 c.args.p pre.1)
 
 loop-holds : tie.Need-loop-k-init invariant-loop-k decreases-loop-k
@@ -54,7 +54,7 @@ array-copy-out-walk-part c = search rules
 walk-part-requires : tie.Need-walk_part-requires invariant-loop-k decreases-loop-k
 unfolding phase_times walk_times
 walk-part-requires c κs =
-let pre = c.requires in
+    let pre = c.requires in
     let fits = walk-fits c.args.site pre.0 c.loop-k.k c.loop-k-test.true in
     let left : c.leaving_of-leaving.result ≤ 6000 =
     omega (arith, c.leaving_of-leaving.ensures, leaving-fits c.args.site pre.0 c.args.p pre.1) in
@@ -71,7 +71,7 @@ loop-less c = search rules
 
 loop-again : tie.Need-loop-k-preserved invariant-loop-k decreases-loop-k
 loop-again c =
-let a = c.args in
+    let a = c.args in
     let walks = a.site.times.walks in
     let own =
     part-told walks a.site.crossings a.p a.without c.leaving_of-leaving.result a.z a.b c.loop-k.k c.walk_part.result
@@ -91,7 +91,7 @@ let a = c.args in
 returns : tie.Need-returns invariant-loop-k decreases-loop-k
 unfolding phase_times
 returns c =
-let a = c.args in
+    let a = c.args in
     all-parts a.site a.p _ a.z a.b c.loop-k.most c.loop-k.k
     (subst
     (λ (leaving : ℕ).

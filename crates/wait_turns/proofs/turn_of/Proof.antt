@@ -13,13 +13,13 @@ use Rattle.wait_turns.proofs.turn_of.Tie as tie
 ending-requires : tie.Need-ending-requires
 unfolding phase_times
 ending-requires c κs =
-let green : c.green_of.result ≤ 6000 = omega (arith, c.green_of.ensures, green-fits c.args.site c.requires.0 c.args.p c.requires.1) in
+    let green : c.green_of.result ≤ 6000 = omega (arith, c.green_of.ensures, green-fits c.args.site c.requires.0 c.args.p c.requires.1) in
     (c.requires.0, c.requires.1, green, omega arith)
 
 returns : tie.Need-returns
 unfolding turn_of phase_times
 returns c =
-let site = c.args.site in
+    let site = c.args.site in
     c.ending.ensures
     ∙ none-left-out site c.requires.0 c.args.p c.green_of.result 0
     ∙ ap (λ (green : ℕ). ending site c.args.p (λ k. true) green 0) c.green_of.ensures

@@ -28,16 +28,16 @@ loop-holds c = (omega arith, refl)
 
 differs-at-requires : tie.Need-differs_at-requires invariant-loop-i decreases-loop-i
 differs-at-requires c κs =
-(c.requires.0, c.requires.1, omega arith, omega (arith, c.if-new-length.false))
+    (c.requires.0, c.requires.1, omega arith, omega (arith, c.if-new-length.false))
 
 returns-2 : tie.Need-returns-then-differs_at invariant-loop-i decreases-loop-i
 returns-2 c =
-let a = c.args in
+    let a = c.args in
     difference-found a.s.now a.new.now c.loop-i.i c.if-new-length.false (omega arith) (sym c.differs_at.ensures ∙ c.if-differs_at.true)
 
 loop-again : tie.Need-loop-i-preserved invariant-loop-i decreases-loop-i
 loop-again c =
-let a = c.args in (
+    let a = c.args in (
       omega arith,
       any-more (differs a.s.now a.new.now) c.loop-i.i c.loop-i.invariant.1
           (sym c.differs_at.ensures ∙ c.if-differs_at.false),
@@ -45,7 +45,7 @@ let a = c.args in (
 
 returns-3 : tie.Need-returns invariant-loop-i decreases-loop-i
 returns-3 c =
-let a = c.args in
+    let a = c.args in
     no_difference a.s.now a.new.now c.loop-i.i c.if-new-length.false c.loop-i.invariant.1 (omega arith)
 
 pub differs_elsewhere_spec : {M : Type 1} → statement M

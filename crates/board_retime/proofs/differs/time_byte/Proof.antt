@@ -6,7 +6,7 @@ use Rattle.board_retime.proofs.differs.time_byte.Tie as tie
 
 returns : tie.Need-returns
 returns c =
-rw (c.between-4.ensures, c.between-3.ensures, c.between-2.ensures, c.between.ensures)
+    rw (c.between-4.ensures, c.between-3.ensures, c.between-2.ensures, c.between.ensures)
     (time-bytes-laid c.args.s.now c.args.layout c.args.i c.requires.1)
 
 pub time_byte_spec : {M : Type 1} → statement M

@@ -20,7 +20,7 @@ put-settled-requires c κs = (told c.before.before.before.before).size
 
 returns : tie.Need-returns-then-over
 returns c =
-let a = c.args in
+    let a = c.args in
     c.put_settled.ensures
     ∙ ap (λ (over : Bool). timed_encoded (after a.site a.next over (timed_decoded a.state.now))) (sym c.if-over.true)
 
@@ -33,7 +33,7 @@ bytes c = record { each = λ i. omega (arith, c.slice_known-1.given i) }
 
 returns-2 : tie.Need-returns
 returns-2 c =
-let a = c.args in
+    let a = c.args in
     c.put.ensures
     ∙ kept-written a.state.now (bytes c.before.before.before.before.before) c.requires a.next
     ∙ ap (λ (over : Bool). timed_encoded (after a.site a.next over (timed_decoded a.state.now))) (sym c.if-over.false)

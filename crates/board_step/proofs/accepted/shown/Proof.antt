@@ -7,7 +7,7 @@ use Rattle.board_step.proofs.accepted.shown.Tie as tie
 returns : tie.Need-returns
 unfolding buffer_for
 returns c =
-(rw c.wait_bound.ensures at c.packed.ensures, c.buffer_for.ensures)
+    (rw c.wait_bound.ensures at c.packed.ensures, c.buffer_for.ensures)
 
 pub shown_spec : {M : Type 1} → statement M
 shown_spec =

@@ -7,7 +7,7 @@ use Rattle.cabinet_held.proofs.fills.store.Tie as tie
 
 returns : tie.Need-returns
 returns c =
-c.fill.ensures ∙ padded c.args.personality.now c.args.room.now _ c.requires c.copy.ensures
+    c.fill.ensures ∙ padded c.args.personality.now c.args.room.now _ c.requires c.copy.ensures
 
 pub store_spec : {M : Type 1} → statement M
 store_spec = tie.close (tie.spec (λ c κs. search rules) (λ c. search rules) (λ c κs. search rules) (λ c. search rules) returns)

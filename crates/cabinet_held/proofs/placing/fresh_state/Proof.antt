@@ -9,7 +9,7 @@ use Rattle.cabinet_held.proofs.placing.fresh_state.Tie as tie
 returns : tie.Need-returns-then-state-eq-TIMED_BYTES
 unfolding timed_encoded_over
 returns c =
-rw (eq-eqb (length c.args.state.now) timed_bytes c.if-state-eq-TIMED_BYTES.true) c.put_fresh.ensures
+    rw (eq-eqb (length c.args.state.now) timed_bytes c.if-state-eq-TIMED_BYTES.true) c.put_fresh.ensures
 
 returns-2 : tie.Need-returns-else-state-eq-TIMED_BYTES
 unfolding timed_encoded_over

@@ -17,19 +17,19 @@ checked :
     c.checks-verdict.result ≡ placing_checks a.personality.now a.free a.met a.first (length a.outputs.now)
 unfolding placing_checks
 checked c =
-rw (← c.read_with_layout-reading.ensures.0, ← c.outputs_of-count.ensures, ← c.past_last.ensures) c.checks-verdict.ensures
+    rw (← c.read_with_layout-reading.ensures.0, ← c.outputs_of-count.ensures, ← c.past_last.ensures) c.checks-verdict.ensures
 
 enum_told : tie.Need-enum_told-1
 enum_told c = search rules
 
 fill-requires : tie.Need-fill-requires
 fill-requires c κs =
-let fits = placing-fits _ _ _ _ _ (sym (checked c.before.before) ∙ c.in-Accepted.is) in
+    let fits = placing-fits _ _ _ _ _ (sym (checked c.before.before) ∙ c.in-Accepted.is) in
     omega (arith, fits, c.outputs_of-count.ensures)
 
 returns : tie.Need-returns-in-Accepted
 returns c =
-let fits = placing-fits _ _ _ _ _ (sym (checked c.before.before.before.before.before) ∙ c.in-Accepted.is) in (
+    let fits = placing-fits _ _ _ _ _ (sym (checked c.before.before.before.before.before) ∙ c.in-Accepted.is) in (
       checked c.before.before.before.before.before,
       c.read_with_layout-reading.ensures.1,
       c.fill.ensures ∙ turned-accepted red _ _ _ (checked c.before.before.before.before.before) c.in-Accepted.is c.outputs_of-count.ensures fits,
@@ -37,7 +37,7 @@ let fits = placing-fits _ _ _ _ _ (sym (checked c.before.before.before.before.be
 
 returns-2 : tie.Need-returns-in_default
 returns-2 c =
-let read = c.read_with_layout-reading in
+    let read = c.read_with_layout-reading in
     (checked c.before, read.ensures.1, turned-refused red _ _ _ (checked c.before) c.in_default.is)
 
 pub held_placing_spec : {M : Type 1} → statement M

@@ -6,7 +6,7 @@ use Rattle.read_conflicts.proofs.records.bad_conflict.Tie as tie
 
 returns : tie.Need-returns
 returns c =
-let pre = c.requires in
+    let pre = c.requires in
     rw (c.reaches32.ensures, c.bit32.ensures, c.conflict_set-set.ensures, pre.0.laid.groupcount) (named-tested pre.2)
 
 pub bad_conflict_spec : {M : Type 1} → statement M

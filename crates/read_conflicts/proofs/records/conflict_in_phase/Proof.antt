@@ -7,7 +7,7 @@ use Rattle.read_conflicts.proofs.records.conflict_in_phase.Tie as tie
 
 returns : tie.Need-returns
 returns c =
-let pre = c.requires in
+    let pre = c.requires in
     let laid = pre.0.laid in
     let phases = laid.phasecount in
     rw c.conflict_set.ensures

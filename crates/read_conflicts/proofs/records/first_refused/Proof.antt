@@ -41,17 +41,17 @@ turned-requires c κs = search rules
 -- the sets are those for the record of g: they are made anew, or were made for a group before it
 compared :
     (c : tie.Joined1 invariant-loop-g decreases-loop-g) →
-let args = c.args in
+    let args = c.args in
     Compared args.s.now args.number c.loop-g.g c.if-renewed.rows
 compared c =
-⊎_elim
+    ⊎_elim
     (λ w. rw w.2 w.1.ensures)
     (λ w. rw w.1 (c.loop-g.invariant.2 (sym c.renewed.ensures ∙ w.0.left)))
     c.if-renewed.branch
 
 refused-record-requires : tie.Need-refused_record-requires invariant-loop-g decreases-loop-g
 refused-record-requires c κs =
-let pre = c.requires in
+    let pre = c.requires in
     (pre.0, pre.1, omega arith, compared c)
 
 add-t12 : tie.Need-overflow_add-result invariant-loop-g decreases-loop-g
@@ -66,7 +66,7 @@ add-t14 c = search rules
 returns : tie.Need-returns-then-refused_record invariant-loop-g decreases-loop-g
 unfolding first_refused record_at body_at
 returns c =
-bad-stop _ _ _ _ c.loop-g.g (omega arith) c.loop-g.invariant.1 (sym c.refused_record.ensures ∙ c.if-refused_record.true) (omega arith)
+    bad-stop _ _ _ _ c.loop-g.g (omega arith) c.loop-g.invariant.1 (sym c.refused_record.ensures ∙ c.if-refused_record.true) (omega arith)
 
 add-g : tie.Need-overflow_add-g invariant-loop-g decreases-loop-g
 add-g c = search rules
@@ -75,12 +75,11 @@ loop-less : tie.Need-loop-g-smaller invariant-loop-g decreases-loop-g
 loop-less c = search rules
 
 loop-again : tie.Need-loop-g-preserved invariant-loop-g decreases-loop-g
-loop-again c =
-(
-      omega arith,
-      good_more _ _ _ _ c.loop-g.invariant.1 (sym c.refused_record.ensures ∙ c.if-refused_record.false),
-      compared-next c.loop-g.g (compared c.before.before),
-    )
+loop-again c = (
+  omega arith,
+  good_more _ _ _ _ c.loop-g.invariant.1 (sym c.refused_record.ensures ∙ c.if-refused_record.false),
+  compared-next c.loop-g.g (compared c.before.before),
+)
 
 returns-2 : tie.Need-returns invariant-loop-g decreases-loop-g
 unfolding first_refused

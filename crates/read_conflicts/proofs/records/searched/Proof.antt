@@ -25,7 +25,7 @@ loop-holds c = (omega arith, omega arith, λ k h l. absurd (omega arith))
 
 first-refused-requires : tie.Need-first_refused-found-requires invariant-loop-number decreases-loop-number
 first-refused-requires c κs =
-let number = c.loop-number.number in (
+    let number = c.loop-number.number in (
       c.requires,
       sets_below _ number (λ other. let apart = eqb-false number 9 other in c.loop-number.invariant.2 9 (omega arith) (omega (arith, apart))),
     )
@@ -35,7 +35,7 @@ enum_told c = search rules
 
 returns : tie.Need-returns-in-Refused invariant-loop-number decreases-loop-number
 returns c =
-let number = c.loop-number.number in
+    let number = c.loop-number.number in
     ⊎_elim
     (λ (nine : number ≡ 9). or-stop _ (c.first_refused-found.ensures ∙ ap (first_refused _) nine) c.in-Refused.is)
     (λ apart.
@@ -54,7 +54,7 @@ loop-less c = search rules
 
 loop-again : tie.Need-loop-number-preserved invariant-loop-number decreases-loop-number
 loop-again c =
-let passed = sym c.first_refused-found.ensures ∙ c.in_default.is in
+    let passed = sym c.first_refused-found.ensures ∙ c.in_default.is in
     (omega arith, omega arith, upto-more (λ k. first_refused _ k ≡ Accepted) 9 _ c.loop-number.invariant.2 passed)
 
 returns-2 : tie.Need-returns invariant-loop-number decreases-loop-number

@@ -34,7 +34,7 @@ loop-less c = search rules
 
 loop-again : tie.Need-loop-p-preserved invariant-loop-p decreases-loop-p
 loop-again c =
-let known = c.loop-p.invariant.1 in
+    let known = c.loop-p.invariant.1 in
     let asked = sym c.bit32.ensures in (
       omega arith,
       ⊎_elim

@@ -19,13 +19,13 @@ returns c =
 returns-2 : tie.Need-returns-then-mark-eq2
 unfolding bad_group
 returns-2 c =
-let small : c.args.set < 2 ^ c.args.phases = omega (arith, c.requires) in
+    let small : c.args.set < 2 ^ c.args.phases = omega (arith, c.requires) in
     rw (lt-leb (2 ^ c.args.phases) c.args.set small, c.if-mark-eq2.true, ones-counted c.args.phases c.args.set small)
 
 returns-3 : tie.Need-returns
 unfolding bad_group
 returns-3 c =
-let small : c.args.set < 2 ^ c.args.phases = omega (arith, c.requires) in
+    let small : c.args.set < 2 ^ c.args.phases = omega (arith, c.requires) in
     rw (lt-leb (2 ^ c.args.phases) c.args.set small, ne_eqb _ _ c.if-mark-eq2.false) (sym (or-false _))
 
 pub bad_group_spec : {M : Type 1} → statement M

@@ -72,21 +72,21 @@ bad-group-requires c κs = c.set_bound-bound.ensures
 -- where record g stands
 place :
     (c : tie.At-loop-g invariant-loop-g decreases-loop-g) →
-c.args.layout.groups + 4 + c.loop-g.g * 2 ≡ record_at (groups_head c.args.s.now) 2 c.loop-g.g
+    c.args.layout.groups + 4 + c.loop-g.g * 2 ≡ record_at (groups_head c.args.s.now) 2 c.loop-g.g
 unfolding record_at body_at
 place c = omega (arith, c.requires.0.groups)
 
 -- what record g holds, and whether it is bad
 record_read :
     (c : tie.After-bad_group invariant-loop-g decreases-loop-g) →
-let b = c.args.s.now in
+    let b = c.args.s.now in
     let g = c.loop-g.g in
     (c.pair_at-group.result.first ≡ group_set b g)
     × (c.pair_at-group.result.second ≡ group_mark b g)
     × (c.bad_group.result ≡ bad_group (phase_count b) (group_set b g) (group_mark b g))
 unfolding group_set group_mark
 record_read c =
-let laid = c.requires.0 in
+    let laid = c.requires.0 in
     let head = laid.groups in
     let set = rw head at c.pair_at-group.ensures.0 in
     let mark = rw head at c.pair_at-group.ensures.1 in
@@ -95,7 +95,7 @@ let laid = c.requires.0 in
 -- record g is the first that does not pass
 refused_at :
     (c : tie.After-bad_group invariant-loop-g decreases-loop-g) {v : Verdict} {k p : ℕ} →
-let b = c.args.s.now in
+    let b = c.args.s.now in
     v ≡ group_record b c.loop-g.g →
     v ≡ Refused k p →
     v ≡ (first_of (group_record b) (group_count b) or_else refuse_if (phase_without_group b) 8 (groups_head b))
@@ -109,7 +109,7 @@ refused-requires c κs = search rules
 returns : tie.Need-returns-then-bad_group invariant-loop-g decreases-loop-g
 unfolding group_record
 returns c =
-let bad = sym (record_read c.before.before).2 ∙ c.if-bad_group.true in
+    let bad = sym (record_read c.before.before).2 ∙ c.if-bad_group.true in
     refused-told _ c.refused.ensures
     (refused_at c.before.before (or-stop _ (ap (Refused 6) (place c.before.before.before.before.before) ∙ refuse-yes 6 _ bad) refl) refl)
 
@@ -119,7 +119,7 @@ refused-requires-2 c κs = search rules
 returns-2 : tie.Need-returns-then-movements-eq8 invariant-loop-g decreases-loop-g
 unfolding group_record pedestrian ninth_pedestrian
 returns-2 c =
-let good = sym (record_read c.before.before.before.before).2 ∙ c.if-bad_group.false in
+    let good = sym (record_read c.before.before.before.before).2 ∙ c.if-bad_group.false in
     let marked = eq-eqb _ _ (sym (record_read c.before.before.before.before).1 ∙ c.if-mark-eq2.true) in
     let eight = eq-eqb _ _ (sym c.loop-g.invariant.1 ∙ c.if-movements-eq8.true) in
     refused-told _ c.refused-then-movements-eq8.ensures
@@ -129,7 +129,7 @@ let good = sym (record_read c.before.before.before.before).2 ∙ c.if-bad_group.
 
 add-movements : tie.Need-overflow_add-movements invariant-loop-g decreases-loop-g
 add-movements c =
-omega (arith, count_most (pedestrian c.args.s.now) c.loop-g.g)
+    omega (arith, count_most (pedestrian c.args.s.now) c.loop-g.g)
 
 add-g : tie.Need-overflow_add-g invariant-loop-g decreases-loop-g
 add-g c = search rules
@@ -140,12 +140,12 @@ loop-less c = search rules
 -- after the mark of group g was asked for: the count and the set go on, and the group is not the ninth pedestrian one
 counted :
     (c : tie.Joined2 invariant-loop-g decreases-loop-g) →
-let b = c.args.s.now in
+    let b = c.args.s.now in
     let g = c.loop-g.g in
     (c.if-mark-eq2.movements ≡ count_of (pedestrian b) (g + 1)) × CrossedPhases b c.if-mark-eq2.crossed (g + 1) × (ninth_pedestrian b g ≡ false)
 unfolding pedestrian ninth_pedestrian
 counted c =
-let b = c.args.s.now in
+    let b = c.args.s.now in
     let g = c.loop-g.g in
     let before = c.loop-g.invariant.1 in
     let crossed = c.loop-g.invariant.5 in
@@ -169,7 +169,7 @@ let b = c.args.s.now in
 loop-again : tie.Need-loop-g-preserved invariant-loop-g decreases-loop-g
 unfolding stops_early any_of
 loop-again c =
-let read = record_read c.before.before in
+    let read = record_read c.before.before in
     let good = sym read.2 ∙ c.if-bad_group.false in (
       omega arith,
       (counted c).0,
@@ -221,8 +221,8 @@ refused-requires-3 c κs = search rules
 
 returns-4 : tie.Need-returns invariant-loop-g decreases-loop-g
 returns-4 c =
-let passed = after_records c.before.before in
-refused-told _ c.refused-2.ensures
+    let passed = after_records c.before.before in
+    refused-told _ c.refused-2.ensures
     (passed.0 _
     (ap (Refused 8) c.requires.0.groups
     ∙ refuse-yes 8 _ (one-unserved _ _ (bounded c.before.before.before.before.before) passed.1 c.if-served-bound.false)))

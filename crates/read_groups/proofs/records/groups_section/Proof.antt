@@ -23,17 +23,17 @@ checked c = let laid = c.requires in rw (laid.groups, laid.groupcount) at c.size
 returns : tie.Need-returns-in-Refused
 unfolding groups_section
 returns c =
-let head = c.in-Refused.is in
+    let head = c.in-Refused.is in
     refused-told _ (c.refused.ensures ∙ head) (sym head ∙ or-stop _ (checked c.before.before) head)
 
 group-records-requires : tie.Need-group_records-requires
 group-records-requires c κs =
-(c.requires, records-held _ _ 3 _ 2 (sym c.sized_section-head.ensures ∙ c.in_default.is))
+    (c.requires, records-held _ _ 3 _ 2 (sym c.sized_section-head.ensures ∙ c.in_default.is))
 
 returns-2 : tie.Need-returns
 unfolding groups_section
 returns-2 c =
-told-next _ (checked c.before.before) c.in_default.is c.group_records.ensures
+    told-next _ (checked c.before.before) c.in_default.is c.group_records.ensures
 
 pub groups_section_spec : {M : Type 1} → statement M
 groups_section_spec =

@@ -50,7 +50,7 @@ past_order c e =
 
 returns-3 : tie.Need-returns-then-not-each_called
 returns-3 c =
-let laid = c.requires.0 in
+    let laid = c.requires.0 in
     past_order c.before.before
     (or-stop _
     (ap (Refused 21) laid.detectors
@@ -74,7 +74,7 @@ returns-4 c = past_callers c.before.before (or-stop _ c.early_missing-missing.en
 returns-5 : tie.Need-returns
 unfolding end_of
 returns-5 c =
-let laid = c.requires.0 in
+    let laid = c.requires.0 in
     past_callers c.before.before.before.before
     (or-next c.early_missing-missing.ensures c.in_default-missing.is
     (rw (c.past_section.ensures.0, laid.order, laid.hasorder) at c.left_over.ensures))

@@ -12,7 +12,7 @@ returns c = λ old follows held. c.greens_in.ensures
 
 returns-2 : tie.Need-returns
 returns-2 c =
-let site = c.args.site in
+    let site = c.args.site in
     let new = c.args.state in
     let begins = eqb new.position.age 1 in
     λ old follows held.

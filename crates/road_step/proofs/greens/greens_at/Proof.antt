@@ -40,7 +40,7 @@ vehicle-shown-requires c κs = search rules
 
 with-bit-requires : tie.Need-with_bit-greens-requires invariant-loop-g decreases-loop-g
 with-bit-requires c κs =
-omega (arith, c.loop-g-test.true, c.requires)
+    omega (arith, c.loop-g-test.true, c.requires)
 
 add-g : tie.Need-overflow_add-g invariant-loop-g decreases-loop-g
 add-g c = search rules
@@ -50,15 +50,14 @@ loop-less c = search rules
 
 loop-again : tie.Need-loop-g-preserved invariant-loop-g decreases-loop-g
 unfolding group_of
-loop-again c =
-(
-      search rules,
-      greens-more c.loop-g.invariant.1 (ap (λ (shown : ℕ). eqb shown green) c.vehicle_shown-shown.ensures) c.with_bit-greens.ensures,
-    )
+loop-again c = (
+  search rules,
+  greens-more c.loop-g.invariant.1 (ap (λ (shown : ℕ). eqb shown green) c.vehicle_shown-shown.ensures) c.with_bit-greens.ensures,
+)
 
 returns : tie.Need-returns invariant-loop-g decreases-loop-g
 returns c =
-λ g l. c.loop-g.invariant.1.passed g (omega (arith, l, c.loop-g-test.false))
+    λ g l. c.loop-g.invariant.1.passed g (omega (arith, l, c.loop-g-test.false))
 
 pub greens_at_spec : {M : Type 1} → statement M
 greens_at_spec =

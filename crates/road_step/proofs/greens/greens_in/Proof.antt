@@ -9,7 +9,7 @@ greens-at-requires c κs = c.requires.groups.1
 
 returns : tie.Need-returns
 returns c =
-green-in c.args.site c.requires c.args.state c.greens_at.result (rw c.closing_there-closes.ensures at c.greens_at.ensures)
+    green-in c.args.site c.requires c.args.state c.greens_at.result (rw c.closing_there-closes.ensures at c.greens_at.ensures)
 
 pub greens_in_spec : {M : Type 1} → statement M
 greens_in_spec = tie.close (tie.spec (λ c κs. search rules) greens-at-requires returns)

@@ -9,7 +9,7 @@ use Rattle.state_bytes.proofs.counts.put.Tie as tie
 
 returns : tie.Need-returns
 returns c =
-let b = c.args.bytes.now in
+    let b = c.args.bytes.now in
     let at = c.args.at in
     let further : at + 2 ≡ suc (suc at) = omega arith in
     rw (c.put_two-2.ensures, c.put_two.ensures, add-zero at, further)

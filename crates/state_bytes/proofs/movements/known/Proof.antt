@@ -49,7 +49,7 @@ stage-known-requires c κs = search rules
 
 returns : tie.Need-returns invariant-loop-k decreases-loop-k
 returns c =
-let args = c.args in
+    let args = c.args in
     c.stage_known.ensures
     ∙ tested-all c.loop-k.invariant c.loop-k-test.false
     ∙ sym (movements-tested args.bytes.now args.at 8)

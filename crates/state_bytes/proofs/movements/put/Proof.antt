@@ -48,7 +48,7 @@ loop-less c = search rules
 
 loop-again : tie.Need-loop-k-preserved invariant-loop-k decreases-loop-k
 loop-again c =
-let k = c.loop-k.k in
+    let k = c.loop-k.k in
     let own = c.args.t3 in
     let inside : k < length own = omega arith in
     rw c.put_one.ensures

@@ -15,7 +15,7 @@ same_length c = rw c.put_two.ensures (simp length-set)
 
 returns : tie.Need-returns
 returns c =
-let at = c.args.at in
+    let at = c.args.at in
     rw (c.put_two.ensures, c.stage_row-row.ensures, add-zero at, add-one at)
 
 pub put_one_spec : {M : Type 1} → statement M

@@ -31,11 +31,10 @@ add-read-one : tie.Need-overflow_add-at invariant-loop-k decreases-loop-k
 add-read-one c = search rules
 
 read-one-requires : tie.Need-read_one-requires invariant-loop-k decreases-loop-k
-read-one-requires c κs =
-(
-      omega arith,
-      all-at (λ k. movement.known c.args.bytes.now (c.args.at + k * 3)) 8 c.loop-k.k c.requires.1 c.loop-k-test.true,
-    )
+read-one-requires c κs = (
+  omega arith,
+  all-at (λ k. movement.known c.args.bytes.now (c.args.at + k * 3)) 8 c.loop-k.k c.requires.1 c.loop-k-test.true,
+)
 
 mul-records : tie.Need-offset_bounds-records-k invariant-loop-k decreases-loop-k
 mul-records c = search rules
@@ -51,7 +50,7 @@ loop-less c = search rules
 
 loop-again : tie.Need-loop-k-preserved invariant-loop-k decreases-loop-k
 loop-again c =
-let args = c.args in
+    let args = c.args in
     stored_one (λ k. movement.read args.bytes.now (args.at + k * 3)) c.loop-k.invariant (omega arith) (omega arith) c.read_one.ensures
 
 returns : tie.Need-returns invariant-loop-k decreases-loop-k

@@ -9,7 +9,7 @@ use Rattle.state_bytes.proofs.movements.read_one.Tie as tie
 stage-of-requires : tie.Need-stage_of-requires
 unfolding byte_at
 stage-of-requires c κs =
-stage-told c.args.bytes.now c.args.at c.requires.1
+    stage-told c.args.bytes.now c.args.at c.requires.1
 
 returns : tie.Need-returns
 unfolding byte_at

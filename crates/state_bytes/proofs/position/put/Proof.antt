@@ -20,15 +20,15 @@ put-held-requires c κs = omega (arith, simp length-set at c.put_two.auto.0)
 
 put-held-requires-2 : tie.Need-put_held-requires-2
 put-held-requires-2 c κs =
-omega (arith, simp length-set at c.put_two.auto.0)
+    omega (arith, simp length-set at c.put_two.auto.0)
 
 same_length : tie.Need-shape_of-bytes
 same_length c =
-omega (arith, simp length-set at c.put_two.auto.0)
+    omega (arith, simp length-set at c.put_two.auto.0)
 
 returns : tie.Need-returns
 returns c =
-let at = c.args.at in
+    let at = c.args.at in
     let two : at + 2 ≡ suc (suc at) = omega arith in
     let four : at + 4 ≡ suc (suc (suc (suc at))) = omega arith in
     let six : at + 6 ≡ suc (suc (suc (suc (suc (suc at))))) = omega arith in

@@ -10,7 +10,7 @@ use Rattle.state_sealed.proofs.puts.put_four.Tie as tie
 returns : tie.Need-returns
 unfolding two four
 returns c =
-let a = c.args in
+    let a = c.args in
     rw (c.put_two-2.ensures, c.put_two.ensures)
     (sets-next a.bytes.now (two (a.x % 65536)) (two (a.x / 65536)) a.at (a.at + 2) refl)
 

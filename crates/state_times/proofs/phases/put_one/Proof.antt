@@ -8,7 +8,7 @@ use Rattle.state_times.proofs.phases.put_one.Tie as tie
 
 returns : tie.Need-returns
 returns c =
-let at = c.args.at in
+    let at = c.args.at in
     let two : at + 2 ≡ suc (suc at) = omega arith in
     let four : at + 4 ≡ suc (suc (at + 2)) = omega arith in
     let six : at + 6 ≡ suc (suc (at + 4)) = omega arith in

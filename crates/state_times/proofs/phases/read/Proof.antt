@@ -69,15 +69,15 @@ loop2-holds c =
 
 add-two-in : tie.Need-overflow_add-early invariant-loop-p decreases-loop-p invariant-loop-p-2 decreases-loop-p-2
 add-two-in c =
-omega (arith, c.requires.2 (not-false _ c.if-not-present.false))
+    omega (arith, c.requires.2 (not-false _ c.if-not-present.false))
 
 two-in-requires : tie.Need-two_in-requires invariant-loop-p decreases-loop-p invariant-loop-p-2 decreases-loop-p-2
 two-in-requires c κs =
-omega (arith, c.requires.2 (not-false _ c.if-not-present.false))
+    omega (arith, c.requires.2 (not-false _ c.if-not-present.false))
 
 loop2-again : tie.Need-loop-p-2-preserved invariant-loop-p decreases-loop-p invariant-loop-p-2 decreases-loop-p-2
 loop2-again c =
-let a = c.args in
+    let a = c.args in
     let plain = phase_in a.bytes.now a.at a.early false in
     let p = c.loop-p-2.p in
     let room : p < length (row_of plain a.count 7 no_phase_times) = omega (arith, row_room plain a.count (omega arith)) in

@@ -5,7 +5,7 @@ use Rattle.state_times.proofs.phases.read_one.Tie as tie
 
 returns : tie.Need-returns
 returns c =
-rw (
+    rw (
       c.two_in-6.ensures,
       c.two_in-5.ensures,
       c.two_in-4.ensures,

@@ -8,7 +8,7 @@ use Rattle.state_times.proofs.walks.put_one.Tie as tie
 
 returns : tie.Need-returns
 returns c =
-let at = c.args.at in
+    let at = c.args.at in
     let two : at + 2 ≡ suc (suc at) = omega arith in
     let four : at + 4 ≡ suc (suc (suc (suc at))) = omega arith in
     rw (c.put_two-3.ensures, c.put_two-2.ensures, c.put_two.ensures, two, four)

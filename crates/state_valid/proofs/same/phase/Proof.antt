@@ -13,7 +13,7 @@ use Rattle.state_valid.proofs.same.phase.Tie as tie
 returns : tie.Need-returns
 unfolding byte_at
 returns c = λ t.
-let a = c.args in
+    let a = c.args in
     phase-same (record { each = λ i. omega (arith, c.shared_slice_known-1.given i) }) (record { each = λ i. omega (arith, c.shared_slice_known-2-1.given i) })
     a.i a.j
     (sym c.eight_in.ensures ∙ eqb-true _ _ (and_left _ _ t) ∙ c.eight_in-2.ensures)

@@ -13,7 +13,7 @@ use Rattle.state_valid.proofs.same.walk.Tie as tie
 returns : tie.Need-returns
 unfolding byte_at
 returns c = λ t.
-let a = c.args in
+    let a = c.args in
     walk_same (record { each = λ i. omega (arith, c.shared_slice_known-1.given i) }) (record { each = λ i. omega (arith, c.shared_slice_known-2-1.given i) })
     a.i a.j
     (sym c.four_in.ensures ∙ eqb-true _ _ (and_left _ _ t) ∙ c.four_in-2.ensures)

@@ -13,17 +13,17 @@ taken c = c.limits-table.ensures ∙ ap limits c.edition_of.ensures
 
 phases-admitted-requires : tie.Need-phases_admitted-requires
 phases-admitted-requires c κs =
-let pre = c.requires in
+    let pre = c.requires in
     (pre.0, pre.1, taken c.before.before, pre.3)
 
 walks-admitted-requires : tie.Need-walks_admitted-requires
 walks-admitted-requires c κs =
-let pre = c.requires in
+    let pre = c.requires in
     (pre.0, pre.1, taken c.before.before.before, pre.2, pre.3)
 
 returns : tie.Need-returns
 returns c =
-let laid = c.requires.1 in
+    let laid = c.requires.1 in
     let a = c.args in
     rw (
       c.walks_admitted.ensures,

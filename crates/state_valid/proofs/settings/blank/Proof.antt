@@ -10,7 +10,7 @@ use Rattle.state_valid.proofs.settings.blank.Tie as tie
 returns : tie.Need-returns
 unfolding byte_at
 returns c = λ site.
-c.all.ensures
+    c.all.ensures
     ∙ blank-zeros c.args.bytes.now c.args.at site (record { each = λ i. omega (arith, c.shared_slice_known-1.given i) }) c.requires
 
 pub blank_spec : {M : Type 1} → statement M

@@ -21,7 +21,7 @@ early-in-requires c κs = λ there. let pre = c.requires in omega (arith, pre.0.
 
 returns : tie.Need-returns-then-phase
 returns c t =
-let a = c.args in
+    let a = c.args in
     sym (phase-own a.s.now a.layout c.requires.0.laid a.p)
     ∙ ap₂ phase_of (c.phase.ensures c.if-phase.true) (sym (eqb-true a.early c.early_in.result t ∙ c.early_in.ensures))
 

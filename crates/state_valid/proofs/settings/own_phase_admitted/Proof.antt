@@ -22,11 +22,11 @@ two-in-requires c κs = omega (arith, (fits c.before.before).phases, c.requires.
 
 is-own-phase-requires : tie.Need-is_own_phase-requires
 is-own-phase-requires c κs =
-(fits c.before.before.before, c.requires.3, omega (arith, (fits c.before.before.before).phases, c.requires.3, c.requires.4))
+    (fits c.before.before.before, c.requires.3, omega (arith, (fits c.before.before.before).phases, c.requires.3, c.requires.4))
 
 returns : tie.Need-returns-then-is_own_phase
 returns c =
-let b = c.args.s.now in
+    let b = c.args.s.now in
     let laid = c.requires.1 in
     let same = c.is_own_phase.ensures c.if-is_own_phase.true ∙ ap (phase_of _) c.two_in-early.ensures in
     rw (c.requires.2, laid.hasearly)
@@ -39,7 +39,7 @@ read-one-requires c κs = omega (arith, (fits c.before.before.before.before.befo
 
 returns-2 : tie.Need-returns
 returns-2 c =
-let a = c.args in
+    let a = c.args in
     c.phase_within.ensures ∙ ap (phase_within a.table a.layout.hasearly) (c.read_one.ensures ∙ ap (phase_of _) c.two_in-early.ensures)
 
 pub own_phase_admitted_spec : {M : Type 1} → statement M

@@ -11,12 +11,12 @@ use Rattle.state_valid.proofs.settings.phase_admitted.Tie as tie
 
 returns : tie.Need-returns-then-p-layout
 returns c =
-let a = c.args in
+    let a = c.args in
     rw (lt-ltb a.p a.layout.phasecount c.if-p-layout.true) c.own_phase_admitted.ensures
 
 returns-2 : tie.Need-returns
 returns-2 c =
-let a = c.args in
+    let a = c.args in
     let own = six.read a.bytes.now (a.at + 2 + a.p * 12) in
     rw (le-ltb a.p a.layout.phasecount c.if-p-layout.false)
     (c.phase.ensures a.layout.hasearly ∙ ap (λ (early : ℕ). phase_within [] a.layout.hasearly (phase_of own early)) c.two_in-early.ensures)

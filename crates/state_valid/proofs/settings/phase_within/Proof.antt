@@ -6,7 +6,7 @@ use Rattle.state_valid.proofs.settings.phase_within.Tie as tie
 
 returns : tie.Need-returns
 returns c =
-rw (
+    rw (
       c.within-7.ensures,
       c.within-6.ensures,
       c.within-5.ensures,

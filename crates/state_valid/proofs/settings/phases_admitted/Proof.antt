@@ -33,7 +33,7 @@ phase-admitted-requires c κs = search rules
 
 returns : tie.Need-returns-then-not-phase_admitted invariant-loop-p decreases-loop-p
 returns c =
-let a = c.args in
+    let a = c.args in
     all-fails (passes a.layout a.table a.bytes.now a.at) 7 c.loop-p.p (omega arith)
     (sym c.phase_admitted.ensures ∙ not-true c.phase_admitted.result c.if-not-phase_admitted.true)
 
@@ -45,7 +45,7 @@ loop-less c = search rules
 
 loop-again : tie.Need-loop-p-preserved invariant-loop-p decreases-loop-p
 loop-again c =
-tested-more c.loop-p.invariant (omega arith)
+    tested-more c.loop-p.invariant (omega arith)
     (sym (not-false c.phase_admitted.result c.if-not-phase_admitted.false) ∙ c.phase_admitted.ensures)
 
 returns-2 : tie.Need-returns invariant-loop-p decreases-loop-p

@@ -18,12 +18,12 @@ use Rattle.state_valid.proofs.settings.walk_admitted.Tie as tie
 walk-requires : tie.Need-walk-requires
 unfolding body_at
 walk-requires c κs =
-let pre = c.requires in
+    let pre = c.requires in
     (omega (arith, c.if-k-movements.true, pre.3, (accepted-fits pre.0 pre.1).whole), omega (arith, pre.4, pre.5))
 
 returns : tie.Need-returns-then-walk
 returns c =
-let a = c.args in
+    let a = c.args in
     let b = a.s.now in
     let same = sym (walk-own b a.layout c.requires.1 a.k) ∙ c.walk.ensures c.if-walk.true in
     rw (lt-ltb a.k a.movements c.if-k-movements.true, c.requires.2)
@@ -33,13 +33,13 @@ let a = c.args in
 
 returns-2 : tie.Need-returns-then-k-movements
 returns-2 c =
-let a = c.args in
+    let a = c.args in
     rw (lt-ltb a.k a.movements c.if-k-movements.true)
     (c.walk_within.ensures ∙ ap (walk_within a.table) c.read_one.ensures)
 
 returns-3 : tie.Need-returns
 returns-3 c =
-let a = c.args in
+    let a = c.args in
     rw (le-ltb a.k a.movements c.if-k-movements.false) c.walk-2.ensures
 
 pub walk_admitted_spec : {M : Type 1} → statement M

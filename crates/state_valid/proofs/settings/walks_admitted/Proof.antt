@@ -31,7 +31,7 @@ walk-admitted-requires c κs = search rules
 
 returns : tie.Need-returns-then-not-walk_admitted invariant-loop-k decreases-loop-k
 returns c =
-let a = c.args in
+    let a = c.args in
     all-fails (passes a.table a.movements a.bytes.now a.at) 8 c.loop-k.k (omega arith)
     (sym c.walk_admitted.ensures ∙ not-true c.walk_admitted.result c.if-not-walk_admitted.true)
 
@@ -43,7 +43,7 @@ loop-less c = search rules
 
 loop-again : tie.Need-loop-k-preserved invariant-loop-k decreases-loop-k
 loop-again c =
-tested-more c.loop-k.invariant (omega arith)
+    tested-more c.loop-k.invariant (omega arith)
     (sym (not-false c.walk_admitted.result c.if-not-walk_admitted.false) ∙ c.walk_admitted.ensures)
 
 returns-2 : tie.Need-returns invariant-loop-k decreases-loop-k

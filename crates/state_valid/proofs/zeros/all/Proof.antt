@@ -36,7 +36,7 @@ loop-less c = search rules
 
 loop-again : tie.Need-loop-i-preserved invariant-loop-i decreases-loop-i
 loop-again c =
-let a = c.args in
+    let a = c.args in
     four-tested a.bytes.now a.at c.loop-i.invariant c.loop-i-test.true (ap (λ (x : ℕ). eqb x 0) c.four_in.ensures)
 
 returns : tie.Need-returns invariant-loop-i decreases-loop-i

@@ -42,17 +42,17 @@ returns-5 c = rw c.in-Running.is
 returns-6 : tie.Need-returns-in-EarlyCutOff
 unfolding vehicle_colour
 returns-6 c =
-rw (c.in-EarlyCutOff.is, c.of_leaving.ensures, c.held_in-in-EarlyCutOff.ensures)
+    rw (c.in-EarlyCutOff.is, c.of_leaving.ensures, c.held_in-in-EarlyCutOff.ensures)
 
 returns-7 : tie.Need-returns-in-Yellow
 unfolding vehicle_colour
 returns-7 c =
-rw (c.in-Yellow.is, c.of_leaving-in-Yellow.ensures, c.held_in-in-Yellow.ensures)
+    rw (c.in-Yellow.is, c.of_leaving-in-Yellow.ensures, c.held_in-in-Yellow.ensures)
 
 returns-8 : tie.Need-returns-in-AllRed
 unfolding vehicle_colour
 returns-8 c =
-rw (c.in-AllRed.is, c.of_leaving-in-AllRed.ensures, c.held_in-in-AllRed.ensures)
+    rw (c.in-AllRed.is, c.of_leaving-in-AllRed.ensures, c.held_in-in-AllRed.ensures)
 
 pub vehicle_colour_spec : {M : Type 1} → statement M
 vehicle_colour_spec =

@@ -14,14 +14,14 @@ use Rattle.step_demands.proofs.phases.in_green.Tie as tie
 returns : tie.Need-returns-then-is_green
 unfolding in_green
 returns c =
-let phase = c.args.position.phase in
+    let phase = c.args.position.phase in
     let green = sym c.is_green.ensures ∙ c.if-is_green.true in
     c.with.ensures ∙ set_same _ _ (λ p l. rw (bit-blank p, green) (sym (and-true (eqb p phase))))
 
 returns-2 : tie.Need-returns
 unfolding in_green
 returns-2 c =
-let phase = c.args.position.phase in
+    let phase = c.args.position.phase in
     set_told _ 0 (omega arith)
     (λ p l. bit-blank p ∙ sym (and-false-right (eqb p phase) (sym c.is_green.ensures ∙ c.if-is_green.false)))
 

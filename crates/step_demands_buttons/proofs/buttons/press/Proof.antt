@@ -60,12 +60,12 @@ sub-rest c = search rules
 
 loop-less : tie.Need-loop-rest-smaller invariant-loop-rest decreases-loop-rest
 loop-less c =
-left_less c.loop-rest.invariant.keeps.left (omega (arith, c.loop-rest-test.true)) (omega arith)
+    left_less c.loop-rest.invariant.keeps.left (omega (arith, c.loop-rest-test.true)) (omega arith)
 
 loop-again : tie.Need-loop-rest-preserved invariant-loop-rest decreases-loop-rest
 loop-again c =
-let at = c.loop-rest in
-let a = c.args in
+    let at = c.loop-rest in
+    let a = c.args in
     let k = count_trailing_zeros 64 at.rest in
     let some : 0 < at.rest = omega (arith, c.loop-rest-test.true) in
     let inside : k < length a.t2 = omega (arith, own-within c.before.before.before, c.well_formed.1.0.1.0.1) in

@@ -56,13 +56,13 @@ loop-less c = left_less c.loop-rest.invariant.left (omega (arith, c.loop-rest-te
 
 loop-again : tie.Need-loop-rest-preserved invariant-loop-rest decreases-loop-rest
 loop-again c =
-let byte : Fits w8 (get_or c.args.table (count_trailing_zeros 64 c.loop-rest.rest) 0) = search rules in
+    let byte : Fits w8 (get_or c.args.table (count_trailing_zeros 64 c.loop-rest.rest) 0) = search rules in
     one-crossed c.loop-rest.invariant (omega (arith, c.loop-rest-test.true)) (omega (arith, c.requires)) byte.fits refl
 
 returns : tie.Need-returns invariant-loop-rest decreases-loop-rest
 unfolding movement_demands
 returns c =
-let a = c.args in
+    let a = c.args in
     all-crossed c.loop-rest.invariant c.loop-rest-test.false (λ k. bit k a.buttons)
     (λ k l. and-true (bit k (firsts a.count a.buttons)) ∙ firsts-bit a.count a.buttons (omega (arith, c.requires)) k l)
 

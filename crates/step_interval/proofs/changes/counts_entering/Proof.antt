@@ -8,7 +8,7 @@ use Rattle.step_interval.proofs.changes.counts_entering.Tie as tie
 returns : tie.Need-returns-then-is_running
 unfolding counts_entering
 returns c =
-⊎_elim
+    ⊎_elim
     (λ w. rw (w.1, ← c.is_minimum_green.ensures, w.0.taken, ← c.is_running.ensures, c.if-is_running.true))
     (λ w. rw (w.1, ← c.is_minimum_green.ensures, w.0.left, ← c.is_running.ensures, c.if-is_running.true))
     c.if-is_minimum_green.branch
@@ -16,7 +16,7 @@ returns c =
 returns-2 : tie.Need-returns-else-is_running
 unfolding counts_entering
 returns-2 c =
-⊎_elim
+    ⊎_elim
     (λ w. rw (w.1, ← c.is_minimum_green.ensures, w.0.taken, ← c.is_running.ensures, c.if-is_running.false))
     (λ w. rw (w.1, ← c.is_minimum_green.ensures, w.0.left, ← c.is_running.ensures, c.if-is_running.false))
     c.if-is_minimum_green.branch

@@ -7,12 +7,12 @@ use Rattle.step_interval.proofs.changes.locks_left.Tie as tie
 
 returns : tie.Need-returns-then-ended-is_minimum_green
 returns c =
-let a = c.args in
+    let a = c.args in
     c.without.ensures ∙ lock-cleared a.ended a.now a.locks (rw (← c.is_minimum_green.ensures) c.if-ended-is_minimum_green.true)
 
 returns-2 : tie.Need-returns
 returns-2 c =
-let a = c.args in
+    let a = c.args in
     locks-stand a.ended a.now a.locks (rw (← c.is_minimum_green.ensures) c.if-ended-is_minimum_green.false) (search rules)
 
 pub locks_left_spec : {M : Type 1} → statement M

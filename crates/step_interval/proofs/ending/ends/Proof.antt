@@ -16,14 +16,14 @@ enum_told c = search rules
 returns : tie.Need-returns-then-not-another-due
 unfolding ends
 returns c =
-let a = c.args in
+    let a = c.args in
     rw c.in-Running.is
     (goes_on a.another (some_movement is_walk_or_first a.movements) (eqb a.counted.gap 0 || eqb a.counted.maximum a.times.maximum) c.if-not-another-due.true)
 
 returns-2 : tie.Need-returns-then-age-times
 unfolding ends
 returns-2 c =
-let a = c.args in
+    let a = c.args in
     rw (c.in-AllRed.is, lt-leb a.times.red a.age c.if-age-times.true)
 
 returns-3 : tie.Need-returns-in-StartRed
@@ -41,7 +41,7 @@ returns-5 c = rw c.in-MinimumGreen.is
 returns-6 : tie.Need-returns-else-not-another-due
 unfolding ends
 returns-6 c =
-let a = c.args in
+    let a = c.args in
     ap not c.under_way-now.ensures.0
     ∙ rw c.in-Running.is
     (goes-by-movements a.another (some_movement is_walk_or_first a.movements) (eqb a.counted.gap 0 || eqb a.counted.maximum a.times.maximum) c.if-not-another-due.false)
@@ -57,7 +57,7 @@ returns-8 c = rw c.in-Yellow.is
 returns-9 : tie.Need-returns-else-age-times
 unfolding ends
 returns-9 c =
-let a = c.args in
+    let a = c.args in
     ap not c.under_way-now-in-AllRed.ensures.1 ∙ rw (c.in-AllRed.is, le-leb a.times.red a.age c.if-age-times.false)
 
 pub ends_spec : {M : Type 1} → statement M

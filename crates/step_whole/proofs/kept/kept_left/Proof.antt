@@ -15,7 +15,7 @@ use Rattle.step_whole.proofs.kept.kept_left.Tie as tie
 
 returns : tie.Need-returns-then-old-new
 returns c =
-let a = c.args in
+    let a = c.args in
     let locks = eqb a.old.locks a.new.locks in
     let buttons = eqb a.old.buttons a.new.buttons in
     none-cleared a.crossings a.count c.requires a.old a.new a.kept (omega arith)
@@ -32,7 +32,7 @@ gone-told c = c.stands-cleared.ensures ∙ rw (c.except.ensures, c.except-2.ensu
 
 returns-2 : tie.Need-returns
 returns-2 c =
-let a = c.args in
+    let a = c.args in
     c.except-4.ensures
     ∙ some-cleared a.crossings a.count c.requires a.old a.new a.kept c.except-3.result
     (rw (gone-told c.before.before.before, c.stands.ensures) at c.except-3.ensures)
