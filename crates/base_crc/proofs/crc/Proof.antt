@@ -29,21 +29,20 @@ cast-lowest c = search rules
 shared-slice-read-lowest : tie.Need-bounds-bytes-i invariant-loop-i decreases-loop-i
 shared-slice-read-lowest c = search rules
 
--- the byte of a turn, and the index that it gives
-abbrev Turn : Type 0
-Turn = tie.After-shared_slice_known-in-loop-i-1 invariant-loop-i decreases-loop-i
-
-byte_small : (c : Turn) → get_or c.args.bytes.now c.loop-i.i 0 < 256
-byte_small c = omega (arith, c.shared_slice_known-in-loop-i-1.given c.loop-i.i)
-
 cast-register : tie.Need-overflow_cast-register invariant-loop-i decreases-loop-i
-cast-register c = record { fits = omega (arith, lowest-small c.loop-i.register _ (byte_small c)) }
+cast-register c =
+    let small : get_or c.args.bytes.now c.loop-i.i 0 < 256 = omega (arith, c.shared_slice_known-in-loop-i-1.given c.loop-i.i) in
+    record { fits = omega (arith, lowest-small c.loop-i.register _ small) }
 
 mul-register : tie.Need-offset_bounds-table-lowest invariant-loop-i decreases-loop-i
-mul-register c = record { fits = omega (arith, lowest-small c.loop-i.register _ (byte_small c)) }
+mul-register c =
+    let small : get_or c.args.bytes.now c.loop-i.i 0 < 256 = omega (arith, c.shared_slice_known-in-loop-i-1.given c.loop-i.i) in
+    record { fits = omega (arith, lowest-small c.loop-i.register _ small) }
 
 array-read-register : tie.Need-bounds-table-lowest invariant-loop-i decreases-loop-i
-array-read-register c = lowest-small c.loop-i.register _ (byte_small c)
+array-read-register c =
+    let small : get_or c.args.bytes.now c.loop-i.i 0 < 256 = omega (arith, c.shared_slice_known-in-loop-i-1.given c.loop-i.i) in
+    lowest-small c.loop-i.register _ small
 
 add-i : tie.Need-overflow_add-i invariant-loop-i decreases-loop-i
 add-i c = search rules
@@ -55,9 +54,10 @@ loop-again : tie.Need-loop-i-preserved invariant-loop-i decreases-loop-i
 loop-again c =
     let bytes = c.args.bytes.now in
     let byte = get_or bytes c.loop-i.i 0 in
-    let inside : c.loop-i.i < length bytes = omega arith in (
+    let small : get_or c.args.bytes.now c.loop-i.i 0 < 256 = omega (arith, c.shared_slice_known-in-loop-i-1.given c.loop-i.i) in
+        let inside : c.loop-i.i < length bytes = omega arith in (
       search rules,
-      by-table c.table-table.result c.loop-i.register byte c.table-table.ensures (byte_small c)
+      by-table c.table-table.result c.loop-i.register byte c.table-table.ensures small
           ∙ ap (λ (register : ℕ). taken register byte) c.loop-i.invariant.1
           ∙ sym (taken-one all_ones bytes c.loop-i.i inside),
     )
