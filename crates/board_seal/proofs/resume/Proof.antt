@@ -74,7 +74,7 @@ returns-3 c =
     let a = c.args in
     let room = c.if-state-ne-TIMED_BYTES.false in
     resumes a.personality.now a.sealed.now a.state.now (accepted c.before.before.before.before.before.before.before.before.before) room _ (passed c.before.before.before.before.before)
-    (rw (c.put_all_lem.ensures, c.state_in.ensures)
+    (rw (c.put_all.ensures, c.state_in.ensures)
     (sets-whole a.state.now (state_in a.sealed.now) (state-length _ (long c.before.before.before.before.before) ∙ sym room)))
 
 returns-4 : tie.Need-returns-in-Refused-checked

@@ -23,11 +23,4 @@ returns c =
 
 pub put_phase_spec : {M : Type 1} → statement M
 put_phase_spec =
-    tie.close
-    (tie.spec
-    (λ c. search rules)
-    (λ c. search rules)
-    (λ c. search rules)
-    (λ c κs. search rules)
-    same_length
-    returns)
+    tie.close (tie.spec (λ c. search rules) (λ c. search rules) (λ c κs. search rules) same_length returns)

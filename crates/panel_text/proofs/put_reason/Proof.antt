@@ -50,25 +50,4 @@ returns-4 c =
 
 pub put_reason_spec : {M : Type 1} → statement M
 put_reason_spec =
-    tie.close
-    (tie.spec
-    enum_told
-    (λ c. search rules)
-    put-bytes-requires
-    (λ c. search rules)
-    (λ c. search rules)
-    put-counted-requires
-    (λ c. search rules)
-    (λ c. search rules)
-    put-counted-requires-2
-    (λ c. search rules)
-    (λ c. search rules)
-    put-counted-requires-3
-    (λ c. search rules)
-    returns
-    (λ c. search rules)
-    returns-2
-    (λ c. search rules)
-    returns-3
-    (λ c. search rules)
-    returns-4)
+    tie.close (tie.spec enum_told put-bytes-requires (λ c. search rules) put-counted-requires (λ c. search rules) put-counted-requires-2 (λ c. search rules) put-counted-requires-3 (λ c. search rules) returns (λ c. search rules) returns-2 (λ c. search rules) returns-3 (λ c. search rules) returns-4)

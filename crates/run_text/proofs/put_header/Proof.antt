@@ -11,4 +11,4 @@ unfolding header
 returns c = put_first c.put_bytes.ensures (omega (arith, c.put_bytes.ensures.place))
 
 pub put_header_spec : {M : Type 1} → statement M
-put_header_spec = tie.close (tie.spec (λ c. search rules) (λ c κs. search rules) (λ c. search rules) returns)
+put_header_spec = tie.close (tie.spec (λ c κs. search rules) (λ c. search rules) returns)

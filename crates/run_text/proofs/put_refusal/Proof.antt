@@ -48,15 +48,4 @@ returns c =
 
 pub put_refusal_spec : {M : Type 1} → statement M
 put_refusal_spec =
-    tie.close
-    (tie.spec
-    (λ c. search rules)
-    (λ c κs. search rules)
-    put-long-decimal-requires
-    (λ c. search rules)
-    put-bytes-requires-2
-    put-long-decimal-requires-2
-    (λ c. search rules)
-    put-bytes-requires-3
-    (λ c. search rules)
-    returns)
+    tie.close (tie.spec (λ c κs. search rules) put-long-decimal-requires put-bytes-requires-2 put-long-decimal-requires-2 put-bytes-requires-3 (λ c. search rules) returns)

@@ -21,14 +21,4 @@ returns c =
 
 pub put_tail_spec : {M : Type 1} → statement M
 put_tail_spec =
-    tie.close
-    (tie.spec
-    (λ c κs. search rules)
-    (λ c κs. search rules)
-    (λ c. search rules)
-    (λ c κs. search rules)
-    (λ c κs. search rules)
-    (λ c. search rules)
-    put-bytes-requires-2
-    (λ c. search rules)
-    returns)
+    tie.close (tie.spec (λ c κs. search rules) (λ c κs. search rules) (λ c. search rules) (λ c κs. search rules) (λ c κs. search rules) put-bytes-requires-2 (λ c. search rules) returns)

@@ -27,13 +27,13 @@ put-all-requires c κs = omega (arith, marked c.before.before.before)
 
 same_length : tie.Need-shape_of-sealed
 same_length c =
-    c.put_all_lem.auto.0 ∙ marked c.before.before.before.before.before.before ∙ sym c.requires.2
+    c.put_all.auto.0 ∙ marked c.before.before.before.before.before.before ∙ sym c.requires.2
 
 returns : tie.Need-returns
 unfolding two
 returns c =
     let a = c.args in
-    rw (c.put_all_lem.ensures, c.put_four.ensures, c.crc.ensures, c.put_two.ensures)
+    rw (c.put_all.ensures, c.put_four.ensures, c.crc.ensures, c.put_two.ensures)
     (body-written a.personality.now a.state.now a.sealed.now)
 
 pub write_body_spec : {M : Type 1} → statement M

@@ -6,16 +6,9 @@ use Rattle.state_timed.proofs.put_settled.Tie as tie
 
 returns : tie.Need-returns
 returns c =
-    rw (c.put_all_lem.ensures, c.put-2.ensures, c.put.ensures)
+    rw (c.put_all.ensures, c.put-2.ensures, c.put.ensures)
     (settled-written c.args.bytes.now c.args.state c.args.ruling c.requires)
 
 pub put_settled_spec : {M : Type 1} → statement M
 put_settled_spec =
-    tie.close
-    (tie.spec
-    (λ c κs. search rules)
-    (λ c κs. search rules)
-    (λ c. search rules)
-    (λ c κs. search rules)
-    (λ c. search rules)
-    returns)
+    tie.close (tie.spec (λ c κs. search rules) (λ c κs. search rules) (λ c κs. search rules) (λ c. search rules) returns)

@@ -14,7 +14,7 @@ add-result c =
       arith,
       movement-fits c.args.site pre.0 c.args.q pre.1 c.args.m pre.2 pre.3,
       c.greater.ensures,
-      c.own_of_lem.ensures,
+      c.own_of.ensures,
       c.clears_first.ensures,
       c.rest_of.ensures,
     )
@@ -25,7 +25,7 @@ returns c =
     omega (
       arith,
       c.greater.ensures,
-      c.own_of_lem.ensures,
+      c.own_of.ensures,
       c.clears_first.ensures,
       c.rest_of.ensures,
     )

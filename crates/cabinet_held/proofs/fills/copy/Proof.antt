@@ -7,7 +7,7 @@ use Rattle.cabinet_held.proofs.fills.copy.Tie as tie
 
 returns : tie.Need-returns
 returns c =
-    c.put_all_lem.ensures ∙ copied c.args.from.now c.args.to.now c.requires
+    c.put_all.ensures ∙ copied c.args.from.now c.args.to.now c.requires
 
 pub copy_spec : {M : Type 1} → statement M
 copy_spec = tie.close (tie.spec (λ c κs. search rules) (λ c. search rules) returns)
