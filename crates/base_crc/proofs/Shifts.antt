@@ -10,7 +10,7 @@ use lib.Bits.{bit_xor, xor_comm, xor_lt, xor_shr, xor_zero_r}
 use lib.ListN.{get_or}
 use lib.Pow.{shr-shr}
 use Rattle.laws.specs.Bytes.{bit}
-use Rattle.laws.specs.Ground.{if◌then◌else◌}
+use Rattle.std.specs.Prelude.{if◌then◌else◌}
 use Rattle.laws.proofs.Bits.{half-bit, bit-down, even-bit}
 use Rattle.laws.proofs.Lists.{list_at}
 use Rattle.laws.proofs.JoinedBits.{other, other_none, other-twice, bit-xor}

@@ -1,5 +1,5 @@
 -- The check value CRC-32 of Ethernet (IEEE 802.3) and zlib, bit by bit. It finds damage, and it is no protection against intent.
-use Rattle.laws.specs.Ground.{ℕ, zero, suc, ◌/◌, List, [], ◌∷◌, if◌then◌else◌}
+use Rattle.std.specs.Prelude.{ℕ, zero, suc, ◌/◌, List, [], ◌∷◌, if◌then◌else◌}
 use Rattle.std.specs.Int.Bits.{bit_xor}
 use Rattle.laws.specs.Bytes.{bit}
 use Rattle.laws.specs.Folds.{list_of}

@@ -1,5 +1,5 @@
 -- Worked values of the check value.
-use Rattle.laws.specs.Ground.{[], ◌∷◌, ◌≡◌}
+use Rattle.std.specs.Prelude.{[], ◌∷◌, ◌≡◌}
 use Rattle.base_crc.specs.Crc.{crc}
 
 -- no bytes

@@ -1,6 +1,6 @@
 -- What the check value finds: of two lists of bytes that differ, but only within 32 neighbouring bits, it is never the same. So it finds every
 -- change of one byte, and every change of several within four neighbouring bytes.
-use Rattle.laws.specs.Ground.{ℕ, ◌+◌, ◌*◌, ◌/◌, ◌%◌, ◌^◌, ◌≤◌, ◌<◌, Bool, List, ◌⊎◌, ◌≡◌, length, take}
+use Rattle.std.specs.Prelude.{ℕ, ◌+◌, ◌*◌, ◌/◌, ◌%◌, ◌^◌, ◌≤◌, ◌<◌, Bool, List, ◌⊎◌, ◌≡◌, length, take}
 use Rattle.laws.specs.Bytes.{byte_at, four_at, bit}
 use Rattle.base_crc.specs.Crc.{crc}
 

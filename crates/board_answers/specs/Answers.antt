@@ -1,6 +1,6 @@
 -- An answer of the board interface: its lowest byte is the number of the refusal, 0 if the call is accepted; the bytes above it are the place of
 -- a refusal or the result of an accepted call.
-use Rattle.laws.specs.Ground.{ℕ, ◌+◌, ◌*◌}
+use Rattle.std.specs.Prelude.{ℕ, ◌+◌, ◌*◌}
 use Rattle.rules.specs.declared.answer.Outcome.{Outcome}
 use Rattle.rules.specs.declared.answer.Outcome.TheVariants.{Stepped, StepRefused}
 use Rattle.rules.specs.declared.answer.Verdict.{Verdict}

@@ -1,5 +1,5 @@
 -- Internal: no promise cites this file. What the checks of both calls leave to say, and a line put into a buffer of any length.
-use Rattle.laws.specs.Ground.{ℕ, ◌≤◌, ◌<◌, List, [], ◌++◌, ◌≡◌, ltb, length, drop}
+use Rattle.std.specs.Prelude.{ℕ, ◌≤◌, ◌<◌, List, [], ◌++◌, ◌≡◌, ltb, length, drop}
 use Rattle.rules.specs.declared.answer.Verdict.TheVariants.{Accepted, Refused}
 use Rattle.rules.specs.Verdicts.{refuse_if}
 use Rattle.rules.specs.Call.{bound_for, handed_back}

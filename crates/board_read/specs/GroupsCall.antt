@@ -1,5 +1,5 @@
 -- The number of signal groups of a personality: as many bytes as an accepted step writes.
-use Rattle.laws.specs.Ground.{ℕ, List}
+use Rattle.std.specs.Prelude.{ℕ, List}
 use Rattle.rules.specs.declared.answer.Verdict.{Verdict}
 use Rattle.rules.specs.declared.answer.Verdict.TheVariants.{Accepted, Refused}
 use Rattle.rules.specs.Personality.{verdict_of}

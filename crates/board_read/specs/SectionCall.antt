@@ -1,5 +1,5 @@
 -- The section lookup of the board interface: the offset of the body in the personality, and its length.
-use Rattle.laws.specs.Ground.{ℕ, ◌+◌, ◌*◌, List}
+use Rattle.std.specs.Prelude.{ℕ, ◌+◌, ◌*◌, List}
 use Rattle.rules.specs.declared.answer.Verdict.{Verdict}
 use Rattle.rules.specs.declared.answer.Verdict.TheVariants.{Accepted, Refused}
 use Rattle.rules.specs.Personality.{body_at, body_length}

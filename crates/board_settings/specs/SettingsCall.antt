@@ -1,7 +1,6 @@
 -- The settings of a site sheet over the board interface. The lowest byte of the answer is the number of the refusal, 0 if there are settings. Above
 -- it are the place, or minimum green in 16 bits and then the passage time in 16 bits.
-use Rattle.laws.specs.Ground.{ℕ, ◌+◌, ◌*◌, eqb, if◌then◌else◌}
-use Rattle.std.specs.Prelude.{Float}
+use Rattle.std.specs.Prelude.{ℕ, ◌+◌, ◌*◌, eqb, if◌then◌else◌, Float}
 use Rattle.sheet_settings.specs.declared.Answer.{Answer}
 use Rattle.sheet_settings.specs.declared.Detector.TheVariants.{Advance, StopLine}
 use Rattle.sheet_settings.specs.Sheet.{settings_report_of, minimum_of, passage_of, answer_of}

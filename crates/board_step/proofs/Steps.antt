@@ -9,7 +9,7 @@ use Rattle.rules.specs.declared.site.Site.{Site}
 use Rattle.rules.specs.declared.site.Times.{Times}
 use Rattle.rules.specs.declared.state.KeptState.{KeptState}
 use Rattle.laws.specs.Bytes.{byte_at}
-use Rattle.laws.specs.Ground.{if◌then◌else◌}
+use Rattle.std.specs.Prelude.{if◌then◌else◌}
 use Rattle.rules.specs.SiteTimes.{under}
 use Rattle.rules.specs.Kept.{kept_valid, kept_stepped}
 use Rattle.rules.specs.Timed.{TimedState, kept_of, ruled_site, none_waiting, starts_next, takes_over, ruling_next, timed_stepped}

@@ -1,6 +1,6 @@
 -- Internal: no promise cites this file. The step from a valid state: what it takes and what it gives. The site has the times that rule in the
 -- state. With some times it is the site of a personality; neither the valid state nor the step looks at those.
-use Rattle.laws.specs.Ground.{ℕ, Bool, true, List, ◌++◌, ◌≡◌, drop, if◌then◌else◌}
+use Rattle.std.specs.Prelude.{ℕ, Bool, true, List, ◌++◌, ◌≡◌, drop, if◌then◌else◌}
 use Rattle.rules.specs.declared.site.Site.{Site}
 use Rattle.rules.specs.declared.state.KeptState.{KeptState}
 use Rattle.rules.specs.Site.{site_of}

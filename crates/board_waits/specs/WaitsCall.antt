@@ -1,5 +1,5 @@
 -- The call for the waits of a personality, by its own times: two bytes for each phase, then two for each movement, the lower byte first.
-use Rattle.laws.specs.Ground.{ℕ, ◌+◌, ◌*◌, List, ltb, length, get_or}
+use Rattle.std.specs.Prelude.{ℕ, ◌+◌, ◌*◌, List, ltb, length, get_or}
 use Rattle.std.proofs.lemmas.List.Edits.{sets}
 use Rattle.rules.specs.declared.answer.Verdict.{Verdict}
 use Rattle.rules.specs.declared.site.Site.{Site}

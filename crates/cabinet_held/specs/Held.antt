@@ -1,5 +1,5 @@
 -- Internal: no promise cites this file. The calls of a cabinet by what a record holds: the parts of specs/Cabinet.antt of `cabinet_records` that do not look at the row.
-use Rattle.laws.specs.Ground.{ℕ, ◌≤◌, Bool, not, ◌||◌, List, ◌≡◌, ltb, length, replicate}
+use Rattle.std.specs.Prelude.{ℕ, ◌≤◌, Bool, not, ◌||◌, List, ◌≡◌, ltb, length, replicate}
 use Rattle.rules.specs.declared.answer.Verdict.{Verdict}
 use Rattle.rules.specs.declared.answer.Verdict.TheVariants.{Accepted, Refused}
 use Rattle.rules.specs.Call.{handed_back}

@@ -1,5 +1,5 @@
 -- Internal: no promise cites this file. The calls of a cabinet by the record that they name, and what became of it and of the outputs.
-use Rattle.laws.specs.Ground.{ℕ, Bool, List, length, replicate, if◌then◌else◌}
+use Rattle.std.specs.Prelude.{ℕ, Bool, List, length, replicate, if◌then◌else◌}
 use Rattle.rules.specs.declared.answer.Verdict.{Verdict}
 use Rattle.rules.specs.declared.answer.Verdict.TheVariants.{Accepted, Refused}
 use Rattle.rules.specs.Colours.{red}

@@ -1,6 +1,6 @@
 -- Worked cases of the cabinet's calls, in a single list with one statement: each of them holds. The site is the junction of two phases, which has two
 -- outputs and a wait bound of 270.
-use Rattle.laws.specs.Ground.{ℕ, ◌-◌, List, [], ◌∷◌, ◌++◌, ◌≡◌, length, take, replicate, set}
+use Rattle.std.specs.Prelude.{ℕ, ◌-◌, List, [], ◌∷◌, ◌++◌, ◌≡◌, length, take, replicate, set}
 use Rattle.rules.specs.Junctions.{junction, slower}
 use Rattle.rules.specs.Kept.{fresh_kept}
 use Rattle.rules.specs.CallCases.{AllHold, ruled_by}

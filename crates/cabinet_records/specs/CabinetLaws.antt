@@ -1,6 +1,6 @@
 -- What a call of the cabinet leaves alone, stated: every other record, every other output, and on a refusal everything. It holds of any row, whatever its
 -- records hold, and of an output buffer of any length and content.
-use Rattle.laws.specs.Ground.{ℕ, ◌+◌, ◌%◌, ◌≤◌, ◌<◌, List, ◌⊎◌, ◌≡◌, length}
+use Rattle.std.specs.Prelude.{ℕ, ◌+◌, ◌%◌, ◌≤◌, ◌<◌, List, ◌⊎◌, ◌≡◌, length}
 use Rattle.laws.specs.Bytes.{byte_at}
 use Rattle.cabinet_records.specs.declared.Record.{Record}
 use Rattle.cabinet_records.specs.Cabinet.{personality_of, record_of, outputs_of, Act, place_site, step_site, take_out, doing}

@@ -11,7 +11,7 @@ use lib.Dec.{leb, eqb}
 use lib.Pow.{pow_mono, pow_pos, shl_exact, shr_le}
 use borrow.Author.Tests.{leb-true, leb-false, lt-leb, ne_eqb}
 use Rattle.laws.specs.Bytes.{bit}
-use Rattle.laws.specs.Ground.{if◌then◌else◌}
+use Rattle.std.specs.Prelude.{if◌then◌else◌}
 use Rattle.laws.specs.Folds.{count_of}
 use Rattle.laws.proofs.Booleans.{decided, never_both}
 use Rattle.laws.proofs.Indices.{below-or-past}

@@ -1,10 +1,10 @@
 -- Boolean tests: what a joined or negated test says of its parts, and how to put one together from them.
-use mathlib.Core.Bool.{Bool, true, false, not, ◌&&◌, ◌||◌, true≢false, and-true, and_assoc}
+use mathlib.Core.Bool.{cond, Bool, true, false, not, ◌&&◌, ◌||◌, true≢false, and-true, and_assoc}
 use mathlib.Core.List.{List, [], ◌∷◌}
 use mathlib.Core.Logic.{◌⊎◌, inl, inr}
 use mathlib.Core.Path.{◌≡◌, refl, sym, ap, ◌∙◌}
 use borrow.Author.Tests.{not-false}
-use Rattle.laws.specs.Ground.{if◌then◌else◌}
+use Rattle.std.specs.Prelude.{if◌then◌else◌}
 
 -- ── Both ──
 
@@ -136,10 +136,10 @@ both-passed a b h = and_split a b (not-false (a && b) h)
 -- ── A choice whose test is known ──
 
 module _ {ℓ} {A : Type ℓ} {c : A} {t : Bool} where
-  pub chosen : {a : A} (b : A) → t ≡ true → c ≡ a → c ≡ if t then a else b
+  pub chosen : {a : A} (b : A) → t ≡ true → c ≡ a → c ≡ cond t a b
   chosen b e p = rw e p
 
-  pub passed-by : (a : A) {b : A} → t ≡ false → c ≡ b → c ≡ if t then a else b
+  pub passed-by : (a : A) {b : A} → t ≡ false → c ≡ b → c ≡ cond t a b
   passed-by a e p = rw e p
 
 -- ── Several tests ──

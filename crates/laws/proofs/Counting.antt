@@ -11,7 +11,7 @@ use native.Mathlib.Nat.{not-suc-le-zero, eq-or-lt_of_le}
 use native.Mathlib.Numerals.{add-one}
 use native.Mathlib.Omega.{arith}
 use borrow.Author.Tests.{eqb-true}
-use Rattle.laws.specs.Ground.{if◌then◌else◌}
+use Rattle.std.specs.Prelude.{if◌then◌else◌}
 use Rattle.laws.specs.Folds.{any_of, count_of, sum_of, indices_of}
 use Rattle.laws.proofs.Folds.{fold_same, any_found}
 use Rattle.laws.proofs.Indices.{last-or-below, below-or-past}

@@ -6,7 +6,7 @@ use native.Mathlib.Nat.{not-suc-le-zero, suc-mul}
 use native.Mathlib.Omega.{arith}
 use lib.Dec.{eqb}
 use borrow.Author.Tests.{eq-eqb, ne_eqb}
-use Rattle.laws.specs.Ground.{if◌then◌else◌}
+use Rattle.std.specs.Prelude.{if◌then◌else◌}
 use Rattle.laws.specs.Folds.{sum_of, greatest_of}
 use Rattle.laws.proofs.Folds.{fold_same, fold_at}
 use Rattle.laws.proofs.Indices.{last-or-below, same-or-apart}

@@ -7,7 +7,7 @@ use native.Mathlib.Nat.{add-zero, add-div_right, div-eq_of_lt, pow-succ', not-su
 use native.Mathlib.Omega.{arith}
 use lib.Pow.{pow_pos, low}
 use Rattle.laws.specs.Bytes.{bit}
-use Rattle.laws.specs.Ground.{if◌then◌else◌}
+use Rattle.std.specs.Prelude.{if◌then◌else◌}
 use Rattle.laws.specs.Folds.{sum_of}
 use Rattle.laws.proofs.Indices.{last-or-below}
 use Rattle.laws.proofs.Bits.{bit-above, bit-lower}

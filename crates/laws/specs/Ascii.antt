@@ -1,8 +1,7 @@
 -- A quoted text as the list of its bytes.
-use Rattle.laws.specs.Ground.{ℕ, List}
+use Rattle.std.specs.Prelude.{ℕ, List, [] as []ᴸ, ◌∷◌ as ◌∷ᴸ◌}
 use Prim.Native.Char.{code}
 use Prim.Native.String.{String, [], ◌∷◌}
-use Rattle.std.specs.Prelude.{[] as []ᴸ, ◌∷◌ as ◌∷ᴸ◌}
 
 -- one byte for each character; every text here is ASCII
 abbrev pub ascii : String → List ℕ

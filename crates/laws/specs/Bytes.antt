@@ -1,5 +1,5 @@
 -- Little-endian numbers and bits. A byte past the end reads as 0.
-use Rattle.laws.specs.Ground.{ℕ, ◌+◌, ◌*◌, ◌/◌, ◌%◌, ◌^◌, Bool, List, eqb, get_or}
+use Rattle.std.specs.Prelude.{ℕ, ◌+◌, ◌*◌, ◌/◌, ◌%◌, ◌^◌, Bool, List, eqb, get_or}
 
 unfoldable pub byte_at : List ℕ → ℕ → ℕ
 byte_at b i = get_or b i 0

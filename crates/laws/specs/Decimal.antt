@@ -1,5 +1,5 @@
 -- A number in decimal, in ASCII and without leading zeros.
-use Rattle.laws.specs.Ground.{ℕ, zero, suc, ◌+◌, ◌/◌, ◌%◌, List, [], ◌∷◌, ◌++◌, ltb, if◌then◌else◌}
+use Rattle.std.specs.Prelude.{ℕ, zero, suc, ◌+◌, ◌/◌, ◌%◌, List, [], ◌∷◌, ◌++◌, ltb, if◌then◌else◌}
 
 -- The digits of n, at most so many of them: the last one, behind those of n / 10 if n is 10 or more.
 unfoldable pub digits : ℕ → ℕ → List ℕ

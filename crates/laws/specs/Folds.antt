@@ -1,5 +1,5 @@
 -- Rows by index: what is said of the things 0 to n - 1, the last one outermost.
-use Rattle.laws.specs.Ground.{ℕ, zero, suc, ◌+◌, ◌-◌, ◌^◌, max, Bool, true, false, ◌&&◌, ◌||◌, List, [], ◌∷◌, ◌++◌, replicate, if◌then◌else◌}
+use Rattle.std.specs.Prelude.{ℕ, zero, suc, ◌+◌, ◌-◌, ◌^◌, max, Bool, true, false, ◌&&◌, ◌||◌, List, [], ◌∷◌, ◌++◌, replicate, if◌then◌else◌}
 
 -- some index below n passes
 unfoldable pub any_of : (ℕ → Bool) → ℕ → Bool

@@ -1,5 +1,4 @@
 -- Folds over the indices below a number, little-endian numbers and bits, and text as bytes: the vocabulary of the rules.
-pub mod Ground
 pub mod Folds
 pub mod Bytes
 pub mod Ascii

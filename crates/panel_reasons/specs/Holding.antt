@@ -1,5 +1,5 @@
 -- Internal: no promise cites this file. A state whose phase holds, and what the code gives of it. The site has the times that rule in the state.
-use Rattle.laws.specs.Ground.{ℕ, ◌<◌, true, ◌≡◌}
+use Rattle.std.specs.Prelude.{ℕ, ◌<◌, true, ◌≡◌}
 use Rattle.rules.specs.declared.site.Site.{Site}
 use Rattle.rules.specs.declared.state.KeptState.{KeptState}
 use Rattle.rules.specs.IntervalTable.{is_running}

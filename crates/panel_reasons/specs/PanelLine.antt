@@ -1,5 +1,5 @@
 -- Why the phase of a state in running holds. It is read from the state after a step and, of that step's inputs, from the non-locking calls only.
-use Rattle.laws.specs.Ground.{ℕ, ◌-◌, Bool, not, ◌||◌, List, [], get_or, if◌then◌else◌}
+use Rattle.std.specs.Prelude.{ℕ, ◌-◌, Bool, not, ◌||◌, List, [], get_or, if◌then◌else◌}
 use Rattle.rules.specs.declared.site.Site.{Site}
 use Rattle.rules.specs.declared.state.KeptState.{KeptState}
 use Rattle.rules.specs.declared.state.Movement.{Movement}

@@ -1,6 +1,6 @@
 -- Statements about lines: each reads back as its phase and its reasons, so different lists of reasons never read alike, and no line is empty. The
 -- reasons may be any list, of any length and order and with any numbers. Decimals have no leading zeros.
-use Rattle.laws.specs.Ground.{ℕ, ◌<◌, List, [], ◌≡◌, get_or}
+use Rattle.std.specs.Prelude.{ℕ, ◌<◌, List, [], ◌≡◌, get_or}
 use Rattle.panel_text.specs.declared.Reason.{Reason}
 use Rattle.laws.specs.Decimal.{decimal}
 use Rattle.panel_text.specs.Text.{line}

@@ -1,5 +1,5 @@
 -- A phase and a list of reasons as one line of ASCII, without a terminator.
-use Rattle.laws.specs.Ground.{ℕ, List, [], ◌∷◌, ◌++◌}
+use Rattle.std.specs.Prelude.{ℕ, List, [], ◌∷◌, ◌++◌}
 use Rattle.rules.specs.TraceText.{phase_letter}
 use Rattle.panel_text.specs.declared.Reason.{Reason}
 use Rattle.panel_text.specs.declared.Reason.TheVariants.{NoOtherDemand, Gap, Max, Walk}

@@ -11,7 +11,7 @@ use Rattle.rules.specs.declared.site.Edition.TheVariants.{One, Two}
 use Rattle.rules.specs.declared.site.Range.{Range}
 use Rattle.rules.specs.declared.site.Size.{Size}
 use Rattle.rules.specs.declared.site.Times.{Times}
-use Rattle.laws.specs.Ground.{if◌then◌else◌}
+use Rattle.std.specs.Prelude.{if◌then◌else◌}
 use Rattle.laws.specs.Folds.{sum_of}
 use Rattle.rules.specs.Limits.{limits, limit_of}
 use Rattle.rules.specs.Site.{phase_times, walk_times, crosses, site_of}

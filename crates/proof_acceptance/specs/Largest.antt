@@ -1,5 +1,5 @@
 -- The greatest length and the greatest wait bound are reached: in each edition one accepted personality has both.
-use Rattle.laws.specs.Ground.{ℕ, zero, suc, List, [], ◌∷◌, ◌++◌, ◌≡◌, length, replicate}
+use Rattle.std.specs.Prelude.{ℕ, zero, suc, List, [], ◌∷◌, ◌++◌, ◌≡◌, length, replicate}
 use Rattle.rules.specs.declared.answer.Verdict.TheVariants.{Accepted}
 use Rattle.rules.specs.declared.site.Edition.{Edition}
 use Rattle.rules.specs.Personality.{site_kind, verdict_of}

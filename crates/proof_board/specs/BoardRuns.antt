@@ -1,6 +1,6 @@
 -- Demand 3 of the library that a buyer links: the same demand, said of the numbers that its calls answer and of the bytes that they leave in the
 -- caller's buffers. The calls are step and retiming calls, in any order.
-use Rattle.laws.specs.Ground.{ℕ, ◌/◌, ◌%◌, List, ◌≡◌, eqb, length, if◌then◌else◌}
+use Rattle.std.specs.Prelude.{ℕ, ◌/◌, ◌%◌, List, ◌≡◌, eqb, length, if◌then◌else◌}
 use Rattle.rules.specs.declared.answer.Outcome.{Outcome}
 use Rattle.rules.specs.declared.answer.Outcome.TheVariants.{Stepped, StepRefused}
 use Rattle.rules.specs.declared.answer.Verdict.{Verdict}

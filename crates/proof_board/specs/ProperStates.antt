@@ -1,5 +1,5 @@
 -- The states of a run fit the types of the machine, and so the bytes of a state.
-use Rattle.laws.specs.Ground.{ℕ, true, false, List, ◌≡◌}
+use Rattle.std.specs.Prelude.{ℕ, true, false, List, ◌≡◌}
 use Rattle.rules.specs.declared.answer.Verdict.TheVariants.{Accepted}
 use Rattle.rules.specs.Personality.{verdict_of}
 use Rattle.rules.specs.Site.{times_in, site_of}

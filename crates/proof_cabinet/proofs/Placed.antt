@@ -12,7 +12,7 @@ use lib.Seq.{get_or-set_same, take_at}
 use Rattle.rules.specs.declared.answer.Verdict.{Verdict}
 use Rattle.rules.specs.declared.answer.Verdict.TheVariants.{Accepted, Refused}
 use Rattle.laws.specs.Bytes.{byte_at, two_at}
-use Rattle.laws.specs.Ground.{if◌then◌else◌}
+use Rattle.std.specs.Prelude.{if◌then◌else◌}
 use Rattle.rules.specs.Verdicts.{◌or_else◌, refuse_if}
 use Rattle.rules.specs.Personality.{verdict_of}
 use Rattle.rules.specs.Laws.{greatest_length}

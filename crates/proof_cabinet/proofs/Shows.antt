@@ -14,7 +14,7 @@ use Rattle.rules.specs.declared.answer.Outcome.TheVariants.{Stepped, StepRefused
 use Rattle.rules.specs.declared.answer.Verdict.{Verdict}
 use Rattle.rules.specs.declared.answer.Verdict.TheVariants.{Accepted, Refused}
 use Rattle.laws.specs.Bytes.{byte_at}
-use Rattle.laws.specs.Ground.{if◌then◌else◌}
+use Rattle.std.specs.Prelude.{if◌then◌else◌}
 use Rattle.rules.specs.Colours.{red}
 use Rattle.rules.specs.Runs.{Taken, if_accepted, accepted_steps}
 use Rattle.rules.proofs.Verdicts.{refused-not-accepted}

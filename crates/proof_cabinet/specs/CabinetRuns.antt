@@ -1,6 +1,6 @@
 -- The theorem of the cabinet, stated of the calls that a caller links. The first call gets any row whatever, each later one the row that the call
 -- before returned. New times may be handed over between the calls. The output buffers may have any length and content.
-use Rattle.laws.specs.Ground.{ℕ, Bool, true, false, not, ◌&&◌, List, [], ◌∷◌, ◌≡◌, eqb, length, replicate, if◌then◌else◌}
+use Rattle.std.specs.Prelude.{ℕ, Bool, true, false, not, ◌&&◌, List, [], ◌∷◌, ◌≡◌, eqb, length, replicate, if◌then◌else◌}
 use Rattle.rules.specs.Personality.{verdict_of}
 use Rattle.rules.specs.Site.{site_of}
 use Rattle.rules.specs.Colours.{red}

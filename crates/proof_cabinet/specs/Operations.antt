@@ -1,6 +1,6 @@
 -- What a caller does to a cabinet: it calls the cabinet, or it hands over new times for the site in a record. For new times the cabinet has no call:
 -- the caller calls `willowera_retime` with the personality and the state that stand in the record.
-use Rattle.laws.specs.Ground.{ℕ, ◌%◌, List, ◌≡◌, length, set}
+use Rattle.std.specs.Prelude.{ℕ, ◌%◌, List, ◌≡◌, length, set}
 use Rattle.board_retime.specs.RetimeCall.{retime_answer, retime_after}
 use Rattle.cabinet_records.specs.declared.Record.{Record}
 use Rattle.cabinet_records.specs.Cabinet.{personality_of, with_state, record_of, Returned, Act, doing}

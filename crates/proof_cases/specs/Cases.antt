@@ -1,6 +1,6 @@
 -- The worked cases: document 01's starred ones, and our own below them, with one statement: each of them holds. The cases of
 -- one call that a must-fail edit of the rules needs stand in rules/specs/*Cases.antt; most of the starred ones of one call are there and here.
-use Rattle.laws.specs.Ground.{ℕ, ◌+◌, ◌^◌, ◌&&◌, ◌||◌, List, [], ◌∷◌, ◌++◌, ◌≡◌, eqb, leb, set, if◌then◌else◌}
+use Rattle.std.specs.Prelude.{ℕ, ◌+◌, ◌^◌, ◌&&◌, ◌||◌, List, [], ◌∷◌, ◌++◌, ◌≡◌, eqb, leb, set, if◌then◌else◌}
 use Rattle.rules.specs.declared.answer.Verdict.TheVariants.{Accepted, Refused}
 use Rattle.rules.specs.declared.state.Held.TheVariants.{Nothing}
 use Rattle.rules.specs.declared.state.Interval.TheVariants.{StartRed, LateStart, MinimumGreen, Running, EarlyCutOff, Yellow, AllRed}

@@ -1,6 +1,6 @@
 -- Worked cases of runs with retiming calls, on the junction of two phases and others: each of them holds. Cases of one call are in
 -- rules/specs/TimedCases.antt.
-use Rattle.laws.specs.Ground.{ℕ, ◌^◌, List, [], ◌∷◌, ◌++◌, ◌≡◌, eqb, set, if◌then◌else◌}
+use Rattle.std.specs.Prelude.{ℕ, ◌^◌, List, [], ◌∷◌, ◌++◌, ◌≡◌, eqb, set, if◌then◌else◌}
 use Rattle.rules.specs.declared.state.Interval.TheVariants.{StartRed, LateStart, MinimumGreen, Running, Yellow, AllRed}
 use Rattle.rules.specs.Colours.{red, yellow, green, flashing}
 use Rattle.rules.specs.Junctions.{junction, slower, late_b, crossing, other_walk}

@@ -1,6 +1,6 @@
 -- What a run shows, line by line: the rules take the calls one after the other from the fresh state, until a step call is refused. A refused
 -- retiming call hands the state on.
-use Rattle.laws.specs.Ground.{ℕ, zero, suc, ◌+◌, Bool, true, false, ◌&&◌, List, [], ◌∷◌, ◌++◌, map, eqb, replicate, if◌then◌else◌}
+use Rattle.std.specs.Prelude.{ℕ, zero, suc, ◌+◌, Bool, true, false, ◌&&◌, List, [], ◌∷◌, ◌++◌, map, eqb, replicate, if◌then◌else◌}
 use Rattle.rules.specs.declared.answer.Outcome.{Outcome}
 use Rattle.rules.specs.declared.answer.Outcome.TheVariants.{Stepped, StepRefused}
 use Rattle.rules.specs.declared.state.Interval.{Interval}

@@ -21,7 +21,7 @@ use Rattle.rules.specs.declared.state.Position.{Position}
 use Rattle.rules.specs.declared.state.Stage.{Stage}
 use Rattle.rules.specs.declared.state.Stage.TheVariants.{Idle, Walk, ClearanceOne, ClearanceTwo}
 use Rattle.rules.specs.declared.state.State.{State}
-use Rattle.laws.specs.Ground.{if◌then◌else◌}
+use Rattle.std.specs.Prelude.{if◌then◌else◌}
 use Rattle.laws.specs.Folds.{set_of}
 use Rattle.rules.specs.Site.{phase_times, walk_times, crosses, ring}
 use Rattle.rules.specs.IntervalTable.{is_held, is_idle, is_walk, is_walk_or_first, is_second, is_before_start}

@@ -20,7 +20,7 @@ use Rattle.rules.specs.Timed.{starts_next}
 use Rattle.rules.specs.TimedLaws.{starts_phase}
 use Rattle.rules.specs.Step.{stepped}
 use Rattle.rules.specs.Demands.{next_demanded}
-use Rattle.laws.specs.Ground.{if◌then◌else◌}
+use Rattle.std.specs.Prelude.{if◌then◌else◌}
 use Rattle.laws.proofs.Booleans.{and_left}
 use Rattle.proof_runs.proofs.Steps.{ended, moving, started}
 use Rattle.proof_runs.proofs.Ends.{ended-in, next-in, started-in}

@@ -12,7 +12,7 @@ use Rattle.rules.specs.declared.state.Held.{Held}
 use Rattle.rules.specs.declared.state.KeptState.{KeptState}
 use Rattle.rules.specs.declared.state.Position.{Position}
 use Rattle.rules.specs.declared.state.State.{State}
-use Rattle.laws.specs.Ground.{if◌then◌else◌}
+use Rattle.std.specs.Prelude.{if◌then◌else◌}
 use Rattle.rules.specs.Limits.{limit_of, within}
 use Rattle.rules.specs.Site.{no_phase_times, no_walk_times, phase_times, walk_times}
 use Rattle.rules.specs.IntervalTable.{is_before_start}

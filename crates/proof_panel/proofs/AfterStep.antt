@@ -20,7 +20,7 @@ use Rattle.rules.specs.declared.state.KeptState.{KeptState}
 use Rattle.rules.specs.declared.state.Movement.{Movement}
 use Rattle.rules.specs.declared.state.Position.{Position}
 use Rattle.laws.specs.Bytes.{bit}
-use Rattle.laws.specs.Ground.{if◌then◌else◌}
+use Rattle.std.specs.Prelude.{if◌then◌else◌}
 use Rattle.laws.specs.Folds.{set_of}
 use Rattle.rules.specs.Site.{phase_times, crosses, ring}
 use Rattle.rules.specs.IntervalTable.{is_running, is_held, phase_held}

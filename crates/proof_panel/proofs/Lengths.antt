@@ -11,7 +11,7 @@ use Rattle.rules.specs.declared.answer.Verdict.{Verdict}
 use Rattle.rules.specs.declared.answer.Verdict.TheVariants.{Accepted, Refused}
 use Rattle.rules.specs.declared.site.Edition.{Edition}
 use Rattle.rules.specs.declared.site.Edition.TheVariants.{One, Two}
-use Rattle.laws.specs.Ground.{if◌then◌else◌}
+use Rattle.std.specs.Prelude.{if◌then◌else◌}
 use Rattle.rules.specs.Verdicts.{◌or_else◌, refuse_if}
 use Rattle.rules.specs.Limits.{limits, limit_of, phase_settings}
 use Rattle.rules.specs.Personality.{verdict_of}

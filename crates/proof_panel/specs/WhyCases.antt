@@ -1,5 +1,5 @@
 -- Worked lines as one list with one statement: every case holds. Each can be checked by hand with the papers.
-use Rattle.laws.specs.Ground.{ℕ, zero, suc, ◌^◌, List, [], ◌∷◌, ◌++◌, ◌≡◌, replicate}
+use Rattle.std.specs.Prelude.{ℕ, zero, suc, ◌^◌, List, [], ◌∷◌, ◌++◌, ◌≡◌, replicate}
 use Prim.Native.String.{String}
 use Rattle.rules.specs.declared.answer.Verdict.TheVariants.{Accepted, Refused}
 use Rattle.rules.specs.declared.state.Held.TheVariants.{Nothing}

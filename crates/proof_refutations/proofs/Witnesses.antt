@@ -4,7 +4,7 @@ use mathlib.Core.Bool.{◌||◌}
 use mathlib.Core.List.{List, [], ◌∷◌, ◌++◌, map}
 use lib.Dec.{leb, eqb}
 use lib.ListN.{replicate}
-use Rattle.laws.specs.Ground.{if◌then◌else◌}
+use Rattle.std.specs.Prelude.{if◌then◌else◌}
 use Rattle.rules.specs.Junctions.{two, twos, fours, sections, put_two, short_phase, junction, cut_offs}
 use Rattle.rules.specs.Runs.{StepCall, Call, step_call, retime_call}
 

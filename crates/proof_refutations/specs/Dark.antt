@@ -1,6 +1,6 @@
 -- Controllers whose lamps do not serve: other colours than those of the rules, and greens that are a step short or long. One that is red for ever meets
 -- demand 3 all the same.
-use Rattle.laws.specs.Ground.{ℕ, ◌+◌, ◌-◌, Bool, ◌&&◌, map, eqb, leb, length, if◌then◌else◌}
+use Rattle.std.specs.Prelude.{ℕ, ◌+◌, ◌-◌, Bool, ◌&&◌, map, eqb, leb, length, if◌then◌else◌}
 use Rattle.laws.specs.Folds.{list_of}
 use Rattle.rules.specs.declared.site.PhaseTimes.{PhaseTimes}
 use Rattle.rules.specs.declared.site.Site.{Site}

@@ -1,7 +1,7 @@
 -- Controllers that must not pass. Each but one is the controller of the scanning rules with its verdict, its step, its wait, its search for the next
 -- phase, its answers or its colours replaced. For the same calls the scanning rules answer as the rules do (`RunForgets`). The one of `retiming` is the
 -- controller of the rules with its retiming replaced.
-use Rattle.laws.specs.Ground.{ℕ, ◌+◌, ◌-◌, ◌^◌, Bool, not, ◌&&◌, ◌||◌, List, map, eqb, leb, if◌then◌else◌}
+use Rattle.std.specs.Prelude.{ℕ, ◌+◌, ◌-◌, ◌^◌, Bool, not, ◌&&◌, ◌||◌, List, map, eqb, leb, if◌then◌else◌}
 use Rattle.rules.specs.declared.answer.Outcome.{Outcome}
 use Rattle.rules.specs.declared.answer.Outcome.TheVariants.{Stepped, StepRefused}
 use Rattle.rules.specs.declared.answer.Verdict.{Verdict}

@@ -1,6 +1,6 @@
 -- What is shown of the controllers that must not pass: demand 3, or that no phase starts twice while a demand waits, or that every wait is met, is
 -- false of each.
-use Rattle.laws.specs.Ground.{◌+◌}
+use Rattle.std.specs.Prelude.{◌+◌}
 use Rattle.rules.specs.declared.state.Interval.TheVariants.{Yellow, AllRed}
 use Rattle.rules.specs.Personality.{verdict_of}
 use Rattle.rules.specs.Site.{site_of}

@@ -8,7 +8,7 @@ use lib.Dec.{ltb, eqb}
 use native.Mathlib.Nat.{mul-suc, mul-zero, mul-add-div, mul-add-mod_self_left, div-eq_of_lt, mod-eq_of_lt, mul-le-mul}
 use native.Mathlib.Omega.{arith}
 use borrow.Author.Tests.{ltb-true, ltb-false, eqb-false}
-use Rattle.laws.specs.Ground.{if◌then◌else◌}
+use Rattle.std.specs.Prelude.{if◌then◌else◌}
 use Rattle.laws.specs.Bytes.{byte_at}
 use Rattle.laws.specs.Folds.{sum_of}
 use Rattle.laws.proofs.Booleans.{and_right}

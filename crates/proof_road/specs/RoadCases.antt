@@ -1,5 +1,5 @@
 -- Worked cases of the simulated road, in a single list with one statement: each of them holds. The site is the junction of two phases.
-use Rattle.laws.specs.Ground.{ℕ, zero, suc, Bool, true, false, List, [], ◌∷◌, ◌++◌, map, ◌≡◌}
+use Rattle.std.specs.Prelude.{ℕ, zero, suc, Bool, true, false, List, [], ◌∷◌, ◌++◌, map, ◌≡◌}
 use Rattle.rules.specs.declared.answer.Verdict.{Verdict}
 use Rattle.rules.specs.declared.answer.Verdict.TheVariants.{Accepted, Refused}
 use Rattle.rules.specs.declared.state.Interval.{Interval}

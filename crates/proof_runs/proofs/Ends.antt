@@ -13,7 +13,7 @@ use Rattle.rules.specs.declared.state.Interval.TheVariants.{Running, EarlyCutOff
 use Rattle.rules.specs.declared.state.Position.{Position}
 use Rattle.rules.specs.declared.state.Stage.{Stage}
 use Rattle.rules.specs.declared.state.State.{State}
-use Rattle.laws.specs.Ground.{if◌then◌else◌}
+use Rattle.std.specs.Prelude.{if◌then◌else◌}
 use Rattle.rules.specs.Site.{phase_times}
 use Rattle.rules.specs.IntervalTable.{is_walk_or_first, is_before_start}
 use Rattle.rules.specs.State.{idle}

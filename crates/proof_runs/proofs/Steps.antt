@@ -13,7 +13,7 @@ use Rattle.rules.specs.declared.state.Position.{Position}
 use Rattle.rules.specs.declared.state.Stage.TheVariants.{Walk}
 use Rattle.rules.specs.declared.state.State.{State}
 use Rattle.laws.specs.Bytes.{bit}
-use Rattle.laws.specs.Ground.{if◌then◌else◌}
+use Rattle.std.specs.Prelude.{if◌then◌else◌}
 use Rattle.rules.specs.Site.{phase_times, walk_times, crosses}
 use Rattle.rules.specs.IntervalTable.{is_held, is_idle, is_running}
 use Rattle.rules.specs.State.{idle, locked, asked, movement}

@@ -11,7 +11,7 @@ use lib.Seq.{get_or-set_same, get_or-set_other}
 use borrow.Author.Tests.{lt-ltb, ne_eqb}
 use Rattle.rules.specs.declared.answer.Verdict.TheVariants.{Accepted, Refused}
 use Rattle.laws.specs.Bytes.{byte_at}
-use Rattle.laws.specs.Ground.{if◌then◌else◌}
+use Rattle.std.specs.Prelude.{if◌then◌else◌}
 use Rattle.laws.proofs.Booleans.{and-false-right}
 use Rattle.laws.proofs.Indices.{same-or-apart}
 use Rattle.rules.specs.Verdicts.{◌or_else◌, refuse_if}

@@ -1,5 +1,5 @@
 -- The answers of sealing and resuming: every refusal has a written number and place, and a refused call writes nothing.
-use Rattle.laws.specs.Ground.{ℕ, Bool, true, ◌&&◌, ◌||◌, List, ◌⊎◌, ◌≡◌, eqb, leb}
+use Rattle.std.specs.Prelude.{ℕ, Bool, true, ◌&&◌, ◌||◌, List, ◌⊎◌, ◌≡◌, eqb, leb}
 use Rattle.rules.specs.declared.answer.Verdict.{Verdict}
 use Rattle.rules.specs.declared.answer.Verdict.TheVariants.{Refused}
 use Rattle.rules.specs.Laws.{reading_number, PlaceIn}

@@ -1,5 +1,5 @@
 -- Worked cases: the junction of two phases, its fresh state and the sealed record of this state, and what other records are refused with.
-use Rattle.laws.specs.Ground.{ℕ, List, [], ◌∷◌, ◌++◌, ◌≡◌, length, take, replicate, set}
+use Rattle.std.specs.Prelude.{ℕ, List, [], ◌∷◌, ◌++◌, ◌≡◌, length, take, replicate, set}
 use Rattle.rules.specs.declared.answer.Verdict.{Verdict}
 use Rattle.rules.specs.declared.answer.Verdict.TheVariants.{Accepted, Refused}
 use Rattle.rules.specs.Site.{site_of}

@@ -1,6 +1,6 @@
 -- What sealing and resuming promise, over the bytes that C and Rust hold. A saved state is resumed as it was, or refused: for another version of
 -- the interface, for damage, or for another personality.
-use Rattle.laws.specs.Ground.{ℕ, ◌<◌, true, List, ◌≡◌, eqb, length, set, if◌then◌else◌}
+use Rattle.std.specs.Prelude.{ℕ, ◌<◌, true, List, ◌≡◌, eqb, length, set, if◌then◌else◌}
 use Rattle.rules.specs.declared.answer.Verdict.TheVariants.{Accepted}
 use Rattle.laws.specs.Bytes.{byte_at}
 use Rattle.rules.specs.Personality.{verdict_of}

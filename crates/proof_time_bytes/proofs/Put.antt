@@ -16,7 +16,7 @@ use Rattle.rules.specs.declared.site.Site.{Site}
 use Rattle.rules.specs.declared.site.Times.{Times}
 use Rattle.rules.specs.declared.site.WalkTimes.{WalkTimes}
 use Rattle.laws.specs.Bytes.{byte_at, two_at}
-use Rattle.laws.specs.Ground.{if◌then◌else◌}
+use Rattle.std.specs.Prelude.{if◌then◌else◌}
 use Rattle.laws.specs.Folds.{row_of}
 use Rattle.rules.specs.Personality.{body_at, record_at, phases_head, groups_head, conflicts_head, detectors_head, pedestrians_head, past_section, early_head, has_early, order_head, phase_count, movement_count, verdict_of}
 use Rattle.rules.specs.Site.{no_phase_times, no_walk_times, early_time_at, phase_times_at, walk_times_at, times_in, site_of, phase_times, walk_times}

@@ -10,7 +10,7 @@ use lib.ListN.{length, get_or}
 use Rattle.rules.specs.declared.site.Detector.{Detector}
 use Rattle.rules.specs.declared.site.Group.{Group}
 use Rattle.rules.specs.declared.site.Range.{Range}
-use Rattle.laws.specs.Ground.{if◌then◌else◌}
+use Rattle.std.specs.Prelude.{if◌then◌else◌}
 use Rattle.laws.specs.Folds.{count_of, row_of, indices_of}
 use Rattle.laws.specs.Bytes.{byte_at, two_at, four_at, bit}
 use Rattle.rules.specs.Personality.{body_length, kind_at, body_at, record_at, site_kind, edition_of, phase_count, group_count, groups_head, conflicts_head, detectors_head, pedestrians_head, past_section, has_head, early_head, has_early, order_head, has_order, end_of, group_set, group_mark, pedestrian, movement_count, conflict_set, detector_count, detector_phase, detector_mode, order_at, bad_detector_at}

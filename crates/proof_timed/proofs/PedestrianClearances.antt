@@ -15,7 +15,7 @@ use Rattle.rules.specs.declared.site.WalkTimes.{WalkTimes}
 use Rattle.rules.specs.declared.state.Movement.{Movement}
 use Rattle.rules.specs.declared.state.Stage.TheVariants.{Idle, ClearanceOne, ClearanceTwo}
 use Rattle.rules.specs.declared.state.State.{State}
-use Rattle.laws.specs.Ground.{if◌then◌else◌}
+use Rattle.std.specs.Prelude.{if◌then◌else◌}
 use Rattle.rules.specs.Site.{walk_times, is_pedestrian, movement_of, conflict}
 use Rattle.rules.specs.IntervalTable.{is_idle, is_walk}
 use Rattle.rules.specs.State.{idle, movement}

@@ -11,7 +11,7 @@ use borrow.Author.Tests.{not-true}
 use Rattle.rules.specs.declared.site.Site.{Site}
 use Rattle.rules.specs.declared.site.Times.{Times}
 use Rattle.rules.specs.declared.state.State.{State}
-use Rattle.laws.specs.Ground.{if◌then◌else◌}
+use Rattle.std.specs.Prelude.{if◌then◌else◌}
 use Rattle.rules.specs.Site.{phase_times, crosses}
 use Rattle.rules.specs.SiteTimes.{under}
 use Rattle.rules.specs.WaitBound.{wait_bound}

@@ -8,7 +8,7 @@ use native.Mathlib.Omega.{arith}
 use lib.Dec.{eqb, ltb}
 use lib.ListN.{length, take, drop}
 use borrow.Author.Tests.{ltb-false, ne_eqb}
-use Rattle.laws.specs.Ground.{if◌then◌else◌}
+use Rattle.std.specs.Prelude.{if◌then◌else◌}
 use Rattle.laws.proofs.Booleans.{decided}
 use Rattle.rules.specs.Personality.{group_count}
 use Rattle.rules.specs.Runs.{Controller, Call, step_call, Taken, step_taken, retime_taken, step_of, next_of, taken_from}

@@ -9,7 +9,7 @@ use native.Mathlib.Omega.{arith}
 use lib.Dec.{eqb, ltb}
 use lib.ListN.{length, take, drop}
 use borrow.Author.Tests.{lt-ltb, le-ltb}
-use Rattle.laws.specs.Ground.{if◌then◌else◌}
+use Rattle.std.specs.Prelude.{if◌then◌else◌}
 use Rattle.laws.specs.Bytes.{eight_at}
 use Rattle.laws.proofs.Booleans.{decided, never_both}
 use Rattle.rules.specs.declared.answer.Outcome.TheVariants.{Stepped, StepRefused}

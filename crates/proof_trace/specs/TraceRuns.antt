@@ -1,6 +1,6 @@
 -- The trace program as a whole. Its `main` reads the input part by part, hands each part to a function of `run_parts`, and writes the text that the
 -- function prints. So what it prints is the text of the parts, one after the other, by the contracts of these functions.
-use Rattle.laws.specs.Ground.{ℕ, zero, suc, ◌≤◌, List, [], ◌≡◌, length, take, drop}
+use Rattle.std.specs.Prelude.{ℕ, zero, suc, ◌≤◌, List, [], ◌≡◌, length, take, drop}
 use Rattle.laws.specs.Bytes.{two_at}
 use Rattle.rules.specs.Trace.{◌and_then◌, length_part, personality_part, most_steps, trace_of}
 use Rattle.state_timed.specs.TimedLayout.{timed_bytes}

@@ -13,7 +13,7 @@ use Rattle.rules.specs.declared.state.Interval.TheVariants.{StartRed, LateStart,
 use Rattle.rules.specs.declared.state.Position.{Position}
 use Rattle.rules.specs.declared.state.Stage.TheVariants.{Walk}
 use Rattle.rules.specs.declared.state.State.{State}
-use Rattle.laws.specs.Ground.{if◌then◌else◌}
+use Rattle.std.specs.Prelude.{if◌then◌else◌}
 use Rattle.rules.specs.Site.{crosses}
 use Rattle.rules.specs.IntervalTable.{is_idle, is_running, is_before_start, phase_held}
 use Rattle.rules.specs.State.{movement}

@@ -1,5 +1,5 @@
 -- The personalities of example sites, section by section. That of the junction of two phases is `junction`.
-use Rattle.laws.specs.Ground.{ℕ, List, [], ◌∷◌, ◌++◌}
+use Rattle.std.specs.Prelude.{ℕ, List, [], ◌∷◌, ◌++◌}
 use Rattle.rules.specs.Junctions.{two, twos, fours, sections, cut_offs}
 
 -- the T-junction with three phases, examples/t_junction

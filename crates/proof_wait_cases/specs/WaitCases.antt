@@ -1,5 +1,5 @@
 -- The waits of example sites as numbers, and that they are reached.
-use Rattle.laws.specs.Ground.{ℕ, zero, suc, ◌+◌, ◌^◌, Bool, true, false, List, [], ◌∷◌, ◌++◌, ◌≡◌, eqb, drop, replicate, if◌then◌else◌}
+use Rattle.std.specs.Prelude.{ℕ, zero, suc, ◌+◌, ◌^◌, Bool, true, false, List, [], ◌∷◌, ◌++◌, ◌≡◌, eqb, drop, replicate, if◌then◌else◌}
 use Rattle.rules.specs.Site.{site_of}
 use Rattle.rules.specs.State.{fresh}
 use Rattle.rules.specs.Waits.{phase_wait, movement_wait, waits_of}

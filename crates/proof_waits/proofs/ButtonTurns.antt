@@ -15,7 +15,7 @@ use Rattle.rules.specs.declared.state.Position.{Position}
 use Rattle.rules.specs.declared.state.Stage.{Stage}
 use Rattle.rules.specs.declared.state.Stage.TheVariants.{Idle, Walk, ClearanceOne, ClearanceTwo}
 use Rattle.rules.specs.declared.state.State.{State}
-use Rattle.laws.specs.Ground.{if◌then◌else◌}
+use Rattle.std.specs.Prelude.{if◌then◌else◌}
 use Rattle.rules.specs.Site.{phase_times, walk_times, crosses}
 use Rattle.rules.specs.IntervalTable.{is_idle, is_walk, is_green, is_running, is_leaving, phase_held}
 use Rattle.rules.specs.State.{movement}

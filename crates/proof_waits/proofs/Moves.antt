@@ -15,7 +15,7 @@ use Rattle.rules.specs.declared.state.Interval.TheVariants.{Running, AllRed}
 use Rattle.rules.specs.declared.state.Position.{Position}
 use Rattle.rules.specs.declared.state.Stage.{Stage}
 use Rattle.rules.specs.declared.state.State.{State}
-use Rattle.laws.specs.Ground.{if◌then◌else◌}
+use Rattle.std.specs.Prelude.{if◌then◌else◌}
 use Rattle.rules.specs.Site.{walk_times, crosses}
 use Rattle.rules.specs.IntervalTable.{is_idle, is_walk, is_walk_or_first, is_second, is_running, is_leaving, is_before_start}
 use Rattle.rules.specs.State.{movement}

@@ -15,7 +15,7 @@ use Rattle.rules.specs.declared.state.Position.{Position}
 use Rattle.rules.specs.declared.state.State.{State}
 use Rattle.rules.specs.declared.state.Stage.{Stage}
 use Rattle.rules.specs.declared.state.Stage.TheVariants.{Idle, Walk, ClearanceOne, ClearanceTwo}
-use Rattle.laws.specs.Ground.{if◌then◌else◌}
+use Rattle.std.specs.Prelude.{if◌then◌else◌}
 use Rattle.laws.specs.Folds.{greatest_of}
 use Rattle.rules.specs.Site.{walk_times, crosses}
 use Rattle.rules.specs.IntervalTable.{is_idle, is_walk, is_walk_or_first, is_second, is_leaving}

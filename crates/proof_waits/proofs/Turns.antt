@@ -15,7 +15,7 @@ use Rattle.rules.specs.declared.state.Interval.{Interval}
 use Rattle.rules.specs.declared.state.Interval.TheVariants.{StartRed, LateStart, MinimumGreen, Running, EarlyCutOff, Yellow, AllRed}
 use Rattle.rules.specs.declared.state.Position.{Position}
 use Rattle.rules.specs.declared.state.State.{State}
-use Rattle.laws.specs.Ground.{if◌then◌else◌}
+use Rattle.std.specs.Prelude.{if◌then◌else◌}
 use Rattle.laws.specs.Folds.{greatest_of}
 use Rattle.rules.specs.Site.{phase_times, walk_times, crosses}
 use Rattle.rules.specs.IntervalTable.{phase_held, is_idle, is_green, is_running, is_before_start, is_leaving}

@@ -1,6 +1,6 @@
 -- Internal: no promise cites this file. Numbers 9 and 10 of kind 4 as one test, which takes the number, and what the sets hold that a record
 -- is compared with.
-use Rattle.laws.specs.Ground.{ℕ, ◌/◌, ◌%◌, ◌^◌, ◌<◌, Bool, false, ◌&&◌, ◌||◌, List, ◌≡◌, eqb, get_or, if◌then◌else◌}
+use Rattle.std.specs.Prelude.{ℕ, ◌/◌, ◌%◌, ◌^◌, ◌<◌, Bool, false, ◌&&◌, ◌||◌, List, ◌≡◌, eqb, get_or, if◌then◌else◌}
 use Rattle.rules.specs.declared.answer.Verdict.{Verdict}
 use Rattle.laws.specs.Bytes.{bit}
 use Rattle.rules.specs.Personality.{record_at, group_count, group_set, conflicts_head, conflict_set, bad_conflict, conflict_in_phase}

@@ -1,6 +1,6 @@
 -- Internal: no promise cites this file. The conflicts as a matrix of bits in tiles. Band a has the eight groups 8 a to 8 a + 7. A tile is a
 -- number of 64 bits in eight rows of eight; bit c of row r is bit 8 r + c.
-use Rattle.laws.specs.Ground.{ℕ, ◌+◌, ◌*◌, ◌≤◌, ◌<◌, List, ◌≡◌, length, get_or}
+use Rattle.std.specs.Prelude.{ℕ, ◌+◌, ◌*◌, ◌≤◌, ◌<◌, List, ◌≡◌, length, get_or}
 use Rattle.laws.specs.Bytes.{byte_at, bit}
 use Rattle.rules.specs.Personality.{body_at, record_at, group_count, group_set, conflict_set}
 use Rattle.read_layout.specs.declared.Layout.{Layout}

@@ -1,5 +1,5 @@
 -- Internal: no promise cites this file. What the quick test requires of two tiles, and what follows for two groups, two bands, all groups.
-use Rattle.laws.specs.Ground.{ℕ, ◌+◌, ◌*◌, ◌≤◌, ◌<◌, true, false, List, ◌≡◌}
+use Rattle.std.specs.Prelude.{ℕ, ◌+◌, ◌*◌, ◌≤◌, ◌<◌, true, false, List, ◌≡◌}
 use Rattle.laws.specs.Bytes.{bit}
 use Rattle.rules.specs.Personality.{phase_count, group_count, group_set, conflict_set}
 

@@ -1,6 +1,6 @@
 -- Internal: no promise cites this file. Swaps of bits in pairs, in a number of 64 bits: the lower place of each pair is a bit of `low`, and
 -- the upper place is `shift` above it.
-use Rattle.laws.specs.Ground.{ℕ, ◌+◌, ◌-◌, Bool, not, ◌&&◌, leb, ltb, if◌then◌else◌}
+use Rattle.std.specs.Prelude.{ℕ, ◌+◌, ◌-◌, Bool, not, ◌&&◌, leb, ltb, if◌then◌else◌}
 use Rattle.laws.specs.Bytes.{bit}
 use Rattle.laws.specs.Folds.{all_of}
 

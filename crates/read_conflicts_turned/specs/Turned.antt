@@ -1,6 +1,6 @@
 -- Internal: no promise cites this file. The sets of a personality turned round: for each group the groups that name it, and for each phase
 -- the groups that are in it.
-use Rattle.laws.specs.Ground.{ℕ, ◌+◌, ◌*◌, ◌<◌, Bool, List, ◌≡◌, eqb, get_or, if◌then◌else◌}
+use Rattle.std.specs.Prelude.{ℕ, ◌+◌, ◌*◌, ◌<◌, Bool, List, ◌≡◌, eqb, get_or, if◌then◌else◌}
 use Rattle.laws.specs.Bytes.{bit}
 use Rattle.rules.specs.Personality.{group_count, group_set, conflict_set}
 

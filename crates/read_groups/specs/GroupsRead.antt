@@ -1,5 +1,5 @@
 -- Internal: no promise cites this file. What the reading of kind 3 answers: its verdict and, if it is accepted, what the marks say.
-use Rattle.laws.specs.Ground.{ℕ, ◌^◌, ◌<◌, List, ◌≡◌}
+use Rattle.std.specs.Prelude.{ℕ, ◌^◌, ◌<◌, List, ◌≡◌}
 use Rattle.rules.specs.declared.answer.Verdict.{Verdict}
 use Rattle.rules.specs.declared.answer.Verdict.TheVariants.{Accepted}
 use Rattle.laws.specs.Bytes.{bit}

@@ -1,5 +1,5 @@
 -- Internal: no promise cites this file. What the layout of a personality holds.
-use Rattle.laws.specs.Ground.{ℕ, ◌≤◌, List, ◌≡◌}
+use Rattle.std.specs.Prelude.{ℕ, ◌≤◌, List, ◌≡◌}
 use Rattle.rules.specs.Personality.{phase_count, group_count, groups_head, conflicts_head, detectors_head, pedestrians_head, early_head, has_early, order_head, has_order}
 use Rattle.read_layout.specs.declared.Layout.{Layout}
 

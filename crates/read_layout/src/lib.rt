@@ -1,8 +1,7 @@
 // The edition of a personality, and the places of its sections.
 #![tactic(auto)]
 
-ghost use Rattle.std.specs.Prelude.{◌+◌, ◌≤◌, ◌≡◌};
-ghost use Rattle.laws.specs.Ground.{if◌then◌else◌};
+ghost use Rattle.std.specs.Prelude.{◌+◌, ◌≤◌, ◌≡◌, if◌then◌else◌};
 ghost use Rattle.rules.specs.Personality.{site_kind, edition_of, body_length, past_section, has_head};
 ghost use Rattle.read_layout.specs.LayoutOf.{LayoutOf};
 

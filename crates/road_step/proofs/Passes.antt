@@ -10,7 +10,7 @@ use lib.Pow.{pow_pos}
 use native.Mathlib.Numerals.{add-one}
 use native.Mathlib.Omega.{arith}
 use Rattle.laws.specs.Bytes.{bit, byte_at}
-use Rattle.laws.specs.Ground.{if◌then◌else◌}
+use Rattle.std.specs.Prelude.{if◌then◌else◌}
 use Rattle.laws.specs.Folds.{any_of, list_of}
 use Rattle.laws.proofs.Folds.{any_same}
 use Rattle.laws.proofs.Lists.{list_same, list_at}

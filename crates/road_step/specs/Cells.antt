@@ -1,5 +1,5 @@
 -- Internal: no promise cites this file. The traffic of the streams in a row of cells, four numbers a stream.
-use Rattle.laws.specs.Ground.{ℕ, ◌+◌, ◌*◌, ◌≤◌, List, ◌≡◌, get_or, set}
+use Rattle.std.specs.Prelude.{ℕ, ◌+◌, ◌*◌, ◌≤◌, List, ◌≡◌, get_or, set}
 use Rattle.laws.specs.Folds.{list_of}
 use Rattle.road_streams.specs.declared.Traffic.{Traffic}
 

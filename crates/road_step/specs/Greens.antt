@@ -1,5 +1,5 @@
 -- Internal: no promise cites this file. The vehicle groups that show green, as a set of bits.
-use Rattle.laws.specs.Ground.{ℕ, ◌^◌, ◌<◌, Bool, false, ◌&&◌, ◌||◌, ◌⊎◌, ◌≡◌, eqb}
+use Rattle.std.specs.Prelude.{ℕ, ◌^◌, ◌<◌, Bool, false, ◌&&◌, ◌||◌, ◌⊎◌, ◌≡◌, eqb}
 use Rattle.laws.specs.Bytes.{bit}
 use Rattle.rules.specs.declared.site.Site.{Site}
 use Rattle.rules.specs.declared.state.Position.{Position}

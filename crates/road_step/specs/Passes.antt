@@ -1,5 +1,5 @@
 -- Internal: no promise cites this file. What the two passes over the streams take for granted and give.
-use Rattle.laws.specs.Ground.{ℕ, ◌*◌, ◌≤◌, ◌<◌, List, ◌≡◌, eqb, length}
+use Rattle.std.specs.Prelude.{ℕ, ◌*◌, ◌≤◌, ◌<◌, List, ◌≡◌, eqb, length}
 use Rattle.laws.specs.Bytes.{bit, byte_at}
 use Rattle.rules.specs.Colours.{green}
 use Rattle.road_streams.specs.declared.Stream.{Stream}

@@ -1,6 +1,6 @@
 -- Request eight of document 02: vehicles on a simulated road. Streams join queues and leave them, and the controller runs from the fresh state on what its
 -- detectors see of the queues. Each step of the controller is a step call of the rules, by the personality's own times.
-use Rattle.laws.specs.Ground.{ℕ, zero, suc, ◌+◌, ◌-◌, ◌*◌, ◌/◌, ◌%◌, ◌^◌, Bool, not, ◌&&◌, ◌||◌, List, ◌++◌, eqb, ltb, length, drop, get_or, replicate, if◌then◌else◌}
+use Rattle.std.specs.Prelude.{ℕ, zero, suc, ◌+◌, ◌-◌, ◌*◌, ◌/◌, ◌%◌, ◌^◌, Bool, not, ◌&&◌, ◌||◌, List, ◌++◌, eqb, ltb, length, drop, get_or, replicate, if◌then◌else◌}
 use Rattle.rules.specs.declared.answer.Verdict.{Verdict}
 use Rattle.rules.specs.declared.answer.Verdict.TheVariants.{Accepted, Refused}
 use Rattle.rules.specs.declared.site.Site.{Site}

@@ -1,8 +1,7 @@
 // Streams of vehicles: what a stream is, which streams a call refuses, and what one step does to the traffic of one stream.
 #![tactic(auto)]
 
-ghost use Rattle.std.specs.Prelude.{ℕ, ◌+◌, ◌*◌, ◌≤◌, ◌<◌, ◌&&◌, ◌≡◌, eqb, length};
-ghost use Rattle.laws.specs.Ground.{if◌then◌else◌};
+ghost use Rattle.std.specs.Prelude.{ℕ, ◌+◌, ◌*◌, ◌≤◌, ◌<◌, ◌&&◌, ◌≡◌, eqb, length, if◌then◌else◌};
 ghost use Rattle.laws.specs.Folds.{any_of};
 ghost use Rattle.rules.specs.Colours.{green};
 ghost use Rattle.rules.specs.Laws.{Sound};

@@ -9,7 +9,7 @@ use lib.Dec.{leb, eqb}
 use native.Mathlib.Omega.{arith}
 use borrow.Author.Tests.{leb-true, eqb-true}
 use Rattle.rules.specs.Types.{One, Two, PhaseTimes, Range, Site, WalkTimes}
-use Rattle.laws.specs.Ground.{if◌then◌else◌}
+use Rattle.std.specs.Prelude.{if◌then◌else◌}
 use Rattle.laws.specs.Folds.{all_of}
 use Rattle.rules.specs.Limits.{limits, limit_of, start_red_setting, phase_settings, walk_settings, early_setting, setting_count}
 use Rattle.rules.specs.Site.{phase_times, walk_times}

@@ -1,7 +1,7 @@
 -- Worked cases of what the calls answer and write: 15 and 14 with their order, the bytes of the colour buffer, and the colours in each interval and
 -- stage. Then the site that a personality describes, the fresh state, the lookup of sections, the waits, the lines of a trace and the codes in a
 -- state. Colours are given as the numbers of document 01: red 0, yellow 1, green 2, flashing red 3.
-use Rattle.laws.specs.Ground.{ℕ, ◌+◌, ◌^◌, false, List, [], ◌∷◌, ◌++◌, replicate, set}
+use Rattle.std.specs.Prelude.{ℕ, ◌+◌, ◌^◌, false, List, [], ◌∷◌, ◌++◌, replicate, set}
 use Rattle.rules.specs.Types.{Stepped, StepRefused, Report, One, Detector, Group, PhaseTimes, Site, Times, WalkTimes, Held, Nothing, Phase, Interval, StartRed, LateStart, MinimumGreen, Running, EarlyCutOff, Yellow, AllRed, KeptState, Movement, Position, Idle, Walk, ClearanceOne, ClearanceTwo}
 use Rattle.rules.specs.State.{idle}
 use Rattle.rules.specs.Timed.{TimedState}

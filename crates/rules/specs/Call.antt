@@ -1,5 +1,5 @@
 -- A step call: from personality bytes, a state, 64 input bits and a colour buffer of any content to the answer and the buffer afterwards.
-use Rattle.laws.specs.Ground.{ℕ, ◌+◌, Bool, not, ◌&&◌, ◌||◌, List, ◌++◌, leb, ltb, drop}
+use Rattle.std.specs.Prelude.{ℕ, ◌+◌, Bool, not, ◌&&◌, ◌||◌, List, ◌++◌, leb, ltb, drop}
 use Rattle.rules.specs.Types.{Outcome, Stepped, StepRefused, Verdict, Accepted, Refused, Site, State}
 use Rattle.laws.specs.Folds.{any_of}
 use Rattle.laws.specs.Bytes.{bit}

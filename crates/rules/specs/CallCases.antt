@@ -3,7 +3,7 @@
 -- parts of a step), AnswerCases (inputs, buffers, colours and other answers) and TimedCases (times in the state). All of them compute in seconds, and each
 -- must-fail edit of the rules makes one of them fail. All other worked cases are in proof_cases, also the starred ones of document 01; some of those
 -- are repeated here, because an edit needs them.
-use Rattle.laws.specs.Ground.{ℕ, ◌^◌, List, [], ◌∷◌, ◌++◌, ◌≡◌, length, replicate, set}
+use Rattle.std.specs.Prelude.{ℕ, ◌^◌, List, [], ◌∷◌, ◌++◌, ◌≡◌, length, replicate, set}
 use Rattle.rules.specs.Types.{Outcome, Stepped, StepRefused, Report, Verdict, Accepted, Refused, Site, Counts, Demands, Held, Nothing, Phase, Interval, Running, EarlyCutOff, Yellow, AllRed, KeptState, Movement, Position, Stage, Walk, ClearanceOne, ClearanceTwo}
 use Rattle.rules.specs.Personality.{group_count, verdict_of}
 use Rattle.rules.specs.Lookup.{lookup_verdict, lookup_report, section_of}

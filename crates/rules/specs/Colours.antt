@@ -1,5 +1,5 @@
 -- The colours that the groups show in a state.
-use Rattle.laws.specs.Ground.{ℕ, ◌+◌, Bool, not, ◌&&◌, ◌||◌, List, ◌++◌, ◌≡◌, eqb, leb, drop, get_or, if◌then◌else◌}
+use Rattle.std.specs.Prelude.{ℕ, ◌+◌, Bool, not, ◌&&◌, ◌||◌, List, ◌++◌, ◌≡◌, eqb, leb, drop, get_or, if◌then◌else◌}
 use Rattle.rules.specs.Types.{Group, PhaseTimes, Site, Times, Held, Interval, StartRed, LateStart, MinimumGreen, Running, EarlyCutOff, Yellow, AllRed, Movement, Position, Stage, Idle, Walk, ClearanceOne, ClearanceTwo, State}
 use Rattle.laws.specs.Folds.{list_of}
 use Rattle.laws.specs.Bytes.{bit}

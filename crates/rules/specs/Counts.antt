@@ -1,5 +1,5 @@
 -- Part 3 of a step: the gap count and the maximum count, in minimum green and running.
-use Rattle.laws.specs.Ground.{ℕ, ◌+◌, ◌-◌, min, Bool, ◌&&◌, ◌||◌, ltb, if◌then◌else◌}
+use Rattle.std.specs.Prelude.{ℕ, ◌+◌, ◌-◌, min, Bool, ◌&&◌, ◌||◌, ltb, if◌then◌else◌}
 use Rattle.rules.specs.Types.{PhaseTimes, Counts, Interval}
 use Rattle.rules.specs.IntervalTable.{is_green, is_running}
 

@@ -1,5 +1,5 @@
 -- Demand 3 as one statement about every run: every list of step and retiming calls on an accepted personality. Some of the calls may be refused.
-use Rattle.laws.specs.Ground.{ℕ, ◌+◌, ◌≤◌, ◌<◌, Bool, true, false, not, ◌&&◌, ◌||◌, List, [], ◌∷◌, ◌++◌, map, ◌≡◌, eqb, ltb, length, get_or, replicate, if◌then◌else◌}
+use Rattle.std.specs.Prelude.{cond, ℕ, ◌+◌, ◌≤◌, ◌<◌, Bool, true, false, not, ◌&&◌, ◌||◌, List, [], ◌∷◌, ◌++◌, map, ◌≡◌, eqb, ltb, length, get_or, replicate, if◌then◌else◌}
 use Rattle.rules.specs.Types.{Verdict, Site, State}
 use Rattle.rules.specs.Verdicts.{◌or_else◌, refuse_if}
 use Rattle.rules.specs.Site.{site_of, phase_times, walk_times, is_pedestrian, movement_of, conflict}
@@ -64,7 +64,7 @@ PedestrianCleared site g since =
     (n : ℕ) × (shown_by g since ≡ replicate (times.first + times.second) flashing ++ replicate n red)
 
 unfoldable pub Cleared : Site → ℕ → Step → List Step → Type 0
-Cleared site g last since = if is_pedestrian site.groups g then PedestrianCleared site g since else VehicleCleared site g last since
+Cleared site g last since = cond (is_pedestrian site.groups g) (PedestrianCleared site g since) (VehicleCleared site g last since)
 
 -- Group g starts a green at `start`, and the conflicting group j was green for the last time after `last`. `by` gives the site whose times its
 -- clearance goes by.

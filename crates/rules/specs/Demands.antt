@@ -1,5 +1,5 @@
 -- Part 1 of a step: demands.
-use Rattle.laws.specs.Ground.{ℕ, ◌+◌, ◌%◌, Bool, not, ◌&&◌, ◌||◌, List, [], ◌∷◌, ◌++◌, eqb, leb, get_or, if◌then◌else◌}
+use Rattle.std.specs.Prelude.{ℕ, ◌+◌, ◌%◌, Bool, not, ◌&&◌, ◌||◌, List, [], ◌∷◌, ◌++◌, eqb, leb, get_or, if◌then◌else◌}
 use Rattle.rules.specs.Types.{Detector, Site, Demands, Held, Nothing, Phase, Movement, Position, State}
 use Rattle.laws.specs.Folds.{any_of, set_of}
 use Rattle.laws.specs.Bytes.{bit}

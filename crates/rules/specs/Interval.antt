@@ -1,5 +1,5 @@
 -- Part 4 of a step: the interval. At most one change is made in a step.
-use Rattle.laws.specs.Ground.{ℕ, Bool, not, ◌&&◌, ◌||◌, List, eqb, leb, get_or, if◌then◌else◌}
+use Rattle.std.specs.Prelude.{ℕ, Bool, not, ◌&&◌, ◌||◌, List, eqb, leb, get_or, if◌then◌else◌}
 use Rattle.rules.specs.Types.{PhaseTimes, Times, Counts, Held, Nothing, Phase, Interval, StartRed, LateStart, MinimumGreen, Running, EarlyCutOff, Yellow, AllRed, Movement, Position, Stage}
 use Rattle.laws.specs.Bytes.{bit}
 use Rattle.laws.specs.Folds.{any_of, set_of}

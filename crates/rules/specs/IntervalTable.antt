@@ -1,5 +1,5 @@
 -- A table row for each interval and each stage, the tests of the rules that read the row, and tests of a phase-or-none value.
-use Rattle.laws.specs.Ground.{ℕ, Bool, true, false, ◌&&◌, List, [], ◌∷◌}
+use Rattle.std.specs.Prelude.{ℕ, Bool, true, false, ◌&&◌, List, [], ◌∷◌}
 use Rattle.rules.specs.Types.{Held, Nothing, Phase, Interval, StartRed, LateStart, MinimumGreen, Running, EarlyCutOff, Yellow, AllRed, IntervalRow, Stage, Idle, Walk, ClearanceOne, ClearanceTwo, StageRow}
 use Rattle.laws.specs.Bytes.{bit}
 

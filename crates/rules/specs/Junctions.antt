@@ -1,5 +1,5 @@
 -- The personalities of the worked cases, section by section.
-use Rattle.laws.specs.Ground.{ℕ, zero, suc, ◌+◌, ◌/◌, ◌%◌, List, [], ◌∷◌, ◌++◌, length, replicate, set}
+use Rattle.std.specs.Prelude.{ℕ, zero, suc, ◌+◌, ◌/◌, ◌%◌, List, [], ◌∷◌, ◌++◌, length, replicate, set}
 
 -- ── Writing bytes ──
 

@@ -1,6 +1,6 @@
 -- The kept set: the phases that have a locked demand or a demanded movement, kept in the state and updated in each step. Calls without lock
 -- count beside it, in their step only.
-use Rattle.laws.specs.Ground.{ℕ, Bool, not, ◌&&◌, ◌||◌, List, eqb}
+use Rattle.std.specs.Prelude.{ℕ, Bool, not, ◌&&◌, ◌||◌, List, eqb}
 use Rattle.rules.specs.Types.{Site, Times, Demands, Held, KeptState, Movement}
 use Rattle.laws.specs.Bytes.{bit}
 use Rattle.laws.specs.Folds.{any_of, set_of}

@@ -1,6 +1,6 @@
 -- Lamps are served, beside demand 3. Part c of the demand speaks of states; these statements speak of the colours that are in the buffer when a
 -- step call returns. They are about every list of step and retiming calls on an accepted personality. Some of the calls may be refused.
-use Rattle.laws.specs.Ground.{ℕ, ◌+◌, ◌<◌, Bool, true, not, ◌&&◌, ◌||◌, List, ◌∷◌, ◌++◌, ◌≡◌, eqb, ltb, take, drop}
+use Rattle.std.specs.Prelude.{ℕ, ◌+◌, ◌<◌, Bool, true, not, ◌&&◌, ◌||◌, List, ◌∷◌, ◌++◌, ◌≡◌, eqb, ltb, take, drop}
 use Rattle.rules.specs.Types.{Site}
 use Rattle.rules.specs.Site.{site_of, phase_times, walk_times, in_phase, is_pedestrian, movement_of}
 use Rattle.rules.specs.Colours.{green}

@@ -1,7 +1,7 @@
 -- Statements that show that the rules fit together: what each table of limits must provide, what is known of an accepted site, which refusals
 -- there are, how long a personality and how large a wait bound can be, what the buffer holds at each point of the pass over the groups, and that
 -- every phase can be called. What needs acceptance is stated over the bytes of an accepted personality.
-use Rattle.laws.specs.Ground.{ℕ, ◌+◌, ◌*◌, ◌%◌, ◌^◌, ◌≤◌, ◌<◌, Bool, true, false, ◌&&◌, ◌||◌, List, ◌⊎◌, ◌≡◌, eqb, leb, length, get_or, if◌then◌else◌}
+use Rattle.std.specs.Prelude.{ℕ, ◌+◌, ◌*◌, ◌%◌, ◌^◌, ◌≤◌, ◌<◌, Bool, true, false, ◌&&◌, ◌||◌, List, ◌⊎◌, ◌≡◌, eqb, leb, length, get_or, if◌then◌else◌}
 use Rattle.rules.specs.Types.{Accepted, Edition, PhaseTimes, Range, Site, Size, Times, WalkTimes, State}
 use Rattle.laws.specs.Folds.{all_of, count_of}
 use Rattle.rules.specs.Limits.{limits, limit_of, start_red_setting, phase_settings, walk_settings, early_setting, setting_count}

@@ -1,6 +1,6 @@
 -- Worked cases of the limits of the time settings, in both editions: with each setting at its lowest value a personality is accepted, and with each at
 -- its highest; one step outside is number 5 at the setting.
-use Rattle.laws.specs.Ground.{ℕ, List, [], ◌∷◌, ◌++◌}
+use Rattle.std.specs.Prelude.{ℕ, List, [], ◌∷◌, ◌++◌}
 use Rattle.rules.specs.Types.{Accepted, Refused}
 use Rattle.rules.specs.Junctions.{put_two, put_twos, put_kind, crossing, cut_offs}
 use Rattle.rules.specs.CallCases.{CallCase, reading, CallHolds, AllHold}

@@ -1,6 +1,6 @@
 -- The tables of the lowest and highest values of all time settings, one for each edition of the limits. The settings are numbered in this
 -- order: start red; L, M, X, G, Y, R of a phase; W, C1, C2 of a movement; early cut-off green of a phase.
-use Rattle.laws.specs.Ground.{ℕ, ◌+◌, Bool, ◌&&◌, List, [], ◌∷◌, leb, get_or, set}
+use Rattle.std.specs.Prelude.{ℕ, ◌+◌, Bool, ◌&&◌, List, [], ◌∷◌, leb, get_or, set}
 use Rattle.rules.specs.Types.{Edition, One, Two, Range}
 
 -- ── The numbers of the settings ──

@@ -1,5 +1,5 @@
 -- The section lookup: the body of a section as a part of the personality, and the number and place of the report.
-use Rattle.laws.specs.Ground.{ℕ, ◌-◌, Bool, not, ◌&&◌, ◌||◌, List, [], ◌∷◌, eqb, leb, take, drop, get_or}
+use Rattle.std.specs.Prelude.{ℕ, ◌-◌, Bool, not, ◌&&◌, ◌||◌, List, [], ◌∷◌, eqb, leb, take, drop, get_or}
 use Rattle.rules.specs.Types.{Verdict, Accepted, Refused, Report}
 use Rattle.rules.specs.Verdicts.{◌or_else◌, refuse_if}
 use Rattle.rules.specs.Personality.{verdict_of, body_at, body_length, edition_of, site_kind, site_head, phases_head, groups_head, conflicts_head, detectors_head, pedestrians_head, early_head, has_early, order_head, has_order}

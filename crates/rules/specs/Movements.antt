@@ -1,6 +1,6 @@
 -- Part 2 of a step: movements. Walk, C1 and C2 follow each other; each ends when its age has reached its setting, and then the movement is
 -- idle. A walk also goes on until it may end.
-use Rattle.laws.specs.Ground.{ℕ, ◌+◌, min, Bool, true, ◌&&◌, ◌||◌, List, eqb, leb, get_or, if◌then◌else◌}
+use Rattle.std.specs.Prelude.{ℕ, ◌+◌, min, Bool, true, ◌&&◌, ◌||◌, List, eqb, leb, get_or, if◌then◌else◌}
 use Rattle.rules.specs.Types.{PhaseTimes, Times, WalkTimes, Counts, Interval, Movement, Stage, Idle, Walk, ClearanceOne, ClearanceTwo}
 use Rattle.laws.specs.Folds.{list_of}
 use Rattle.rules.specs.Site.{walk_times}

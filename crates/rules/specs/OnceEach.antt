@@ -1,5 +1,5 @@
 -- Once each while you wait, beside demand 3: from the step that registers a demand until it is met, no phase starts twice.
-use Rattle.laws.specs.Ground.{ℕ, ◌+◌, ◌≤◌, ◌<◌, Bool, true, not, ◌&&◌, ◌||◌, List, [], ◌∷◌, ◌++◌, ◌≡◌, eqb, if◌then◌else◌}
+use Rattle.std.specs.Prelude.{ℕ, ◌+◌, ◌≤◌, ◌<◌, Bool, true, not, ◌&&◌, ◌||◌, List, [], ◌∷◌, ◌++◌, ◌≡◌, eqb, if◌then◌else◌}
 use Rattle.rules.specs.Types.{Site, Interval}
 use Rattle.rules.specs.Site.{site_of, crosses}
 use Rattle.rules.specs.IntervalTable.{is_running, is_leaving, is_before_start}

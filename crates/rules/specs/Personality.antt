@@ -1,5 +1,5 @@
 -- The sections of a personality and their checks in order: numbers 1 to 12, 17, 18 and 21, each with its place. A place is a byte offset.
-use Rattle.laws.specs.Ground.{ℕ, ◌+◌, ◌*◌, ◌/◌, ◌%◌, ◌^◌, Bool, not, ◌&&◌, ◌||◌, List, eqb, leb, ltb, length, if◌then◌else◌}
+use Rattle.std.specs.Prelude.{ℕ, ◌+◌, ◌*◌, ◌/◌, ◌%◌, ◌^◌, Bool, not, ◌&&◌, ◌||◌, List, eqb, leb, ltb, length, if◌then◌else◌}
 use Rattle.rules.specs.Types.{Verdict, Accepted, Edition, One, Two}
 use Rattle.laws.specs.Folds.{any_of, count_of}
 use Rattle.laws.specs.Bytes.{byte_at, two_at, four_at, bit}

@@ -1,6 +1,6 @@
 -- A wait for every approach and every crossing, beside demand 3: statements about every list of step and retiming calls on an accepted
 -- personality. Some of the calls may be refused.
-use Rattle.laws.specs.Ground.{ℕ, ◌+◌, ◌≤◌, ◌<◌, max, Bool, true, false, not, ◌&&◌, ◌||◌, List, [], ◌∷◌, ◌++◌, ◌≡◌, eqb, length}
+use Rattle.std.specs.Prelude.{ℕ, ◌+◌, ◌≤◌, ◌<◌, max, Bool, true, false, not, ◌&&◌, ◌||◌, List, [], ◌∷◌, ◌++◌, ◌≡◌, eqb, length}
 use Rattle.rules.specs.Types.{Accepted, Site, Times, State}
 use Rattle.rules.specs.Personality.{verdict_of}
 use Rattle.rules.specs.Site.{site_of, phase_times, crosses}

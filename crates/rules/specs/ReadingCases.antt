@@ -1,6 +1,6 @@
 -- Worked cases of reading a personality: each number of document 01's table of checks, and 17, 18 and 21, with its place; both sides of each limit
 -- that is not a time; and of two faults the one that is checked first. The limits of the times are in LimitCases.
-use Rattle.laws.specs.Ground.{ℕ, List, [], ◌∷◌, ◌++◌, take, set}
+use Rattle.std.specs.Prelude.{ℕ, List, [], ◌∷◌, ◌++◌, take, set}
 use Rattle.rules.specs.Types.{Accepted, Refused}
 use Rattle.rules.specs.Junctions.{junction, put_two, put_kind, crossing, three_phases, overlap, one_group, seven_phases, eight_crossings, wide, cut_offs, turning, turning_both, ordered}
 use Rattle.rules.specs.CallCases.{CallCase, reading, CallHolds, AllHold}

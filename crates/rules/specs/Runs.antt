@@ -1,5 +1,5 @@
 -- Runs: lists of step and retiming calls on one personality, and how a controller takes them. Some of the calls may be refused.
-use Rattle.laws.specs.Ground.{ℕ, Bool, not, ◌&&◌, List, [], ◌∷◌, ◌≡◌, length}
+use Rattle.std.specs.Prelude.{ℕ, Bool, not, ◌&&◌, List, [], ◌∷◌, ◌≡◌, length}
 use Rattle.rules.specs.Types.{Outcome, Stepped, StepRefused, Verdict, Accepted, Site, Times, State}
 use Rattle.rules.specs.Personality.{verdict_of}
 use Rattle.rules.specs.Site.{site_of, times_in}

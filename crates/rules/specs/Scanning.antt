@@ -1,6 +1,6 @@
 -- The rules without the kept set: each step finds the demanded phases by a scan. And the statements that the kept set equals this scan and
 -- changes nothing else.
-use Rattle.laws.specs.Ground.{ℕ, ◌<◌, Bool, true, ◌&&◌, List, ◌≡◌, if◌then◌else◌}
+use Rattle.std.specs.Prelude.{ℕ, ◌<◌, Bool, true, ◌&&◌, List, ◌≡◌, if◌then◌else◌}
 use Rattle.rules.specs.Types.{Accepted, Site, Held, KeptState, State}
 use Rattle.rules.specs.Personality.{verdict_of}
 use Rattle.rules.specs.Site.{site_of}

@@ -1,5 +1,5 @@
 -- The site that an accepted personality describes.
-use Rattle.laws.specs.Ground.{ℕ, ◌+◌, Bool, List, eqb, get_or, if◌then◌else◌}
+use Rattle.std.specs.Prelude.{ℕ, ◌+◌, Bool, List, eqb, get_or, if◌then◌else◌}
 use Rattle.rules.specs.Types.{Detector, Group, PhaseTimes, Site, Times, WalkTimes}
 use Rattle.laws.specs.Folds.{list_of, row_of, count_of, indices_of}
 use Rattle.laws.specs.Bytes.{two_at, bit}

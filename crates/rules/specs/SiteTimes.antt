@@ -1,5 +1,5 @@
 -- The times of a site as a value that may be replaced: the site with other times, and the times that a site may have.
-use Rattle.laws.specs.Ground.{ℕ, suc, Bool, true, ◌&&◌, ◌||◌, List, [], ◌∷◌, eqb, ltb, replicate, if◌then◌else◌}
+use Rattle.std.specs.Prelude.{ℕ, suc, Bool, true, ◌&&◌, ◌||◌, List, [], ◌∷◌, eqb, ltb, replicate, if◌then◌else◌}
 use Rattle.rules.specs.Types.{PhaseTimes, Range, Site, Times, WalkTimes}
 use Rattle.laws.specs.Folds.{all_of}
 use Rattle.rules.specs.Limits.{limits, within, start_red_setting, phase_settings, walk_settings, early_setting}

@@ -1,5 +1,5 @@
 -- The fresh state, and the valid states of a site, clause by clause.
-use Rattle.laws.specs.Ground.{ℕ, Bool, true, not, ◌&&◌, ◌||◌, List, eqb, leb, ltb, get_or, replicate}
+use Rattle.std.specs.Prelude.{ℕ, Bool, true, not, ◌&&◌, ◌||◌, List, eqb, leb, ltb, get_or, replicate}
 use Rattle.rules.specs.Types.{PhaseTimes, Site, Counts, Demands, Held, Nothing, Phase, Interval, StartRed, Movement, Position, Idle, State}
 use Rattle.laws.specs.Bytes.{bit}
 use Rattle.laws.specs.Folds.{all_of}

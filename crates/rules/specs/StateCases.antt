@@ -1,6 +1,6 @@
 -- Worked cases of valid states, clause by clause of document 01's list and of request two: for each clause a state that is just valid, whose step is
 -- accepted, and one just past it, which is 13. The times in a state are in TimedCases.
-use Rattle.laws.specs.Ground.{ℕ, List, [], ◌∷◌, ◌++◌, replicate}
+use Rattle.std.specs.Prelude.{ℕ, List, [], ◌∷◌, ◌++◌, replicate}
 use Rattle.rules.specs.Types.{Held, Nothing, Phase, Interval, StartRed, LateStart, MinimumGreen, Running, EarlyCutOff, Yellow, AllRed, KeptState, Movement, Position, Idle, Walk, ClearanceOne, ClearanceTwo}
 use Rattle.rules.specs.State.{idle}
 use Rattle.rules.specs.Junctions.{junction, put_two, put_twos, crossing, seven_phases, eight_crossings, cut_offs}

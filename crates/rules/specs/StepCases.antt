@@ -1,6 +1,6 @@
 -- Worked cases of one step, part by part: demands, movements and counts, the interval, walks. Each setting is tried one step before it is reached and
 -- when it is reached.
-use Rattle.laws.specs.Ground.{ℕ, ◌^◌, List, [], ◌∷◌, ◌++◌, replicate, take}
+use Rattle.std.specs.Prelude.{ℕ, ◌^◌, List, [], ◌∷◌, ◌++◌, replicate, take}
 use Rattle.rules.specs.Types.{Counts, Demands, Held, Nothing, Phase, Interval, StartRed, LateStart, MinimumGreen, Running, EarlyCutOff, Yellow, AllRed, KeptState, Movement, Position, Walk, ClearanceOne, ClearanceTwo}
 use Rattle.rules.specs.State.{idle}
 use Rattle.rules.specs.Junctions.{junction, section, put_two, crossing, three_phases, overlap, seven_phases, eight_crossings, cut_offs, turning, ordered}

@@ -1,5 +1,5 @@
 -- Demand 3 for lists of step calls alone. The personality's own times rule in such a run, and no step is a change. It follows from demand 3.
-use Rattle.laws.specs.Ground.{ℕ, ◌≤◌, ◌<◌, Bool, true, List, ◌∷◌, ◌++◌, map, ◌≡◌, length, take}
+use Rattle.std.specs.Prelude.{ℕ, ◌≤◌, ◌<◌, Bool, true, List, ◌∷◌, ◌++◌, map, ◌≡◌, length, take}
 use Rattle.rules.specs.Types.{Accepted, Site}
 use Rattle.rules.specs.Site.{site_of}
 use Rattle.rules.specs.WaitBound.{wait_bound}

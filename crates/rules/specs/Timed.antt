@@ -1,6 +1,6 @@
 -- New times while running. The state has the times that rule, and beside them times that may wait. Waiting times rule from the next start
 -- of a phase on.
-use Rattle.laws.specs.Ground.{ℕ, Bool, false, ◌&&◌, if◌then◌else◌}
+use Rattle.std.specs.Prelude.{ℕ, Bool, false, ◌&&◌, if◌then◌else◌}
 use Rattle.rules.specs.Types.{Site, Times, KeptState, State}
 use Rattle.rules.specs.Site.{phase_times}
 use Rattle.rules.specs.SiteTimes.{under, no_times, admitted, blank}

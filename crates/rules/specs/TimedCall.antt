@@ -1,5 +1,5 @@
 -- The calls on a timed state: the step call, and the retiming call, which hands over the times of a second personality.
-use Rattle.laws.specs.Ground.{ℕ, Bool, true, not, ◌&&◌, ◌||◌, List, eqb, leb, ltb, length}
+use Rattle.std.specs.Prelude.{ℕ, Bool, true, not, ◌&&◌, ◌||◌, List, eqb, leb, ltb, length}
 use Rattle.rules.specs.Types.{Verdict, Site, Times}
 use Rattle.laws.specs.Bytes.{byte_at}
 use Rattle.laws.specs.Folds.{any_of}

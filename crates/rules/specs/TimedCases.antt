@@ -1,6 +1,6 @@
 -- Worked cases of one call on a timed state, as one list with one statement: every case holds. Each can be checked by hand with the papers, and
 -- each must-fail edit of the rules about times makes one of them fail. Runs with retiming calls among them are in proof_cases.
-use Rattle.laws.specs.Ground.{ℕ, true, false, List, [], ◌∷◌, ◌++◌, replicate, set}
+use Rattle.std.specs.Prelude.{ℕ, true, false, List, [], ◌∷◌, ◌++◌, replicate, set}
 use Rattle.rules.specs.Types.{Stepped, StepRefused, Accepted, Refused, PhaseTimes, Times, Nothing, Phase, Interval, StartRed, LateStart, MinimumGreen, Yellow, AllRed, KeptState, Walk, ClearanceTwo}
 use Rattle.rules.specs.Site.{no_phase_times, no_walk_times, times_in}
 use Rattle.rules.specs.State.{idle}

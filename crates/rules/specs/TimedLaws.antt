@@ -1,6 +1,6 @@
 -- Statements about timed states: what a step with waiting times does, that valid states stay valid, that the kept set changes nothing else, and
 -- which times are admitted and which personalities may hand them over. All are over the bytes of an accepted personality.
-use Rattle.laws.specs.Ground.{ℕ, ◌-◌, ◌/◌, ◌%◌, ◌<◌, Bool, true, false, not, ◌&&◌, ◌||◌, List, [], ◌∷◌, ◌⊎◌, ◌≡◌, eqb, length, get_or, replicate, if◌then◌else◌}
+use Rattle.std.specs.Prelude.{ℕ, ◌-◌, ◌/◌, ◌%◌, ◌<◌, Bool, true, false, not, ◌&&◌, ◌||◌, List, [], ◌∷◌, ◌⊎◌, ◌≡◌, eqb, length, get_or, replicate, if◌then◌else◌}
 use Rattle.rules.specs.Types.{Accepted, Refused, PhaseTimes, Times, WalkTimes, KeptState, State}
 use Rattle.laws.specs.Bytes.{byte_at}
 use Rattle.laws.specs.Folds.{list_of}

@@ -1,6 +1,6 @@
 -- The trace program: all that it prints, from all that it reads. Its input has three parts: two bytes with a length, a personality of that length,
 -- and 8 bytes for each step.
-use Rattle.laws.specs.Ground.{ℕ, zero, suc, ◌+◌, Bool, true, false, List, [], ◌++◌, eqb, ltb, length, take, drop, replicate, if◌then◌else◌}
+use Rattle.std.specs.Prelude.{ℕ, zero, suc, ◌+◌, Bool, true, false, List, [], ◌++◌, eqb, ltb, length, take, drop, replicate, if◌then◌else◌}
 use Rattle.laws.specs.Bytes.{two_at, eight_at}
 use Rattle.rules.specs.Types.{Outcome, Stepped, StepRefused, Verdict, Accepted, Refused}
 use Rattle.rules.specs.Personality.{group_count, verdict_of}

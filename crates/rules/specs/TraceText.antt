@@ -1,5 +1,5 @@
 -- The lines that the trace program prints, in ASCII: the header, the line of a step, and the line of a refusal.
-use Rattle.laws.specs.Ground.{ℕ, List, [], ◌∷◌, ◌++◌, map, get_or}
+use Rattle.std.specs.Prelude.{ℕ, List, [], ◌∷◌, ◌++◌, map, get_or}
 use Rattle.laws.specs.Ascii.{ascii}
 use Rattle.laws.specs.Decimal.{decimal}
 use Rattle.rules.specs.Types.{Position}

@@ -1,5 +1,5 @@
 -- A verdict is acceptance, or a refusal with its number and place. Of several checks in order, the first refusal is the verdict.
-use Rattle.laws.specs.Ground.{ℕ, zero, suc, Bool, if◌then◌else◌}
+use Rattle.std.specs.Prelude.{ℕ, zero, suc, Bool, if◌then◌else◌}
 use Rattle.rules.specs.Types.{Verdict, Accepted, Refused}
 
 infixr 5 ◌or_else◌

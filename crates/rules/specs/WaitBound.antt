@@ -1,5 +1,5 @@
 -- The wait bound: start red plus the sum over the phases of L + M + X + 2 × (A + E + Y + R + C). E is the time of early cut-off green.
-use Rattle.laws.specs.Ground.{ℕ, ◌+◌, ◌*◌, List, get_or, if◌then◌else◌}
+use Rattle.std.specs.Prelude.{ℕ, ◌+◌, ◌*◌, List, get_or, if◌then◌else◌}
 use Rattle.rules.specs.Types.{PhaseTimes, Site, WalkTimes}
 use Rattle.laws.specs.Folds.{sum_of, greatest_of}
 use Rattle.rules.specs.Site.{no_walk_times, phase_times, crosses}

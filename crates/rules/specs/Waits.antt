@@ -1,6 +1,6 @@
 -- A wait for each phase and each movement, by the times alone: what may be under way when the demand comes, then one turn of every other phase,
 -- then the own late start. They stand beside the wait bound, which is one number for the whole site.
-use Rattle.laws.specs.Ground.{ℕ, ◌+◌, max, Bool, true, not, ◌&&◌, List, ◌++◌, eqb, if◌then◌else◌}
+use Rattle.std.specs.Prelude.{ℕ, ◌+◌, max, Bool, true, not, ◌&&◌, List, ◌++◌, eqb, if◌then◌else◌}
 use Rattle.rules.specs.Types.{PhaseTimes, Site, WalkTimes}
 use Rattle.laws.specs.Folds.{sum_of, greatest_of, list_of}
 use Rattle.rules.specs.Site.{phase_times, walk_times, crosses, ring}

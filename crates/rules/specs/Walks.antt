@@ -1,5 +1,5 @@
 -- Part 5 of a step: walks.
-use Rattle.laws.specs.Ground.{ℕ, Bool, not, ◌&&◌, ◌||◌, List, get_or, if◌then◌else◌}
+use Rattle.std.specs.Prelude.{ℕ, Bool, not, ◌&&◌, ◌||◌, List, get_or, if◌then◌else◌}
 use Rattle.rules.specs.Types.{Movement, Position, Walk}
 use Rattle.laws.specs.Bytes.{bit}
 use Rattle.laws.specs.Folds.{list_of, set_of}

@@ -1,5 +1,5 @@
 -- The parts of a trace as the program computes them: by the calls of the board interface, on the bytes of a state.
-use Rattle.laws.specs.Ground.{ℕ, ◌/◌, ◌%◌, ◌&&◌, List, eqb, ltb, length, take, replicate, if◌then◌else◌}
+use Rattle.std.specs.Prelude.{ℕ, ◌/◌, ◌%◌, ◌&&◌, List, eqb, ltb, length, take, replicate, if◌then◌else◌}
 use Rattle.laws.specs.Bytes.{eight_at}
 use Rattle.rules.specs.Personality.{group_count}
 use Rattle.rules.specs.TraceText.{step_line}

@@ -1,5 +1,5 @@
 -- What a function gives that prints a part: its text at the start of a buffer, and whether the trace goes on.
-use Rattle.laws.specs.Ground.{ℕ, Bool, List, ◌≡◌}
+use Rattle.std.specs.Prelude.{ℕ, Bool, List, ◌≡◌}
 use Rattle.rules.specs.Trace.{Part}
 use Rattle.run_text.specs.First.{First}
 

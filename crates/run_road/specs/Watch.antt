@@ -1,5 +1,5 @@
 -- Internal: no promise cites this file. What the program's functions take for granted: lengths, and a road that may start.
-use Rattle.laws.specs.Ground.{ℕ, ◌*◌, ◌≤◌, List, length}
+use Rattle.std.specs.Prelude.{ℕ, ◌*◌, ◌≤◌, List, length}
 use Rattle.rules.specs.declared.site.Site.{Site}
 use Rattle.road_streams.specs.Road.{stream_count}
 use Rattle.road_run.specs.Whole.{OfPersonality}

@@ -1,5 +1,5 @@
 -- A text at the start of a buffer: the length of the text, which fits, and the other bytes unchanged.
-use Rattle.laws.specs.Ground.{ℕ, ◌≤◌, List, ◌++◌, ◌≡◌, length, drop}
+use Rattle.std.specs.Prelude.{ℕ, ◌≤◌, List, ◌++◌, ◌≡◌, length, drop}
 
 pub record First (text old new : List ℕ) (count : ℕ) : Type 0 where
   pub size : count ≡ length text

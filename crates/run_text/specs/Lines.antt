@@ -1,5 +1,5 @@
 -- Internal: no promise cites this file. What comes out of a trace: a buffer with a line's text at its start.
-use Rattle.laws.specs.Ground.{ℕ, ◌+◌, ◌≤◌, List, [], ◌∷◌, ◌++◌, map, ◌≡◌, leb, length, take, drop, if◌then◌else◌}
+use Rattle.std.specs.Prelude.{ℕ, ◌+◌, ◌≤◌, List, [], ◌∷◌, ◌++◌, map, ◌≡◌, leb, length, take, drop, if◌then◌else◌}
 use Rattle.rules.specs.declared.state.Position.{Position}
 use Rattle.rules.specs.IntervalTable.{letter_of}
 use Rattle.rules.specs.TraceText.{phase_letter, colour_letter, line_tail}

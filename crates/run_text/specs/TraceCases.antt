@@ -1,5 +1,5 @@
 -- Worked cases of the whole output of the trace program, from its whole input, as one list with one statement: every case holds.
-use Rattle.laws.specs.Ground.{ℕ, List, [], ◌∷◌, ◌++◌, ◌≡◌, length, take, replicate}
+use Rattle.std.specs.Prelude.{ℕ, List, [], ◌∷◌, ◌++◌, ◌≡◌, length, take, replicate}
 use Rattle.laws.specs.Ascii.{ascii}
 use Prim.Native.String.{String}
 use Rattle.rules.specs.Junctions.{two, junction, put_two}

@@ -5,7 +5,7 @@ use mathlib.Core.Bool.{Bool, true, false}
 use mathlib.Core.Logic.{⊎_elim}
 use mathlib.Core.Path.{◌≡◌, refl, sym}
 use native.Mathlib.Nat.{add-zero, add-suc, suc-add, eq-or-lt_of_le, le_antisymm}
-use Rattle.laws.specs.Ground.{if◌then◌else◌}
+use Rattle.std.specs.Prelude.{if◌then◌else◌}
 use Rattle.laws.proofs.Booleans.{never_both}
 use Rattle.laws.proofs.Indices.{below-or-past, below_more, fails-to}
 use Rattle.sheet_settings.specs.Extremes.{Largest, Smallest, largest_to, smallest_from}

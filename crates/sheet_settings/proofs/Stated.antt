@@ -10,7 +10,7 @@ use lib.IntN.{pos}
 use lib.Ieee.{Float, fin, binary64, le, mul, of_int}
 use lib.Ieee.Positive.{num, den, den_pos}
 use borrow.Author.Tests.{leb-true, le-leb}
-use Rattle.laws.specs.Ground.{if◌then◌else◌}
+use Rattle.std.specs.Prelude.{if◌then◌else◌}
 use Rattle.rules.specs.declared.site.Edition.{Edition}
 use Rattle.rules.specs.declared.site.Edition.TheVariants.{One, Two}
 use Rattle.rules.specs.Limits.{limits, limit_of, within, phase_settings}

@@ -1,5 +1,5 @@
 -- The largest and the smallest whole number that passes a test: what they are, and how they are found.
-use Rattle.laws.specs.Ground.{ℕ, zero, suc, ◌<◌, Bool, true, false, ◌≡◌, if◌then◌else◌}
+use Rattle.std.specs.Prelude.{ℕ, zero, suc, ◌<◌, Bool, true, false, ◌≡◌, if◌then◌else◌}
 
 -- ── What they are ──
 

@@ -1,7 +1,6 @@
 -- Request six of document 02: the settings of a site sheet, by source document 002. Metres are binary64 values; a whole number beside
 -- them is that number, unrounded.
-use Rattle.laws.specs.Ground.{ℕ, ◌+◌, ◌*◌, Bool, true, false, ◌&&◌, ◌≡◌, leb, if◌then◌else◌}
-use Rattle.std.specs.Prelude.{pos, Float}
+use Rattle.std.specs.Prelude.{ℕ, ◌+◌, ◌*◌, Bool, true, false, ◌&&◌, ◌≡◌, leb, if◌then◌else◌, pos, Float}
 use Rattle.std.specs.Float.{fin, binary64}
 use Rattle.std.specs.Float.Ieee.{le, mul}
 use Rattle.rules.specs.declared.answer.Report.{Report}

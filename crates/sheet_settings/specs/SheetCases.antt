@@ -1,6 +1,5 @@
 -- Worked cases, in a single list with one statement: each of them holds.
-use Rattle.laws.specs.Ground.{ℕ, List, [], ◌∷◌, ◌≡◌}
-use Rattle.std.specs.Prelude.{pos, Float}
+use Rattle.std.specs.Prelude.{ℕ, List, [], ◌∷◌, ◌≡◌, pos, Float}
 use Rattle.std.specs.Float.{binary64}
 use Rattle.std.specs.Float.Ieee.{of_int, of_bits}
 use Rattle.rules.specs.CallCases.{AllHold}

@@ -1,6 +1,5 @@
 -- Internal: the table by rows and columns. Row 0 is 40 km/h, column 0 is −10 percent.
-use Rattle.laws.specs.Ground.{ℕ, suc, ◌+◌, ◌-◌, ◌*◌, ◌/◌, ◌%◌, max, List}
-use Rattle.std.specs.Prelude.{ℤ, pos, negsuc}
+use Rattle.std.specs.Prelude.{ℕ, suc, ◌+◌, ◌-◌, ◌*◌, ◌/◌, ◌%◌, max, List, ℤ, pos, negsuc}
 use Rattle.laws.specs.Folds.{list_of}
 
 -- the grade, counted from −10

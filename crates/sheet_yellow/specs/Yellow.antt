@@ -1,7 +1,6 @@
 -- Request nine of document 02: the yellow time by speed and grade. The speed is in whole km/h, the grade in whole percent, uphill
 -- positive.
-use Rattle.laws.specs.Ground.{ℕ, ◌+◌, ◌-◌, ◌*◌, max, Bool, true, false, ◌&&◌, List, ◌≡◌, leb, length, get_or, if◌then◌else◌}
-use Rattle.std.specs.Prelude.{ℤ, pos, negsuc, nat_abs, ◌+ℤ◌, ◌*ℤ◌}
+use Rattle.std.specs.Prelude.{ℕ, ◌+◌, ◌-◌, ◌*◌, max, Bool, true, false, ◌&&◌, List, ◌≡◌, leb, length, get_or, if◌then◌else◌, ℤ, pos, negsuc, nat_abs, ◌+ℤ◌, ◌*ℤ◌}
 use Rattle.std.specs.Int.Signed.{le_z}
 use Rattle.rules.specs.declared.answer.Report.{Report}
 use Rattle.sheet_settings.specs.Extremes.{Smallest, smallest_from}

@@ -1,6 +1,5 @@
 -- Worked cases, in a single list with one statement: each of them holds.
-use Rattle.laws.specs.Ground.{ℕ, List, [], ◌∷◌, ◌≡◌}
-use Rattle.std.specs.Prelude.{ℤ, pos, negsuc}
+use Rattle.std.specs.Prelude.{ℕ, List, [], ◌∷◌, ◌≡◌, ℤ, pos, negsuc}
 use Rattle.rules.specs.CallCases.{AllHold}
 use Rattle.sheet_yellow.specs.declared.Answer.{Answer}
 use Rattle.sheet_yellow.specs.declared.Answer.TheVariants.{Yellow, Refused}

@@ -1,6 +1,5 @@
 -- What holds of all yellow times of the table.
-use Rattle.laws.specs.Ground.{ℕ, ◌+◌, ◌≤◌, true, ◌≡◌}
-use Rattle.std.specs.Prelude.{ℤ}
+use Rattle.std.specs.Prelude.{ℕ, ◌+◌, ◌≤◌, true, ◌≡◌, ℤ}
 use Rattle.std.specs.Int.Signed.{le_z}
 use Rattle.rules.specs.declared.site.Edition.{Edition}
 use Rattle.rules.specs.Limits.{limits, within, phase_settings}

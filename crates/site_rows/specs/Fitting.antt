@@ -1,6 +1,6 @@
 -- Internal: no promise cites this file. What the decoders require of the bytes and their layout, and what one pass over the groups
 -- finds.
-use Rattle.laws.specs.Ground.{ℕ, ◌+◌, ◌*◌, ◌≤◌, true, List, ◌≡◌, length}
+use Rattle.std.specs.Prelude.{ℕ, ◌+◌, ◌*◌, ◌≤◌, true, List, ◌≡◌, length}
 use Rattle.rules.specs.Personality.{body_at, detector_count, movement_count}
 use Rattle.rules.specs.Site.{site_of}
 use Rattle.read_layout.specs.declared.Layout.{Layout}

@@ -1,5 +1,5 @@
 -- The layout of a state in bytes: the parts stand one after the other.
-use Rattle.laws.specs.Ground.{ℕ, List}
+use Rattle.std.specs.Prelude.{ℕ, List}
 use Rattle.rules.specs.declared.state.Counts.{Counts}
 use Rattle.rules.specs.declared.state.Demands.{Demands}
 use Rattle.rules.specs.declared.state.Interval.{Interval}

@@ -1,5 +1,5 @@
 -- Two states, byte by byte.
-use Rattle.laws.specs.Ground.{◌+◌, [], ◌∷◌, ◌≡◌}
+use Rattle.std.specs.Prelude.{◌+◌, [], ◌∷◌, ◌≡◌}
 use Rattle.rules.specs.declared.state.Held.TheVariants.{Phase}
 use Rattle.rules.specs.declared.state.Interval.TheVariants.{Yellow}
 use Rattle.rules.specs.declared.state.KeptState.{KeptState}

@@ -15,7 +15,7 @@ use Rattle.rules.specs.declared.state.Held.{Held}
 use Rattle.rules.specs.declared.state.Held.TheVariants.{Nothing, Phase}
 use Rattle.laws.specs.Bytes.{byte_at, two_at}
 use Rattle.rules.specs.IntervalTable.{is_held, phase_held}
-use Rattle.laws.specs.Ground.{if◌then◌else◌}
+use Rattle.std.specs.Prelude.{if◌then◌else◌}
 use Rattle.laws.specs.Folds.{all_of, list_of}
 use Rattle.laws.proofs.Booleans.{decided, and_left, and_right, and_both, or_cases}
 use Rattle.laws.proofs.Folds.{all-at}

@@ -1,6 +1,6 @@
 -- How values are written in bytes. A form says how many bytes a value has, which bytes they are, whether the bytes at a place are such a
 -- value, and which value they are. `fits` says which values the type of the machine has. Numbers are little-endian.
-use Rattle.laws.specs.Ground.{ℕ, zero, suc, ◌+◌, ◌*◌, ◌/◌, ◌%◌, ◌<◌, Bool, true, ◌&&◌, ◌||◌, List, [], ◌∷◌, ◌++◌, ◌≡◌, eqb, ltb, length, get_or, if◌then◌else◌}
+use Rattle.std.specs.Prelude.{ℕ, zero, suc, ◌+◌, ◌*◌, ◌/◌, ◌%◌, ◌<◌, Bool, true, ◌&&◌, ◌||◌, List, [], ◌∷◌, ◌++◌, ◌≡◌, eqb, ltb, length, get_or, if◌then◌else◌}
 use Rattle.rules.specs.declared.state.Held.{Held}
 use Rattle.rules.specs.declared.state.Held.TheVariants.{Nothing, Phase}
 use Rattle.laws.specs.Bytes.{byte_at, two_at}

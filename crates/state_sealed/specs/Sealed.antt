@@ -5,7 +5,7 @@
 --   7 to 342    the state
 --   343 to 346  the check value of all bytes before
 -- Numbers are little-endian. Check values find damage; they are no protection against intent.
-use Rattle.laws.specs.Ground.{ℕ, ◌+◌, Bool, not, ◌&&◌, ◌||◌, List, ◌∷◌, ◌++◌, eqb, ltb, length, take, drop}
+use Rattle.std.specs.Prelude.{ℕ, ◌+◌, Bool, not, ◌&&◌, ◌||◌, List, ◌∷◌, ◌++◌, eqb, ltb, length, take, drop}
 use Rattle.laws.specs.Bytes.{byte_at, two_at, four_at}
 use Rattle.rules.specs.Junctions.{two, four}
 use Rattle.base_crc.specs.Crc.{crc}

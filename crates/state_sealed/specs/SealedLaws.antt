@@ -1,6 +1,6 @@
 -- What holds of sealed records. A record reads back as it was written, and damage and another personality are found, if what differs is within 32
 -- neighbouring bits, and so within four neighbouring bytes. A longer difference can be missed; of all records 1 in 2³² has the right check value.
-use Rattle.laws.specs.Ground.{ℕ, ◌<◌, true, false, List, ◌≡◌, length}
+use Rattle.std.specs.Prelude.{ℕ, ◌<◌, true, false, List, ◌≡◌, length}
 use Rattle.base_crc.specs.CrcLaws.{SameAround}
 use Rattle.state_forms.specs.Forms.{AreBytes}
 use Rattle.state_timed.specs.TimedLayout.{timed_bytes}

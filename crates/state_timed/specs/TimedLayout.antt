@@ -1,7 +1,7 @@
 -- The layout of a timed state in 336 bytes: the state, the ruling times, a flag that is 1 if times wait and else 0, and the waiting times.
 -- Another flag is no state. If none wait, whether every waiting time is 0 is a test of the valid state (`waiting_valid`) and not of the bytes;
 -- both are 13.
-use Rattle.laws.specs.Ground.{ℕ, Bool, true, false, ◌&&◌, List, [], ◌∷◌, eqb, length, if◌then◌else◌}
+use Rattle.std.specs.Prelude.{ℕ, Bool, true, false, ◌&&◌, List, [], ◌∷◌, eqb, length, if◌then◌else◌}
 use Rattle.rules.specs.declared.site.Times.{Times}
 use Rattle.rules.specs.declared.state.KeptState.{KeptState}
 use Rattle.rules.specs.Timed.{TimedState, Waiting, kept_of, none_waiting}

@@ -1,6 +1,6 @@
 -- The round trips of a timed state and its bytes, stated: writing and reading undo each other, on the states that the machine's types have
 -- and on the bytes that are a state. Below them, a state byte by byte.
-use Rattle.laws.specs.Ground.{ℕ, true, List, ◌∷◌, ◌++◌, ◌≡◌, length, drop, replicate}
+use Rattle.std.specs.Prelude.{ℕ, true, List, ◌∷◌, ◌++◌, ◌≡◌, length, drop, replicate}
 use Rattle.rules.specs.declared.site.Times.{Times}
 use Rattle.rules.specs.Kept.{fresh_kept}
 use Rattle.rules.specs.Site.{no_phase_times, no_walk_times}

@@ -1,6 +1,6 @@
 -- Internal: no promise cites this file. Rows of time records in bytes. A personality and a state have records of the same form, at different places; a site has as many of them as
 -- it has phases and movements.
-use Rattle.laws.specs.Ground.{ℕ, ◌+◌, ◌*◌, Bool, List, if◌then◌else◌}
+use Rattle.std.specs.Prelude.{ℕ, ◌+◌, ◌*◌, Bool, List, if◌then◌else◌}
 use Rattle.rules.specs.declared.site.PhaseTimes.{PhaseTimes}
 use Rattle.rules.specs.declared.site.Times.{Times}
 use Rattle.rules.specs.declared.site.WalkTimes.{WalkTimes}

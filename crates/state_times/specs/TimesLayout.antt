@@ -1,5 +1,5 @@
 -- The layout of times in 148 bytes. Each time has two bytes. Any 148 bytes are times.
-use Rattle.laws.specs.Ground.{ℕ, List, map, get_or}
+use Rattle.std.specs.Prelude.{ℕ, List, map, get_or}
 use Rattle.rules.specs.declared.site.PhaseTimes.{PhaseTimes}
 use Rattle.rules.specs.declared.site.Times.{Times}
 use Rattle.rules.specs.declared.site.WalkTimes.{WalkTimes}

@@ -7,7 +7,7 @@ use native.Mathlib.Omega.{arith}
 use Rattle.rules.specs.declared.site.PhaseTimes.{PhaseTimes}
 use Rattle.rules.specs.declared.site.Site.{Site}
 use Rattle.laws.specs.Bytes.{two_at}
-use Rattle.laws.specs.Ground.{if◌then◌else◌}
+use Rattle.std.specs.Prelude.{if◌then◌else◌}
 use Rattle.laws.specs.Folds.{row_of}
 use Rattle.rules.specs.Site.{no_phase_times, no_walk_times, phase_times, walk_times}
 use Rattle.rules.specs.SiteTimes.{admitted}

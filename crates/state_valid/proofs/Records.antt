@@ -12,7 +12,7 @@ use Rattle.rules.specs.declared.site.Range.{Range}
 use Rattle.rules.specs.declared.site.Site.{Site}
 use Rattle.rules.specs.declared.site.Times.{Times}
 use Rattle.rules.specs.declared.site.WalkTimes.{WalkTimes}
-use Rattle.laws.specs.Ground.{if◌then◌else◌}
+use Rattle.std.specs.Prelude.{if◌then◌else◌}
 use Rattle.laws.specs.Folds.{all_of}
 use Rattle.rules.specs.Limits.{limits, within}
 use Rattle.rules.specs.Site.{no_phase_times, no_walk_times, phase_times, walk_times}

@@ -1,5 +1,5 @@
 -- Internal: no promise cites this file. What the check of a state takes and tests.
-use Rattle.laws.specs.Ground.{ℕ, Bool, true, ◌&&◌, List, ◌≡◌}
+use Rattle.std.specs.Prelude.{ℕ, Bool, true, ◌&&◌, List, ◌≡◌}
 use Rattle.rules.specs.declared.site.Site.{Site}
 use Rattle.rules.specs.declared.state.KeptState.{KeptState}
 use Rattle.rules.specs.Personality.{phase_count, movement_count, has_early}

@@ -1,5 +1,5 @@
 -- The valid states of a personality, as bytes. A call that takes other bytes is refused with 13 at 0.
-use Rattle.laws.specs.Ground.{ℕ, Bool, ◌&&◌, List}
+use Rattle.std.specs.Prelude.{ℕ, Bool, ◌&&◌, List}
 use Rattle.rules.specs.Site.{site_of}
 use Rattle.rules.specs.Timed.{timed_valid}
 use Rattle.state_timed.specs.TimedLayout.{is_timed, timed_decoded}

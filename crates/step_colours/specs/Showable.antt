@@ -1,6 +1,6 @@
 -- Internal: no promise cites this file. What writing the colours requires: the site's array and the buffer have room for count groups, and
 -- each pedestrian group has a movement record.
-use Rattle.laws.specs.Ground.{ℕ, ◌≤◌, ◌<◌, true, List, ◌≡◌}
+use Rattle.std.specs.Prelude.{ℕ, ◌≤◌, ◌<◌, true, List, ◌≡◌}
 use Rattle.rules.specs.declared.site.Group.{Group}
 use Rattle.rules.specs.Site.{is_pedestrian, movement_of}
 

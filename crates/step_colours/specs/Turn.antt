@@ -1,6 +1,6 @@
 -- One turn of the pass, stated by a group's record and its movement's stage: in every list of groups with that record at g, and with that
 -- stage of the group's movement if it is a pedestrian one, it leads from the point where the first g groups are passed to the next.
-use Rattle.laws.specs.Ground.{ℕ, Bool, true, List, ◌≡◌, get_or}
+use Rattle.std.specs.Prelude.{ℕ, Bool, true, List, ◌≡◌, get_or}
 use Rattle.rules.specs.declared.site.Group.{Group}
 use Rattle.rules.specs.declared.state.Movement.{Movement}
 use Rattle.rules.specs.declared.state.Position.{Position}

@@ -1,9 +1,8 @@
 // The colours that the signal groups show in a state, one byte for each group.
 #![tactic(auto)]
 
-ghost use Rattle.std.specs.Prelude.{◌≤◌, ◌<◌, ◌&&◌, ◌≡◌, length};
+ghost use Rattle.std.specs.Prelude.{◌≤◌, ◌<◌, ◌&&◌, ◌≡◌, length, if◌then◌else◌};
 ghost use Rattle.rules.specs.IntervalTable.{held_in};
-ghost use Rattle.laws.specs.Ground.{if◌then◌else◌};
 ghost use Rattle.rules.specs.Colours.{red, yellow, green, since_cut_off, closing, vehicle_colour, movement_colour, vehicle_shown, colour_of, buffer_at};
 ghost use Rattle.rules.specs.Call.{buffer_for};
 ghost use Rattle.rules.specs.declared.answer.Verdict.TheVariants.{Accepted};

@@ -1,5 +1,5 @@
 -- Internal: no promise cites this file. What part 1 hands on.
-use Rattle.laws.specs.Ground.{ℕ, ◌≡◌}
+use Rattle.std.specs.Prelude.{ℕ, ◌≡◌}
 use Rattle.rules.specs.declared.site.Site.{Site}
 use Rattle.rules.specs.declared.state.KeptState.{KeptState}
 use Rattle.laws.specs.Folds.{set_of}

@@ -1,5 +1,5 @@
 -- Internal: no promise cites this file. What a list of detectors asks for, and what is required of the list.
-use Rattle.laws.specs.Ground.{ℕ, ◌≤◌, ◌<◌, List, ◌≡◌}
+use Rattle.std.specs.Prelude.{ℕ, ◌≤◌, ◌<◌, List, ◌≡◌}
 use Rattle.rules.specs.declared.site.Detector.{Detector}
 use Rattle.laws.specs.Bytes.{bit}
 use Rattle.rules.specs.Site.{detector_of}

@@ -1,5 +1,5 @@
 -- Internal: no promise cites this file. An order of phases: the entries of a row from a place on, and the place of a phase.
-use Rattle.laws.specs.Ground.{ℕ, zero, suc, ◌≤◌, ◌<◌, List, [], ◌∷◌, ◌≡◌, get_or}
+use Rattle.std.specs.Prelude.{ℕ, zero, suc, ◌≤◌, ◌<◌, List, [], ◌∷◌, ◌≡◌, get_or}
 
 -- the n entries from place i on
 unfoldable pub run : List ℕ → ℕ → ℕ → List ℕ

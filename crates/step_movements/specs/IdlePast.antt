@@ -1,6 +1,6 @@
 -- Internal: no promise cites this file. What a pass over the site's own movements requires: there is room for them, and every record past
 -- them is idle.
-use Rattle.laws.specs.Ground.{ℕ, ◌≤◌, ◌<◌, List, ◌≡◌, get_or}
+use Rattle.std.specs.Prelude.{ℕ, ◌≤◌, ◌<◌, List, ◌≡◌, get_or}
 use Rattle.rules.specs.declared.state.Movement.{Movement}
 use Rattle.rules.specs.declared.state.Stage.TheVariants.{Idle}
 use Rattle.rules.specs.State.{idle}

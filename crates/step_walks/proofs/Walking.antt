@@ -13,7 +13,7 @@ use Rattle.rules.specs.declared.state.Movement.{Movement}
 use Rattle.rules.specs.declared.state.Position.{Position}
 use Rattle.rules.specs.declared.state.Stage.TheVariants.{Walk}
 use Rattle.laws.specs.Bytes.{bit}
-use Rattle.laws.specs.Ground.{if◌then◌else◌}
+use Rattle.std.specs.Prelude.{if◌then◌else◌}
 use Rattle.laws.specs.Folds.{list_of, set_of}
 use Rattle.rules.specs.Site.{crosses}
 use Rattle.rules.specs.IntervalTable.{is_idle, is_running}

@@ -1,5 +1,5 @@
 -- Internal: no promise cites this file. What part 5 hands on.
-use Rattle.laws.specs.Ground.{ℕ, Bool, List}
+use Rattle.std.specs.Prelude.{ℕ, Bool, List}
 use Rattle.rules.specs.declared.state.Movement.{Movement}
 use Rattle.rules.specs.Walks.{walks_begun, buttons_left}
 use Rattle.step_walks.specs.declared.Begun.{Begun}

@@ -11,7 +11,7 @@ use Rattle.rules.specs.declared.site.PhaseTimes.{PhaseTimes}
 use Rattle.rules.specs.declared.site.Site.{Site}
 use Rattle.rules.specs.declared.state.Held.{Held}
 use Rattle.laws.specs.Bytes.{bit}
-use Rattle.laws.specs.Ground.{if◌then◌else◌}
+use Rattle.std.specs.Prelude.{if◌then◌else◌}
 use Rattle.laws.specs.Folds.{sum_of, greatest_of, list_of}
 use Rattle.rules.specs.Site.{no_phase_times, phase_times, walk_times, crosses, ring}
 use Rattle.rules.specs.IntervalTable.{is_held, phase_held}

@@ -1,8 +1,7 @@
 // The wait of each phase and of each movement, by the times of a site. No wait is more than the wait bound, so every sum here fits in two bytes.
 #![tactic(auto)]
 
-ghost use Rattle.std.specs.Prelude.{◌+◌, ◌<◌, max, true, ◌&&◌, ◌≡◌, eqb, get_or};
-ghost use Rattle.laws.specs.Ground.{if◌then◌else◌};
+ghost use Rattle.std.specs.Prelude.{◌+◌, ◌<◌, max, true, ◌&&◌, ◌≡◌, eqb, get_or, if◌then◌else◌};
 ghost use Rattle.rules.specs.Site.{crosses};
 ghost use Rattle.rules.specs.IntervalTable.{is_held, phase_held};
 ghost use Rattle.rules.specs.Waits.{leaving_of, turn_of, rest_of, clears_first, own_of, phase_wait, movement_wait, phase_of_movement, waits_of};

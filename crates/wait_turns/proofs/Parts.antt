@@ -11,7 +11,7 @@ use lib.ListN.{get_or}
 use Rattle.rules.specs.declared.site.Site.{Site}
 use Rattle.rules.specs.declared.site.WalkTimes.{WalkTimes}
 use Rattle.laws.specs.Bytes.{bit}
-use Rattle.laws.specs.Ground.{if◌then◌else◌}
+use Rattle.std.specs.Prelude.{if◌then◌else◌}
 use Rattle.laws.specs.Folds.{greatest_of}
 use Rattle.rules.specs.Site.{no_walk_times, phase_times, walk_times, crosses}
 use Rattle.rules.specs.State.{highest_age}

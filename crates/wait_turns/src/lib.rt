@@ -1,8 +1,7 @@
 // The turn of a phase, by the times of a site. All times are inside the limits, so every sum here is far below what four bytes hold.
 #![tactic(auto)]
 
-ghost use Rattle.std.specs.Prelude.{◌≤◌, ◌<◌, max, not, ◌≡◌, eqb};
-ghost use Rattle.laws.specs.Ground.{if◌then◌else◌};
+ghost use Rattle.std.specs.Prelude.{◌≤◌, ◌<◌, max, not, ◌≡◌, eqb, if◌then◌else◌};
 ghost use Rattle.rules.specs.State.{highest_age};
 ghost use Rattle.rules.specs.Waits.{leaving_of, green_of, walk_ending, ending as ending_of, turn_of};
 ghost use Rattle.rules.specs.Laws.{Sound};

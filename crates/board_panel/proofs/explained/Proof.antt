@@ -45,12 +45,12 @@ returns-2 : tie.Need-returns-then-not-is_timed
 returns-2 c =
     let a = c.args in (
       no-state a.personality.now a.state.now a.inputs (accepted c.before.before.before)
-          (sym (none a.personality.now a.state.now (sym c.is_timed.ensures ∙ not-true c.is_timed.result c.if-not-is_timed.true))),
+          (sym (none a.personality.now a.state.now (sym c.is_timed.ensures ∙ not-true c.is_timed.result c.if-not-is_timed.true-raw))),
       omega arith,
     )
 
 timed : (c : tie.Else-not-is_timed) → is_timed c.args.state.now ≡ true
-timed c = sym c.is_timed.ensures ∙ not-false c.is_timed.result c.if-not-is_timed.false
+timed c = sym c.is_timed.ensures ∙ not-false c.is_timed.result c.if-not-is_timed.false-raw
 
 sizes : (c : tie.Else-not-is_timed) → TimedKnown c.args.state.now
 sizes c = timed-known c.args.state.now (timed c)
@@ -75,7 +75,7 @@ returns-3 : tie.Need-returns-then-not-valid
 returns-3 c =
     let a = c.args in (
       no-state a.personality.now a.state.now a.inputs (accepted c.before.before.before.before.before.before.before)
-          (sym c.valid.ensures ∙ not-true c.valid.result c.if-not-valid.true),
+          (sym c.valid.ensures ∙ not-true c.valid.result c.if-not-valid.true-raw),
       omega arith,
     )
 
@@ -86,7 +86,7 @@ known : (c : tie.Else-not-valid) → verdict_of c.args.personality.now ≡ Accep
 known c = accepted c.before.before.before.before.before.before.before
 
 valid : (c : tie.Else-not-valid) → is_state_of c.args.personality.now c.args.state.now ≡ true
-valid c = sym c.valid.ensures ∙ not-false c.valid.result c.if-not-valid.false
+valid c = sym c.valid.ensures ∙ not-false c.valid.result c.if-not-valid.false-raw
 
 ruled : (c : tie.Else-not-valid) → c.site_in-site.result ≡ ruled_site (site_of c.args.personality.now) (timed_decoded c.args.state.now)
 ruled c = let a = c.args in valid-site a.personality.now a.state.now (known c) (decoded c.before.before) (valid c)
@@ -123,7 +123,7 @@ returns-5 c =
     let a = c.args in (
       fine c.before,
       silent a.personality.now a.state.now a.inputs (kept c.before.before.before.before.before)
-          (sym c.is_running.ensures ∙ not-true c.is_running.result c.if-not-is_running.true),
+          (sym c.is_running.ensures ∙ not-true c.is_running.result c.if-not-is_running.true-raw),
     )
 
 why-of-requires : tie.Need-why_of-requires
@@ -132,7 +132,7 @@ why-of-requires c κs =
     record {
       sound = site-sound a.personality.now a.state.now a.inputs (known c.before.before.before.before.before) (valid c.before.before.before.before.before) (ruled c.before.before.before.before.before);
       valid = kept-valid a.personality.now a.state.now a.inputs (known c.before.before.before.before.before) (valid c.before.before.before.before.before) (ruled c.before.before.before.before.before) (kept c.before.before.before.before.before);
-      running = sym c.is_running.ensures ∙ not-false c.is_running.result c.if-not-is_running.false;
+      running = sym c.is_running.ensures ∙ not-false c.is_running.result c.if-not-is_running.false-raw;
     }
 
 returns-6 : tie.Need-returns

@@ -41,7 +41,7 @@ returns-2 : tie.Need-returns-then-not-is_state_of
 returns-2 c =
     let a = c.args in
     no-state a.personality.now a.state.now a.new.now (accepted c.before.before.before.before) c.refusal-then-not-is_state_of.result
-    (sym c.is_state_of.ensures ∙ not-true c.is_state_of.result c.if-not-is_state_of.true)
+    (sym c.is_state_of.ensures ∙ not-true c.is_state_of.result c.if-not-is_state_of.true-raw)
     c.refusal-then-not-is_state_of.ensures
 
 -- ── A valid state, and a refused new personality ──
@@ -49,7 +49,7 @@ returns-2 c =
 valid : (c : tie.Else-not-is_state_of) → let a = c.args in is_state_of a.personality.now a.state.now ≡ true
 valid c =
     let asked = c.is_state_of in
-    sym asked.ensures ∙ not-false asked.result c.if-not-is_state_of.false
+    sym asked.ensures ∙ not-false asked.result c.if-not-is_state_of.false-raw
 
 refusal-requires-3 : tie.Need-refusal-requires-in-Refused-found
 refusal-requires-3 c κs =

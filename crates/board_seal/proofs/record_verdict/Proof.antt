@@ -46,7 +46,7 @@ returns-4 c =
       sym c.other_personality.ensures ∙ c.if-other_personality.false,
       ← c.state_in.ensures,
       ← c.is_state_of.ensures,
-      not-true c.is_state_of.result c.if-not-is_state_of.true,
+      not-true c.is_state_of.result c.if-not-is_state_of.true-raw,
     )
 
 returns-5 : tie.Need-returns
@@ -58,7 +58,7 @@ returns-5 c =
       sym c.other_personality.ensures ∙ c.if-other_personality.false,
       ← c.state_in.ensures,
       ← c.is_state_of.ensures,
-      not-false c.is_state_of.result c.if-not-is_state_of.false,
+      not-false c.is_state_of.result c.if-not-is_state_of.false-raw,
     )
 
 pub record_verdict_spec : {M : Type 1} → statement M

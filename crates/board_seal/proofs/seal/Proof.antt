@@ -42,13 +42,13 @@ returns-2 : tie.Need-returns-then-not-is_state_of
 returns-2 c =
     let a = c.args in
     no-state a.personality.now a.state.now a.sealed.now (accepted c.before.before.before.before) c.refusal-then-not-is_state_of.result
-    (sym c.is_state_of.ensures ∙ not-true c.is_state_of.result c.if-not-is_state_of.true)
+    (sym c.is_state_of.ensures ∙ not-true c.is_state_of.result c.if-not-is_state_of.true-raw)
     c.refusal-then-not-is_state_of.ensures
 
 -- ── A valid state, and a buffer of another length ──
 
 valid : (c : tie.Else-not-is_state_of) → is_state_of c.args.personality.now c.args.state.now ≡ true
-valid c = sym c.is_state_of.ensures ∙ not-false c.is_state_of.result c.if-not-is_state_of.false
+valid c = sym c.is_state_of.ensures ∙ not-false c.is_state_of.result c.if-not-is_state_of.false-raw
 
 returns-3 : tie.Need-returns-then-sealed-ne-SEALED_BYTES
 returns-3 c =

@@ -51,13 +51,13 @@ returns-2 : tie.Need-returns-then-not-is_timed
 returns-2 c =
     let a = c.args in
     no-state a.personality.now a.state.now a.inputs a.colours.now (accepted c.before.before.before.before) c.refusal-then-not-is_timed.result
-    (sym (none a.personality.now a.state.now (sym c.is_timed.ensures ∙ not-true c.is_timed.result c.if-not-is_timed.true)))
+    (sym (none a.personality.now a.state.now (sym c.is_timed.ensures ∙ not-true c.is_timed.result c.if-not-is_timed.true-raw)))
     c.refusal-then-not-is_timed.ensures
 
 -- ── Bytes that are a state, but not a valid one ──
 
 known : (c : tie.Else-not-is_timed) → is_timed c.args.state.now ≡ true
-known c = sym c.is_timed.ensures ∙ not-false c.is_timed.result c.if-not-is_timed.false
+known c = sym c.is_timed.ensures ∙ not-false c.is_timed.result c.if-not-is_timed.false-raw
 
 sizes : (c : tie.Else-not-is_timed) → TimedKnown c.args.state.now
 sizes c = timed-known c.args.state.now (known c)
@@ -83,13 +83,13 @@ returns-3 : tie.Need-returns-then-not-valid
 returns-3 c =
     let a = c.args in
     no-state a.personality.now a.state.now a.inputs a.colours.now (accepted c.before.before.before.before.before.before.before.before) c.refusal-then-not-valid.result
-    (sym c.valid.ensures ∙ not-true c.valid.result c.if-not-valid.true)
+    (sym c.valid.ensures ∙ not-true c.valid.result c.if-not-valid.true-raw)
     c.refusal-then-not-valid.ensures
 
 -- ── A valid state ──
 
 valid : (c : tie.Else-not-valid) → let a = c.args in is_state_of a.personality.now a.state.now ≡ true
-valid c = sym c.valid.ensures ∙ not-false c.valid.result c.if-not-valid.false
+valid c = sym c.valid.ensures ∙ not-false c.valid.result c.if-not-valid.false-raw
 
 abbrev site : tie.Else-not-valid → Site
 site c = c.site_in-site.result
@@ -157,21 +157,21 @@ site-in-requires-2 c κs =
 
 -- waiting times take over, or the step goes on under those that rule
 goes :
-    (c : tie.Joined5) →
+    (c : tie.Joined-over) →
     Goes (site c.before.before.before.before.before.before) c.args.state.now c.takes_over-over.result c.if-over.site c.if-over.before
 goes c =
     let a = c.args in
     let takes = c.takes_over-over.ensures in
     ⊎_elim
-    (λ w. goes_over (site c.before.before.before.before.before.before) c.read-before.result a.state.now (ready c.before.before.before.before.before.before) takes w.0.taken
+    (λ w. goes_over (site c.before.before.before.before.before.before) c.read-before.result a.state.now (ready c.before.before.before.before.before.before) takes w.0.true
     (w.4
     ∙ waiting-site a.personality.now a.state.now a.inputs a.colours.now (accepted c.before.before.before.before.before.before.before.before.before.before.before.before.before) (valid c.before.before.before.before.before.before)
-    (ap (λ (x : Site). takes_over_in x a.state.now) (sym (ruled c.before.before.before.before.before.before)) ∙ sym takes ∙ w.0.taken)
+    (ap (λ (x : Site). takes_over_in x a.state.now) (sym (ruled c.before.before.before.before.before.before)) ∙ sym takes ∙ w.0.true)
     w.2.ensures
     ∙ ap (λ (x : Site). under x (timed_decoded a.state.now).waiting.times) (sym (ruled c.before.before.before.before.before.before)))
     (w.5 ∙ w.3.ensures))
-    (λ w. goes_on (site c.before.before.before.before.before.before) c.read-before.result a.state.now (ready c.before.before.before.before.before.before) takes w.0.left w.1 w.2)
-    c.if-over.branch
+    (λ w. goes_on (site c.before.before.before.before.before.before) c.read-before.result a.state.now (ready c.before.before.before.before.before.before) takes w.0.false w.1 w.2)
+    c.if-over.branch-raw
 
 kept-stepped-requires : tie.Need-kept_stepped-next-requires
 kept-stepped-requires c κs = ((goes c).sound, (goes c).valid)

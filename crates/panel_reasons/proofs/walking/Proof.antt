@@ -23,31 +23,31 @@ abbrev decreases-loop-k : tie.decreases-loop-k
 decreases-loop-k movements set₀ k₀ set k = 8 - k
 
 loop-holds : tie.Need-loop-k-init invariant-loop-k decreases-loop-k
-loop-holds c = (omega arith, passing-none (walking_among c.args.table))
+loop-holds c = (omega arith, passing-none (walking_among c.args.movements))
 
 -- the test of movement k
 own-walking :
     (c : tie.After-is_walk_or_first invariant-loop-k decreases-loop-k) →
-    c.is_walk_or_first.result ≡ walking_among c.args.table c.loop-k.k
+    c.is_walk_or_first.result ≡ walking_among c.args.movements c.loop-k.k
 unfolding walking_among
 own-walking c =
-    let inside : c.loop-k.k < length c.args.table = omega (arith, c.loop-k-test.true, c.well_formed.0.1.0.1) in
+    let inside : c.loop-k.k < length c.args.movements = omega (arith, c.loop-k-test.true, c.well_formed.0.1.0.1) in
     c.is_walk_or_first.ensures
-    ∙ ap (λ (m : Movement). is_walk_or_first m.stage) (entry-same c.args.table c.loop-k.k (record { stage = Idle; age = 0 }) idle inside)
+    ∙ ap (λ (m : Movement). is_walk_or_first m.stage) (entry-same c.args.movements c.loop-k.k (record { stage = Idle; age = 0 }) idle inside)
 
 loop-again : tie.Need-loop-k-preserved invariant-loop-k decreases-loop-k
 loop-again c =
-    let walking = walking_among c.args.table in
+    let walking = walking_among c.args.movements in
     let own = own-walking c.before in (
       omega arith,
       ⊎_elim
-          (λ w. w.2 ∙ passing-more walking c.loop-k.k c.loop-k.invariant.1 (sym own ∙ w.0.taken) w.1.ensures)
-          (λ w. w.1 ∙ passing-same walking c.loop-k.k c.loop-k.invariant.1 (sym own ∙ w.0.left))
-          c.if-is_walk_or_first.branch,
+          (λ w. w.2 ∙ passing-more walking c.loop-k.k c.loop-k.invariant.1 (sym own ∙ w.0.true) w.1.ensures)
+          (λ w. w.1 ∙ passing-same walking c.loop-k.k c.loop-k.invariant.1 (sym own ∙ w.0.false))
+          c.if-is_walk_or_first.branch-raw,
     )
 
 returns : tie.Need-returns invariant-loop-k decreases-loop-k
-returns c = let at = c.loop-k in passing-all (walking_among c.args.table) at.invariant.1 (omega arith)
+returns c = let at = c.loop-k in passing-all (walking_among c.args.movements) at.invariant.1 (omega arith)
 
 pub walking_spec : {M : Type 1} → statement M
 walking_spec =

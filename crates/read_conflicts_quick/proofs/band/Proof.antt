@@ -22,7 +22,7 @@ decreases-loop-a s layout k sets groups own members a₀ a = groups - a
 -- the band's own sets
 rows :
     (c : tie.After-mirrored-members invariant-loop-a decreases-loop-a) →
-    SetRows c.args.s.now c.args.k (get_or c.args.t4 c.args.k 0)
+    SetRows c.args.s.now c.args.k (get_or c.args.sets c.args.k 0)
 rows c = let pre = c.requires in pre.2.told _ (omega (arith, pre.0.laid.groupcount))
 
 cast-groups : tie.Need-overflow_cast-groups invariant-loop-a decreases-loop-a
@@ -49,7 +49,7 @@ add_a c = search rules
 
 loop-holds : tie.Need-loop-a-init invariant-loop-a decreases-loop-a
 loop-holds c =
-    (omega arith, omega arith, band-first _ _ (c.own_Block.ensures (not-false _ c.if-not-own_block.false)))
+    (omega arith, omega arith, band-first _ _ (c.own_Block.ensures (not-false _ c.if-not-own_block.false-raw)))
 
 mul-loop : tie.Need-overflow_mul-a invariant-loop-a decreases-loop-a
 mul-loop c = search rules
@@ -83,7 +83,7 @@ loop-again : tie.Need-loop-a-preserved invariant-loop-a decreases-loop-a
 loop-again c = (
   omega arith,
   omega arith,
-  upto-more (λ i. BlockRight _ i _) _ _ c.loop-a.invariant.2 (c.block.ensures (not-false _ c.if-not-block.false)),
+  upto-more (λ i. BlockRight _ i _) _ _ c.loop-a.invariant.2 (c.block.ensures (not-false _ c.if-not-block.false-raw)),
 )
 
 returns-3 : tie.Need-returns invariant-loop-a decreases-loop-a

@@ -45,7 +45,7 @@ loop-less c = search rules
 
 loop-again : tie.Need-loop-k-preserved invariant-loop-k decreases-loop-k
 loop-again c =
-    (omega arith, upto-more (λ i. BandRight _ i) _ _ c.loop-k.invariant.1 (c.band.ensures (not-false _ c.if-not-band.false)))
+    (omega arith, upto-more (λ i. BandRight _ i) _ _ c.loop-k.invariant.1 (c.band.ensures (not-false _ c.if-not-band.false-raw)))
 
 returns-2 : tie.Need-returns invariant-loop-k decreases-loop-k
 returns-2 c e = all_sound _ c.loop-k.k c.loop-k.invariant.1 (omega arith)

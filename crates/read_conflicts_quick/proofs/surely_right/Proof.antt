@@ -20,7 +20,7 @@ under :
     (c : tie.Else-not-below) →
     let b = c.args.s.now in
     any_of (λ g. leb (2 ^ group_count b) (conflict_set b g)) (group_count b) ≡ false
-under c = not-true _ (sym c.below.ensures ∙ not-false _ c.if-not-below.false)
+under c = not-true _ (sym c.below.ensures ∙ not-false _ c.if-not-below.false-raw)
 
 returns-2 : tie.Need-returns-then-layout-le8
 returns-2 c e = records-good _ (under c.before.before.before) (c.single_band.ensures e)

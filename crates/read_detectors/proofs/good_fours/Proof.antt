@@ -39,7 +39,7 @@ loop-less c = search rules
 loop-again : tie.Need-loop-d-preserved invariant-loop-d decreases-loop-d
 unfolding detector_record
 loop-again c =
-    (omega arith, four-more _ _ _ c.loop-d.d c.loop-d.invariant.1 (c.four_good.ensures (not-false _ c.if-not-four_good.false)))
+    (omega arith, four-more _ _ _ c.loop-d.d c.loop-d.invariant.1 (c.four_good.ensures (not-false _ c.if-not-four_good.false-raw)))
 
 returns-2 : tie.Need-returns invariant-loop-d decreases-loop-d
 returns-2 c = c.loop-d.invariant

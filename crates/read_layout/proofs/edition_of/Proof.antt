@@ -5,7 +5,7 @@ use mathlib.Core.List.{List}
 use mathlib.Core.Path.{◌≡◌, sym, ◌∙◌}
 use borrow.Author.Rules.{rules}
 use Rattle.rules.specs.declared.site.Edition.TheVariants.{One, Two}
-use Rattle.laws.specs.Ground.{if◌then◌else◌}
+use Rattle.std.specs.Prelude.{if◌then◌else◌}
 use Rattle.rules.specs.Personality.{site_head, has_head, edition_of}
 use Rattle.read_layout.proofs.edition_of.Statement.{statement}
 use Rattle.read_layout.proofs.edition_of.Tie as tie

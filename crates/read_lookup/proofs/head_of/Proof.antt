@@ -11,11 +11,11 @@ use Rattle.read_lookup.proofs.head_of.Statement.{statement}
 use Rattle.read_lookup.proofs.head_of.Tie as tie
 
 returns : tie.Need-returns-then-not-kind
-returns c = (sym (no-head _ _ (not-true _ c.if-not-kind.true)), omega arith)
+returns c = (sym (no-head _ _ (not-true _ c.if-not-kind.true-raw)), omega arith)
 
 -- the kind has a head in the list
 listed : (c : tie.Else-not-kind) → let kind = c.args.kind in (1 ≤ kind) × (kind ≤ 9)
-listed c = kind-told c.args.kind (not-false _ c.if-not-kind.false)
+listed c = kind-told c.args.kind (not-false _ c.if-not-kind.false-raw)
 
 sub-result : tie.Need-overflow_sub-result
 sub-result c = omega (arith, listed c)

@@ -51,9 +51,9 @@ loop-again c =
     let read = rw (laid.order, ← mul-one i) at c.byte_in-phase.ensures in (
       omega arith,
       ⊎_elim
-          (λ w. subst (λ (set : ℕ). Listed b set (i + 1)) (sym w.1) (listed_more b c.requires.1 listed read (rw laid.phasecount at w.0.taken)))
-          (λ w. subst (λ (set : ℕ). Listed b set (i + 1)) (sym w.1) (listed-other b c.requires.1 listed read (rw laid.phasecount at w.0.left)))
-          c.if-phase-phases.branch,
+          (λ w. subst (λ (set : ℕ). Listed b set (i + 1)) (sym w.1) (listed_more b c.requires.1 listed read (rw laid.phasecount at w.0.true)))
+          (λ w. subst (λ (set : ℕ). Listed b set (i + 1)) (sym w.1) (listed-other b c.requires.1 listed read (rw laid.phasecount at w.0.false)))
+          c.if-phase-phases.branch-raw,
     )
 
 add-result : tie.Need-overflow_add-result invariant-loop-i decreases-loop-i

@@ -53,17 +53,17 @@ returns-2 c = rw (not_short c.before.before, other_kind c)
 
 returns-3 : tie.Need-returns-then-not-right
 unfolding section_at refuse_if ◌or_else◌
-returns-3 c = rw (not_short c.before.before.before, right_kind c.before, c.if-not-right.true)
+returns-3 c = rw (not_short c.before.before.before, right_kind c.before, c.if-not-right.true-raw)
 
 returns-4 : tie.Need-returns-then-s-head-2
 unfolding section_at refuse_if ◌or_else◌
 returns-4 c =
-    rw (not_short c.before.before.before.before.before, right_kind c.before.before.before, c.if-not-right.false, cut_body c)
+    rw (not_short c.before.before.before.before.before, right_kind c.before.before.before, c.if-not-right.false-raw, cut_body c)
 
 returns-5 : tie.Need-returns
 unfolding section_at refuse_if ◌or_else◌
 returns-5 c =
-    rw (not_short c.before.before.before.before.before, right_kind c.before.before.before, c.if-not-right.false, whole_body c)
+    rw (not_short c.before.before.before.before.before, right_kind c.before.before.before, c.if-not-right.false-raw, whole_body c)
 
 pub section_at_spec : {M : Type 1} → statement M
 section_at_spec =

@@ -35,14 +35,14 @@ returns-2 : tie.Need-returns-then-not-phases
 unfolding site_section
 returns-2 c =
     or-next (headed c.before.before) c.in_default.is
-    (or-stop _ (refuse-yes 4 4 (rw (laid c.before).phasecount at c.if-not-phases.true)) refl)
+    (or-stop _ (refuse-yes 4 4 (rw (laid c.before).phasecount at c.if-not-phases.true-raw)) refl)
 
 returns-3 : tie.Need-returns-then-not-groups
 unfolding site_section
 returns-3 c =
     or-next (headed c.before.before.before) c.in_default.is
-    (or-next refl (refuse-no 4 4 (rw (laid c.before.before).phasecount at c.if-not-phases.false))
-    (or-stop _ (refuse-yes 4 5 (rw (laid c.before.before).groupcount at c.if-not-groups.true)) refl))
+    (or-next refl (refuse-no 4 4 (rw (laid c.before.before).phasecount at c.if-not-phases.false-raw))
+    (or-stop _ (refuse-yes 4 5 (rw (laid c.before.before).groupcount at c.if-not-groups.true-raw)) refl))
 
 time-at-requires : tie.Need-time_at-requires
 unfolding body_at
@@ -55,8 +55,8 @@ returns-4 : tie.Need-returns
 unfolding site_section
 returns-4 c =
     or-next (headed c.before.before.before.before.before) c.in_default.is
-    (or-next refl (refuse-no 4 4 (rw (laid c.before.before.before.before).phasecount at c.if-not-phases.false))
-    (or-next refl (refuse-no 4 5 (rw (laid c.before.before.before.before).groupcount at c.if-not-groups.false)) c.time_at.ensures))
+    (or-next refl (refuse-no 4 4 (rw (laid c.before.before.before.before).phasecount at c.if-not-phases.false-raw))
+    (or-next refl (refuse-no 4 5 (rw (laid c.before.before.before.before).groupcount at c.if-not-groups.false-raw)) c.time_at.ensures))
 
 pub site_section_spec : {M : Type 1} → statement M
 site_section_spec =

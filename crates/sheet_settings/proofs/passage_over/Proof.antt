@@ -43,7 +43,7 @@ loop-again c =
     let x = c.args.metres in
     let loop = c.loop-t in
     let t = loop.t in
-    let fails = sym (covered-tested speed x t c.requires.0 loop.invariant.1) ∙ not-true _ c.loop-t-test.true in
+    let fails = sym (covered-tested speed x t c.requires.0 loop.invariant.1) ∙ not-true _ c.loop-t-test.true-raw in
     let before = below_more (λ k. covered speed x k ≡ false) t loop.invariant.0 fails in
     rw add-one (before, fails-to (covered speed x) before (covered-last speed (as-fraction x c.requires.1) c.requires.0))
 
@@ -57,7 +57,7 @@ returns c =
     let x = c.args.metres in
     let loop = c.loop-t in
     let t = loop.t in
-    let passes = sym (covered-tested speed x t c.requires.0 loop.invariant.1) ∙ not-false _ c.loop-t-test.false in
+    let passes = sym (covered-tested speed x t c.requires.0 loop.invariant.1) ∙ not-false _ c.loop-t-test.false-raw in
     smallest-only (covered speed x)
     (record { passed = passes; none-smaller = loop.invariant.0 })
     (passage-smallest speed (as-fraction x c.requires.1) c.requires.0)

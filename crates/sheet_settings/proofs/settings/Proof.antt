@@ -26,11 +26,11 @@ settled s e = rw e
 returns : tie.Need-returns-then-not-in_range
 returns c =
     let s = c.args.sheet in
-    promised s (refused s (sym c.in_range.ensures ∙ not-true _ c.if-not-in_range.true))
+    promised s (refused s (sym c.in_range.ensures ∙ not-true _ c.if-not-in_range.true-raw))
 
 -- what the test tells of the sheet
 fine : (c : tie.Else-not-in_range) → in_range c.args.sheet ≡ true
-fine c = sym c.in_range.ensures ∙ not-false _ c.if-not-in_range.false
+fine c = sym c.in_range.ensures ∙ not-false _ c.if-not-in_range.false-raw
 
 minimum-green-requires : tie.Need-minimum_green-requires
 minimum-green-requires c κs =

@@ -21,11 +21,11 @@ returns : tie.Need-returns-then-not-in_range
 returns c =
     let a = c.args in
     promise-refused a.speed a.grade
-    (rw (to_z-of_z c.ranges.grade) at (sym c.in_range.ensures ∙ not-true _ c.if-not-in_range.true))
+    (rw (to_z-of_z c.ranges.grade) at (sym c.in_range.ensures ∙ not-true _ c.if-not-in_range.true-raw))
 
 -- what the test tells
 fine : (c : tie.Else-not-in_range) → in_range c.args.speed c.args.grade ≡ true
-fine c = rw (to_z-of_z c.ranges.grade) at (sym c.in_range.ensures ∙ not-false _ c.if-not-in_range.false)
+fine c = rw (to_z-of_z c.ranges.grade) at (sym c.in_range.ensures ∙ not-false _ c.if-not-in_range.false-raw)
 
 sub_row : tie.Need-overflow_sub-row
 sub_row c = let a = c.args in omega (arith, (in-range-parts a.speed a.grade (fine c)).0)

@@ -69,10 +69,10 @@ loop-again c =
       ⊎_elim
           (λ w.
           rw (w.1, w.2)
-          (passed-pedestrian _ inv.1 (read c.before.before).1 w.0.taken (read c.before.before).0
-          (room-left _ inv.1 (read c.before.before).1 w.0.taken (omega arith) (omega arith))))
-          (λ w. rw (w.1, w.2) (passed-vehicle _ inv.1 (read c.before.before).1 w.0.left))
-          c.if-group-eq2.branch,
+          (passed-pedestrian _ inv.1 (read c.before.before).1 w.0.true (read c.before.before).0
+          (room-left _ inv.1 (read c.before.before).1 w.0.true (omega arith) (omega arith))))
+          (λ w. rw (w.1, w.2) (passed-vehicle _ inv.1 (read c.before.before).1 w.0.false))
+          c.if-group-eq2.branch-raw,
     )
 
 returns : tie.Need-returns invariant-loop-g decreases-loop-g

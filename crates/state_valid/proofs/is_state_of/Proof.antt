@@ -14,10 +14,10 @@ use Rattle.state_valid.proofs.is_state_of.Tie as tie
 returns : tie.Need-returns-then-not-is_timed
 returns c =
     let a = c.args in
-    no-state a.personality.now a.bytes.now (sym c.is_timed.ensures ∙ not-true c.is_timed.result c.if-not-is_timed.true)
+    no-state a.personality.now a.bytes.now (sym c.is_timed.ensures ∙ not-true c.is_timed.result c.if-not-is_timed.true-raw)
 
 known : (c : tie.Else-not-is_timed) → is_timed c.args.bytes.now ≡ true
-known c = sym c.is_timed.ensures ∙ not-false c.is_timed.result c.if-not-is_timed.false
+known c = sym c.is_timed.ensures ∙ not-false c.is_timed.result c.if-not-is_timed.false-raw
 
 told : (c : tie.Else-not-is_timed) → TimedKnown c.args.bytes.now
 told c = timed-known c.args.bytes.now (known c)

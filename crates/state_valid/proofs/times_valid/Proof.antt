@@ -22,10 +22,10 @@ admitted-requires c κs = (c.requires.0, c.requires.1, c.requires.2, omega (arit
 returns : tie.Need-returns-then-not-admitted
 returns c =
     let a = c.args in
-    ruling-fails a.personality.now a.bytes.now (sym c.admitted.ensures ∙ not-true c.admitted.result c.if-not-admitted.true)
+    ruling-fails a.personality.now a.bytes.now (sym c.admitted.ensures ∙ not-true c.admitted.result c.if-not-admitted.true-raw)
 
 ok : (c : tie.Else-not-admitted) → let a = c.args in admitted (site_of a.personality.now) (times.read a.bytes.now 39) ≡ true
-ok c = sym c.admitted.ensures ∙ not-false c.admitted.result c.if-not-admitted.false
+ok c = sym c.admitted.ensures ∙ not-false c.admitted.result c.if-not-admitted.false-raw
 
 flag-read : tie.Need-bounds-bytes-187
 flag-read c = omega (arith, (told c.before.before.before.before.before).size)

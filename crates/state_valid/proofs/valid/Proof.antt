@@ -19,10 +19,10 @@ times-valid-requires c κs =
 returns : tie.Need-returns-then-not-times_valid
 returns c =
     times-fail c.args.personality.now c.args.bytes.now c.pre.0 c.pre.2
-    (sym c.times_valid.ensures ∙ not-true c.times_valid.result c.if-not-times_valid.true)
+    (sym c.times_valid.ensures ∙ not-true c.times_valid.result c.if-not-times_valid.true-raw)
 
 ok : (c : tie.Else-not-times_valid) → let a = c.args in times_valid a.personality.now (timed_decoded a.bytes.now) ≡ true
-ok c = sym c.times_valid.ensures ∙ not-false c.times_valid.result c.if-not-times_valid.false
+ok c = sym c.times_valid.ensures ∙ not-false c.times_valid.result c.if-not-times_valid.false-raw
 
 kept-valid-requires : tie.Need-kept_valid-requires
 kept-valid-requires c κs =

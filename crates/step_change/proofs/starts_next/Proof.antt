@@ -12,7 +12,7 @@ use Rattle.step_change.proofs.starts_next.Tie as tie
 
 returns : tie.Need-returns-then-not-is_before_start
 unfolding starts_next
-returns c = rw (sym c.is_before_start.ensures ∙ not-true _ c.if-not-is_before_start.true)
+returns c = rw (sym c.is_before_start.ensures ∙ not-true _ c.if-not-is_before_start.true-raw)
 
 past : (c : tie.Start) → IdlePast c.args.site.size.movements c.args.state.core.movements
 past c = idle-past c.args.site c.args.state c.requires
@@ -29,7 +29,7 @@ returns-2 : tie.Need-returns
 unfolding starts_next
 returns-2 c =
     c.ends.ensures
-    ∙ rw (c.phase_times-own.ensures, c.movements_after-moved.ensures, sym c.is_before_start.ensures ∙ not-false _ c.if-not-is_before_start.false)
+    ∙ rw (c.phase_times-own.ensures, c.movements_after-moved.ensures, sym c.is_before_start.ensures ∙ not-false _ c.if-not-is_before_start.false-raw)
 
 pub starts_next_spec : {M : Type 1} → statement M
 starts_next_spec =

@@ -29,7 +29,7 @@ decreases-loop-g count closes position buffer₀ groups movements k₀ g₀ buff
 length-kept : (c : tie.At-loop-g invariant-loop-g decreases-loop-g) → length c.loop-g.buffer ≡ length c.args.buffer.now
 length-kept c =
     let a = c.args in
-    let shown = colour_of a.table a.closes a.position a.t5 in
+    let shown = colour_of a.groups a.closes a.position a.movements in
     omega (arith, c.requires.fits, c.loop-g.invariant.0, ap length c.loop-g.invariant.1.bytes, passed_length shown a.buffer.now c.loop-g.g)
 
 -- a pedestrian group has a movement record
@@ -40,7 +40,7 @@ own c =
     omega (
       arith,
       c.loop-g.invariant.1.counted,
-      c.requires.movement g c.loop-g-test.true (pedestrian-mark c.args.table g c.if-group-eq2.true),
+      c.requires.movement g c.loop-g-test.true (pedestrian-mark c.args.groups g c.if-group-eq2.true),
     )
 
 -- the stage read of a movement record: past the array it is idle, whatever the age there
@@ -56,12 +56,12 @@ unfolding group_of
 loop-again c =
     let a = c.args in (
       search rules,
-      c.pass_group-k.ensures a.table a.t5 refl
+      c.pass_group-k.ensures a.groups a.movements refl
           (λ is.
           ⊎_elim
-          (λ w. sym (w.2 ∙ stage-read a.t5 c.loop-g.k ∙ ap (λ (j : ℕ). (get_or a.t5 j idle).stage) c.loop-g.invariant.1.counted))
-          (λ w. absurd (w.0.left (pedestrian-has a.table c.loop-g.g is)))
-          c.if-group-eq2.branch)
+          (λ w. sym (w.2 ∙ stage-read a.movements c.loop-g.k ∙ ap (λ (j : ℕ). (get_or a.movements j idle).stage) c.loop-g.invariant.1.counted))
+          (λ w. absurd (w.0.false (pedestrian-has a.groups c.loop-g.g is)))
+          c.if-group-eq2.branch-raw)
           _
           c.loop-g.invariant.1,
     )
@@ -85,7 +85,7 @@ pass-group-requires : tie.Need-pass_group-k-requires invariant-loop-g decreases-
 unfolding movement_of
 pass-group-requires c κs = (
   omega (arith, c.loop-g-test.true, c.requires.fits, length-kept c.before.before.before.before.before),
-  omega (arith, c.loop-g.invariant.1.counted, count_most (is_pedestrian c.args.table) c.loop-g.g),
+  omega (arith, c.loop-g.invariant.1.counted, count_most (is_pedestrian c.args.groups) c.loop-g.g),
 )
 
 add-g : tie.Need-overflow_add-g invariant-loop-g decreases-loop-g

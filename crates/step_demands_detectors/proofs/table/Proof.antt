@@ -25,16 +25,16 @@ rem-rest : tie.Need-nonzero_rem-rest invariant-loop-rest decreases-loop-rest
 rem-rest c = shifted-some 64 c.args.count (omega (arith, c.requires.room))
 
 loop-holds : tie.Need-loop-rest-init invariant-loop-rest decreases-loop-rest
-loop-holds c = none-entered c.args.table c.args.count c.args.inputs c.requires
+loop-holds c = none-entered c.args.detectors c.args.count c.args.inputs c.requires
 
 -- the detector of a turn is one of the first count
 own-within : (c : tie.In-loop-rest invariant-loop-rest decreases-loop-rest) → count_trailing_zeros 64 c.loop-rest.rest < c.args.count
 own-within c =
-    turn-within c.args.table c.args.count c.args.inputs c.requires c.loop-rest.invariant
+    turn-within c.args.detectors c.args.count c.args.inputs c.requires c.loop-rest.invariant
     (omega (arith, c.loop-rest-test.true))
 
 abbrev own : tie.In-loop-rest invariant-loop-rest decreases-loop-rest → Detector
-own c = detector_of c.args.table (count_trailing_zeros 64 c.loop-rest.rest)
+own c = detector_of c.args.detectors (count_trailing_zeros 64 c.loop-rest.rest)
 
 -- so its cell is within the table
 cell-within : (c : tie.In-loop-rest invariant-loop-rest decreases-loop-rest) → 8 * (own c).mode + (own c).phase < 64
@@ -78,12 +78,12 @@ loop-less c =
 loop-again : tie.Need-loop-rest-preserved invariant-loop-rest decreases-loop-rest
 unfolding detector_of
 loop-again c =
-    one-entered c.args.table c.args.count c.args.inputs c.requires c.loop-rest.invariant
+    one-entered c.args.detectors c.args.count c.args.inputs c.requires c.loop-rest.invariant
     (omega (arith, c.loop-rest-test.true))
 
 returns : tie.Need-returns invariant-loop-rest decreases-loop-rest
 returns c =
-    all-entered c.args.table c.args.count c.args.inputs c.requires c.loop-rest.invariant c.loop-rest-test.false
+    all-entered c.args.detectors c.args.count c.args.inputs c.requires c.loop-rest.invariant c.loop-rest-test.false
 
 pub table_spec : {M : Type 1} → statement M
 table_spec =

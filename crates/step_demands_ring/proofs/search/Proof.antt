@@ -36,7 +36,7 @@ returns c =
     let args = c.args in
     sym
     (c.loop-i.invariant
-    ∙ search-found (at args.set) args.t2 c.loop-i.i args.to c.loop-i-test.true
+    ∙ search-found (at args.set) args.order c.loop-i.i args.to c.loop-i-test.true
     (sym c.bit8.ensures ∙ c.if-bit8.true))
 
 add-i : tie.Need-overflow_add-i invariant-loop-i decreases-loop-i
@@ -49,13 +49,13 @@ loop-again : tie.Need-loop-i-preserved invariant-loop-i decreases-loop-i
 loop-again c =
     let args = c.args in
     c.loop-i.invariant
-    ∙ search-on (at args.set) args.t2 c.loop-i.i args.to c.loop-i-test.true
+    ∙ search-on (at args.set) args.order c.loop-i.i args.to c.loop-i-test.true
     (sym c.bit8.ensures ∙ c.if-bit8.false)
 
 returns-2 : tie.Need-returns invariant-loop-i decreases-loop-i
 returns-2 c =
     let args = c.args in
-    sym (c.loop-i.invariant ∙ search-none (at args.set) args.t2 c.loop-i.i args.to c.loop-i-test.false)
+    sym (c.loop-i.invariant ∙ search-none (at args.set) args.order c.loop-i.i args.to c.loop-i-test.false)
 
 pub search_spec : {M : Type 1} → statement M
 search_spec =

@@ -84,9 +84,9 @@ loop-again c =
           let rests : is_idle (get_or args.movements k idle).stage ≡ true =
           ap (λ (m : Movement). is_idle m.stage) (sym entry)
           ∙ sym c.is_idle.ensures
-          ∙ not-false c.is_idle.result w.0.left in
+          ∙ not-false c.is_idle.result w.0.false in
           fill-skip idle w.1 filled inside (idle-stays args.times.walks args.may-end args.movements k (idle-only _ rests)))
-          c.if-not-is_idle.branch,
+          c.if-not-is_idle.branch-raw,
     )
 
 returns-2 : tie.Need-returns invariant-loop-k decreases-loop-k

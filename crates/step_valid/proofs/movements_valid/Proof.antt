@@ -54,23 +54,23 @@ movement-valid-requires c κs = search rules
 own-valid :
     (c : tie.After-movement_valid invariant-loop-k decreases-loop-k) →
     let a = c.args in
-    c.movement_valid.result ≡ passes a.count a.t2 a.position a.t4 c.loop-k.k
+    c.movement_valid.result ≡ passes a.count a.crossings a.position a.movements c.loop-k.k
 unfolding crosses
 own-valid c =
     let a = c.args in
     let k = c.loop-k.k in
-    let inside : k < length a.t4 = omega (arith, c.loop-k-test.true, c.well_formed.1.1.1.0.1.0.1) in
+    let inside : k < length a.movements = omega (arith, c.loop-k-test.true, c.well_formed.1.1.1.0.1.0.1) in
     c.movement_valid.ensures
     ∙ rw c.bit8.ensures
-    (ap (movement_valid (ltb k a.count && bit a.position.phase (get_or a.t2 k 0)) a.position.interval)
-    (entry-same a.t4 k (record { stage = Idle; age = 0 }) idle inside))
+    (ap (movement_valid (ltb k a.count && bit a.position.phase (get_or a.crossings k 0)) a.position.interval)
+    (entry-same a.movements k (record { stage = Idle; age = 0 }) idle inside))
 
 returns : tie.Need-returns-then-not-movement_valid invariant-loop-k decreases-loop-k
 unfolding movements_valid
 returns c =
     let a = c.args in
-    all-fails (passes a.count a.t2 a.position a.t4) 8 c.loop-k.k (omega arith)
-    (sym (own-valid c.before) ∙ not-true c.movement_valid.result c.if-not-movement_valid.true)
+    all-fails (passes a.count a.crossings a.position a.movements) 8 c.loop-k.k (omega arith)
+    (sym (own-valid c.before) ∙ not-true c.movement_valid.result c.if-not-movement_valid.true-raw)
 
 add-k : tie.Need-overflow_add-k invariant-loop-k decreases-loop-k
 add-k c = search rules
@@ -81,7 +81,7 @@ loop-less c = search rules
 loop-again : tie.Need-loop-k-preserved invariant-loop-k decreases-loop-k
 loop-again c =
     tested-more c.loop-k.invariant (omega arith)
-    (sym (not-false c.movement_valid.result c.if-not-movement_valid.false) ∙ own-valid c.before)
+    (sym (not-false c.movement_valid.result c.if-not-movement_valid.false-raw) ∙ own-valid c.before)
 
 returns-2 : tie.Need-returns invariant-loop-k decreases-loop-k
 unfolding movements_valid

@@ -34,7 +34,7 @@ returns c =
     (leaves_none (begins a.table a.starts a.another a.now a.buttons a.movements) (search rules) (search rules)
     (λ k.
     none_free a.table a.starts a.another a.now a.movements a.buttons k
-    (rw (← runs.ensures) (not-true (a.starts || (runs.result && not a.another)) c.if-not-starts-free.true))))
+    (rw (← runs.ensures) (not-true (a.starts || (runs.result && not a.another)) c.if-not-starts-free.true-raw))))
 
 loop-holds : tie.Need-loop-rest-init invariant-loop-rest decreases-loop-rest
 loop-holds c = none-walking _ _ _ (search rules) (search rules)
@@ -90,9 +90,9 @@ loop-again c =
     may-told a.table a.starts a.another a.now a.movements (count_trailing_zeros 64 at.rest)
     (turn-entry at.invariant some (record { stage = Idle; age = 0 })) c.bit8-own.ensures c.is_idle.ensures in
     ⊎_elim
-    (λ w. one-begun at.invariant some (may-now ∙ rw (← c.is_running.ensures) w.0.taken) (w.2 ∙ w.1.ensures) w.3)
-    (λ w. rw (w.1, w.2) (one_kept at.invariant some (may-now ∙ rw (← c.is_running.ensures) w.0.left)))
-    c.if-own-starts.branch
+    (λ w. one-begun at.invariant some (may-now ∙ rw (← c.is_running.ensures) w.0.true) (w.2 ∙ w.1.ensures) w.3)
+    (λ w. rw (w.1, w.2) (one_kept at.invariant some (may-now ∙ rw (← c.is_running.ensures) w.0.false)))
+    c.if-own-starts.branch-raw
 
 returns-2 : tie.Need-returns invariant-loop-rest decreases-loop-rest
 returns-2 c =

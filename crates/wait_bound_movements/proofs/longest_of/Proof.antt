@@ -20,17 +20,17 @@ sets-of-requires : tie.Need-sets_of-rest-requires invariant-loop-rest decreases-
 sets-of-requires c κs = search rules
 
 loop-holds : tie.Need-loop-rest-init invariant-loop-rest decreases-loop-rest
-loop-holds c = passed_none c.args.t2 c.sets_of-rest.result (search rules)
+loop-holds c = passed_none c.args.walks c.sets_of-rest.result (search rules)
 
 -- the bit of a turn is one of the 64
 turn-within : (c : tie.In-loop-rest invariant-loop-rest decreases-loop-rest) → count_trailing_zeros 64 c.loop-rest.rest < 64
-turn-within c = at-within c.args.t2 c.loop-rest.invariant (omega (arith, c.loop-rest-test.true))
+turn-within c = at-within c.args.walks c.loop-rest.invariant (omega (arith, c.loop-rest-test.true))
 
 -- its movement is one of the first count
 turn_below : (c : tie.In-loop-rest invariant-loop-rest decreases-loop-rest) → count_trailing_zeros 64 c.loop-rest.rest / 8 < c.args.count
 turn_below c =
     let a = c.args in
-    movement-below a.t2 a.crossings a.count c.loop-rest.invariant c.sets_of-rest.ensures
+    movement-below a.walks a.crossings a.count c.loop-rest.invariant c.sets_of-rest.ensures
     (omega (arith, c.loop-rest-test.true))
 
 cast-i : tie.Need-overflow_cast-i invariant-loop-rest decreases-loop-rest
@@ -93,14 +93,14 @@ loop-less c =
 
 loop-again : tie.Need-loop-rest-preserved invariant-loop-rest decreases-loop-rest
 loop-again c =
-    passed-more c.args.t2 c.loop-rest.invariant (omega (arith, c.loop-rest-test.true))
+    passed-more c.args.walks c.loop-rest.invariant (omega (arith, c.loop-rest-test.true))
     c.greater-walk.ensures
     c.greater-clearance.ensures
 
 returns : tie.Need-returns invariant-loop-rest decreases-loop-rest
 returns c =
     let a = c.args in
-    passed-all a.t2 a.crossings a.count c.loop-rest.invariant c.sets_of-rest.ensures c.loop-rest-test.false c.requires.0
+    passed-all a.walks a.crossings a.count c.loop-rest.invariant c.sets_of-rest.ensures c.loop-rest-test.false c.requires.0
 
 pub longest_of_spec : {M : Type 1} → statement M
 longest_of_spec =

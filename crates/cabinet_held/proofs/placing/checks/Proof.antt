@@ -13,23 +13,23 @@ returns : tie.Need-returns-in-Refused
 returns c = or-stop _ refl c.in-Refused.is
 
 returns-2 : tie.Need-returns-then-not-free
-returns-2 c = or-next refl c.in_default.is (or-stop _ (refuse-yes 24 0 c.if-not-free.true) refl)
+returns-2 c = or-next refl c.in_default.is (or-stop _ (refuse-yes 24 0 c.if-not-free.true-raw) refl)
 
 returns-3 : tie.Need-returns-then-taken
 returns-3 c =
     or-next refl c.in_default.is
-    (or-next (sym (refuse-no 24 0 c.if-not-free.false)) refl (or-stop _ (refuse-yes 25 0 c.if-taken.true) refl))
+    (or-next (sym (refuse-no 24 0 c.if-not-free.false-raw)) refl (or-stop _ (refuse-yes 25 0 c.if-taken.true) refl))
 
 returns-4 : tie.Need-returns-then-room-lt32
 returns-4 c =
     or-next refl c.in_default.is
-    (or-next (sym (refuse-no 24 0 c.if-not-free.false)) refl
+    (or-next (sym (refuse-no 24 0 c.if-not-free.false-raw)) refl
     (or-next (sym (refuse-no 25 0 c.if-taken.false)) refl (refuse-yes 14 0 (lt-ltb _ 32 c.if-room-lt32.true))))
 
 returns-5 : tie.Need-returns
 returns-5 c =
     or-next refl c.in_default.is
-    (or-next (sym (refuse-no 24 0 c.if-not-free.false)) refl
+    (or-next (sym (refuse-no 24 0 c.if-not-free.false-raw)) refl
     (or-next (sym (refuse-no 25 0 c.if-taken.false)) refl (sym (refuse-no 14 0 (le-ltb _ 32 c.if-room-lt32.false)))))
 
 pub checks_spec : {M : Type 1} → statement M

@@ -40,14 +40,14 @@ turned-requires c κs = search rules
 
 -- the sets are those for the record of g: they are made anew, or were made for a group before it
 compared :
-    (c : tie.Joined1 invariant-loop-g decreases-loop-g) →
+    (c : tie.Joined-renewed invariant-loop-g decreases-loop-g) →
     let args = c.args in
     Compared args.s.now args.number c.loop-g.g c.if-renewed.rows
 compared c =
     ⊎_elim
     (λ w. rw w.2 w.1.ensures)
-    (λ w. rw w.1 (c.loop-g.invariant.2 (sym c.renewed.ensures ∙ w.0.left)))
-    c.if-renewed.branch
+    (λ w. rw w.1 (c.loop-g.invariant.2 (sym c.renewed.ensures ∙ w.0.false)))
+    c.if-renewed.branch-raw
 
 refused-record-requires : tie.Need-refused_record-requires invariant-loop-g decreases-loop-g
 refused-record-requires c κs =

@@ -38,9 +38,9 @@ loop-again c =
     let asked = sym c.bit32.ensures in (
       omega arith,
       ⊎_elim
-          (λ w. united-with known (asked ∙ w.0.taken) w.1)
-          (λ w. united-same known (asked ∙ w.0.left) w.1)
-          c.if-bit32.branch,
+          (λ w. united-with known (asked ∙ w.0.true) w.1)
+          (λ w. united-same known (asked ∙ w.0.false) w.1)
+          c.if-bit32.branch-raw,
     )
 
 returns : tie.Need-returns invariant-loop-p decreases-loop-p

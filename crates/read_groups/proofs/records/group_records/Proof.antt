@@ -100,8 +100,7 @@ refused_at :
     v ≡ Refused k p →
     v ≡ (first_of (group_record b) (group_count b) or_else refuse_if (phase_without_group b) 8 (groups_head b))
 refused_at c e r =
-    let at_loop = c.before.before.before in
-    or-stop _ (first-stop _ _ at_loop.loop.g (omega arith) at_loop.loop.invariant.2 e r) r
+    or-stop _ (first-stop _ _ c.loop-g.g (omega arith) c.loop-g.invariant.2 e r) r
 
 refused-requires : tie.Need-refused-requires invariant-loop-g decreases-loop-g
 refused-requires c κs = search rules
@@ -139,7 +138,7 @@ loop-less c = search rules
 
 -- after the mark of group g was asked for: the count and the set go on, and the group is not the ninth pedestrian one
 counted :
-    (c : tie.Joined2 invariant-loop-g decreases-loop-g) →
+    (c : tie.Joined-mark-eq2 invariant-loop-g decreases-loop-g) →
     let b = c.args.s.now in
     let g = c.loop-g.g in
     (c.if-mark-eq2.movements ≡ count_of (pedestrian b) (g + 1)) × CrossedPhases b c.if-mark-eq2.crossed (g + 1) × (ninth_pedestrian b g ≡ false)
@@ -153,18 +152,18 @@ counted c =
     let mark = read.1 in
     ⊎_elim
     (λ w.
-    let walks = eq-eqb _ _ (sym mark ∙ w.0.taken) in (
+    let walks = eq-eqb _ _ (sym mark ∙ w.0.true) in (
       w.2 ∙ count-one-more _ _ before walks,
       subst (λ (set : ℕ). CrossedPhases b set (g + 1)) (sym w.3) (crossed-more b crossed read.0 (sym read.2 ∙ c.if-bad_group.false) walks),
-      and-false-right (pedestrian b g) (ne_eqb _ _ (λ e. w.1.left (before ∙ e))),
+      and-false-right (pedestrian b g) (ne_eqb _ _ (λ e. w.1.false (before ∙ e))),
     ))
     (λ w.
-    let vehicle = ne_eqb _ _ (λ e. w.0.left (mark ∙ e)) in (
+    let vehicle = ne_eqb _ _ (λ e. w.0.false (mark ∙ e)) in (
       w.1 ∙ count-as-before _ _ before vehicle,
       subst (λ (set : ℕ). CrossedPhases b set (g + 1)) (sym w.2) (crossed-same b crossed vehicle),
       and-false-left _ vehicle,
     ))
-    c.if-mark-eq2.branch
+    c.if-mark-eq2.branch-raw
 
 loop-again : tie.Need-loop-g-preserved invariant-loop-g decreases-loop-g
 unfolding stops_early any_of

@@ -54,7 +54,7 @@ returns-3 c =
     past_order c.before.before
     (or-stop _
     (ap (Refused 21) laid.detectors
-    ∙ refuse-yes 21 _ (not-false _ (sym c.each_called.ensures ∙ not-true _ c.if-not-each_called.true)))
+    ∙ refuse-yes 21 _ (not-false _ (sym c.each_called.ensures ∙ not-true _ c.if-not-each_called.true-raw)))
     refl)
 
 -- and each phase has a caller

@@ -15,11 +15,11 @@ use Rattle.sheet_yellow.proofs.rule.by_rule.Tie as tie
 returns : tie.Need-returns-then-not-in_range
 returns c =
     let a = c.args in
-    promise-refused a.speed a.grade (rw (to_z-of_z c.ranges.grade) at (sym c.in_range.ensures ∙ not-true _ c.if-not-in_range.true))
+    promise-refused a.speed a.grade (rw (to_z-of_z c.ranges.grade) at (sym c.in_range.ensures ∙ not-true _ c.if-not-in_range.true-raw))
 
 -- what the test tells
 fine : (c : tie.Else-not-in_range) → in_range c.args.speed c.args.grade ≡ true
-fine c = rw (to_z-of_z c.ranges.grade) at (sym c.in_range.ensures ∙ not-false _ c.if-not-in_range.false)
+fine c = rw (to_z-of_z c.ranges.grade) at (sym c.in_range.ensures ∙ not-false _ c.if-not-in_range.false-raw)
 
 column-of-requires : tie.Need-column_of-requires
 column-of-requires c κs =

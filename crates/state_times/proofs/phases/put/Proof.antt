@@ -46,7 +46,7 @@ loop-less c = search rules
 
 loop-again : tie.Need-loop-p-preserved invariant-loop-p decreases-loop-p
 loop-again c =
-    let own = c.args.t3 in
+    let own = c.args.records in
     rw c.put_one.ensures
     (stored-record (λ k. six.written (get_or (map six_of own) k (six_of no_phase_times))) 12 (λ k. refl) _ _ c.loop-p.invariant c.loop-p-test.true refl
     (ap six.written (sym (get_or-map six_of own c.loop-p.p no_phase_times))))

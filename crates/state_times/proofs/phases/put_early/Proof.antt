@@ -50,7 +50,7 @@ loop-less c = search rules
 
 loop-again : tie.Need-loop-p-preserved invariant-loop-p decreases-loop-p
 loop-again c =
-    let own = c.args.t3 in
+    let own = c.args.records in
     rw c.put_two.ensures
     (stored-record (λ k. two.written (get_or (map early_of own) k 0)) 2 (λ k. refl) _ _ c.loop-p.invariant c.loop-p-test.true refl
     (ap two.written (sym (get_or-map early_of own c.loop-p.p no_phase_times))))

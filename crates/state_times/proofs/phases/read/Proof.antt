@@ -60,7 +60,7 @@ loop-again : tie.Need-loop-p-preserved invariant-loop-p decreases-loop-p invaria
 loop-again c = filled_more c.loop-p.invariant c.read_one.ensures (omega arith) (omega arith)
 
 returns : tie.Need-returns-then-not-present invariant-loop-p decreases-loop-p invariant-loop-p-2 decreases-loop-p-2
-returns c = rw (not-true c.args.present c.if-not-present.true) (filled-whole c.loop-p.invariant (omega arith))
+returns c = rw (not-true c.args.present c.if-not-present.true-raw) (filled-whole c.loop-p.invariant (omega arith))
 
 loop2-holds : tie.Need-loop-p-2-init invariant-loop-p decreases-loop-p invariant-loop-p-2 decreases-loop-p-2
 loop2-holds c =
@@ -69,11 +69,11 @@ loop2-holds c =
 
 add-two-in : tie.Need-overflow_add-early invariant-loop-p decreases-loop-p invariant-loop-p-2 decreases-loop-p-2
 add-two-in c =
-    omega (arith, c.requires.2 (not-false _ c.if-not-present.false))
+    omega (arith, c.requires.2 (not-false _ c.if-not-present.false-raw))
 
 two-in-requires : tie.Need-two_in-requires invariant-loop-p decreases-loop-p invariant-loop-p-2 decreases-loop-p-2
 two-in-requires c κs =
-    omega (arith, c.requires.2 (not-false _ c.if-not-present.false))
+    omega (arith, c.requires.2 (not-false _ c.if-not-present.false-raw))
 
 loop2-again : tie.Need-loop-p-2-preserved invariant-loop-p decreases-loop-p invariant-loop-p-2 decreases-loop-p-2
 loop2-again c =
@@ -89,7 +89,7 @@ returns-2 : tie.Need-returns invariant-loop-p decreases-loop-p invariant-loop-p-
 returns-2 c =
     let a = c.args in
     let last : c.loop-p-2.p ≡ a.count = omega (arith, c.loop-p-2.invariant.0) in
-    rw (not-false a.present c.if-not-present.false)
+    rw (not-false a.present c.if-not-present.false-raw)
     (filled-again (phase_in a.bytes.now a.at a.early false) a.count (rw last at c.loop-p-2.invariant.1))
 
 pub read_spec : {M : Type 1} → statement M

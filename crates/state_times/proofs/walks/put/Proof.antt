@@ -45,7 +45,7 @@ loop-less c = search rules
 
 loop-again : tie.Need-loop-k-preserved invariant-loop-k decreases-loop-k
 loop-again c =
-    let own = c.args.t3 in
+    let own = c.args.records in
     rw c.put_one.ensures
     (stored-record (λ k. walk.written (get_or own k no_walk_times)) 6 (λ k. refl) _ _ c.loop-k.invariant c.loop-k-test.true refl refl)
 

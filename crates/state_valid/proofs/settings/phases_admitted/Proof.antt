@@ -35,7 +35,7 @@ returns : tie.Need-returns-then-not-phase_admitted invariant-loop-p decreases-lo
 returns c =
     let a = c.args in
     all-fails (passes a.layout a.table a.bytes.now a.at) 7 c.loop-p.p (omega arith)
-    (sym c.phase_admitted.ensures ∙ not-true c.phase_admitted.result c.if-not-phase_admitted.true)
+    (sym c.phase_admitted.ensures ∙ not-true c.phase_admitted.result c.if-not-phase_admitted.true-raw)
 
 add-p : tie.Need-overflow_add-p invariant-loop-p decreases-loop-p
 add-p c = search rules
@@ -46,7 +46,7 @@ loop-less c = search rules
 loop-again : tie.Need-loop-p-preserved invariant-loop-p decreases-loop-p
 loop-again c =
     tested-more c.loop-p.invariant (omega arith)
-    (sym (not-false c.phase_admitted.result c.if-not-phase_admitted.false) ∙ c.phase_admitted.ensures)
+    (sym (not-false c.phase_admitted.result c.if-not-phase_admitted.false-raw) ∙ c.phase_admitted.ensures)
 
 returns-2 : tie.Need-returns invariant-loop-p decreases-loop-p
 returns-2 c = tested-all c.loop-p.invariant c.loop-p-test.false

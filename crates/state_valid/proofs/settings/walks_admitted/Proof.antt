@@ -33,7 +33,7 @@ returns : tie.Need-returns-then-not-walk_admitted invariant-loop-k decreases-loo
 returns c =
     let a = c.args in
     all-fails (passes a.table a.movements a.bytes.now a.at) 8 c.loop-k.k (omega arith)
-    (sym c.walk_admitted.ensures ∙ not-true c.walk_admitted.result c.if-not-walk_admitted.true)
+    (sym c.walk_admitted.ensures ∙ not-true c.walk_admitted.result c.if-not-walk_admitted.true-raw)
 
 add-k : tie.Need-overflow_add-k invariant-loop-k decreases-loop-k
 add-k c = search rules
@@ -44,7 +44,7 @@ loop-less c = search rules
 loop-again : tie.Need-loop-k-preserved invariant-loop-k decreases-loop-k
 loop-again c =
     tested-more c.loop-k.invariant (omega arith)
-    (sym (not-false c.walk_admitted.result c.if-not-walk_admitted.false) ∙ c.walk_admitted.ensures)
+    (sym (not-false c.walk_admitted.result c.if-not-walk_admitted.false-raw) ∙ c.walk_admitted.ensures)
 
 returns-2 : tie.Need-returns invariant-loop-k decreases-loop-k
 returns-2 c = tested-all c.loop-k.invariant c.loop-k-test.false

@@ -28,7 +28,7 @@ abbrev decreases-loop-rest : tie.decreases-loop-rest
 decreases-loop-rest buttons inputs movements crossings out₀ phases₀ rest₀ out phases rest = rest
 
 loop-holds : tie.Need-loop-rest-init invariant-loop-rest decreases-loop-rest
-loop-holds c = none-pressed c.args.buttons c.args.t2 c.args.t3 c.args.inputs c.ranges.buttons.fits
+loop-holds c = none-pressed c.args.buttons c.args.movements c.args.crossings c.args.inputs c.ranges.buttons.fits
 
 -- the button of a turn is one of the eight
 own-within : (c : tie.In-loop-rest invariant-loop-rest decreases-loop-rest) → count_trailing_zeros 64 c.loop-rest.rest < 8
@@ -68,15 +68,15 @@ loop-again c =
     let a = c.args in
     let k = count_trailing_zeros 64 at.rest in
     let some : 0 < at.rest = omega (arith, c.loop-rest-test.true) in
-    let inside : k < length a.t2 = omega (arith, own-within c.before.before.before, c.well_formed.1.0.1.0.1) in
-    let byte : Fits w8 (get_or a.t3 k 0) = search rules in
-    let own : not c.dropped.result ≡ stays a.t2 k =
+    let inside : k < length a.movements = omega (arith, own-within c.before.before.before, c.well_formed.1.0.1.0.1) in
+    let byte : Fits w8 (get_or a.crossings k 0) = search rules in
+    let own : not c.dropped.result ≡ stays a.movements k =
     ap not
-    (c.dropped.ensures ∙ ap (λ (m : Movement). is_walk m.stage) (entry-same a.t2 k (record { stage = Idle; age = 0 }) idle inside)) in
+    (c.dropped.ensures ∙ ap (λ (m : Movement). is_walk m.stage) (entry-same a.movements k (record { stage = Idle; age = 0 }) idle inside)) in
     ⊎_elim
-    (λ w. rw (w.2, w.3, w.1.ensures) (one-pressed at.invariant some byte.fits (sym own ∙ w.0.taken)))
-    (λ w. rw (w.1, w.2) (one-dropped at.invariant some (sym own ∙ w.0.left)))
-    c.if-not-dropped.branch
+    (λ w. rw (w.2, w.3, w.1.ensures) (one-pressed at.invariant some byte.fits (sym own ∙ w.0.true)))
+    (λ w. rw (w.1, w.2) (one-dropped at.invariant some (sym own ∙ w.0.false)))
+    c.if-not-dropped.branch-raw
 
 returns : tie.Need-returns invariant-loop-rest decreases-loop-rest
 returns c = (all-pressed c.loop-rest.invariant c.loop-rest-test.false, all-kept c.loop-rest.invariant c.loop-rest-test.false)

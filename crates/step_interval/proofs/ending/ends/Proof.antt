@@ -18,7 +18,7 @@ unfolding ends
 returns c =
     let a = c.args in
     rw c.in-Running.is
-    (goes_on a.another (some_movement is_walk_or_first a.movements) (eqb a.counted.gap 0 || eqb a.counted.maximum a.times.maximum) c.if-not-another-due.true)
+    (goes_on a.another (some_movement is_walk_or_first a.movements) (eqb a.counted.gap 0 || eqb a.counted.maximum a.times.maximum) c.if-not-another-due.true-raw)
 
 returns-2 : tie.Need-returns-then-age-times
 unfolding ends
@@ -44,7 +44,7 @@ returns-6 c =
     let a = c.args in
     ap not c.under_way-now.ensures.0
     ∙ rw c.in-Running.is
-    (goes-by-movements a.another (some_movement is_walk_or_first a.movements) (eqb a.counted.gap 0 || eqb a.counted.maximum a.times.maximum) c.if-not-another-due.false)
+    (goes-by-movements a.another (some_movement is_walk_or_first a.movements) (eqb a.counted.gap 0 || eqb a.counted.maximum a.times.maximum) c.if-not-another-due.false-raw)
 
 returns-7 : tie.Need-returns-in-EarlyCutOff
 unfolding ends
