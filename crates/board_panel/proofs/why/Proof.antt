@@ -9,12 +9,9 @@ use Rattle.board_panel.proofs.PanelCalls.{why-refused, why-told, has_room}
 use Rattle.board_panel.proofs.why.Statement.{statement}
 use Rattle.board_panel.proofs.why.Tie as tie
 
-abbrev entry : tie.After-explained-found → tie.Start
-entry c = c.before.before.before.before
-
 -- what was found, as a match knows it
 said : (c : tie.After-explained-found) {found : Explanation} → c.explained-found.result ≡ found → let a = c.args in Explains a.personality.now a.state.now a.inputs found
-said c e = let a = (entry c).args in subst (Explains a.personality.now a.state.now a.inputs) e c.explained.ensures
+said c e = let a = c.args in subst (Explains a.personality.now a.state.now a.inputs) e c.explained-found.ensures
 
 refusal-requires : tie.Need-refusal-requires
 refusal-requires c κs = (said c.before c.in-Refusal.is).1

@@ -106,8 +106,8 @@ loop-again c =
     let held = record_read c.before.before in (
       omega (arith, own-within c.before.before.before, counted c.before.before.before.before.before.before.before.before),
       ⊎_elim
-          (λ w. subst (λ (set : ℕ). Called b set (d + 1)) (sym w.2) (called_more b called held.0 held.1 (few c.before.before.before.before.before.before.before.before) held.2 w.0.true))
-          (λ w. subst (λ (set : ℕ). Called b set (d + 1)) (sym w.1) (called_same b called held.0 held.1 w.0.false))
+          (λ w. subst (λ (set : ℕ). Called b set (d + 1)) (sym w.called-is) (called_more b called held.0 held.1 (few c.before.before.before.before.before.before.before.before) held.2 w.if-detector-ne0.true))
+          (λ w. subst (λ (set : ℕ). Called b set (d + 1)) (sym w.called-is) (called_same b called held.0 held.1 w.if-detector-ne0.false))
           c.if-detector-ne0.branch-raw,
     )
 

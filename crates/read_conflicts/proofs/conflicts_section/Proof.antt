@@ -57,7 +57,7 @@ after_head :
     v ≡ (first_refused b 9 or_else first_refused b 10) →
     v ≡ conflicts_section b
 unfolding conflicts_section first_refused refused_record
-after_head c e = or-next (checked c.before.before) c.enum-told2.given.1 e
+after_head c e = or-next (checked c.before) c.in_default.is e
 
 returns-2 : tie.Need-returns-then-surely_right
 unfolding first_refused refused_record

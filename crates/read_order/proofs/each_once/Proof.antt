@@ -51,8 +51,8 @@ loop-again c =
     let read = rw (laid.order, ← mul-one i) at c.byte_in-phase.ensures in (
       omega arith,
       ⊎_elim
-          (λ w. subst (λ (set : ℕ). Listed b set (i + 1)) (sym w.1) (listed_more b c.requires.1 listed read (rw laid.phasecount at w.0.true)))
-          (λ w. subst (λ (set : ℕ). Listed b set (i + 1)) (sym w.1) (listed-other b c.requires.1 listed read (rw laid.phasecount at w.0.false)))
+          (λ w. subst (λ (set : ℕ). Listed b set (i + 1)) (sym w.listed-is) (listed_more b c.requires.1 listed read (rw laid.phasecount at w.if-phase-phases.true)))
+          (λ w. subst (λ (set : ℕ). Listed b set (i + 1)) (sym w.listed-is) (listed-other b c.requires.1 listed read (rw laid.phasecount at w.if-phase-phases.false)))
           c.if-phase-phases.branch-raw,
     )
 

@@ -58,8 +58,7 @@ past_body :
     v ≡ refuse_if (phase_not_once b) 18 (order_head b) →
     v ≡ order_section b
 past_body c e =
-    let sized = c.before.before.before in
-    ordered _ (there sized) (or-next (checked sized) c.before.enum-told2.given.1 e)
+    ordered _ (there c.before.before) (or-next (checked c.before.before) c.in_default.is e)
 
 returns-3 : tie.Need-returns-then-each_once
 returns-3 c = past_body c.before (sym (refuse-no 18 _ (not-true _ (sym c.each_once.ensures ∙ c.if-each_once.true))))

@@ -69,7 +69,7 @@ returns c = or-stop _ c.site_section-site.ensures c.in-Refused.is
 -- kind 1 has passed: the answer is that of what follows
 after_site : (c : tie.In_default) {v : Verdict} → v ≡ from_phases (at_site c) → v ≡ verdict_of (at_site c)
 unfolding verdict_of
-after_site c e = or-next c.before.before.site-section.ensures c.enum-told2.given.1 e
+after_site c e = or-next c.site_section-site.ensures c.in_default.is e
 
 site_accepted : (c : tie.In_default) → site_section (at_site c) ≡ Accepted
 site_accepted c = sym c.site_section-site.ensures ∙ c.in_default.is
@@ -79,14 +79,14 @@ returns-2 c = after_site c.before.before (or-stop _ c.phases_section-phases.ensu
 
 -- kind 2 has passed: the answer is that of what follows
 after_phases : (c : tie.In_default-phases) {v : Verdict} → v ≡ from_groups (at_phases c) → v ≡ verdict_of (at_phases c)
-after_phases c e = after_site c.before.before.before (or-next c.before.before.phases-section.ensures c.enum-told4.given.1 e)
+after_phases c e = after_site c.before.before (or-next c.phases_section-phases.ensures c.in_default-phases.is e)
 
 returns-3 : tie.Need-returns-in-Refused-grouped
 returns-3 c = after_phases c.before.before (or-stop _ c.groups_section-groups.ensures.verdict c.in-Refused-grouped.is)
 
 -- kind 3 has passed: the answer is that of what follows
 after_groups : (c : tie.In_default-grouped) {v : Verdict} → v ≡ from_conflicts (at_groups c) → v ≡ verdict_of (at_groups c)
-after_groups c e = after_phases c.before.before.before (or-next c.before.before.groups-section.ensures.verdict c.enum-told6.given.1 e)
+after_groups c e = after_phases c.before.before (or-next c.groups_section-groups.ensures.verdict c.in_default-grouped.is e)
 
 groups_accepted : (c : tie.In_default-grouped) → groups_section (at_groups c) ≡ Accepted
 groups_accepted c = sym c.groups_section-groups.ensures.verdict ∙ c.in_default-grouped.is
@@ -100,7 +100,7 @@ returns-4 c = after_groups c.before.before (or-stop _ c.conflicts_section-confli
 
 -- kind 4 has passed: the answer is that of what follows
 after_conflicts : (c : tie.In_default-conflicts) {v : Verdict} → v ≡ from_detectors (at_conflicts c) → v ≡ verdict_of (at_conflicts c)
-after_conflicts c e = after_groups c.before.before.before (or-next c.before.before.conflicts-section.ensures c.enum-told8.given.1 e)
+after_conflicts c e = after_groups c.before.before (or-next c.conflicts_section-conflicts.ensures c.in_default-conflicts.is e)
 
 detectors-section-requires : tie.Need-detectors_section-detectors-requires
 detectors-section-requires c κs =
@@ -111,7 +111,7 @@ returns-5 c = after_conflicts c.before.before (or-stop _ c.detectors_section-det
 
 -- kind 5 has passed: the answer is that of what follows
 after_detectors : (c : tie.In_default-detectors) {v : Verdict} → v ≡ from_pedestrians (at_detectors c) → v ≡ verdict_of (at_detectors c)
-after_detectors c e = after_conflicts c.before.before.before (or-next c.before.before.detectors-section.ensures c.enum-told10.given.1 e)
+after_detectors c e = after_conflicts c.before.before (or-next c.detectors_section-detectors.ensures c.in_default-detectors.is e)
 
 -- what kind 3 left, after kind 5
 groups_laid :
@@ -130,7 +130,7 @@ returns-6 c = after_detectors c.before.before (or-stop _ c.pedestrians_section-p
 
 -- kind 6 has passed: the answer is that of what follows
 past_pedestrians : (c : tie.In_default-pedestrians) {v : Verdict} → v ≡ after_pedestrians (at_pedestrians c) → v ≡ verdict_of (at_pedestrians c)
-past_pedestrians c e = after_detectors c.before.before.before (or-next c.before.before.pedestrians-section.ensures c.enum-told12.given.1 e)
+past_pedestrians c e = after_detectors c.before.before (or-next c.pedestrians_section-pedestrians.ensures c.in_default-pedestrians.is e)
 
 after-pedestrians-requires : tie.Need-after_pedestrians-requires
 after-pedestrians-requires c κs =

@@ -68,10 +68,10 @@ loop-again c =
       filled_more inv.0 (simp ((read c.before.before).0, (read c.before.before).1)) (omega arith) (omega arith),
       ⊎_elim
           (λ w.
-          rw (w.1, w.2)
-          (passed-pedestrian _ inv.1 (read c.before.before).1 w.0.true (read c.before.before).0
-          (room-left _ inv.1 (read c.before.before).1 w.0.true (omega arith) (omega arith))))
-          (λ w. rw (w.1, w.2) (passed-vehicle _ inv.1 (read c.before.before).1 w.0.false))
+          rw (w.sets-is, w.movements-is)
+          (passed-pedestrian _ inv.1 (read c.before.before).1 w.if-group-eq2.true (read c.before.before).0
+          (room-left _ inv.1 (read c.before.before).1 w.if-group-eq2.true (omega arith) (omega arith))))
+          (λ w. rw (w.sets-is, w.movements-is) (passed-vehicle _ inv.1 (read c.before.before).1 w.if-group-eq2.false))
           c.if-group-eq2.branch-raw,
     )
 

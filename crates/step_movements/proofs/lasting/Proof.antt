@@ -11,14 +11,14 @@ returns : tie.Need-returns-then-may_end-setting
 unfolding lasting
 returns c =
     let a = c.args in
-    let over : (a.may-end && leb a.setting a.age) ≡ true = c.if-may_end-setting.true in
+    let over : (a.may_end && leb a.setting a.age) ≡ true = c.if-may_end-setting.true in
     rw over
 
 returns-2 : tie.Need-returns
 unfolding lasting
 returns-2 c =
     let a = c.args in
-    let goes_on : (a.may-end && leb a.setting a.age) ≡ false = c.if-may_end-setting.false in
+    let goes_on : (a.may_end && leb a.setting a.age) ≡ false = c.if-may_end-setting.false in
     rw (c.older.ensures, goes_on)
 
 pub lasting_spec : {M : Type 1} → statement M

@@ -31,8 +31,8 @@ returns : tie.Need-returns-then-n-eq0 invariant-loop-k decreases-loop-k
 unfolding movements_after walk_times
 returns c =
     let args = c.args in
-    list-told (after args.times.walks args.may-end args.movements) args.movements 8 idle c.well_formed.1.1.0.1.0.1
-    (λ k b. past-stays args.times.walks args.may-end args.movements args.count c.requires k (omega (arith, c.if-n-eq0.true)) b)
+    list-told (after args.times.walks args.may_end args.movements) args.movements 8 idle c.well_formed.1.1.0.1.0.1
+    (λ k b. past-stays args.times.walks args.may_end args.movements args.count c.requires k (omega (arith, c.if-n-eq0.true)) b)
 
 loop-holds : tie.Need-loop-k-init invariant-loop-k decreases-loop-k
 loop-holds c = (search rules, fill_none _ _)
@@ -78,14 +78,14 @@ loop-again c =
       search rules,
       ⊎_elim
           (λ w.
-          fill-set w.3 filled inside
-          (w.2.ensures ∙ ap (λ (m : Movement). advanced args.may-end m.stage (get_or args.times.walks k no_walk_times) m.age) entry))
+          fill-set w.out-is filled inside
+          (w.advanced.ensures ∙ ap (λ (m : Movement). advanced args.may_end m.stage (get_or args.times.walks k no_walk_times) m.age) entry))
           (λ w.
           let rests : is_idle (get_or args.movements k idle).stage ≡ true =
           ap (λ (m : Movement). is_idle m.stage) (sym entry)
           ∙ sym c.is_idle.ensures
-          ∙ not-false c.is_idle.result w.0.false in
-          fill-skip idle w.1 filled inside (idle-stays args.times.walks args.may-end args.movements k (idle-only _ rests)))
+          ∙ not-false c.is_idle.result w.if-not-is_idle.false-raw in
+          fill-skip idle w.out-is filled inside (idle-stays args.times.walks args.may_end args.movements k (idle-only _ rests)))
           c.if-not-is_idle.branch-raw,
     )
 
@@ -94,7 +94,7 @@ unfolding movements_after walk_times
 returns-2 c =
     let args = c.args in
     fill-kept idle c.loop-k.k 8 c.loop-k.invariant.1 c.well_formed.1.1.0.1.0.1 (omega (arith, c.loop-k.invariant.0, c.requires.room))
-    (λ k a b. past-stays args.times.walks args.may-end args.movements args.count c.requires k (omega (arith, c.loop-k-test.false)) b)
+    (λ k a b. past-stays args.times.walks args.may_end args.movements args.count c.requires k (omega (arith, c.loop-k-test.false)) b)
 
 pub movements_after_spec : {M : Type 1} → statement M
 movements_after_spec =

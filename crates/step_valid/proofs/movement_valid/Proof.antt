@@ -8,13 +8,13 @@ use Rattle.step_valid.proofs.movement_valid.Tie as tie
 returns : tie.Need-returns-then-is_idle
 returns c =
     let a = c.args in
-    idle-valid a.of-phase a.interval a.movement (sym c.is_idle.ensures ∙ c.if-is_idle.true)
+    idle-valid a.of_phase a.interval a.movement (sym c.is_idle.ensures ∙ c.if-is_idle.true)
 
 returns-2 : tie.Need-returns
 returns-2 c =
     let a = c.args in
     rw (c.age_valid.ensures, c.is_leaving.ensures, c.is_walk_or_first.ensures, c.is_start_red.ensures)
-    (busy-valid a.of-phase a.interval a.movement (sym c.is_idle.ensures ∙ c.if-is_idle.false))
+    (busy-valid a.of_phase a.interval a.movement (sym c.is_idle.ensures ∙ c.if-is_idle.false))
 
 pub movement_valid_spec : {M : Type 1} → statement M
 movement_valid_spec =

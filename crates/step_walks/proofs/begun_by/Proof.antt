@@ -31,9 +31,9 @@ returns c =
     let a = c.args in
     let runs = c.is_running in
     walked-told
-    (leaves_none (begins a.table a.starts a.another a.now a.buttons a.movements) (search rules) (search rules)
+    (leaves_none (begins a.crossings a.starts a.another a.now a.buttons a.movements) (search rules) (search rules)
     (λ k.
-    none_free a.table a.starts a.another a.now a.movements a.buttons k
+    none_free a.crossings a.starts a.another a.now a.movements a.buttons k
     (rw (← runs.ensures) (not-true (a.starts || (runs.result && not a.another)) c.if-not-starts-free.true-raw))))
 
 loop-holds : tie.Need-loop-rest-init invariant-loop-rest decreases-loop-rest
@@ -87,19 +87,19 @@ loop-again c =
     let a = c.args in
     let some : 0 < at.rest = omega (arith, c.loop-rest-test.true) in
     let may-now =
-    may-told a.table a.starts a.another a.now a.movements (count_trailing_zeros 64 at.rest)
+    may-told a.crossings a.starts a.another a.now a.movements (count_trailing_zeros 64 at.rest)
     (turn-entry at.invariant some (record { stage = Idle; age = 0 })) c.bit8-own.ensures c.is_idle.ensures in
     ⊎_elim
-    (λ w. one-begun at.invariant some (may-now ∙ rw (← c.is_running.ensures) w.0.true) (w.2 ∙ w.1.ensures) w.3)
-    (λ w. rw (w.1, w.2) (one_kept at.invariant some (may-now ∙ rw (← c.is_running.ensures) w.0.false)))
+    (λ w. one-begun at.invariant some (may-now ∙ rw (← c.is_running.ensures) w.if-own-starts.true) (w.left-is ∙ w.without-left.ensures) w.out-is)
+    (λ w. rw (w.left-is, w.out-is) (one_kept at.invariant some (may-now ∙ rw (← c.is_running.ensures) w.if-own-starts.false)))
     c.if-own-starts.branch-raw
 
 returns-2 : tie.Need-returns invariant-loop-rest decreases-loop-rest
 returns-2 c =
     let a = c.args in
     walked-told
-    (leaves-same c.loop-rest.invariant.told (begins a.table a.starts a.another a.now a.buttons a.movements)
-    (λ k. rw (taken-all a.buttons k c.loop-rest-test.false) (asked-begins a.table a.starts a.another a.now a.movements a.buttons k)))
+    (leaves-same c.loop-rest.invariant.told (begins a.crossings a.starts a.another a.now a.buttons a.movements)
+    (λ k. rw (taken-all a.buttons k c.loop-rest-test.false) (asked-begins a.crossings a.starts a.another a.now a.movements a.buttons k)))
 
 pub begun_by_spec : {M : Type 1} → statement M
 begun_by_spec =

@@ -11,8 +11,8 @@ use Rattle.wait_bound_movements.proofs.sets_of.Statement.{statement}
 use Rattle.wait_bound_movements.proofs.sets_of.Tie as tie
 
 -- an entry is a byte
-entry-fits : (c : tie.Start) (k : ℕ) → get_or c.args.table k 0 < 2 ^ 8
-entry-fits c k = let h : Fits w8 (get_or c.args.table k 0) = search rules in h.fits
+entry-fits : (c : tie.Start) (k : ℕ) → get_or c.args.crossings k 0 < 2 ^ 8
+entry-fits c k = let h : Fits w8 (get_or c.args.crossings k 0) = search rules in h.fits
 
 rem-result : tie.Need-nonzero_rem-result
 rem-result c =
@@ -21,11 +21,11 @@ rem-result c =
 
 returns : tie.Need-returns-then-count-lt8
 returns c k p few l =
-    packed-below (λ k. get_or c.args.table k 0) (entry-fits c.before) c.args.count k p (omega (arith, c.if-count-lt8.true)) few l
+    packed-below (λ k. get_or c.args.crossings k 0) (entry-fits c.before) c.args.count k p (omega (arith, c.if-count-lt8.true)) few l
 
 returns-2 : tie.Need-returns
 returns-2 c k p few l =
-    packed_all (λ k. get_or c.args.table k 0) (entry-fits c.before) c.args.count k p (omega (arith, c.if-count-lt8.false)) few l
+    packed_all (λ k. get_or c.args.crossings k 0) (entry-fits c.before) c.args.count k p (omega (arith, c.if-count-lt8.false)) few l
 
 pub sets_of_spec : {M : Type 1} → statement M
 sets_of_spec =

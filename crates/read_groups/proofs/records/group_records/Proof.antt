@@ -152,15 +152,15 @@ counted c =
     let mark = read.1 in
     ⊎_elim
     (λ w.
-    let walks = eq-eqb _ _ (sym mark ∙ w.0.true) in (
-      w.2 ∙ count-one-more _ _ before walks,
-      subst (λ (set : ℕ). CrossedPhases b set (g + 1)) (sym w.3) (crossed-more b crossed read.0 (sym read.2 ∙ c.if-bad_group.false) walks),
-      and-false-right (pedestrian b g) (ne_eqb _ _ (λ e. w.1.false (before ∙ e))),
+    let walks = eq-eqb _ _ (sym mark ∙ w.if-mark-eq2.true) in (
+      w.movements-is ∙ count-one-more _ _ before walks,
+      subst (λ (set : ℕ). CrossedPhases b set (g + 1)) (sym w.crossed-is) (crossed-more b crossed read.0 (sym read.2 ∙ c.if-bad_group.false) walks),
+      and-false-right (pedestrian b g) (ne_eqb _ _ (λ e. w.if-movements-eq8.false (before ∙ e))),
     ))
     (λ w.
-    let vehicle = ne_eqb _ _ (λ e. w.0.false (mark ∙ e)) in (
-      w.1 ∙ count-as-before _ _ before vehicle,
-      subst (λ (set : ℕ). CrossedPhases b set (g + 1)) (sym w.2) (crossed-same b crossed vehicle),
+    let vehicle = ne_eqb _ _ (λ e. w.if-mark-eq2.false (mark ∙ e)) in (
+      w.movements-is ∙ count-as-before _ _ before vehicle,
+      subst (λ (set : ℕ). CrossedPhases b set (g + 1)) (sym w.crossed-is) (crossed-same b crossed vehicle),
       and-false-left _ vehicle,
     ))
     c.if-mark-eq2.branch-raw

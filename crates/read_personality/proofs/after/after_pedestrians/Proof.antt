@@ -34,7 +34,7 @@ past_early :
     v ≡ (order_section b or_else callers b or_else early_missing b or_else rest_from b) →
     v ≡ after_pedestrians b
 unfolding after_pedestrians
-past_early c e = or-next c.before.before.early-section.ensures c.enum-told2.given.1 e
+past_early c e = or-next c.early_section-times.ensures c.in_default.is e
 
 returns-2 : tie.Need-returns-in-Refused-order
 returns-2 c = past_early c.before.before (or-stop _ c.order_section-order.ensures c.in-Refused-order.is)
@@ -46,7 +46,7 @@ past_order :
     v ≡ (callers b or_else early_missing b or_else rest_from b) →
     v ≡ after_pedestrians b
 past_order c e =
-    past_early c.before.before.before (or-next c.before.before.order-section.ensures c.enum-told4.given.1 e)
+    past_early c.before.before (or-next c.order_section-order.ensures c.in_default-order.is e)
 
 returns-3 : tie.Need-returns-then-not-each_called
 returns-3 c =
@@ -64,9 +64,8 @@ past_callers :
     v ≡ (early_missing b or_else rest_from b) →
     v ≡ after_pedestrians b
 past_callers c e =
-    let call = c.before in
-    past_order call.before
-    (or-next refl (refuse-no 21 _ (not-true _ (sym call.each-called.ensures ∙ not-false _ c.if1.false))) e)
+    past_order c.before.before
+    (or-next refl (refuse-no 21 _ (not-true _ (sym c.each_called.ensures ∙ not-false _ c.if-not-each_called.false-raw))) e)
 
 returns-4 : tie.Need-returns-in-Refused-missing
 returns-4 c = past_callers c.before.before (or-stop _ c.early_missing-missing.ensures c.in-Refused-missing.is)

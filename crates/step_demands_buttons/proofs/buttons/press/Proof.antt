@@ -74,8 +74,8 @@ loop-again c =
     ap not
     (c.dropped.ensures ∙ ap (λ (m : Movement). is_walk m.stage) (entry-same a.movements k (record { stage = Idle; age = 0 }) idle inside)) in
     ⊎_elim
-    (λ w. rw (w.2, w.3, w.1.ensures) (one-pressed at.invariant some byte.fits (sym own ∙ w.0.true)))
-    (λ w. rw (w.1, w.2) (one-dropped at.invariant some (sym own ∙ w.0.false)))
+    (λ w. rw (w.out-is, w.phases-is, w.with-out.ensures) (one-pressed at.invariant some byte.fits (sym own ∙ w.if-not-dropped.true-raw)))
+    (λ w. rw (w.out-is, w.phases-is) (one-dropped at.invariant some (sym own ∙ w.if-not-dropped.false-raw)))
     c.if-not-dropped.branch-raw
 
 returns : tie.Need-returns invariant-loop-rest decreases-loop-rest

@@ -35,18 +35,17 @@ rem-rest c = shifted-some 64 c.args.count (omega (arith, c.requires))
 
 loop-holds : tie.Need-loop-rest-init invariant-loop-rest decreases-loop-rest
 loop-holds c =
-    none-crossed c.args.table (firsts c.args.count c.args.buttons) c.args.count every
+    none-crossed c.args.crossings (firsts c.args.count c.args.buttons) c.args.count every
     (firsts-within c.args.count c.args.buttons (omega (arith, c.requires)))
 
 -- the movement of a turn is one of the first count
-own-within : (c : tie.In-loop-rest invariant-loop-rest decreases-loop-rest) → count_trailing_zeros 64 c.loop-rest.rest < c.args.count
-own-within c = turn-within c.loop-rest.invariant (omega (arith, c.loop-rest-test.true)) (omega (arith, c.requires))
-
 cast-k : tie.Need-overflow_cast-k invariant-loop-rest decreases-loop-rest
-cast-k c = omega (arith, own-within c)
+cast-k c =
+    omega (arith, turn-within c.loop-rest.invariant (omega (arith, c.loop-rest-test.true)) (omega (arith, c.requires)))
 
 array-read-set : tie.Need-bounds-crossings-k invariant-loop-rest decreases-loop-rest
-array-read-set c = omega (arith, own-within c, c.requires)
+array-read-set c =
+    omega (arith, turn-within c.loop-rest.invariant (omega (arith, c.loop-rest-test.true)) (omega (arith, c.requires)), c.requires)
 
 sub-rest : tie.Need-overflow_sub-rest invariant-loop-rest decreases-loop-rest
 sub-rest c = search rules
@@ -56,7 +55,7 @@ loop-less c = left_less c.loop-rest.invariant.left (omega (arith, c.loop-rest-te
 
 loop-again : tie.Need-loop-rest-preserved invariant-loop-rest decreases-loop-rest
 loop-again c =
-    let byte : Fits w8 (get_or c.args.table (count_trailing_zeros 64 c.loop-rest.rest) 0) = search rules in
+    let byte : Fits w8 (get_or c.args.crossings (count_trailing_zeros 64 c.loop-rest.rest) 0) = search rules in
     one-crossed c.loop-rest.invariant (omega (arith, c.loop-rest-test.true)) (omega (arith, c.requires)) byte.fits refl
 
 returns : tie.Need-returns invariant-loop-rest decreases-loop-rest

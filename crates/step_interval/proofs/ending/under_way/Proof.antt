@@ -51,7 +51,7 @@ loop-less c = search rules
 
 loop-again : tie.Need-loop-k-preserved invariant-loop-k decreases-loop-k
 loop-again c =
-    let list = c.args.table in
+    let list = c.args.movements in
     let k = c.loop-k.k in
     let inside : k < length list = omega (arith, c.well_formed.0.1.0.1, c.requires.room) in
     let entry = ap (λ (m : Movement). m.stage) (entry-same list k (record { stage = Idle; age = 0 }) idle inside) in (
@@ -64,8 +64,8 @@ returns : tie.Need-returns invariant-loop-k decreases-loop-k
 returns c =
     let a = c.args in
     let last : c.loop-k.k ≡ a.count = omega arith in (
-      rw last at c.loop-k.invariant.1 ∙ some-counted is_walk_or_first a.table a.count c.requires refl,
-      rw last at c.loop-k.invariant.2 ∙ some-counted is_second a.table a.count c.requires refl,
+      rw last at c.loop-k.invariant.1 ∙ some-counted is_walk_or_first a.movements a.count c.requires refl,
+      rw last at c.loop-k.invariant.2 ∙ some-counted is_second a.movements a.count c.requires refl,
     )
 
 pub under_way_spec : {M : Type 1} → statement M
