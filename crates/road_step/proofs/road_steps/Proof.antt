@@ -84,7 +84,7 @@ loop-again c =
       shown,
       λ b whole m l road.
           let later : m + c.loop-n.n + 1 ≡ m + (c.loop-n.n + 1) = omega arith in
-          rw later c.before.before.before.before.before.before.before.before.before.before.before.before (next-road (inv.4 b whole m l road) (omega (arith, l, c.loop-n-test.true)) c.arrivals-inputs.ensures c.kept_stepped-last.ensures shown c.releases.ensures),
+          rw later at (next-road (inv.4 b whole m l road) (omega (arith, l, c.loop-n-test.true)) c.arrivals-inputs.ensures c.kept_stepped-last.ensures shown c.releases.ensures),
     )
 
 same_length : tie.Need-shape_of-cells invariant-loop-n decreases-loop-n
@@ -93,7 +93,7 @@ same_length c = c.loop-n.invariant.1
 returns : tie.Need-returns invariant-loop-n decreases-loop-n
 returns c =
     let last : c.loop-n.n ≡ c.args.steps = omega (arith, c.loop-n.invariant.0, c.loop-n-test.false) in
-    record { same = c.loop-n.invariant.1; rest = c.loop-n.invariant.2; road = rw last c.before c.loop-n.invariant.4 }
+    record { same = c.loop-n.invariant.1; rest = c.loop-n.invariant.2; road = rw last at c.loop-n.invariant.4 }
 
 pub road_steps_spec : {M : Type 1} → statement M
 road_steps_spec =

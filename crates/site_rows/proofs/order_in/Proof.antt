@@ -17,7 +17,7 @@ returns : tie.Need-returns-then-layout
 unfolding order_in order_at record_at body_at
 returns c =
     let laid = c.requires.0.laid in
-    rw (sym laid.hasorder ∙ c.if-layout.true) (rw (laid.order, ← mul-one c.args.i) c.before.before c.byte_in.ensures)
+    rw (sym laid.hasorder ∙ c.if-layout.true) (rw (laid.order, ← mul-one c.args.i) at c.byte_in.ensures)
 
 returns-2 : tie.Need-returns
 unfolding order_in

@@ -100,7 +100,7 @@ same_length c = length-kept c.before
 returns : tie.Need-returns invariant-loop-g decreases-loop-g
 returns c =
     let all : c.loop-g.g ≡ c.args.count = omega (arith, c.loop-g.invariant.0, c.loop-g-test.false) in
-    rw all c.before c.loop-g.invariant.1.bytes
+    rw all at c.loop-g.invariant.1.bytes
 
 pub buffer_at_spec : {M : Type 1} → statement M
 buffer_at_spec =
