@@ -49,7 +49,7 @@ add_a c = search rules
 
 loop-holds : tie.Need-loop-a-init invariant-loop-a decreases-loop-a
 loop-holds c =
-    (omega arith, omega arith, band-first _ _ (c.own_Block.ensures (not-false _ c.if-not-own_block.false-raw)))
+    (omega arith, omega arith, band-first _ _ (c.own_block.ensures (not-false _ c.if-not-own_block.false-raw)))
 
 mul-loop : tie.Need-overflow_mul-a invariant-loop-a decreases-loop-a
 mul-loop c = search rules
