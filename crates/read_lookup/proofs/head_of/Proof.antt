@@ -14,14 +14,11 @@ returns : tie.Need-returns-then-not-kind
 returns c = (sym (no-head _ _ (not-true _ c.if-not-kind.true-raw)), omega arith)
 
 -- the kind has a head in the list
-listed : (c : tie.Else-not-kind) → let kind = c.args.kind in (1 ≤ kind) × (kind ≤ 9)
-listed c = kind-told c.args.kind (not-false _ c.if-not-kind.false-raw)
-
 sub-result : tie.Need-overflow_sub-result
-sub-result c = omega (arith, listed c)
+sub-result c = omega (arith, kind-told c.args.kind (not-false _ c.if-not-kind.false-raw))
 
 array-read-result : tie.Need-bounds-heads-kind
-array-read-result c = omega (arith, listed c)
+array-read-result c = omega (arith, kind-told c.args.kind (not-false _ c.if-not-kind.false-raw))
 
 returns-2 : tie.Need-returns
 unfolding head_of

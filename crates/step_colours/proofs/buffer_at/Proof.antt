@@ -59,8 +59,8 @@ loop-again c =
       c.pass_group-k.ensures a.groups a.movements refl
           (λ is.
           ⊎_elim
-          (λ w. sym (w.2 ∙ stage-read a.movements c.loop-g.k ∙ ap (λ (j : ℕ). (get_or a.movements j idle).stage) c.loop-g.invariant.1.counted))
-          (λ w. absurd (w.0.false (pedestrian-has a.groups c.loop-g.g is)))
+          (λ w. sym (w.stage-is ∙ stage-read a.movements c.loop-g.k ∙ ap (λ (j : ℕ). (get_or a.movements j idle).stage) c.loop-g.invariant.1.counted))
+          (λ w. absurd (w.if-group-eq2.false (pedestrian-has a.groups c.loop-g.g is)))
           c.if-group-eq2.branch-raw)
           _
           c.loop-g.invariant.1,

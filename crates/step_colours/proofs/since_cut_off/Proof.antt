@@ -11,7 +11,7 @@ returns : tie.Need-returns
 unfolding since_cut_off
 returns c =
     let test = sym c.is_early.ensures in
-    ⊎_elim (λ w. rw (test ∙ w.0.true, w.1) (zero-add _)) (λ w. rw (test ∙ w.0.false, w.1)) c.if-is_early.branch-raw
+    ⊎_elim (λ w. rw (test ∙ w.if-is_early.true, w.before-is) (zero-add _)) (λ w. rw (test ∙ w.if-is_early.false, w.before-is)) c.if-is_early.branch-raw
 
 pub since_cut_off_spec : {M : Type 1} → statement M
 since_cut_off_spec = tie.close (tie.spec (λ c κs. search rules) (λ c. search rules) returns)

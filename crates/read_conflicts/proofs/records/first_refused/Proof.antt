@@ -45,8 +45,8 @@ compared :
     Compared args.s.now args.number c.loop-g.g c.if-renewed.rows
 compared c =
     ⊎_elim
-    (λ w. rw w.2 w.1.ensures)
-    (λ w. rw w.1 (c.loop-g.invariant.2 (sym c.renewed.ensures ∙ w.0.false)))
+    (λ w. rw w.rows-is w.turned-rows.ensures)
+    (λ w. rw w.rows-is (c.loop-g.invariant.2 (sym c.renewed.ensures ∙ w.if-renewed.false)))
     c.if-renewed.branch-raw
 
 refused-record-requires : tie.Need-refused_record-requires invariant-loop-g decreases-loop-g

@@ -38,8 +38,8 @@ loop-again c =
     let asked = sym c.bit32.ensures in (
       omega arith,
       ⊎_elim
-          (λ w. united-with known (asked ∙ w.0.true) w.1)
-          (λ w. united-same known (asked ∙ w.0.false) w.1)
+          (λ w. united-with known (asked ∙ w.if-bit32.true) w.all-is)
+          (λ w. united-same known (asked ∙ w.if-bit32.false) w.all-is)
           c.if-bit32.branch-raw,
     )
 
