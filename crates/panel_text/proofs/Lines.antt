@@ -23,13 +23,13 @@ use Rattle.panel_text.specs.Lines.{LineReadsBack, NeverAlike, NeverEmpty}
 no-comma : (d : ℕ) → is_comma (48 + d) ≡ false
 no-comma d = ne_eqb (48 + d) 44 (λ e. omega arith)
 
-is_digit : (d : ℕ) → d < 10 → is_digit (48 + d) ≡ true
-is_digit d h = rw (le-leb 48 (48 + d) (omega arith), le-leb (48 + d) 57 (omega arith))
+digit-is_digit : (d : ℕ) → d < 10 → is_digit (48 + d) ≡ true
+digit-is_digit d h = rw (le-leb 48 (48 + d) (omega arith), le-leb (48 + d) 57 (omega arith))
 
 -- a digit goes on with the number
 digit-on : (value d : ℕ) (rest : List ℕ) → d < 10 → number_in value ((48 + d) ∷ rest) ≡ number_in (value * 10 + d) rest
 unfolding number_in
-digit-on value d rest h = rw (no-comma d, is_digit d h) (ap (λ (n : ℕ). number_in n rest) (omega arith))
+digit-on value d rest h = rw (no-comma d, digit-is_digit d h) (ap (λ (n : ℕ). number_in n rest) (omega arith))
 
 digits-read : (most n : ℕ) (rest : List ℕ) → n < most → number_in 0 (digits most n ++ rest) ≡ number_in n rest
 unfolding digits

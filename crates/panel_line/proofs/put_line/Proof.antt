@@ -48,14 +48,14 @@ place-1 c = omega (arith, c.put_phase-start.ensures.place, line-short c.args.why
 
 put-told-requires : tie.Need-put_told-first-requires
 put-told-requires c κs =
-    omega (arith, sum c.args.why, c.pre.1, place-1 c.before.before.before)
+    omega (arith, sum c.args.why, c.requires.1, place-1 c.before.before.before)
 
 place-2 : (c : tie.After-put_told-first) → c.put_told-first.result ≡ 7 + length (reasons_text (alone c.args.why))
 place-2 c = omega (arith, c.put_told-first.ensures.place, place-1 c.before.before.before.before)
 
 put-told-requires-2 : tie.Need-put_told-second-requires
 put-told-requires-2 c κs =
-    omega (arith, sum c.args.why, c.pre.1, place-2 c.before.before.before)
+    omega (arith, sum c.args.why, c.requires.1, place-2 c.before.before.before)
 
 place-3 :
     (c : tie.After-put_told-second) →
@@ -65,11 +65,11 @@ place-3 c = omega (arith, c.put_told-second.ensures.place, place-2 c.before.befo
 
 put-told-requires-3 : tie.Need-put_told-third-requires
 put-told-requires-3 c κs =
-    omega (arith, sum c.args.why, c.pre.1, place-3 c.before.before.before)
+    omega (arith, sum c.args.why, c.requires.1, place-3 c.before.before.before)
 
 put-walks-requires : tie.Need-put_walks-requires
 put-walks-requires c κs =
-    omega (arith, sum c.args.why, c.pre.1, c.put_told-third.ensures.place, place-3 c.before.before.before.before.before.before.before)
+    omega (arith, sum c.args.why, c.requires.1, c.put_told-third.ensures.place, place-3 c.before.before.before.before.before.before.before)
 
 returns : tie.Need-returns
 unfolding line_of reasons_by
@@ -83,7 +83,7 @@ returns c =
     c.put_told-second.ensures)
     c.put_told-third.ensures)
     c.put-Walks.ensures)
-    c.pre.1
+    c.requires.1
 
 pub put_line_spec : {M : Type 1} → statement M
 put_line_spec =

@@ -27,7 +27,7 @@ kept_small c = search rules
 returns : tie.Need-returns
 returns c =
     ap not c.is_held.ensures
-    ∙ no-other-told c.pre c.sense-sensed.ensures c.without-calling.ensures c.next_after-next.ensures (kept_small c.before.before.before.before.before.before.before.before)
+    ∙ no-other-told c.requires c.sense-sensed.ensures c.without-calling.ensures c.next_after-next.ensures (kept_small c.before.before.before.before.before.before.before.before)
 
 pub no_other_spec : {M : Type 1} → statement M
 no_other_spec =

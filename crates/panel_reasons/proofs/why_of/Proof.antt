@@ -24,14 +24,14 @@ returns c =
       line =
           line-told a.site a.state a.inputs _
           (record {
-            running = c.pre.running;
+            running = c.requires.running;
             phase = refl;
             alone = c.no_other.ensures;
             gap = refl;
             left = ap (λ (t : PhaseTimes). t.maximum - a.state.core.counts.maximum) c.phase_times-own.ensures;
             walks = c.walking.ensures;
           });
-      phase = omega (arith, (holding-valid c.pre).phase, c.pre.sound.phases.1);
+      phase = omega (arith, (holding-valid c.requires).phase, c.requires.sound.phases.1);
     }
 
 pub why_of_spec : {M : Type 1} → statement M

@@ -93,7 +93,7 @@ groups_accepted c = sym c.groups_section-groups.ensures.verdict ∙ c.in_default
 
 conflicts-section-requires : tie.Need-conflicts_section-conflicts-requires
 conflicts-section-requires c κs =
-    (c.pre, site_accepted c.before.before.before.before, groups_accepted c)
+    (c.requires, site_accepted c.before.before.before.before, groups_accepted c)
 
 returns-4 : tie.Need-returns-in-Refused-conflicts
 returns-4 c = after_groups c.before.before (or-stop _ c.conflicts_section-conflicts.ensures c.in-Refused-conflicts.is)
@@ -117,7 +117,7 @@ after_detectors c e = after_conflicts c.before.before (or-next c.detectors_secti
 groups_laid :
     (c : tie.In_default-detectors) → LayoutOf (at_detectors c) (layout_at c.before.before.before.before.before.before.before.before) × (groups_section (at_detectors c) ≡ Accepted)
 groups_laid c =
-    (c.pre, groups_accepted c.before.before.before.before)
+    (c.requires, groups_accepted c.before.before.before.before)
 
 pedestrians-section-requires : tie.Need-pedestrians_section-pedestrians-requires
 pedestrians-section-requires c κs =

@@ -29,11 +29,11 @@ unfolding stream_count
 within c = c.loop-i-test.true
 
 inside : (c : tie.In-loop-i invariant-loop-i decreases-loop-i) → 4 * c.loop-i.i + 4 ≤ length c.loop-i.cells
-inside c = omega (arith, within c, c.pre.room, c.loop-i.invariant.pass.same)
+inside c = omega (arith, within c, c.requires.room, c.loop-i.invariant.pass.same)
 
 -- its traffic is as handed in
 fine : (c : tie.In-loop-i invariant-loop-i decreases-loop-i) → MayArrive (stream_at c.args.streams.now c.loop-i.i) (traffic_at c.loop-i.cells c.loop-i.i)
-fine c = rw (c.loop-i.invariant.pass.left c.loop-i.i (omega arith)) (c.pre.each c.loop-i.i (within c))
+fine c = rw (c.loop-i.invariant.pass.left c.loop-i.i (omega arith)) (c.requires.each c.loop-i.i (within c))
 
 stream-at-requires : tie.Need-stream_at-stream-requires invariant-loop-i decreases-loop-i
 stream-at-requires c κs = omega (arith, c.loop-i-test.true)

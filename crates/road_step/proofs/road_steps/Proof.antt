@@ -43,10 +43,10 @@ here :
     (c : tie.In-loop-n invariant-loop-n decreases-loop-n) →
     let ahead = c.requires in
     OnRoad ahead.b c.args.streams.now ahead.whole c.args.site (ahead.n + c.loop-n.n) c.loop-n.last c.loop-n.cells
-here c = let ahead = c.pre in c.loop-n.invariant.4 ahead.b ahead.whole ahead.n ahead.enough ahead.road
+here c = let ahead = c.requires in c.loop-n.invariant.4 ahead.b ahead.whole ahead.n ahead.enough ahead.road
 
-before-end : (c : tie.In-loop-n invariant-loop-n decreases-loop-n) → c.pre.n + c.loop-n.n < c.pre.whole
-before-end c = omega (arith, c.pre.enough, c.loop-n-test.true)
+before-end : (c : tie.In-loop-n invariant-loop-n decreases-loop-n) → c.requires.n + c.loop-n.n < c.requires.whole
+before-end c = omega (arith, c.requires.enough, c.loop-n-test.true)
 
 arrivals-requires : tie.Need-arrivals-inputs-requires invariant-loop-n decreases-loop-n
 arrivals-requires c κs = may-arrive (here c.before) (before-end c.before)

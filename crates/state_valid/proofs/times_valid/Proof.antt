@@ -40,7 +40,7 @@ returns-2 c =
     none-wait a.personality.now a.bytes.now (ok c.before.before.before) c.if-bytes-eq0.true (c.blank.ensures (site_of a.personality.now))
 
 admitted-requires-2 : tie.Need-admitted-requires-2
-admitted-requires-2 c κs = (c.pre.0, c.pre.1, c.pre.2, omega (arith, (told c.before.before.before.before.before.before).size))
+admitted-requires-2 c κs = (c.requires.0, c.requires.1, c.requires.2, omega (arith, (told c.before.before.before.before.before.before).size))
 
 returns-3 : tie.Need-returns
 unfolding byte_at

@@ -18,7 +18,7 @@ times-valid-requires c κs =
 
 returns : tie.Need-returns-then-not-times_valid
 returns c =
-    times-fail c.args.personality.now c.args.bytes.now c.pre.0 c.pre.2
+    times-fail c.args.personality.now c.args.bytes.now c.requires.0 c.requires.2
     (sym c.times_valid.ensures ∙ not-true c.times_valid.result c.if-not-times_valid.true-raw)
 
 ok : (c : tie.Else-not-times_valid) → let a = c.args in times_valid a.personality.now (timed_decoded a.bytes.now) ≡ true
@@ -26,11 +26,11 @@ ok c = sym c.times_valid.ensures ∙ not-false c.times_valid.result c.if-not-tim
 
 kept-valid-requires : tie.Need-kept_valid-requires
 kept-valid-requires c κs =
-    site-sound c.args.personality.now c.args.bytes.now c.pre.0 c.pre.2 (ok c)
+    site-sound c.args.personality.now c.args.bytes.now c.requires.0 c.requires.2 (ok c)
 
 returns-2 : tie.Need-returns
 returns-2 c =
-    rest-decides c.args.personality.now c.args.bytes.now c.pre.0 c.pre.2 (ok c.before) c.kept_valid.ensures
+    rest-decides c.args.personality.now c.args.bytes.now c.requires.0 c.requires.2 (ok c.before) c.kept_valid.ensures
 
 pub valid_spec : {M : Type 1} → statement M
 valid_spec = tie.close (tie.spec (λ c. search rules) times-valid-requires returns kept-valid-requires returns-2)

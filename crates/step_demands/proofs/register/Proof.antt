@@ -31,7 +31,7 @@ returns c =
     c.sense-sensed.ensures c.in_green-green.ensures c.except-locking.ensures c.except-calling.ensures
     c.press-pressed.result.buttons c.press-pressed.result.phases c.next_after.result
     c.press-pressed.ensures.0 c.press-pressed.ensures.1 c.next_after.ensures
-    c.pre.0 (locks-small c.before.before.before.before.before.before.before.before.before.before.before.before.before.before.before.before.before) (kept_small c.before.before.before.before.before.before.before.before.before.before.before.before.before.before.before.before.before)
+    c.requires.0 (locks-small c.before.before.before.before.before.before.before.before.before.before.before.before.before.before.before.before.before) (kept_small c.before.before.before.before.before.before.before.before.before.before.before.before.before.before.before.before.before)
 
 pub register_spec : {M : Type 1} → statement M
 register_spec = tie.close (tie.spec sense-requires (λ c κs. search rules) (λ c κs. search rules) (λ c κs. search rules) (λ c κs. search rules) next-after-requires returns)

@@ -20,12 +20,12 @@ ends-requires c κs =
     let site = c.args.site in
     let state = c.args.state in
     rw c.movements_after-moved.ensures
-    (still-past site.times _ state.core.movements site.size.movements (idle-past site state c.pre))
+    (still-past site.times _ state.core.movements site.size.movements (idle-past site state c.requires))
 
 -- the phase that is on after part 4 is one of the site's
 now-within : (c : tie.After-position_after-now) → c.position_after-now.result.phase < 8
 now-within c =
-    rw c.position_after-now.ensures (now_on c.args.site c.args.state c.pre _ _)
+    rw c.position_after-now.ensures (now_on c.args.site c.args.state c.requires _ _)
 
 locks-left-requires : tie.Need-locks_left-requires
 locks-left-requires c κs = now-within c.before.before.before.before

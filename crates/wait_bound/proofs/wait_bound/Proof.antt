@@ -21,7 +21,7 @@ decreases-loop-phase owns phases longest sum₀ phase₀ sum phase = phases - ph
 longest-of-requires : tie.Need-longest_of-longest-requires invariant-loop-phase decreases-loop-phase
 unfolding walk_times
 longest-of-requires c κs =
-    (c.pre.movements, walk-fits c.args.site.size c.args.site.times c.pre.times)
+    (c.requires.movements, walk-fits c.args.site.size c.args.site.times c.requires.times)
 
 loop-holds : tie.Need-loop-phase-init invariant-loop-phase decreases-loop-phase
 unfolding sum_of
@@ -62,7 +62,7 @@ turn-fits c =
     omega (
       arith,
       c.loop-phase.invariant.1,
-      shares-fit a.site.size a.site.times a.site.crossings c.longest_of-longest.result c.pre.phases.1 c.longest_of-longest.ensures c.pre.times
+      shares-fit a.site.size a.site.times a.site.crossings c.longest_of-longest.result c.requires.phases.1 c.longest_of-longest.ensures c.requires.times
           c.loop-phase.phase c.loop-phase-test.true,
     )
 
@@ -92,14 +92,14 @@ unfolding wait_bound
 summed c =
     let a = c.args in
     c.loop-phase.invariant.1
-    ∙ all-shares a.site.size a.site.times a.site.crossings c.longest_of-longest.result c.pre.phases.1 c.longest_of-longest.ensures
+    ∙ all-shares a.site.size a.site.times a.site.crossings c.longest_of-longest.result c.requires.phases.1 c.longest_of-longest.ensures
     c.loop-phase.phase (omega (arith, c.loop-phase.invariant.0, c.loop-phase-test.false))
 
 cast-result : tie.Need-overflow_cast-result invariant-loop-phase decreases-loop-phase
 unfolding wait_bound
 cast-result c =
     let a = c.args in
-    omega (arith, summed c, bound-fits a.site.size a.site.times a.site.crossings c.pre.phases.1 c.pre.times)
+    omega (arith, summed c, bound-fits a.site.size a.site.times a.site.crossings c.requires.phases.1 c.requires.times)
 
 returns : tie.Need-returns invariant-loop-phase decreases-loop-phase
 returns c = summed c

@@ -49,7 +49,7 @@ loop-less c = search rules
 loop-again : tie.Need-loop-k-preserved invariant-loop-k decreases-loop-k
 loop-again c =
     let k = c.loop-k.k in
-    let own = c.args.state in
+    let own = c.args.movements in
     let inside : k < length own = omega arith in
     rw c.put_one.ensures
     (stored-record (λ k. movement.written (get_or own k idle)) 3 (λ k. refl) _ _ c.loop-k.invariant c.loop-k-test.true refl

@@ -16,15 +16,15 @@ put-two-requires : tie.Need-put_two-requires
 put-two-requires c κs = simp length-set (omega arith)
 
 put-held-requires : tie.Need-put_held-requires
-put-held-requires c κs = omega (arith, simp length-set at c.put_two.auto.0)
+put-held-requires c κs = omega (arith, simp length-set at c.put_two.auto.bytes)
 
 put-held-requires-2 : tie.Need-put_held-requires-2
 put-held-requires-2 c κs =
-    omega (arith, simp length-set at c.put_two.auto.0)
+    omega (arith, simp length-set at c.put_two.auto.bytes)
 
 same_length : tie.Need-shape_of-bytes
 same_length c =
-    omega (arith, simp length-set at c.put_two.auto.0)
+    omega (arith, simp length-set at c.put_two.auto.bytes)
 
 returns : tie.Need-returns
 returns c =
