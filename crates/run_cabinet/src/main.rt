@@ -87,10 +87,8 @@ fn letter(code: u8) -> u8 {
 // The end of a line: a letter for each output.
 fn show_outputs(rt: &impl Print, outputs: &[u8]) -> io::Result<()> {
     let mut text = [10u8; 33];
-    let mut i: usize = 0;
-    while i < 32 && i < outputs.len() {
+    for i in 0..outputs.len().min(32) {
         text[i] = letter(outputs[i]);
-        i += 1;
     }
     rt.write_all(b" ")?;
     rt.write_all(&text)
@@ -143,9 +141,10 @@ fn read_and_place<R: Read>(
     show_call(rt, "place ", k)?;
     show_answer(rt, called.answer, "done", false)?;
     show_outputs(rt, outputs)?;
+    let after = called.row;
     Ok(Turn {
         goes: true,
-        row: called.row,
+        row: after,
     })
 }
 
@@ -185,9 +184,10 @@ fn step_turn<R: Read>(
     show_call(rt, "step ", k)?;
     show_answer(rt, called.answer, "wait ", true)?;
     show_outputs(rt, outputs)?;
+    let after = called.row;
     Ok(Turn {
         goes: true,
-        row: called.row,
+        row: after,
     })
 }
 
@@ -196,9 +196,10 @@ fn take_out_turn(rt: &impl Print, row: [Record; 4], k: u8, outputs: &mut [u8]) -
     show_call(rt, "take ", k)?;
     show_answer(rt, called.answer, "done", false)?;
     show_outputs(rt, outputs)?;
+    let after = called.row;
     Ok(Turn {
         goes: true,
-        row: called.row,
+        row: after,
     })
 }
 
@@ -238,7 +239,8 @@ fn run<R: Read>(
         if !next.goes {
             break;
         }
-        kept = next.row;
+        let after = next.row;
+        kept = after;
     }
     Ok(())
 }
