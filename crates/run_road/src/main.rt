@@ -33,6 +33,7 @@ fn show_stream(rt: &impl Print, stream: Stream, traffic: Traffic, longest: u16) 
 }
 
 // The table.
+#[tactic(auto, unfolding(road_streams::specs::Road::stream_count))]
 fn show(rt: &impl Print, streams: &[u8], cells: &[u16], longest: &[u16]) -> io::Result<()>
     requires { Rows streams.now cells.now longest.now }
 {
@@ -50,16 +51,14 @@ fn greater(a: u16, b: u16) -> u16 {
 }
 
 // Raises the longest queue of each stream to the queue it has now.
+#[tactic(auto, unfolding(road_streams::specs::Road::stream_count))]
 fn watch(streams: &[u8], cells: &[u16], longest: &mut [u16])
     requires { Rows streams.now cells.now longest.old }
     ensures { length longest.new ≡ length longest.old }
 {
-    let count = streams.len() / 4;
-    let mut i: usize = 0;
-    while i < count {
+    for i in 0..streams.len() / 4 {
         let traffic = road_step::traffic_at(cells, i);
         longest[i] = greater(longest[i], traffic.queued);
-        i += 1;
     }
 }
 
@@ -69,11 +68,9 @@ fn run(site: Site, streams: &[u8], steps: u32, cells: &mut [u16], longest: &mut 
     ensures { Rows streams.now cells.new longest.new }
 {
     let mut state = state_fresh::fresh();
-    let mut n: u32 = 0;
-    while n < steps {
+    for n in 0..steps {
         state = road_step::road_stepped(site, streams, state, cells);
         watch(streams, cells, longest);
-        n += 1;
     }
 }
 
