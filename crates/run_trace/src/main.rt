@@ -60,17 +60,16 @@ fn personality<R: Read, W: Write>(
     Ok(())
 }
 
-// The whole trace.
-fn trace<R: Read, W: Write>(alloc: Global, input: &mut R, output: &mut W) -> io::Result<()> {
+fn main(rt: HostRuntime) -> io::Result<()> {
+    let alloc = rt.alloc();
+    let mut input = rt.stdin();
+    let mut output = rt.stdout();
     let mut text = [0u8; 64];
-    let head = next_bytes(alloc, input, 2)?;
+    let head = next_bytes(alloc, &mut input, 2)?;
     let part = run_parts::length_part(&head, &mut text);
-    if write(output, part, &text)? {
-        personality(alloc, input, output, base_bytes::two_at(&head, 0))?;
+    if write(&mut output, part, &text)? {
+        let size = base_bytes::two_at(&head, 0);
+        personality(alloc, &mut input, &mut output, size)?;
     }
     Ok(())
-}
-
-fn main(rt: HostRuntime) -> io::Result<()> {
-    trace(rt.alloc(), &mut rt.stdin(), &mut rt.stdout())
 }
