@@ -7,8 +7,8 @@
 ghost use Rattle.std.specs.Prelude.{◌≡◌};
 ghost use Rattle.cabinet_records.specs.Cabinet.{placing, stepping, taking_out};
 
-use base_input::next_bytes;
 use cabinet_records::Record;
+use run_input::next_bytes;
 use std::io;
 use std::io::Read;
 

@@ -5,8 +5,8 @@
 
 ghost use Rattle.std.specs.Prelude.{◌+◌, ◌<◌, ◌≤◌, ◌^◌, ◌≡◌};
 
-use base_input::next_bytes;
 use rules::answer::Verdict;
+use run_input::next_bytes;
 use std::alloc::Global;
 use std::fs::File;
 use std::io;

@@ -8,10 +8,10 @@ ghost use Rattle.std.specs.Prelude.{◌≡◌, length};
 ghost use Rattle.road_run.specs.Whole.{AtStart};
 ghost use Rattle.run_road.specs.Watch.{Rows, May};
 
-use base_input::next_bytes;
 use road_streams::{Stream, Traffic};
 use rules::answer::Verdict;
 use rules::site::Site;
+use run_input::next_bytes;
 use std::alloc::Global;
 use std::io;
 use std::io::Read;

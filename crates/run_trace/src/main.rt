@@ -6,7 +6,7 @@
 ghost use Rattle.std.specs.Prelude.{◌≤◌, ◌≡◌, length, take, IfOk, OnOk};
 ghost use Rattle.std.specs.Io.KnownBytes.{Appends};
 
-use base_input::next_bytes;
+use run_input::next_bytes;
 use run_parts::Printed;
 use state_timed::TIMED_BYTES;
 use std::alloc::Global;
