@@ -1,5 +1,5 @@
 -- The cells hold the road after n steps, and both rows keep their lengths.
-use Rattle.std.proofs.Common.{ℕ, ◌≡◌, ◌≤◌, List, length}
+use Rattle.std.proofs.Common.{ℕ, ◌≡◌, List, length}
 use Rattle.rules.specs.Kept.{fresh_kept}
 use Rattle.road_step.specs.OnRoad.{OnRoad}
 use Rattle.run_road.proofs.run.Given as goal
