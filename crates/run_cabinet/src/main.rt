@@ -1,14 +1,16 @@
 // The cabinet program. From standard input it reads calls up to its end, and prints a line for each. The four records are free at first, and
 // the 32 outputs red. A call is a kind byte and a record; of kind 0, placing, also the first output and a personality behind its two-byte
 // length; of kind 1, a step, 8 bytes of inputs; kind 2 is taking out. A call that is cut, or of another kind, prints a refusal and ends the
-// program. A call that the cabinet refuses does not.
+// program. A call that the cabinet refuses does not. A read or a write that fails ends the program with its error.
 #![tactic(auto)]
 
 ghost use Rattle.std.specs.Prelude.{◌≡◌};
 ghost use Rattle.cabinet_records.specs.Cabinet.{placing, stepping, taking_out};
 
 use cabinet_records::Record;
-use libc::{STDIN_FILENO, STDOUT_FILENO};
+use run_input::next_bytes;
+use std::io;
+use std::io::Read;
 
 // Red, yellow, green, flashing red and dark.
 const LETTERS: [u8; 5] = [82, 89, 71, 70, 68];
@@ -78,156 +80,177 @@ fn taken_out(row: [Record; 4], k: usize, outputs: &mut [u8]) -> Called
 
 // A colour's letter, or a question mark.
 fn letter(code: u8) -> u8 {
-    let at = code as usize;
+    let at = usize::from(code);
     if at < LETTERS.len() { LETTERS[at] } else { 63 }
 }
 
 // The end of a line: a letter for each output.
-fn show_outputs(outputs: &[u8]) {
-    io::write_all(STDOUT_FILENO, b" ");
+fn show_outputs(rt: &impl Print, outputs: &[u8]) -> io::Result<()> {
     let mut text = [10u8; 33];
-    let mut i: usize = 0;
-    while i < 32 && i < outputs.len() {
+    for i in 0..outputs.len().min(32) {
         text[i] = letter(outputs[i]);
-        i += 1;
     }
-    io::write_all(STDOUT_FILENO, &text);
+    rt.write_all(b" ")?;
+    rt.write_all(&text)
 }
 
 // What follows a call's record: the number and place of its refusal, or the word for what is done, and the wait if there is one.
-fn show_answer(answer: u64, done: &[u8], waits: bool) {
+fn show_answer(rt: &impl Print, answer: u64, done: &str, waits: bool) -> io::Result<()> {
     let number = answer % 256;
     let rest = answer / 256;
     if number != 0 {
-        io::write_all(STDOUT_FILENO, b"refused ");
-        io::print_decimal(STDOUT_FILENO, number);
-        io::write_all(STDOUT_FILENO, b" ");
-        io::print_decimal(STDOUT_FILENO, rest);
-        return;
+        return print!(rt; "refused {number} {rest}");
     }
-    io::write_all(STDOUT_FILENO, done);
     if waits {
-        io::print_decimal(STDOUT_FILENO, rest);
+        return print!(rt; "{done}{rest}");
     }
+    print!(rt; "{done}")
 }
 
-fn show_call(word: &[u8], k: u8) {
-    io::write_all(STDOUT_FILENO, word);
-    io::print_decimal(STDOUT_FILENO, k as u64);
-    io::write_all(STDOUT_FILENO, b" ");
+fn show_call(rt: &impl Print, word: &str, k: u8) -> io::Result<()> {
+    print!(rt; "{word}{k} ")
 }
 
 // The turn of a call that is cut or of another kind.
-fn cut(row: [Record; 4]) -> Turn {
-    io::write_all(STDOUT_FILENO, b"refused 16 0\n");
-    Turn {
-        goes: false,
-        row: row,
-    }
+fn cut(rt: &impl Print, row: [Record; 4]) -> io::Result<Turn> {
+    println!(rt; "refused 16 0")?;
+    Ok(Turn { goes: false, row })
 }
 
-// Placing the personality that is as long as the buffer.
-fn read_and_place(
+// Placing the personality, which should have `size` bytes.
+fn read_and_place<R: Read>(
+    rt: &(impl Print + AllocGlobal),
+    input: &mut R,
     row: [Record; 4],
     k: u8,
     first: u8,
-    personality: &mut [u8],
+    size: u16,
     outputs: &mut [u8],
-) -> Turn {
-    let got = io::read_full(STDIN_FILENO, personality);
-    if got < personality.len() {
-        return cut(row);
+) -> io::Result<Turn> {
+    let personality = next_bytes(rt.alloc(), input, u64::from(size))?;
+    if personality.len() < usize::from(size) {
+        return cut(rt, row);
     }
-    let called = placed(row, k as usize, personality, first as usize, outputs);
-    show_call(b"place ", k);
-    show_answer(called.answer, b"done", false);
-    show_outputs(outputs);
+    let called = placed(
+        row,
+        usize::from(k),
+        &personality,
+        usize::from(first),
+        outputs,
+    );
+    show_call(rt, "place ", k)?;
+    show_answer(rt, called.answer, "done", false)?;
+    show_outputs(rt, outputs)?;
     let after = called.row;
-    Turn {
+    Ok(Turn {
         goes: true,
         row: after,
-    }
+    })
 }
 
-fn place_turn(row: [Record; 4], k: u8, outputs: &mut [u8]) -> Turn {
-    let mut head = [0u8; 3];
-    let got = io::read_full(STDIN_FILENO, &mut head);
-    if got < 3 {
-        return cut(row);
+fn place_turn<R: Read>(
+    rt: &(impl Print + AllocGlobal),
+    input: &mut R,
+    row: [Record; 4],
+    k: u8,
+    outputs: &mut [u8],
+) -> io::Result<Turn> {
+    let head = next_bytes(rt.alloc(), input, 3)?;
+    if head.len() < 3 {
+        return cut(rt, row);
     }
     let first = base_bytes::byte_at(&head, 0);
-    let mut space = io::large_buffer();
-    let length = io::count(base_bytes::two_at(&head, 1) as isize, &space);
-    read_and_place(row, k, first, &mut space[..length], outputs)
+    let size = base_bytes::two_at(&head, 1);
+    read_and_place(rt, input, row, k, first, size, outputs)
 }
 
-fn step_turn(row: [Record; 4], k: u8, outputs: &mut [u8]) -> Turn {
-    let mut bytes = [0u8; 8];
-    let got = io::read_full(STDIN_FILENO, &mut bytes);
-    if got < 8 {
-        return cut(row);
+fn step_turn<R: Read>(
+    rt: &(impl Print + AllocGlobal),
+    input: &mut R,
+    row: [Record; 4],
+    k: u8,
+    outputs: &mut [u8],
+) -> io::Result<Turn> {
+    let bytes = next_bytes(rt.alloc(), input, 8)?;
+    if bytes.len() < 8 {
+        return cut(rt, row);
     }
-    let called = stepped(row, k as usize, base_bytes::eight_at(&bytes, 0), outputs);
-    show_call(b"step ", k);
-    show_answer(called.answer, b"wait ", true);
-    show_outputs(outputs);
+    let called = stepped(
+        row,
+        usize::from(k),
+        base_bytes::eight_at(&bytes, 0),
+        outputs,
+    );
+    show_call(rt, "step ", k)?;
+    show_answer(rt, called.answer, "wait ", true)?;
+    show_outputs(rt, outputs)?;
     let after = called.row;
-    Turn {
+    Ok(Turn {
         goes: true,
         row: after,
-    }
+    })
 }
 
-fn take_out_turn(row: [Record; 4], k: u8, outputs: &mut [u8]) -> Turn {
-    let called = taken_out(row, k as usize, outputs);
-    show_call(b"take ", k);
-    show_answer(called.answer, b"done", false);
-    show_outputs(outputs);
+fn take_out_turn(rt: &impl Print, row: [Record; 4], k: u8, outputs: &mut [u8]) -> io::Result<Turn> {
+    let called = taken_out(row, usize::from(k), outputs);
+    show_call(rt, "take ", k)?;
+    show_answer(rt, called.answer, "done", false)?;
+    show_outputs(rt, outputs)?;
     let after = called.row;
-    Turn {
+    Ok(Turn {
         goes: true,
         row: after,
-    }
+    })
 }
 
 // The turn of the call that is next in the input.
-fn take_turn(row: [Record; 4], outputs: &mut [u8]) -> Turn {
-    let mut head = [0u8; 2];
-    let got = io::read_full(STDIN_FILENO, &mut head);
-    if got == 0 {
-        return Turn {
-            goes: false,
-            row: row,
-        };
+fn take_turn<R: Read>(
+    rt: &(impl Print + AllocGlobal),
+    input: &mut R,
+    row: [Record; 4],
+    outputs: &mut [u8],
+) -> io::Result<Turn> {
+    let head = next_bytes(rt.alloc(), input, 2)?;
+    if head.len() == 0 {
+        return Ok(Turn { goes: false, row });
     }
-    if got < 2 {
-        return cut(row);
+    if head.len() < 2 {
+        return cut(rt, row);
     }
     let k = base_bytes::byte_at(&head, 1);
     match base_bytes::byte_at(&head, 0) {
-        0 => place_turn(row, k, outputs),
-        1 => step_turn(row, k, outputs),
-        2 => take_out_turn(row, k, outputs),
-        _ => cut(row),
+        0 => place_turn(rt, input, row, k, outputs),
+        1 => step_turn(rt, input, row, k, outputs),
+        2 => take_out_turn(rt, row, k, outputs),
+        _ => cut(rt, row),
     }
 }
 
-// Takes turns. A proved loop has to end, so it counts them down from a number that no input reaches.
-fn run(row: [Record; 4], outputs: &mut [u8]) {
+// Takes turns. A proved loop has to end, so it counts them up to a number that no input reaches.
+fn run<R: Read>(
+    rt: &(impl Print + AllocGlobal),
+    input: &mut R,
+    row: [Record; 4],
+    outputs: &mut [u8],
+) -> io::Result<()> {
     let mut kept = row;
-    let mut turns = u64::MAX;
-    while turns > 0 {
-        let next = take_turn(kept, outputs);
+    for _ in 0..u64::MAX {
+        let next = take_turn(rt, input, kept, outputs)?;
         if !next.goes {
-            return;
+            break;
         }
         let after = next.row;
         kept = after;
-        turns -= 1;
     }
+    Ok(())
 }
 
-fn main() {
+fn main(rt: HostRuntime) -> io::Result<()> {
     let mut outputs = [0u8; 32];
-    run([cabinet_records::free_record(); 4], &mut outputs);
+    run(
+        &rt,
+        &mut rt.stdin(),
+        [cabinet_records::free_record(); 4],
+        &mut outputs,
+    )
 }

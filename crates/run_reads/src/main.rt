@@ -1,12 +1,16 @@
 // Compares the reader's verdict with each vector of the file `reads`. A vector has a two-byte length, the bytes, the number (1 byte) and
 // the place (4 bytes). The sections of an accepted vector are looked up; together they must be all of its bytes. Prints how many vectors
-// there are, how many agree, and the first that does not.
+// there are, how many agree, and the first that does not. A file that can't be opened or read ends the program with the error.
 #![tactic(auto)]
 
 ghost use Rattle.std.specs.Prelude.{◌+◌, ◌<◌, ◌≤◌, ◌^◌, ◌≡◌};
 
-use libc::STDOUT_FILENO;
 use rules::answer::Verdict;
+use run_input::next_bytes;
+use std::alloc::Global;
+use std::fs::File;
+use std::io;
+use std::io::Read;
 
 // More vectors than the file has.
 const MOST: u64 = 100000;
@@ -32,8 +36,7 @@ const KINDS: u16 = 9;
 // Whether the sections, each with a head of 4 bytes, make up the whole personality.
 fn whole(personality: &[u8]) -> bool {
     let mut left = personality.len();
-    let mut kind: u16 = 1;
-    while kind <= KINDS {
+    for kind in 1..=KINDS {
         let report = read_lookup::lookup_report(personality, kind);
         if report.number == 0 {
             let body = read_lookup::section_of(personality, kind);
@@ -43,7 +46,6 @@ fn whole(personality: &[u8]) -> bool {
             left -= 4;
             left -= body.len();
         }
-        kind += 1;
     }
     left == 0
 }
@@ -61,34 +63,34 @@ fn agrees(personality: &[u8], number: u8, place: u32) -> bool {
 }
 
 // Compares the bytes with the number and place that follow them in the file.
-fn compare(file: i32, personality: &[u8]) -> bool {
-    let mut right = [0u8; 5];
-    let got = io::read_full(file, &mut right);
-    got == 5
-        && agrees(
-            personality,
-            base_bytes::byte_at(&right, 0),
-            base_bytes::four_at(&right, 1),
-        )
+fn compare<R: Read>(alloc: Global, file: &mut R, personality: &[u8]) -> io::Result<bool> {
+    let right = next_bytes(alloc, file, 5)?;
+    Ok(
+        right.len() == 5
+            && agrees(
+                personality,
+                base_bytes::byte_at(&right, 0),
+                base_bytes::four_at(&right, 1),
+            ),
+    )
 }
 
-// Fills the buffer from the file and compares.
-fn take(file: i32, personality: &mut [u8]) -> bool {
-    let got = io::read_full(file, personality);
-    got == personality.len() && compare(file, personality)
+// Reads a vector of `size` bytes and compares.
+fn take<R: Read>(alloc: Global, file: &mut R, size: u16) -> io::Result<bool> {
+    let personality = next_bytes(alloc, file, u64::from(size))?;
+    if personality.len() < usize::from(size) {
+        return Ok(false);
+    }
+    compare(alloc, file, &personality)
 }
 
-fn next(file: i32) -> Found {
-    let mut head = [0u8; 2];
-    let got = io::read_full(file, &mut head);
-    if got < 2 {
-        return Found::Ended;
+fn next<R: Read>(alloc: Global, file: &mut R) -> io::Result<Found> {
+    let head = next_bytes(alloc, file, 2)?;
+    if head.len() < 2 {
+        return Ok(Found::Ended);
     }
-    let mut space = io::large_buffer();
-    let length = io::count(base_bytes::two_at(&head, 0) as isize, &space);
-    Found::Vector {
-        agrees: take(file, &mut space[..length]),
-    }
+    let agrees = take(alloc, file, base_bytes::two_at(&head, 0))?;
+    Ok(Found::Vector { agrees })
 }
 
 fn counted(tally: Tally, i: u64, agrees: bool) -> Tally
@@ -110,42 +112,28 @@ fn counted(tally: Tally, i: u64, agrees: bool) -> Tally
     }
 }
 
-fn print(name: &[u8], n: u64) {
-    io::write_all(STDOUT_FILENO, name);
-    io::print_decimal(STDOUT_FILENO, n);
-    io::write_all(STDOUT_FILENO, b"\n");
-}
-
-fn run(file: i32) -> Tally {
+fn run<R: Read>(alloc: Global, file: &mut R) -> io::Result<Tally> {
     let mut tally = Tally {
         read: 0,
         agree: 0,
         first: 0,
     };
-    let mut i: u64 = 0;
-    while i < MOST {
-        let found = next(file);
-        i += 1;
+    for i in 1..=MOST {
+        let found = next(alloc, file)?;
         match found {
-            Found::Ended => return tally,
+            Found::Ended => return Ok(tally),
             Found::Vector { agrees } => {
                 tally = counted(tally, i, agrees);
             }
         }
     }
-    tally
+    Ok(tally)
 }
 
-fn main() {
-    let path = b"reads";
-    let file = os::open_read(path);
-    if file < 0 {
-        os::fail(path);
-        return;
-    }
-    let tally = run(file);
-    libc::close(file);
-    print(b"vectors ", tally.read);
-    print(b"agree ", tally.agree);
-    print(b"first that differs ", tally.first);
+fn main(rt: HostRuntime) -> io::Result<()> {
+    let mut file = File::open(&rt, "reads")?;
+    let tally = run(rt.alloc(), &mut file)?;
+    println!(rt; "vectors {}", tally.read)?;
+    println!(rt; "agree {}", tally.agree)?;
+    println!(rt; "first that differs {}", tally.first)
 }

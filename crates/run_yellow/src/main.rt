@@ -2,8 +2,8 @@
 // the table.
 #![tactic(auto)]
 
-use libc::STDOUT_FILENO;
 use sheet_yellow::Answer;
+use std::io;
 
 // The speeds are 40 to 110 km/h.
 const SLOWEST: u32 = 40;
@@ -16,31 +16,26 @@ const GRADES: [i32; 21] = [
 ];
 
 // The line of one entry, nothing if it is out of range.
-fn show(speed: u32, grade: i32) {
+fn show(rt: &impl Print, speed: u32, grade: i32) -> io::Result<()> {
     let answer = sheet_yellow::rule::by_rule(speed, grade);
     if let Answer::Yellow { steps } = answer {
-        io::write_all(STDOUT_FILENO, b"    ");
-        io::print_decimal(STDOUT_FILENO, steps as u64);
-        io::write_all(STDOUT_FILENO, b",\n");
+        println!(rt; "    {steps},")?;
     }
+    Ok(())
 }
 
 // The lines of one speed.
-fn show_speed(speed: u32) {
-    io::write_all(STDOUT_FILENO, b"    // ");
-    io::print_decimal(STDOUT_FILENO, speed as u64);
-    io::write_all(STDOUT_FILENO, b" km/h\n");
-    let mut i: usize = 0;
-    while i < GRADES.len() {
-        show(speed, GRADES[i]);
-        i += 1;
+fn show_speed(rt: &impl Print, speed: u32) -> io::Result<()> {
+    println!(rt; "    // {speed} km/h")?;
+    for grade in &GRADES {
+        show(rt, speed, *grade)?;
     }
+    Ok(())
 }
 
-fn main() {
-    let mut speed = SLOWEST;
-    while speed <= FASTEST {
-        show_speed(speed);
-        speed += 1;
+fn main(rt: HostRuntime) -> io::Result<()> {
+    for speed in SLOWEST..=FASTEST {
+        show_speed(&rt, speed)?;
     }
+    Ok(())
 }
