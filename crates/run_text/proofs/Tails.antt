@@ -12,7 +12,8 @@ use Rattle.rules.specs.declared.state.Position.{Position}
 use Rattle.rules.specs.TraceText.{colour_letter, line_tail}
 use Rattle.run_text.specs.Lines.{leading, shown, tail_length, tail_of, Counted}
 use Rattle.run_text.proofs.Texts.{written, one_more}
-use Rattle.laws.proofs.Lists.{entry-same, past_first, past_end, letter_at}
+use Rattle.laws.proofs.Lists.{entry-same}
+use Rattle.run_text.proofs.Entries.{past_first, past_end, letter_at}
 
 -- ── Letters ──
 

@@ -62,27 +62,27 @@ module _ (b : List ℕ) (at : ℕ) where
         let next : at + i + 1 ≡ at + (i + 1) = omega arith in
         rw (zero i (omega arith), next, zero (i + 1) l)
 
-    two_at : (place i : ℕ) → place ≡ at + i → i + 1 < 148 → two_at b place ≡ 0
-    two_at place i e l = ap (two_at b) e ∙ two_none i l
+    two-zeros : (place i : ℕ) → place ≡ at + i → i + 1 < 148 → two_at b place ≡ 0
+    two-zeros place i e l = ap (two_at b) e ∙ two_none i l
 
     phase-zeros : (p : ℕ) → p < 7 → phase_in b (at + phases_at) (at + earlies_at) true p ≡ no_phase_times
     phase-zeros p l =
         rw (
-          two_at (at + phases_at + p * 12) (2 + p * 12) (omega arith) (omega arith),
-          two_at (at + phases_at + p * 12 + 2) (4 + p * 12) (omega arith) (omega arith),
-          two_at (at + phases_at + p * 12 + 4) (6 + p * 12) (omega arith) (omega arith),
-          two_at (at + phases_at + p * 12 + 6) (8 + p * 12) (omega arith) (omega arith),
-          two_at (at + phases_at + p * 12 + 8) (10 + p * 12) (omega arith) (omega arith),
-          two_at (at + phases_at + p * 12 + 10) (12 + p * 12) (omega arith) (omega arith),
-          two_at (at + earlies_at + p * 2) (134 + p * 2) (omega arith) (omega arith),
+          two-zeros (at + phases_at + p * 12) (2 + p * 12) (omega arith) (omega arith),
+          two-zeros (at + phases_at + p * 12 + 2) (4 + p * 12) (omega arith) (omega arith),
+          two-zeros (at + phases_at + p * 12 + 4) (6 + p * 12) (omega arith) (omega arith),
+          two-zeros (at + phases_at + p * 12 + 6) (8 + p * 12) (omega arith) (omega arith),
+          two-zeros (at + phases_at + p * 12 + 8) (10 + p * 12) (omega arith) (omega arith),
+          two-zeros (at + phases_at + p * 12 + 10) (12 + p * 12) (omega arith) (omega arith),
+          two-zeros (at + earlies_at + p * 2) (134 + p * 2) (omega arith) (omega arith),
         )
 
     walk-zeros : (k : ℕ) → k < 8 → walk_in b (at + walks_at) k ≡ no_walk_times
     walk-zeros k l =
         rw (
-          two_at (at + walks_at + k * 6) (86 + k * 6) (omega arith) (omega arith),
-          two_at (at + walks_at + k * 6 + 2) (88 + k * 6) (omega arith) (omega arith),
-          two_at (at + walks_at + k * 6 + 4) (90 + k * 6) (omega arith) (omega arith),
+          two-zeros (at + walks_at + k * 6) (86 + k * 6) (omega arith) (omega arith),
+          two-zeros (at + walks_at + k * 6 + 2) (88 + k * 6) (omega arith) (omega arith),
+          two-zeros (at + walks_at + k * 6 + 4) (90 + k * 6) (omega arith) (omega arith),
         )
 
   -- the records one by one
@@ -150,7 +150,7 @@ module _ (b : List ℕ) (at : ℕ) where
         (λ all.
         let zero : (i : ℕ) → i < 148 → byte_at b (at + i) ≡ 0 = λ i l. eqb-true _ 0 (all-at (λ k. eqb (byte_at b (at + k)) 0) 148 i all l) in
         ap (blank site)
-        (none_read (two_at zero at 0 (omega arith) (omega arith)) (λ p l. phase-read b at p l ∙ phase-zeros zero p l)
+        (none_read (two-zeros zero at 0 (omega arith) (omega arith)) (λ p l. phase-read b at p l ∙ phase-zeros zero p l)
         (λ k l. walk-read b at k l ∙ walk-zeros zero k l))
         ∙ blank_none)
         (λ ok. all-each (λ k. eqb (byte_at b (at + k)) 0) 148 (λ i l. eq-eqb _ 0 (none_written bytes room (blank-told ok) i l)))

@@ -42,25 +42,25 @@ site-of-requires : tie.Need-site_of-site-requires
 site-of-requires c κs = accepted-fits (accepted c.before) c.read_with_layout-reading.ensures.1
 
 -- the site is the one that the accepted bytes describe, and it is sound
-module _ (c : tie.After-site-of) where
+module _ (c : tie.After-site_of-site) where
   abbrev site : Site
-  site = c.site-of.result
+  site = c.site_of-site.result
 
   abbrev bytes : List ℕ
-  bytes = c.before.before.before.before.before.before.before.args.personality.now
+  bytes = c.args.personality.now
 
   abbrev out : List ℕ
-  out = c.before.before.before.before.before.before.before.args.buffer.now
+  out = c.args.buffer.now
 
   known : verdict_of bytes ≡ Accepted
   known = accepted c.before.before
 
   sound : Sound site
   unfolding AcceptedIsSound
-  sound = subst Sound (sym c.site-of.ensures) (accepted-is-sound bytes known)
+  sound = subst Sound (sym c.site_of-site.ensures) (accepted-is-sound bytes known)
 
   count : wait_count site ≡ wait_count (site_of bytes)
-  count = ap wait_count c.site-of.ensures
+  count = ap wait_count c.site_of-site.ensures
 
 add-count : tie.Need-overflow_add-count
 add-count c =

@@ -82,7 +82,7 @@ returns c =
     (line-then why.phase [] (alone why) c.put_phase-start.ensures c.put_told-first.ensures)
     c.put_told-second.ensures)
     c.put_told-third.ensures)
-    c.put-Walks.ensures)
+    c.put_walks.ensures)
     c.requires.1
 
 pub put_line_spec : {M : Type 1} → statement M

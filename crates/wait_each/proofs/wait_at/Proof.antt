@@ -16,20 +16,20 @@ cast-result c =
     omega (arith, c.phase_wait.ensures, wait-fits c.args.site c.requires.0 c.args.i c.if-i-phases.true)
 
 -- past the phases it is a movement of the site, and its phase is found
-module _ (c : tie.After-phase-of-movement) where
+module _ (c : tie.After-phase_of_movement-q) where
   abbrev site : Site
-  site = c.before.before.args.site
+  site = c.args.site
 
   abbrev m : ℕ
-  m = c.before.before.args.i - site.size.phases
+  m = c.args.i - site.size.phases
 
   exists : m < site.size.movements
-  exists = omega (arith, c.before.before.requires.1, c.before.if1.false)
+  exists = omega (arith, c.requires.1, c.if-i-phases.false)
 
-  of-phase : (c.phase-of-movement.result < site.size.phases) × (crosses site.crossings m c.phase-of-movement.result ≡ true)
+  of-phase : (c.phase_of_movement-q.result < site.size.phases) × (crosses site.crossings m c.phase_of_movement-q.result ≡ true)
   of-phase =
-      subst (λ (q : ℕ). (q < site.size.phases) × (crosses site.crossings m q ≡ true)) (sym c.phase-of-movement.ensures)
-      (phase-fits site c.before.before.requires.0 m exists)
+      subst (λ (q : ℕ). (q < site.size.phases) × (crosses site.crossings m q ≡ true)) (sym c.phase_of_movement-q.ensures)
+      (phase-fits site c.requires.0 m exists)
 
 movement-wait-requires : tie.Need-movement_wait-requires
 movement-wait-requires c κs = (c.requires.0, (of-phase c).0, exists c, (of-phase c).1)

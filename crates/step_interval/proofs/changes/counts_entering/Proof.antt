@@ -9,16 +9,16 @@ returns : tie.Need-returns-then-is_running
 unfolding counts_entering
 returns c =
     ⊎_elim
-    (λ w. rw (w.1, ← c.is_minimum_green.ensures, w.0.true, ← c.is_running.ensures, c.if-is_running.true))
-    (λ w. rw (w.1, ← c.is_minimum_green.ensures, w.0.false, ← c.is_running.ensures, c.if-is_running.true))
+    (λ w. rw (w.gap-is, ← c.is_minimum_green.ensures, w.if-is_minimum_green.true, ← c.is_running.ensures, c.if-is_running.true))
+    (λ w. rw (w.gap-is, ← c.is_minimum_green.ensures, w.if-is_minimum_green.false, ← c.is_running.ensures, c.if-is_running.true))
     c.if-is_minimum_green.branch-raw
 
 returns-2 : tie.Need-returns-else-is_running
 unfolding counts_entering
 returns-2 c =
     ⊎_elim
-    (λ w. rw (w.1, ← c.is_minimum_green.ensures, w.0.true, ← c.is_running.ensures, c.if-is_running.false))
-    (λ w. rw (w.1, ← c.is_minimum_green.ensures, w.0.false, ← c.is_running.ensures, c.if-is_running.false))
+    (λ w. rw (w.gap-is, ← c.is_minimum_green.ensures, w.if-is_minimum_green.true, ← c.is_running.ensures, c.if-is_running.false))
+    (λ w. rw (w.gap-is, ← c.is_minimum_green.ensures, w.if-is_minimum_green.false, ← c.is_running.ensures, c.if-is_running.false))
     c.if-is_minimum_green.branch-raw
 
 pub counts_entering_spec : {M : Type 1} → statement M
