@@ -41,8 +41,8 @@ loop-again c =
     let own = own-walking c.before in (
       omega arith,
       ⊎_elim
-          (λ w. w.2 ∙ passing-more walking c.loop-k.k c.loop-k.invariant.1 (sym own ∙ w.0.true) w.1.ensures)
-          (λ w. w.1 ∙ passing-same walking c.loop-k.k c.loop-k.invariant.1 (sym own ∙ w.0.false))
+          (λ w. w.set-is ∙ passing-more walking c.loop-k.k c.loop-k.invariant.1 (sym own ∙ w.if-is_walk_or_first.true) w.with-set.ensures)
+          (λ w. w.set-is ∙ passing-same walking c.loop-k.k c.loop-k.invariant.1 (sym own ∙ w.if-is_walk_or_first.false))
           c.if-is_walk_or_first.branch-raw,
     )
 

@@ -14,12 +14,12 @@ unfolding damaged
 returns c = rw (ne_eqb (length c.args.sealed.now) sealed_bytes c.if-sealed-ne-SEALED_BYTES.true)
 
 slice-aggregate-crc : tie.Need-slice_bounds-crc-end
-slice-aggregate-crc c = sym (length-take-le 343 c.before.before.before.before.args.sealed.now (omega arith))
+slice-aggregate-crc c = sym (length-take-le 343 c.args.sealed.now (omega arith))
 
 returns-2 : tie.Need-returns
 unfolding damaged
 returns-2 c =
-    rw (c.four_in.ensures, c.crc.ensures, eq-eqb (length left.before.before.args.sealed.now) sealed_bytes c.if-sealed-ne-SEALED_BYTES.false)
+    rw (c.four_in.ensures, c.crc.ensures, eq-eqb (length c.args.sealed.now) sealed_bytes c.if-sealed-ne-SEALED_BYTES.false)
 
 pub damaged_spec : {M : Type 1} → statement M
 damaged_spec =

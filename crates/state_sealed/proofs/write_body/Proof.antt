@@ -13,21 +13,21 @@ put-two-requires : tie.Need-put_two-requires
 put-two-requires c κs = simp length-set (omega arith)
 
 -- the length after two parts and after three
-sized : (c : tie.After-put_two) → length c.put_two.new.0 ≡ sealed_bytes
-sized c = c.put_two.auto.sealed ∙ length-set c.args.sealed.now 0 interface_version ∙ c.requires.2
+sized : (c : tie.After-put_two) → length c.put_two.new.bytes ≡ sealed_bytes
+sized c = c.put_two.auto.bytes ∙ length-set c.args.sealed.now 0 interface_version ∙ c.requires.2
 
 put-four-requires : tie.Need-put_four-requires
 put-four-requires c κs = omega (arith, sized c.before.before.before.before)
 
-marked : (c : tie.After-put_four) → length c.put_four.new.0 ≡ sealed_bytes
-marked c = c.put_four.auto.sealed ∙ sized c.before.before.before.before.before
+marked : (c : tie.After-put_four) → length c.put_four.new.bytes ≡ sealed_bytes
+marked c = c.put_four.auto.bytes ∙ sized c.before.before.before.before.before
 
 put-all-requires : tie.Need-put_all-requires
 put-all-requires c κs = omega (arith, marked c.before.before.before)
 
 same_length : tie.Need-shape_of-sealed
 same_length c =
-    c.put_all.auto.sealed ∙ marked c.before.before.before.before.before.before ∙ sym c.requires.2
+    c.put_all.auto.bytes ∙ marked c.before.before.before.before.before.before ∙ sym c.requires.2
 
 returns : tie.Need-returns
 unfolding two

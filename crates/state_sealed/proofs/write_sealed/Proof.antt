@@ -7,11 +7,11 @@ use Rattle.state_sealed.proofs.write_sealed.Statement.{statement}
 use Rattle.state_sealed.proofs.write_sealed.Tie as tie
 
 slice-aggregate-crc : tie.Need-slice_bounds-crc-end-2
-slice-aggregate-crc c = sym (length-take-le 343 c.write_body.new.1.1.0 (search rules))
+slice-aggregate-crc c = sym (length-take-le 343 c.write_body.new.sealed (search rules))
 
 returns : tie.Need-returns
 returns c =
-    let a = body.before.before.before.before.before.args in
+    let a = c.args in
     rw (c.put_four.ensures, c.crc-check.ensures, c.write_body.ensures)
     (sealed-written a.personality.now a.state.now a.sealed.now (search rules) (search rules))
 
