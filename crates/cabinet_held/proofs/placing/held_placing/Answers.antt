@@ -13,7 +13,7 @@ unfolding placing_checks
 fill-requires c =
     let a = c.args in
     let checked : c.checks-verdict.result ≡ placing_checks a.personality.now a.free a.met a.first (length a.outputs.now)
-        = rw (← c.read_with_layout-reading.ensures.0, ← c.outputs_of-count.ensures, ← c.past_last.ensures) c.checks-verdict.ensures in
+    = rw (← c.read_with_layout-reading.ensures.0, ← c.outputs_of-count.ensures, ← c.past_last.ensures) c.checks-verdict.ensures in
     omega (arith, placing-fits _ _ _ _ _ (sym checked ∙ c.in-Accepted.is), c.outputs_of-count.ensures)
 
 pub returns-in-Accepted : goal.returns-in-Accepted
@@ -21,7 +21,7 @@ unfolding placing_checks
 returns-in-Accepted c =
     let a = c.args in
     let checked : c.checks-verdict.result ≡ placing_checks a.personality.now a.free a.met a.first (length a.outputs.now)
-        = rw (← c.read_with_layout-reading.ensures.0, ← c.outputs_of-count.ensures, ← c.past_last.ensures) c.checks-verdict.ensures in
+    = rw (← c.read_with_layout-reading.ensures.0, ← c.outputs_of-count.ensures, ← c.past_last.ensures) c.checks-verdict.ensures in
     let fits = placing-fits _ _ _ _ _ (sym checked ∙ c.in-Accepted.is) in (
       checked,
       c.read_with_layout-reading.ensures.1,
@@ -33,5 +33,5 @@ unfolding placing_checks
 returns-in_default c =
     let a = c.args in
     let checked : c.checks-verdict.result ≡ placing_checks a.personality.now a.free a.met a.first (length a.outputs.now)
-        = rw (← c.read_with_layout-reading.ensures.0, ← c.outputs_of-count.ensures, ← c.past_last.ensures) c.checks-verdict.ensures in
+    = rw (← c.read_with_layout-reading.ensures.0, ← c.outputs_of-count.ensures, ← c.past_last.ensures) c.checks-verdict.ensures in
     (checked, c.read_with_layout-reading.ensures.1, turned-refused red _ _ _ checked c.in_default.is)
