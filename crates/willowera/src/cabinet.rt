@@ -1,5 +1,5 @@
 // Four sites in one cabinet. The row is a lent slice of four records, and k is the number of one, from 0. Each call takes the record apart
-// and calls the covered function on its parts where they stand; no record is copied. A row of another length has no records.
+// and calls a function of `cabinet_parts` on its parts where they stand; no record is copied. A row of another length has no records.
 ghost use Rattle.std.specs.Prelude.{◌<◌, length, ◌≡◌};
 ghost use Rattle.cabinet_records.specs.Cabinet.{record_count, record_of, meets_record, overlaps, placing, stepping, taking_out};
 
@@ -34,8 +34,7 @@ fn overlaps(row: &[Record], k: usize, first: usize, count: u8) -> bool
 }
 
 // Places a site in a free record, fresh and with its outputs red: 0, or a refusal.
-#[unsafe(no_mangle)]
-pub extern "C" fn willowera_cabinet_place(
+pub fn willowera_cabinet_place(
     row: &mut [Record],
     k: usize,
     personality: &[u8],
@@ -65,13 +64,7 @@ pub extern "C" fn willowera_cabinet_place(
 }
 
 // One step of 0.1 s of the site in a record: its wait bound, or a refusal.
-#[unsafe(no_mangle)]
-pub extern "C" fn willowera_cabinet_step(
-    row: &mut [Record],
-    k: usize,
-    inputs: u64,
-    outputs: &mut [u8],
-) -> u64
+pub fn willowera_cabinet_step(row: &mut [Record], k: usize, inputs: u64, outputs: &mut [u8]) -> u64
     ensures { record { answer = result; row = row.new; outputs = outputs.new }
         ≡ stepping row.old outputs.old k inputs }
 {
@@ -91,12 +84,7 @@ pub extern "C" fn willowera_cabinet_step(
 }
 
 // Takes out the site in a record; its outputs turn dark: 0, or a refusal.
-#[unsafe(no_mangle)]
-pub extern "C" fn willowera_cabinet_take_out(
-    row: &mut [Record],
-    k: usize,
-    outputs: &mut [u8],
-) -> u64
+pub fn willowera_cabinet_take_out(row: &mut [Record], k: usize, outputs: &mut [u8]) -> u64
     ensures { record { answer = result; row = row.new; outputs = outputs.new }
         ≡ taking_out row.old outputs.old k }
 {

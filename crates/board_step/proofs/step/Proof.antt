@@ -163,14 +163,14 @@ goes c =
     let a = c.args in
     let takes = c.takes_over-over.ensures in
     ⊎_elim
-    (λ w. goes_over (site c.before.before.before.before.before.before) c.read-before.result a.state.now (ready c.before.before.before.before.before.before) takes w.0.true
-    (w.4
+    (λ w. goes_over (site c.before.before.before.before.before.before) c.read-before.result a.state.now (ready c.before.before.before.before.before.before) takes w.if-over.true
+    (w.site-is
     ∙ waiting-site a.personality.now a.state.now a.inputs a.colours.now (accepted c.before.before.before.before.before.before.before.before.before.before.before.before.before) (valid c.before.before.before.before.before.before)
-    (ap (λ (x : Site). takes_over_in x a.state.now) (sym (ruled c.before.before.before.before.before.before)) ∙ sym takes ∙ w.0.true)
-    w.2.ensures
+    (ap (λ (x : Site). takes_over_in x a.state.now) (sym (ruled c.before.before.before.before.before.before)) ∙ sym takes ∙ w.if-over.true)
+    w.site_in-site-then-over.ensures
     ∙ ap (λ (x : Site). under x (timed_decoded a.state.now).waiting.times) (sym (ruled c.before.before.before.before.before.before)))
-    (w.5 ∙ w.3.ensures))
-    (λ w. goes_on (site c.before.before.before.before.before.before) c.read-before.result a.state.now (ready c.before.before.before.before.before.before) takes w.0.false w.1 w.2)
+    (w.before-is ∙ w.ready-before.ensures))
+    (λ w. goes_on (site c.before.before.before.before.before.before) c.read-before.result a.state.now (ready c.before.before.before.before.before.before) takes w.if-over.false w.site-is w.before-is)
     c.if-over.branch-raw
 
 kept-stepped-requires : tie.Need-kept_stepped-next-requires
@@ -182,7 +182,7 @@ put-next-requires c κs = known c.before.before.before.before.before.before.befo
 shown-requires : tie.Need-shown-requires
 shown-requires c κs =
     let by = goes c.before.before.before.before.before.before in
-    (by.sound, subst (λ (x : Site). x.size.groups ≤ length c.args.colours.now) by.ruled c.if-colours-site.left)
+    (by.sound, subst (λ (x : Site). x.size.groups ≤ length c.args.colours.now) by.ruled c.if-colours-site.false)
 
 returns-6 : tie.Need-returns
 returns-6 c =
