@@ -13,9 +13,6 @@ use borrow.Author.Rules.{rules}
 use Rattle.road_run.proofs.run.Statement.{statement}
 use Rattle.road_run.proofs.run.Tie as tie
 
-abbrev entry : tie.After-road_steps-state → tie.Start
-entry c = c.before.before.before.before.before
-
 -- the state that the road begins with is the fresh state
 begun :
     (c : tie.After-fresh) (b : List ℕ) →
@@ -32,11 +29,11 @@ ended :
     (c : tie.After-road_steps-state) (b : List ℕ) →
     let a = c.args in
     OfPersonality b a.site a.streams.now a.steps →
-    OnRoad b a.streams.now a.steps a.site a.steps c.road_steps-state.result c.road_steps-state.new.1.1.1.1.0
+    OnRoad b a.streams.now a.steps a.site a.steps c.road_steps-state.result c.road_steps-state.new.cells
 ended c b start =
-    let steps = (entry c).args.steps in
+    let steps = c.args.steps in
     let whole : 0 + steps ≡ steps = omega arith in
-    rw whole at (c.road-steps.ensures.road b steps 0 (omega arith) (begun c.before.before b start))
+    rw whole at (c.road_steps-state.ensures.road b steps 0 (omega arith) (begun c.before.before b start))
 
 put-results-requires : tie.Need-put_results-requires
 unfolding stream_count

@@ -9,12 +9,12 @@ use Rattle.road_step.proofs.release.Tie as tie
 
 released-requires : tie.Need-released-traffic-requires
 released-requires c κs =
-    let pre = c.before.before.before.before.requires in
+    let pre = c.requires in
     rw c.traffic_at-before.ensures (pre.1, pre.2)
 
 returns : tie.Need-returns-then-shows_green
 returns c =
-    let a = chosen.before.before.args in
+    let a = c.args in
     λ colour e.
     c.put_at.ensures
     ∙ ap (put_at a.cells.now a.i)
