@@ -65,7 +65,7 @@ releases-requires c κs =
 
 add-n : tie.Need-overflow_add-n invariant-loop-n decreases-loop-n
 add-n c =
-    search (rules, c.loop-n-test.true, c.fits.steps)
+    search (rules, c.loop-n-test.true, c.ranges.steps)
 
 loop-less : tie.Need-loop-n-smaller invariant-loop-n decreases-loop-n
 loop-less c = search rules
