@@ -55,7 +55,7 @@ loop-again c =
     let bytes = c.args.bytes.now in
     let byte = get_or bytes c.loop-i.i 0 in
     let small : get_or c.args.bytes.now c.loop-i.i 0 < 256 = omega (arith, c.shared_slice_known-in-loop-i-1.given c.loop-i.i) in
-        let inside : c.loop-i.i < length bytes = omega arith in (
+    let inside : c.loop-i.i < length bytes = omega arith in (
       search rules,
       by-table c.table-table.result c.loop-i.register byte c.table-table.ensures small
           ∙ ap (λ (register : ℕ). taken register byte) c.loop-i.invariant.1
