@@ -46,7 +46,7 @@ def read(path):
 def files_in(folder, ending):
     found = []
     for here, folders, files in os.walk(os.path.join(ROOT, folder)):
-        folders[:] = [f for f in folders if f not in ('target', '.git')]
+        folders[:] = [f for f in folders if f not in ('target', 'out', '.git')]
         found += [os.path.relpath(os.path.join(here, f), ROOT) for f in files if f.endswith(ending)]
     return sorted(found)
 
@@ -160,7 +160,7 @@ def filled(page, tree):
 def taken(text):
     """(file, names) of each line that takes names from specs/ or from the types, or passes them on."""
     return [(core.source_of(crate, rest)[0], {n.split(' as ')[-1].strip() for n in names.split(',')})
-            for crate, rest, names in re.findall(r'(?m)^(?:ghost |pub )?use Rattle·(\w+?)(?:·specs)?\.specs\.([\w.-]+)\.\{([^}]*)\}', text)]
+            for crate, rest, names in re.findall(r'(?m)^(?:ghost |pub )?use Rattle\.(?!std\.)(\w+)\.specs\.([\w.]+)\.\{([^}]*)\}', text)]
 
 
 def missing(page):
@@ -178,11 +178,12 @@ def missing(page):
     for number, titles, cells, path in rows_of(page):
         for function in functions_of(titles, cells):
             text = (contract(path, function) if os.path.exists(os.path.join(ROOT, path)) else None) or ''
-            words = set(re.findall(r"[A-Za-z][\w-]*", text))
+            words = set(re.findall(r"[A-Za-z][\w'-]*", text))
             promised.add(function)
             source = read(path)
             cited = [f for f, names in taken(source) if names & words]
-            cited += [f'crates/{crate}/src/{module}.rt' for crate, module, name in re.findall(r'(?m)^use (\w+)::(\w+)::([A-Z]\w+);', source) if name in words]
+            cited += [f'crates/{crate}/src/{module}.rt' for crate, module, names in re.findall(r'(?m)^use (\w+)::(\w+)::(\w+|\{[^{}]*\});', source)
+                      if words & set(re.findall(r'\b[A-Z]\w*[a-z]\w*', names))]
             wrong += [f'{path}: the contract of {function} takes names from {f}, which {PAGE} does not list' for f in cited if f not in listed]
     for path in files_in('crates/willowera/src', '.rt'):
         for function in re.findall(r'pub extern "C" fn (\w+)', read(path)):
@@ -246,7 +247,7 @@ def self_test():
     kind = next(path for _, _, _, path in rows if path.startswith('crates/rules/src/'))
     function = next(f for _, titles, cells, path in rows if path.startswith('crates/willowera/') for f in functions_of(titles, cells))
     internal = next(f for f in spec_files() if is_internal(f))
-    passing = next(f for f in spec_files() if '\npub use Rattle' in read(f))
+    passing = next(f for f in spec_files() if '\npub use Rattle.' in read(f) and not re.search(r'\npub use Rattle\.std\.', read(f)))
     passed = taken(read(passing))[0][0]
     wrong_count = re.sub(r'(?m)^(\| \[`[^|]*\| )(\d)', lambda m: m.group(1) + str((int(m.group(2)) + 1) % 10), page, count=1)
     core_row = next(line for line in page[page.index(core.BEGIN):].split('\n') if line.startswith('| [`'))
@@ -268,10 +269,10 @@ def self_test():
     path, name = core.BOARD, 'BoardDemandThree'
     text = tree.text(path)
     ending = text.split('\n')[tree.file(path).definitions[name].lines[-1]]
-    first = re.search(r'\nuse Rattle·[^{]*\{(\w+)', text)
-    added = '\nunfoldable pub addedHere : Type 0\naddedHere = Unit {0}\n'
+    first = re.search(r'\nuse Rattle\.(?!std\.)[^{]*\{(\w+)', text)
+    added = '\nunfoldable pub added_here : Type 0\nadded_here = Unit {0}\n'
     changes = {
-        'a definition that a statement of the core cites now': (text.replace(ending, f'{ending} × addedHere') + added, 'the tree has: In all the core has'),
+        'a definition that a statement of the core cites now': (text.replace(ending, f'{ending} × added_here') + added, 'the tree has: In all the core has'),
         'a longer definition of the core': (text.replace(ending, f'{ending}\n    × Unit {{0}}'), 'the tree has: In all the core has'),
         'a name in the core that nothing has': (text[:first.start(1)] + 'NoSuchName as ' + text[first.start(1):], f'it takes {first.group(1)}, which'),
         'a statement that is gone': (text.replace(f' {name} :', ' OtherName :'), f'no definition {name}'),
