@@ -1,7 +1,6 @@
 """The kit and its programs, refusals, and the folder of what is built: for the other programs here."""
 
 import fcntl
-import os
 import shutil
 import subprocess
 import sys
@@ -18,17 +17,15 @@ class Refused(Exception):
 
 def kit():
     """The folder of the kit, found as the command `rt` finds it."""
-    if "RATTLE_HOME" in os.environ:
-        return Path(os.environ["RATTLE_HOME"]).resolve()
     command = shutil.which("rt")
     if command is None:
-        raise Refused("the command rt is not on the path: install the Rattle kit, or set RATTLE_HOME to its folder")
+        raise Refused("the command rt is not on the path: install the Rattle kit")
     return Path(command).resolve().parent.parent
 
 
 def tool(name):
     """A program of the kit's toolchain. Its clang holds several programs, and the name by which it is called says which."""
-    clang = kit() / "on" / os.uname().machine / "toolchain" / "bin" / "clang"
+    clang = kit() / "toolchain" / "bin" / "clang"
     if name == "clang":
         return clang
     link = BUILT / "tools" / name
