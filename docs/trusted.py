@@ -22,11 +22,14 @@ the line below the mark `<!-- totals -->`, and the tables of the core between th
 
 The last line of a check is its verdict, `logic=proved` and other words. Each word is on the page in backticks, as it is or up to its `=`. The programs with
 `axioms=` are those of the table behind the mark `<!-- axioms -->`, with the same numbers. A library says nothing of axioms, but a static library does: the last
-verdict of willowera must be that of `rt staticlib`.
+verdict of willowera_c must be that of tools/library.sh, which builds it. The other verdicts are in target/log/proofs, what the last `rt ci` said (or `rt all check`).
+It prints none of a crate that an earlier run proved, with the same files, and says so. `rt check` is then asked for the verdict of a program, and a library has none
+to compare: `rt ci` itself refuses a verdict with a word that it does not know.
 """
 import difflib
 import os
 import re
+import subprocess
 import sys
 
 import core
@@ -35,7 +38,8 @@ from core import PAGE, ROOT, grouped
 TOTALS = '<!-- totals -->'
 AXIOMS = '<!-- axioms -->'
 LOGS = 'target/log'
-STATIC = 'willowera'
+STATIC = 'willowera_c'
+KEPT = 'proved by an earlier run'
 
 
 def read(path):
@@ -208,25 +212,51 @@ def check(page, tree):
 # ── Verdicts ──
 
 
+def log(name):
+    path = f'{LOGS}/{name}'
+    return read(path) if os.path.exists(os.path.join(ROOT, path)) else ''
+
+
+def verdict_in(text):
+    return (re.findall(r'(?m)^logic=.*$', text) or [''])[-1]
+
+
+def verdict_of(program):
+    """The verdict of a program that an earlier run proved, from a check over what is kept."""
+    ran = subprocess.run(['rt', 'check'], cwd=os.path.join(ROOT, 'crates', program), stdin=subprocess.DEVNULL, stdout=subprocess.PIPE, stderr=subprocess.STDOUT,
+                         text=True, check=False)
+    return verdict_in(ran.stdout) if ran.returncode == 0 else f'`rt check` ended with {ran.returncode}'
+
+
+def said_of(crates, proofs):
+    """crate -> its verdict in what `rt ci` or `rt all check` said, KEPT if an earlier run proved it, or nothing."""
+    parts = dict(re.findall(r'(?ms)^== (\w+)\n(.*?)(?=^(?:== |rt: \w+ (?:NOT )?PROVED|rt: \w+ proved)|\Z)', proofs))
+    kept = re.findall(r'(?m)^rt: (\w+) is kept: an earlier run on this machine proved|^(\w+): ok$', proofs)
+    kept = {name for names in kept for name in names}
+    return {crate: verdict_in(parts.get(crate, '')) or (KEPT if crate in kept else '') for crate in crates}
+
+
 def verdicts():
-    """crate -> the last line that its check printed, or an empty one."""
-    crates = re.findall(r'(?m)^(\w+):', read('crates.txt'))
-    logs = {crate: f'{LOGS}/{crate}.say' for crate in crates}
-    lines = {crate: re.findall(r'(?m)^logic=.*$', read(path)) if os.path.exists(os.path.join(ROOT, path)) else [] for crate, path in logs.items()}
-    return {crate: found[-1] if found else '' for crate, found in lines.items()}
+    """crate -> the last line that its check printed, KEPT, or an empty one."""
+    crates = re.findall(r'(?m)^(\w+)(?: [a-z]+)?:', read('crates.txt'))
+    said = said_of(crates, log('proofs')) | {STATIC: verdict_in(log(STATIC))}
+    programs = [crate for crate in crates if os.path.exists(os.path.join(ROOT, 'crates', crate, 'src', 'main.rt'))]
+    return said | {crate: verdict_of(crate) for crate in programs if said[crate] == KEPT}
 
 
 def judged(page, said):
     """What verdicts say and the page does not, and the other way round."""
     wrong, numbers, sums = [], {}, set()
     for crate, line in said.items():
+        if line == KEPT:
+            continue
         if not line.startswith('logic=proved '):
-            wrong.append(f'{LOGS}/{crate}.say: the crate is not proved: {line or "no check was made"}')
+            wrong.append(f'{crate}: the crate is not proved: {line or "no check was made"}')
         elif crate == STATIC and ' target=' not in line:
-            wrong.append(f'{LOGS}/{crate}.say: this is not the verdict of `rt staticlib {crate}`')
+            wrong.append(f'{crate}: this is not the verdict of tools/library.sh')
         words = [word for word in line.split() if not word.startswith(('logic=', 'functions='))]
         strange = [word for word in words if f'`{word}`' not in page and f'`{word.partition("=")[0]}=`' not in page]
-        wrong += [f'{LOGS}/{crate}.say: the verdict has {word}, which {PAGE} does not explain' for word in strange]
+        wrong += [f'{crate}: the verdict has {word}, which {PAGE} does not explain' for word in strange]
         numbers |= {crate: word.partition('=')[2] for word in words if word.startswith('axioms=')}
         sums |= {word for word in words if word.startswith('sum=')}
     wrong += [f'{LOGS}: the crates are not proved in one logic: {", ".join(sorted(sums))}'] * (len(sums) > 1)
@@ -284,7 +314,8 @@ def self_test():
     program = next(iter(rows))
     sayings = {
         'verdicts as the page has them': (said, None),
-        'a verdict with a word that the page does not explain': (said | {'laws': f'{said["laws"]} incremental=trusted'}, 'incremental=trusted'),
+        'verdicts, and a library that an earlier run proved': (said | {'rules': KEPT}, None),
+        'a verdict with a word that the page does not explain': (said | {'laws': f'{said["laws"]} cache=trusted'}, 'cache=trusted'),
         'a verdict with another value of a word': (said | {'laws': said['laws'].replace('native=nat', 'native=nat,float')}, 'native=nat,float'),
         'a crate that is proved in another logic': (said | {'laws': said['laws'].replace('sum=1', 'sum=2')}, 'not proved in one logic'),
         'a crate that is not proved': (said | {'laws': 'logic=not-proved'}, 'the crate is not proved'),
@@ -295,6 +326,9 @@ def self_test():
         'axioms of another crate': (said | {'laws': f'{said["laws"]} axioms=1'}, 'axioms of laws: the table has no row'),
         'a row without axioms': (said | {program: said['laws']}, f'axioms of {program}'),
     }
+    proofs = '== laws\n{0} a\nrt: laws proved\nrt: {1} is kept: an earlier run on this machine proved the same files\n== rules: its tests\n{0} b\n'
+    if said_of(['laws', 'rules', 'board'], proofs.format('logic=proved', 'rules')) != {'laws': 'logic=proved a', 'rules': KEPT, 'board': ''}:
+        sayings['what rt ci says'] = (said, 'what rt ci says is not read as it is')
     reports = {what: (check(text, tree), words) for what, (text, words) in mistakes.items()}
     reports |= {what: (judged(page, lines) if words else [] if judged(page, lines) else [what], words or what) for what, (lines, words) in sayings.items()}
     reports |= {what: (check(page, core.Tree({path: text})), words) for what, (text, words) in changes.items()}
@@ -313,8 +347,9 @@ def main(words):
     elif words == ['--check']:
         wrong = check(page, tree)
     elif words == ['--verdicts']:
-        wrong = judged(page, verdicts())
-        print(f'{len(verdicts())} verdicts')
+        said = verdicts()
+        wrong = judged(page, said)
+        print(f'{sum(line.startswith("logic=") for line in said.values())} verdicts, {sum(line == KEPT for line in said.values())} crates proved by an earlier run')
     else:
         print(__doc__)
         return 2
