@@ -79,7 +79,7 @@ prove() {
     if [ "${good:-0}" -eq 0 ]; then fails 'rt ci: it gives no count, or 0'; fi
     if grep -E '^rt: (ok;.*, [1-9][0-9]* bad|note: bad must-fail edits)' "$said"; then fails 'rt ci: must-fail edits that cannot be applied or read'; fi
     if [ "$status" -ne 0 ] && [ -z "$bad" ]; then fails "rt: exit status $status"; fi
-    if [ "$status" -eq 0 ] && ! grep -q '^rt: ok;' "$said"; then fails 'rt ci: it does not say that all is well'; fi
+    if [ "$status" -eq 0 ] && ! grep -q '^rt: ok;.* must-fail edits: [1-9]' "$said"; then fails 'rt ci: it does not say that all is well, or no edit was refused'; fi
 }
 
 # The same without edits and over what an earlier check kept. The programs are built by running them, whatever they say of no input.

@@ -24,19 +24,20 @@ def kit():
 
 
 def tool(name):
-    """A program of the kit's toolchain. Its clang holds several programs, and the name by which it is called says which."""
+    """A program of the kit's toolchain. Its clang holds several programs, and the name by which it is called says which. A script calls it so, and no
+    link: `rt` refuses a repository with a link in it."""
     clang = kit() / "toolchain" / "bin" / "clang"
     if name == "clang":
         return clang
-    link = BUILT / "tools" / name
-    if not link.is_symlink() or link.readlink() != clang:
-        link.parent.mkdir(parents=True, exist_ok=True)
-        link.unlink(missing_ok=True)
-        link.symlink_to(clang)
-    said = subprocess.run([link, "--version"], stdin=subprocess.DEVNULL, stdout=subprocess.PIPE, stderr=subprocess.STDOUT, text=True).stdout
+    script, text = BUILT / "tools" / name, f'#!/bin/bash\nexec -a {name} "{clang}" "$@"\n'
+    if not script.exists() or script.read_text() != text:
+        script.parent.mkdir(parents=True, exist_ok=True)
+        script.write_text(text)
+        script.chmod(0o755)
+    said = subprocess.run([script, "--version"], stdin=subprocess.DEVNULL, stdout=subprocess.PIPE, stderr=subprocess.STDOUT, text=True).stdout
     if "LLVM version" not in said and "LLD" not in said:
         raise Refused(f"the kit's clang, {clang}, does not hold {name} any more")
-    return link
+    return script
 
 
 def said_by(*words):

@@ -14,6 +14,8 @@ import hashlib
 import shutil
 import subprocess
 import sys
+import tempfile
+from pathlib import Path
 
 from catch import catch, same_object
 from judge import judge
@@ -49,11 +51,11 @@ def module():
         key.unlink(missing_ok=True)
         # The crates that the library uses are built first, by the kit itself, which takes what an earlier check kept.
         subprocess.run(["tools/library.sh"], cwd=ROOT, stdin=subprocess.DEVNULL, stdout=sys.stderr, check=True)
-        caught = catch(BUILT / "catch", ["tools/library.sh"])
-        same_object(caught, ARCHIVE)
-        shutil.copy(caught / "module.bc", KEPT / "module.bc")
+        with tempfile.TemporaryDirectory() as room:
+            caught = catch(Path(room) / "catch", ["tools/library.sh"])
+            same_object(caught, ARCHIVE)
+            shutil.copy(caught / "module.bc", KEPT / "module.bc")
         text.write_text(text_of(KEPT / "module.bc").replace(PROCESSOR, ""))
-        shutil.rmtree(BUILT / "catch")
         key.write_text(now)
     judge(text.read_text())
     return text
