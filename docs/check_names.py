@@ -44,7 +44,7 @@ Links:
 The section of a name runs from the heading above it to the next one. It names a crate if the crate's name is in backticks in it, alone or in a
 path, or in the target of a link.
 
-15. The library (crates/willowera), the header and the Rust package declare the same exported functions.
+15. The library (crates/willowera_c), the header and the Rust package declare the same exported functions.
 """
 import fnmatch
 import os
@@ -160,7 +160,7 @@ class Tree:
         sources = lambda folder: ''.join(self.text(f) for f in self.declared if f.startswith(folder))
         self.exports = {
             'include/willowera.h': set(re.findall(r'\b(willowera_\w+)\s*\(', re.sub(r'(?s)/\*.*?\*/', '', header))),
-            'crates/willowera/src': set(re.findall(r'pub extern "C" fn (willowera_\w+)', sources('crates/willowera/src/'))),
+            'crates/willowera_c/src': set(re.findall(r'pub extern "C" fn (willowera_\w+)', sources('crates/willowera_c/src/'))),
             'rust/willowera/src': set(re.findall(r'pub fn (willowera_\w+)', sources('rust/willowera/src/'))),
         }
         self.capitals = set(re.findall(r'WILLOWERA_[A-Z0-9_]+', header + beside + sources('rust/')))

@@ -36,7 +36,7 @@ ROOT = os.path.dirname(os.path.dirname(os.path.abspath(__file__)))
 PAGE = 'docs/TRUSTED.md'
 BEGIN, END = '<!-- core -->', '<!-- end of the core -->'
 
-EXPORTS = 'crates/willowera/src/lib.rt'
+EXPORTS = 'crates/willowera_c/src/lib.rt'
 BOARD = 'crates/proof_board/specs/BoardRuns.antt'
 
 # The statements of each demand over bytes: what it says, and their files and names.

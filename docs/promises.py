@@ -95,7 +95,7 @@ class Tree:
 
     def used_by(self, crates):
         """Crates, and all that they use."""
-        uses = {name: rest.split() for name, rest in re.findall(r'(?m)^(\w+):(.*)$', self.text(CRATES))}
+        uses = {name: rest.split() for name, rest in re.findall(r'(?m)^(\w+)(?: [a-z]+)?:(.*)$', self.text(CRATES))}
         found = list(crates)
         for crate in found:
             found += [other for other in uses.get(crate, []) if other not in found]
@@ -278,7 +278,7 @@ def check(root):
 
 def written(tree, promises):
     """file -> its text with a field for each statement of the table, and what cannot be written."""
-    crates = re.findall(r'(?m)^(\w+):', tree.text(CRATES))
+    crates = re.findall(r'(?m)^(\w+)(?: [a-z]+)?:', tree.text(CRATES))
     rows, wrong = table_of(tree)
     groups, local = [], {}
     for row in rows:

@@ -189,7 +189,7 @@ def missing(page):
             cited += [f'crates/{crate}/src/{module}.rt' for crate, module, names in re.findall(r'(?m)^use (\w+)::(\w+)::(\w+|\{[^{}]*\});', source)
                       if words & set(re.findall(r'\b[A-Z]\w*[a-z]\w*', names))]
             wrong += [f'{path}: the contract of {function} takes names from {f}, which {PAGE} does not list' for f in cited if f not in listed]
-    for path in files_in('crates/willowera/src', '.rt'):
+    for path in files_in('crates/willowera_c/src', '.rt'):
         for function in re.findall(r'pub extern "C" fn (\w+)', read(path)):
             if function not in promised:
                 wrong.append(f'{path}: {PAGE} does not list the exported function {function}')
@@ -275,7 +275,7 @@ def self_test():
     rows = rows_of(page)
     spec = next(path for _, _, _, path in rows if path.startswith('crates/rules/specs/'))
     kind = next(path for _, _, _, path in rows if path.startswith('crates/rules/src/'))
-    function = next(f for _, titles, cells, path in rows if path.startswith('crates/willowera/') for f in functions_of(titles, cells))
+    function = next(f for _, titles, cells, path in rows if path.startswith('crates/willowera_c/') for f in functions_of(titles, cells))
     internal = next(f for f in spec_files() if is_internal(f))
     passing = next(f for f in spec_files() if '\npub use Rattle.' in read(f) and not re.search(r'\npub use Rattle\.std\.', read(f)))
     passed = taken(read(passing))[0][0]
