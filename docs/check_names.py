@@ -291,7 +291,7 @@ def find_word(tree, word, folder, scope):
         if word.endswith('_t'):
             return None
         if word.startswith('willowera_'):
-            if word in tree.beside:
+            if word in tree.beside or word in tree.crates:
                 return None
             missing = [where for where, names in tree.exports.items() if word not in names]
             return 'an exported function in ' + ' and '.join(missing) if missing else None

@@ -8,7 +8,7 @@
 The outcome of a function is its answer and what it leaves in each `&mut` parameter. Every `pub fn` in crates/*/src counts, exported or not. A part of the
 outcome is equated if a conjunct of an `ensures` is an equation with this part alone, or a record of such parts, on its left side:
 
-    result ≡ ..    result.now ≡ ..    x.new ≡ ..    record { answer = result; state = x.new } ≡ ..
+    result ≡ ..    result.now ≡ ..    x.new ≡ .. (or x.exit.now ≡ ..)    record { answer = result; state = x.new } ≡ ..
 
 and nothing of the outcome on its right side. An answer that is a struct is also equated if each of its fields is, as in `result.verdict ≡ ..`. An equation
 behind a premise or a quantifier does not count.
@@ -111,7 +111,7 @@ def conjuncts(fact):
 def part_of(term):
     """The part of the outcome that a term is: 'answer', 'answer.field', or a parameter; or None."""
     term = bare(term)
-    m = re.fullmatch(r'(\w+)\.new', term)
+    m = re.fullmatch(r'(\w+)\.(?:new|exit\.now)', term)
     if m:
         return m.group(1)
     m = re.fullmatch(r'result(?:\.now)?(\.\w+)?', term)
@@ -130,7 +130,7 @@ def parts_in(term):
 
 def speaks_of(text, part):
     """Whether a text names a part of the outcome."""
-    return bool(re.search(rf'\b{part}\.new\b' if part != 'answer' else r"(?<![\w.])result(?![\w'-])", text))
+    return bool(re.search(rf'\b{part}\.(?:new|exit)\b' if part != 'answer' else r"(?<![\w.])result(?![\w'-])", text))
 
 
 # ── What a contract leaves open ──
