@@ -180,8 +180,8 @@ def missing(page):
             wrong += [f'{path}: it takes names from {source}, which {PAGE} does not list' for source, _ in taken(read(path)) if source not in listed]
     promised = set()
     for number, titles, cells, path in rows_of(page):
-        for function in functions_of(titles, cells):
-            text = (contract(path, function) if os.path.exists(os.path.join(ROOT, path)) else None) or ''
+        for function in functions_of(titles, cells) if os.path.exists(os.path.join(ROOT, path)) else []:
+            text = contract(path, function) or ''
             words = set(re.findall(r"[A-Za-z][\w'-]*", text))
             promised.add(function)
             source = read(path)
